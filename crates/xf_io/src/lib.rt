@@ -1,0 +1,20 @@
+//! Sources, sinks and the lines of a stream, with counted faults.
+#![tactic(auto)]
+
+mod bytes;
+mod lines;
+mod memory;
+mod part;
+mod real;
+mod sink;
+mod source;
+
+pub use bytes::Bytes;
+pub use lines::{Line, Lines};
+pub use memory::{MemorySink, MemorySource};
+pub use real::{FileSource, ReaderSource, WriterSink};
+pub use sink::{Sink, write_all};
+pub use source::{Failed, Source};
+
+#[cfg(test)]
+mod tests;

@@ -1,0 +1,46 @@
+//! Where bytes go.
+
+ghost use Rattle.std.specs.Prelude.{◌≡◌, ◌<◌, List, ℕ, length, OnOk, OnErr, Ok};
+ghost use Rattle.std.specs.declared.option.Option.{Option};
+ghost use Rattle.std.specs.Io.{WritesAtMost};
+ghost use Rattle.std.specs.Io.KnownBytes.{Appends, Keeps, WriteAppends};
+ghost use Rattle.xf_base.specs.Faults.{HasCause, Rose};
+ghost use Rattle.xf_io.specs.Front.{AppendsFront};
+
+use crate::Failed;
+
+pub trait Sink {
+    /// The bytes that were taken, where they are known.
+    ghost taken: { Self → Option (List ℕ) };
+
+    /// How often a write or a flush has failed.
+    ghost faults: { Self → ℕ };
+
+    /// Takes a front of the bytes. To take none of some is a fault too.
+    fn write(&mut self, bytes: &[u8]) -> Result<usize, Failed>
+        ensures bound { WritesAtMost result bytes.now }
+        ensures bytes { WriteAppends (taken self.old) (taken self.new) result bytes.now }
+        ensures cause { HasCause (faults self.old) (faults self.new) result }
+        ensures stalled { result ≡ Ok 0 → 0 < length bytes.now → Rose (faults self.old) (faults self.new) };
+
+    fn flush(&mut self) -> Result<(), Failed>
+        ensures bytes { Keeps (taken self.old) (taken self.new) }
+        ensures cause { HasCause (faults self.old) (faults self.new) result };
+}
+
+/// Writes all the bytes. After a fault a front of them is out.
+pub fn write_all<O: Sink>(out: &mut O, bytes: &[u8]) -> Result<(), Failed>
+    ensures ok { OnOk result (Appends (O.taken out.old) (O.taken out.new) bytes.now) }
+    ensures err { OnErr result (AppendsFront (O.taken out.old) (O.taken out.new) bytes.now) }
+    ensures cause { HasCause (O.faults out.old) (O.faults out.new) result }
+{
+    let mut done = 0;
+    while done < bytes.len() {
+        let count = out.write(&bytes[done..])?;
+        if count == 0 {
+            return Err(Failed);
+        }
+        done += count;
+    }
+    Ok(())
+}
