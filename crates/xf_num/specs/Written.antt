@@ -1,0 +1,77 @@
+-- How numbers of d decimals are read from text and printed (XPath 1.0, sections 4.2 and 4.4).
+use Rattle.std.specs.Prelude.{ℕ, zero, suc, ◌+◌, ◌-◌, ◌/◌, ◌%◌, ◌^◌, Bool, true, false, ◌&&◌, ◌||◌, not, ◌==◌, nat_le, if◌then◌else◌, List, [], ◌∷◌, ◌++◌, take, replicate, ℤ, pos, negsuc, neg_ℤ, Option, Some, None, codes, decimal}
+use Rattle.std.specs.Str.Parse.{digits_value}
+use Rattle.xf_num.specs.Number.{scale, in_range, of_one}
+
+-- white space (XML 1.0, section 2.3)
+abbrev pub is_space : ℕ → Bool
+is_space c = (c == 32) || (c == 9) || (c == 10) || (c == 13)
+
+abbrev pub is_digit : ℕ → Bool
+is_digit c = nat_le 48 c && nat_le c 57
+
+abbrev pub is_empty : List ℕ → Bool
+is_empty [] = true
+is_empty (c ∷ text) = false
+
+-- the text without the white space that it begins with, and without that which it ends with
+abbrev pub without_leading : List ℕ → List ℕ
+without_leading [] = []
+without_leading (c ∷ text) = if is_space c then without_leading text else c ∷ text
+
+abbrev pub without_trailing : List ℕ → List ℕ
+without_trailing [] = []
+without_trailing (c ∷ text) = if is_space c && is_empty (without_trailing text) then [] else c ∷ without_trailing text
+
+-- the digits that a text begins with, and what follows them
+abbrev pub leading_digits : List ℕ → List ℕ
+leading_digits [] = []
+leading_digits (c ∷ text) = if is_digit c then c ∷ leading_digits text else []
+
+abbrev pub after_digits : List ℕ → List ℕ
+after_digits [] = []
+after_digits (c ∷ text) = if is_digit c then after_digits text else c ∷ text
+
+-- the units that are written by the digits before the point and by those after it, of which the first d count
+abbrev pub units_of : ℕ → List ℕ → List ℕ → ℕ
+units_of d whole decimals = digits_value 10 (whole ++ take d (decimals ++ replicate d 48))
+
+-- digits with what follows them: nothing, or a point and digits; one digit at least
+abbrev pub from_parts : ℕ → List ℕ → List ℕ → Option ℤ
+from_parts d whole [] = if is_empty whole then None else in_range (pos (units_of d whole []))
+from_parts d whole (c ∷ decimals) =
+    if (c == 46) && is_empty (after_digits decimals) && not (is_empty whole && is_empty decimals)
+    then in_range (pos (units_of d whole decimals))
+    else None
+
+abbrev pub without_sign_at : ℕ → List ℕ → Option ℤ
+without_sign_at d text = from_parts d (leading_digits text) (after_digits text)
+
+-- an optional minus, and digits with an optional point
+abbrev pub with_sign_at : ℕ → List ℕ → Option ℤ
+with_sign_at d [] = None
+with_sign_at d (c ∷ text) =
+    if c == 45 then of_one (λ k. Some (neg_ℤ k)) (without_sign_at d text) else without_sign_at d (c ∷ text)
+
+-- the number that a text is read as: NaN where it is no number or out of range
+abbrev pub read_at : ℕ → List ℕ → Option ℤ
+read_at d text = with_sign_at d (without_trailing (without_leading text))
+
+-- the decimals of so many units below one, without trailing zeros
+abbrev pub decimals_of : ℕ → ℕ → List ℕ
+decimals_of zero units = []
+decimals_of (suc d) units = if units == 0 then [] else (48 + units / scale d) ∷ decimals_of d (units % scale d)
+
+-- a point before decimals, and nothing where there are none
+abbrev pub after_point : List ℕ → List ℕ
+after_point [] = []
+after_point (c ∷ decimals) = 46 ∷ c ∷ decimals
+
+abbrev pub size_text : ℕ → ℕ → List ℕ
+size_text d units = decimal (units / scale d) ++ after_point (decimals_of d (units % scale d))
+
+-- the text that a number is printed as
+abbrev pub printed : ℕ → Option ℤ → List ℕ
+printed d None = codes "NaN"
+printed d (Some (pos k)) = size_text d k
+printed d (Some (negsuc k)) = 45 ∷ size_text d (k + 1)
