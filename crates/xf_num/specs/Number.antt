@@ -1,6 +1,6 @@
 -- Numbers of d decimals and their arithmetic (XPath 1.0, sections 3.5 and 4.4, over decimals in place of floats). None is NaN, and Some k
 -- is the whole count k of units of the last decimal.
-use Rattle.std.specs.Prelude.{ℕ, ◌+◌, ◌/◌, ◌^◌, ◌<◌, nat_lt, ◌==◌, if◌then◌else◌, ℤ, pos, ◌+ℤ◌, ◌-ℤ◌, ◌*ℤ◌, neg_ℤ, unsigned_abs, int_div, int_rem, Option, Some, None}
+use Rattle.std.specs.Prelude.{ℕ, ◌/◌, ◌^◌, ◌<◌, nat_lt, ◌==◌, if◌then◌else◌, ℤ, pos, ◌+ℤ◌, ◌-ℤ◌, ◌*ℤ◌, neg_ℤ, unsigned_abs, int_div, int_rem, Option, Some, None}
 use Rattle.std.specs.Int.{int_div_euclid}
 use Rattle.std.specs.Ordering.{int_cmp}
 use Rattle.std.specs.declared.cmp.Ordering.{Ordering}

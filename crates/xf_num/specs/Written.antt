@@ -1,6 +1,6 @@
 -- How numbers of d decimals are read from text and printed (XPath 1.0, sections 4.2 and 4.4).
-use Rattle.std.specs.Prelude.{ℕ, zero, suc, ◌+◌, ◌-◌, ◌/◌, ◌%◌, ◌^◌, Bool, true, false, ◌&&◌, ◌||◌, not, ◌==◌, nat_le, if◌then◌else◌, List, [], ◌∷◌, ◌++◌, take, replicate, ℤ, pos, negsuc, neg_ℤ, Option, Some, None, codes, decimal}
-use Rattle.std.specs.Str.Parse.{digits_value}
+use Rattle.std.specs.Prelude.{ℕ, zero, suc, ◌+◌, ◌-◌, ◌*◌, ◌/◌, ◌%◌, Bool, true, false, ◌&&◌, ◌||◌, not, ◌==◌, nat_le, if◌then◌else◌, List, [], ◌∷◌, ◌++◌, take, length, ℤ, pos, negsuc, neg_ℤ, Option, Some, None, codes, decimal}
+use Rattle.std.specs.Str.Parse.{digits_value, digits_value_after}
 use Rattle.xf_num.specs.Number.{scale, in_range, of_one}
 
 -- white space (XML 1.0, section 2.3)
@@ -32,26 +32,33 @@ abbrev pub after_digits : List ℕ → List ℕ
 after_digits [] = []
 after_digits (c ∷ text) = if is_digit c then after_digits text else c ∷ text
 
--- the units that are written by the digits before the point and by those after it, of which the first d count
-abbrev pub units_of : ℕ → List ℕ → List ℕ → ℕ
-units_of d whole decimals = digits_value 10 (whole ++ take d (decimals ++ replicate d 48))
+-- the units that are written by the number before the point and the digits after it: of these the first d count, and each
+-- decimal that is not written counts as zero
+abbrev pub units_of : ℕ → ℕ → List ℕ → ℕ
+units_of d whole decimals = digits_value_after 10 whole (take d decimals) * scale (d - length decimals)
 
--- digits with what follows them: nothing, or a point and digits; one digit at least
-abbrev pub from_parts : ℕ → List ℕ → List ℕ → Option ℤ
-from_parts d whole [] = if is_empty whole then None else in_range (pos (units_of d whole []))
-from_parts d whole (c ∷ decimals) =
-    if (c == 46) && is_empty (after_digits decimals) && not (is_empty whole && is_empty decimals)
+-- what follows the digits before a point, which wrote that number, if any stood there: nothing, or a point and digits;
+-- one digit at least in all
+abbrev pub from_parts : ℕ → ℕ → Bool → List ℕ → Option ℤ
+from_parts d whole has_whole [] = if has_whole then in_range (pos (units_of d whole [])) else None
+from_parts d whole has_whole (c ∷ decimals) =
+    if (c == 46) && is_empty (after_digits decimals) && (has_whole || not (is_empty decimals))
     then in_range (pos (units_of d whole decimals))
     else None
 
 abbrev pub without_sign_at : ℕ → List ℕ → Option ℤ
-without_sign_at d text = from_parts d (leading_digits text) (after_digits text)
+without_sign_at d text =
+    let whole = leading_digits text in from_parts d (digits_value 10 whole) (not (is_empty whole)) (after_digits text)
+
+-- the number with the other sign; zero has none
+abbrev pub negated : Option ℤ → Option ℤ
+negated = of_one (λ k. Some (neg_ℤ k))
 
 -- an optional minus, and digits with an optional point
 abbrev pub with_sign_at : ℕ → List ℕ → Option ℤ
 with_sign_at d [] = None
 with_sign_at d (c ∷ text) =
-    if c == 45 then of_one (λ k. Some (neg_ℤ k)) (without_sign_at d text) else without_sign_at d (c ∷ text)
+    if c == 45 then negated (without_sign_at d text) else without_sign_at d (c ∷ text)
 
 -- the number that a text is read as: NaN where it is no number or out of range
 abbrev pub read_at : ℕ → List ℕ → Option ℤ
@@ -74,4 +81,4 @@ size_text d units = decimal (units / scale d) ++ after_point (decimals_of d (uni
 abbrev pub printed : ℕ → Option ℤ → List ℕ
 printed d None = codes "NaN"
 printed d (Some (pos k)) = size_text d k
-printed d (Some (negsuc k)) = 45 ∷ size_text d (k + 1)
+printed d (Some (negsuc k)) = 45 ∷ size_text d (suc k)

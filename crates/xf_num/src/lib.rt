@@ -2,8 +2,13 @@
 #![tactic(auto)]
 
 mod number;
+mod printing;
+mod reading;
 mod scales;
 mod steps;
 
 pub use number::Num;
 pub use steps::Steps;
+
+#[cfg(test)]
+mod tests;

@@ -3,10 +3,9 @@
 ghost use Rattle.std.specs.Prelude.{◌≡◌, ◌<◌, ◌≤◌, ◌*◌, None, pos, ◌*ℤ◌, neg_ℤ, int_div, unsigned_abs, IfSome};
 ghost use Rattle.xf_num.specs.Number.{size_limit, scale, in_range, sum, difference, product, quotient, remainder, floor_of, ceiling_of, rounded, order_of, lower_whole};
 
+use crate::scales::{DECIMALS, units_in_one};
 use std::cmp::Ordering;
 use std::marker::Model;
-
-use crate::scales::{DECIMALS, units_in_one};
 
 /// The sizes of numbers are below this many units.
 const SIZE_LIMIT: i128 = 1_000_000_000_000_000_000;

@@ -1,4 +1,4 @@
-use Rattle.std.proofs.Common.{◌≡◌, ◌≤◌, ℕ, zero, suc, List, [], ◌∷◌, slice_index_or, refl, arith}
+use Rattle.std.proofs.Common.{◌≡◌, ◌≤◌, ℕ, zero, suc, [], ◌∷◌, slice_index_or, refl, arith}
 use Rattle.xf_num.specs.Number.{scale}
 use Rattle.xf_num.proofs.scales.units_in_one.Goals as goal
 
