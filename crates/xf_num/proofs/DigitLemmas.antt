@@ -1,12 +1,12 @@
 -- Numbers from digits with a cap, and digits from numbers.
-use Rattle.std.proofs.Common.{◌≡◌, ℕ, zero, suc, ◌+◌, ◌-◌, ◌*◌, ◌/◌, ◌%◌, ◌<◌, ◌≤◌, min, Bool, true, false, ◌&&◌, ◌||◌, not, ◌==◌, nat_lt, List, [], ◌∷◌, ◌++◌, length, take, drop, length-drop, refl, sym, ◌∙◌, ap, if◌then◌else◌, arith, append_assoc, inl, inr, ℤ, pos, negsuc, int_lt, unsigned_abs, Option, Some, None}
+use Rattle.std.proofs.Common.{◌≡◌, ℕ, zero, suc, ◌+◌, ◌-◌, ◌*◌, ◌/◌, ◌%◌, ◌<◌, ◌≤◌, min, Bool, true, false, ◌&&◌, ◌||◌, not, ◌==◌, List, [], ◌∷◌, ◌++◌, length, take, drop, length-drop, refl, sym, ◌∙◌, ap, if◌then◌else◌, arith, append_assoc, inl, inr, pos, None}
 use Rattle.std.proofs.Math.Nat.{pow-suc, div-lt_iff_lt-mul, mul-le-mul_left}
 use Rattle.std.proofs.lemmas.Bool.{cases_lt}
 use Rattle.std.proofs.lemmas.Bool.Decides.{nat_tests}
 use Rattle.std.specs.Char.{digit_value}
 use Rattle.std.specs.Str.Parse.{digits_value, digits_value_after}
 use Rattle.xf_num.specs.Number.{scale, in_range, size_limit}
-use Rattle.xf_num.specs.Written.{is_digit, decimals_of, after_point, size_text, printed, units_of, from_parts, without_sign_at, is_empty, after_digits, leading_digits}
+use Rattle.xf_num.specs.Written.{is_digit, decimals_of, after_point, units_of, from_parts, without_sign_at, is_empty, after_digits, leading_digits}
 use Rattle.std.proofs.lemmas.List.{take_all}
 use Rattle.xf_num.proofs.TextLemmas.{leading_digits-all, after_digits-take, after_digits-drop, is_empty-length}
 
@@ -143,17 +143,3 @@ next_decimal left units unit c h below u e =
 pub pushed : (old new char rest whole : List ℕ) (c : ℕ) → new ≡ old ++ char → char ≡ c ∷ [] → whole ≡ c ∷ rest → new ++ rest ≡ old ++ whole
 pushed old new char rest whole c a b e =
     ap (λ t. t ++ rest) (a ∙ ap (λ t. old ++ t) b) ∙ append_assoc old (c ∷ []) rest ∙ ap (λ t. old ++ t) (sym e)
-
-not_below : (k : ℕ) → nat_lt k 0 ≡ true → ⊥
-not_below k h = grind (arith, nat_tests)
-
--- the sign before a size
-pub negative_printed : (d : ℕ) (z : ℤ) (number : Option ℤ) (out text : List ℕ) (size : ℕ) → number ≡ Some z → int_lt z (pos 0) ≡ true → text ≡ 45 ∷ [] → size ≡ unsigned_abs z → out ≡ text ++ size_text d size → out ≡ printed d number
-negative_printed d (pos k) number out text size is h t n e = absurd (not_below k h)
-negative_printed d (negsuc k) number out text size is h t n e =
-    e ∙ ap (λ x. x ++ size_text d size) t ∙ ap (λ m. 45 ∷ size_text d m) n ∙ sym (ap (printed d) is)
-
-pub other_printed : (d : ℕ) (z : ℤ) (number : Option ℤ) (out text : List ℕ) (size : ℕ) → number ≡ Some z → int_lt z (pos 0) ≡ false → text ≡ [] → size ≡ unsigned_abs z → out ≡ text ++ size_text d size → out ≡ printed d number
-other_printed d (pos k) number out text size is h t n e =
-    e ∙ ap (λ x. x ++ size_text d size) t ∙ ap (λ m. size_text d m) n ∙ sym (ap (printed d) is)
-other_printed d (negsuc k) number out text size is h t n e = absurd (cc)

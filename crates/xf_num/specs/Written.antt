@@ -1,5 +1,5 @@
 -- How numbers of d decimals are read from text and printed (XPath 1.0, sections 4.2 and 4.4).
-use Rattle.std.specs.Prelude.{ℕ, zero, suc, ◌+◌, ◌-◌, ◌*◌, ◌/◌, ◌%◌, Bool, true, false, ◌&&◌, ◌||◌, not, ◌==◌, nat_le, if◌then◌else◌, List, [], ◌∷◌, ◌++◌, take, length, ℤ, pos, negsuc, neg_ℤ, Option, Some, None, codes, decimal}
+use Rattle.std.specs.Prelude.{ℕ, zero, suc, ◌+◌, ◌-◌, ◌*◌, ◌/◌, ◌%◌, Bool, true, false, ◌&&◌, ◌||◌, not, ◌==◌, nat_le, if◌then◌else◌, List, [], ◌∷◌, ◌++◌, take, length, ℤ, pos, negsuc, neg_ℤ, unsigned_abs, Option, Some, None, codes, decimal}
 use Rattle.std.specs.Str.Parse.{digits_value, digits_value_after}
 use Rattle.xf_num.specs.Number.{scale, in_range, of_one}
 
@@ -77,8 +77,12 @@ after_point (c ∷ decimals) = 46 ∷ c ∷ decimals
 abbrev pub size_text : ℕ → ℕ → List ℕ
 size_text d units = decimal (units / scale d) ++ after_point (decimals_of d (units % scale d))
 
+-- the sign before a size, which zero has not
+abbrev pub sign_of : ℤ → List ℕ
+sign_of (pos k) = []
+sign_of (negsuc k) = 45 ∷ []
+
 -- the text that a number is printed as
 abbrev pub printed : ℕ → Option ℤ → List ℕ
 printed d None = codes "NaN"
-printed d (Some (pos k)) = size_text d k
-printed d (Some (negsuc k)) = 45 ∷ size_text d (suc k)
+printed d (Some k) = sign_of k ++ size_text d (unsigned_abs k)

@@ -2,7 +2,7 @@
 
 ghost use Rattle.std.specs.Prelude.{◌≡◌, ◌≤◌, ◌<◌, ◌++◌, string_bytes, IfOk, OnOk};
 ghost use Rattle.xf_num.specs.Number.{scale};
-ghost use Rattle.xf_num.specs.Written.{printed, size_text, after_point, decimals_of};
+ghost use Rattle.xf_num.specs.Written.{printed, sign_of, size_text, after_point, decimals_of};
 
 use crate::number::Num;
 use crate::scales::{DECIMALS, units_in_one};
@@ -21,12 +21,20 @@ impl Num {
             return String::from_str(alloc, "NaN");
         };
         let mut text = String::with_capacity(alloc, PRINTED_MOST)?;
-        if units < 0 {
-            text.push('-')?;
-        }
+        push_sign(&mut text, units)?;
         push_size(&mut text, units.unsigned_abs() as u64, DECIMALS)?;
         Ok(text)
     }
+}
+
+/// Appends a minus where so many units are negative.
+fn push_sign(text: &mut String, units: i128) -> Result<(), AllocError>
+    ensures { OnOk result (string_bytes text.new ≡ string_bytes text.old ++ sign_of units) }
+{
+    if units < 0 {
+        text.push('-')?;
+    }
+    Ok(())
 }
 
 /// Appends so many units, without a sign.
@@ -52,7 +60,7 @@ fn push_decimals(text: &mut String, units: u64, decimals: u8) -> Result<(), Allo
     text.push('.')?;
     let mut rest = units;
     let mut left = decimals;
-    while rest != 0 {
+    'places: while rest != 0 {
         left -= 1;
         let unit = units_in_one(left);
         text.push(char::from(b'0' + (rest / unit) as u8))?;
