@@ -23,6 +23,10 @@ abbrev pub without_trailing : List ℕ → List ℕ
 without_trailing [] = []
 without_trailing (c ∷ text) = if is_space c && is_empty (without_trailing text) then [] else c ∷ without_trailing text
 
+-- the text without white space at its ends
+abbrev pub trimmed : List ℕ → List ℕ
+trimmed text = without_trailing (without_leading text)
+
 -- the digits that a text begins with, and what follows them
 abbrev pub leading_digits : List ℕ → List ℕ
 leading_digits [] = []
@@ -62,7 +66,7 @@ with_sign_at d (c ∷ text) =
 
 -- the number that a text is read as: NaN where it is no number or out of range
 abbrev pub read_at : ℕ → List ℕ → Option ℤ
-read_at d text = with_sign_at d (without_trailing (without_leading text))
+read_at d text = with_sign_at d (trimmed text)
 
 -- the decimals of so many units below one, without trailing zeros
 abbrev pub decimals_of : ℕ → ℕ → List ℕ

@@ -6,9 +6,11 @@ mod printing;
 mod reading;
 mod scales;
 mod steps;
+mod text;
 
 pub use number::Num;
 pub use steps::Steps;
+pub use text::{after_digits, all_digits, is_digit, trimmed};
 
 #[cfg(test)]
 mod tests;

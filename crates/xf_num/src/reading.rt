@@ -7,6 +7,7 @@ ghost use Rattle.xf_num.specs.Written.{negated, read_at, with_sign_at, without_s
 
 use crate::number::Num;
 use crate::scales::{DECIMALS, units_in_one};
+use crate::text::{all_digits, is_digit, trimmed};
 
 /// The size at which a number is out of range, in units.
 const TOO_LARGE: u64 = 1_000_000_000_000_000_000;
@@ -16,7 +17,7 @@ impl Num {
     pub fn read(text: &str) -> Num
         ensures { result ≡ read_at DECIMALS text.now }
     {
-        with_sign(trimmed_end(trimmed_start(text.as_bytes())), DECIMALS)
+        with_sign(trimmed(text.as_bytes()), DECIMALS)
     }
 
     /// The number with the other sign.
@@ -28,46 +29,6 @@ impl Num {
             None => Num::nan(),
         }
     }
-}
-
-fn is_space(c: u8) -> bool
-    ensures { result ≡ is_space c }
-{
-    c == b' ' || c == b'\t' || c == b'\n' || c == b'\r'
-}
-
-fn is_digit(c: u8) -> bool
-    ensures { result ≡ is_digit c }
-{
-    b'0' <= c && c <= b'9'
-}
-
-/// The text without the white space that it begins with.
-fn trimmed_start(text: &[u8]) -> &[u8]
-    ensures { result.now ≡ without_leading text.now }
-{
-    let mut rest = text;
-    while let [first, after @ ..] = rest {
-        if !is_space(*first) {
-            break;
-        }
-        rest = after;
-    }
-    rest
-}
-
-/// The text without the white space that it ends with.
-fn trimmed_end(text: &[u8]) -> &[u8]
-    ensures { result.now ≡ without_trailing text.now }
-{
-    let mut rest = text;
-    while let [before @ .., last] = rest {
-        if !is_space(*last) {
-            break;
-        }
-        rest = before;
-    }
-    rest
 }
 
 /// Reads an optional minus and the digits after it.
@@ -136,18 +97,6 @@ fn scaled(size: u64, missing: u8) -> Num
     ensures { result ≡ in_range (pos (size * scale missing)) }
 {
     Num::of_units(i128::from(size) * i128::from(units_in_one(missing)))
-}
-
-/// Whether all of the text is digits.
-fn all_digits(text: &[u8]) -> bool
-    ensures { result ≡ is_empty (after_digits text.now) }
-{
-    for c in text {
-        if !is_digit(*c) {
-            return false;
-        }
-    }
-    true
 }
 
 /// The number that the leading digits write after those of the start, at most 10^18, and how many they are.

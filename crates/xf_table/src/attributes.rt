@@ -16,7 +16,7 @@ pub const IN_EVENTS: u8 = 2;
 pub const EXPRESSION: u8 = 4;
 
 /// The rows of the attributes that a form may hold.
-pub fn rows() -> &'static [Row]
+pub fn rows() -> &'static [Row; 45]
     ensures rows { entries_of result.now ≡ attribute_entries }
     ensures ordered { rises (entries_of result.now) ≡ true }
     ensures codes { counts_from 0 (entries_of result.now) ≡ true }

@@ -16,7 +16,7 @@ pub const CONTROL: u8 = 2;
 pub const ACTION: u8 = 4;
 
 /// The rows of the elements that a form may hold.
-pub fn rows() -> &'static [Row]
+pub fn rows() -> &'static [Row; 41]
     ensures rows { entries_of result.now ≡ element_entries }
     ensures ordered { rises (entries_of result.now) ≡ true }
     ensures codes { counts_from 0 (entries_of result.now) ≡ true }

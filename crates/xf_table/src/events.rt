@@ -13,7 +13,7 @@ pub const CANCELABLE: u8 = 1;
 pub const HAS_DEFAULT: u8 = 2;
 
 /// The rows of the events that the processor fires. All of them bubble.
-pub fn rows() -> &'static [Row]
+pub fn rows() -> &'static [Row; 25]
     ensures rows { entries_of result.now ≡ event_entries }
     ensures ordered { rises (entries_of result.now) ≡ true }
     ensures codes { counts_from 0 (entries_of result.now) ≡ true }

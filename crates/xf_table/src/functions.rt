@@ -13,7 +13,7 @@ pub const TAKES_NODES: u8 = 1;
 pub const GIVES_NODES: u8 = 2;
 
 /// The rows of the functions, with the least and the greatest number of their arguments.
-pub fn rows() -> &'static [Row]
+pub fn rows() -> &'static [Row; 45]
     ensures rows { entries_of result.now ≡ function_entries }
     ensures ordered { rises (entries_of result.now) ≡ true }
     ensures codes { counts_from 0 (entries_of result.now) ≡ true }

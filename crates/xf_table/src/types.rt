@@ -16,7 +16,7 @@ pub const IN_FORMS: u8 = 2;
 pub const KEEPS_SPACE: u8 = 4;
 
 /// The rows of the simple types.
-pub fn rows() -> &'static [Row]
+pub fn rows() -> &'static [Row; 36]
     ensures rows { entries_of result.now ≡ type_entries }
     ensures ordered { rises (entries_of result.now) ≡ true }
     ensures codes { counts_from 0 (entries_of result.now) ≡ true }

@@ -1,6 +1,6 @@
 use Rattle.std.proofs.Common.{sym, ◌∙◌}
 use Rattle.xf_num.proofs.TextLemmas.{last_space, last_other}
-use Rattle.xf_num.proofs.reading.trimmed_end.Goals as goal
+use Rattle.xf_num.proofs.text.trimmed_end.Goals as goal
 
 pub loop-rest-preserved : goal.loop-rest-preserved
 loop-rest-preserved c =
