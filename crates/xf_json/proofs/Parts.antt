@@ -1,8 +1,8 @@
 -- The items of a value, one after another, and what they spell.
-use Rattle.std.proofs.Common.{◌≡◌, ◌<◌, ◌+◌, ℕ, zero, suc, List, [], ◌∷◌, ◌++◌, length, get_or, Some, None, option_map, refl, sym, ap, ◌∙◌, arith, rules, append_assoc, append-nil, add-one, Global, Vec, String, string_bytes}
+use Rattle.std.proofs.Common.{◌≡◌, ◌<◌, ◌+◌, ℕ, zero, suc, List, [], ◌∷◌, ◌++◌, length, get_or, Some, None, option_map, refl, sym, ap, ◌∙◌, arith, rules, append_assoc, add-one, Global, Vec, String, string_bytes}
 use Rattle.std.specs.Prelude.{option_and_then}
 use Rattle.std.specs.declared.option.Option.{Option}
-use Rattle.serde_json.specs.Data.{Data, string, array, object, Items, no_items, item, Members, no_members, member}
+use Rattle.serde_json.specs.Data.{string, array, object, Items, no_items, item, Members, member}
 use Rattle.serde_json.specs.Find.{get_item, as_str, as_object}
 use Rattle.serde_json.specs.View.{view, items_view, members_view}
 use Rattle.serde_json.specs.declared.value.Value.{Value, String as StringOf, Array as ArrayOf, the_lemmas}

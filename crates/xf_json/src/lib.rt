@@ -2,7 +2,9 @@
 #![tactic(auto)]
 
 mod fault;
+mod printing;
 mod reading;
 
 pub use fault::JsonFault;
+pub use printing::print;
 pub use reading::read;

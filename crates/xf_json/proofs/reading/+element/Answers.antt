@@ -1,9 +1,8 @@
-use Rattle.std.proofs.Common.{◌≡◌, ◌∙◌, ◌+◌, ◌++◌, ◌∷◌, [], ap, sym, rules, arith, option_map, Some, None, inl, inr}
+use Rattle.std.proofs.Common.{◌≡◌, ◌∙◌, ◌+◌, ◌++◌, [], ap, sym, rules, arith, option_map, Some, None, inl, inr}
 use Rattle.serde_json.specs.Data.{item}
 use Rattle.serde_json.specs.View.{view, items_view}
 use Rattle.serde_json.specs.declared.value.Value.{the_lemmas}
-use Rattle.xf_name.specs.declared.lit.Lit.TheVariants.{Element}
-use Rattle.xf_json.specs.Element.{element, element_in, children_in, after_text}
+use Rattle.xf_json.specs.Element.{element, element_in, children_in}
 use Rattle.xf_json.specs.Part.{items_from}
 use Rattle.xf_json.proofs.Parts.{here, here_text, here_array, step_text, step_element, step_none, inner_none, failed_within, items_end}
 use Rattle.xf_json.proofs.reading.+element.Goals as goal

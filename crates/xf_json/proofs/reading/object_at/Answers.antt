@@ -1,4 +1,4 @@
-use Rattle.std.proofs.Common.{◌∙◌, ◌+◌, ap, sym, arith}
+use Rattle.std.proofs.Common.{◌∙◌, ap, sym, arith}
 use Rattle.std.specs.Prelude.{option_and_then}
 use Rattle.serde_json.proofs.Views.{get_item_within}
 use Rattle.serde_json.specs.Find.{as_object}
