@@ -1,2 +1,5 @@
 pub mod PartLemmas
 pub mod TableLemmas
+pub mod DeclarationLemmas
+pub mod WalkLemmas
+pub mod DoubleLemmas

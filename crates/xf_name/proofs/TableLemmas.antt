@@ -1,12 +1,17 @@
 -- The tables of a form's names, beside the lists that they stand for.
-use Rattle.std.proofs.Common.{◌≡◌, ℕ, zero, suc, ◌+◌, ◌-◌, ◌<◌, ◌≤◌, List, [], ◌∷◌, ◌++◌, map, length, Bool, true, false, cond, eqb, Some, None, inl, inr, is_some, option_map, slice_get, String, Global, string_bytes, refl, sym, ap, ◌∙◌, arith, rules, add-zero, add_comm, add-one}
+use Rattle.std.proofs.Common.{◌≡◌, ℕ, zero, suc, ◌+◌, ◌-◌, ◌<◌, ◌≤◌, List, [], ◌∷◌, ◌++◌, map, length, Bool, true, false, cond, eqb, nat_eq, ◌||◌, Some, None, inl, inr, is_some, is_none, unwrap_or, ◌&&◌, option_map, slice_get, String, Global, string_bytes, refl, sym, ap, ◌∙◌, arith, rules, add-zero, add_comm, add-one}
 use Rattle.std.specs.Prelude.{option_and_then}
 use Rattle.std.specs.declared.option.Option.{Option}
 use Rattle.std.specs.List.{position_from, position, list_any}
 use Rattle.std.specs.Str.{bytes_eq}
+use Rattle.std.specs.String.{string_eq}
+use Rattle.indexmap.specs.IndexSet.{insert_key}
+use Rattle.indexmap.specs.IndexMap.{insert_entry}
 use Rattle.std.proofs.lemmas.Iterator.Adapters.{position_from-zero}
 use Rattle.std.proofs.lemmas.Bool.Decides.{eqb_tells}
+use Rattle.xf_name.specs.Part.{is_part}
 use Rattle.xf_name.specs.Bindings.{Bindings, numbers_from, space_number, prefix_numbers, xml_space, xml_prefix, xml_number, numbered, text_of_space, text_of_prefix}
+use Rattle.xf_name.specs.Declarations.{with_space, with_prefix, with_last_prefix}
 
 -- ---- the place of an item, counted from another number, and in a list that is mapped
 
@@ -104,3 +109,74 @@ pub prefix_text-is : (b : Bindings) (n : ℕ) (es : List Entry) → map entry_vi
 prefix_text-is b n es shown other some =
     name_of (slice_get es (n - 1)) ∙ ap (option_map (λ p. p.0)) (numbered-is entry_view es n some ∙ ap (λ xs. numbered xs n) shown)
     ∙ sym (unless_equal n xml_number (Some xml_prefix) (option_map (λ p. p.0) (numbered b.prefixes n)) other)
+
+-- ---- one more namespace, one more prefix
+
+here_or_later : (t : Bool) (n : ℕ) (o : Option ℕ) → is_some (cond t (Some n) o) ≡ (t || is_some o)
+here_or_later true n o = refl
+here_or_later false n o = refl
+
+later_none : {A : Type 0} (x : A) (t : Bool) (o : Option A) → is_some (cond t (Some x) o) ≡ false → is_some o ≡ false
+later_none x true o h = cc
+later_none x false o h = h
+
+map-push : {A B : Type 0} (f : A → B) (xs : List A) (x : A) → map f (xs ++ x ∷ []) ≡ map f xs ++ f x ∷ []
+map-push f [] x = refl
+map-push f (y ∷ ys) x = ap (λ l. f y ∷ l) (map-push f ys x)
+
+listed : (p : List ℕ → Bool) (n : ℕ) (keys : List (String Global)) → is_some (position_from p n (map string_bytes keys)) ≡ list_any (λ k. p (string_bytes k)) keys
+listed p n [] = refl
+listed p n (k ∷ keys) = here_or_later (p (string_bytes k)) n (position_from p (n + 1) (map string_bytes keys)) ∙ ap (λ t. p (string_bytes k) || t) (listed p (n + 1) keys)
+
+unlisted : (b : Bindings) (uri : List ℕ) (keys : List (String Global)) (k : String Global) → map string_bytes keys ≡ b.spaces → string_bytes k ≡ uri → is_some (space_number b uri) ≡ false → list_any (string_eq k) keys ≡ false
+unlisted b uri keys k shown is new =
+    ap (λ u. list_any (λ y. bytes_eq u (string_bytes y)) keys) is ∙ sym (listed (bytes_eq uri) 1 keys) ∙ ap (λ xs. is_some (position_from (bytes_eq uri) 1 xs)) shown
+    ∙ later_none xml_number (bytes_eq uri xml_space) (position_from (bytes_eq uri) 1 b.spaces) new
+
+pub space_added : (b : Bindings) (uri : List ℕ) (keys new : List (String Global)) (k : String Global) → map string_bytes keys ≡ b.spaces → string_bytes k ≡ uri → nat_eq (length uri) 0 ≡ false → is_some (space_number b uri) ≡ false
+    → new ≡ insert_key string_eq keys k → record b { spaces = map string_bytes new } ≡ with_space b uri
+space_added b [] keys new k shown is some none made = cc
+space_added b (c ∷ cs) keys new k shown is some none made =
+    let last : new ≡ keys ++ k ∷ [] = made ∙ ap (λ t. cond t keys (keys ++ k ∷ [])) (unlisted b (c ∷ cs) keys k shown is none) in
+    let listing : map string_bytes new ≡ b.spaces ++ (c ∷ cs) ∷ [] = ap (map string_bytes) last ∙ map-push string_bytes keys k ∙ ap (λ xs. xs ++ string_bytes k ∷ []) shown ∙ ap (λ u. b.spaces ++ u ∷ []) is in
+    ap (λ xs. record b { spaces = xs }) listing ∙ ap (λ t. cond t b (record b { spaces = b.spaces ++ (c ∷ cs) ∷ [] })) (sym none)
+
+kept_by : (t : Bool) (b : Bindings) (spaces : List (List ℕ)) → (cond t b (record b { spaces = spaces })).prefixes ≡ b.prefixes
+kept_by true b spaces = refl
+kept_by false b spaces = refl
+
+with_space-prefixes : (b : Bindings) (uri : List ℕ) → (with_space b uri).prefixes ≡ b.prefixes
+with_space-prefixes b [] = refl
+with_space-prefixes b (c ∷ cs) = kept_by (is_some (space_number b (c ∷ cs))) b (b.spaces ++ (c ∷ cs) ∷ [])
+
+absent_later : (t : Bool) (n v : ℕ) (later : Option (ℕ × ℕ)) → is_some (cond t (Some (n, v)) later) ≡ false → (t ≡ false) × (is_some later ≡ false)
+absent_later true n v later h = cc
+absent_later false n v later h = (refl, h)
+
+inserted_last : (n : ℕ) (es : List Entry) (k : String Global) (v : ℕ) → is_some (numbers_from n (map entry_view es) (string_bytes k)) ≡ false → insert_entry string_eq es k v ≡ es ++ (k, v) ∷ []
+inserted_last n [] k v none = refl
+inserted_last n (e ∷ es) k v none =
+    let parts = absent_later (bytes_eq (string_bytes k) (string_bytes e.0)) n e.1 (numbers_from (n + 1) (map entry_view es) (string_bytes k)) none in
+    ap (λ t. cond t ((e.0, v) ∷ es) (e ∷ insert_entry string_eq es k v)) parts.0 ∙ ap (λ l. e ∷ l) (inserted_last (n + 1) es k v parts.1)
+
+both : (s t : Bool) → s ≡ true → t ≡ true → (s && t) ≡ true
+both s t x y = ap (λ u. u && t) x ∙ y
+
+not_known : {A : Type 0} (o : Option A) → is_some o ≡ false → is_none o ≡ true
+not_known None h = refl
+not_known (Some x) h = cc
+
+pub prefix_added : (b now : Bindings) (q uri : List ℕ) (es new : List Entry) (k : String Global) (v : ℕ) → map entry_view es ≡ now.prefixes → now ≡ with_space b uri → string_bytes k ≡ q → nat_eq (length uri) 0 ≡ false → is_part q ≡ true
+    → is_some (prefix_numbers b q) ≡ false → v ≡ unwrap_or (space_number now uri) 0 → new ≡ insert_entry string_eq es k v → record now { prefixes = map entry_view new } ≡ with_prefix b q uri
+prefix_added b now q [] es new k v shown spaced is some part none bound made = cc
+prefix_added b now q (c ∷ cs) es new k v shown spaced is some part none bound made =
+    let uri : List ℕ = c ∷ cs in
+    let known : map entry_view es ≡ b.prefixes = shown ∙ ap (λ x. x.prefixes) spaced ∙ with_space-prefixes b uri in
+    let absent : is_some (numbers_from 1 (map entry_view es) (string_bytes k)) ≡ false =
+    ap (λ x. is_some (numbers_from 1 (map entry_view es) x)) is ∙ ap (λ ps. is_some (numbers_from 1 ps q)) known
+    ∙ later_none (xml_number, xml_number) (bytes_eq q xml_prefix) (numbers_from 1 b.prefixes q) none in
+    let last : new ≡ es ++ (k, v) ∷ [] = made ∙ inserted_last 1 es k v absent in
+    let listing : map entry_view new ≡ now.prefixes ++ (q, unwrap_or (space_number now uri) 0) ∷ [] =
+    ap (map entry_view) last ∙ map-push entry_view es (k, v) ∙ ap (λ ps. ps ++ entry_view (k, v) ∷ []) shown ∙ ap (λ x. now.prefixes ++ (x, v) ∷ []) is ∙ ap (λ x. now.prefixes ++ (q, x) ∷ []) bound in
+    let with_prefixes : List (List ℕ × ℕ) → Bindings = λ ps. record now { prefixes = ps } in
+    ap with_prefixes listing ∙ ap (λ x. with_last_prefix x q uri) spaced ∙ ap (λ t. cond t (with_last_prefix (with_space b uri) q uri) b) (sym (both (is_part q) (is_none (prefix_numbers b q)) part (not_known (prefix_numbers b q) none)))

@@ -59,10 +59,11 @@ fn has_double<'a>(
 {
     seen.clear();
     for attribute in attributes {
-        if let Some(name) = expanded(prefixes, attribute) {
-            if !seen.insert(name)? {
-                return Ok(true);
-            }
+        let Some(name) = expanded(prefixes, attribute) else {
+            continue;
+        };
+        if !seen.insert(name)? {
+            return Ok(true);
         }
     }
     Ok(false)

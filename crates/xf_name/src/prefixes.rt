@@ -155,7 +155,10 @@ impl Prefixes {
     {
         let mut prefixes = Prefixes::new(alloc);
         for element in elements {
-            prefixes.declare_all(element.attributes.as_slice())?;
+            match prefixes.declare_all(element.attributes.as_slice()) {
+                Ok(()) => continue,
+                Err(fault) => return Err(fault),
+            }
         }
         // The tables never pass the limits of a form.
         let _ = &prefixes.spaces;
@@ -167,7 +170,10 @@ impl Prefixes {
         ensures { Declares result self.new (with_attributes self.old attributes.now) }
     {
         for attribute in attributes {
-            self.declare(attribute)?;
+            match self.declare(attribute) {
+                Ok(()) => continue,
+                Err(fault) => return Err(fault),
+            }
         }
         Ok(())
     }
