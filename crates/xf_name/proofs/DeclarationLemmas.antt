@@ -1,5 +1,5 @@
 -- Declarations only add.
-use Rattle.std.proofs.Common.{◌≡◌, ℕ, ◌+◌, ◌<◌, ◌≤◌, List, [], ◌∷◌, ◌++◌, map, length, drop, get_or, Bool, true, false, cond, ltb, ◌||◌, is_some, is_none, unwrap_or, ◌&&◌, refl, sym, ap, ◌∙◌, arith, rules, tests, length-append, Err, Bor}
+use Rattle.std.proofs.Common.{◌≡◌, ℕ, ◌+◌, ◌<◌, ◌≤◌, List, [], ◌∷◌, ◌++◌, map, length, drop, get_or, Bool, true, false, cond, ltb, ◌||◌, is_some, is_none, unwrap_or, ◌&&◌, refl, sym, ap, ◌∙◌, arith, tests, length-append, Err, Bor}
 use Rattle.std.proofs.lemmas.Bool.{false≢true}
 use Rattle.std.proofs.lemmas.List.{drop_more}
 use Rattle.xf_name.specs.Part.{Kind, no_declaration, of_default, of_prefix, kind_of, is_part}

@@ -1,6 +1,5 @@
 -- Names that stand twice, one after another.
-use Rattle.std.proofs.Common.{◌≡◌, ℕ, ◌+◌, ◌<◌, List, [], ◌∷◌, ◌++◌, map, length, drop, get_or, filter_map, Bool, true, false, cond, ◌||◌, ◌&&◌, ◌==◌, eqb, not, Some, None, option_map, Bor, refl, sym, ap, ◌∙◌, arith, rules}
-use Rattle.std.specs.declared.option.Option.{Option}
+use Rattle.std.proofs.Common.{◌≡◌, ℕ, ◌+◌, ◌<◌, List, [], ◌∷◌, ◌++◌, map, length, drop, get_or, filter_map, Bool, true, false, cond, ◌||◌, ◌&&◌, ◌==◌, not, Some, None, Bor, refl, sym, ap, ◌∙◌}
 use Rattle.std.specs.List.{list_any, cons_option}
 use Rattle.std.specs.Str.{bytes_eq}
 use Rattle.std.proofs.lemmas.Cmp.{nat_eq_equiv, nat_list_eq_equiv}

@@ -3,3 +3,4 @@ pub mod TableLemmas
 pub mod DeclarationLemmas
 pub mod WalkLemmas
 pub mod DoubleLemmas
+pub mod SurveyLemmas

@@ -1,5 +1,5 @@
 -- The tables of a form's names, beside the lists that they stand for.
-use Rattle.std.proofs.Common.{◌≡◌, ℕ, zero, suc, ◌+◌, ◌-◌, ◌<◌, ◌≤◌, List, [], ◌∷◌, ◌++◌, map, length, Bool, true, false, cond, eqb, nat_eq, ◌||◌, Some, None, inl, inr, is_some, is_none, unwrap_or, ◌&&◌, option_map, slice_get, String, Global, string_bytes, refl, sym, ap, ◌∙◌, arith, rules, add-zero, add_comm, add-one}
+use Rattle.std.proofs.Common.{◌≡◌, ℕ, zero, suc, ◌+◌, ◌-◌, List, [], ◌∷◌, ◌++◌, map, length, Bool, true, false, cond, eqb, nat_eq, ◌||◌, Some, None, inl, inr, is_some, is_none, unwrap_or, ◌&&◌, option_map, slice_get, String, Global, string_bytes, refl, sym, ap, ◌∙◌, arith, add-zero, add_comm, add-one}
 use Rattle.std.specs.Prelude.{option_and_then}
 use Rattle.std.specs.declared.option.Option.{Option}
 use Rattle.std.specs.List.{position_from, position, list_any}

@@ -1,5 +1,5 @@
 -- The namespaces and prefixes of a form (Namespaces in XML 1.0, sections 2 and 3), and names under them.
-use Rattle.std.specs.Prelude.{ℕ, zero, suc, ◌+◌, List, [], ◌∷◌, ◌++◌, Bool, true, false, ◌==◌, codes, Option, Some, None, option_map, Result, Ok, Err, slice_get, if◌then◌else◌}
+use Rattle.std.specs.Prelude.{ℕ, zero, suc, ◌+◌, List, [], ◌∷◌, ◌==◌, codes, Option, Some, None, option_map, Result, Ok, Err, slice_get, if◌then◌else◌}
 use Rattle.std.specs.List.{position_from}
 use Rattle.std.specs.Str.{bytes_eq}
 use Rattle.xf_name.specs.Part.{Parts, parts_of}

@@ -1,5 +1,5 @@
 -- How a step of a survey stands to what a form declares.
-use Rattle.std.specs.Prelude.{◌≡◌, Bool, true, false, Result, Ok, Err}
+use Rattle.std.specs.Prelude.{◌≡◌, true, false, Result, Ok, Err}
 use Rattle.xf_name.specs.Bindings.{Bindings}
 use Rattle.xf_name.specs.Declarations.{are_too_many}
 use Rattle.xf_name.specs.declared.fault.SurveyFault.{SurveyFault}

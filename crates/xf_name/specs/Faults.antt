@@ -1,5 +1,5 @@
 -- The faults of an element's names (Namespaces in XML 1.0, sections 4 to 6).
-use Rattle.std.specs.Prelude.{ℕ, List, [], ◌∷◌, Bool, true, false, not, ◌&&◌, ◌||◌, ◌==◌, Option, Some, None, is_some, is_none, Result, Ok, Err, filter_map, if◌then◌else◌}
+use Rattle.std.specs.Prelude.{ℕ, List, [], ◌∷◌, Bool, false, not, ◌&&◌, ◌||◌, ◌==◌, Option, Some, None, is_some, is_none, Result, Ok, filter_map, if◌then◌else◌}
 use Rattle.std.specs.List.{list_any}
 use Rattle.std.specs.Str.{bytes_eq}
 use Rattle.xf_name.specs.Part.{Kind, no_declaration, of_prefix, kind_of, parts_of, Parts}

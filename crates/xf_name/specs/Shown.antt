@@ -1,5 +1,5 @@
 -- What names need of the elements of a form: of each its written name and its attributes.
-use Rattle.std.specs.Prelude.{◌≡◌, ℕ, ◌+◌, List, [], ◌∷◌, ◌++◌, map, flat_map, Option, None}
+use Rattle.std.specs.Prelude.{◌≡◌, ℕ, List, [], ◌∷◌, ◌++◌, map, flat_map}
 use denote.Ref.{Bor}
 use Rattle.xf_name.specs.Bindings.{Bindings}
 use Rattle.xf_name.specs.Written.{Written, Walk, walk_of}

@@ -1,5 +1,5 @@
 -- A form as the list of its elements in document order.
-use Rattle.std.specs.Prelude.{ℕ, suc, List, [], ◌∷◌, ◌++◌, codes, flat_map, if◌then◌else◌}
+use Rattle.std.specs.Prelude.{ℕ, suc, List, [], ◌∷◌, codes, flat_map, if◌then◌else◌}
 use Rattle.std.specs.Str.{bytes_eq}
 use Rattle.xf_name.specs.declared.lit.Pair.{Pair}
 use Rattle.xf_name.specs.declared.lit.Lit.{Lit, fold-Lit}

@@ -50,7 +50,10 @@ pub fn survey(alloc: Global, form: &Lit) -> Result<Surveyed, SurveyFault>
 {
     let mut elements = Vec::new(alloc);
     push_elements(form, &mut elements)?;
-    let prefixes = Prefixes::of_elements(alloc, &elements)?;
+    let prefixes = match Prefixes::of_elements(alloc, &elements) {
+        Ok(prefixes) => prefixes,
+        Err(fault) => return Err(fault),
+    };
     let fault = first_fault(alloc, &prefixes, &elements)?;
     Ok(Surveyed { prefixes, fault })
 }

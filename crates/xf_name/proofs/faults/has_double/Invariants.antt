@@ -1,4 +1,4 @@
-use Rattle.std.proofs.Common.{◌≡◌, List, ℕ, Bor, map, drop, filter_map}
+use Rattle.std.proofs.Common.{◌≡◌, map, drop, filter_map}
 use Rattle.xf_name.specs.Faults.{has_double, expanded}
 use Rattle.xf_name.proofs.DoubleLemmas.{doubles, name_shown}
 use Rattle.xf_name.proofs.faults.has_double.Given as goal

@@ -1,9 +1,9 @@
-use Rattle.std.proofs.Common.{◌≡◌, ◌∙◌, ◌&&◌, ap, sym, rules, arith, tests, refl, true, length, nat_le, slice_get}
+use Rattle.std.proofs.Common.{◌≡◌, ◌∙◌, ◌&&◌, ap, sym, rules, tests, refl, true, length, nat_le, slice_get}
 use Rattle.std.specs.List.{list_all}
 use Rattle.std.specs.Str.{chars}
 use Rattle.std.proofs.lemmas.Iterator.{YieldsList-from_chars}
 use Rattle.std.proofs.lemmas.Iterator.Search.{all_from_yields_List}
-use Rattle.xf_name.specs.Part.{begins_part, continues_part, is_part_of}
+use Rattle.xf_name.specs.Part.{continues_part, is_part_of}
 use Rattle.xf_name.proofs.PartLemmas.{first_char}
 use Rattle.xf_name.proofs.part.is_part.Goals as goal
 

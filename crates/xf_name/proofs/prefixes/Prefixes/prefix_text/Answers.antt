@@ -1,4 +1,4 @@
-use Rattle.std.proofs.Common.{Some, ap, ◌∙◌, option_map, string_bytes, String, Global, ℕ}
+use Rattle.std.proofs.Common.{Some, ap, ◌∙◌, option_map, string_bytes}
 use Rattle.xf_name.proofs.TableLemmas.{prefix_text-is, Entry}
 use Rattle.xf_name.proofs.prefixes.Prefixes.prefix_text.Goals as goal
 
