@@ -8,16 +8,16 @@ ghost use Rattle.xf_json.specs.Tokens.{tokens_of, tokens_of_element, tokens_of_c
 use json::Writer;
 use std::alloc::{AllocError, Global};
 use std::collections::BTreeMap;
-use xf_name::{Lit, LitElement, Pair, Word};
+use xf_io::Bytes;
+use xf_name::{Lit, LitElement, Pair};
 
 /// The JSON text of a tree, without blanks. The attributes of an element stand in the order of the bytes of their written names.
-pub fn print(alloc: Global, lit: &Lit) -> Result<Word, AllocError>
-    ensures { IfOk result (λ word. word ≡ text_of lit.now) }
+pub fn print(alloc: Global, lit: &Lit) -> Result<Bytes, AllocError>
+    ensures { IfOk result (λ bytes. bytes ≡ text_of lit.now) }
 {
     let mut out = Writer::new(Vec::new(alloc));
     write(alloc, lit, &mut out)?;
-    let text = unsafe { String::from_utf8_unchecked(out.into_inner()) };
-    Ok(Word::from_string(text))
+    Ok(Bytes::from_vec(out.into_inner()))
 }
 
 #[cycle(write)]

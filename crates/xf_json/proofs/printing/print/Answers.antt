@@ -9,5 +9,5 @@ pub returns : goal.returns
 returns c =
     let tokens = c.in_ok-write.ensures.ok ∙ ap (λ ts. ts ++ tokens_of c.args.lit.now) c.new-out.ensures.tokens in
     let before = c.in_ok-write.ensures.before ∙ c.new-out.ensures.before ∙ c.new.ensures.items in
-    c.from_string.ensures ∙ ap (λ v. v.items) c.from_utf8_unchecked-text.ensures.value ∙ c.into_inner.ensures.items ∙ ap (λ bytes. bytes ++ print c.write.new.out.tokens) before ∙ ap print tokens
+    c.from_vec.ensures ∙ c.into_inner.ensures.items ∙ ap (λ bytes. bytes ++ print c.write.new.out.tokens) before ∙ ap print tokens
     ∙ print-outline (value_of c.args.lit.now)
