@@ -1,13 +1,11 @@
 -- The definitions at small trees.
 use Rattle.std.proofs.Common.{◌≡◌, List, ℕ, [], ◌∷◌, Some, None, Ok, Err, refl}
 use Rattle.std.specs.Prelude.{codes, true, false}
-use Rattle.serde_json.specs.Data.{Data, unsigned, number, null, string, array, object, Items, no_items, item, Members, no_members, member}
-use Rattle.serde_json.specs.Written.{compact_text}
+use Rattle.serde_json.specs.Data.{unsigned, number, null, string, array, object, no_items, item, no_members, member}
 use Rattle.xf_name.specs.declared.lit.Pair.{Pair}
 use Rattle.xf_name.specs.declared.lit.Lit.TheVariants.{Text, Element}
-use Rattle.xf_name.specs.declared.lit.Lit.TheOpen.{Lit-F, LitElement-F}
 use Rattle.xf_json.specs.declared.fault.JsonFault.TheVariants.{NotJson, NotElement}
-use Rattle.xf_json.specs.Element.{attributes_in, element, element_in, children_in, lit_of, read_or_fault}
+use Rattle.xf_json.specs.Element.{attributes_in, element, element_in, children_in, read_or_fault}
 use Rattle.xf_json.specs.Printed.{with_pairs, element_value, are_rising}
 
 abbrev a : List ℕ

@@ -1,5 +1,5 @@
 -- A plain tree is read back from what is printed.
-use Rattle.std.proofs.Common.{◌≡◌, ◌≤◌, ℕ, suc, max, List, [], ◌∷◌, ◌++◌, map, Bool, true, false, not, ◌&&◌, Some, None, Ok, option_map, ◌⊎◌, inl, inr, refl, sym, ap, ◌∙◌, subst, arith, append-nil}
+use Rattle.std.proofs.Common.{◌≡◌, ◌≤◌, ℕ, suc, List, [], ◌∷◌, ◌++◌, map, Bool, true, false, not, ◌&&◌, Some, Ok, option_map, ◌⊎◌, inl, inr, refl, sym, ap, ◌∙◌, subst, arith, append-nil}
 use Rattle.std.specs.Prelude.{option_and_then}
 use Rattle.std.specs.declared.option.Option.{Option}
 use Rattle.std.specs.Str.{IsUtf8}
@@ -9,14 +9,14 @@ use Rattle.json.specs.Lex.{tokens}
 use Rattle.json.specs.Json as json
 use Rattle.json.specs.Tree as tree
 use Rattle.json.proofs.Printed.Trees.{value-json_tokens}
-use Rattle.serde_json.specs.Data.{Data, string, array, object, Items, no_items, item, Members, no_members, member, put}
+use Rattle.serde_json.specs.Data.{Data, string, array, object, Items, no_items, item, Members, no_members, put}
 use Rattle.serde_json.specs.Read.{read, of_json, of_items, of_members}
 use Rattle.serde_json.specs.View.{items_of}
 use Rattle.serde_json.specs.Written.{outline, items_outline, members_outline}
 use Rattle.xf_name.specs.declared.lit.Pair.{Pair}
 use Rattle.xf_name.specs.declared.lit.Lit.{Lit}
 use Rattle.xf_name.specs.declared.lit.Lit.TheOpen.{Lit-F, LitElement-F}
-use Rattle.xf_name.specs.declared.lit.Lit.TheFolds.{fold-roll-Lit, fold-roll-LitElement, map-Lit, map-LitElement, ind-Lit}
+use Rattle.xf_name.specs.declared.lit.Lit.TheFolds.{fold-roll-Lit, fold-roll-LitElement, map-Lit, ind-Lit}
 use Rattle.xf_name.specs.declared.lit.Lit.TheViews.{roll-Lit, roll-LitElement}
 use Rattle.xf_name.specs.declared.lit.Lit.TheVariants.{Text, Element, rolls-Text, rolls-Element}
 use Rattle.xf_name.specs.declared.lit.LitElement.{LitElement}
@@ -198,7 +198,7 @@ level_reads y =
       back = λ h. head_back y.name y.attributes inner xs (parts h).0 (children_back [] y.children (parts h).1);
       json = λ h. head_json y.name y.attributes inner (parts h).0 (children_json false y.children (parts h).1);
       depth = λ h. subst (λ s. tree.items_depth (items_outline (item (string y.name) (with_object y.attributes inner))) ≤ s.nesting) (sym shape)
-      (head_depth y.name y.attributes inner (deepest (map shape_of xs)) (parts h).0 (children_depth false y.children (parts h).1));
+          (head_depth y.name y.attributes inner (deepest (map shape_of xs)) (parts h).0 (children_depth false y.children (parts h).1));
     }
 
 lit_reads : (y : Lit-F Child ((e : LitElement) × ReadsElement e)) → Reads (roll-Lit (map-Lit Child ((e : LitElement) × ReadsElement e) Lit LitElement (λ c. c.0) (λ c. c.0) y))

@@ -1,5 +1,5 @@
 -- Trees as reading gives them.
-use Rattle.std.specs.Prelude.{◌≡◌, ◌≤◌, ℕ, suc, max, List, [], ◌∷◌, map, Bool, true, false, not, ◌&&◌}
+use Rattle.std.specs.Prelude.{◌≡◌, ◌≤◌, ℕ, suc, max, List, [], ◌∷◌, Bool, true, false, not, ◌&&◌}
 use Rattle.xf_name.specs.declared.lit.Lit.{Lit, fold-Lit}
 use Rattle.xf_name.specs.declared.lit.Lit.TheOpen.{Lit-F, LitElement-F}
 use Rattle.xf_name.specs.declared.lit.LitElement.{LitElement, fold-LitElement}

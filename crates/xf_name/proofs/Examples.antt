@@ -1,14 +1,12 @@
 -- The definitions at small names and forms.
-use Rattle.std.proofs.Common.{◌≡◌, List, ℕ, [], ◌∷◌, ◌++◌, Some, None, Ok, Err, refl}
+use Rattle.std.proofs.Common.{◌≡◌, List, ℕ, [], ◌∷◌, Some, None, Ok, Err, refl}
 use Rattle.std.specs.Prelude.{codes, true, false}
-use Rattle.std.specs.Str.{chars}
-use Rattle.xf_name.specs.Part.{at_colon, kind_of, no_declaration, of_default, of_prefix, is_part}
+use Rattle.xf_name.specs.Part.{at_colon, kind_of, no_declaration, of_default, of_prefix}
 use Rattle.xf_name.specs.Bindings.{Bindings, no_bindings, space_number, prefix_numbers, text_of_space, text_of_prefix, resolved_parts, xml_space}
 use Rattle.xf_name.specs.Written.{element_walk, default_below}
-use Rattle.xf_name.specs.Declarations.{with_space, with_last_prefix, are_too_many}
-use Rattle.xf_name.specs.Faults.{has_double, is_bound_to, is_rebound_as, is_unknown_prefix}
-use Rattle.xf_name.specs.declared.fault.NameFault.TheVariants.{BadName, PrefixUnknown}
-use Rattle.xf_name.specs.declared.lit.Pair.{Pair}
+use Rattle.xf_name.specs.Declarations.{with_space, with_last_prefix}
+use Rattle.xf_name.specs.Faults.{has_double, is_rebound_as}
+use Rattle.xf_name.specs.declared.fault.NameFault.TheVariants.{PrefixUnknown}
 
 abbrev p : List ℕ
 p = codes "p"
