@@ -2,6 +2,8 @@
 
 ghost use Rattle.std.specs.Prelude.{◌≡◌, ◌++◌, ◌∷◌, [], IfOk, OnOk};
 ghost use Rattle.json.specs.Token.{end_object};
+ghost use Rattle.xf_json.specs.Element.{lit_in};
+ghost use Rattle.xf_json.specs.Plain.{IsPlain};
 ghost use Rattle.xf_json.specs.Printed.{text_of, are_rising};
 ghost use Rattle.xf_json.specs.Tokens.{tokens_of, tokens_of_element, tokens_of_children, tokens_of_object, tokens_of_pairs, tokens_in_order};
 
@@ -13,7 +15,8 @@ use xf_name::{Lit, LitElement, Pair};
 
 /// The JSON text of a tree, without blanks. The attributes of an element stand in the order of the bytes of their written names.
 pub fn print(alloc: Global, lit: &Lit) -> Result<Bytes, AllocError>
-    ensures { IfOk result (λ bytes. bytes ≡ text_of lit.now) }
+    ensures text { IfOk result (λ bytes. bytes ≡ text_of lit.now) }
+    ensures reads_back { IfOk result (λ bytes. IsPlain lit.now → lit_in bytes ≡ Ok lit.now) }
 {
     let mut out = Writer::new(Vec::new(alloc));
     write(alloc, lit, &mut out)?;

@@ -31,30 +31,33 @@ fn parts_of_names(rt: HostRuntime) -> Result<(), Fail> {
     Ok(())
 }
 
-// A form of elements, each with its attributes, below a root.
-type Row<'a> = (&'a str, &'a [(&'a str, &'a str)]);
-
-fn element(alloc: Global, row: Row<'_>, children: LitList) -> Result<Lit, AllocError> {
+// An element by its name and its attributes, each with `=` and its text, with blanks between.
+fn element(alloc: Global, words: &str, children: LitList) -> Result<Lit, AllocError> {
+    let mut name = Word::new(alloc);
     let mut attributes: PairList = Items::new(alloc);
-    for (name, text) in row.1 {
-        attributes.push(Pair {
-            name: Word::from_str(alloc, name)?,
-            text: Word::from_str(alloc, text)?,
-        })?;
+    for word in words.split(' ') {
+        match word.split_once('=') {
+            Some((name, text)) => attributes.push(Pair {
+                name: Word::from_str(alloc, name)?,
+                text: Word::from_str(alloc, text)?,
+            })?,
+            None => name = Word::from_str(alloc, word)?,
+        }
     }
     Ok(Lit::Element(LitElement {
-        name: Word::from_str(alloc, row.0)?,
+        name,
         attributes,
         children,
     }))
 }
 
-fn form(alloc: Global, rows: &[Row<'_>]) -> Result<Lit, AllocError> {
+// A form of elements below a root, with `;` between.
+fn form(alloc: Global, elements: &str) -> Result<Lit, AllocError> {
     let mut children: LitList = Items::new(alloc);
-    for row in rows {
-        children.push(element(alloc, *row, Items::new(alloc))?)?;
+    for words in elements.split(';') {
+        children.push(element(alloc, words, Items::new(alloc))?)?;
     }
-    element(alloc, ("f", &[]), children)
+    element(alloc, "f", children)
 }
 
 const XML: &str = "http://www.w3.org/XML/1998/namespace";
@@ -63,62 +66,41 @@ const XML: &str = "http://www.w3.org/XML/1998/namespace";
 fn faults_of_names_by_place(rt: HostRuntime) -> Result<(), Fail> {
     let alloc = rt.alloc();
     // elements below the root, then the place of the first fault, and which
-    let cases: [(&[Row<'_>], Option<(usize, NameFault)>); 12] = [
-        (&[("p:a", &[]), ("b", &[("xmlns:p", "u")])], None),
+    let cases: [(&str, Option<(usize, NameFault)>); 12] = [
+        ("p:a;b xmlns:p=u", None),
         (
-            &[(
-                "a",
-                &[("xml:lang", "en"), ("xmlns", ""), ("xmlns:xml", XML)],
-            )],
+            "a xml:lang=en xmlns= xmlns:xml=http://www.w3.org/XML/1998/namespace",
             None,
         ),
+        ("a xmlns:p=u;a xmlns:p=u", None),
+        ("b;1x", Some((2, NameFault::BadName))),
+        ("a:;q:d", Some((1, NameFault::BadName))),
+        ("a xmlns:=u", Some((1, NameFault::BadName))),
         (
-            &[("a", &[("xmlns:p", "u")]), ("a", &[("xmlns:p", "u")])],
-            None,
-        ),
-        (&[("b", &[]), ("1x", &[])], Some((2, NameFault::BadName))),
-        (&[("a:", &[]), ("q:d", &[])], Some((1, NameFault::BadName))),
-        (&[("a", &[("xmlns:", "u")])], Some((1, NameFault::BadName))),
-        (
-            &[(
-                "a",
-                &[("p:k", ""), ("q:k", ""), ("xmlns:p", "u"), ("xmlns:q", "u")],
-            )],
+            "a p:k= q:k= xmlns:p=u xmlns:q=u",
             Some((1, NameFault::BadName)),
         ),
+        ("a;q:d", Some((2, NameFault::PrefixUnknown))),
+        ("a q:k=;1x", Some((1, NameFault::PrefixUnknown))),
         (
-            &[("a", &[]), ("q:d", &[])],
-            Some((2, NameFault::PrefixUnknown)),
-        ),
-        (
-            &[("a", &[("q:k", "")]), ("1x", &[])],
-            Some((1, NameFault::PrefixUnknown)),
-        ),
-        (
-            &[("a", &[("xmlns:p", "u")]), ("a", &[("xmlns:p", "v")])],
+            "a xmlns:p=u;a xmlns:p=v",
             Some((2, NameFault::PrefixRebound)),
         ),
-        (
-            &[("a", &[("xmlns:p", "")])],
-            Some((1, NameFault::PrefixRebound)),
-        ),
-        (
-            &[("a", &[("xmlns:xml", "u")])],
-            Some((1, NameFault::PrefixRebound)),
-        ),
+        ("a xmlns:p=", Some((1, NameFault::PrefixRebound))),
+        ("a xmlns:xml=u", Some((1, NameFault::PrefixRebound))),
     ];
-    for (rows, want) in cases {
-        let form = form(alloc, rows)?;
+    for (elements, want) in cases {
+        let form = form(alloc, elements)?;
         let surveyed = survey(alloc, &form)?;
         assert_eq!(rt;
             surveyed.fault.map(|first| (first.element, first.fault)),
             want,
-            "of {rows:?}"
+            "of {elements}"
         );
         assert_eq!(rt;
             collect(alloc, &form).err(),
             want.map(|first| first.1),
-            "of {rows:?}"
+            "of {elements}"
         );
     }
     Ok(())
@@ -129,10 +111,7 @@ fn names_and_numbers(rt: HostRuntime) -> Result<(), Fail> {
     let alloc = rt.alloc();
     let form = form(
         alloc,
-        &[
-            ("a", &[("xmlns", "d"), ("xmlns:p", "u")]),
-            ("b", &[("xmlns:q", "d"), ("xmlns:x", XML)]),
-        ],
+        "a xmlns=d xmlns:p=u;b xmlns:q=d xmlns:x=http://www.w3.org/XML/1998/namespace",
     )?;
     let prefixes = collect(alloc, &form)?;
     let spaces: [(&str, Option<u16>); 5] = [
