@@ -18,8 +18,8 @@ after_none (b ∷ bs) [] apart = refl
 after_none (b ∷ bs) (c ∷ cs) apart =
     elim (cases_Bool (b == c)) [
       | inl same ↦
-        cond-true (b == c) (after bs cs) None same
-        ∙ after_none bs cs (λ rest e. apart rest (ap (λ d. d ∷ cs) (sym (eqb-true b c same)) ∙ ap (λ ds. b ∷ ds) e))
+          cond-true (b == c) (after bs cs) None same
+          ∙ after_none bs cs (λ rest e. apart rest (ap (λ d. d ∷ cs) (sym (eqb-true b c same)) ∙ ap (λ ds. b ∷ ds) e))
       | inr other ↦ cond-false (b == c) (after bs cs) None other
     ]
 

@@ -11,7 +11,6 @@ use crate::miss::Miss;
 use crate::part::{Control, Instance, Parts};
 use indexmap::IndexSet;
 use std::alloc::{AllocError, Global};
-
 use xf_base::Items;
 use xf_name::Word;
 

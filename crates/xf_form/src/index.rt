@@ -34,7 +34,11 @@ pub(crate) fn indexes(alloc: Global, children: &[Lit]) -> Result<Vec<usize>, All
 }
 
 // The number of a child behind those before, among which it is then.
-fn next_index<'a>(totals: &Tally<'_>, before: &mut Tally<'a>, child: &'a Lit) -> Result<usize, AllocError>
+fn next_index<'a>(
+    totals: &Tally<'_>,
+    before: &mut Tally<'a>,
+    child: &'a Lit,
+) -> Result<usize, AllocError>
     requires { counted before.old (child_of child.now).name + 1 < 2 ^ 64 }
     ensures index { IfOk result (λ k. k ≡ (if is_alone (counted totals.now) (child_of child.now).name then 0 else counted before.old (child_of child.now).name + 1)) }
     ensures counts { OnOk result ((n : Option (List ℕ)) → counted before.new n ≡ counted before.old n + (if is_like n (child_of child.now).name then 1 else 0)) }
