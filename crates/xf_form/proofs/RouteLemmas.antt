@@ -1,5 +1,5 @@
 -- Prefixes of texts, and the first node with a route.
-use Rattle.std.proofs.Common.{◌≡◌, ℕ, zero, suc, ◌+◌, ◌<◌, Bool, true, false, cond, List, [], ◌∷◌, ◌++◌, length, get_or, drop, Some, None, ap, sym, ◌∙◌, refl, arith, add-one, inl, inr, Bor}
+use Rattle.std.proofs.Common.{◌≡◌, ℕ, zero, suc, ◌+◌, ◌<◌, false, cond, List, [], ◌∷◌, ◌++◌, length, get_or, drop, Some, None, ap, sym, ◌∙◌, refl, arith, add-one, inl, inr, Bor}
 use Rattle.std.specs.Prelude.{◌==◌, MatchOption, option_map}
 use Rattle.std.specs.Str.Pattern.{FindsTextPrefix}
 use Rattle.std.specs.declared.option.Option.{Option}

@@ -1,6 +1,6 @@
 -- Tallies of children and the numbers of children, one child more.
-use Rattle.std.proofs.Common.{◌≡◌, ℕ, ◌+◌, ◌<◌, ◌≤◌, ◌^◌, List, [], ◌∷◌, ◌++◌, length, get_or, take, drop, map, Some, None, Bool, true, false, cond, refl, ap, sym, ◌∙◌, arith, append_assoc, inl, inr, Bor}
-use Rattle.std.specs.Prelude.{unwrap_or, count_by, nat_eq}
+use Rattle.std.proofs.Common.{◌≡◌, ℕ, ◌+◌, ◌<◌, ◌≤◌, List, [], ◌∷◌, ◌++◌, length, get_or, take, drop, map, Some, None, Bool, true, false, cond, refl, ap, sym, ◌∙◌, arith, append_assoc, inl, inr, Bor}
+use Rattle.std.specs.Prelude.{unwrap_or, nat_eq}
 use Rattle.std.specs.declared.option.Option.{Option}
 use Rattle.std.specs.HashMap.{HashMap, UpdatesBy, get_by}
 use Rattle.std.specs.Str.{bytes_eq}

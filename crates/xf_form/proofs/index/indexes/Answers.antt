@@ -1,4 +1,4 @@
-use Rattle.std.proofs.Common.{◌≡◌, ◌∙◌, ◌+◌, ap, sym}
+use Rattle.std.proofs.Common.{◌∙◌, ◌+◌, ap, sym}
 use Rattle.xf_form.specs.Index.{is_like}
 use Rattle.xf_form.specs.Piece.{child_of}
 use Rattle.xf_form.specs.Tally.{counted}
