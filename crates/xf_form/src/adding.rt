@@ -1,10 +1,10 @@
 //! The parts of a form, element by element.
 
-ghost use Rattle.std.specs.Prelude.{◌≡◌, ◌∷◌, [], map, filter, option_map, IfOk, OnOk};
-ghost use Rattle.xf_form.specs.Data.{is_element, has_elements, all_fit};
+ghost use Rattle.std.specs.Prelude.{◌≡◌, map, filter, option_map, IfOk, OnOk};
+ghost use Rattle.xf_form.specs.Data.{is_element, all_fit};
 ghost use Rattle.xf_form.specs.Piece.{child_of, child_of_element};
 ghost use Rattle.xf_form.specs.Parts.{joined, id_part, model_part, all_parts, single, instance_of, instance_parts, input_parts};
-ghost use Rattle.xf_form.specs.Shapes.{Shapes, Adds};
+ghost use Rattle.xf_form.specs.Shapes.{Adds};
 
 use crate::miss::Miss;
 use crate::nodes::Nodes;

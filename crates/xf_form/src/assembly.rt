@@ -1,6 +1,6 @@
 //! A form from its parts.
 
-ghost use Rattle.std.specs.Prelude.{◌≡◌, ◌∷◌, [], ◌++◌, map, option_map, IfOk, OnOk};
+ghost use Rattle.std.specs.Prelude.{◌≡◌, [], option_map, IfOk};
 ghost use Rattle.xf_form.specs.Parts.{single};
 ghost use Rattle.xf_form.specs.Routes.{after, below_root, route_of};
 ghost use Rattle.xf_form.specs.Assembly.{are_new, node_of, inputs_of, form_of};

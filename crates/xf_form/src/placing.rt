@@ -1,8 +1,10 @@
 //! The nodes of an element, one after another.
 
 ghost use Rattle.std.specs.Prelude.{◌≡◌, ◌++◌, ◌∷◌, [], map, option_map, IfOk, OnOk};
+ghost use Rattle.std.specs.Option.{option_copied};
 ghost use Rattle.xf_name.specs.Written.{default_below};
-ghost use Rattle.xf_form.specs.Data.{is_element, has_elements, text_of, held_of, in_brackets, child_path, attribute_path, text_path, child_route, is_declaration, attribute_node, attribute_nodes, element_node, child_nodes, nodes_inside, is_bare_name, all_fit};
+ghost use Rattle.xf_form.specs.Data.{is_element, has_elements, text_of, held_of, is_declaration, attribute_node, attribute_nodes, element_node, child_nodes, nodes_inside, is_bare_name};
+ghost use Rattle.xf_form.specs.Data.{in_brackets, child_path, attribute_path, text_path, child_route};
 ghost use Rattle.xf_form.specs.Piece.{child_of, child_of_element};
 
 use crate::form::{DataNode, Held};
@@ -140,7 +142,7 @@ fn child_route(
     is_bare: bool,
     name: &str,
 ) -> Result<Option<Word>, AllocError>
-    ensures { IfOk result (λ word. word ≡ child_route (option_map (λ r. r.now) route.entry) is_bare name.now) }
+    ensures { IfOk result (λ word. word ≡ child_route (option_copied route.entry) is_bare name.now) }
 {
     let Some(above) = route else {
         return Ok(None);
@@ -205,7 +207,7 @@ pub(crate) fn place_element(
     route: Option<&str>,
     nodes: &mut Nodes,
 ) -> Result<(), AllocError>
-    ensures { OnOk result (nodes.new ≡ nodes.old ++ (child_of_element element.now).placed default.now path.now (option_map (λ r. r.now) route.entry)) }
+    ensures { OnOk result (nodes.new ≡ nodes.old ++ (child_of_element element.now).placed default.now path.now (option_copied route.entry)) }
 {
     let attributes = element.attributes.as_slice();
     let children = element.children.as_slice();
@@ -228,7 +230,7 @@ fn push_element(
     route: Option<&str>,
     nodes: &mut Nodes,
 ) -> Result<(), AllocError>
-    ensures { OnOk result (nodes.new ≡ nodes.old ++ element_node (map child_of children.now) path.now (option_map (λ r. r.now) route.entry) ∷ []) }
+    ensures { OnOk result (nodes.new ≡ nodes.old ++ element_node (map child_of children.now) path.now (option_copied route.entry) ∷ []) }
 {
     let route = match route {
         Some(route) => Some(Word::from_str(alloc, route)?),
@@ -248,7 +250,7 @@ fn place_inside(
     route: Option<&str>,
     nodes: &mut Nodes,
 ) -> Result<(), AllocError>
-    ensures { OnOk result (nodes.new ≡ nodes.old ++ nodes_inside default.now path.now (option_map (λ r. r.now) route.entry) (map child_of children.now)) }
+    ensures { OnOk result (nodes.new ≡ nodes.old ++ nodes_inside default.now path.now (option_copied route.entry) (map child_of children.now)) }
 {
     if !has_elements(children) {
         return Ok(());
@@ -270,7 +272,7 @@ fn place_child(
     route: Option<&str>,
     nodes: &mut Nodes,
 ) -> Result<(), AllocError>
-    ensures { OnOk result (nodes.new ≡ nodes.old ++ child_nodes default.now path.now (option_map (λ r. r.now) route.entry) (child_of child.now) number) }
+    ensures { OnOk result (nodes.new ≡ nodes.old ++ child_nodes default.now path.now (option_copied route.entry) (child_of child.now) number) }
 {
     match child {
         Lit::Text(text) => {
