@@ -10,7 +10,6 @@ use Rattle.xf_form.specs.declared.miss.Miss.{Miss}
 use Rattle.xf_form.specs.declared.miss.Miss.TheVariants.{NotBuilt, Memory}
 use Rattle.xf_form.specs.declared.part.Parts.{Parts}
 use Rattle.xf_form.specs.declared.part.Place.{Place}
-use Rattle.xf_form.specs.Child.{Child}
 use Rattle.xf_form.specs.Parts.{no_parts, joined, all_parts}
 use Rattle.xf_form.specs.Piece.{child_of}
 use Rattle.xf_form.specs.Shapes.{Misses, Adds}

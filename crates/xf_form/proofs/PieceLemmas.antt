@@ -1,6 +1,6 @@
 -- A child, one level opened.
-use Rattle.std.proofs.Common.{◌≡◌, ℕ, List, map, Some, ap, ◌∙◌, rules}
-use Rattle.xf_name.specs.declared.lit.Lit.{Lit, the_lemmas}
+use Rattle.std.proofs.Common.{◌≡◌, map, Some, ap, ◌∙◌, rules}
+use Rattle.xf_name.specs.declared.lit.Lit.{the_lemmas}
 use Rattle.xf_name.specs.declared.lit.Lit.TheVariants.{Element}
 use Rattle.xf_name.specs.declared.lit.Lit.TheFolds.{fold_out-LitElement}
 use Rattle.xf_name.specs.declared.lit.LitElement.{LitElement}

@@ -1,7 +1,7 @@
 -- Nodes and their routes side by side.
-use Rattle.std.proofs.Common.{◌≡◌, ℕ, ◌+◌, List, [], ◌∷◌, ◌++◌, length, map, Option, refl, ap, arith}
+use Rattle.std.proofs.Common.{◌≡◌, ℕ, List, [], ◌∷◌, ◌++◌, length, map, Option, refl, ap, arith}
 use Rattle.xf_form.specs.declared.form.DataNode.{DataNode}
-use Rattle.xf_form.specs.Placed.{Placed, placed_all}
+use Rattle.xf_form.specs.Placed.{placed_all}
 
 pub placed_all-push : (ns : List DataNode) (rs : List (Option (List ℕ))) (n : DataNode) (r : Option (List ℕ)) → length ns ≡ length rs
     → placed_all (ns ++ n ∷ []) (rs ++ r ∷ []) ≡ placed_all ns rs ++ record { node = n; route = r } ∷ []

@@ -1,5 +1,5 @@
 -- The nodes of children, one child more.
-use Rattle.std.proofs.Common.{◌≡◌, ℕ, suc, ◌+◌, ◌<◌, List, [], ◌∷◌, ◌++◌, length, get_or, drop, map, Option, ap, sym, ◌∙◌, refl, arith, append_assoc, add-one}
+use Rattle.std.proofs.Common.{◌≡◌, ℕ, suc, ◌+◌, ◌<◌, List, [], ◌∷◌, ◌++◌, length, get_or, drop, map, Option, ap, sym, ◌∙◌, refl, append_assoc}
 use Rattle.std.proofs.lemmas.List.{drop_more, length-map}
 use Rattle.xf_name.specs.declared.lit.Lit.{Lit}
 use Rattle.xf_form.specs.Index.{indexes_after, indexes_of}

@@ -1,5 +1,5 @@
 -- Prefixes of texts, and the first node with a route.
-use Rattle.std.proofs.Common.{◌≡◌, ℕ, zero, suc, ◌+◌, ◌<◌, Bool, true, false, cond, List, [], ◌∷◌, ◌++◌, length, get_or, drop, Some, None, ap, sym, ◌∙◌, refl, arith, add-one, inl, inr, Bor}
+use Rattle.std.proofs.Common.{◌≡◌, ℕ, zero, suc, ◌+◌, ◌<◌, false, cond, List, [], ◌∷◌, ◌++◌, length, get_or, drop, Some, None, ap, sym, ◌∙◌, refl, arith, add-one, inl, inr, Bor}
 use Rattle.std.specs.Prelude.{◌==◌, MatchOption, option_map}
 use Rattle.std.specs.Str.Pattern.{FindsTextPrefix}
 use Rattle.std.specs.declared.option.Option.{Option}
@@ -18,8 +18,8 @@ after_none (b ∷ bs) [] apart = refl
 after_none (b ∷ bs) (c ∷ cs) apart =
     elim (cases_Bool (b == c)) [
       | inl same ↦
-        cond-true (b == c) (after bs cs) None same
-        ∙ after_none bs cs (λ rest e. apart rest (ap (λ d. d ∷ cs) (sym (eqb-true b c same)) ∙ ap (λ ds. b ∷ ds) e))
+          cond-true (b == c) (after bs cs) None same
+          ∙ after_none bs cs (λ rest e. apart rest (ap (λ d. d ∷ cs) (sym (eqb-true b c same)) ∙ ap (λ ds. b ∷ ds) e))
       | inr other ↦ cond-false (b == c) (after bs cs) None other
     ]
 

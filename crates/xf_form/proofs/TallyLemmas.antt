@@ -1,6 +1,6 @@
 -- Tallies of children and the numbers of children, one child more.
-use Rattle.std.proofs.Common.{◌≡◌, ℕ, ◌+◌, ◌<◌, ◌≤◌, ◌^◌, List, [], ◌∷◌, ◌++◌, length, get_or, take, drop, map, Some, None, Bool, true, false, cond, refl, ap, sym, ◌∙◌, arith, append_assoc, inl, inr, Bor}
-use Rattle.std.specs.Prelude.{unwrap_or, count_by, nat_eq}
+use Rattle.std.proofs.Common.{◌≡◌, ℕ, ◌+◌, ◌<◌, ◌≤◌, List, [], ◌∷◌, ◌++◌, length, get_or, take, drop, map, Some, None, Bool, true, false, cond, refl, ap, sym, ◌∙◌, arith, append_assoc, inl, inr, Bor}
+use Rattle.std.specs.Prelude.{unwrap_or, nat_eq}
 use Rattle.std.specs.declared.option.Option.{Option}
 use Rattle.std.specs.HashMap.{HashMap, UpdatesBy, get_by}
 use Rattle.std.specs.Str.{bytes_eq}
@@ -25,15 +25,15 @@ named_more name m n next h e q =
     let found = hash_map_updates_str name m n (Some next) h q in
     elim (cases_Bool (bytes_eq name q)) [
       | inl t ↦
-        let same : name ≡ q = (bytes_eq-Decides name q).0 t in
-        let back : bytes_eq q name ≡ true = (bytes_eq-Decides q name).1 (sym same) in
-        ap (λ o. unwrap_or o 0) (found ∙ cond-true _ _ _ t) ∙ e ∙ ap (λ b. unwrap_or (get_by (λ k. bytes_eq b k.now) m) 0 + 1) same
-        ∙ ap (λ b. unwrap_or (get_by (λ k. bytes_eq q k.now) m) 0 + one_where b) (sym back)
+          let same : name ≡ q = (bytes_eq-Decides name q).0 t in
+          let back : bytes_eq q name ≡ true = (bytes_eq-Decides q name).1 (sym same) in
+          ap (λ o. unwrap_or o 0) (found ∙ cond-true _ _ _ t) ∙ e ∙ ap (λ b. unwrap_or (get_by (λ k. bytes_eq b k.now) m) 0 + 1) same
+          ∙ ap (λ b. unwrap_or (get_by (λ k. bytes_eq q k.now) m) 0 + one_where b) (sym back)
       | inr f ↦
-        let apart : bytes_eq q name ≡ false = false_from_ne_true _ (λ t. both_ways _ f ((bytes_eq-Decides name q).1 (sym ((bytes_eq-Decides q name).0 t)))) in
-        let old : unwrap_or (get_by (λ k. bytes_eq q k.now) n) 0 ≡ unwrap_or (get_by (λ k. bytes_eq q k.now) m) 0 = ap (λ o. unwrap_or o 0) (found ∙ cond-false _ _ _ f) in
-        let none : one_where (bytes_eq q name) ≡ 0 = ap one_where apart in
-        omega (arith, old, none)
+          let apart : bytes_eq q name ≡ false = false_from_ne_true _ (λ t. both_ways _ f ((bytes_eq-Decides name q).1 (sym ((bytes_eq-Decides q name).0 t)))) in
+          let old : unwrap_or (get_by (λ k. bytes_eq q k.now) n) 0 ≡ unwrap_or (get_by (λ k. bytes_eq q k.now) m) 0 = ap (λ o. unwrap_or o 0) (found ∙ cond-false _ _ _ f) in
+          let none : one_where (bytes_eq q name) ≡ 0 = ap one_where apart in
+          omega (arith, old, none)
     ]
 
 -- the written names of children

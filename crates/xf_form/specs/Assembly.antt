@@ -1,15 +1,12 @@
 -- A form from its parts.
-use Rattle.std.specs.Prelude.{ℕ, ◌+◌, List, [], ◌∷◌, ◌++◌, length, map, Bool, true, false, not, ◌&&◌, ◌==◌, nat_le, codes, Option, Some, None, option_map, option_and_then, if◌then◌else◌}
+use Rattle.std.specs.Prelude.{ℕ, List, [], ◌∷◌, ◌++◌, length, map, Bool, true, not, ◌&&◌, ◌==◌, nat_le, Option, Some, None, option_map, option_and_then, if◌then◌else◌}
 use Rattle.std.specs.List.{list_any}
 use Rattle.std.specs.Str.{bytes_eq}
 use Rattle.xf_form.specs.declared.form.Form.{Form}
 use Rattle.xf_form.specs.declared.form.Input.{Input}
-use Rattle.xf_form.specs.declared.form.Held.{Held}
-use Rattle.xf_form.specs.declared.form.Held.TheVariants.{Elements, Value, Text}
 use Rattle.xf_form.specs.declared.part.Instance.{Instance}
 use Rattle.xf_form.specs.declared.part.Control.{Control}
 use Rattle.xf_form.specs.declared.part.Parts.{Parts}
-use Rattle.xf_form.specs.Placed.{Placed}
 use Rattle.xf_form.specs.Routes.{route_of, node_at}
 use Rattle.xf_form.specs.Parts.{single}
 

@@ -1,5 +1,5 @@
 -- The numbers of children in the paths of the data.
-use Rattle.std.specs.Prelude.{ℕ, zero, suc, ◌+◌, List, [], ◌∷◌, ◌++◌, Bool, true, false, ◌==◌, count_by, Option, Some, None, if◌then◌else◌}
+use Rattle.std.specs.Prelude.{ℕ, ◌+◌, List, [], ◌∷◌, ◌++◌, Bool, true, false, ◌==◌, count_by, Option, Some, None, if◌then◌else◌}
 use Rattle.std.specs.Str.{bytes_eq}
 
 -- two children of the same written name, or two texts, which have none
@@ -18,9 +18,12 @@ is_alone count None = false
 is_alone count (Some name) = count (Some name) == 1
 
 -- the number of a child among those like it, counted from 1, where it is written: at each text, and at an element that has a sibling
--- of its name; else 0
+-- of its name; else 0. It is told by how many children there are like each, and by how many of those stand before
+abbrev pub index_by : (Option (List ℕ) → ℕ) → (Option (List ℕ) → ℕ) → Option (List ℕ) → ℕ
+index_by total before name = if is_alone total name then 0 else before name + 1
+
 abbrev pub index_among : List (Option (List ℕ)) → List (Option (List ℕ)) → Option (List ℕ) → ℕ
-index_among names before name = if is_alone (λ n. count_like n names) name then 0 else count_like name before + 1
+index_among names before name = index_by (λ n. count_like n names) (λ n. count_like n before) name
 
 -- the same for each of the children that are left, behind those before
 abbrev pub indexes_after : List (Option (List ℕ)) → List (Option (List ℕ)) → List (Option (List ℕ)) → List ℕ

@@ -1,5 +1,5 @@
 -- A form by its elements and texts: what each is to the element around it.
-use Rattle.std.specs.Prelude.{ℕ, List, [], Bool, true, false, Some, None}
+use Rattle.std.specs.Prelude.{ℕ, List, [], true, false, Some, None}
 use Rattle.xf_name.specs.declared.lit.Lit.{Lit, fold-Lit}
 use Rattle.xf_name.specs.declared.lit.Lit.TheOpen.{Lit-F, LitElement-F}
 use Rattle.xf_name.specs.declared.lit.LitElement.{LitElement, fold-LitElement}

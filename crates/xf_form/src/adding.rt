@@ -1,10 +1,10 @@
 //! The parts of a form, element by element.
 
-ghost use Rattle.std.specs.Prelude.{◌≡◌, ◌∷◌, [], map, filter, option_map, IfOk, OnOk};
-ghost use Rattle.xf_form.specs.Data.{is_element, has_elements, all_fit};
+ghost use Rattle.std.specs.Prelude.{◌≡◌, map, filter, option_map, IfOk, OnOk};
+ghost use Rattle.xf_form.specs.Data.{is_element, all_fit};
 ghost use Rattle.xf_form.specs.Piece.{child_of, child_of_element};
 ghost use Rattle.xf_form.specs.Parts.{joined, id_part, model_part, all_parts, single, instance_of, instance_parts, input_parts};
-ghost use Rattle.xf_form.specs.Shapes.{Shapes, Adds};
+ghost use Rattle.xf_form.specs.Shapes.{Adds};
 
 use crate::miss::Miss;
 use crate::nodes::Nodes;
@@ -21,7 +21,14 @@ const DEPTH_LIMIT: usize = 100;
 
 /// Adds what a tree gives that stands in a place, under the default namespace in force there.
 #[cycle(adding)]
-pub(crate) fn add(alloc: Global, lit: &Lit, prefixes: &Prefixes, place: Place, default: &str, parts: &mut Parts) -> Result<(), Miss>
+pub(crate) fn add(
+    alloc: Global,
+    lit: &Lit,
+    prefixes: &Prefixes,
+    place: Place,
+    default: &str,
+    parts: &mut Parts,
+) -> Result<(), Miss>
     ensures { Adds result parts.old parts.new ((child_of lit.now).parts prefixes.now place default.now) }
 {
     match lit {
@@ -31,7 +38,14 @@ pub(crate) fn add(alloc: Global, lit: &Lit, prefixes: &Prefixes, place: Place, d
 }
 
 #[cycle(adding)]
-fn add_element(alloc: Global, element: &LitElement, prefixes: &Prefixes, place: Place, default: &str, parts: &mut Parts) -> Result<(), Miss>
+fn add_element(
+    alloc: Global,
+    element: &LitElement,
+    prefixes: &Prefixes,
+    place: Place,
+    default: &str,
+    parts: &mut Parts,
+) -> Result<(), Miss>
     ensures { Adds result parts.old parts.new ((child_of_element element.now).parts prefixes.now place default.now) }
 {
     let attributes = element.attributes.as_slice();
@@ -50,7 +64,14 @@ fn add_element(alloc: Global, element: &LitElement, prefixes: &Prefixes, place: 
 }
 
 #[cycle(adding)]
-fn add_all(alloc: Global, children: &[Lit], prefixes: &Prefixes, place: Place, default: &str, parts: &mut Parts) -> Result<(), Miss>
+fn add_all(
+    alloc: Global,
+    children: &[Lit],
+    prefixes: &Prefixes,
+    place: Place,
+    default: &str,
+    parts: &mut Parts,
+) -> Result<(), Miss>
     ensures { Adds result parts.old parts.new (all_parts (map child_of children.now) prefixes.now place default.now) }
 {
     for child in children {
@@ -82,7 +103,12 @@ fn add_model(alloc: Global, attributes: &[Pair], parts: &mut Parts) -> Result<()
 
 // ---- instances
 
-fn add_instance(alloc: Global, children: &[Lit], default: &str, parts: &mut Parts) -> Result<(), Miss>
+fn add_instance(
+    alloc: Global,
+    children: &[Lit],
+    default: &str,
+    parts: &mut Parts,
+) -> Result<(), Miss>
     ensures { Adds result parts.old parts.new (instance_parts (map child_of children.now) default.now) }
 {
     let Some(element) = only_element(children) else {
@@ -166,7 +192,13 @@ fn child_fits(child: &Lit, limit: usize) -> bool
 
 // ---- inputs
 
-fn add_input(alloc: Global, prefixes: &Prefixes, attributes: &[Pair], children: &[Lit], parts: &mut Parts) -> Result<(), Miss>
+fn add_input(
+    alloc: Global,
+    prefixes: &Prefixes,
+    attributes: &[Pair],
+    children: &[Lit],
+    parts: &mut Parts,
+) -> Result<(), Miss>
     ensures { Adds result parts.old parts.new (input_parts prefixes.now attributes.now (map child_of children.now)) }
 {
     if has_elements(children) || has_unbuilt(prefixes, attributes)? {

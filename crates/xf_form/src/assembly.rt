@@ -1,6 +1,6 @@
 //! A form from its parts.
 
-ghost use Rattle.std.specs.Prelude.{◌≡◌, ◌∷◌, [], ◌++◌, map, option_map, IfOk, OnOk};
+ghost use Rattle.std.specs.Prelude.{◌≡◌, [], option_map, IfOk};
 ghost use Rattle.xf_form.specs.Parts.{single};
 ghost use Rattle.xf_form.specs.Routes.{after, below_root, route_of};
 ghost use Rattle.xf_form.specs.Assembly.{are_new, node_of, inputs_of, form_of};
@@ -11,7 +11,6 @@ use crate::miss::Miss;
 use crate::part::{Control, Instance, Parts};
 use indexmap::IndexSet;
 use std::alloc::{AllocError, Global};
-
 use xf_base::Items;
 use xf_name::Word;
 

@@ -1,11 +1,11 @@
 //! The numbers of children in paths.
 
-ghost use Rattle.std.specs.Prelude.{◌≡◌, ◌+◌, ◌^◌, ◌<◌, ℕ, List, map, if◌then◌else◌, IfOk, OnOk};
+ghost use Rattle.std.specs.Prelude.{◌≡◌, ◌+◌, ◌^◌, ◌<◌, ℕ, List, map, IfOk, OnOk};
 ghost use Rattle.std.specs.declared.option.Option.{Option};
-ghost use Rattle.xf_form.specs.Index.{is_like, is_alone, count_like, indexes_of};
+ghost use Rattle.xf_form.specs.Index.{is_alone, index_by, count_like, indexes_of};
 ghost use Rattle.xf_form.specs.Data.{names_of};
 ghost use Rattle.xf_form.specs.Piece.{child_of};
-ghost use Rattle.xf_form.specs.Tally.{counted};
+ghost use Rattle.xf_form.specs.Tally.{counted, CountsOne};
 
 use std::alloc::{AllocError, Global};
 use std::collections::HashMap;
@@ -34,10 +34,14 @@ pub(crate) fn indexes(alloc: Global, children: &[Lit]) -> Result<Vec<usize>, All
 }
 
 // The number of a child behind those before, among which it is then.
-fn next_index<'a>(totals: &Tally<'_>, before: &mut Tally<'a>, child: &'a Lit) -> Result<usize, AllocError>
+fn next_index<'a>(
+    totals: &Tally<'_>,
+    before: &mut Tally<'a>,
+    child: &'a Lit,
+) -> Result<usize, AllocError>
     requires { counted before.old (child_of child.now).name + 1 < 2 ^ 64 }
-    ensures index { IfOk result (λ k. k ≡ (if is_alone (counted totals.now) (child_of child.now).name then 0 else counted before.old (child_of child.now).name + 1)) }
-    ensures counts { OnOk result ((n : Option (List ℕ)) → counted before.new n ≡ counted before.old n + (if is_like n (child_of child.now).name then 1 else 0)) }
+    ensures index { IfOk result (λ k. k ≡ index_by (counted totals.now) (counted before.old) (child_of child.now).name) }
+    ensures counts { OnOk result (CountsOne before.old before.new (child_of child.now).name) }
 {
     let index = count(before, child)?;
     if is_alone(totals, child) {
@@ -69,7 +73,7 @@ fn empty_tally<'a>(alloc: Global) -> Tally<'a>
 fn count<'a>(tally: &mut Tally<'a>, child: &'a Lit) -> Result<usize, AllocError>
     requires { counted tally.old (child_of child.now).name + 1 < 2 ^ 64 }
     ensures count { IfOk result (λ k. k ≡ counted tally.old (child_of child.now).name + 1) }
-    ensures counts { OnOk result ((n : Option (List ℕ)) → counted tally.new n ≡ counted tally.old n + (if is_like n (child_of child.now).name then 1 else 0)) }
+    ensures counts { OnOk result (CountsOne tally.old tally.new (child_of child.now).name) }
 {
     match child {
         Lit::Text(_) => {

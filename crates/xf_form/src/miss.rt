@@ -3,7 +3,7 @@
 use std::alloc::{AllocError, AllocFailed};
 
 // Why a part of a form was not made: it is outside the built shape, or memory ran out.
-#[derive(Clone, Copy, Debug, PartialEq, Eq)]
+#[derive(Clone, Copy)]
 pub(crate) enum Miss {
     NotBuilt,
     Memory,

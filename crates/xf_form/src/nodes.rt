@@ -1,6 +1,6 @@
 //! The nodes of the data with the routes that lead to them.
 
-ghost use Rattle.std.specs.Prelude.{◌≡◌, ◌++◌, ◌∷◌, [], length, map, OnOk, OnErr};
+ghost use Rattle.std.specs.Prelude.{◌≡◌, ◌++◌, ◌∷◌, [], length, map, OnOk};
 ghost use Rattle.xf_form.specs.Placed.{Placed, placed_all};
 ghost use Rattle.xf_form.specs.Routes.{has_route, has_value, node_at};
 

@@ -5,7 +5,7 @@ use xf_base::Items;
 use xf_name::Word;
 
 // Where an element stands: at the root, in a host element or in a model.
-#[derive(Clone, Copy, Debug)]
+#[derive(Clone, Copy)]
 pub(crate) enum Place {
     Root,
     Host,
@@ -13,7 +13,7 @@ pub(crate) enum Place {
 }
 
 // What an element is in its place.
-#[derive(Clone, Copy, Debug)]
+#[derive(Clone, Copy)]
 pub(crate) enum Role {
     Host,
     Model,

@@ -1,8 +1,10 @@
 //! The nodes of an element, one after another.
 
 ghost use Rattle.std.specs.Prelude.{◌≡◌, ◌++◌, ◌∷◌, [], map, option_map, IfOk, OnOk};
+ghost use Rattle.std.specs.Option.{option_copied};
 ghost use Rattle.xf_name.specs.Written.{default_below};
-ghost use Rattle.xf_form.specs.Data.{is_element, has_elements, text_of, held_of, in_brackets, child_path, attribute_path, text_path, child_route, is_declaration, attribute_node, attribute_nodes, element_node, child_nodes, nodes_inside, is_bare_name, all_fit};
+ghost use Rattle.xf_form.specs.Data.{is_element, has_elements, text_of, held_of, is_declaration, attribute_node, attribute_nodes, element_node, child_nodes, nodes_inside, is_bare_name};
+ghost use Rattle.xf_form.specs.Data.{in_brackets, child_path, attribute_path, text_path, child_route};
 ghost use Rattle.xf_form.specs.Piece.{child_of, child_of_element};
 
 use crate::form::{DataNode, Held};
@@ -49,7 +51,10 @@ pub(crate) fn default_below<'a>(above: &'a str, attributes: &'a [Pair]) -> &'a s
 pub(crate) fn is_bare(element: &LitElement, default: &str) -> bool
     ensures { result ≡ (child_of_element element.now).is_bare default.now }
 {
-    is_bare_name(element.name.as_str(), default_below(default, element.attributes.as_slice()))
+    is_bare_name(
+        element.name.as_str(),
+        default_below(default, element.attributes.as_slice()),
+    )
 }
 
 fn is_bare_name(name: &str, default: &str) -> bool
@@ -131,8 +136,13 @@ fn text_path(alloc: Global, path: &str, number: usize) -> Result<Word, AllocErro
     Ok(text)
 }
 
-fn child_route(alloc: Global, route: Option<&str>, is_bare: bool, name: &str) -> Result<Option<Word>, AllocError>
-    ensures { IfOk result (λ word. word ≡ child_route (option_map (λ r. r.now) route.entry) is_bare name.now) }
+fn child_route(
+    alloc: Global,
+    route: Option<&str>,
+    is_bare: bool,
+    name: &str,
+) -> Result<Option<Word>, AllocError>
+    ensures { IfOk result (λ word. word ≡ child_route (option_copied route.entry) is_bare name.now) }
 {
     let Some(above) = route else {
         return Ok(None);
@@ -151,7 +161,12 @@ fn child_route(alloc: Global, route: Option<&str>, is_bare: bool, name: &str) ->
 
 // ---- nodes
 
-fn place_attributes(alloc: Global, attributes: &[Pair], path: &str, nodes: &mut Nodes) -> Result<(), AllocError>
+fn place_attributes(
+    alloc: Global,
+    attributes: &[Pair],
+    path: &str,
+    nodes: &mut Nodes,
+) -> Result<(), AllocError>
     ensures { OnOk result (nodes.new ≡ nodes.old ++ attribute_nodes path.now attributes.now) }
 {
     for attribute in attributes {
@@ -160,7 +175,12 @@ fn place_attributes(alloc: Global, attributes: &[Pair], path: &str, nodes: &mut 
     Ok(())
 }
 
-fn place_attribute(alloc: Global, attribute: &Pair, path: &str, nodes: &mut Nodes) -> Result<(), AllocError>
+fn place_attribute(
+    alloc: Global,
+    attribute: &Pair,
+    path: &str,
+    nodes: &mut Nodes,
+) -> Result<(), AllocError>
     ensures { OnOk result (nodes.new ≡ nodes.old ++ attribute_node path.now attribute.now) }
 {
     if is_declaration(attribute.name.as_str()) {
@@ -179,18 +199,38 @@ fn place_attribute(alloc: Global, attribute: &Pair, path: &str, nodes: &mut Node
 
 // The element with this path and route, its attributes and what is in it.
 #[cycle(placing)]
-pub(crate) fn place_element(alloc: Global, element: &LitElement, default: &str, path: &str, route: Option<&str>, nodes: &mut Nodes) -> Result<(), AllocError>
-    ensures { OnOk result (nodes.new ≡ nodes.old ++ (child_of_element element.now).placed default.now path.now (option_map (λ r. r.now) route.entry)) }
+pub(crate) fn place_element(
+    alloc: Global,
+    element: &LitElement,
+    default: &str,
+    path: &str,
+    route: Option<&str>,
+    nodes: &mut Nodes,
+) -> Result<(), AllocError>
+    ensures { OnOk result (nodes.new ≡ nodes.old ++ (child_of_element element.now).placed default.now path.now (option_copied route.entry)) }
 {
     let attributes = element.attributes.as_slice();
     let children = element.children.as_slice();
     push_element(alloc, children, path, route, nodes)?;
     place_attributes(alloc, attributes, path, nodes)?;
-    place_inside(alloc, children, default_below(default, attributes), path, route, nodes)
+    place_inside(
+        alloc,
+        children,
+        default_below(default, attributes),
+        path,
+        route,
+        nodes,
+    )
 }
 
-fn push_element(alloc: Global, children: &[Lit], path: &str, route: Option<&str>, nodes: &mut Nodes) -> Result<(), AllocError>
-    ensures { OnOk result (nodes.new ≡ nodes.old ++ element_node (map child_of children.now) path.now (option_map (λ r. r.now) route.entry) ∷ []) }
+fn push_element(
+    alloc: Global,
+    children: &[Lit],
+    path: &str,
+    route: Option<&str>,
+    nodes: &mut Nodes,
+) -> Result<(), AllocError>
+    ensures { OnOk result (nodes.new ≡ nodes.old ++ element_node (map child_of children.now) path.now (option_copied route.entry) ∷ []) }
 {
     let route = match route {
         Some(route) => Some(Word::from_str(alloc, route)?),
@@ -202,8 +242,15 @@ fn push_element(alloc: Global, children: &[Lit], path: &str, route: Option<&str>
 }
 
 #[cycle(placing)]
-fn place_inside(alloc: Global, children: &[Lit], default: &str, path: &str, route: Option<&str>, nodes: &mut Nodes) -> Result<(), AllocError>
-    ensures { OnOk result (nodes.new ≡ nodes.old ++ nodes_inside default.now path.now (option_map (λ r. r.now) route.entry) (map child_of children.now)) }
+fn place_inside(
+    alloc: Global,
+    children: &[Lit],
+    default: &str,
+    path: &str,
+    route: Option<&str>,
+    nodes: &mut Nodes,
+) -> Result<(), AllocError>
+    ensures { OnOk result (nodes.new ≡ nodes.old ++ nodes_inside default.now path.now (option_copied route.entry) (map child_of children.now)) }
 {
     if !has_elements(children) {
         return Ok(());
@@ -216,8 +263,16 @@ fn place_inside(alloc: Global, children: &[Lit], default: &str, path: &str, rout
 }
 
 #[cycle(placing)]
-fn place_child(alloc: Global, child: &Lit, number: usize, default: &str, path: &str, route: Option<&str>, nodes: &mut Nodes) -> Result<(), AllocError>
-    ensures { OnOk result (nodes.new ≡ nodes.old ++ child_nodes default.now path.now (option_map (λ r. r.now) route.entry) (child_of child.now) number) }
+fn place_child(
+    alloc: Global,
+    child: &Lit,
+    number: usize,
+    default: &str,
+    path: &str,
+    route: Option<&str>,
+    nodes: &mut Nodes,
+) -> Result<(), AllocError>
+    ensures { OnOk result (nodes.new ≡ nodes.old ++ child_nodes default.now path.now (option_copied route.entry) (child_of child.now) number) }
 {
     match child {
         Lit::Text(text) => {
@@ -229,7 +284,14 @@ fn place_child(alloc: Global, child: &Lit, number: usize, default: &str, path: &
             let name = element.name.as_str();
             let path = child_path(alloc, path, name, number)?;
             let route = child_route(alloc, route, is_bare(element, default), name)?;
-            place_element(alloc, element, default, path.as_str(), as_str(&route), nodes)
+            place_element(
+                alloc,
+                element,
+                default,
+                path.as_str(),
+                as_str(&route),
+                nodes,
+            )
         }
     }
 }

@@ -4,7 +4,8 @@ use crate::{Form, FormFault, Held, load};
 use std::alloc::{AllocError, Global};
 use std::test::Fail;
 
-const EXAMPLE: &str = r#"["f",{"xmlns:xf":"http://www.w3.org/2002/xforms"},["xf:model",["xf:instance",["d","1"]]],["xf:input",{"id":"a","ref":"."}]]"#;
+const EXAMPLE: &str =
+    r#"["f",{"xmlns:xf":"http://www.w3.org/2002/xforms"},["xf:model",["xf:instance",["d","1"]]],["xf:input",{"id":"a","ref":"."}]]"#;
 
 // A form with this data and what else stands in its root.
 fn form_with(alloc: Global, tree: &str, more: &str) -> Result<String, AllocError> {
@@ -66,15 +67,31 @@ fn the_example_is_loaded(rt: HostRuntime) -> Result<(), Fail> {
 fn data_have_their_paths(rt: HostRuntime) -> Result<(), Fail> {
     let alloc = rt.alloc();
     let cases: [(&str, &str); 5] = [
-        (r#"["d",["a","1"],["a","2"],["b",{"x":"3"}],"tail"]"#, "/d /d/a[1]=1 /d/a[2]=2 /d/b= /d/b/@x=3 /d/text()[1]~tail "),
-        (r#"["d","one",["a"],"two"]"#, "/d /d/text()[1]~one /d/a= /d/text()[2]~two "),
-        (r#"["d",{"xmlns":"u","xmlns:p":"v","b":"2","a":"1"}]"#, "/d= /d/@a=1 /d/@b=2 "),
-        (r#"["d",["xf:input",["row",{"id":"i"}],["row",{"id":"i"}]]]"#, "/d /d/xf:input /d/xf:input/row[1]= /d/xf:input/row[1]/@id=i /d/xf:input/row[2]= /d/xf:input/row[2]/@id=i "),
+        (
+            r#"["d",["a","1"],["a","2"],["b",{"x":"3"}],"tail"]"#,
+            "/d /d/a[1]=1 /d/a[2]=2 /d/b= /d/b/@x=3 /d/text()[1]~tail ",
+        ),
+        (
+            r#"["d","one",["a"],"two"]"#,
+            "/d /d/text()[1]~one /d/a= /d/text()[2]~two ",
+        ),
+        (
+            r#"["d",{"xmlns":"u","xmlns:p":"v","b":"2","a":"1"}]"#,
+            "/d= /d/@a=1 /d/@b=2 ",
+        ),
+        (
+            r#"["d",["xf:input",["row",{"id":"i"}],["row",{"id":"i"}]]]"#,
+            "/d /d/xf:input /d/xf:input/row[1]= /d/xf:input/row[1]/@id=i /d/xf:input/row[2]= /d/xf:input/row[2]/@id=i ",
+        ),
         (r#"["xf:model"]"#, "/xf:model= "),
     ];
     for (tree, want) in cases {
         let form = form_with(alloc, tree, "")?;
-        assert_eq!(rt; answer(alloc, form.as_str().as_bytes())?.as_str(), want, "data {tree}");
+        assert_eq!(rt;
+            answer(alloc, form.as_str().as_bytes())?.as_str(),
+            want,
+            "data {tree}"
+        );
     }
     Ok(())
 }
@@ -87,8 +104,16 @@ fn references_select_first_nodes(rt: HostRuntime) -> Result<(), Fail> {
         (r#"["d"]"#, ".", "/d= a@0 "),
         (r#"["d"]"#, "/d", "/d= a@0 "),
         (r#"["d",["b"],["b"]]"#, "b", "/d /d/b[1]= /d/b[2]= a@1 "),
-        (r#"["d",["a"],["a",["b"]]]"#, "/d/a/b", "/d /d/a[1]= /d/a[2] /d/a[2]/b= a@3 "),
-        (r#"["e",{"xmlns":"u"},["b",{"xmlns":""}]]"#, "b", "/e /e/b= a@1 "),
+        (
+            r#"["d",["a"],["a",["b"]]]"#,
+            "/d/a/b",
+            "/d /d/a[1]= /d/a[2] /d/a[2]/b= a@3 ",
+        ),
+        (
+            r#"["e",{"xmlns":"u"},["b",{"xmlns":""}]]"#,
+            "b",
+            "/e /e/b= a@1 ",
+        ),
         (r#"["e",{"xmlns":"u"},["b"]]"#, "b", "F19"),
         (r#"["e",{"xmlns":"u"}]"#, "/e", "F19"),
         (r#"["e",{"xmlns":"u"}]"#, ".", "/e= a@0 "),
@@ -102,7 +127,11 @@ fn references_select_first_nodes(rt: HostRuntime) -> Result<(), Fail> {
     for (tree, reference, want) in cases {
         let more = format!(in alloc; r#",["xf:input",{{"id":"a","ref":"{reference}"}}]"#)?;
         let form = form_with(alloc, tree, more.as_str())?;
-        assert_eq!(rt; answer(alloc, form.as_str().as_bytes())?.as_str(), want, "{reference} in {tree}");
+        assert_eq!(rt;
+            answer(alloc, form.as_str().as_bytes())?.as_str(),
+            want,
+            "{reference} in {tree}"
+        );
     }
     Ok(())
 }
@@ -113,26 +142,42 @@ fn other_shapes_are_refused(rt: HostRuntime) -> Result<(), Fail> {
     // what stands beside the model, and what loading answers
     let cases: [(&str, &str); 17] = [
         (r#","text",["div",{"class":"c"},["p","more"]]"#, "/d= "),
-        (r#",["div",["xf:input",{"id":"a","ref":".","class":"c"},"text"]]"#, "/d= a@0 "),
+        (
+            r#",["div",["xf:input",{"id":"a","ref":".","class":"c"},"text"]]"#,
+            "/d= a@0 ",
+        ),
         (r#",["xf:input",{"id":"a"}]"#, "F19"),
         (r#",["xf:input",{"ref":"."}]"#, "F19"),
         (r#",["xf:input",{"id":"a","ref":"."},["b"]]"#, "F19"),
         (r#",["xf:input",{"id":"a","ref":".","bind":"b"}]"#, "F19"),
-        (r#",["xf:input",{"id":"a","ref":".","ev:event":"e"}]"#, "F19"),
+        (
+            r#",["xf:input",{"id":"a","ref":".","ev:event":"e"}]"#,
+            "F19",
+        ),
         (r#",["xf:output",{"ref":"."}]"#, "F19"),
         (r#",["xf:instance",["d"]]"#, "F19"),
         (r#",["xf:model"]"#, "F19"),
-        (r#",["p",{"id":"a"}],["xf:input",{"id":"a","ref":"."}]"#, "F19"),
+        (
+            r#",["p",{"id":"a"}],["xf:input",{"id":"a","ref":"."}]"#,
+            "F19",
+        ),
         (r#",["p",{"id":"a"}],["p",{"id":"b"}]"#, "/d= "),
         (r#",["q:p"]"#, "F19"),
         (r#",["p",{"xmlns:xf":"urn:other"}]"#, "F19"),
         (r#",["p",1]"#, "F19"),
-        (r#",["input",{"xmlns":"http://www.w3.org/2002/xforms","id":"a","ref":"."}]"#, "/d= a@0 "),
+        (
+            r#",["input",{"xmlns":"http://www.w3.org/2002/xforms","id":"a","ref":"."}]"#,
+            "/d= a@0 ",
+        ),
         (r#",["p""#, "F1"),
     ];
     for (more, want) in cases {
         let form = form_with(alloc, r#"["d"]"#, more)?;
-        assert_eq!(rt; answer(alloc, form.as_str().as_bytes())?.as_str(), want, "beside {more}");
+        assert_eq!(rt;
+            answer(alloc, form.as_str().as_bytes())?.as_str(),
+            want,
+            "beside {more}"
+        );
     }
     assert_eq!(rt; answer(alloc, b"[]")?.as_str(), "F19");
     assert_eq!(rt; answer(alloc, b"")?.as_str(), "F1");
@@ -179,9 +224,41 @@ fn limits_are_met(rt: HostRuntime) -> Result<(), Fail> {
     let tree = r#"["d"]"#;
     assert!(rt; load(alloc, padded(alloc, 65536)?.as_str().as_bytes()).is_ok());
     assert!(rt; load(alloc, padded(alloc, 65537)?.as_str().as_bytes()).is_err());
-    assert!(rt; load(alloc, form_with(alloc, tree, inputs(alloc, 32)?.as_str())?.as_str().as_bytes()).is_ok());
-    assert!(rt; load(alloc, form_with(alloc, tree, inputs(alloc, 33)?.as_str())?.as_str().as_bytes()).is_err());
-    assert!(rt; load(alloc, form_with(alloc, nested(alloc, 100)?.as_str(), "")?.as_str().as_bytes()).is_ok());
-    assert!(rt; load(alloc, form_with(alloc, nested(alloc, 101)?.as_str(), "")?.as_str().as_bytes()).is_err());
+    assert!(rt;
+        load(
+            alloc,
+            form_with(alloc, tree, inputs(alloc, 32)?.as_str())?
+                .as_str()
+                .as_bytes()
+        )
+        .is_ok()
+    );
+    assert!(rt;
+        load(
+            alloc,
+            form_with(alloc, tree, inputs(alloc, 33)?.as_str())?
+                .as_str()
+                .as_bytes()
+        )
+        .is_err()
+    );
+    assert!(rt;
+        load(
+            alloc,
+            form_with(alloc, nested(alloc, 100)?.as_str(), "")?
+                .as_str()
+                .as_bytes()
+        )
+        .is_ok()
+    );
+    assert!(rt;
+        load(
+            alloc,
+            form_with(alloc, nested(alloc, 101)?.as_str(), "")?
+                .as_str()
+                .as_bytes()
+        )
+        .is_err()
+    );
     Ok(())
 }

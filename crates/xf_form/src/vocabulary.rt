@@ -69,7 +69,12 @@ fn is_space(prefixes: &Prefixes, number: u16, uri: &str) -> bool
 // ---- elements
 
 /// What an element is by its written name, in its place and under the default namespace in force.
-pub(crate) fn role_of(prefixes: &Prefixes, default: &str, name: &str, place: Place) -> Result<Role, Miss>
+pub(crate) fn role_of(
+    prefixes: &Prefixes,
+    default: &str,
+    name: &str,
+    place: Place,
+) -> Result<Role, Miss>
     ensures { Shapes result (role_of prefixes.now default.now name.now place) }
 {
     let space = prefixes.space_of(default).unwrap_or(0);

@@ -17,8 +17,8 @@ loop-id-preserved c =
     ap (λ y. list_any (bytes_eq y) (take i ids)) (sym c.as_str.ensures) ∙ ap (list_any (bytes_eq x)) (sym c.loop-id.invariant.seen) ∙ sym (any_seen keys x) ∙ unseen in
     record {
       seen =
-      ap (map (λ k. k.now)) (c.in_ok-insert.ensures.keys ∙ cond-false _ keys (keys ++ c.as_str.result ∷ []) unseen) ∙ map_push (λ k. k.now) keys c.as_str.result
-      ∙ ap (λ ts. ts ++ x ∷ []) c.loop-id.invariant.seen ∙ ap (λ y. take i ids ++ y ∷ []) c.as_str.ensures ∙ sym (taken_more ids i c.id-item.result c.loop-id-test.true c.id-item.is);
+          ap (map (λ k. k.now)) (c.in_ok-insert.ensures.keys ∙ cond-false _ keys (keys ++ c.as_str.result ∷ []) unseen) ∙ map_push (λ k. k.now) keys c.as_str.result
+          ∙ ap (λ ts. ts ++ x ∷ []) c.loop-id.invariant.seen ∙ ap (λ y. take i ids ++ y ∷ []) c.as_str.ensures ∙ sym (taken_more ids i c.id-item.result c.loop-id-test.true c.id-item.is);
       so_far = new_more ids i c.id-item.result _ c.loop-id-test.true c.id-item.is apart c.loop-id.invariant.so_far;
     }
 

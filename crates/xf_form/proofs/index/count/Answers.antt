@@ -1,4 +1,4 @@
-use Rattle.std.proofs.Common.{rules, ◌≡◌, ◌∙◌, ◌+◌, Some, None, ap, arith, sym, Bor, List, ℕ}
+use Rattle.std.proofs.Common.{◌≡◌, ◌∙◌, ◌+◌, Some, None, ap, arith, sym}
 use Rattle.std.specs.Prelude.{unwrap_or}
 use Rattle.std.specs.HashMap.{get_by}
 use Rattle.std.specs.Str.{bytes_eq}
@@ -20,10 +20,10 @@ returns-in_ok-insert-in-Element-clause-counts c =
     ap (λ k. k + 1) (c.named-next.ensures ∙ ap (λ s. unwrap_or (get_by (λ k. bytes_eq s k.now) old) 0) (c.as_str.ensures ∙ sym c.as_str-in-Element.ensures)) in
     λ n. elim n as (λ m. counted (record { names = c.insert.new.self; texts = c.args.tally.now.texts }) m ≡ counted c.args.tally.now m + one_where (is_like m (child_of c.args.child.now).name)) [
       | None ↦
-        let none : one_where (is_like None (child_of c.args.child.now).name) ≡ 0 = ap (λ m. one_where (is_like None m)) shown in
-        omega (arith, none)
+          let none : one_where (is_like None (child_of c.args.child.now).name) ≡ 0 = ap (λ m. one_where (is_like None m)) shown in
+          omega (arith, none)
       | Some q ↦
-        named_more second old c.insert.new.self (c.named-next.result + 1) c.in_ok-insert-in-Element.ensures.updates before q
-        ∙ ap (λ s. unwrap_or (get_by (λ k. bytes_eq q k.now) old) 0 + one_where (bytes_eq q s)) c.as_str-in-Element.ensures
-        ∙ ap (λ m. unwrap_or (get_by (λ k. bytes_eq q k.now) old) 0 + one_where (is_like (Some q) m)) (sym shown)
+          named_more second old c.insert.new.self (c.named-next.result + 1) c.in_ok-insert-in-Element.ensures.updates before q
+          ∙ ap (λ s. unwrap_or (get_by (λ k. bytes_eq q k.now) old) 0 + one_where (bytes_eq q s)) c.as_str-in-Element.ensures
+          ∙ ap (λ m. unwrap_or (get_by (λ k. bytes_eq q k.now) old) 0 + one_where (is_like (Some q) m)) (sym shown)
     ]

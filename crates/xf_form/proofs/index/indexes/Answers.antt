@@ -1,4 +1,4 @@
-use Rattle.std.proofs.Common.{◌≡◌, ◌∙◌, ◌+◌, ap, sym}
+use Rattle.std.proofs.Common.{◌∙◌, ◌+◌, ap, sym}
 use Rattle.xf_form.specs.Index.{is_like}
 use Rattle.xf_form.specs.Piece.{child_of}
 use Rattle.xf_form.specs.Tally.{counted}
@@ -13,7 +13,7 @@ loop-child-preserved c =
     record {
       counts = λ n. c.in_ok-index.ensures.counts n ∙ ap (λ k. k + one_where (is_like n (child_of x).name)) (c.loop-child.invariant.counts n) ∙ sym (count_more cs i x n c.loop-child-test.true c.child-item.is);
       so_far =
-      indexes_more cs c.loop-child.indexes.items c.push.new.self.items i c.in_ok-index.index x c.loop-child-test.true c.child-item.is
-      (c.in_ok-index.ensures.index ∙ index_told cs i (counted c.in_ok-totals.totals) (counted c.loop-child.before) (child_of x).name c.in_ok-totals.ensures c.loop-child.invariant.counts)
-      c.in_ok-push.ensures.items c.loop-child.invariant.so_far;
+          indexes_more cs c.loop-child.indexes.items c.push.new.self.items i c.in_ok-index.index x c.loop-child-test.true c.child-item.is
+          (c.in_ok-index.ensures.index ∙ index_told cs i (counted c.in_ok-totals.totals) (counted c.loop-child.before) (child_of x).name c.in_ok-totals.ensures c.loop-child.invariant.counts)
+          c.in_ok-push.ensures.items c.loop-child.invariant.so_far;
     }

@@ -1,4 +1,4 @@
-use Rattle.std.proofs.Common.{◌≡◌, ◌∙◌, ap, sym, arith, length, option_map}
+use Rattle.std.proofs.Common.{◌≡◌, ◌∙◌, ap, arith, length, option_map}
 use Rattle.xf_form.proofs.PlacingLemmas.{length-indexes, nodes_more}
 use Rattle.xf_form.proofs.placing.+placing.Goals as goal
 

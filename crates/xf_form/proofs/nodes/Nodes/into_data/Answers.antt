@@ -1,5 +1,4 @@
 use Rattle.std.proofs.Common.{◌∙◌, ap, sym, map}
-use Rattle.xf_form.specs.Placed.{Placed}
 use Rattle.xf_form.proofs.PlacedLemmas.{map-placed_all}
 use Rattle.xf_form.proofs.nodes.Nodes.into_data.Goals as goal
 

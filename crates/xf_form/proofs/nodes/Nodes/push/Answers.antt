@@ -1,5 +1,5 @@
-use Rattle.std.proofs.Common.{rules, ◌≡◌, ◌∙◌, ◌++◌, ◌∷◌, [], ap, List}
-use Rattle.xf_form.specs.Placed.{Placed, placed_all}
+use Rattle.std.proofs.Common.{◌∙◌, ◌++◌, ◌∷◌, [], ap}
+use Rattle.xf_form.specs.Placed.{placed_all}
 use Rattle.xf_form.proofs.PlacedLemmas.{placed_all-push}
 use Rattle.xf_form.proofs.nodes.Nodes.push.Goals as goal
 
