@@ -1,0 +1,20 @@
+-- A dependency graph: vertices are the numbers below its size, and at each vertex stand the vertices that read from it.
+use Rattle.std.specs.Prelude.{◌≡◌, ℕ, Bool, false, ◌||◌, ◌==◌, List, [], ◌∷◌, length, slice_index_or}
+
+-- the readers of each vertex, in the vertices' order
+abbrev pub Adjacency : Type 0
+Adjacency = List (List ℕ)
+
+-- whether the vertex is in the list
+abbrev pub has : List ℕ → ℕ → Bool
+has [] vertex = false
+has (first ∷ rest) vertex = (first == vertex) || has rest vertex
+
+-- whether `to` reads from `from`
+abbrev pub has_edge : Adjacency → ℕ → ℕ → Bool
+has_edge graph from to = has (slice_index_or graph from []) to
+
+-- the graph has this many vertices, and exactly the edges of the test
+pub record HasEdges (graph : Adjacency) (count : ℕ) (edge : ℕ → ℕ → Bool) : Type 0 where
+  pub size : length graph ≡ count
+  pub edges : (from to : ℕ) → has_edge graph from to ≡ edge from to

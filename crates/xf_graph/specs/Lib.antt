@@ -1,0 +1,5 @@
+pub mod Edges
+pub mod Marks
+pub mod Order
+pub mod Cycle
+pub mod Pertinent

@@ -1,0 +1,8 @@
+//! The dependency graph of computed values: edges that come and go, an order without a forward read or the cycle
+//! that is reported, and what a change reaches.
+#![tactic(auto)]
+
+mod marks;
+mod vertices;
+
+pub use vertices::VertexList;
