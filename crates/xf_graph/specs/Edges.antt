@@ -18,3 +18,8 @@ has_edge graph from to = has (slice_index_or graph from []) to
 pub record HasEdges (graph : Adjacency) (count : ℕ) (edge : ℕ → ℕ → Bool) : Type 0 where
   pub size : length graph ≡ count
   pub edges : (from to : ℕ) → has_edge graph from to ≡ edge from to
+
+-- the second list holds the same edges from the other end
+pub record IsMirrored (readers sources : Adjacency) : Type 0 where
+  pub sizes : length sources ≡ length readers
+  pub turned : (from to : ℕ) → has_edge sources to from ≡ has_edge readers from to
