@@ -2,8 +2,10 @@
 //! that is reported, and what a change reaches.
 #![tactic(auto)]
 
+mod graph;
 mod links;
 mod marks;
 mod vertices;
 
+pub use graph::Graph;
 pub use vertices::VertexList;

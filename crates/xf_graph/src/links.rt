@@ -83,3 +83,30 @@ pub fn cut(sets: &mut [VertexSet], others: &mut [VertexSet], vertex: u32)
         remove_at(others, end, vertex);
     }
 }
+
+/// Adds an edge at both ends.
+pub fn link(
+    readers: &mut [VertexSet],
+    sources: &mut [VertexSet],
+    from: u32,
+    to: u32,
+) -> Result<(), AllocError>
+    requires from { from < length readers.old }
+    requires to { to < length sources.old }
+    requires turned { (source reader : ℕ) → has_edge sources.old reader source ≡ has_edge readers.old source reader }
+    ensures turned { (source reader : ℕ) → has_edge sources.new reader source ≡ has_edge readers.new source reader }
+    ensures ok { OnOk result ((source reader : ℕ)
+        → has_edge readers.new source reader
+            ≡ (((from == source) && (to == reader)) || has_edge readers.old source reader)) }
+    ensures err { OnErr result (readers.new ≡ readers.old) }
+{
+    if readers[from as usize].contains(to) {
+        return Ok(());
+    }
+    add_at(sources, to, from)?;
+    if let Err(fault) = add_at(readers, from, to) {
+        remove_at(sources, to, from);
+        return Err(fault);
+    }
+    Ok(())
+}
