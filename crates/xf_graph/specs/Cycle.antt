@@ -14,6 +14,9 @@ IsCycle graph (first ∷ rest) = ReadsAlong graph first rest first
 abbrev pub IsAcyclic : Adjacency → Type 0
 IsAcyclic graph = (cycle : List ℕ) → IsCycle graph cycle → ⊥
 
+abbrev pub HasCycle : Adjacency → Type 0
+HasCycle graph = (cycle : List ℕ) × IsCycle graph cycle
+
 -- of two lists of one length, the first is not the greater, where the first place at which they differ decides
 abbrev pub IsNotAfter : List ℕ → List ℕ → Type 0
 IsNotAfter [] others = Unit {0}

@@ -3,3 +3,4 @@ pub mod Marks
 pub mod Order
 pub mod Cycle
 pub mod Pertinent
+pub mod Steps

@@ -6,6 +6,7 @@ mod graph;
 mod links;
 mod marks;
 mod vertices;
+mod walk;
 
 pub use graph::Graph;
 pub use vertices::VertexList;
