@@ -2,6 +2,8 @@ pub mod CutLemmas
 pub mod ExtendLemmas
 pub mod HasLemmas
 pub mod HasLists
+pub mod MeasureLemmas
+pub mod SearchLemmas
 pub mod WalkEnters
 pub mod WalkLemmas
 pub mod WalkMeasure

@@ -3,4 +3,5 @@ pub mod Marks
 pub mod Order
 pub mod Cycle
 pub mod Pertinent
+pub mod Search
 pub mod Steps

@@ -1,8 +1,8 @@
 //! The graph: which vertex reads from which.
 ghost use Rattle.std.specs.Prelude.{◌≡◌, ℕ, ◌==◌, ◌||◌, ◌&&◌, ◌<◌, not, false, max, length, OnOk, OnErr, IfOk};
-ghost use Rattle.xf_graph.specs.Edges.{has_edge, HasEdges};
+ghost use Rattle.xf_graph.specs.Edges.{has, has_edge, HasEdges};
 
-use super::links::{cut, extend, link};
+use super::links::{copy_at, cut, extend, link};
 use super::vertices::VertexSet;
 use std::alloc::{AllocError, Global};
 use std::marker::Model;
@@ -52,6 +52,24 @@ impl Graph {
         ensures { result ≡ length self.now }
     {
         self.readers.len()
+    }
+
+    /// The readers of each vertex.
+    pub(crate) fn readers(&self) -> &[VertexSet]
+        ensures { result.now ≡ self.now }
+    {
+        &self.readers
+    }
+
+    /// Writes the vertices that a vertex reads from into a buffer, in place of what it held.
+    pub(crate) fn copy_sources(
+        &self,
+        vertex: u32,
+        buffer: &mut Vec<u32>,
+    ) -> Result<(), AllocError>
+        ensures { OnOk result ((source : ℕ) → has buffer.new.items source ≡ has_edge self.now source vertex) }
+    {
+        copy_at(&self.sources, vertex, buffer)
     }
 
     /// Adds vertices without edges up to that many. A size that it has already changes nothing.

@@ -2,6 +2,7 @@
 //! that is reported, and what a change reaches.
 #![tactic(auto)]
 
+mod cycle;
 mod graph;
 mod links;
 mod marks;

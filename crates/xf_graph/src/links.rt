@@ -55,6 +55,14 @@ pub fn copy_at(sets: &[VertexSet], place: u32, buffer: &mut Vec<u32>) -> Result<
     Ok(())
 }
 
+/// Whether the vertex is in the set at a place. Past the end there is nothing.
+pub fn has_at(sets: &[VertexSet], place: u32, vertex: u32) -> bool
+    ensures { result ≡ has_edge sets.now place vertex }
+{
+    let place = place as usize;
+    place < sets.len() && sets[place].contains(vertex)
+}
+
 /// Adds empty sets up to a size.
 pub fn extend(alloc: Global, sets: &mut Vec<VertexSet>, size: usize) -> Result<(), AllocError>
     ensures ok { OnOk result (HasEdges sets.new.items (max size (vec_len sets.old)) (has_edge sets.old.items)) }
