@@ -2,6 +2,7 @@ pub mod CutLemmas
 pub mod ExtendLemmas
 pub mod HasLemmas
 pub mod HasLists
+pub mod CycleLemmas
 pub mod MeasureLemmas
 pub mod SearchLemmas
 pub mod WalkEnters

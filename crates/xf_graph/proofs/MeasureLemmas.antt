@@ -1,5 +1,5 @@
 -- What the search from a target keeps: its marks spread in layers.
-use Rattle.std.proofs.Common.{◌≡◌, ℕ, zero, suc, ◌+◌, ◌<◌, ◌≤◌, Bool, true, false, cond, ◌||◌, ◌&&◌, ◌⊎◌, inl, inr, List, [], ◌∷◌, ◌++◌, length, slice_index_or, ◌==◌, refl, sym, ap, ◌∙◌, subst, arith, rules, append_assoc, length-append}
+use Rattle.std.proofs.Common.{◌≡◌, ℕ, zero, suc, ◌+◌, ◌-◌, ◌<◌, ◌≤◌, Bool, true, false, cond, ◌||◌, ◌&&◌, ◌⊎◌, inl, inr, List, [], ◌∷◌, ◌++◌, length, slice_index_or, ◌==◌, refl, sym, ap, ◌∙◌, subst, arith, rules, append_assoc, length-append, drop, add-one, drop-cons}
 use Rattle.std.proofs.lemmas.Bool.{cases_lt, cases_eq, eq-eqb, ne_eqb, eqb-true, eqb-false, or_cases, or_left, or_right, and_from, and_parts, and_left, cases_Bool, false≢true, false_from_ne_true}
 use Rattle.xf_graph.specs.Edges.{Adjacency, has, has_edge}
 use Rattle.xf_graph.specs.Order.{EachOnce}
@@ -7,7 +7,7 @@ use Rattle.xf_graph.specs.Cycle.{ReadsAlong}
 use Rattle.xf_graph.specs.Search.{MarksNew, IsOnNoCycle, IsMeasured, ClosesAt}
 use Rattle.xf_graph.proofs.HasLists.{has_first, has_later, has_cases, has-append, mark_at, mark_else, mark_cases}
 use Rattle.xf_graph.proofs.WalkState.{unmarked_cost, joined}
-use Rattle.xf_graph.proofs.WalkMeasure.{unmarked_cost-le, unmarked_cost-falls, has-joined}
+use Rattle.xf_graph.proofs.WalkMeasure.{unmarked_cost-le, unmarked_cost-falls, has-joined, unmarked_cost-falls_all}
 
 -- all have the mark
 abbrev pub AllHave : (ℕ → ℕ) → ℕ → List ℕ → Type 0
@@ -267,3 +267,20 @@ module _ (graph : Adjacency) (target : ℕ) (mark : ℕ → ℕ) (limit : ℕ) (
 pub IsOnNoCycle-from_all : (graph : Adjacency) (target : ℕ) (mark : ℕ → ℕ) → ((limit : ℕ) → IsMeasured graph target mark limit) → IsOnNoCycle graph target
 IsOnNoCycle-from_all graph target mark all rest along =
     let l = limit-le_length graph target mark (length rest + 2) (all (length rest + 2)) rest along in omega arith
+
+-- the first of what is left of a list
+pub drop_next : (xs : List ℕ) (i x : ℕ) → i < length xs → x ≡ slice_index_or xs i x → drop i xs ≡ x ∷ drop (i + 1) xs
+drop_next xs i x within e = subst (λ y. drop i xs ≡ y ∷ drop (i + 1) xs) (sym e) (rw (add-one, drop-cons xs i x) refl)
+
+-- what is to be done falls by what was added to the queue
+pub cost_falls : (graph : Adjacency) (target at value : ℕ) (mark marked : ℕ → ℕ) (queue queue' : List ℕ) → 1 ≤ value
+    → (news : MarksNew (slice_index_or graph at []) value mark marked queue queue')
+    → unmarked_cost graph marked (target ∷ joined graph) + length news.added ≤ unmarked_cost graph mark (target ∷ joined graph)
+cost_falls graph target at value mark marked queue queue' positive news =
+    unmarked_cost-falls_all graph (target ∷ joined graph) value positive news.added mark marked news.once
+        (λ v h. eqb-true (mark v) 0 (and_parts (mark v == 0) (has_edge graph at v) (sym (news.members v) ∙ h)).0)
+        (λ v h. has_later target v (joined graph) (has-joined graph at v (and_parts (mark v == 0) (has_edge graph at v) (sym (news.members v) ∙ h)).1))
+        news.marks
+
+pub spent : (cost cost' length_ length_' at added : ℕ) → length_' ≡ length_ + added → cost' + added ≤ cost → at < length_ → cost' + (length_' - (at + 1)) < cost + (length_ - at)
+spent cost cost' length_ length_' at added e falls within = omega arith

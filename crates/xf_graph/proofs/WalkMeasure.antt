@@ -1,8 +1,9 @@
 -- What is still to be done falls at each step of a walk.
 use Rattle.std.proofs.Common.{◌≡◌, ℕ, ◌+◌, ◌<◌, ◌≤◌, Bool, true, false, cond, ◌||◌, ◌⊎◌, inl, inr, List, [], ◌∷◌, ◌++◌, length, slice_index_or, zero, suc, ◌==◌, refl, sym, ap, ◌∙◌, subst, arith, rules}
-use Rattle.std.proofs.lemmas.Bool.{cases_eq, eq-eqb, ne_eqb, or_cases, or_left, or_right, false≢true}
+use Rattle.std.proofs.lemmas.Bool.{cases_Bool, cases_eq, eq-eqb, ne_eqb, or_cases, or_left, or_right, false≢true}
 use Rattle.xf_graph.specs.declared.walk.Step.{Step}
 use Rattle.xf_graph.specs.Edges.{Adjacency, has, has_edge}
+use Rattle.xf_graph.specs.Order.{EachOnce}
 use Rattle.xf_graph.specs.Steps.{entry, exit, entries_before}
 use Rattle.xf_graph.proofs.HasLists.{has_first, has_later, has_cases, has-append, mark_at, mark_cases}
 use Rattle.xf_graph.proofs.WalkState.{unmarked_cost, joined, vertices}
@@ -87,3 +88,33 @@ module _ (graph : Adjacency) (roots : List ℕ) (mark marked : ℕ → ℕ) (ste
           step.vertex none (λ z. let one = mark_at mark marked step.vertex 1 set in omega arith)
           (roots ++ joined graph) (known step.vertex (has_first step.vertex (vertices steps))) in
       omega (arith, falls, length-entries (slice_index_or graph step.vertex []) (exit step.vertex ∷ steps))
+
+-- marks set on several vertices at once
+pub unmarked_cost-falls_all :
+    (graph : Adjacency) (vs : List ℕ) (value : ℕ) → 1 ≤ value → (added : List ℕ) (mark marked : ℕ → ℕ) → EachOnce added
+    → ((v : ℕ) → has added v ≡ true → mark v ≡ 0) → ((v : ℕ) → has added v ≡ true → has vs v ≡ true)
+    → ((v : ℕ) → marked v ≡ cond (has added v) value (mark v))
+    → unmarked_cost graph marked vs + length added ≤ unmarked_cost graph mark vs
+unmarked_cost-falls_all graph vs value positive [] mark marked once none known set =
+    let le = unmarked_cost-le graph mark marked (λ v z. sym (set v) ∙ z) vs in omega arith
+unmarked_cost-falls_all graph vs value positive (a ∷ later) mark marked once none known set =
+    let mid : ℕ → ℕ = λ v. cond (a == v) value (mark v) in
+    let same : (v : ℕ) → mid v ≡ cond (a == v) value (mark v) = λ v. refl in
+    let falls = unmarked_cost-falls graph mark mid
+        (λ v z. elim (mark_cases mark mid a value same v) [ inl q ↦ (let e = sym q.1 ∙ z in absurd (omega arith)) | inr q ↦ sym q.1 ∙ z ])
+        a (none a (has_first a later)) (λ z. let e = sym (mark_at mark mid a value same) ∙ z in omega arith) vs (known a (has_first a later)) in
+    let rest = unmarked_cost-falls_all graph vs value positive later mid marked once.1
+        (λ v h. elim (mark_cases mark mid a value same v) [
+          inl q ↦ absurd (false≢true (sym once.0 ∙ (ap (has later) q.0 ∙ h)))
+          | inr q ↦ q.1 ∙ none v (has_later a v later h)
+        ])
+        (λ v h. known v (has_later a v later h))
+        (λ v. elim (cases_Bool (a == v)) [
+          inl e ↦ set v ∙ ap (λ b. cond (b || has later v) value (mark v)) e ∙ sym (either (has later v) (mid v) (ap (λ b. cond b value (mark v)) e))
+          | inr e ↦ set v ∙ ap (λ b. cond (b || has later v) value (mark v)) e ∙ ap (λ m. cond (has later v) value m) (sym (ap (λ b. cond b value (mark v)) e))
+        ]) in
+    omega arith
+  where
+    either : (b : Bool) (m : ℕ) → m ≡ value → cond b value m ≡ value
+    either true m e = refl
+    either false m e = e

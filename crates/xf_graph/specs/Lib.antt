@@ -1,3 +1,4 @@
+pub mod Answer
 pub mod Edges
 pub mod Marks
 pub mod Order

@@ -1,5 +1,6 @@
 //! The cycle that is reported: through the least vertex on any cycle, the shortest, and the least as a list.
 ghost use Rattle.std.specs.Prelude.{◌≡◌, ◌<◌, min, IfOk, OnOk, MatchOption};
+ghost use Rattle.xf_graph.specs.Cycle.{HasCycle, IsChosen};
 ghost use Rattle.xf_graph.specs.Marks.{mark_of};
 ghost use Rattle.xf_graph.specs.Search.{MarksNew, IsOnNoCycle, IsLeastWith, IsMeasured, ClosesAt, IsTrace};
 
@@ -109,4 +110,17 @@ fn trace(
         mark -= 1;
     }
     Ok(cycle)
+}
+
+/// The cycle that is reported of a graph that has one.
+pub fn chosen_cycle(alloc: Global, graph: &Graph) -> Result<Vec<u32>, AllocError>
+    requires { HasCycle graph.now }
+    ensures { IfOk result (λ cycle. IsChosen graph.now cycle.items) }
+{
+    for target in 0..graph.size() {
+        if let Some((marks, limit)) = measure(alloc, graph.readers(), target)? {
+            return trace(alloc, graph, target, &marks, limit);
+        }
+    }
+    Ok(Vec::new(alloc))
 }

@@ -1,6 +1,6 @@
 //! The graph: which vertex reads from which.
 ghost use Rattle.std.specs.Prelude.{◌≡◌, ℕ, ◌==◌, ◌||◌, ◌&&◌, ◌<◌, not, false, max, length, OnOk, OnErr, IfOk};
-ghost use Rattle.xf_graph.specs.Edges.{has, has_edge, HasEdges};
+ghost use Rattle.xf_graph.specs.Edges.{has, has_edge, HasEdges, IsWithin};
 
 use super::links::{copy_at, cut, extend, link};
 use super::vertices::VertexSet;
@@ -47,11 +47,16 @@ impl Graph {
         Ok(graph)
     }
 
-    /// How many vertices it has.
-    pub fn size(&self) -> usize
-        ensures { result ≡ length self.now }
+    /// How many vertices it has. Edges join these alone.
+    pub fn size(&self) -> u32
+        ensures count { result ≡ length self.now }
+        ensures within { IsWithin self.now }
     {
-        self.readers.len()
+        self.readers.len() as u32
+    }
+
+    pub(crate) fn allocator(&self) -> Global {
+        self.alloc
     }
 
     /// The readers of each vertex.

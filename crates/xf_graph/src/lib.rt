@@ -6,8 +6,10 @@ mod cycle;
 mod graph;
 mod links;
 mod marks;
+mod order;
 mod vertices;
 mod walk;
 
 pub use graph::Graph;
+pub use order::Order;
 pub use vertices::VertexList;
