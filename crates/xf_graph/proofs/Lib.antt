@@ -4,6 +4,7 @@ pub mod HasLemmas
 pub mod HasLists
 pub mod CycleLemmas
 pub mod MeasureLemmas
+pub mod OrderLemmas
 pub mod SearchLemmas
 pub mod WalkEnters
 pub mod WalkLemmas

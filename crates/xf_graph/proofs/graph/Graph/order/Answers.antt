@@ -1,0 +1,19 @@
+use Rattle.std.proofs.Common.{◌≡◌, ℕ, nat_lt, List, Option, Some, MatchOption, length, sym, ap, ◌∙◌, subst}
+use Rattle.xf_graph.specs.Edges.{has}
+use Rattle.xf_graph.specs.Order.{IsOrder}
+use Rattle.xf_graph.specs.Cycle.{HasCycle}
+use Rattle.xf_graph.specs.Pertinent.{IsPertinent}
+use Rattle.xf_graph.proofs.OrderLemmas.{IsOrder-pertinent}
+use Rattle.xf_graph.proofs.graph.Graph.order.Goals as goal
+
+pub returns-in-Some : goal.returns-in-Some
+returns-in-Some c =
+    let g = c.args.self.now in
+    let roots = c.in_ok-roots.roots.items in
+    let found : IsPertinent c.readers.result.now c.deref.result.now c.in-Some.vertices.items =
+        subst (λ o. MatchOption o (HasCycle c.readers.result.now) (λ vertices. IsPertinent c.readers.result.now c.deref.result.now vertices.items)) c.in-Some.is c.in_ok-vertices.ensures in
+    let reached : IsPertinent g roots c.in-Some.vertices.items =
+        subst (λ h. IsPertinent h roots c.in-Some.vertices.items) c.readers.ensures
+            (subst (λ r. IsPertinent c.readers.result.now r c.in-Some.vertices.items) c.deref.ensures.value found) in
+    subst (IsOrder g) (sym c.from_vec.ensures)
+        (IsOrder-pertinent g roots c.size-size.ensures.within (λ v. c.in_ok-roots.ensures v ∙ ap (nat_lt v) c.size-size.ensures.count) c.in-Some.vertices.items reached)
