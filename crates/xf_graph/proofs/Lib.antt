@@ -3,6 +3,7 @@ pub mod ExtendLemmas
 pub mod HasLemmas
 pub mod HasLists
 pub mod CycleLemmas
+pub mod Laws
 pub mod MeasureLemmas
 pub mod OrderLemmas
 pub mod SearchLemmas

@@ -1,6 +1,6 @@
 -- From what the searches give to what is answered.
-use Rattle.std.proofs.Common.{◌≡◌, ℕ, zero, suc, ◌+◌, ◌<◌, ◌≤◌, Bool, true, false, nat_lt, ◌⊎◌, inl, inr, List, [], ◌∷◌, length, slice_index_or, refl, sym, ap, ◌∙◌, subst, arith}
-use Rattle.std.proofs.lemmas.Bool.{cases_lt, cases_Bool, lt-ltb, ltb-true, false≢true, false_from_ne_true}
+use Rattle.std.proofs.Common.{◌≡◌, ℕ, zero, suc, ◌+◌, ◌<◌, ◌≤◌, Bool, true, false, nat_lt, ◌==◌, ◌||◌, ◌⊎◌, inl, inr, List, [], ◌∷◌, length, slice_index_or, refl, sym, ap, ◌∙◌, subst, arith}
+use Rattle.std.proofs.lemmas.Bool.{cases_lt, cases_eq, cases_Bool, eq-eqb, ne_eqb, le-ltb, lt-ltb, or_left, ltb-true, false≢true, false_from_ne_true}
 use Rattle.xf_graph.specs.Edges.{Adjacency, has, has_edge, IsWithin}
 use Rattle.xf_graph.specs.Order.{IsOrder}
 use Rattle.xf_graph.specs.Cycle.{ReadsAlong, IsCycle, HasCycle}
@@ -34,3 +34,16 @@ first_within graph within reader v (next ∷ rest) along = (within next reader a
 pub none_left : (graph : Adjacency) → IsWithin graph → ((v : ℕ) → v < length graph → IsOnNoCycle graph v) → HasCycle graph → ⊥
 none_left graph within none ([], c) = c
 none_left graph within none (first ∷ rest, c) = none first (first_within graph within first first rest c) rest c
+
+-- the numbers below one
+pub range_of : (n : ℕ) → (all : List ℕ) × ((v : ℕ) → has all v ≡ nat_lt v n)
+range_of zero = ([], λ v. sym (le-ltb v 0 (omega arith)))
+range_of (suc n) =
+    let r = range_of n in
+    (n ∷ r.0, λ v. elim (cases_eq n v) [
+      inl e ↦ or_left (n == v) (has r.0 v) (eq-eqb n v e) ∙ sym (lt-ltb v (suc n) (omega arith))
+      | inr ne ↦ ap (λ b. b || has r.0 v) (ne_eqb n v ne) ∙ r.1 v ∙ elim (cases_lt v n) [
+        inl less ↦ lt-ltb v n less ∙ sym (lt-ltb v (suc n) (omega arith))
+        | inr more ↦ le-ltb v n more ∙ sym (le-ltb v (suc n) (omega arith))
+      ]
+    ])

@@ -9,3 +9,8 @@ use Rattle.xf_graph.specs.Cycle.{IsChosen}
 abbrev pub IsAnswer : Adjacency → Order → Type 0
 IsAnswer graph (Sorted vertices) = IsOrder graph vertices
 IsAnswer graph (Cycle cycle) = IsChosen graph cycle
+
+-- the fact where the answer is an order
+abbrev pub OnSorted : Order → Type 0 → Type 0
+OnSorted (Sorted vertices) fact = fact
+OnSorted (Cycle cycle) fact = Unit {0}

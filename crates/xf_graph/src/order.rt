@@ -32,12 +32,13 @@ fn all_below(alloc: Global, size: u32) -> Result<Vec<u32>, AllocError>
 }
 
 impl Graph {
-    ghost use Rattle.xf_graph.specs.Answer.{IsAnswer};
+    ghost use Rattle.xf_graph.specs.Answer.{IsAnswer, OnSorted};
 
     /// An order in which every value may be computed, or the cycle to be reported: through the least vertex that lies
     /// on any cycle, the shortest, and among these the least as a list, which begins with that vertex.
     pub fn order(&self) -> Result<Order, AllocError>
-        ensures { IfOk result (IsAnswer self.now) }
+        ensures answer { IfOk result (IsAnswer self.now) }
+        ensures acyclic { IfOk result (λ order. OnSorted order (IsAcyclic self.now)) }
     {
         let size = self.size();
         let roots = all_below(self.allocator(), size)?;

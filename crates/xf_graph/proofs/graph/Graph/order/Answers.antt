@@ -3,11 +3,13 @@ use Rattle.xf_graph.specs.Edges.{has}
 use Rattle.xf_graph.specs.Order.{IsOrder}
 use Rattle.xf_graph.specs.Cycle.{HasCycle}
 use Rattle.xf_graph.specs.Pertinent.{IsPertinent}
+use Rattle.xf_graph.proofs.Laws.{IsAcyclic-from_order}
 use Rattle.xf_graph.proofs.OrderLemmas.{IsOrder-pertinent}
 use Rattle.xf_graph.proofs.graph.Graph.order.Goals as goal
 
-pub returns-in-Some : goal.returns-in-Some
-returns-in-Some c =
+-- the answer of a walk over all vertices is an order
+sorted : (c : goal.After-drop-roots-in-Some) → IsOrder c.args.self.now c.from_vec.result
+sorted c =
     let g = c.args.self.now in
     let roots = c.in_ok-roots.roots.items in
     let found : IsPertinent c.readers.result.now c.deref.result.now c.in-Some.vertices.items =
@@ -17,3 +19,9 @@ returns-in-Some c =
             (subst (λ r. IsPertinent c.readers.result.now r c.in-Some.vertices.items) c.deref.ensures.value found) in
     subst (IsOrder g) (sym c.from_vec.ensures)
         (IsOrder-pertinent g roots c.size-size.ensures.within (λ v. c.in_ok-roots.ensures v ∙ ap (nat_lt v) c.size-size.ensures.count) c.in-Some.vertices.items reached)
+
+pub returns-in-Some-clause-answer : goal.returns-in-Some-clause-answer
+returns-in-Some-clause-answer c = sorted c
+
+pub returns-in-Some-clause-acyclic : goal.returns-in-Some-clause-acyclic
+returns-in-Some-clause-acyclic c = IsAcyclic-from_order c.args.self.now c.size-size.ensures.within c.from_vec.result (sorted c)
