@@ -1,7 +1,7 @@
 -- What `has` says of a list, and how the library's sets tell it.
-use Rattle.std.proofs.Common.{◌≡◌, ℕ, ◌+◌, ◌<◌, Bool, true, false, not, cond, ◌||◌, ◌&&◌, ◌⊎◌, inl, inr, ◌==◌, eqb, List, [], ◌∷◌, ◌++◌, refl, sym, ap, ◌∙◌, arith}
-use Rattle.std.proofs.lemmas.Bool.{cases_order, eqb-true, ne_eqb, eq-eqb, lt-ltb, le-ltb, or_cases, or_left, or_right, or_parts, or_from, cases_Bool, false≢true}
-use Rattle.std.specs.Ordering.{nat_cmp, is_eq}
+use Rattle.std.proofs.Common.{◌≡◌, ℕ, Bool, true, false, not, cond, ◌||◌, ◌&&◌, inl, inr, ◌==◌, List, [], ◌∷◌, refl, sym, ap, ◌∙◌, arith}
+use Rattle.std.proofs.lemmas.Bool.{cases_order, ne_eqb, eq-eqb, lt-ltb, le-ltb}
+use Rattle.std.specs.Ordering.{nat_cmp}
 use Rattle.std.specs.BTreeMap.{is_at}
 use Rattle.std.specs.List.{list_any}
 use Rattle.xf_graph.specs.Edges.{has}
@@ -9,7 +9,7 @@ use Rattle.xf_graph.specs.Edges.{has}
 pub is_at-nat_cmp : (v x : ℕ) → is_at (nat_cmp v) x ≡ (v == x)
 is_at-nat_cmp v x =
     elim (cases_order v x) [
-      inl e ↦ rw (le-ltb v x (omega arith), eq-eqb v x e) refl
+      | inl e ↦ rw (le-ltb v x (omega arith), eq-eqb v x e) refl
       | inr (inl l) ↦ rw (lt-ltb v x l, ne_eqb v x (omega arith)) refl
       | inr (inr l) ↦ rw (le-ltb v x (omega arith), ne_eqb v x (omega arith)) refl
     ]
@@ -17,7 +17,7 @@ is_at-nat_cmp v x =
 pub ==-turned : (v x : ℕ) → (v == x) ≡ (x == v)
 ==-turned v x =
     elim (cases_order v x) [
-      inl e ↦ eq-eqb v x e ∙ sym (eq-eqb x v (sym e))
+      | inl e ↦ eq-eqb v x e ∙ sym (eq-eqb x v (sym e))
       | inr (inl l) ↦ ne_eqb v x (omega arith) ∙ sym (ne_eqb x v (omega arith))
       | inr (inr l) ↦ ne_eqb v x (omega arith) ∙ sym (ne_eqb x v (omega arith))
     ]

@@ -1,8 +1,8 @@
 -- `has` on lists that grow.
-use Rattle.std.proofs.Common.{◌≡◌, ℕ, Bool, true, false, cond, ◌||◌, ◌⊎◌, inl, inr, List, [], ◌∷◌, ◌++◌, reverse, slice_index_or, zero, suc, ◌==◌, eqb, refl, sym, ap, ◌∙◌, arith}
+use Rattle.std.proofs.Common.{◌≡◌, ℕ, Bool, true, false, cond, ◌||◌, ◌⊎◌, inl, inr, List, [], ◌∷◌, ◌++◌, reverse, ◌==◌, refl, sym, ap, ◌∙◌}
 use Rattle.std.proofs.lemmas.List.{reverse-append}
 use Rattle.std.proofs.lemmas.Bool.{eqb-true, eq-eqb, ne_eqb, cases_eq, or_cases, or_left, or_right, false≢true}
-use Rattle.xf_graph.specs.Edges.{Adjacency, has, has_edge}
+use Rattle.xf_graph.specs.Edges.{has}
 
 pub has-append : (xs ys : List ℕ) (v : ℕ) → has (xs ++ ys) v ≡ (has xs v || has ys v)
 has-append [] ys v = refl
@@ -24,7 +24,7 @@ has_cases x v xs h = elim (or_cases (x == v) (has xs v) h) [ inl e ↦ inl (eqb-
 pub has-push_cases : (xs : List ℕ) (x v : ℕ) → has (xs ++ x ∷ []) v ≡ true → (has xs v ≡ true) ⊎ (x ≡ v)
 has-push_cases xs x v h =
     elim (or_cases (has xs v) (has (x ∷ []) v) (sym (has-append xs (x ∷ []) v) ∙ h)) [
-      inl e ↦ inl e
+      | inl e ↦ inl e
       | inr e ↦ elim (has_cases x v [] e) [ inl q ↦ inr q | inr q ↦ absurd (false≢true q) ]
     ]
 

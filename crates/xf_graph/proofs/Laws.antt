@@ -1,10 +1,10 @@
 -- Laws of the definitions: the least closed set, orders and cycles, the one cycle that is reported.
-use Rattle.std.proofs.Common.{◌≡◌, ℕ, zero, suc, ◌+◌, ◌<◌, ◌≤◌, Bool, true, false, ◌⊎◌, inl, inr, List, [], ◌∷◌, ◌++◌, length, slice_index_or, nat_lt, cond, ◌==◌, refl, sym, ap, ◌∙◌, subst, arith}
-use Rattle.std.proofs.lemmas.Bool.{cases_Bool, cases_eq, cases_lt, lt-ltb, false≢true}
+use Rattle.std.proofs.Common.{◌≡◌, ℕ, zero, suc, ◌+◌, ◌<◌, Bool, true, ◌⊎◌, inl, inr, List, [], ◌∷◌, ◌++◌, length, slice_index_or, cond, ◌==◌, refl, sym, ap, ◌∙◌, subst, arith}
+use Rattle.std.proofs.lemmas.Bool.{cases_Bool, cases_eq, lt-ltb, false≢true}
 use Rattle.xf_graph.specs.declared.walk.Step.{Step}
 use Rattle.xf_graph.specs.Edges.{Adjacency, has, has_edge, IsWithin}
-use Rattle.xf_graph.specs.Order.{EachOnce, ReadsBack, IsOrder}
-use Rattle.xf_graph.specs.Cycle.{ReadsAlong, IsCycle, IsAcyclic, HasCycle, IsNotAfter, BeginsWith, IsChosenFrom, IsChosen}
+use Rattle.xf_graph.specs.Order.{ReadsBack, IsOrder}
+use Rattle.xf_graph.specs.Cycle.{ReadsAlong, IsCycle, IsAcyclic, HasCycle, IsNotAfter, BeginsWith, IsChosen}
 use Rattle.xf_graph.specs.Pertinent.{IsReachedBy, IsReached, IsClosed, IsPertinent}
 use Rattle.xf_graph.specs.Steps.{exit, entries_before}
 use Rattle.xf_graph.proofs.HasLists.{has_first, has_later, has_cases}
@@ -36,7 +36,7 @@ module _ (graph : Adjacency) (changed : List ℕ) where
   pub IsClosed-pertinent : (vertices : List ℕ) → IsPertinent graph changed vertices → IsClosed graph changed (has vertices)
   IsClosed-pertinent vertices p = record {
     holds = λ v h. (p.members v).1 (IsReached-changed v h);
-    readers = λ source reader h edge. (p.members reader).1 (IsReached-reader source reader ((p.members source).0 h) edge)
+    readers = λ source reader h edge. (p.members reader).1 (IsReached-reader source reader ((p.members source).0 h) edge);
   }
 
   pub IsPertinent-least : (vertices : List ℕ) → IsPertinent graph changed vertices → (set : ℕ → Bool) → IsClosed graph changed set → (v : ℕ) → has vertices v ≡ true → set v ≡ true
@@ -48,11 +48,11 @@ module _ (graph : Adjacency) where
   source_on : (reader z x : ℕ) (rest : List ℕ) → ReadsAlong graph reader rest z → has (reader ∷ rest) x ≡ true
       → (w : ℕ) × (has_edge graph w x ≡ true) × ((has rest w ≡ true) ⊎ (w ≡ z))
   source_on reader z x [] along h = elim (has_cases reader x [] h) [
-    inl e ↦ (z, ap (has_edge graph z) (sym e) ∙ along, inr refl)
+    | inl e ↦ (z, ap (has_edge graph z) (sym e) ∙ along, inr refl)
     | inr q ↦ absurd (false≢true q)
   ]
   source_on reader z x (next ∷ rest) along h = elim (has_cases reader x (next ∷ rest) h) [
-    inl e ↦ (next, ap (has_edge graph next) (sym e) ∙ along.0, inl (has_first next rest))
+    | inl e ↦ (next, ap (has_edge graph next) (sym e) ∙ along.0, inl (has_first next rest))
     | inr q ↦ (let s = source_on next z x rest along.1 q in (s.0, s.1, elim s.2 [ inl i ↦ inl (has_later next s.0 rest i) | inr e ↦ inr e ]))
   ]
 
@@ -66,9 +66,9 @@ module _ (graph : Adjacency) where
   none_among vs [] back c members = c
   none_among [] (first ∷ rest) back c members = false≢true (members first (has_first first rest))
   none_among (x ∷ xs) (first ∷ rest) back c members = elim (cases_Bool (has (first ∷ rest) x)) [
-    inl h ↦ (let s = source_in (first ∷ rest) x c h in false≢true (sym (back.0 s.0 (members s.0 s.2)) ∙ s.1))
+    | inl h ↦ (let s = source_in (first ∷ rest) x c h in false≢true (sym (back.0 s.0 (members s.0 s.2)) ∙ s.1))
     | inr h ↦ none_among xs (first ∷ rest) back.1 c (λ v m. elim (has_cases x v xs (members v m)) [
-      inl e ↦ absurd (false≢true (sym h ∙ (ap (has (first ∷ rest)) e ∙ m)))
+      | inl e ↦ absurd (false≢true (sym h ∙ (ap (has (first ∷ rest)) e ∙ m)))
       | inr q ↦ q
     ])
   ]
@@ -85,26 +85,26 @@ module _ (graph : Adjacency) (roots : List ℕ) where
   ends (suc most) mark [] left now known less = inr (_, IsPertinent-at_end graph roots mark left now)
   ends (suc most) mark (step ∷ steps) left now known less =
       elim (cases_Bool step.leaves) [
-        inl leaves ↦
-          let marked : ℕ → ℕ = λ x. cond (step.vertex == x) 2 (mark x) in
-          let falls = to_do-left graph roots mark marked step steps (λ x. refl) in
-          ends most marked steps (left ++ step.vertex ∷ []) (IsWalk-left graph roots mark marked step steps left (λ x. refl) leaves now)
-              (AreKnown-after graph roots step steps known) (omega arith)
+        | inl leaves ↦
+            let marked : ℕ → ℕ = λ x. cond (step.vertex == x) 2 (mark x) in
+            let falls = to_do-left graph roots mark marked step steps (λ x. refl) in
+            ends most marked steps (left ++ step.vertex ∷ []) (IsWalk-left graph roots mark marked step steps left (λ x. refl) leaves now)
+            (AreKnown-after graph roots step steps known) (omega arith)
         | inr enters ↦ elim (cases_eq (mark step.vertex) 2) [
-          inl seen ↦ ends most mark steps left (IsWalk-passed graph roots mark step steps left enters now seen) (AreKnown-after graph roots step steps known) (omega arith)
+          | inl seen ↦ ends most mark steps left (IsWalk-passed graph roots mark step steps left enters now seen) (AreKnown-after graph roots step steps known) (omega arith)
           | inr not_left ↦ elim (cases_eq (mark step.vertex) 1) [
-            inl met ↦ inl (HasCycle-met graph roots mark step steps left enters now met)
+            | inl met ↦ inl (HasCycle-met graph roots mark step steps left enters now met)
             | inr not_entered ↦
-              let marked : ℕ → ℕ = λ x. cond (step.vertex == x) 1 (mark x) in
-              let none : mark step.vertex ≡ 0 = elim (now.marked step.vertex) [
-                inl z ↦ z
-                | inr (inl z) ↦ absurd (not_left z)
-                | inr (inr h) ↦ absurd (not_entered (now.entered step.vertex h))
-              ] in
-              let falls = to_do-entered graph roots mark marked step steps (λ x. refl) none known in
-              ends most marked (entries_before (slice_index_or graph step.vertex []) (exit step.vertex ∷ steps)) left
-                  (IsWalk-entered graph roots mark step steps left enters now marked (λ x. refl) not_left not_entered)
-                  (AreKnown-entered graph roots step steps known) (omega arith)
+                let marked : ℕ → ℕ = λ x. cond (step.vertex == x) 1 (mark x) in
+                let none : mark step.vertex ≡ 0 = elim (now.marked step.vertex) [
+                  | inl z ↦ z
+                  | inr (inl z) ↦ absurd (not_left z)
+                  | inr (inr h) ↦ absurd (not_entered (now.entered step.vertex h))
+                ] in
+                let falls = to_do-entered graph roots mark marked step steps (λ x. refl) none known in
+                ends most marked (entries_before (slice_index_or graph step.vertex []) (exit step.vertex ∷ steps)) left
+                (IsWalk-entered graph roots mark step steps left enters now marked (λ x. refl) not_left not_entered)
+                (AreKnown-entered graph roots step steps known) (omega arith)
           ]
         ]
       ]
@@ -113,13 +113,13 @@ module _ (graph : Adjacency) (roots : List ℕ) where
   pub HasCycle-or_pertinent : HasCycle graph ⊎ ((vertices : List ℕ) × IsPertinent graph roots vertices)
   HasCycle-or_pertinent =
       ends (to_do graph roots (λ _. 0) (entries_before roots []) + 1) (λ _. 0) (entries_before roots []) []
-          (IsWalk-begins graph roots (λ _. 0) (λ _. refl)) (AreKnown-begin graph roots) (omega arith)
+      (IsWalk-begins graph roots (λ _. 0) (λ _. refl)) (AreKnown-begin graph roots) (omega arith)
 
 pub HasOrder-from_acyclic : (graph : Adjacency) → IsWithin graph → IsAcyclic graph → (vertices : List ℕ) × IsOrder graph vertices
 HasOrder-from_acyclic graph within none =
     let all = range_of (length graph) in
     elim (HasCycle-or_pertinent graph all.0) [
-      inl c ↦ absurd (none c.0 c.1)
+      | inl c ↦ absurd (none c.0 c.1)
       | inr p ↦ (p.0, IsOrder-pertinent graph all.0 within all.1 p.0 p.1)
     ]
 

@@ -1,5 +1,6 @@
-pub mod CutLemmas
-pub mod ExtendLemmas
+pub mod CutState
+mod Examples
+pub mod ExtendState
 pub mod HasLemmas
 pub mod HasLists
 pub mod CycleLemmas

@@ -1,13 +1,12 @@
 -- What the search from a target keeps: its marks spread in layers.
-use Rattle.std.proofs.Common.{◌≡◌, ℕ, zero, suc, ◌+◌, ◌-◌, ◌<◌, ◌≤◌, Bool, true, false, cond, ◌||◌, ◌&&◌, ◌⊎◌, inl, inr, List, [], ◌∷◌, ◌++◌, length, slice_index_or, ◌==◌, refl, sym, ap, ◌∙◌, subst, arith, rules, append_assoc, length-append, drop, add-one, drop-cons}
-use Rattle.std.proofs.lemmas.Bool.{cases_lt, cases_eq, eq-eqb, ne_eqb, eqb-true, eqb-false, or_cases, or_left, or_right, and_from, and_parts, and_left, cases_Bool, false≢true, false_from_ne_true}
+use Rattle.std.proofs.Common.{◌≡◌, ℕ, suc, ◌+◌, ◌-◌, ◌<◌, ◌≤◌, true, false, cond, ◌⊎◌, inl, inr, List, [], ◌∷◌, ◌++◌, length, slice_index_or, ◌==◌, refl, sym, ap, ◌∙◌, subst, arith, length-append, drop, add-one, drop-cons}
+use Rattle.std.proofs.lemmas.Bool.{cases_lt, eq-eqb, eqb-true, or_cases, or_left, or_right, and_from, and_parts, cases_Bool, false≢true, false_from_ne_true}
 use Rattle.xf_graph.specs.Edges.{Adjacency, has, has_edge}
-use Rattle.xf_graph.specs.Order.{EachOnce}
 use Rattle.xf_graph.specs.Cycle.{ReadsAlong}
-use Rattle.xf_graph.specs.Search.{MarksNew, IsOnNoCycle, IsMeasured, ClosesAt}
-use Rattle.xf_graph.proofs.HasLists.{has_first, has_later, has_cases, has-append, mark_at, mark_else, mark_cases}
+use Rattle.xf_graph.specs.Search.{MarksNew, IsOnNoCycle, IsMeasured}
+use Rattle.xf_graph.proofs.HasLists.{has_first, has_later, has_cases, has-append, mark_at, mark_cases}
 use Rattle.xf_graph.proofs.WalkState.{unmarked_cost, joined}
-use Rattle.xf_graph.proofs.WalkMeasure.{unmarked_cost-le, unmarked_cost-falls, has-joined, unmarked_cost-falls_all}
+use Rattle.xf_graph.proofs.WalkMeasure.{has-joined, unmarked_cost-falls_all}
 
 -- all have the mark
 abbrev pub AllHave : (ℕ → ℕ) → ℕ → List ℕ → Type 0
@@ -88,7 +87,7 @@ module _ (graph : Adjacency) (target : ℕ) (none mark : ℕ → ℕ) (empty : (
     one = λ v m. elim (mark_cases none mark target 1 set v) [ inl q ↦ sym q.0 | inr q ↦ absurd (omega (arith, q.1, empty v)) ];
     before = λ v k m. elim (mark_cases none mark target 1 set v) [ inl q ↦ absurd (omega (arith, q.1)) | inr q ↦ absurd (omega (arith, q.1, empty v)) ];
     spread = λ v. elim (mark_cases none mark target 1 set v) [
-      inl q ↦ inr (inl (subst (λ x. has (target ∷ []) x ≡ true) q.0 (has_first target [])))
+      | inl q ↦ inr (inl (subst (λ x. has (target ∷ []) x ≡ true) q.0 (has_first target [])))
       | inr q ↦ inl (q.1 ∙ empty v)
     ];
     layer = 1;
@@ -97,9 +96,9 @@ module _ (graph : Adjacency) (target : ℕ) (none mark : ℕ → ℕ) (empty : (
     most = λ v. elim (mark_cases none mark target 1 set v) [ inl q ↦ omega (arith, q.1) | inr q ↦ omega (arith, q.1, empty v) ];
     bounded = λ v. elim (mark_cases none mark target 1 set v) [ inl q ↦ omega (arith, q.1) | inr q ↦ omega (arith, q.1, empty v) ];
     known = λ v h. elim (has_cases target v [] h) [
-      inl e ↦ subst (λ x. has (target ∷ joined graph) x ≡ true) e (has_first target (joined graph))
+      | inl e ↦ subst (λ x. has (target ∷ joined graph) x ≡ true) e (has_first target (joined graph))
       | inr q ↦ absurd (false≢true q)
-    ]
+    ];
   }
 
 -- ---- the target reads from the vertex at hand
@@ -108,7 +107,7 @@ module _ (graph : Adjacency) (target : ℕ) (mark : ℕ → ℕ) (at : ℕ) (res
   pending_least w h =
       let f = InLayers-first mark now.layer at rest now.layered in
       elim (has_cases at w rest h) [
-        inl e ↦ (let q = ap mark e in omega (arith, q))
+        | inl e ↦ (let q = ap mark e in omega (arith, q))
         | inr q ↦ InLayers-least mark (mark at) rest w f.1 q
       ]
 
@@ -121,15 +120,15 @@ module _ (graph : Adjacency) (target : ℕ) (mark : ℕ → ℕ) (at : ℕ) (res
     one = now.one;
     before = now.before;
     spread = λ w v edge positive less. elim (now.spread w) [
-      inl z ↦ absurd (omega arith)
+      | inl z ↦ absurd (omega arith)
       | inr (inl h) ↦ (let q = pending_least w h in absurd (omega arith))
       | inr (inr s) ↦ ((s v edge).0, (s v edge).1)
     ];
     closing = λ w edge positive. elim (now.spread w) [
-      inl z ↦ absurd (omega arith)
+      | inl z ↦ absurd (omega arith)
       | inr (inl h) ↦ pending_least w h
       | inr (inr s) ↦ absurd ((s target edge).2 refl)
-    ]
+    ];
   }
 
   -- ---- the marks spread from it
@@ -156,13 +155,13 @@ module _ (graph : Adjacency) (target : ℕ) (mark : ℕ → ℕ) (at : ℕ) (res
         let s = stays at at_positive in
         let not : v ≡ target → ⊥ = λ e. false≢true (sym not_target ∙ (ap (has_edge graph at) (sym e) ∙ edge)) in
         elim (cases_Bool (has news.added v)) [
-          inl h ↦ (let m = added_marks v h in (omega arith, omega arith, not))
+          | inl h ↦ (let m = added_marks v h in (omega arith, omega arith, not))
           | inr h ↦
-            let m = kept_marks v h in
-            let some : mark v ≡ 0 → ⊥ = λ z. false≢true (sym h ∙ (news.members v ∙ and_from (mark v == 0) (has_edge graph at v) (eq-eqb (mark v) 0 z) edge)) in
-            let f = InLayers-first mark now.layer at rest now.layered in
-            let most = now.most v in
-            (omega (arith, some), omega (arith, f.0), not)
+              let m = kept_marks v h in
+              let some : mark v ≡ 0 → ⊥ = λ z. false≢true (sym h ∙ (news.members v ∙ and_from (mark v == 0) (has_edge graph at v) (eq-eqb (mark v) 0 z) edge)) in
+              let f = InLayers-first mark now.layer at rest now.layered in
+              let most = now.most v in
+              (omega (arith, some), omega (arith, f.0), not)
         ]
 
     rest_marked : (v : ℕ) → has rest v ≡ true → 1 ≤ mark v
@@ -185,19 +184,19 @@ module _ (graph : Adjacency) (target : ℕ) (mark : ℕ → ℕ) (at : ℕ) (res
     IsSearch-spread = record {
       start = stays target (omega (arith, now.start)) ∙ now.start;
       one = λ v m. elim (cases_Bool (has news.added v)) [
-        inl h ↦ absurd (new_one (sym (added_marks v h) ∙ m))
+        | inl h ↦ absurd (new_one (sym (added_marks v h) ∙ m))
         | inr h ↦ now.one v (sym (kept_marks v h) ∙ m)
       ];
       before = λ v k m. elim (cases_Bool (has news.added v)) [
-        inl h ↦ (at, added_edge v h, (let a = added_marks v h in let s = stays at at_positive in omega arith))
+        | inl h ↦ (at, added_edge v h, (let a = added_marks v h in let s = stays at at_positive in omega arith))
         | inr h ↦ (let b = now.before v k (sym (kept_marks v h) ∙ m) in (b.0, b.1, stays b.0 (omega (arith, b.2)) ∙ b.2))
       ];
       spread = λ w. elim (cases_Bool (has news.added w)) [
-        inl h ↦ inr (inl (has-append rest news.added w ∙ or_right (has rest w) (has news.added w) h))
+        | inl h ↦ inr (inl (has-append rest news.added w ∙ or_right (has rest w) (has news.added w) h))
         | inr h ↦ elim (now.spread w) [
-          inl z ↦ inl (kept_marks w h ∙ z)
+          | inl z ↦ inl (kept_marks w h ∙ z)
           | inr (inl p) ↦ elim (has_cases at w rest p) [
-            inl e ↦ inr (inr (subst (HasSpread graph target marked) e spread_at))
+            | inl e ↦ inr (inr (subst (HasSpread graph target marked) e spread_at))
             | inr q ↦ inr (inl (has-append rest news.added w ∙ or_left (has rest w) (has news.added w) q))
           ]
           | inr (inr s) ↦ inr (inr (λ v edge.
@@ -213,17 +212,17 @@ module _ (graph : Adjacency) (target : ℕ) (mark : ℕ → ℕ) (at : ℕ) (res
           (AllHave-from marked (suc (mark at)) news.added (λ v h. let a = added_marks v h in omega arith));
       layer_positive = at_positive;
       most = λ v. elim (cases_Bool (has news.added v)) [
-        inl h ↦ omega (arith, added_marks v h)
+        | inl h ↦ omega (arith, added_marks v h)
         | inr h ↦ (let f = InLayers-first mark now.layer at rest now.layered in omega (arith, kept_marks v h, f.0, now.most v))
       ];
       bounded = λ v. elim (cases_Bool (has news.added v)) [
-        inl h ↦ omega (arith, added_marks v h, length_added v h, length_queue, now.bounded at)
+        | inl h ↦ omega (arith, added_marks v h, length_added v h, length_queue, now.bounded at)
         | inr h ↦ omega (arith, kept_marks v h, length_queue, now.bounded v)
       ];
       known = λ v h. elim (or_cases (has rest v) (has news.added v) (sym (has-append rest news.added v) ∙ h)) [
-        inl q ↦ now.known v (has_later at v rest q)
+        | inl q ↦ now.known v (has_later at v rest q)
         | inr q ↦ has_later target v (joined graph) (has-joined graph at v (added_edge v q))
-      ]
+      ];
     }
 
 -- ---- it ends
@@ -234,15 +233,15 @@ module _ (graph : Adjacency) (target : ℕ) (mark : ℕ → ℕ) (count : ℕ) (
     one = now.one;
     before = now.before;
     spread = λ w v edge positive less. elim (now.spread w) [
-      inl z ↦ absurd (omega arith)
+      | inl z ↦ absurd (omega arith)
       | inr (inl h) ↦ absurd (false≢true h)
       | inr (inr s) ↦ ((s v edge).0, (s v edge).1)
     ];
     closing = λ w edge positive. elim (now.spread w) [
-      inl z ↦ absurd (omega arith)
+      | inl z ↦ absurd (omega arith)
       | inr (inl h) ↦ absurd (false≢true h)
       | inr (inr s) ↦ absurd ((s target edge).2 refl)
-    ]
+    ];
   }
 
 -- ---- what the marks say of the vertices that lead to the target
@@ -260,7 +259,7 @@ module _ (graph : Adjacency) (target : ℕ) (mark : ℕ → ℕ) (limit : ℕ) (
   pub limit-le_length : (rest : List ℕ) → ReadsAlong graph target rest target → limit ≤ length rest + 1
   limit-le_length [] edge = omega (arith, measured.closing target edge (omega (arith, measured.start)), measured.start)
   limit-le_length (next ∷ rest) along = elim (cases_lt (length rest + 1) limit) [
-    inl less ↦ (let i = mark-le_length next rest along.1 less in omega (arith, i.1, measured.closing next along.0 i.0))
+    | inl less ↦ (let i = mark-le_length next rest along.1 less in omega (arith, i.1, measured.closing next along.0 i.0))
     | inr more ↦ omega arith
   ]
 
@@ -278,9 +277,9 @@ pub cost_falls : (graph : Adjacency) (target at value : ℕ) (mark marked : ℕ 
     → unmarked_cost graph marked (target ∷ joined graph) + length news.added ≤ unmarked_cost graph mark (target ∷ joined graph)
 cost_falls graph target at value mark marked queue queue' positive news =
     unmarked_cost-falls_all graph (target ∷ joined graph) value positive news.added mark marked news.once
-        (λ v h. eqb-true (mark v) 0 (and_parts (mark v == 0) (has_edge graph at v) (sym (news.members v) ∙ h)).0)
-        (λ v h. has_later target v (joined graph) (has-joined graph at v (and_parts (mark v == 0) (has_edge graph at v) (sym (news.members v) ∙ h)).1))
-        news.marks
+    (λ v h. eqb-true (mark v) 0 (and_parts (mark v == 0) (has_edge graph at v) (sym (news.members v) ∙ h)).0)
+    (λ v h. has_later target v (joined graph) (has-joined graph at v (and_parts (mark v == 0) (has_edge graph at v) (sym (news.members v) ∙ h)).1))
+    news.marks
 
 pub spent : (cost cost' length_ length_' at added : ℕ) → length_' ≡ length_ + added → cost' + added ≤ cost → at < length_ → cost' + (length_' - (at + 1)) < cost + (length_ - at)
 spent cost cost' length_ length_' at added e falls within = omega arith

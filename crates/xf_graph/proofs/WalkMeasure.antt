@@ -1,6 +1,6 @@
 -- What is still to be done falls at each step of a walk.
-use Rattle.std.proofs.Common.{◌≡◌, ℕ, ◌+◌, ◌<◌, ◌≤◌, Bool, true, false, cond, ◌||◌, ◌⊎◌, inl, inr, List, [], ◌∷◌, ◌++◌, length, slice_index_or, zero, suc, ◌==◌, refl, sym, ap, ◌∙◌, subst, arith, rules}
-use Rattle.std.proofs.lemmas.Bool.{cases_Bool, cases_eq, eq-eqb, ne_eqb, or_cases, or_left, or_right, false≢true}
+use Rattle.std.proofs.Common.{◌≡◌, ℕ, ◌+◌, ◌<◌, ◌≤◌, Bool, true, false, cond, ◌||◌, inl, inr, List, [], ◌∷◌, ◌++◌, length, slice_index_or, zero, suc, ◌==◌, refl, sym, ap, ◌∙◌, subst, arith}
+use Rattle.std.proofs.lemmas.Bool.{cases_Bool, cases_eq, eq-eqb, ne_eqb, or_left, or_right, false≢true}
 use Rattle.xf_graph.specs.declared.walk.Step.{Step}
 use Rattle.xf_graph.specs.Edges.{Adjacency, has, has_edge}
 use Rattle.xf_graph.specs.Order.{EachOnce}
@@ -20,7 +20,7 @@ module _ (graph : Adjacency) (mark marked : ℕ → ℕ) where
   one-le : (v : ℕ) → (marked v ≡ 0 → mark v ≡ 0) → cond (marked v == 0) (costs v) 0 ≤ cond (mark v == 0) (costs v) 0
   one-le v keeps =
       elim (cases_eq (marked v) 0) [
-        inl e ↦ rw (eq-eqb (marked v) 0 e, eq-eqb (mark v) 0 (keeps e)) (omega arith)
+        | inl e ↦ rw (eq-eqb (marked v) 0 e, eq-eqb (mark v) 0 (keeps e)) (omega arith)
         | inr ne ↦ rw (ne_eqb (marked v) 0 ne) (omega arith)
       ]
 
@@ -35,10 +35,10 @@ module _ (graph : Adjacency) (mark marked : ℕ → ℕ) where
   unmarked_cost-falls keeps at none some [] h = absurd (false≢true h)
   unmarked_cost-falls keeps at none some (v ∷ vs) h =
       elim (has_cases v at vs h) [
-        inl e ↦
-          let rest = unmarked_cost-le keeps vs in
-          subst (λ x. cond (marked x == 0) (2 + length (slice_index_or graph x [])) 0 + unmarked_cost graph marked vs + (2 + length (slice_index_or graph at [])) ≤ cond (mark x == 0) (2 + length (slice_index_or graph x [])) 0 + unmarked_cost graph mark vs)
-              (sym e) (rw (ne_eqb (marked at) 0 some, eq-eqb (mark at) 0 none) (omega arith))
+        | inl e ↦
+            let rest = unmarked_cost-le keeps vs in
+            subst (λ x. cond (marked x == 0) (2 + length (slice_index_or graph x [])) 0 + unmarked_cost graph marked vs + (2 + length (slice_index_or graph at [])) ≤ cond (mark x == 0) (2 + length (slice_index_or graph x [])) 0 + unmarked_cost graph mark vs)
+            (sym e) (rw (ne_eqb (marked at) 0 some, eq-eqb (mark at) 0 none) (omega arith))
         | inr q ↦ omega (arith, one-le v (keeps v), unmarked_cost-falls keeps at none some vs q)
       ]
 
@@ -55,7 +55,7 @@ AreKnown graph roots steps = (v : ℕ) → has (vertices steps) v ≡ true → h
 
 pub AreKnown-begin : (graph : Adjacency) (roots : List ℕ) → AreKnown graph roots (entries_before roots [])
 AreKnown-begin graph roots v h = elim (vertices-entries_cases roots [] v h) [
-  inl q ↦ has-append roots (joined graph) v ∙ or_left (has roots v) (has (joined graph) v) q
+  | inl q ↦ has-append roots (joined graph) v ∙ or_left (has roots v) (has (joined graph) v) q
   | inr q ↦ absurd (false≢true q)
 ]
 
@@ -65,7 +65,7 @@ AreKnown-after graph roots step steps known v h = known v (has_later step.vertex
 pub AreKnown-entered : (graph : Adjacency) (roots : List ℕ) (step : Step) (steps : List Step) → AreKnown graph roots (step ∷ steps)
     → AreKnown graph roots (entries_before (slice_index_or graph step.vertex []) (exit step.vertex ∷ steps))
 AreKnown-entered graph roots step steps known v h = elim (vertices-entries_cases (slice_index_or graph step.vertex []) (exit step.vertex ∷ steps) v h) [
-  inl q ↦ has-append roots (joined graph) v ∙ or_right (has roots v) (has (joined graph) v) (has-joined graph step.vertex v q)
+  | inl q ↦ has-append roots (joined graph) v ∙ or_right (has roots v) (has (joined graph) v) (has-joined graph step.vertex v q)
   | inr q ↦ known v q
 ]
 
@@ -76,17 +76,17 @@ module _ (graph : Adjacency) (roots : List ℕ) (mark marked : ℕ → ℕ) (ste
   pub to_do-left : ((x : ℕ) → marked x ≡ cond (step.vertex == x) 2 (mark x)) → to_do graph roots marked steps < to_do graph roots mark (step ∷ steps)
   to_do-left set =
       let le = unmarked_cost-le graph mark marked
-          (λ v z. elim (mark_cases mark marked step.vertex 2 set v) [ inl q ↦ absurd (omega (arith, q.1)) | inr q ↦ sym q.1 ∙ z ])
-          (roots ++ joined graph) in
+      (λ v z. elim (mark_cases mark marked step.vertex 2 set v) [ inl q ↦ absurd (omega (arith, q.1)) | inr q ↦ sym q.1 ∙ z ])
+      (roots ++ joined graph) in
       omega (arith, le)
 
   pub to_do-entered : ((x : ℕ) → marked x ≡ cond (step.vertex == x) 1 (mark x)) → mark step.vertex ≡ 0 → AreKnown graph roots (step ∷ steps)
       → to_do graph roots marked (entries_before (slice_index_or graph step.vertex []) (exit step.vertex ∷ steps)) < to_do graph roots mark (step ∷ steps)
   to_do-entered set none known =
       let falls = unmarked_cost-falls graph mark marked
-          (λ v z. elim (mark_cases mark marked step.vertex 1 set v) [ inl q ↦ absurd (omega (arith, q.1)) | inr q ↦ sym q.1 ∙ z ])
-          step.vertex none (λ z. let one = mark_at mark marked step.vertex 1 set in omega arith)
-          (roots ++ joined graph) (known step.vertex (has_first step.vertex (vertices steps))) in
+      (λ v z. elim (mark_cases mark marked step.vertex 1 set v) [ inl q ↦ absurd (omega (arith, q.1)) | inr q ↦ sym q.1 ∙ z ])
+      step.vertex none (λ z. let one = mark_at mark marked step.vertex 1 set in omega arith)
+      (roots ++ joined graph) (known step.vertex (has_first step.vertex (vertices steps))) in
       omega (arith, falls, length-entries (slice_index_or graph step.vertex []) (exit step.vertex ∷ steps))
 
 -- marks set on several vertices at once
@@ -101,18 +101,18 @@ unmarked_cost-falls_all graph vs value positive (a ∷ later) mark marked once n
     let mid : ℕ → ℕ = λ v. cond (a == v) value (mark v) in
     let same : (v : ℕ) → mid v ≡ cond (a == v) value (mark v) = λ v. refl in
     let falls = unmarked_cost-falls graph mark mid
-        (λ v z. elim (mark_cases mark mid a value same v) [ inl q ↦ (let e = sym q.1 ∙ z in absurd (omega arith)) | inr q ↦ sym q.1 ∙ z ])
-        a (none a (has_first a later)) (λ z. let e = sym (mark_at mark mid a value same) ∙ z in omega arith) vs (known a (has_first a later)) in
+    (λ v z. elim (mark_cases mark mid a value same v) [ inl q ↦ (let e = sym q.1 ∙ z in absurd (omega arith)) | inr q ↦ sym q.1 ∙ z ])
+    a (none a (has_first a later)) (λ z. let e = sym (mark_at mark mid a value same) ∙ z in omega arith) vs (known a (has_first a later)) in
     let rest = unmarked_cost-falls_all graph vs value positive later mid marked once.1
-        (λ v h. elim (mark_cases mark mid a value same v) [
-          inl q ↦ absurd (false≢true (sym once.0 ∙ (ap (has later) q.0 ∙ h)))
-          | inr q ↦ q.1 ∙ none v (has_later a v later h)
-        ])
-        (λ v h. known v (has_later a v later h))
-        (λ v. elim (cases_Bool (a == v)) [
-          inl e ↦ set v ∙ ap (λ b. cond (b || has later v) value (mark v)) e ∙ sym (either (has later v) (mid v) (ap (λ b. cond b value (mark v)) e))
-          | inr e ↦ set v ∙ ap (λ b. cond (b || has later v) value (mark v)) e ∙ ap (λ m. cond (has later v) value m) (sym (ap (λ b. cond b value (mark v)) e))
-        ]) in
+    (λ v h. elim (mark_cases mark mid a value same v) [
+      | inl q ↦ absurd (false≢true (sym once.0 ∙ (ap (has later) q.0 ∙ h)))
+      | inr q ↦ q.1 ∙ none v (has_later a v later h)
+    ])
+    (λ v h. known v (has_later a v later h))
+    (λ v. elim (cases_Bool (a == v)) [
+      | inl e ↦ set v ∙ ap (λ b. cond (b || has later v) value (mark v)) e ∙ sym (either (has later v) (mid v) (ap (λ b. cond b value (mark v)) e))
+      | inr e ↦ set v ∙ ap (λ b. cond (b || has later v) value (mark v)) e ∙ ap (λ m. cond (has later v) value m) (sym (ap (λ b. cond b value (mark v)) e))
+    ]) in
     omega arith
   where
     either : (b : Bool) (m : ℕ) → m ≡ value → cond b value m ≡ value

@@ -1,5 +1,5 @@
 -- What a walk keeps from one step to the next.
-use Rattle.std.proofs.Common.{◌≡◌, ℕ, ◌+◌, Bool, true, false, cond, ◌||◌, ◌⊎◌, List, [], ◌∷◌, ◌++◌, reverse, length, slice_index_or, nat_eq, ◌==◌}
+use Rattle.std.proofs.Common.{◌≡◌, ℕ, ◌+◌, true, cond, ◌⊎◌, List, [], ◌∷◌, ◌++◌, reverse, length, slice_index_or, ◌==◌}
 use Rattle.xf_graph.specs.declared.walk.Step.{Step}
 use Rattle.xf_graph.specs.Edges.{Adjacency, has, has_edge}
 use Rattle.xf_graph.specs.Order.{EachOnce, ReadsBack}

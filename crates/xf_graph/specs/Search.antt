@@ -1,5 +1,5 @@
 -- Marks that say how far vertices stand from a target, counted along the vertices that each reads from.
-use Rattle.std.specs.Prelude.{◌≡◌, ℕ, zero, suc, ◌+◌, ◌<◌, ◌≤◌, true, false, cond, ◌&&◌, ◌==◌, List, [], ◌∷◌, ◌++◌, length, Option, Some, None}
+use Rattle.std.specs.Prelude.{◌≡◌, ℕ, zero, suc, ◌+◌, ◌<◌, ◌≤◌, true, cond, ◌&&◌, ◌==◌, List, [], ◌∷◌, ◌++◌, Option, Some, None}
 use Rattle.xf_graph.specs.Edges.{Adjacency, has, has_edge}
 use Rattle.xf_graph.specs.Order.{EachOnce}
 use Rattle.xf_graph.specs.Cycle.{ReadsAlong}

@@ -1,5 +1,5 @@
 -- The steps of a walk that are still to be taken, the next first.
-use Rattle.std.specs.Prelude.{ℕ, true, false, cond, List, [], ◌∷◌}
+use Rattle.std.specs.Prelude.{ℕ, true, false, List, [], ◌∷◌}
 use Rattle.xf_graph.specs.declared.walk.Step.{Step}
 
 abbrev pub entry : ℕ → Step

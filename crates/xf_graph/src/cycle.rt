@@ -40,7 +40,7 @@ fn measure(
     ensures { IfOk result (λ found. MatchOption found
         (IsOnNoCycle readers.now target)
         (λ measured. IsMeasured readers.now target (mark_of measured.0) measured.1
-            × ClosesAt readers.now target (mark_of measured.0) measured.1)) }
+        × ClosesAt readers.now target (mark_of measured.0) measured.1)) }
 {
     let mut marks = Marks::new(alloc, 0)?;
     let mut queue = Vec::new(alloc);

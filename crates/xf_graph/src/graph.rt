@@ -67,11 +67,7 @@ impl Graph {
     }
 
     /// Writes the vertices that a vertex reads from into a buffer, in place of what it held.
-    pub(crate) fn copy_sources(
-        &self,
-        vertex: u32,
-        buffer: &mut Vec<u32>,
-    ) -> Result<(), AllocError>
+    pub(crate) fn copy_sources(&self, vertex: u32, buffer: &mut Vec<u32>) -> Result<(), AllocError>
         ensures { OnOk result ((source : ℕ) → has buffer.new.items source ≡ has_edge self.now source vertex) }
     {
         copy_at(&self.sources, vertex, buffer)
@@ -115,7 +111,7 @@ impl Graph {
         ensures { HasEdges self.new (length self.old)
             (λ source reader. not (vertex == source) && not (vertex == reader) && has_edge self.old source reader) }
     {
-        cut(&mut self.sources, &mut self.readers, vertex);
+        self.cut_into(vertex);
         cut(&mut self.readers, &mut self.sources, vertex);
     }
 }

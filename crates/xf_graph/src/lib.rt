@@ -7,6 +7,8 @@ mod graph;
 mod links;
 mod marks;
 mod order;
+#[cfg(test)]
+mod tests;
 mod vertices;
 mod walk;
 

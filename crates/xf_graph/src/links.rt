@@ -31,7 +31,7 @@ pub fn pop_at(sets: &mut [VertexSet], place: u32) -> Option<u32>
     ensures some { MatchOption result
         (sets.new ≡ sets.old)
         (λ vertex. (from to : ℕ)
-            → has_edge sets.new from to ≡ (not ((place == from) && (vertex == to)) && has_edge sets.old from to)) }
+        → has_edge sets.new from to ≡ (not ((place == from) && (vertex == to)) && has_edge sets.old from to)) }
     ensures left { MatchOption result
         (slice_index_or sets.new place [] ≡ [])
         (λ _. length (slice_index_or sets.new place []) < length (slice_index_or sets.old place [])) }
@@ -105,7 +105,7 @@ pub fn link(
     ensures turned { (source reader : ℕ) → has_edge sources.new reader source ≡ has_edge readers.new source reader }
     ensures ok { OnOk result ((source reader : ℕ)
         → has_edge readers.new source reader
-            ≡ (((from == source) && (to == reader)) || has_edge readers.old source reader)) }
+        ≡ (((from == source) && (to == reader)) || has_edge readers.old source reader)) }
     ensures err { OnErr result (readers.new ≡ readers.old) }
 {
     if readers[from as usize].contains(to) {

@@ -1,5 +1,4 @@
-use Rattle.std.proofs.Common.{◌≡◌, ℕ, ◌<◌, ◌≤◌, List, Option, Some, MatchOption, Result, sym, ap, ◌∙◌, subst, arith}
-use Rattle.std.specs.Prelude.{IfOk}
+use Rattle.std.proofs.Common.{MatchOption, subst, arith}
 use Rattle.std.proofs.lemmas.Result.{IfOk-weaker}
 use Rattle.xf_graph.specs.Marks.{mark_of}
 use Rattle.xf_graph.specs.Search.{IsOnNoCycle, IsMeasured, ClosesAt, IsTrace}
@@ -15,11 +14,11 @@ returns-in-Some c =
     let m = mark_of c.in-Some.marks in
     let limit = c.in-Some.limit in
     let found : IsMeasured c.readers.result.now t m limit × ClosesAt c.readers.result.now t m limit =
-        subst (λ o. MatchOption o (IsOnNoCycle c.readers.result.now t) (λ measured. IsMeasured c.readers.result.now t (mark_of measured.0) measured.1 × ClosesAt c.readers.result.now t (mark_of measured.0) measured.1))
-            c.in-Some.is c.in_ok-marks.ensures in
+    subst (λ o. MatchOption o (IsOnNoCycle c.readers.result.now t) (λ measured. IsMeasured c.readers.result.now t (mark_of measured.0) measured.1 × ClosesAt c.readers.result.now t (mark_of measured.0) measured.1))
+    c.in-Some.is c.in_ok-marks.ensures in
     let measured : IsMeasured g t m limit = subst (λ h. IsMeasured h t m limit) c.readers.ensures found.0 in
     IfOk-weaker c.trace.result (λ cycle. IsTrace g m t limit cycle.items) (λ cycle. IsChosen g cycle.items)
-        (λ cycle traced. (t, IsChosenFrom-trace g t m limit measured c.loop-target.invariant cycle.items traced)) c.trace.ensures
+    (λ cycle traced. (t, IsChosenFrom-trace g t m limit measured c.loop-target.invariant cycle.items traced)) c.trace.ensures
 
 pub returns : goal.returns
 returns c =

@@ -1,4 +1,4 @@
-use Rattle.std.proofs.Common.{ℕ, ◌+◌, ◌-◌, ◌≤◌, ◌∷◌, length, drop}
+use Rattle.std.proofs.Common.{◌+◌, ◌-◌, ◌≤◌, ◌∷◌, length, drop}
 use Rattle.xf_graph.specs.Marks.{mark_of}
 use Rattle.xf_graph.proofs.WalkState.{unmarked_cost, joined}
 use Rattle.xf_graph.proofs.MeasureLemmas.{IsSearch}
@@ -7,7 +7,7 @@ use Rattle.xf_graph.proofs.cycle.measure.Given as goal
 abbrev pub invariant-loop-at : goal.invariant-loop-at
 invariant-loop-at l = record {
   search : IsSearch l.readers l.target (mark_of l.marks) (drop l.at l.queue.items) (length l.queue.items);
-  within : l.at ≤ length l.queue.items
+  within : l.at ≤ length l.queue.items;
 }
 
 abbrev pub decreases-loop-at : goal.decreases-loop-at

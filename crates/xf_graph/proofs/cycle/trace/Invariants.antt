@@ -8,7 +8,7 @@ abbrev pub invariant-loop-mark : goal.invariant-loop-mark
 invariant-loop-mark l = record {
   so_far : (rest : List ℕ) → IsTraced l.graph (mark_of l.marks) l.target l.reader l.mark rest → IsTrace l.graph (mark_of l.marks) l.target l.limit (l.cycle.items ++ rest);
   source : (w : ℕ) × (has_edge l.graph w l.reader ≡ true) × (mark_of l.marks w ≡ l.mark);
-  positive : 1 ≤ l.mark
+  positive : 1 ≤ l.mark;
 }
 
 abbrev pub decreases-loop-mark : goal.decreases-loop-mark

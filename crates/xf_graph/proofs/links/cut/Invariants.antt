@@ -1,6 +1,5 @@
-use Rattle.std.proofs.Common.{◌≡◌, ℕ, ◌==◌, false, length, slice_index_or, []}
-use Rattle.xf_graph.specs.Edges.{has_edge}
-use Rattle.xf_graph.proofs.CutLemmas.{CutSoFar}
+use Rattle.std.proofs.Common.{length, slice_index_or, []}
+use Rattle.xf_graph.proofs.CutState.{CutSoFar}
 use Rattle.xf_graph.proofs.links.cut.Given as goal
 
 abbrev pub invariant-loop-end : goal.invariant-loop-end
