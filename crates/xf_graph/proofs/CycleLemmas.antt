@@ -20,7 +20,7 @@ module _ (graph : Adjacency) where
         (u ∷ s.0, s.1, (along.0, s.2), s.3, (let n = s.4 in omega arith))
   ]
 
-  join_at : (x v z : ℕ) (before after : List ℕ) → ReadsAlong graph x before v → ReadsAlong graph v after z → ReadsAlong graph x (before ++ v ∷ after) z
+  pub join_at : (x v z : ℕ) (before after : List ℕ) → ReadsAlong graph x before v → ReadsAlong graph v after z → ReadsAlong graph x (before ++ v ∷ after) z
   join_at x v z [] after a b = (a, b)
   join_at x v z (u ∷ us) after a b = (a.0, join_at u v z us after a.1 b)
 

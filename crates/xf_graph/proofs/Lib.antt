@@ -7,6 +7,7 @@ pub mod CycleLemmas
 pub mod Laws
 pub mod MeasureLemmas
 pub mod OrderLemmas
+pub mod PeelLemmas
 pub mod SearchLemmas
 pub mod WalkEnters
 pub mod WalkLemmas

@@ -1,5 +1,5 @@
 -- Marks that say how far vertices stand from a target, counted along the vertices that each reads from.
-use Rattle.std.specs.Prelude.{◌≡◌, ℕ, zero, suc, ◌+◌, ◌<◌, ◌≤◌, true, cond, ◌&&◌, ◌==◌, List, [], ◌∷◌, ◌++◌, Option, Some, None}
+use Rattle.std.specs.Prelude.{◌≡◌, ℕ, zero, suc, ◌+◌, ◌<◌, ◌≤◌, ◌⊎◌, true, cond, ◌&&◌, ◌==◌, List, [], ◌∷◌, ◌++◌, length, ◌⊎◌, Option, Some, None}
 use Rattle.xf_graph.specs.Edges.{Adjacency, has, has_edge}
 use Rattle.xf_graph.specs.Order.{EachOnce}
 use Rattle.xf_graph.specs.Cycle.{ReadsAlong}
@@ -49,3 +49,14 @@ IsTraced graph mark target reader (suc (suc k)) (next ∷ rest) =
 abbrev pub IsTrace : Adjacency → (ℕ → ℕ) → ℕ → ℕ → List ℕ → Type 0
 IsTrace graph mark target limit [] = ⊥
 IsTrace graph mark target limit (first ∷ rest) = (first ≡ target) × IsTraced graph mark target target limit rest
+
+-- some vertices of the list stand at the end of the queue
+pub record PutsSome (vertices old_queue new_queue : List ℕ) : Type 0 where
+  pub added : List ℕ
+  pub queue : new_queue ≡ old_queue ++ added
+  pub few : length added ≤ length vertices
+  pub members : (v : ℕ) → has added v ≡ true → has vertices v ≡ true
+
+-- each marked vertex lies on no cycle
+abbrev pub ArePeeled : Adjacency → (ℕ → ℕ) → Type 0
+ArePeeled graph mark = (v : ℕ) → (mark v ≡ 0) ⊎ IsOnNoCycle graph v

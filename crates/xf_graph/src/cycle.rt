@@ -7,6 +7,7 @@ ghost use Rattle.xf_graph.specs.Search.{MarksNew, IsOnNoCycle, IsLeastWith, IsMe
 use super::graph::Graph;
 use super::links::{copy_at, has_at};
 use super::marks::Marks;
+use super::peel::peeled;
 use super::vertices::VertexSet;
 use std::alloc::{AllocError, Global};
 
@@ -117,7 +118,11 @@ pub fn chosen_cycle(alloc: Global, graph: &Graph) -> Result<Vec<u32>, AllocError
     requires { HasCycle graph.now }
     ensures { IfOk result (λ cycle. IsChosen graph.now cycle.items) }
 {
+    let peeled = peeled(alloc, graph)?;
     for target in 0..graph.size() {
+        if peeled.get(target) != 0 {
+            continue;
+        }
         if let Some((marks, limit)) = measure(alloc, graph.readers(), target)? {
             return trace(alloc, graph, target, &marks, limit);
         }

@@ -66,6 +66,13 @@ impl Graph {
         &self.readers
     }
 
+    /// The vertices that each vertex reads from.
+    pub(crate) fn sources(&self) -> &[VertexSet]
+        ensures { (from to : ℕ) → has_edge result.now to from ≡ has_edge self.now from to }
+    {
+        &self.sources
+    }
+
     /// Writes the vertices that a vertex reads from into a buffer, in place of what it held.
     pub(crate) fn copy_sources(&self, vertex: u32, buffer: &mut Vec<u32>) -> Result<(), AllocError>
         ensures { OnOk result ((source : ℕ) → has buffer.new.items source ≡ has_edge self.now source vertex) }

@@ -7,6 +7,7 @@ mod graph;
 mod links;
 mod marks;
 mod order;
+mod peel;
 #[cfg(test)]
 mod tests;
 mod vertices;

@@ -1,9 +1,20 @@
 //! Lists of sets, one for each vertex: the readers of each, or its sources.
-ghost use Rattle.std.specs.Prelude.{◌≡◌, ℕ, ◌==◌, ◌||◌, ◌&&◌, ◌<◌, not, true, max, length, take, slice_index_or, [], ◌++◌, OnOk, OnErr, MatchOption, vec_len};
+ghost use Rattle.std.specs.Prelude.{◌≡◌, ℕ, ◌==◌, ◌||◌, ◌&&◌, ◌<◌, not, true, nat_lt, IfOk, max, length, take, slice_index_or, [], ◌++◌, OnOk, OnErr, MatchOption, vec_len};
 ghost use Rattle.xf_graph.specs.Edges.{has, has_edge, HasEdges};
 
 use super::vertices::VertexSet;
 use std::alloc::{AllocError, Global};
+
+/// The numbers below a size.
+pub fn all_below(alloc: Global, size: u32) -> Result<Vec<u32>, AllocError>
+    ensures { IfOk result (λ all. (vertex : ℕ) → has all.items vertex ≡ nat_lt vertex size) }
+{
+    let mut all = Vec::new(alloc);
+    for vertex in 0..size {
+        all.push(vertex)?;
+    }
+    Ok(all)
+}
 
 /// Adds the vertex to the set at a place.
 pub fn add_at(sets: &mut [VertexSet], place: u32, vertex: u32) -> Result<(), AllocError>

@@ -1,14 +1,14 @@
 //! The order of a whole graph, or the cycle that is reported; and what a change reaches.
-ghost use Rattle.std.specs.Prelude.{◌≡◌, ℕ, nat_lt, IfOk};
-ghost use Rattle.xf_graph.specs.Edges.{has};
+ghost use Rattle.std.specs.Prelude.{IfOk};
 ghost use Rattle.xf_graph.specs.Cycle.{IsAcyclic};
 ghost use Rattle.xf_graph.specs.Pertinent.{IsPertinent};
 
 use super::cycle::chosen_cycle;
 use super::graph::Graph;
+use super::links::all_below;
 use super::vertices::VertexList;
 use super::walk::walk;
-use std::alloc::{AllocError, Global};
+use std::alloc::AllocError;
 use xf_base::Items;
 
 /// What `Graph::order` answers.
@@ -18,17 +18,6 @@ pub enum Order {
     Sorted(VertexList),
     /// A cycle stands: each vertex reads from the next, and the last from the first.
     Cycle(VertexList),
-}
-
-/// The numbers below a size.
-fn all_below(alloc: Global, size: u32) -> Result<Vec<u32>, AllocError>
-    ensures { IfOk result (λ all. (vertex : ℕ) → has all.items vertex ≡ nat_lt vertex size) }
-{
-    let mut all = Vec::new(alloc);
-    for vertex in 0..size {
-        all.push(vertex)?;
-    }
-    Ok(all)
 }
 
 impl Graph {

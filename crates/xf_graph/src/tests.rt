@@ -89,6 +89,9 @@ fn a_long_chain_takes_no_stack(rt: HostRuntime) -> Result<(), Fail> {
     if let Order::Sorted(_) = graph.order()? {
         assert_eq!(rt; graph.pertinent([0].as_slice())?.len(), 300_000);
     }
+    assert!(rt; graph.size() == size);
+    graph.add_edge(299_999, 299_998)?;
+    assert_eq!(rt; answer(&graph)?.1.as_slice(), [299_998, 299_999].as_slice());
     Ok(())
 }
 

@@ -1,5 +1,5 @@
 //! Sets of vertices, kept in ascending order.
-ghost use Rattle.std.specs.Prelude.{◌≡◌, ℕ, ◌==◌, ◌||◌, ◌&&◌, not, false, [], ◌∷◌, ◌++◌, OnOk, OnErr, IfOk, IfSome, MatchOption};
+ghost use Rattle.std.specs.Prelude.{◌≡◌, length, ℕ, ◌==◌, ◌||◌, ◌&&◌, not, false, [], ◌∷◌, ◌++◌, OnOk, OnErr, IfOk, IfSome, MatchOption};
 ghost use Rattle.xf_graph.specs.Edges.{has};
 
 use std::alloc::{AllocError, Global};
@@ -41,6 +41,12 @@ impl VertexSet {
         ensures { result ≡ has self.now vertex }
     {
         self.set.contains(&vertex)
+    }
+
+    pub fn len(&self) -> usize
+        ensures { result ≡ length self.now }
+    {
+        self.set.len()
     }
 
     pub fn add(&mut self, vertex: u32) -> Result<(), AllocError>

@@ -2,7 +2,7 @@ use Rattle.std.proofs.Common.{◌≡◌, ℕ, ◌+◌, Bool, true, false, ◌||�
 use Rattle.std.proofs.lemmas.Bool.{cases_eq, cases_lt, eq-eqb, ne_eqb, lt-ltb, le-ltb, or_right}
 use Rattle.xf_graph.specs.Edges.{has}
 use Rattle.xf_graph.proofs.HasLists.{has-append}
-use Rattle.xf_graph.proofs.order.all_below.Goals as goal
+use Rattle.xf_graph.proofs.links.all_below.Goals as goal
 
 or_none : (b : Bool) → (b || (false || false)) ≡ b
 or_none true = refl
