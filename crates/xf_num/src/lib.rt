@@ -10,7 +10,7 @@ mod text;
 
 pub use number::Num;
 pub use steps::Steps;
-pub use text::{after_digits, all_digits, is_digit, trimmed};
+pub use text::{after_digits, all_digits, is_digit, is_space, trimmed};
 
 #[cfg(test)]
 mod tests;

@@ -3,7 +3,8 @@
 ghost use Rattle.std.specs.Prelude.{◌≡◌};
 ghost use Rattle.xf_num.specs.Written.{is_space, is_digit, is_empty, after_digits, without_leading, without_trailing, trimmed};
 
-fn is_space(c: u8) -> bool
+/// Whether a byte is white space.
+pub fn is_space(c: u8) -> bool
     ensures { result ≡ is_space c }
 {
     c == b' ' || c == b'\t' || c == b'\n' || c == b'\r'
