@@ -44,8 +44,8 @@ fn a_source_that_fails_ends_the_run(rt: HostRuntime) -> Result<(), Fail> {
             ..SOUND
         };
         let ran = run_over(alloc, &["try"], ONE_INPUT, LINES, devices)?;
-        assert_eq!(rt; ran.status, 4, "{want}");
-        assert_eq!(rt; ran.text.as_str(), want);
+        assert_eq!(rt; ran.status, 4);
+        assert!(rt; ran.text.as_str() == want);
     }
     Ok(())
 }
@@ -70,7 +70,7 @@ fn a_sink_that_fails_leaves_a_front(rt: HostRuntime) -> Result<(), Fail> {
     let alloc = rt.alloc();
     // three replies, each a write and a flush, where a write takes three bytes at the most
     for take_at_most in [3, 99] {
-        let mut whole = 0;
+        let mut whole = 0u64;
         for call in 0..60 {
             let fails = [call];
             let devices = Devices {
@@ -81,7 +81,7 @@ fn a_sink_that_fails_leaves_a_front(rt: HostRuntime) -> Result<(), Fail> {
             let ran = run_over(alloc, &["try"], ONE_INPUT, LINES, devices)?;
             assert!(rt; REPLIES.starts_with(ran.text.as_str()), "call {call}");
             if ran.status == 0 {
-                whole += 1;
+                whole = whole.saturating_add(1);
                 assert_eq!(rt; ran.text.as_str(), REPLIES, "call {call}");
             } else {
                 assert_eq!(rt; ran.status, 5, "call {call}");
