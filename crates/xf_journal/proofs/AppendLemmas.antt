@@ -1,16 +1,15 @@
 -- What a crash leaves in each of the two steps of an append.
-use Rattle.std.proofs.Common.{◌≡◌, ◌≤◌, ◌<◌, ◌⊎◌, inl, inr, ℕ, zero, suc, ◌+◌, ◌-◌, List, [], ◌∷◌, ◌++◌, length, take, drop, get_or, Option, Some, None, Result, Ok, Err, refl, sym, ◌∙◌, ap, subst, arith, append_assoc, length-append, length-take, length-drop, take-append-drop}
+use Rattle.std.proofs.Common.{◌≡◌, ◌≤◌, ◌<◌, inl, inr, ℕ, suc, ◌+◌, List, [], ◌∷◌, ◌++◌, length, take, drop, get_or, Some, None, Ok, refl, sym, ◌∙◌, ap, subst, arith, append_assoc, length-append, length-take, length-drop}
 use Rattle.std.proofs.lemmas.List.{take_at, drop_at, drop_more, take-take, drop-take, append-nil}
-use Rattle.std.proofs.lemmas.Bool.{leb-true, le-leb, cases_eq}
-use Rattle.std.specs.Prelude.{nat_le, true, IsTrue}
+use Rattle.std.proofs.lemmas.Bool.{le-leb, cases_eq}
+use Rattle.std.specs.Prelude.{nat_le, true}
 use Rattle.xf_store.specs.declared.answers.Answer.{Answer}
 use Rattle.xf_disk.specs.declared.slot.Slot.{Slot}
 use Rattle.xf_disk.specs.Image.{Image, in_slot, beside}
 use Rattle.xf_disk.specs.Marks.{spliced}
 use Rattle.xf_disk.specs.Crash.{Torn, InSlot}
-use Rattle.xf_journal.specs.Entry.{written_bytes, entry_bytes, is_within, entry_in, size_at}
-use Rattle.xf_journal.specs.Layout.{open_epoch}
-use Rattle.xf_journal.specs.Held.{Log, Tail, log_of, entries_from, after_gate, in_use, held}
+use Rattle.xf_journal.specs.Entry.{written_bytes, entry_bytes, is_within, size_at}
+use Rattle.xf_journal.specs.Held.{Log, Tail, entries_from, after_gate, in_use, held}
 use Rattle.xf_journal.specs.Scanned.{with_accepted, HoldsEither}
 use Rattle.xf_journal.proofs.EntryLemmas.{size_written, entry_written}
 use Rattle.xf_journal.proofs.TailLemmas.{before, entries_pass, entries_closed}

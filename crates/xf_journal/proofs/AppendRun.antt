@@ -1,8 +1,7 @@
 -- An append as a run of disk calls.
-use Rattle.std.proofs.Common.{◌≡◌, ◌≤◌, ◌<◌, ◌⊎◌, inl, inr, ℕ, ◌+◌, ◌-◌, ◌^◌, min, List, [], ◌∷◌, ◌++◌, length, Some, None, Ok, refl, sym, ◌∙◌, ap, subst, arith, length-append}
-use Rattle.std.specs.Prelude.{true, IsTrue}
+use Rattle.std.proofs.Common.{◌≡◌, ◌≤◌, inl, ℕ, ◌+◌, ◌-◌, ◌^◌, min, List, [], ◌∷◌, ◌++◌, length, Some, Ok, ap, subst, arith, length-append}
+use Rattle.std.specs.Prelude.{true}
 use Rattle.xf_store.specs.declared.answers.Answer.{Answer}
-use Rattle.xf_disk.specs.declared.slot.Slot.{Slot}
 use Rattle.xf_disk.specs.Image.{Image, in_slot, beside}
 use Rattle.xf_disk.specs.Marks.{spliced}
 use Rattle.xf_disk.specs.Crash.{Torn, InSlot, IsSettled, LeavesOnly}

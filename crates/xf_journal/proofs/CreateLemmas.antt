@@ -1,25 +1,17 @@
 -- What a crash leaves in each of the three steps of a new journal.
-use Rattle.std.proofs.Common.{◌≡◌, ◌≤◌, ◌<◌, ◌⊎◌, inl, inr, ℕ, zero, suc, ◌+◌, ◌-◌, ◌^◌, List, [], ◌∷◌, ◌++◌, length, take, drop, get_or, Option, Some, None, Result, Ok, Err, refl, sym, ◌∙◌, ap, subst, arith, append_assoc, length-append, length-take, length-drop}
-use Rattle.std.proofs.lemmas.List.{take_at, drop_at, drop_more}
-use Rattle.std.proofs.lemmas.Bool.{le-leb, lt-leb, ne_eqb, cases_eq, cases_lt, and_from, and_right}
-use Rattle.std.specs.Prelude.{Bool, true, false, nat_le, nat_lt, ◌&&◌, ◌==◌, if◌then◌else◌, slice_index}
+use Rattle.std.proofs.Common.{◌≡◌, ◌≤◌, ◌<◌, ◌⊎◌, inl, inr, ℕ, suc, List, [], ◌∷◌, length, drop, get_or, Option, Some, None, Ok, Err, refl, sym, ◌∙◌, ap, arith}
+use Rattle.std.proofs.lemmas.Bool.{le-leb, lt-leb, ne_eqb, cases_eq, and_right}
+use Rattle.std.specs.Prelude.{Bool, true, false, nat_le, nat_lt, ◌&&◌, ◌==◌, if◌then◌else◌}
 use Rattle.xf_disk.specs.declared.slot.Slot.{Slot}
 use Rattle.xf_disk.specs.declared.slot.Slot.TheVariants.{A, B}
 use Rattle.xf_disk.specs.Image.{Image, in_slot, beside}
-use Rattle.xf_disk.specs.Marks.{spliced}
 use Rattle.xf_disk.specs.Crash.{Torn, InSlot}
-use Rattle.xf_journal.specs.declared.layout.Format.TheVariants.{First}
-use Rattle.xf_journal.specs.declared.fault.JournalFault.{JournalFault}
 use Rattle.xf_journal.specs.declared.fault.JournalFault.TheVariants.{Damaged}
-use Rattle.xf_journal.specs.Numbers.{four, eight, from_four, from_eight}
-use Rattle.xf_journal.specs.Layout.{format_in, header_bytes, new_bytes, is_open, open_epoch, epoch_in, form_length, base_length, base_at, entries_at, is_epoch, form_most}
-use Rattle.xf_journal.specs.Held.{Kept, Tail, Log, log_with, kept_in, log_in, log_of, chosen, in_use, some_log, held_in, held, entries_from}
+use Rattle.xf_journal.specs.Layout.{is_open, open_epoch, epoch_in}
+use Rattle.xf_journal.specs.Held.{Log, log_of, chosen, some_log, held_in, held}
 use Rattle.xf_journal.specs.Moments.{SameGate, IsOpening, IsShut, Closes}
-use Rattle.xf_journal.specs.Scanned.{MayCreate, new_log, HoldsOldOr}
-use Rattle.xf_journal.proofs.NumberLemmas.{length-four, length-eight, from_four-four, from_eight-eight}
-use Rattle.xf_journal.proofs.EntryLemmas.{drop_sum, if_true}
-use Rattle.xf_journal.proofs.TailLemmas.{entries_closed}
-use Rattle.xf_journal.proofs.SlotLemmas.{FieldsStand, log_from}
+use Rattle.xf_journal.specs.Scanned.{MayCreate}
+use Rattle.xf_journal.proofs.EntryLemmas.{if_true}
 use Rattle.xf_journal.proofs.HeldLemmas.{held_by_use}
 
 if_false : {X : Type 0} → (b : Bool) (x y : X) → b ≡ false → (if b then x else y) ≡ y

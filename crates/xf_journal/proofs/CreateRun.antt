@@ -1,5 +1,5 @@
 -- The making of a journal as a run of disk calls.
-use Rattle.std.proofs.Common.{◌≡◌, ◌≤◌, ◌<◌, ◌⊎◌, inl, inr, ℕ, ◌+◌, ◌^◌, List, [], ◌∷◌, ◌++◌, length, Some, Ok, refl, sym, ◌∙◌, ap, subst, arith}
+use Rattle.std.proofs.Common.{◌≡◌, ◌≤◌, inl, ℕ, ◌^◌, List, [], ◌∷◌, length, Some, Ok, ◌∙◌, subst}
 use Rattle.xf_disk.specs.declared.slot.Slot.{Slot}
 use Rattle.xf_disk.specs.Image.{Image, in_slot, beside}
 use Rattle.xf_disk.specs.Marks.{spliced}

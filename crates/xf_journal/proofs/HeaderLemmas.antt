@@ -1,11 +1,10 @@
 -- What a slot's first bytes tell, they tell of the whole slot.
-use Rattle.std.proofs.Common.{◌≡◌, ◌≤◌, ◌<◌, ℕ, zero, suc, ◌+◌, ◌-◌, min, List, [], ◌∷◌, ◌++◌, length, take, drop, get_or, Option, Some, None, refl, sym, ◌∙◌, ap, subst, arith, length-take, length-drop, inl, inr}
+use Rattle.std.proofs.Common.{◌≡◌, ◌≤◌, ◌<◌, ℕ, zero, suc, ◌+◌, ◌-◌, min, List, [], ◌∷◌, ◌++◌, length, take, drop, get_or, Some, None, refl, sym, ◌∙◌, ap, arith, length-take, length-drop, inl, inr}
 use Rattle.std.proofs.lemmas.List.{take-take, take_all, take_at, drop-take}
-use Rattle.std.proofs.lemmas.Bool.{cases_lt, le-leb, lt-leb}
-use Rattle.std.specs.Prelude.{Bool, true, false, ◌&&◌, ◌==◌, nat_le, if◌then◌else◌, slice_index}
-use Rattle.xf_journal.specs.Layout.{is_open, open_epoch, epoch_in, form_length, base_length, format_in}
-use Rattle.xf_journal.specs.Numbers.{from_eight, from_four}
-use Rattle.xf_journal.proofs.NumberLemmas.{from_eight-front, from_four-front}
+use Rattle.std.proofs.lemmas.Bool.{cases_lt, le-leb}
+use Rattle.std.specs.Prelude.{◌&&◌, ◌==◌, nat_le, if◌then◌else◌}
+use Rattle.xf_journal.specs.Layout.{open_epoch, epoch_in}
+use Rattle.xf_journal.proofs.NumberLemmas.{from_eight-front}
 
 -- a part of the front
 pub part_of : (n at size : ℕ) (xs ys : List ℕ) → at + size ≤ n → take n xs ≡ take n ys → take size (drop at xs) ≡ take size (drop at ys)

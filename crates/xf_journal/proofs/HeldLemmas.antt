@@ -1,12 +1,11 @@
 -- What two slots hold, where one of them changes.
-use Rattle.std.proofs.Common.{◌≡◌, ◌≤◌, ◌<◌, ◌⊎◌, inl, inr, ℕ, zero, suc, ◌+◌, ◌-◌, List, [], ◌∷◌, ◌++◌, length, take, drop, get_or, Option, Some, None, Result, Ok, Err, refl, sym, ◌∙◌, ap, subst, arith, length-append, length-take, length-drop}
-use Rattle.std.proofs.lemmas.Bool.{leb-true, le-leb, and_parts, cases_eq, ne_eqb, ltb-true, lt-ltb, le-ltb}
-use Rattle.std.specs.Prelude.{Bool, true, false, nat_le, nat_lt, ◌&&◌, ◌==◌, if◌then◌else◌, slice_index}
+use Rattle.std.proofs.Common.{◌≡◌, ◌≤◌, ℕ, List, length, Option, Some, None, Result, Ok, Err, refl, ◌∙◌, ap}
+use Rattle.std.proofs.lemmas.Bool.{leb-true, and_parts}
+use Rattle.std.specs.Prelude.{Bool, true, false, nat_le, ◌==◌, if◌then◌else◌, slice_index}
 use Rattle.xf_disk.specs.declared.slot.Slot.{Slot}
 use Rattle.xf_disk.specs.declared.slot.Slot.TheVariants.{A, B}
 use Rattle.xf_disk.specs.Image.{Image, in_slot, beside}
 use Rattle.xf_journal.specs.declared.fault.JournalFault.{JournalFault}
-use Rattle.xf_journal.specs.declared.fault.JournalFault.TheVariants.{Damaged}
 use Rattle.xf_journal.specs.Layout.{is_open, open_epoch, epoch_in}
 use Rattle.xf_journal.specs.Held.{Log, log_of, chosen, in_use, some_log, held_in, held}
 

@@ -1,3 +1,4 @@
+mod Examples
 mod NumberLemmas
 mod EntryLemmas
 mod TailLemmas

@@ -1,16 +1,16 @@
 -- A new slot is read as it was written.
-use Rattle.std.proofs.Common.{◌≡◌, ◌≤◌, ◌<◌, ◌⊎◌, inl, inr, ℕ, zero, suc, ◌+◌, ◌-◌, ◌^◌, List, [], ◌∷◌, ◌++◌, length, take, drop, get_or, Option, Some, None, Result, Ok, Err, refl, sym, ◌∙◌, ap, subst, arith, append_assoc, length-append, length-take, length-drop}
-use Rattle.std.proofs.lemmas.List.{take_at, drop_at, drop_more}
+use Rattle.std.proofs.Common.{◌≡◌, ◌≤◌, ◌<◌, inl, inr, ℕ, suc, ◌+◌, ◌^◌, List, [], ◌∷◌, ◌++◌, length, take, drop, get_or, Some, None, Ok, refl, ◌∙◌, ap, arith, append_assoc, length-append, length-take}
+use Rattle.std.proofs.lemmas.List.{drop_at, drop_more}
 use Rattle.std.proofs.lemmas.Bool.{le-leb, cases_eq, and_from}
-use Rattle.std.specs.Prelude.{true, nat_le, nat_lt, ◌&&◌, ◌==◌}
+use Rattle.std.specs.Prelude.{nat_le, nat_lt, ◌==◌}
 use Rattle.xf_disk.specs.declared.slot.Slot.{Slot}
 use Rattle.xf_disk.specs.Image.{Image, in_slot, beside}
 use Rattle.xf_disk.specs.Marks.{spliced}
 use Rattle.xf_disk.specs.Crash.{Torn, InSlot}
 use Rattle.xf_journal.specs.declared.layout.Format.TheVariants.{First}
-use Rattle.xf_journal.specs.Numbers.{four, eight, from_four, from_eight}
-use Rattle.xf_journal.specs.Layout.{format_in, header_bytes, new_bytes, is_open, open_epoch, epoch_in, form_length, base_length, base_at, entries_at, is_epoch, form_most}
-use Rattle.xf_journal.specs.Held.{Log, Tail, log_with, kept_in, log_in, log_of, held, entries_from}
+use Rattle.xf_journal.specs.Numbers.{four, eight, from_four}
+use Rattle.xf_journal.specs.Layout.{new_bytes, is_open, open_epoch, epoch_in, form_length, base_length, base_at, entries_at, is_epoch, form_most}
+use Rattle.xf_journal.specs.Held.{log_with, log_of, held, entries_from}
 use Rattle.xf_journal.specs.Scanned.{MayCreate, new_log, HoldsOldOr}
 use Rattle.xf_journal.proofs.NumberLemmas.{length-four, length-eight, from_four-four, from_eight-eight}
 use Rattle.xf_journal.proofs.EntryLemmas.{drop_sum, take_exactly, drop_exactly, if_true}

@@ -1,9 +1,8 @@
 -- How a run of disk calls goes on.
-use Rattle.std.proofs.Common.{◌≡◌, inl, inr, ⊎_elim, ℕ, List, refl, arith}
+use Rattle.std.proofs.Common.{inl, inr, ⊎_elim, ℕ, refl, arith}
 use Rattle.xf_disk.specs.declared.slot.Slot.{Slot}
 use Rattle.xf_disk.specs.Image.{Image}
 use Rattle.xf_disk.specs.Crash.{Torn, InSlot, Elapses, LeavesOnly}
-use Rattle.xf_journal.specs.Moments.{MightStep}
 
 module _ {D : Type 0} (moment : D → ℕ) (left_since : D → ℕ → Image → Type 0) where
   -- before the first call

@@ -1,20 +1,15 @@
 -- What a slot holds, by what stands before the gate that ends its entries.
-use Rattle.std.proofs.Common.{◌≡◌, ◌≤◌, ◌<◌, ◌⊎◌, inl, inr, ℕ, zero, suc, ◌+◌, ◌-◌, List, [], ◌∷◌, ◌++◌, length, take, drop, Option, Some, None, Result, Ok, Err, refl, sym, ◌∙◌, ap, subst, arith, length-append, length-take, length-drop, append_assoc, take-append-drop}
-use Rattle.std.proofs.lemmas.List.{take_at, drop_at, append-nil}
+use Rattle.std.proofs.Common.{◌≡◌, ◌≤◌, ◌<◌, ℕ, ◌+◌, List, [], ◌∷◌, ◌++◌, length, take, drop, Option, Some, None, Ok, refl, sym, ◌∙◌, ap, subst, arith, length-append, length-take, length-drop, append_assoc, take-append-drop}
+use Rattle.std.proofs.lemmas.List.{take_at, drop_at}
 use Rattle.std.proofs.lemmas.Bool.{leb-true, le-leb, and_parts, and_from}
 use Rattle.std.specs.Prelude.{Bool, true, false, not, nat_le, ◌&&◌, ◌==◌, if◌then◌else◌}
 use Rattle.xf_disk.specs.declared.slot.Slot.{Slot}
 use Rattle.xf_journal.specs.declared.layout.Format.{Format}
 use Rattle.xf_journal.specs.declared.layout.Format.TheVariants.{First}
-use Rattle.xf_journal.specs.declared.entry.Accepted.{Accepted}
-use Rattle.xf_journal.specs.declared.fault.JournalFault.{JournalFault}
-use Rattle.xf_journal.specs.declared.fault.JournalFault.TheVariants.{Damaged}
-use Rattle.xf_journal.specs.Numbers.{from_four}
-use Rattle.xf_journal.specs.Layout.{tag_of, begins_with, format_in, header_length, epoch_in, form_length, base_length, base_at, entries_at, is_epoch, form_most, first_fault}
-use Rattle.xf_journal.specs.Held.{Kept, Tail, Log, log_with, kept_in, log_in, unless_fault, log_as, log_of, entries_from}
+use Rattle.xf_journal.specs.Layout.{tag_of, begins_with, format_in, epoch_in, form_length, base_length, base_at, entries_at, is_epoch, form_most, first_fault}
+use Rattle.xf_journal.specs.Held.{Tail, Log, log_with, kept_in, log_in, unless_fault, log_as, log_of, entries_from}
 use Rattle.xf_journal.proofs.NumberLemmas.{from_four-front}
-use Rattle.xf_journal.proofs.EntryLemmas.{if_true}
-use Rattle.xf_journal.proofs.TailLemmas.{before, Splits, tail_splits, entries_few}
+use Rattle.xf_journal.proofs.TailLemmas.{before, tail_splits, entries_few}
 use Rattle.xf_journal.proofs.HeaderLemmas.{part_of, epoch_alike}
 
 begins_take : (tag xs : List ℕ) → begins_with tag (take (length tag) xs) ≡ begins_with tag xs

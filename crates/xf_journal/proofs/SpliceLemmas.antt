@@ -1,9 +1,9 @@
 -- Several writes behind a gate.
-use Rattle.std.proofs.Common.{◌≡◌, ◌≤◌, ℕ, ◌+◌, List, [], ◌∷◌, ◌++◌, length, take, drop, refl, sym, ◌∙◌, ap, subst, arith, append_assoc, length-append, length-take}
+use Rattle.std.proofs.Common.{◌≡◌, ◌≤◌, ℕ, ◌+◌, List, [], ◌∷◌, ◌++◌, length, take, drop, refl, sym, ◌∙◌, ap, arith, append_assoc, length-append, length-take}
 use Rattle.std.proofs.lemmas.List.{take_at, drop_at, take-take}
 use Rattle.std.specs.Prelude.{Result, Ok, Err, OnOk}
 use Rattle.xf_disk.specs.declared.slot.Slot.{Slot}
-use Rattle.xf_disk.specs.Image.{Image, in_slot, beside}
+use Rattle.xf_disk.specs.Image.{Image}
 use Rattle.xf_disk.specs.Marks.{spliced}
 use Rattle.xf_disk.specs.Crash.{Torn, InSlot, Follows}
 use Rattle.xf_journal.specs.declared.layout.Format.TheVariants.{First}

@@ -1,5 +1,5 @@
 -- The entries of a slot, one by one.
-use Rattle.std.proofs.Common.{inl, inr, length-append, length-drop, ◌≡◌, ◌≤◌, ◌<◌, ℕ, zero, suc, ◌+◌, ◌-◌, List, [], ◌∷◌, ◌++◌, length, drop, take, get_or, Option, Some, None, refl, sym, ◌∙◌, ap, subst, arith, append_assoc}
+use Rattle.std.proofs.Common.{inl, inr, length-append, length-drop, ◌≡◌, ◌≤◌, ◌<◌, ℕ, zero, suc, ◌+◌, List, [], ◌∷◌, ◌++◌, length, drop, take, get_or, Option, Some, None, refl, sym, ◌∙◌, ap, subst, arith, append_assoc}
 use Rattle.xf_journal.specs.declared.entry.Accepted.{Accepted}
 use Rattle.std.proofs.lemmas.Bool.{leb-true, le-leb, and_parts, and_from, ne_eqb, cases_eq}
 use Rattle.std.proofs.lemmas.List.{drop_more, drop_all, take-append-le, drop-append-le}

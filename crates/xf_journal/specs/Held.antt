@@ -1,10 +1,9 @@
 -- What the two slots hold.
-use Rattle.std.specs.Prelude.{ℕ, zero, suc, ◌+◌, ◌-◌, List, [], ◌∷◌, ◌++◌, length, take, drop, slice_index, Bool, true, false, ◌==◌, nat_lt, if◌then◌else◌, Option, Some, None, option_map, Result, Ok, Err}
+use Rattle.std.specs.Prelude.{ℕ, zero, suc, List, [], ◌∷◌, ◌++◌, take, drop, ◌==◌, nat_lt, if◌then◌else◌, Option, Some, None, Result, Ok, Err}
 use Rattle.xf_disk.specs.declared.slot.Slot.{Slot}
 use Rattle.xf_disk.specs.declared.slot.Slot.TheVariants.{A, B}
-use Rattle.xf_disk.specs.Image.{Image, in_slot, beside}
+use Rattle.xf_disk.specs.Image.{Image, in_slot}
 use Rattle.xf_journal.specs.declared.layout.Format.{Format}
-use Rattle.xf_journal.specs.declared.layout.Format.TheVariants.{First}
 use Rattle.xf_journal.specs.declared.entry.Accepted.{Accepted}
 use Rattle.xf_journal.specs.declared.fault.JournalFault.{JournalFault}
 use Rattle.xf_journal.specs.declared.fault.JournalFault.TheVariants.{Damaged}

@@ -1,5 +1,5 @@
 -- What the calls of a journal do to a disk, at each moment.
-use Rattle.std.specs.Prelude.{◌≡◌, ◌⊎◌, ◌≤◌, ℕ, List, length, take, slice_index, Bool, IsTrue, Result, Ok, Err, Option}
+use Rattle.std.specs.Prelude.{◌≡◌, ◌⊎◌, ◌≤◌, ℕ, List, length, take, slice_index, Bool, Result, Ok, Err}
 use Rattle.xf_base.specs.Faults.{Rose}
 use Rattle.xf_disk.specs.declared.slot.Slot.{Slot}
 use Rattle.xf_disk.specs.Image.{Image}

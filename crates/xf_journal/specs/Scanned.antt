@@ -11,7 +11,7 @@ use Rattle.xf_disk.specs.Image.{Image, in_slot, beside}
 use Rattle.xf_disk.specs.Crash.{IsSettled}
 use Rattle.xf_journal.specs.Entry.{written_bytes}
 use Rattle.xf_journal.specs.Layout.{header_length, open_epoch}
-use Rattle.xf_journal.specs.Held.{Kept, Tail, Log, held}
+use Rattle.xf_journal.specs.Held.{Tail, Log, held}
 
 -- the journal in hand: its slot, its epoch, the number of entries, and the bytes in use, the last gate included
 abbrev pub journal_of : Log → Journal

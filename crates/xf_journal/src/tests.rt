@@ -32,7 +32,7 @@ enum Found {
     Else,
 }
 
-fn found(alloc: Global, a: &[u8], b: &[u8]) -> Result<Found, AllocError> {
+fn found_on(alloc: Global, a: &[u8], b: &[u8]) -> Result<Found, AllocError> {
     let mut disk = MemoryDisk::new(alloc, a, b, 512, 16)?;
     Ok(match scan(alloc, &mut disk) {
         Ok(None) => Found::Nothing,
@@ -83,20 +83,20 @@ fn a_new_slot_and_one_entry_have_their_bytes(rt: HostRuntime) -> Result<(), Fail
 
 #[test]
 fn a_slot_that_is_cut_is_damaged_where_it_ends(rt: HostRuntime) -> Result<(), Fail> {
-    // up to how many bytes, and what is found then
+    let alloc = rt.alloc();
+    // from how many bytes to how many, the last not counted, and what is found then
     let cases = [
-        (21, Found::Nothing),
-        (143, Found::Damaged(Slot::A, 13)),
-        (145, Found::Damaged(Slot::A, 17)),
-        (173, Found::Entries(0, Some(146))),
-        (174, Found::Entries(1, Some(174))),
-        (175, Found::Entries(1, None)),
+        (0, 22, Found::Nothing),
+        (22, 144, Found::Damaged(Slot::A, 13)),
+        (144, 146, Found::Damaged(Slot::A, 17)),
+        (146, 174, Found::Entries(0, Some(146))),
+        (174, 175, Found::Entries(1, Some(174))),
+        (175, 176, Found::Entries(1, None)),
     ];
-    let mut n = 0;
-    for (end, want) in cases {
-        while n <= end && n <= SLOT.len() {
-            assert_eq!(rt; found(rt.alloc(), &SLOT[..n], b"")?, want, "{n}");
-            n += 1;
+    for (from, end, want) in cases {
+        for n in from..end {
+            assert!(rt; n <= SLOT.len());
+            assert_eq!(rt; found_on(alloc, &SLOT[..n], b"")?, want, "{n}");
         }
     }
     Ok(())
@@ -130,7 +130,7 @@ fn a_byte_that_is_changed_is_found(rt: HostRuntime) -> Result<(), Fail> {
         let mut slot = *SLOT;
         assert!(rt; at < slot.len());
         slot[at] = byte;
-        assert_eq!(rt; found(alloc, &slot, b"")?, want, "{at} {byte}");
+        assert_eq!(rt; found_on(alloc, &slot, b"")?, want, "{at} {byte}");
     }
     Ok(())
 }
@@ -154,7 +154,7 @@ fn the_greater_epoch_is_in_use(rt: HostRuntime) -> Result<(), Fail> {
             slot[5] = epoch;
             slot[146] = gate;
         }
-        assert_eq!(rt; found(alloc, &slots[0], &slots[1])?, want);
+        assert_eq!(rt; found_on(alloc, &slots[0], &slots[1])?, want);
     }
     Ok(())
 }
@@ -197,7 +197,7 @@ fn each_stop_leaves_what_was_acknowledged(rt: HostRuntime) -> Result<(), Fail> {
         let done = run(&mut disk, &image, &entry);
         for (fill, grown) in CRASHES {
             let left = disk.disk.after_crash(alloc, fill, grown)?;
-            let now = found(alloc, left.held(Slot::A), left.held(Slot::B))?;
+            let now = found_on(alloc, left.held(Slot::A), left.held(Slot::B))?;
             let is_right = match now {
                 Found::Nothing => done == 0,
                 Found::Entries(0, None) => done < 2,

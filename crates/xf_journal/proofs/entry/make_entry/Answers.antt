@@ -1,4 +1,4 @@
-use Rattle.std.proofs.Common.{◌≤◌, ◌≡◌, ◌^◌, arith, rules, length, vec_len, ap}
+use Rattle.std.proofs.Common.{◌≤◌, ◌≡◌, ◌^◌, arith, rules, length, ap}
 use Rattle.xf_journal.specs.Entry.{body_bytes}
 use Rattle.xf_journal.proofs.EntryLemmas.{length-body_bytes}
 use Rattle.xf_journal.proofs.entry.make_entry.Goals as goal

@@ -1,4 +1,4 @@
-use Rattle.std.proofs.Common.{◌≡◌, ◌≤◌, ◌^◌, ◌∙◌, ap, arith, refl, rules, length, sym}
+use Rattle.std.proofs.Common.{◌≡◌, ◌≤◌, ◌^◌, ◌∙◌, ap, arith, refl, rules, length}
 use Rattle.std.specs.Prelude.{IsTrue}
 use Rattle.xf_disk.specs.Image.{in_slot}
 use Rattle.xf_disk.specs.Marks.{spliced}

@@ -1,7 +1,5 @@
-use Rattle.std.proofs.Common.{◌≡◌, ◌∙◌, ap, length}
+use Rattle.std.proofs.Common.{◌∙◌, ap}
 use Rattle.xf_disk.specs.Image.{Image, in_slot}
-use Rattle.xf_disk.specs.Marks.{spliced}
-use Rattle.xf_journal.specs.Layout.{new_bytes}
 use Rattle.xf_journal.specs.Moments.{MightStep, SameGate}
 use Rattle.xf_journal.proofs.RunLemmas.{runs_on, goes_on}
 use Rattle.xf_journal.proofs.SpliceLemmas.{might_twice, behind_written, on_any}

@@ -1,5 +1,4 @@
-use Rattle.std.proofs.Common.{◌≡◌, ◌∙◌, ap, arith, rules, length, ◌+◌}
-use Rattle.std.specs.Prelude.{OnOk}
+use Rattle.std.proofs.Common.{◌≡◌, ◌∙◌, ap, arith, length, ◌+◌}
 use Rattle.xf_disk.specs.Image.{in_slot}
 use Rattle.xf_disk.specs.Marks.{spliced}
 use Rattle.xf_journal.specs.Moments.{MightStep, SameGate}

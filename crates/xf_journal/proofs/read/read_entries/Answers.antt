@@ -1,9 +1,9 @@
-use Rattle.std.proofs.Common.{◌≡◌, ◌≤◌, ◌++◌, ◌∷◌, [], List, Some, ◌∙◌, ap, sym, subst, arith, rules, drop, take, length, length-drop, ◌+◌, ◌-◌}
+use Rattle.std.proofs.Common.{◌≡◌, ◌++◌, ◌∷◌, [], List, Some, ◌∙◌, ap, sym, subst, arith, rules, drop, get_or, take, length, length-drop, ◌+◌, ◌-◌}
 use Rattle.std.proofs.lemmas.List.{take_rest}
 use Rattle.xf_journal.specs.declared.entry.Accepted.{Accepted}
 use Rattle.xf_journal.specs.Numbers.{from_four}
 use Rattle.xf_journal.specs.Entry.{entry_in}
-use Rattle.xf_journal.specs.Held.{Tail, entries_from}
+use Rattle.xf_journal.specs.Held.{entries_from}
 use Rattle.xf_journal.proofs.TailLemmas.{before, before_both, entries_open, entry_within}
 use Rattle.xf_journal.proofs.read.read_entries.Goals as goal
 
@@ -18,7 +18,8 @@ loop-gate-preserved c =
     let same : c.from_four.result ≡ from_four behind = c.from_four.ensures ∙ ap from_four (take_rest bytes (gate + 1)) in
     let pushed : c.push.new.self.items ≡ c.loop-gate.items.items ++ entry ∷ [] = search rules in
     let tail = entries_from 0 (gate + (5 + from_four behind)) (drop (gate + (5 + from_four behind)) bytes) in
-    let one = entries_open gate bytes entry c.loop-gate-test.true c.if-bytes-gate-eq1.true is in
+    let is_open : get_or bytes gate 0 ≡ 1 = search rules in
+    let one = entries_open gate bytes entry c.loop-gate-test.true is_open is in
     record {
       within = omega (arith, same, entry_within behind entry is, length-drop (gate + 1) bytes);
       so_far = subst (λ k. before c.push.new.self.items (entries_from 0 (gate + (5 + k)) (drop (gate + (5 + k)) bytes)) ≡ entries_from 0 c.args.at (drop c.args.at bytes)) (sym same)

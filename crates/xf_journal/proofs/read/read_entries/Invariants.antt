@@ -1,4 +1,4 @@
-use Rattle.std.proofs.Common.{◌≡◌, ◌≤◌, ◌++◌, ◌-◌, length, drop}
+use Rattle.std.proofs.Common.{◌≡◌, ◌≤◌, ◌-◌, length, drop}
 use Rattle.xf_journal.specs.Held.{entries_from}
 use Rattle.xf_journal.proofs.TailLemmas.{before}
 use Rattle.xf_journal.proofs.read.read_entries.Given as goal

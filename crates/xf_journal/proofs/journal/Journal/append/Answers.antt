@@ -1,6 +1,6 @@
 use Rattle.std.proofs.Common.{◌≡◌, ◌∙◌, ◌+◌, ◌-◌, length, rules, refl}
-use Rattle.std.specs.Prelude.{IsTrue, true}
-use Rattle.xf_journal.specs.Entry.{written_bytes, is_within}
+use Rattle.std.specs.Prelude.{IsTrue}
+use Rattle.xf_journal.specs.Entry.{written_bytes}
 use Rattle.xf_journal.proofs.AppendRun.{behind_run, gate_run, holds_more, in_hand_more}
 use Rattle.xf_journal.proofs.journal.Journal.append.Goals as goal
 
