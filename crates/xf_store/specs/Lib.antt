@@ -5,3 +5,4 @@ pub mod Calls
 pub mod Causes
 pub mod Replay
 pub mod Objects
+pub mod Laws

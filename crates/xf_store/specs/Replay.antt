@@ -1,8 +1,12 @@
 -- Kept answers, which are given in turn.
-use Rattle.std.specs.Prelude.{List, [], ◌∷◌, Bool, true, false, IsTrue, if◌then◌else◌, Option, Some, None}
+use Rattle.std.specs.Prelude.{List, [], ◌∷◌, Bool, true, false, IsTrue, if◌then◌else◌, Option, Some, None, Result, Ok, Err}
 use Rattle.std.specs.List.{list_all}
 use Rattle.xf_store.specs.declared.answers.Answer.{Answer}
 use Rattle.xf_store.specs.declared.answers.Answer.TheVariants as answer
+use Rattle.xf_store.specs.declared.got.Got.{Got}
+use Rattle.xf_store.specs.declared.got.Got.TheVariants as got
+use Rattle.xf_store.specs.declared.got.GetFault.{GetFault}
+use Rattle.xf_store.specs.declared.got.GetFault.TheVariants as fault
 use Rattle.xf_store.specs.Replies.{is_short}
 
 abbrev pub first_of : Option (List Answer) → Option Answer
@@ -40,6 +44,14 @@ abbrev pub reply : (Answer → Bool) → Option (List Answer) → Answer
 reply fits None = answer.Failed
 reply fits (Some []) = answer.Failed
 reply fits (Some (next ∷ rest)) = if fits next then next else answer.Failed
+
+-- what a get gives by an answer
+abbrev pub got_by : Answer → Result Got GetFault
+got_by answer.PutDone = Err fault.Failed
+got_by answer.Failed = Err fault.Failed
+got_by (answer.Found bytes) = Ok got.Found
+got_by answer.Absent = Ok got.Absent
+got_by answer.TooLong = Ok got.TooLong
 
 -- the answers left after it; none any more where it does not fit
 abbrev pub after : (Answer → Bool) → Option (List Answer) → Option (List Answer)

@@ -5,7 +5,7 @@ ghost use Rattle.xf_base.specs.Faults.{HasCause};
 ghost use Rattle.xf_store.specs.Replies.{is_short, Uses, GetUses, put_answer, get_answer};
 ghost use Rattle.xf_store.specs.Held.{Leaves};
 ghost use Rattle.xf_store.specs.Causes.{HasGetCause};
-ghost use Rattle.xf_store.specs.Replay.{first_of, rest_of, AreShort, fits_put, fits_get, reply, after};
+ghost use Rattle.xf_store.specs.Replay.{first_of, rest_of, AreShort, fits_put, fits_get, reply, got_by, after};
 
 use crate::fault::counted;
 use crate::{Answer, Answers, GetFault, Got, Store};
@@ -80,6 +80,7 @@ impl Store for Canned {
     }
 
     fn get(&mut self, _name: &str, into: &mut Bytes) -> Result<Got, GetFault>
+        ensures value { result ≡ got_by (reply fits_get self.old.to_come) }
         ensures answer { get_answer result into.new ≡ reply fits_get self.old.to_come }
         ensures left { self.new.to_come ≡ after fits_get self.old.to_come }
         ensures into { Leaves result into.old into.new }
