@@ -13,7 +13,7 @@ found_put name bytes [] = rw (name_same name) refl
 found_put name bytes (y ∷ ys) =
     let P = λ (b : Bool). bytes_eq y.name name ≡ b → found name (if b then record { name = name; bytes = bytes } ∷ ys else y ∷ put_under name bytes ys) ≡ Some bytes in
     (elim (bytes_eq y.name name) as P [
-      true ↦ λ is. rw (name_same name) refl
+      | true ↦ λ is. rw (name_same name) refl
       | false ↦ λ is. rw is (found_put name bytes ys)
     ]) refl
 
@@ -22,6 +22,6 @@ found_put_other name other bytes [] differ = rw differ refl
 found_put_other name other bytes (y ∷ ys) differ =
     let P = λ (b : Bool). bytes_eq y.name name ≡ b → found other (if b then record { name = name; bytes = bytes } ∷ ys else y ∷ put_under name bytes ys) ≡ found other (y ∷ ys) in
     (elim (bytes_eq y.name name) as P [
-      true ↦ λ is. let same : y.name ≡ name = (bytes_eq-Decides y.name name).0 is in rw (same, differ) refl
+      | true ↦ λ is. let same : y.name ≡ name = (bytes_eq-Decides y.name name).0 is in rw (same, differ) refl
       | false ↦ λ is. rw (found_put_other name other bytes ys differ) refl
     ]) refl
