@@ -2,5 +2,21 @@
 #![tactic(auto)]
 
 mod answers;
+mod call;
+mod canned;
+mod fault;
+mod folder;
+mod got;
+mod memory;
+mod store;
 
 pub use answers::{Answer, Answers};
+pub use call::{Asked, Calls, Named, StoreCall};
+pub use canned::Canned;
+pub use folder::FolderStore;
+pub use got::{GOT_MOST, GetFault, Got};
+pub use memory::MemoryStore;
+pub use store::Store;
+
+#[cfg(test)]
+mod tests;

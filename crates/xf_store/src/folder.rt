@@ -1,0 +1,148 @@
+//! A store over one folder of the operating system.
+ghost use Rattle.std.specs.Prelude.{◌≡◌, ◌≤◌, None, length};
+
+use crate::fault::counted;
+use crate::{GOT_MOST, GetFault, Got, Store};
+use std::alloc::{AllocError, Global};
+use std::fs::{OpenFile, OpenOptions};
+use std::io::{ErrorKind, Read, Write};
+use std::rt::Files;
+use std::{fs, io};
+use xf_io::{Bytes, Failed};
+
+/// The longest name that a path has room for.
+const NAME_MOST: usize = 64;
+
+/// A folder whose files are the named bytes. A put writes a file of another name, which no name here may
+/// have, and renames it, so that it is made whole or not at all; it makes the folder where there is none.
+/// The caller tries the names. It counts each error, and tells no content.
+#[derive(Drop)]
+pub struct FolderStore<'a, R: Files> {
+    files: &'a R,
+    alloc: Global,
+    folder: String,
+    temporary: String,
+    path: String,
+    failed: u64,
+}
+
+impl<'a, R: Files> FolderStore<'a, R> {
+    /// A store over the folder with this path. It takes the room for its paths, and opens nothing.
+    pub fn new(
+        alloc: Global,
+        files: &'a R,
+        folder: &str,
+    ) -> Result<FolderStore<'a, R>, AllocError> {
+        let mut temporary = String::from_str(alloc, folder)?;
+        temporary.push_str("/.put")?;
+        let room = folder.len().saturating_add(1 + NAME_MOST);
+        Ok(FolderStore {
+            files,
+            alloc,
+            folder: String::from_str(alloc, folder)?,
+            temporary,
+            path: String::with_capacity(alloc, room)?,
+            failed: 0,
+        })
+    }
+
+    fn put_file(&mut self, name: &str, bytes: &[u8]) -> io::Result<()>
+        ensures { self.new.failed ≡ self.old.failed }
+    {
+        set_path(&mut self.path, self.folder.as_str(), name)?;
+        let temporary = self.temporary.as_str();
+        let mut file = created(self.files, self.folder.as_str(), temporary)?;
+        file.write_all(bytes)?;
+        file.sync_all()?;
+        fs::rename(self.files, temporary, self.path.as_str())?;
+        // the new name is durable where the folder is
+        OpenOptions::new()
+            .read(true)
+            .open(self.files, self.folder.as_str())?
+            .sync_all()
+    }
+}
+
+impl<R: Files> Store for FolderStore<'_, R> {
+    ghost held = { λ _. None };
+
+    ghost calls = { λ _. None };
+
+    ghost to_come = { λ _. None };
+
+    ghost faults = { λ s. s.failed };
+
+    fn put(&mut self, name: &str, bytes: &[u8]) -> Result<(), Failed> {
+        match self.put_file(name, bytes) {
+            Ok(()) => Ok(()),
+            Err(_) => Err(counted(&mut self.failed)),
+        }
+    }
+
+    fn get(&mut self, name: &str, into: &mut Bytes) -> Result<Got, GetFault> {
+        set_path(&mut self.path, self.folder.as_str(), name)?;
+        match fs::open(self.files, self.path.as_str()) {
+            Ok(file) => match read_at_most(self.alloc, file) {
+                Ok(bytes) => {
+                    if bytes.len() > GOT_MOST {
+                        return Ok(Got::TooLong);
+                    }
+                    *into = Bytes::from_vec(bytes);
+                    Ok(Got::Found)
+                }
+                Err(GetFault::Failed) => {
+                    counted(&mut self.failed);
+                    Err(GetFault::Failed)
+                }
+                Err(GetFault::Memory) => Err(GetFault::Memory),
+            },
+            Err(error) => {
+                if error.kind() == ErrorKind::NotFound {
+                    return Ok(Got::Absent);
+                }
+                counted(&mut self.failed);
+                Err(GetFault::Failed)
+            }
+        }
+    }
+}
+
+fn set_path(path: &mut String, folder: &str, name: &str) -> Result<(), AllocError> {
+    path.clear();
+    path.push_str(folder)?;
+    path.push_str("/")?;
+    path.push_str(name)
+}
+
+/// Makes a file, and its folder where there is none.
+fn created<R: Files>(files: &R, folder: &str, path: &str) -> io::Result<R::File> {
+    match fs::create(files, path) {
+        Ok(file) => Ok(file),
+        Err(error) => {
+            if error.kind() != ErrorKind::NotFound {
+                return Err(error);
+            }
+            fs::create_dir(files, folder)?;
+            fs::create(files, path)
+        }
+    }
+}
+
+/// Reads a file to its end, or to more than a get gives.
+fn read_at_most<F: Read + Drop>(alloc: Global, file: F) -> Result<Vec<u8>, GetFault> {
+    let mut file = file;
+    let mut bytes = Vec::new(alloc);
+    let mut piece = [0; 8192];
+    while bytes.len() <= GOT_MOST {
+        match file.read(&mut piece) {
+            Ok(count) => {
+                if count == 0 {
+                    return Ok(bytes);
+                }
+                bytes.extend_from_slice(&piece[..count])?;
+            }
+            Err(_) => return Err(GetFault::Failed),
+        }
+    }
+    Ok(bytes)
+}
