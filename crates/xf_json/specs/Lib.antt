@@ -1,0 +1,4 @@
+pub mod Element
+pub mod Part
+pub mod Printed
+pub mod Tokens

@@ -1,0 +1,9 @@
+pub mod Part
+pub mod Bindings
+pub mod Written
+pub mod Declarations
+pub mod Declares
+pub mod Faults
+pub mod Survey
+pub mod Shown
+pub mod FirstShown

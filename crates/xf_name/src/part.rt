@@ -1,0 +1,42 @@
+//! The parts of written names.
+
+ghost use Rattle.std.specs.Prelude.{◌≡◌, option_map};
+ghost use Rattle.xf_name.specs.Part.{begins_part, continues_part, is_part, at_colon};
+
+use unicode_ident::{is_xid_continue, is_xid_start};
+
+// The longest part, in bytes.
+const PART_LIMIT: usize = 255;
+
+/// Whether the text is one part of a name: a prefix, or a local name.
+pub fn is_part(text: &str) -> bool
+    ensures { result ≡ is_part text.now }
+{
+    if text.len() > PART_LIMIT {
+        return false;
+    }
+    let mut chars = text.chars();
+    match chars.next() {
+        Some(first) => begins_part(first) && chars.all(|c| continues_part(c)),
+        None => false,
+    }
+}
+
+fn begins_part(c: char) -> bool
+    ensures { result ≡ begins_part c }
+{
+    is_xid_start(c) || c == '_'
+}
+
+fn continues_part(c: char) -> bool
+    ensures { result ≡ continues_part c }
+{
+    is_xid_continue(c) || c == '-' || c == '.'
+}
+
+// What stands before and after the first colon.
+pub(crate) fn at_colon(text: &str) -> Option<(&str, &str)>
+    ensures { option_map (λ p. (p.0.now, p.1.now)) result ≡ at_colon text.now }
+{
+    text.split_once(':')
+}
