@@ -1,0 +1,16 @@
+pub mod Forest
+pub mod Visit
+pub mod StringValue
+pub mod Order
+pub mod Axis
+pub mod Path
+pub mod Limits
+pub mod Plant
+pub mod Planted
+pub mod Changes
+pub mod Texts
+pub mod Literal
+pub mod Printed
+pub mod WellFormed
+pub mod Shape
+pub mod Same
