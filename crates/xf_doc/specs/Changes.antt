@@ -124,9 +124,12 @@ with_below parent place tree (x ∷ xs) =
 abbrev pub elements_above : ℕ → List Visit → ℕ
 elements_above parent all = count_by (λ x. is_element x.content && has x.number (parent ∷ ancestors_of parent all)) all
 
--- the detached tree of a node stands below a parent
+-- the tree of a node stands below a parent, before the child with a place, or for an attribute where its name has it
+abbrev pub placed : ℕ → ℕ → ℕ → Forest → Forest
+placed n parent place forest = record forest { nodes = with_below parent place (tree_of n forest.nodes) (without_tree n forest.nodes) }
+
+-- the same for the tree of a detached node, unless an element would be too deep
 abbrev pub attached : Limits → ℕ → ℕ → ℕ → Forest → Result Forest TreeFault
 attached l n parent place forest =
-    let tree = tree_of n forest.nodes in
-    unless (if is_too_deep l.depth (elements_above parent (visits forest.nodes)) tree then Some Depth else None)
-      (record forest { nodes = with_below parent place tree (without_tree n forest.nodes) })
+    unless (if is_too_deep l.depth (elements_above parent (visits forest.nodes)) (tree_of n forest.nodes) then Some Depth else None)
+      (placed n parent place forest)

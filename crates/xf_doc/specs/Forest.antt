@@ -1,7 +1,8 @@
 -- The document model (XPath 1.0, section 5): a forest is the list of its nodes in document order, each with its number and with how
 -- many nodes are above it. The instances' trees come first, each under its root; the detached trees follow, in the order of detachment.
-use Rattle.std.specs.Prelude.{ℕ, suc, ◌≡◌, Bool, true, false, ◌||◌, List, [], ◌∷◌, ◌++◌, find, Option, Some, None, nat_lt, ◌==◌, if◌then◌else◌}
+use Rattle.std.specs.Prelude.{ℕ, suc, ◌≡◌, Bool, true, false, ◌||◌, List, [], ◌∷◌, ◌++◌, find, Option, Some, None, option_map, option_and_then, nat_lt, ◌==◌, if◌then◌else◌}
 use Rattle.std.specs.List.{list_any}
+use Rattle.xf_name.specs.declared.qname.QName.{QName}
 use Rattle.xf_doc.specs.declared.content.Node.{Node}
 use Rattle.xf_doc.specs.declared.content.Name.{Name}
 use Rattle.xf_doc.specs.declared.content.Content.{Content}
@@ -73,8 +74,18 @@ has_number n nodes = list_any (λ x. x.number == n) nodes
 abbrev pub IsLive : ℕ → Forest → Type 0
 IsLive n forest = has_number n forest.nodes ≡ true
 
-abbrev pub node_at : ℕ → Forest → Option Node
-node_at n forest = find (λ x. x.number == n) forest.nodes
+abbrev pub node_at : ℕ → List Node → Option Node
+node_at n nodes = find (λ x. x.number == n) nodes
+
+abbrev pub content_at : ℕ → List Node → Option Content
+content_at n nodes = option_map (λ x. x.content) (node_at n nodes)
+
+abbrev pub kind_at : ℕ → List Node → Option Kind
+kind_at n nodes = option_map kind_of (content_at n nodes)
+
+-- the name of an element or attribute, as it is resolved
+abbrev pub name_at : ℕ → List Node → Option QName
+name_at n nodes = option_map (λ name. name.meaning) (option_and_then name_in (content_at n nodes))
 
 -- the nodes from the one with this number on
 abbrev pub from_node : ℕ → List Node → List Node

@@ -9,8 +9,10 @@ pub mod Plant
 pub mod Planted
 pub mod Changes
 pub mod Texts
+pub mod Undo
 pub mod Literal
 pub mod Printed
 pub mod WellFormed
 pub mod Shape
 pub mod Same
+pub mod Examples
