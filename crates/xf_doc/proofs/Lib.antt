@@ -1,4 +1,6 @@
 pub mod NodeLemmas
+pub mod RunLemmas
+pub mod BackLaws
 pub mod Examples
 pub mod ChangeExamples
 pub mod TextExamples
