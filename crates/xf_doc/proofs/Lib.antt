@@ -1,6 +1,8 @@
 pub mod NodeLemmas
 pub mod RunLemmas
 pub mod BackLaws
+pub mod VisitLemmas
+pub mod ShapeLaws
 pub mod Examples
 pub mod ChangeExamples
 pub mod TextExamples
