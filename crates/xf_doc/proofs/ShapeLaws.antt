@@ -14,7 +14,7 @@ use Rattle.xf_doc.specs.Visit.{Visit, is_first, still_above, numbers, visit, vis
 use Rattle.xf_doc.specs.Shape.{Texts, is_replaced, is_gone, visits_in, filled, retexted, has_elements, only_text, without_text, erased, shape, shape_of}
 use Rattle.xf_doc.specs.Texts.{one_text, at_depth, with_content, with_texts, with_value, valued, with_attribute_text, is_attribute_at, with_text}
 use Rattle.xf_doc.proofs.RunLemmas.{IsRun, AreTexts, IsLeafAt, below-then-past, attribute-no_text, text-no_attribute, no_attributes-filter}
-use Rattle.xf_doc.proofs.VisitLemmas.{KeepsDepth, Follows, visits-map, AreAt, past-within, deeper-by_one, run-visits}
+use Rattle.xf_doc.proofs.VisitLemmas.{KeepsDepth, Follows, visits-map, still_above-map, AreAt, past-within, deeper-by_one, run-visits}
 use Rattle.xf_doc.proofs.BackLaws.{HasText}
 
 -- ---- two lists of visits that differ in texts of one node alone
@@ -172,3 +172,69 @@ texts-differ n texts above (x ∷ xs) h k =
 
 abbrev revalued : ℕ → List ℕ → Visit → Visit
 revalued n text v = if v.number == n then record v { content = with_value text v.content } else v
+
+valued-number : (n : ℕ) (text : List ℕ) (x : Node) → (valued n text x).number ≡ x.number
+valued-number n text x = elim (cases_Bool (x.number == n)) [ inl e ↦ rw e refl | inr e ↦ rw e refl ]
+
+valued-depth : (n : ℕ) (text : List ℕ) → KeepsDepth (valued n text)
+valued-depth n text x = elim (cases_Bool (x.number == n)) [ inl e ↦ rw e refl | inr e ↦ rw e refl ]
+
+valued-numbers : (n : ℕ) (text : List ℕ) (d : ℕ) (above : List Node) → numbers (still_above d (map (valued n text) above)) ≡ numbers (still_above d above)
+valued-numbers n text d above = ap numbers (still_above-map (valued n text) (valued-depth n text) d above) ∙ same (still_above d above)
+  where
+    same : (ys : List Node) → numbers (map (valued n text) ys) ≡ numbers ys
+    same [] = refl
+    same (y ∷ ys) = ap (λ m. m ∷ numbers (map (valued n text) ys)) (valued-number n text y) ∙ ap (λ l. y.number ∷ l) (same ys)
+
+valued-follows : (n : ℕ) (text : List ℕ) → Follows (valued n text) (revalued n text)
+valued-follows n text above x =
+    ap (λ d. record { number = (valued n text x).number; above = numbers (still_above d (map (valued n text) above)); content = (valued n text x).content }) (valued-depth n text x)
+    ∙ ap (λ l. record { number = (valued n text x).number; above = l; content = (valued n text x).content }) (valued-numbers n text x.depth above)
+    ∙ by (x.number == n) refl
+  where
+    by : (b : Bool) → (x.number == n) ≡ b → record { number = (valued n text x).number; above = numbers (still_above x.depth above); content = (valued n text x).content } ≡ revalued n text (visit above x)
+    by true e = rw e refl
+    by false e = rw e refl
+
+value-erased : (text : List ℕ) (c : Content) → without_text (with_value text c) ≡ without_text c
+value-erased text Root = refl
+value-erased text (Element name) = refl
+value-erased text (Attribute name old) = refl
+value-erased text (Text old) = refl
+
+value-element : (text : List ℕ) (c : Content) → is_element (with_value text c) ≡ is_element c
+value-element text Root = refl
+value-element text (Element name) = refl
+value-element text (Attribute name old) = refl
+value-element text (Text old) = refl
+
+revalued-erased : (n : ℕ) (text : List ℕ) (xs : List Visit) → map erased (map (revalued n text) xs) ≡ map erased xs
+revalued-erased n text [] = refl
+revalued-erased n text (x ∷ xs) =
+    elim (cases_Bool (x.number == n)) [
+      inl e ↦ rw e (ap (λ c. record x { content = c } ∷ map erased (map (revalued n text) xs)) (value-erased text x.content) ∙ ap (λ l. erased x ∷ l) (revalued-erased n text xs))
+    | inr e ↦ rw e (ap (λ l. erased x ∷ l) (revalued-erased n text xs))
+    ]
+
+revalued-elements : (n : ℕ) (text : List ℕ) (m : ℕ) (xs : List Visit) → has_elements (map (revalued n text) xs) m ≡ has_elements xs m
+revalued-elements n text m [] = refl
+revalued-elements n text m (x ∷ xs) =
+    elim (cases_Bool (x.number == n)) [
+      inl e ↦ rw e (ap (λ b. (b && is_first m x.above) || has_elements (map (revalued n text) xs) m) (value-element text x.content) ∙ ap (λ b. (is_element x.content && is_first m x.above) || b) (revalued-elements n text m xs))
+    | inr e ↦ rw e (ap (λ b. (is_element x.content && is_first m x.above) || b) (revalued-elements n text m xs))
+    ]
+
+revalued-shape : (n : ℕ) (text : List ℕ) (xs : List Visit) → shape (map (revalued n text) xs) ≡ shape xs
+revalued-shape n text xs =
+    ap (λ u. retexted u (map erased (map (revalued n text) xs))) (fun_ext (λ m. ap (λ b. cond b None (Some ([] ∷ []))) (revalued-elements n text m xs)))
+    ∙ ap (retexted (only_text xs)) (revalued-erased n text xs)
+
+-- ---- the law
+
+-- setting the text of an attribute, or of an element without element children, leaves the shape as it is
+pub shape-with_text : (n : ℕ) (text : List ℕ) (forest : Forest) → has_elements (visits forest.nodes) n ≡ false → HasText n forest.nodes
+    → shape_of (with_text n text forest).nodes ≡ shape_of forest.nodes
+shape-with_text n text forest none (inl h) =
+    rw h (ap shape (visits-map (valued n text) (revalued n text) (valued-depth n text) (valued-follows n text) [] forest.nodes) ∙ revalued-shape n text (visits forest.nodes))
+shape-with_text n text forest none (inr h) =
+    rw h.0 (differ-shape n (visits (with_texts n (one_text forest.next text) forest.nodes)) (visits forest.nodes) none (texts-differ n (one_text forest.next text) [] forest.nodes (one_text-all forest.next text) h.1))
