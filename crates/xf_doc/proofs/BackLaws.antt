@@ -140,10 +140,10 @@ untouched n old text (x ∷ xs) e =
     rw parts.0 (rw parts.0 (ap (λ l. x ∷ l) (untouched n old text xs parts.1)))
 
 -- two equal numbers are one
-one_number : (m n : ℕ) → (m == n) ≡ true → m ≡ n
+pub one_number : (m n : ℕ) → (m == n) ≡ true → m ≡ n
 one_number m n e = grind (arith, nat_tests)
 
-attribute-absent : (n : ℕ) (xs : List Node) → has_number n xs ≡ false → is_attribute_at n xs ≡ false
+pub attribute-absent : (n : ℕ) (xs : List Node) → has_number n xs ≡ false → is_attribute_at n xs ≡ false
 attribute-absent n [] e = refl
 attribute-absent n (x ∷ xs) e = let parts = or-false (x.number == n) (has_number n xs) e in rw (parts.0, attribute-absent n xs parts.1) refl
 

@@ -3,6 +3,8 @@ pub mod RunLemmas
 pub mod BackLaws
 pub mod VisitLemmas
 pub mod ShapeLaws
+pub mod LeafLaws
+pub mod TextLaws
 pub mod Examples
 pub mod ChangeExamples
 pub mod TextExamples
