@@ -4,6 +4,7 @@ pub mod BackLaws
 pub mod VisitLemmas
 pub mod ShapeLaws
 pub mod LeafLaws
+pub mod RenumberLaws
 pub mod TextLaws
 pub mod Examples
 pub mod ChangeExamples
