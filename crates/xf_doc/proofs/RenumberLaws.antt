@@ -1,18 +1,22 @@
 -- Each definition that reads a forest goes with a renumbering of its nodes.
 use Rattle.std.proofs.Common.{◌≡◌, ℕ, suc, ◌==◌, Bool, true, false, not, cond, ◌&&◌, ◌||◌, List, [], ◌∷◌, ◌++◌, map, length, reverse, find, nat_lt, Option, Some, None, option_map, refl, sym, ap, ◌∙◌, subst, inl, inr}
-use Rattle.std.specs.Prelude.{⊤, ◌⊎◌, filter}
+use Rattle.std.specs.Prelude.{filter, codes}
+use Rattle.std.specs.Str.{bytes_eq}
 use Rattle.std.specs.List.{list_any, flat_map}
 use Rattle.std.proofs.Math.Path.{fun_ext}
 use Rattle.std.proofs.lemmas.Bool.{cases_Bool}
+use Rattle.std.proofs.lemmas.List.{map-append, reverse-append, length-map}
 use Rattle.xf_name.specs.declared.axis.Axis.{Axis}
 use Rattle.xf_name.specs.declared.axis.Axis.TheVariants.{Child, Attribute as AttributeAxis, Self_, Parent, Ancestor, AncestorOrSelf, Descendant, DescendantOrSelf, FollowingSibling, PrecedingSibling}
 use Rattle.xf_doc.specs.declared.content.Node.{Node}
 use Rattle.xf_doc.specs.declared.content.Content.{Content}
-use Rattle.xf_doc.specs.Forest.{Forest, is_attribute, is_element, is_text, own_text, has_number}
+use Rattle.xf_doc.specs.declared.content.Content.TheVariants.{Root, Element, Attribute, Text}
+use Rattle.xf_doc.specs.Forest.{Forest, is_attribute, is_element, is_text, own_text, has_number, name_in, written, written_in}
 use Rattle.xf_doc.specs.Visit.{Visit, still_above, numbers, visit, visits_from, visits, has, is_first, first_of, same_parent, above_in, ancestors_of, parent_of, last_of, top_of, children_of, attributes_of}
 use Rattle.xf_doc.specs.StringValue.{characters, text_below, value_of, value_in, string_value}
 use Rattle.xf_doc.specs.Order.{is_before}
 use Rattle.xf_doc.specs.Axis.{are_siblings, is_on, before, after, in_range, on_axis, in_proximity, axis_from, axis_of, is_reverse}
+use Rattle.xf_doc.specs.Path.{is_namesake, is_text_beside, bracketed, index_if, step_by, step_in, step_of, or_slash, path_of}
 use Rattle.xf_doc.specs.Same.{IsRenumbering, renumbered, renumbered_visit}
 use Rattle.xf_doc.proofs.VisitLemmas.{KeepsDepth, Follows, visits-map, still_above-map}
 
@@ -46,6 +50,14 @@ flat-through g p q h (x ∷ xs) = ap (λ l. l ++ flat_map p (map g xs)) (h x) �
 pub map-map : {A B C : Type 0} (f : B → C) (g : A → B) (xs : List A) → map f (map g xs) ≡ map (λ x. f (g x)) xs
 map-map f g [] = refl
 map-map f g (x ∷ xs) = ap (λ l. f (g x) ∷ l) (map-map f g xs)
+
+pub map-reverse : {A B : Type 0} (g : A → B) (xs : List A) → map g (reverse xs) ≡ reverse (map g xs)
+map-reverse g [] = refl
+map-reverse g (x ∷ xs) =
+    ap (map g) (reverse-append (x ∷ []) xs)
+    ∙ map-append g (reverse xs) (x ∷ [])
+    ∙ ap (λ l. l ++ g x ∷ []) (map-reverse g xs)
+    ∙ sym (reverse-append (g x ∷ []) (map g xs))
 
 module _ (f : ℕ → ℕ) (same : IsRenumbering f) where
   has-renumbered : (n : ℕ) (ns : List ℕ) → has (f n) (map f ns) ≡ has n ns
@@ -184,3 +196,62 @@ module _ (f : ℕ → ℕ) (same : IsRenumbering f) where
   on_axis-renumbered axis all x =
       ap (filter (is_on axis (renumbered_visit f x))) (range-renumbered axis x.number all)
       ∙ filter-through (renumbered_visit f) (is_on axis (renumbered_visit f x)) (is_on axis x) (is_on-renumbered axis x) (in_range axis x.number all)
+
+  proximity-renumbered : (axis : Axis) (xs : List Visit) → in_proximity axis (map (renumbered_visit f) xs) ≡ map (renumbered_visit f) (in_proximity axis xs)
+  proximity-renumbered axis xs =
+      ap (λ l. cond (is_reverse axis) l (map (renumbered_visit f) xs)) (sym (map-reverse (renumbered_visit f) xs))
+      ∙ sym (map-cond (map (renumbered_visit f)) (is_reverse axis) (reverse xs) xs)
+
+  pub axis_of-renumbered : (axis : Axis) (n : ℕ) (all : List Visit) → axis_of axis (f n) (map (renumbered_visit f) all) ≡ map f (axis_of axis n all)
+  axis_of-renumbered axis n all =
+      ap (λ x. map (λ (y : Visit). y.number) (axis_from axis (map (renumbered_visit f) all) x)) (found n all)
+      ∙ ap (map (λ (y : Visit). y.number)) (by (find (λ x. x.number == n) all))
+      ∙ numbers-renumbered (axis_from axis all (find (λ x. x.number == n) all))
+    where
+      by : (x : Option Visit) → axis_from axis (map (renumbered_visit f) all) (option_map (renumbered_visit f) x) ≡ map (renumbered_visit f) (axis_from axis all x)
+      by None = refl
+      by (Some x) = ap (in_proximity axis) (on_axis-renumbered axis all x) ∙ proximity-renumbered axis (on_axis axis all x)
+
+  -- ---- paths
+
+  namesake-renumbered : (name : List ℕ) (x y : Visit) → is_namesake name (renumbered_visit f x) (renumbered_visit f y) ≡ is_namesake name x y
+  namesake-renumbered name x y = ap (λ b. b && is_element y.content && bytes_eq name (written_in (name_in y.content))) (parent-renumbered x.above y.above)
+
+  text_beside-renumbered : (x y : Visit) → is_text_beside (renumbered_visit f x) (renumbered_visit f y) ≡ is_text_beside x y
+  text_beside-renumbered x y = ap (λ b. b && is_text y.content) (parent-renumbered x.above y.above)
+
+  namesakes-renumbered : (name : List ℕ) (x : Visit) (xs : List Visit) → filter (is_namesake name (renumbered_visit f x)) (map (renumbered_visit f) xs) ≡ map (renumbered_visit f) (filter (is_namesake name x) xs)
+  namesakes-renumbered name x xs = filter-through (renumbered_visit f) (is_namesake name (renumbered_visit f x)) (is_namesake name x) (namesake-renumbered name x) xs
+
+  index-renumbered : (xs ys : List Visit) → index_if (map (renumbered_visit f) xs) (map (renumbered_visit f) ys) ≡ index_if xs ys
+  index-renumbered xs ys =
+      ap (λ k. cond (nat_lt 1 k) (bracketed (suc (length (map (renumbered_visit f) ys)))) []) (length-map xs (renumbered_visit f))
+      ∙ ap (λ k. cond (nat_lt 1 (length xs)) (bracketed (suc k)) []) (length-map ys (renumbered_visit f))
+
+  step_by-renumbered : (c : Content) (all : List Visit) (x : Visit) → step_by c (map (renumbered_visit f) all) (renumbered_visit f x) ≡ step_by c all x
+  step_by-renumbered Root all x = refl
+  step_by-renumbered (Element name) all x =
+      ap (λ l. 47 ∷ written name ++ l)
+        (ap (λ l. index_if l (filter (is_namesake (written name) (renumbered_visit f x)) (before (f x.number) (map (renumbered_visit f) all)))) (namesakes-renumbered (written name) x all)
+         ∙ ap (λ l. index_if (map (renumbered_visit f) (filter (is_namesake (written name) x) all)) l)
+             (ap (filter (is_namesake (written name) (renumbered_visit f x))) (before-renumbered x.number all) ∙ namesakes-renumbered (written name) x (before x.number all))
+         ∙ index-renumbered (filter (is_namesake (written name) x) all) (filter (is_namesake (written name) x) (before x.number all)))
+  step_by-renumbered (Attribute name text) all x = refl
+  step_by-renumbered (Text text) all x =
+      ap (λ k. codes "/text()" ++ bracketed (suc k))
+        (ap (λ l. length (filter (is_text_beside (renumbered_visit f x)) l)) (before-renumbered x.number all)
+         ∙ ap length (filter-through (renumbered_visit f) (is_text_beside (renumbered_visit f x)) (is_text_beside x) (text_beside-renumbered x) (before x.number all))
+         ∙ length-map (filter (is_text_beside x) (before x.number all)) (renumbered_visit f))
+
+  step_of-renumbered : (all : List Visit) (n : ℕ) → step_of (map (renumbered_visit f) all) (f n) ≡ step_of all n
+  step_of-renumbered all n = ap (step_in (map (renumbered_visit f) all)) (found n all) ∙ by (find (λ x. x.number == n) all)
+    where
+      by : (x : Option Visit) → step_in (map (renumbered_visit f) all) (option_map (renumbered_visit f) x) ≡ step_in all x
+      by None = refl
+      by (Some x) = step_by-renumbered x.content all x
+
+  pub path_of-renumbered : (n : ℕ) (all : List Visit) → path_of (f n) (map (renumbered_visit f) all) ≡ path_of n all
+  path_of-renumbered n all =
+      ap (λ l. or_slash (flat_map (step_of (map (renumbered_visit f) all)) (reverse (f n ∷ l)))) (ancestors-renumbered n all)
+      ∙ ap (λ l. or_slash (flat_map (step_of (map (renumbered_visit f) all)) l)) (sym (map-reverse f (n ∷ ancestors_of n all)))
+      ∙ ap or_slash (flat-through f (step_of (map (renumbered_visit f) all)) (step_of all) (step_of-renumbered all) (reverse (n ∷ ancestors_of n all)))
