@@ -5,6 +5,7 @@ pub mod VisitLemmas
 pub mod ShapeLaws
 pub mod LeafLaws
 pub mod RenumberLaws
+pub mod RenumberChanges
 pub mod TextLaws
 pub mod Examples
 pub mod ChangeExamples

@@ -20,7 +20,7 @@ use Rattle.xf_doc.specs.Path.{is_namesake, is_text_beside, bracketed, index_if, 
 use Rattle.xf_doc.specs.Same.{IsRenumbering, renumbered, renumbered_visit}
 use Rattle.xf_doc.proofs.VisitLemmas.{KeepsDepth, Follows, visits-map, still_above-map}
 
-map-cond : {A B : Type 0} (f : A → B) (b : Bool) (x y : A) → f (cond b x y) ≡ cond b (f x) (f y)
+pub map-cond : {A B : Type 0} (f : A → B) (b : Bool) (x y : A) → f (cond b x y) ≡ cond b (f x) (f y)
 map-cond f true x y = refl
 map-cond f false x y = refl
 
@@ -60,7 +60,7 @@ map-reverse g (x ∷ xs) =
     ∙ sym (reverse-append (g x ∷ []) (map g xs))
 
 module _ (f : ℕ → ℕ) (same : IsRenumbering f) where
-  has-renumbered : (n : ℕ) (ns : List ℕ) → has (f n) (map f ns) ≡ has n ns
+  pub has-renumbered : (n : ℕ) (ns : List ℕ) → has (f n) (map f ns) ≡ has n ns
   has-renumbered n ns = any-through f (λ m. f n == m) (λ m. n == m) (λ m. same n m) ns
 
   first-renumbered : (n : ℕ) (ns : List ℕ) → is_first (f n) (map f ns) ≡ is_first n ns
