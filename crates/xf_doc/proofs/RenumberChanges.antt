@@ -1,5 +1,5 @@
 -- Each change of a forest goes with a renumbering of its nodes.
-use Rattle.std.proofs.Common.{◌≡◌, ℕ, zero, suc, ◌+◌, ◌-◌, ◌==◌, Bool, true, false, not, cond, ◌&&◌, ◌||◌, List, [], ◌∷◌, ◌++◌, map, length, nat_lt, Option, Some, None, option_map, Result, Ok, Err, refl, sym, ap, ◌∙◌, subst, inl, inr, arith}
+use Rattle.std.proofs.Common.{◌≡◌, ℕ, zero, suc, ◌+◌, ◌-◌, ◌==◌, Bool, true, false, not, cond, ◌&&◌, ◌||◌, List, [], ◌∷◌, ◌++◌, map, length, nat_lt, if◌then◌else◌, Option, Some, None, option_map, Result, Ok, Err, refl, sym, ap, ◌∙◌, subst, inl, inr, arith}
 use Rattle.std.specs.Prelude.{filter, count_by, sum_by}
 use Rattle.std.specs.List.{list_any, position_or_len, prefix_len, fold}
 use Rattle.std.proofs.lemmas.Bool.{cases_Bool}
@@ -10,7 +10,7 @@ use Rattle.xf_doc.specs.declared.fault.TreeFault.{TreeFault}
 use Rattle.xf_doc.specs.declared.fault.TreeFault.TheVariants.{Depth}
 use Rattle.xf_doc.specs.Forest.{Forest, is_attribute, is_element, is_root, has_number, from_node, below, past, first_tree, tree_of}
 use Rattle.xf_doc.specs.Visit.{Visit, visits, has, ancestors_of, parent_of, children_of, attributes_of}
-use Rattle.xf_doc.specs.Limits.{Limits, is_too_deep, unless}
+use Rattle.xf_doc.specs.Limits.{Limits, node_count, size_of, all_size, is_too_deep, unless}
 use Rattle.xf_doc.specs.Plant.{is_less, written_of}
 use Rattle.xf_doc.specs.Changes.{shifted, moved_to, without_tree, is_detached_top, in_instances, in_detached, root_of, place_among, place_in, with_place, standing, detached, at_place, with_child, with_attribute, with_part, with_below, elements_above, placed, attached}
 use Rattle.xf_doc.specs.Same.{IsRenumbering, renumbered, renumbered_visit}
@@ -19,6 +19,10 @@ use Rattle.xf_doc.proofs.RenumberLaws.{map-cond, any-through, filter-through, vi
 -- the forest with other numbers
 abbrev pub renumbered_forest : (ℕ → ℕ) → ℕ → Forest → Forest
 renumbered_forest f next forest = record { nodes = map (renumbered f) forest.nodes; next = next }
+
+abbrev pub result_map : {X Y : Type 0} → (X → Y) → Result X TreeFault → Result Y TreeFault
+result_map g (Ok x) = Ok (g x)
+result_map g (Err fault) = Err fault
 
 module _ (f : ℕ → ℕ) (same : IsRenumbering f) where
   abbrev r : Node → Node
@@ -165,3 +169,38 @@ module _ (f : ℕ → ℕ) (same : IsRenumbering f) where
         (ap (λ l. with_below (f p) place l (without_tree (f n) (map (renumbered f) forest.nodes))) (tree_of-renumbered n forest.nodes)
          ∙ ap (with_below (f p) place (map (renumbered f) (tree_of n forest.nodes))) (without_tree-renumbered n forest.nodes)
          ∙ with_below-renumbered p place (tree_of n forest.nodes) (without_tree n forest.nodes))
+
+  -- ---- limits
+
+  counted : {X Y : Type 0} (g : X → Y) (p : Y → ℕ) (q : X → ℕ) → ((x : X) → p (g x) ≡ q x) → (from : ℕ) (xs : List X) → fold (λ a y. a + p y) from (map g xs) ≡ fold (λ a x. a + q x) from xs
+  counted g p q h from [] = refl
+  counted g p q h from (x ∷ xs) = ap (λ k. fold (λ a y. a + p y) (from + k) (map g xs)) (h x) ∙ counted g p q h (from + q x) xs
+
+  pub node_count-renumbered : (xs : List Node) → node_count (map (renumbered f) xs) ≡ node_count xs
+  node_count-renumbered xs = counted (renumbered f) (λ x. cond (not (is_root x.content)) 1 0) (λ x. cond (not (is_root x.content)) 1 0) (λ x. refl) 0 xs
+
+  pub all_size-renumbered : (xs : List Node) → all_size (map (renumbered f) xs) ≡ all_size xs
+  all_size-renumbered xs = counted (renumbered f) (λ x. size_of x.content) (λ x. size_of x.content) (λ x. refl) 0 xs
+
+  too_deep-renumbered : (limit above : ℕ) (tree : List Node) → is_too_deep limit above (map (renumbered f) tree) ≡ is_too_deep limit above tree
+  too_deep-renumbered limit above tree = any-through (renumbered f) (λ x. is_element x.content && nat_lt limit (above + suc x.depth)) (λ x. is_element x.content && nat_lt limit (above + suc x.depth)) (λ x. refl) tree
+
+  elements_above-renumbered : (p : ℕ) (all : List Visit) → elements_above (f p) (map (renumbered_visit f) all) ≡ elements_above p all
+  elements_above-renumbered p all =
+      ap (λ ns. count_by (λ (x : Visit). is_element x.content && has x.number (f p ∷ ns)) (map (renumbered_visit f) all)) (ancestors-renumbered f same p all)
+      ∙ counted (renumbered_visit f) (λ x. cond (is_element x.content && has x.number (map f (p ∷ ancestors_of p all))) 1 0) (λ x. cond (is_element x.content && has x.number (p ∷ ancestors_of p all)) 1 0)
+          (λ x. ap (λ b. cond (is_element x.content && b) 1 0) (has-renumbered f same x.number (p ∷ ancestors_of p all))) 0 all
+
+  pub attached-renumbered : (l : Limits) (n p place next : ℕ) (forest : Forest)
+      → attached l (f n) (f p) place (renumbered_forest f next forest) ≡ result_map (renumbered_forest f next) (attached l n p place forest)
+  attached-renumbered l n p place next forest =
+      ap (λ k. unless (if is_too_deep l.depth k (tree_of (f n) (map (renumbered f) forest.nodes)) then Some Depth else None) (placed (f n) (f p) place (renumbered_forest f next forest)))
+        (ap (elements_above (f p)) (visits-renumbered f same forest.nodes) ∙ elements_above-renumbered p (visits forest.nodes))
+      ∙ ap (λ b. unless (if b then Some Depth else None) (placed (f n) (f p) place (renumbered_forest f next forest)))
+          (ap (is_too_deep l.depth (elements_above p (visits forest.nodes))) (tree_of-renumbered n forest.nodes) ∙ too_deep-renumbered l.depth (elements_above p (visits forest.nodes)) (tree_of n forest.nodes))
+      ∙ ap (unless (if is_too_deep l.depth (elements_above p (visits forest.nodes)) (tree_of n forest.nodes) then Some Depth else None)) (placed-renumbered n p place next forest)
+      ∙ by (is_too_deep l.depth (elements_above p (visits forest.nodes)) (tree_of n forest.nodes))
+    where
+      by : (b : Bool) → unless (if b then Some Depth else None) (renumbered_forest f next (placed n p place forest)) ≡ result_map (renumbered_forest f next) (unless (if b then Some Depth else None) (placed n p place forest))
+      by true = refl
+      by false = refl
