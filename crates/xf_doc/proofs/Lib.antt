@@ -6,6 +6,7 @@ pub mod ShapeLaws
 pub mod LeafLaws
 pub mod RenumberLaws
 pub mod RenumberChanges
+pub mod RenumberTexts
 pub mod TextLaws
 pub mod Examples
 pub mod ChangeExamples

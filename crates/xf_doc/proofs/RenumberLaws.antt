@@ -63,7 +63,7 @@ module _ (f : ℕ → ℕ) (same : IsRenumbering f) where
   pub has-renumbered : (n : ℕ) (ns : List ℕ) → has (f n) (map f ns) ≡ has n ns
   has-renumbered n ns = any-through f (λ m. f n == m) (λ m. n == m) (λ m. same n m) ns
 
-  first-renumbered : (n : ℕ) (ns : List ℕ) → is_first (f n) (map f ns) ≡ is_first n ns
+  pub first-renumbered : (n : ℕ) (ns : List ℕ) → is_first (f n) (map f ns) ≡ is_first n ns
   first-renumbered n [] = refl
   first-renumbered n (m ∷ ms) = same n m
 
