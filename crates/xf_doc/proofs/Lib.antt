@@ -7,6 +7,7 @@ pub mod LeafLaws
 pub mod RenumberLaws
 pub mod RenumberChanges
 pub mod RenumberTexts
+pub mod OrderLaws
 pub mod TextLaws
 pub mod Examples
 pub mod ChangeExamples
