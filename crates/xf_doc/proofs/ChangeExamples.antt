@@ -1,5 +1,5 @@
 -- Changes of small forests: roots, copies, trees detached and attached, and limits at their edges.
-use Rattle.std.proofs.Common.{◌≡◌, true, false, [], ◌∷◌, ◌++◌, map, take, length, Some, None, Ok, Err, refl}
+use Rattle.std.proofs.Common.{◌≡◌, true, false, [], ◌∷◌, ◌++◌, map, take, length, Some, None, Ok, Err, inl, inr, refl}
 use Rattle.std.specs.Prelude.{ℕ, List, codes}
 use Rattle.xf_doc.specs.declared.content.Node.{Node}
 use Rattle.xf_doc.specs.declared.content.Content.TheVariants.{Root, Element, Attribute, Text}
@@ -9,6 +9,8 @@ use Rattle.xf_doc.specs.Forest.{Forest, empty}
 use Rattle.xf_doc.specs.Visit.{numbers, visits, children_of}
 use Rattle.xf_doc.specs.Limits.{Limits, node_count, all_size}
 use Rattle.xf_doc.specs.Changes.{with_root, root_of, copied, standing, detached, attached, in_instances}
+use Rattle.xf_doc.specs.declared.content.Kind.TheVariants as kind
+use Rattle.xf_doc.specs.Needs.{MayCopy, MayRoot, MayDetach, MayAttach, in_element, as_attribute, lacks_name, MayDropFrom}
 use Rattle.xf_doc.specs.WellFormed.{IsForest}
 use Rattle.xf_doc.specs.Examples.{rows, pair_of_instances, bindings, just, wide, node, element, attribute, text, plain, of_p}
 
@@ -128,3 +130,26 @@ as_deep_as_may_be = refl
 
 attached_too_deep : attached deep 12 7 1 rows ≡ Err Depth
 attached_too_deep = refl
+
+-- ---- what changes need
+
+a_detached_element_may_stand_below_another : MayAttach 12 6 3 rows
+a_detached_element_may_stand_below_another = record { detached = refl; outside = refl; stands = in_element refl refl refl }
+
+an_attribute_of_a_new_name_may_be_attached : MayAttach 4 0 0 (in_line (codes "c"))
+an_attribute_of_a_new_name_may_be_attached = record { detached = refl; outside = refl; stands = as_attribute refl refl refl }
+
+an_attribute_of_a_name_that_stands_may_not : lacks_name 4 0 (in_line (codes "b")) ≡ false
+an_attribute_of_a_name_that_stands_may_not = refl
+
+an_attribute_may_be_detached : MayDetach 4 rows
+an_attribute_may_be_detached = record { below = refl; kind = inr refl }
+
+a_root_may_come_over_a_detached_element : MayRoot 12 rows
+a_root_may_come_over_a_detached_element = record { detached = refl; kind = refl }
+
+a_text_may_be_copied : MayCopy 5 rows
+a_text_may_be_copied = refl
+
+what_is_detached_and_new_may_go : MayDropFrom 12 rows
+what_is_detached_and_new_may_go = record { known = refl; whole = refl }

@@ -11,15 +11,11 @@ use Rattle.xf_doc.specs.Forest.{Forest, kind_of, kind_at, is_attribute, has_numb
 use Rattle.xf_doc.specs.Visit.{visits}
 use Rattle.xf_doc.specs.Shape.{has_elements, shape_of}
 use Rattle.xf_doc.specs.WellFormed.{IsForest, IsKeeping, are_apart}
+use Rattle.xf_doc.specs.Needs.{IsSettable}
 use Rattle.xf_doc.specs.Texts.{Keeping, is_attribute_at, with_text, put_back, before_of}
 use Rattle.xf_doc.proofs.BackLaws.{HasText, after_set, put_back-after_set, outside-all, and-true, not-true, attribute-absent, one_number}
 use Rattle.xf_doc.proofs.ShapeLaws.{shape-with_text}
 use Rattle.xf_doc.proofs.LeafLaws.{leaf-in_forest}
-
--- the node is one whose text can be set: an attribute, or an element without element children
-pub record IsSettable (n : ℕ) (forest : Forest) : Type 0 where
-  pub kind : (kind_at n forest.nodes ≡ Some kind.Attribute) ⊎ (kind_at n forest.nodes ≡ Some kind.Element)
-  pub childless : has_elements (visits forest.nodes) n ≡ false
 
 some : {K : Type 0} {a b : K} → ◌≡◌ {A = Option K} (Some a) (Some b) → a ≡ b
 some e = cc e

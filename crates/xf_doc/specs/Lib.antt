@@ -14,5 +14,6 @@ pub mod Literal
 pub mod Printed
 pub mod WellFormed
 pub mod Shape
+pub mod Needs
 pub mod Same
 pub mod Examples

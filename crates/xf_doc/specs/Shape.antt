@@ -1,5 +1,5 @@
--- The shape of a forest (XForms 1.1, section 4.3.1): its visits, where each element without element children has exactly one text,
--- whatever texts it has, and every text and attribute is empty. What a bind selects depends on it alone.
+-- The shape of a forest, a notion of this processor: its visits, where each element without element children has exactly one text,
+-- whatever texts it has, and every text and attribute is empty. What binds select depends on it alone.
 use Rattle.std.specs.Prelude.{ℕ, ◌+◌, ◌^◌, Bool, true, false, not, ◌&&◌, ◌||◌, List, [], ◌∷◌, ◌++◌, map, filter, Option, Some, None, is_some, ◌==◌, if◌then◌else◌}
 use Rattle.std.specs.List.{list_any}
 use Rattle.xf_doc.specs.declared.content.Node.{Node}
