@@ -1,18 +1,17 @@
 -- A text that was set and put back: the node has what it had, and the kept texts are those that were kept before.
-use Rattle.std.proofs.Common.{◌≡◌, ℕ, suc, ◌+◌, ◌==◌, Bool, true, false, not, cond, ◌&&◌, ◌||◌, List, [], ◌∷◌, ◌++◌, map, length, nat_lt, refl, sym, ap, ◌∙◌, subst, append-nil, inl, inr, arith}
+use Rattle.std.proofs.Common.{◌≡◌, ℕ, ◌==◌, Bool, true, false, not, cond, ◌&&◌, ◌||◌, List, [], ◌∷◌, ◌++◌, nat_lt, refl, sym, ap, ◌∙◌, subst, append-nil, inl, inr, arith}
 use Rattle.std.specs.Prelude.{⊤, ◌⊎◌, filter}
 use Rattle.std.specs.List.{list_any}
 use Rattle.std.proofs.lemmas.Bool.{cases_Bool}
-use Rattle.std.proofs.lemmas.Bool.Decides.{nat_tests, eqb_tells}
+use Rattle.std.proofs.lemmas.Bool.Decides.{nat_tests}
 use Rattle.std.proofs.lemmas.List.Elements.{filter-append}
-use Rattle.std.proofs.lemmas.List.Folds.{list_any-append}
 use Rattle.xf_doc.specs.declared.content.Node.{Node}
 use Rattle.xf_doc.specs.declared.content.Content.{Content}
 use Rattle.xf_doc.specs.declared.content.Content.TheVariants.{Root, Element, Attribute, Text}
-use Rattle.xf_doc.specs.Forest.{Forest, is_element, is_attribute, is_text, own_text, below, has_number, tree_of, first_tree, from_node}
+use Rattle.xf_doc.specs.Forest.{is_attribute, is_text, own_text, below, has_number, tree_of}
 use Rattle.xf_doc.specs.Visit.{has, numbers}
 use Rattle.xf_doc.specs.WellFormed.{are_apart}
-use Rattle.xf_doc.specs.Texts.{Keeping, KeptText, one_text, with_texts, with_value, valued, with_attribute_text, is_attribute_at, texts_in, value_in, kept_from, before_of, taken_from, new_texts, with_text, put_back, is_of, without, back}
+use Rattle.xf_doc.specs.Texts.{Keeping, KeptText, one_text, with_texts, with_value, with_attribute_text, is_attribute_at, texts_in, value_in, kept_from, before_of, taken_from, with_text, put_back, is_of, without, back}
 use Rattle.xf_doc.proofs.RunLemmas.{IsLeafAt, texts-over, texts-kept, one_text-no_attributes, tree-here, tree-other}
 
 -- ---- kept texts

@@ -1,18 +1,15 @@
 -- Changes of small forests: roots, copies, trees detached and attached, and limits at their edges.
-use Rattle.std.proofs.Common.{◌≡◌, true, false, [], ◌∷◌, ◌++◌, map, take, length, Some, None, Ok, Err, inl, inr, refl}
+use Rattle.std.proofs.Common.{◌≡◌, false, [], ◌∷◌, ◌++◌, map, take, Some, None, Ok, Err, inr, refl}
 use Rattle.std.specs.Prelude.{ℕ, List, codes}
-use Rattle.xf_doc.specs.declared.content.Node.{Node}
-use Rattle.xf_doc.specs.declared.content.Content.TheVariants.{Root, Element, Attribute, Text}
-use Rattle.xf_doc.specs.declared.fault.TreeFault.{TreeFault}
+use Rattle.xf_doc.specs.declared.content.Content.TheVariants.{Root, Element}
 use Rattle.xf_doc.specs.declared.fault.TreeFault.TheVariants.{Nodes, AllText, Depth}
-use Rattle.xf_doc.specs.Forest.{Forest, empty}
-use Rattle.xf_doc.specs.Visit.{numbers, visits, children_of}
+use Rattle.xf_doc.specs.Forest.{Forest}
+use Rattle.xf_doc.specs.Visit.{visits, children_of}
 use Rattle.xf_doc.specs.Limits.{Limits, node_count, all_size}
 use Rattle.xf_doc.specs.Changes.{with_root, root_of, copied, standing, detached, attached, in_instances}
-use Rattle.xf_doc.specs.declared.content.Kind.TheVariants as kind
 use Rattle.xf_doc.specs.Needs.{MayCopy, MayRoot, MayDetach, MayAttach, in_element, as_attribute, lacks_name, MayDropFrom}
 use Rattle.xf_doc.specs.WellFormed.{IsForest}
-use Rattle.xf_doc.specs.Examples.{rows, pair_of_instances, bindings, just, wide, node, element, attribute, text, plain, of_p}
+use Rattle.xf_doc.specs.Examples.{rows, pair_of_instances, just, wide, node, element, attribute, text, of_p}
 
 -- the depths beside the numbers
 abbrev outline : Forest → List (ℕ × ℕ)

@@ -1,10 +1,10 @@
 -- The definitions on small forests: what stands where, string values, order, axes and paths.
-use Rattle.std.proofs.Common.{◌≡◌, true, false, [], ◌∷◌, map, Some, None, refl}
+use Rattle.std.proofs.Common.{◌≡◌, true, false, [], ◌∷◌, Some, None, refl}
 use Rattle.std.specs.Prelude.{codes}
 use Rattle.std.specs.Fmt.{digits}
 use Rattle.xf_name.specs.declared.axis.Axis.TheVariants as axis
 use Rattle.xf_doc.specs.declared.content.Kind.TheVariants as kind
-use Rattle.xf_doc.specs.Forest.{Forest, written, tree_of, kind_at, name_at}
+use Rattle.xf_doc.specs.Forest.{written, tree_of, kind_at, name_at}
 use Rattle.xf_doc.specs.Visit.{visits, numbers, ancestors_of, parent_of, top_of, children_of, attributes_of}
 use Rattle.xf_doc.specs.StringValue.{string_value, string_value_within}
 use Rattle.xf_doc.specs.Order.{is_before}

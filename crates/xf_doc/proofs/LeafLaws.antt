@@ -1,13 +1,12 @@
 -- In a forest, below an element without element children stand attributes, then texts, and nothing else.
-use Rattle.std.proofs.Common.{◌≡◌, ℕ, suc, ◌<◌, ◌≤◌, ◌==◌, Bool, true, false, not, cond, ◌&&◌, ◌||◌, List, [], ◌∷◌, ◌++◌, map, nat_lt, Option, Some, None, refl, sym, ap, ◌∙◌, subst, inl, inr, arith}
-use Rattle.std.specs.Prelude.{⊤, ◌⊎◌, nat_le, find}
+use Rattle.std.proofs.Common.{◌≡◌, ℕ, suc, ◌==◌, Bool, true, false, not, cond, ◌&&◌, ◌||◌, List, [], ◌∷◌, nat_lt, Option, Some, refl, sym, ap, ◌∙◌, subst, inl, inr, arith}
+use Rattle.std.specs.Prelude.{⊤, nat_le}
 use Rattle.std.specs.List.{list_any}
 use Rattle.std.proofs.lemmas.Bool.{cases_Bool}
 use Rattle.std.proofs.lemmas.Bool.Decides.{nat_tests}
 use Rattle.xf_doc.specs.declared.content.Node.{Node}
 use Rattle.xf_doc.specs.declared.content.Content.{Content}
 use Rattle.xf_doc.specs.declared.content.Content.TheVariants.{Root, Element, Attribute, Text}
-use Rattle.xf_doc.specs.declared.content.Kind.{Kind}
 use Rattle.xf_doc.specs.declared.content.Kind.TheVariants as kind
 use Rattle.xf_doc.specs.Forest.{Forest, kind_of, kind_at, is_root, is_element, is_attribute, is_text, below}
 use Rattle.xf_doc.specs.Visit.{Visit, is_first, still_above, numbers, visit, visits_from, visits}
@@ -15,7 +14,7 @@ use Rattle.xf_doc.specs.Shape.{has_elements}
 use Rattle.xf_doc.specs.WellFormed.{IsForest, reach, are_depths_from, may_follow, comes_after, are_in_order, are_roots_first}
 use Rattle.xf_doc.proofs.RunLemmas.{IsRun, AreTexts, IsLeafAt}
 use Rattle.xf_doc.proofs.VisitLemmas.{BeginsWithin, closed, deeper-by_one}
-use Rattle.xf_doc.proofs.BackLaws.{false-true, and-true, or-false, not-true}
+use Rattle.xf_doc.proofs.BackLaws.{false-true, and-true, or-false}
 
 true-false : true ≡ false → ⊥
 true-false e = false-true (sym e)

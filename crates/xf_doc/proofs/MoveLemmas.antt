@@ -1,15 +1,12 @@
 -- A tree that is cut off, and put in again at another place of the list.
-use Rattle.std.proofs.Common.{◌≡◌, ℕ, zero, suc, ◌+◌, ◌-◌, ◌==◌, Bool, true, false, not, cond, ◌&&◌, ◌||◌, List, [], ◌∷◌, ◌++◌, map, nat_lt, refl, sym, ap, ◌∙◌, subst, append-nil, inl, inr, arith}
-use Rattle.std.specs.Prelude.{⊤}
-use Rattle.std.specs.List.{list_any}
+use Rattle.std.proofs.Common.{◌≡◌, ℕ, ◌+◌, ◌-◌, ◌==◌, true, false, not, cond, List, [], ◌∷◌, ◌++◌, map, nat_lt, refl, sym, ap, ◌∙◌, subst, append-nil, inl, inr, arith}
 use Rattle.std.proofs.lemmas.Bool.{cases_Bool}
 use Rattle.std.proofs.lemmas.Bool.Decides.{nat_tests}
-use Rattle.std.proofs.lemmas.List.Folds.{list_any-append}
 use Rattle.xf_doc.specs.declared.content.Node.{Node}
 use Rattle.xf_doc.specs.Forest.{Forest, has_number, from_node, below, past, first_tree, tree_of}
 use Rattle.xf_doc.specs.Changes.{shifted, moved_to, without_tree, detached}
 use Rattle.xf_doc.specs.WellFormed.{are_apart}
-use Rattle.xf_doc.proofs.RunLemmas.{AreDeeper, below-front, past-front, below-then-past}
+use Rattle.xf_doc.proofs.RunLemmas.{AreDeeper}
 use Rattle.xf_doc.proofs.BackLaws.{and-true, or-false, not-true, one_number, false-true}
 
 absent-past : (n d : ℕ) (xs : List Node) → has_number n xs ≡ false → has_number n (past d xs) ≡ false

@@ -1,30 +1,23 @@
 -- Literal trees planted, and nodes printed again: names, declarations, and what is refused.
-use Rattle.std.proofs.Common.{◌≡◌, true, false, [], ◌∷◌, ◌++◌, map, take, length, Some, None, Ok, Err, Option, Result, refl, sym, ap, ◌∙◌}
+use Rattle.std.proofs.Common.{◌≡◌, [], ◌∷◌, Some, None, Ok, Err, Option, refl}
 use Rattle.std.specs.Prelude.{ℕ, List, codes}
 use Rattle.std.specs.Str.{chars}
 use Rattle.ucd_table.specs.Rows.{in_ranges}
 use Rattle.ucd_derived.specs.Binary.{is_xid_start, is_xid_continue}
 use Rattle.ucd_derived.specs.XidStartRanges.{xid_start_ranges}
 use Rattle.ucd_derived.specs.XidContinueRanges.{xid_continue_ranges}
-use Rattle.xf_name.specs.Written.{Walk, lit_walk, element_walk, Written}
 use Rattle.xf_name.specs.declared.lit.Pair.{Pair}
-use Rattle.xf_name.specs.declared.lit.Lit.{Lit}
-use Rattle.xf_name.specs.declared.lit.Lit.TheOpen.{Lit-F, LitElement-F}
-use Rattle.xf_doc.specs.declared.content.Content.{Content}
-use Rattle.xf_doc.specs.declared.content.Content.TheVariants.{Root, Element, Attribute, Text}
+use Rattle.xf_name.specs.declared.lit.Lit.TheOpen.{Lit-F}
+use Rattle.xf_doc.specs.declared.content.Content.TheVariants.{Element, Attribute, Text}
 use Rattle.xf_doc.specs.declared.bare.BareAttribute.{BareAttribute}
-use Rattle.xf_doc.specs.declared.bare.Bare.TheOpen.{Bare-F, BareElement-F}
 use Rattle.xf_doc.specs.declared.fault.TreeFault.{TreeFault}
 use Rattle.xf_doc.specs.declared.fault.TreeFault.TheVariants.{BadName, Prefix, Nodes, NodeText, AllText, Depth}
-use Rattle.xf_doc.specs.Forest.{Forest, empty}
+use Rattle.xf_doc.specs.Forest.{empty}
 use Rattle.xf_doc.specs.Limits.{Limits}
-use Rattle.xf_doc.specs.Plant.{Contents, lit_contents, element_contents, in_order}
+use Rattle.xf_doc.specs.Plant.{Contents, lit_contents, element_contents}
 use Rattle.xf_doc.specs.Planted.{written_fault, first_fault, bare_fault, bare_element_contents, with_tree}
-use Rattle.xf_doc.specs.Literal.{printed, gathered}
-use Rattle.xf_doc.specs.Printed.{pair, prefixes_in, lit_of, element as printed_element}
-use Rattle.xf_name.specs.declared.lit.Lit.TheVariants as lit
-use Rattle.xf_doc.specs.Visit.{numbers}
-use Rattle.xf_doc.specs.Examples.{rows, bindings, wide, just, node, element, attribute, text, plain, of_p, qname}
+use Rattle.xf_doc.specs.Printed.{pair}
+use Rattle.xf_doc.specs.Examples.{bindings, wide, node, attribute, text, plain, of_p, qname}
 
 -- ---- contents of trees, one level at a time
 

@@ -1,17 +1,16 @@
 -- Nodes printed as literal trees.
 use Rattle.std.proofs.Common.{◌≡◌, [], ◌∷◌, Some, None, refl}
 use Rattle.std.specs.Prelude.{ℕ, List, codes}
-use Rattle.xf_name.specs.declared.lit.Lit.{Lit}
 use Rattle.xf_name.specs.declared.lit.Lit.TheVariants as lit
 use Rattle.xf_doc.specs.declared.content.Node.{Node}
-use Rattle.xf_doc.specs.declared.content.Content.TheVariants.{Root, Element, Attribute, Text}
+use Rattle.xf_doc.specs.declared.content.Content.TheVariants.{Element, Attribute}
 use Rattle.xf_doc.specs.declared.bare.Bare.TheVariants as bare
 use Rattle.xf_doc.specs.declared.bare.BareElement.{roll-BareElement}
 use Rattle.xf_doc.specs.Forest.{tree_of}
 use Rattle.xf_doc.specs.Visit.{numbers}
 use Rattle.xf_doc.specs.Literal.{printed, bare_of}
 use Rattle.xf_doc.specs.Printed.{pair, lit_of, element as tree}
-use Rattle.xf_doc.specs.Examples.{rows, bindings, node, element, attribute, text, plain, of_p, qname}
+use Rattle.xf_doc.specs.Examples.{rows, bindings, node, element, attribute, text, of_p, qname}
 
 -- ---- which nodes are printed
 

@@ -1,20 +1,18 @@
 -- Each change of a forest goes with a renumbering of its nodes.
-use Rattle.std.proofs.Common.{◌≡◌, ℕ, zero, suc, ◌+◌, ◌-◌, ◌==◌, Bool, true, false, not, cond, ◌&&◌, ◌||◌, List, [], ◌∷◌, ◌++◌, map, length, nat_lt, if◌then◌else◌, Option, Some, None, option_map, Result, Ok, Err, refl, sym, ap, ◌∙◌, subst, inl, inr, arith}
-use Rattle.std.specs.Prelude.{filter, count_by, sum_by}
-use Rattle.std.specs.List.{list_any, position_or_len, prefix_len, fold}
-use Rattle.std.proofs.lemmas.Bool.{cases_Bool}
-use Rattle.std.proofs.lemmas.List.{map-append, length-map}
+use Rattle.std.proofs.Common.{◌≡◌, ℕ, zero, suc, ◌+◌, ◌==◌, Bool, true, false, not, cond, ◌&&◌, ◌||◌, List, [], ◌∷◌, ◌++◌, map, nat_lt, if◌then◌else◌, Option, Some, None, option_map, Result, Ok, Err, refl, sym, ap, ◌∙◌}
+use Rattle.std.specs.Prelude.{count_by}
+use Rattle.std.specs.List.{prefix_len, fold}
+use Rattle.std.proofs.lemmas.List.{map-append}
 use Rattle.xf_doc.specs.declared.content.Node.{Node}
-use Rattle.xf_doc.specs.declared.content.Content.{Content}
 use Rattle.xf_doc.specs.declared.fault.TreeFault.{TreeFault}
 use Rattle.xf_doc.specs.declared.fault.TreeFault.TheVariants.{Depth}
-use Rattle.xf_doc.specs.Forest.{Forest, is_attribute, is_element, is_root, has_number, from_node, below, past, first_tree, tree_of}
+use Rattle.xf_doc.specs.Forest.{Forest, is_attribute, is_element, is_root, from_node, below, past, first_tree, tree_of}
 use Rattle.xf_doc.specs.Visit.{Visit, visits, has, ancestors_of, parent_of, children_of, attributes_of}
 use Rattle.xf_doc.specs.Limits.{Limits, node_count, size_of, all_size, is_too_deep, unless}
 use Rattle.xf_doc.specs.Plant.{is_less, written_of}
-use Rattle.xf_doc.specs.Changes.{shifted, moved_to, without_tree, is_detached_top, in_instances, in_detached, root_of, place_among, place_in, with_place, standing, detached, at_place, with_child, with_attribute, with_part, with_below, elements_above, placed, attached}
+use Rattle.xf_doc.specs.Changes.{shifted, moved_to, without_tree, is_detached_top, in_instances, in_detached, root_of, place_among, place_in, with_place, standing, detached, with_child, with_attribute, with_part, with_below, elements_above, placed, attached}
 use Rattle.xf_doc.specs.Same.{IsRenumbering, renumbered, renumbered_visit}
-use Rattle.xf_doc.proofs.RenumberLaws.{map-cond, any-through, filter-through, visits-renumbered, ancestors-renumbered, parent_of-renumbered, children_of-renumbered, attributes_of-renumbered, has-renumbered}
+use Rattle.xf_doc.proofs.RenumberLaws.{map-cond, any-through, visits-renumbered, ancestors-renumbered, parent_of-renumbered, children_of-renumbered, attributes_of-renumbered, has-renumbered}
 
 -- the forest with other numbers
 abbrev pub renumbered_forest : (ℕ → ℕ) → ℕ → Forest → Forest

@@ -1,24 +1,22 @@
 -- Each definition that reads a forest goes with a renumbering of its nodes.
-use Rattle.std.proofs.Common.{◌≡◌, ℕ, suc, ◌==◌, Bool, true, false, not, cond, ◌&&◌, ◌||◌, List, [], ◌∷◌, ◌++◌, map, length, reverse, find, nat_lt, Option, Some, None, option_map, refl, sym, ap, ◌∙◌, subst, inl, inr}
+use Rattle.std.proofs.Common.{◌≡◌, ℕ, suc, ◌==◌, Bool, true, false, not, cond, ◌&&◌, ◌||◌, List, [], ◌∷◌, ◌++◌, map, length, reverse, find, nat_lt, Option, Some, None, option_map, refl, sym, ap, ◌∙◌}
 use Rattle.std.specs.Prelude.{filter, codes}
 use Rattle.std.specs.Str.{bytes_eq}
 use Rattle.std.specs.List.{list_any, flat_map}
-use Rattle.std.proofs.Math.Path.{fun_ext}
-use Rattle.std.proofs.lemmas.Bool.{cases_Bool}
 use Rattle.std.proofs.lemmas.List.{map-append, reverse-append, length-map}
 use Rattle.xf_name.specs.declared.axis.Axis.{Axis}
 use Rattle.xf_name.specs.declared.axis.Axis.TheVariants.{Child, Attribute as AttributeAxis, Self_, Parent, Ancestor, AncestorOrSelf, Descendant, DescendantOrSelf, FollowingSibling, PrecedingSibling}
 use Rattle.xf_doc.specs.declared.content.Node.{Node}
 use Rattle.xf_doc.specs.declared.content.Content.{Content}
 use Rattle.xf_doc.specs.declared.content.Content.TheVariants.{Root, Element, Attribute, Text}
-use Rattle.xf_doc.specs.Forest.{Forest, is_attribute, is_element, is_text, own_text, has_number, name_in, written, written_in}
-use Rattle.xf_doc.specs.Visit.{Visit, still_above, numbers, visit, visits_from, visits, has, is_first, first_of, same_parent, above_in, ancestors_of, parent_of, last_of, top_of, children_of, attributes_of}
+use Rattle.xf_doc.specs.Forest.{is_attribute, is_element, is_text, own_text, has_number, name_in, written, written_in}
+use Rattle.xf_doc.specs.Visit.{Visit, still_above, numbers, visits, has, is_first, first_of, same_parent, above_in, ancestors_of, parent_of, last_of, top_of, children_of, attributes_of}
 use Rattle.xf_doc.specs.StringValue.{characters, text_below, value_of, value_in, string_value}
 use Rattle.xf_doc.specs.Order.{is_before}
 use Rattle.xf_doc.specs.Axis.{are_siblings, is_on, before, after, in_range, on_axis, in_proximity, axis_from, axis_of, is_reverse}
 use Rattle.xf_doc.specs.Path.{is_namesake, is_text_beside, bracketed, index_if, step_by, step_in, step_of, or_slash, path_of}
 use Rattle.xf_doc.specs.Same.{IsRenumbering, renumbered, renumbered_visit}
-use Rattle.xf_doc.proofs.VisitLemmas.{KeepsDepth, Follows, visits-map, still_above-map}
+use Rattle.xf_doc.proofs.VisitLemmas.{Follows, visits-map, still_above-map}
 
 pub map-cond : {A B : Type 0} (f : A → B) (b : Bool) (x y : A) → f (cond b x y) ≡ cond b (f x) (f y)
 map-cond f true x y = refl

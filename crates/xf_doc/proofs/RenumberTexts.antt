@@ -1,20 +1,18 @@
 -- Texts, shapes and new nodes go with a renumbering: new nodes take the next numbers in both forests.
-use Rattle.std.proofs.Common.{◌≡◌, ℕ, zero, suc, ◌+◌, ◌-◌, ◌==◌, Bool, true, false, not, cond, ◌&&◌, ◌||◌, List, [], ◌∷◌, ◌++◌, map, length, nat_lt, if◌then◌else◌, Option, Some, None, is_some, refl, sym, ap, ◌∙◌, subst, arith}
+use Rattle.std.proofs.Common.{◌≡◌, ℕ, suc, ◌+◌, ◌==◌, not, cond, ◌&&◌, List, [], ◌∷◌, ◌++◌, map, Option, Some, None, is_some, refl, sym, ap, ◌∙◌, arith}
 use Rattle.std.specs.Prelude.{filter}
-use Rattle.std.specs.List.{list_any}
-use Rattle.std.proofs.Math.Path.{fun_ext}
 use Rattle.std.proofs.lemmas.List.{map-append}
 use Rattle.xf_doc.specs.declared.content.Node.{Node}
 use Rattle.xf_doc.specs.declared.content.Content.{Content}
-use Rattle.xf_doc.specs.declared.content.Content.TheVariants.{Root, Element, Attribute, Text}
-use Rattle.xf_doc.specs.Forest.{Forest, is_attribute, is_element, is_text, below, past}
+use Rattle.xf_doc.specs.declared.content.Content.TheVariants.{Text}
+use Rattle.xf_doc.specs.Forest.{is_attribute, is_element, is_text, below, past}
 use Rattle.xf_doc.specs.Visit.{Visit, is_first, visits}
 use Rattle.xf_doc.specs.Plant.{numbered_from}
-use Rattle.xf_doc.specs.Changes.{shifted, moved_to, contents_in}
-use Rattle.xf_doc.specs.Texts.{at_depth, one_text, with_content, with_texts, with_value, valued, with_attribute_text, is_attribute_at}
-use Rattle.xf_doc.specs.Shape.{text_number, Texts, is_replaced, is_gone, text_visit, given_visits, visits_in, filled, retexted, has_elements, only_text, without_text, erased, shape, shape_of}
+use Rattle.xf_doc.specs.Changes.{shifted, contents_in}
+use Rattle.xf_doc.specs.Texts.{at_depth, with_content, with_texts, with_value, valued, with_attribute_text, is_attribute_at}
+use Rattle.xf_doc.specs.Shape.{Texts, is_replaced, is_gone, text_visit, given_visits, visits_in, filled, retexted, has_elements, only_text, erased, shape, shape_of}
 use Rattle.xf_doc.specs.Same.{IsRenumbering, KeepsTexts, renumbered, renumbered_visit}
-use Rattle.xf_doc.proofs.RenumberLaws.{map-cond, any-through, filter-through, map-map, visits-renumbered, first-renumbered}
+use Rattle.xf_doc.proofs.RenumberLaws.{map-cond, any-through, filter-through, visits-renumbered, first-renumbered}
 use Rattle.xf_doc.proofs.RenumberChanges.{below-renumbered, past-renumbered}
 
 -- from these two numbers on, new nodes of one forest are those of the other

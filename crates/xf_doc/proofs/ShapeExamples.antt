@@ -1,15 +1,13 @@
 -- Shapes of small forests, and forests that are the same but for their numbers.
-use Rattle.std.proofs.Common.{◌≡◌, ℕ, suc, ◌+◌, true, false, [], ◌∷◌, ◌++◌, map, Some, None, refl}
-use Rattle.std.specs.Prelude.{List, codes, ◌^◌}
+use Rattle.std.proofs.Common.{◌≡◌, ℕ, true, [], ◌∷◌, map, Some, refl}
+use Rattle.std.specs.Prelude.{List, codes}
 use Rattle.xf_doc.specs.declared.content.Content.{Content}
-use Rattle.xf_doc.specs.declared.content.Content.TheVariants.{Root, Element, Attribute, Text}
-use Rattle.xf_doc.specs.Forest.{Forest}
+use Rattle.xf_doc.specs.declared.content.Content.TheVariants.{Root, Element, Text}
 use Rattle.xf_doc.specs.Visit.{Visit, visits}
 use Rattle.xf_doc.specs.Shape.{shape, shape_of, with_contents, text_number, has_elements}
 use Rattle.xf_doc.specs.Texts.{with_text}
-use Rattle.xf_doc.specs.Changes.{detached}
 use Rattle.xf_doc.specs.StringValue.{string_value}
-use Rattle.xf_doc.specs.Examples.{rows, pair_of_instances, node, element, attribute, text, plain}
+use Rattle.xf_doc.specs.Examples.{rows, pair_of_instances, element, text, plain}
 
 abbrev keys : List Visit → List ℕ
 keys all = map (λ x. x.number) all

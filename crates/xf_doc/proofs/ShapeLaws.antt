@@ -1,19 +1,17 @@
 -- Setting a text never changes the shape.
-use Rattle.std.proofs.Common.{◌≡◌, ℕ, suc, ◌==◌, Bool, true, false, not, cond, ◌&&◌, ◌||◌, List, [], ◌∷◌, ◌++◌, map, Option, Some, None, nat_lt, if◌then◌else◌, refl, sym, ap, ◌∙◌, subst, append_assoc, append-nil, inl, inr, arith}
-use Rattle.std.specs.Prelude.{⊤, ◌⊎◌, filter, is_some}
-use Rattle.std.specs.List.{list_any}
+use Rattle.std.proofs.Common.{◌≡◌, ℕ, suc, ◌==◌, Bool, true, false, not, cond, ◌&&◌, ◌||◌, List, [], ◌∷◌, ◌++◌, map, Some, None, if◌then◌else◌, refl, sym, ap, ◌∙◌, subst, inl, inr, arith}
+use Rattle.std.specs.Prelude.{⊤, filter, is_some}
 use Rattle.std.proofs.Math.Path.{fun_ext}
 use Rattle.std.proofs.lemmas.Bool.{cases_Bool}
 use Rattle.std.proofs.lemmas.Bool.Decides.{nat_tests}
-use Rattle.std.proofs.lemmas.List.{map-append}
 use Rattle.xf_doc.specs.declared.content.Node.{Node}
 use Rattle.xf_doc.specs.declared.content.Content.{Content}
 use Rattle.xf_doc.specs.declared.content.Content.TheVariants.{Root, Element, Attribute, Text}
 use Rattle.xf_doc.specs.Forest.{Forest, is_element, is_attribute, is_text, below, past}
 use Rattle.xf_doc.specs.Visit.{Visit, is_first, still_above, numbers, visit, visits_from, visits}
 use Rattle.xf_doc.specs.Shape.{Texts, is_replaced, is_gone, visits_in, filled, retexted, has_elements, only_text, without_text, erased, shape, shape_of}
-use Rattle.xf_doc.specs.Texts.{one_text, at_depth, with_content, with_texts, with_value, valued, with_attribute_text, is_attribute_at, with_text}
-use Rattle.xf_doc.proofs.RunLemmas.{IsRun, AreTexts, IsLeafAt, below-then-past, attribute-no_text, text-no_attribute, no_attributes-filter}
+use Rattle.xf_doc.specs.Texts.{one_text, at_depth, with_content, with_texts, with_value, valued, with_text}
+use Rattle.xf_doc.proofs.RunLemmas.{IsRun, AreTexts, IsLeafAt, below-then-past, text-no_attribute}
 use Rattle.xf_doc.proofs.VisitLemmas.{KeepsDepth, Follows, visits-map, still_above-map, AreAt, past-within, deeper-by_one, run-visits}
 use Rattle.xf_doc.proofs.BackLaws.{HasText}
 

@@ -1,16 +1,12 @@
 -- Texts set and put back on small forests.
-use Rattle.std.proofs.Common.{◌≡◌, true, false, [], ◌∷◌, ◌++◌, map, take, drop, Some, None, Ok, Err, Result, refl}
+use Rattle.std.proofs.Common.{◌≡◌, [], ◌∷◌, ◌++◌, take, drop, Ok, Err, refl}
 use Rattle.std.specs.Prelude.{ℕ, List, codes}
-use Rattle.xf_doc.specs.declared.content.Content.TheVariants.{Root, Element, Attribute, Text}
-use Rattle.xf_doc.specs.declared.fault.TreeFault.{TreeFault}
 use Rattle.xf_doc.specs.declared.fault.TreeFault.TheVariants.{Nodes, NodeText, AllText}
-use Rattle.xf_doc.specs.Forest.{Forest}
-use Rattle.xf_doc.specs.Limits.{Limits}
-use Rattle.xf_doc.specs.Texts.{Keeping, KeptText, Before, attribute_text, element_texts, text_set, put_back, given_up, without_detached, without_from}
-use Rattle.xf_doc.specs.Changes.{in_instances, detached, placed}
-use Rattle.xf_doc.specs.Undo.{Ledger, Entry, Change, noted, set, joined, cut, of_text, of_detach, kept_at, with_note, text_filled, place_filled, rolled_back, undone}
+use Rattle.xf_doc.specs.Texts.{Keeping, KeptText, attribute_text, element_texts, text_set, put_back, given_up, without_detached, without_from}
+use Rattle.xf_doc.specs.Changes.{in_instances, detached}
+use Rattle.xf_doc.specs.Undo.{noted, set, joined, cut, of_text, of_detach, kept_at, with_note, text_filled, place_filled, rolled_back}
 use Rattle.xf_doc.specs.WellFormed.{IsKeeping}
-use Rattle.xf_doc.specs.Examples.{rows, keeping, just, wide, node, element, attribute, text}
+use Rattle.xf_doc.specs.Examples.{rows, keeping, just, wide, element, attribute, text}
 
 abbrev kept_text : ℕ → ℕ → List ℕ → KeptText
 kept_text number owner cs = record { number = number; owner = owner; text = cs }

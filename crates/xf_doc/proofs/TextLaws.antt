@@ -1,6 +1,6 @@
 -- The laws on texts, in every forest: a setting never changes the shape, and is undone by putting back what was before.
-use Rattle.std.proofs.Common.{◌≡◌, ℕ, ◌==◌, Bool, true, false, not, cond, ◌&&◌, ◌||◌, List, [], ◌∷◌, Option, Some, None, refl, sym, ap, ◌∙◌, subst, inl, inr}
-use Rattle.std.specs.Prelude.{⊤, ◌⊎◌}
+use Rattle.std.proofs.Common.{◌≡◌, ℕ, ◌==◌, true, false, not, List, [], ◌∷◌, Option, Some, None, refl, subst, inl, inr}
+use Rattle.std.specs.Prelude.{◌⊎◌}
 use Rattle.std.proofs.lemmas.Bool.{cases_Bool}
 use Rattle.xf_doc.specs.declared.content.Node.{Node}
 use Rattle.xf_doc.specs.declared.content.Content.{Content}
@@ -8,8 +8,7 @@ use Rattle.xf_doc.specs.declared.content.Content.TheVariants.{Root, Element, Att
 use Rattle.xf_doc.specs.declared.content.Kind.{Kind}
 use Rattle.xf_doc.specs.declared.content.Kind.TheVariants as kind
 use Rattle.xf_doc.specs.Forest.{Forest, kind_of, kind_at, is_attribute, has_number}
-use Rattle.xf_doc.specs.Visit.{visits}
-use Rattle.xf_doc.specs.Shape.{has_elements, shape_of}
+use Rattle.xf_doc.specs.Shape.{shape_of}
 use Rattle.xf_doc.specs.WellFormed.{IsForest, IsKeeping, are_apart}
 use Rattle.xf_doc.specs.Needs.{IsSettable}
 use Rattle.xf_doc.specs.Texts.{Keeping, is_attribute_at, with_text, put_back, before_of}

@@ -1,12 +1,12 @@
 -- Changes of a forest as functions on its list: trees that come, move and go.
-use Rattle.std.specs.Prelude.{ℕ, zero, suc, ◌+◌, ◌-◌, Bool, true, false, ◌&&◌, ◌||◌, not, List, [], ◌∷◌, ◌++◌, map, length, count_by, Option, Some, None, Result, nat_lt, ◌==◌, if◌then◌else◌}
-use Rattle.std.specs.List.{list_any, position_or_len}
+use Rattle.std.specs.Prelude.{ℕ, zero, suc, ◌+◌, ◌-◌, Bool, ◌&&◌, ◌||◌, not, List, [], ◌∷◌, ◌++◌, map, length, count_by, Option, Some, None, Result, nat_lt, ◌==◌, if◌then◌else◌}
+use Rattle.std.specs.List.{position_or_len}
 use Rattle.xf_doc.specs.declared.content.Node.{Node}
 use Rattle.xf_doc.specs.declared.content.Content.{Content}
 use Rattle.xf_doc.specs.declared.content.Content.TheVariants.{Root}
 use Rattle.xf_doc.specs.declared.fault.TreeFault.{TreeFault}
 use Rattle.xf_doc.specs.declared.fault.TreeFault.TheVariants.{Depth}
-use Rattle.xf_doc.specs.Forest.{Forest, is_root, is_element, is_attribute, from_node, past, first_tree, tree_of}
+use Rattle.xf_doc.specs.Forest.{Forest, is_root, is_element, is_attribute, past, tree_of}
 use Rattle.xf_doc.specs.Visit.{Visit, visits, has, parent_of, ancestors_of, children_of, attributes_of}
 use Rattle.xf_doc.specs.Limits.{Limits, passed_by_all, is_too_deep, unless}
 use Rattle.xf_doc.specs.Plant.{is_less, written_of, numbered_from}

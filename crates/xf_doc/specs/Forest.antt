@@ -1,6 +1,6 @@
 -- The document model (XPath 1.0, section 5): a forest is the list of its nodes in document order, each with its number and with how
 -- many nodes are above it. The instances' trees come first, each under its root; the detached trees follow, in the order of detachment.
-use Rattle.std.specs.Prelude.{ℕ, suc, ◌≡◌, Bool, true, false, ◌||◌, List, [], ◌∷◌, ◌++◌, find, Option, Some, None, option_map, option_and_then, nat_lt, ◌==◌, if◌then◌else◌}
+use Rattle.std.specs.Prelude.{ℕ, ◌≡◌, Bool, true, false, List, [], ◌∷◌, ◌++◌, find, Option, Some, None, option_map, option_and_then, nat_lt, ◌==◌, if◌then◌else◌}
 use Rattle.std.specs.List.{list_any}
 use Rattle.xf_name.specs.declared.qname.QName.{QName}
 use Rattle.xf_doc.specs.declared.content.Node.{Node}

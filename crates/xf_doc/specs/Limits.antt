@@ -1,5 +1,5 @@
 -- The limits of a forest. A change is refused where its result would pass one; of several the first in this order is named.
-use Rattle.std.specs.Prelude.{ℕ, suc, ◌+◌, Bool, true, false, not, ◌&&◌, List, [], ◌∷◌, ◌++◌, length, count_by, sum_by, Option, Some, None, Result, Ok, Err, nat_lt, if◌then◌else◌}
+use Rattle.std.specs.Prelude.{ℕ, suc, ◌+◌, Bool, not, ◌&&◌, List, length, count_by, sum_by, Option, Some, None, Result, Ok, Err, nat_lt, if◌then◌else◌}
 use Rattle.std.specs.List.{list_any}
 use Rattle.xf_base.specs.Limits.{node_limit, text_limit, all_limit, depth_limit}
 use Rattle.xf_doc.specs.declared.content.Node.{Node}
@@ -7,7 +7,7 @@ use Rattle.xf_doc.specs.declared.content.Name.{Name}
 use Rattle.xf_doc.specs.declared.content.Content.{Content}
 use Rattle.xf_doc.specs.declared.fault.TreeFault.{TreeFault}
 use Rattle.xf_doc.specs.declared.fault.TreeFault.TheVariants.{Nodes, NodeText, AllText, Depth}
-use Rattle.xf_doc.specs.Forest.{Forest, is_root, is_element, own_text, name_in}
+use Rattle.xf_doc.specs.Forest.{is_root, is_element, own_text, name_in}
 
 pub record Limits : Type 0 where
   -- elements, attributes and texts in the forest, detached trees included

@@ -1,23 +1,14 @@
 -- The literal tree of a node, as it is printed (Namespaces in XML 1.0, section 6) or stored with resolved names.
-use Rattle.std.specs.Prelude.{ℕ, suc, Bool, true, false, not, ◌&&◌, ◌||◌, List, [], ◌∷◌, ◌++◌, map, flat_map, filter, Option, Some, None, unwrap_or, option_map, nat_lt, ◌==◌, codes, if◌then◌else◌}
-use Rattle.std.specs.List.{list_any, filter_map}
-use Rattle.std.specs.Str.{bytes_eq}
-use Rattle.xf_name.specs.Bindings.{Bindings, text_of_space, xml_prefix}
-use Rattle.xf_name.specs.declared.lit.Pair.{Pair}
-use Rattle.xf_name.specs.declared.lit.Lit.{Lit}
-use Rattle.xf_name.specs.declared.lit.Lit.TheVariants as lit
-use Rattle.xf_name.specs.declared.lit.LitElement.{LitElement, roll-LitElement}
+use Rattle.std.specs.Prelude.{ℕ, Bool, ◌||◌, List, [], ◌∷◌, Option, Some, None, nat_lt, if◌then◌else◌}
 use Rattle.xf_doc.specs.declared.bare.Bare.{Bare}
 use Rattle.xf_doc.specs.declared.bare.Bare.TheVariants as bare
-use Rattle.xf_doc.specs.declared.bare.BareElement.{BareElement, roll-BareElement}
+use Rattle.xf_doc.specs.declared.bare.BareElement.{roll-BareElement}
 use Rattle.xf_doc.specs.declared.bare.BareAttribute.{BareAttribute}
 use Rattle.xf_doc.specs.declared.content.Node.{Node}
-use Rattle.xf_doc.specs.declared.content.Name.{Name}
 use Rattle.xf_doc.specs.declared.content.Content.{Content}
 use Rattle.xf_doc.specs.declared.content.Content.TheVariants.{Root, Element, Attribute, Text}
-use Rattle.xf_doc.specs.Forest.{written, is_text, name_in, below, past, first_tree, tree_of}
+use Rattle.xf_doc.specs.Forest.{is_text, tree_of}
 use Rattle.xf_doc.specs.Visit.{has}
-use Rattle.xf_doc.specs.Plant.{is_less}
 
 -- ---- which nodes are printed
 

@@ -1,11 +1,10 @@
 -- What each change needs of the forest, besides that the nodes named stand in it.
-use Rattle.std.specs.Prelude.{ℕ, ◌≡◌, ◌⊎◌, Bool, true, false, not, ◌&&◌, ◌||◌, List, [], ◌∷◌, length, nat_lt, nat_le, ◌==◌, Option, Some, None, is_some, option_and_then, if◌then◌else◌}
+use Rattle.std.specs.Prelude.{ℕ, ◌≡◌, ◌⊎◌, Bool, true, false, not, ◌&&◌, List, [], length, nat_lt, nat_le, ◌==◌, Some, is_some, option_and_then, if◌then◌else◌}
 use Rattle.std.specs.List.{list_any, list_all}
 use Rattle.xf_doc.specs.declared.content.Node.{Node}
-use Rattle.xf_doc.specs.declared.content.Kind.{Kind}
-use Rattle.xf_doc.specs.declared.content.Kind.TheVariants.{Root, Element, Attribute, Text}
-use Rattle.xf_doc.specs.Forest.{Forest, IsLive, is_root, is_attribute, name_in, content_at, kind_at, has_number, tree_of}
-use Rattle.xf_doc.specs.Visit.{Visit, visits, has, is_first, parent_of, children_of}
+use Rattle.xf_doc.specs.declared.content.Kind.TheVariants.{Root, Element, Attribute}
+use Rattle.xf_doc.specs.Forest.{Forest, is_root, is_attribute, name_in, content_at, kind_at, has_number, tree_of}
+use Rattle.xf_doc.specs.Visit.{Visit, visits, is_first, parent_of, children_of}
 use Rattle.xf_doc.specs.Shape.{has_elements}
 use Rattle.xf_doc.specs.Texts.{Keeping, KeptText, Before, attribute_text, element_texts}
 use Rattle.xf_doc.specs.WellFormed.{have_same_name}

@@ -1,6 +1,6 @@
 -- The nodes of a literal tree, its names resolved (XPath 1.0, section 5; Namespaces in XML 1.0, sections 5 and 6).
-use Rattle.std.specs.Prelude.{ℕ, zero, suc, ◌+◌, Bool, true, false, not, ◌&&◌, ◌||◌, List, [], ◌∷◌, ◌++◌, map, flat_map, length, Option, Some, None, is_some, is_none, unwrap_or, Result, Ok, Err, ◌==◌, codes, if◌then◌else◌}
-use Rattle.std.specs.List.{list_any, filter_map}
+use Rattle.std.specs.Prelude.{ℕ, suc, Bool, List, [], ◌∷◌, ◌++◌, map, flat_map, Option, Some, None, unwrap_or, Result, Ok, Err, ◌==◌, codes, if◌then◌else◌}
+use Rattle.std.specs.List.{filter_map}
 use Rattle.std.specs.Str.{bytes_eq}
 use Rattle.std.specs.Cmp.Lexicographic.{slice_cmp}
 use Rattle.std.specs.Ordering.{nat_cmp, is_lt}
@@ -15,7 +15,7 @@ use Rattle.xf_doc.specs.declared.content.Node.{Node}
 use Rattle.xf_doc.specs.declared.content.Name.{Name}
 use Rattle.xf_doc.specs.declared.content.Content.{Content}
 use Rattle.xf_doc.specs.declared.content.Content.TheVariants.{Element, Attribute, Text}
-use Rattle.xf_doc.specs.Forest.{written, written_in, name_in}
+use Rattle.xf_doc.specs.Forest.{written_in, name_in}
 
 -- the contents of a tree in document order, each with its depth, from the default namespace in force above and the depth of its top
 abbrev pub Contents : Type 0

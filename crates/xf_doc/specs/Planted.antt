@@ -1,5 +1,5 @@
 -- Literal trees that come into a forest, as detached trees, and why they do not.
-use Rattle.std.specs.Prelude.{ℕ, suc, ◌+◌, Bool, true, false, not, ◌&&◌, ◌||◌, List, [], ◌∷◌, ◌++◌, map, flat_map, length, Option, Some, None, is_none, unwrap_or, option_map, Result, Ok, Err, ◌==◌, if◌then◌else◌}
+use Rattle.std.specs.Prelude.{ℕ, suc, ◌+◌, Bool, false, not, ◌||◌, List, [], ◌∷◌, ◌++◌, map, flat_map, length, Option, Some, None, is_none, option_map, Result, Err, ◌==◌, if◌then◌else◌}
 use Rattle.std.specs.List.{list_any}
 use Rattle.xf_name.specs.Bindings.{Bindings, space_number, numbered, xml_number, text_of_space}
 use Rattle.xf_name.specs.Part.{is_part}
@@ -12,9 +12,8 @@ use Rattle.xf_name.specs.declared.fault.NameFault.TheVariants as name
 use Rattle.xf_doc.specs.declared.bare.Bare.{Bare, fold-Bare}
 use Rattle.xf_doc.specs.declared.bare.Bare.TheOpen.{Bare-F, BareElement-F}
 use Rattle.xf_doc.specs.declared.bare.BareAttribute.{BareAttribute}
-use Rattle.xf_doc.specs.declared.content.Node.{Node}
 use Rattle.xf_doc.specs.declared.content.Content.{Content}
-use Rattle.xf_doc.specs.declared.content.Content.TheVariants.{Element, Attribute, Text}
+use Rattle.xf_doc.specs.declared.content.Content.TheVariants.{Element, Attribute}
 use Rattle.xf_doc.specs.declared.fault.TreeFault.{TreeFault}
 use Rattle.xf_doc.specs.declared.fault.TreeFault.TheVariants.{BadName, Prefix}
 use Rattle.xf_doc.specs.Forest.{Forest}

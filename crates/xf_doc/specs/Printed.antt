@@ -1,13 +1,12 @@
 -- The literal tree of a node as it is printed: names as they are written, with the declarations that they need (Namespaces in XML 1.0,
 -- sections 3 and 6).
-use Rattle.std.specs.Prelude.{ℕ, Bool, true, false, not, ◌&&◌, ◌||◌, List, [], ◌∷◌, ◌++◌, map, Option, Some, None, unwrap_or, option_map, ◌==◌, codes, if◌then◌else◌}
-use Rattle.std.specs.List.{list_any}
+use Rattle.std.specs.Prelude.{ℕ, Bool, true, false, ◌||◌, List, [], ◌∷◌, ◌++◌, map, Option, Some, None, unwrap_or, ◌==◌, codes, if◌then◌else◌}
 use Rattle.std.specs.Str.{bytes_eq}
 use Rattle.xf_name.specs.Bindings.{Bindings, text_of_space, xml_prefix}
 use Rattle.xf_name.specs.declared.lit.Pair.{Pair}
 use Rattle.xf_name.specs.declared.lit.Lit.{Lit}
 use Rattle.xf_name.specs.declared.lit.Lit.TheVariants as lit
-use Rattle.xf_name.specs.declared.lit.LitElement.{LitElement, roll-LitElement}
+use Rattle.xf_name.specs.declared.lit.LitElement.{roll-LitElement}
 use Rattle.xf_doc.specs.declared.content.Node.{Node}
 use Rattle.xf_doc.specs.declared.content.Name.{Name}
 use Rattle.xf_doc.specs.declared.content.Content.{Content}

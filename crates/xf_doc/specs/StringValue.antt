@@ -1,8 +1,8 @@
 -- String values (XPath 1.0, sections 5.1 to 5.7).
-use Rattle.std.specs.Prelude.{ℕ, List, [], ◌∷◌, ◌++◌, length, find, Option, Some, None, nat_lt, ◌==◌, if◌then◌else◌}
+use Rattle.std.specs.Prelude.{ℕ, List, [], ◌++◌, length, find, Option, Some, None, nat_lt, ◌==◌, if◌then◌else◌}
 use Rattle.std.specs.List.{flat_map}
 use Rattle.xf_doc.specs.declared.content.Content.{Content}
-use Rattle.xf_doc.specs.declared.content.Content.TheVariants.{Root, Element, Attribute, Text}
+use Rattle.xf_doc.specs.declared.content.Content.TheVariants.{Text}
 use Rattle.xf_doc.specs.Forest.{own_text}
 use Rattle.xf_doc.specs.Visit.{Visit, has}
 

@@ -1,5 +1,5 @@
 -- Changes undone: what is noted of each change, and the forest that it gives back.
-use Rattle.std.specs.Prelude.{ℕ, Bool, true, false, ◌||◌, List, [], ◌∷◌, Option, Some, None, ◌==◌, if◌then◌else◌}
+use Rattle.std.specs.Prelude.{ℕ, Bool, false, ◌||◌, List, [], ◌∷◌, ◌==◌, if◌then◌else◌}
 use Rattle.xf_doc.specs.Forest.{Forest}
 use Rattle.xf_doc.specs.Visit.{visits, is_first, ancestors_of}
 use Rattle.xf_doc.specs.Changes.{detached, placed}

@@ -1,12 +1,10 @@
 -- What every forest keeps: its numbers differ, its depths are those of trees, and each node stands where its kind may (XPath 1.0,
 -- section 5).
-use Rattle.std.specs.Prelude.{ℕ, suc, ◌≡◌, Bool, true, false, not, ◌&&◌, ◌||◌, List, [], ◌∷◌, ◌++◌, length, filter, nat_lt, nat_le, ◌==◌, Option, Some, None, if◌then◌else◌}
+use Rattle.std.specs.Prelude.{ℕ, suc, ◌≡◌, Bool, true, false, not, ◌&&◌, ◌||◌, List, [], ◌∷◌, length, filter, nat_lt, nat_le, ◌==◌, Option, Some, if◌then◌else◌}
 use Rattle.std.specs.List.{list_any, list_all}
 use Rattle.std.specs.Str.{bytes_eq}
 use Rattle.xf_doc.specs.declared.content.Node.{Node}
 use Rattle.xf_doc.specs.declared.content.Name.{Name}
-use Rattle.xf_doc.specs.declared.content.Content.{Content}
-use Rattle.xf_doc.specs.declared.content.Content.TheVariants.{Root, Element, Attribute, Text}
 use Rattle.xf_doc.specs.Forest.{Forest, is_root, is_element, is_attribute, is_text, name_in, has_number}
 use Rattle.xf_doc.specs.Visit.{Visit, visits, is_first, same_parent}
 use Rattle.xf_doc.specs.Plant.{is_less, written_of}
