@@ -20,19 +20,3 @@ namespace_limit = 256
 -- prefixes of a form
 abbrev pub prefix_limit : ℕ
 prefix_limit = 32768
-
--- nodes of a forest: its elements, attributes and texts, those of detached trees included
-abbrev pub node_limit : ℕ
-node_limit = 65536
-
--- one text or attribute
-abbrev pub text_limit : ℕ
-text_limit = 65536
-
--- texts, attributes, prefixes and local names of a forest together
-abbrev pub all_limit : ℕ
-all_limit = 2 ^ 22
-
--- elements from the top of a tree down
-abbrev pub depth_limit : ℕ
-depth_limit = 100

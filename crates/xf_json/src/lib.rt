@@ -8,3 +8,6 @@ mod reading;
 pub use fault::JsonFault;
 pub use printing::print;
 pub use reading::read;
+
+#[cfg(test)]
+mod tests;

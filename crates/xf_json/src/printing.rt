@@ -2,22 +2,25 @@
 
 ghost use Rattle.std.specs.Prelude.{◌≡◌, ◌++◌, ◌∷◌, [], IfOk, OnOk};
 ghost use Rattle.json.specs.Token.{end_object};
+ghost use Rattle.xf_json.specs.Element.{lit_in};
+ghost use Rattle.xf_json.specs.Plain.{IsPlain};
 ghost use Rattle.xf_json.specs.Printed.{text_of, are_rising};
 ghost use Rattle.xf_json.specs.Tokens.{tokens_of, tokens_of_element, tokens_of_children, tokens_of_object, tokens_of_pairs, tokens_in_order};
 
 use json::Writer;
 use std::alloc::{AllocError, Global};
 use std::collections::BTreeMap;
-use xf_name::{Lit, LitElement, Pair, Word};
+use xf_io::Bytes;
+use xf_name::{Lit, LitElement, Pair};
 
 /// The JSON text of a tree, without blanks. The attributes of an element stand in the order of the bytes of their written names.
-pub fn print(alloc: Global, lit: &Lit) -> Result<Word, AllocError>
-    ensures { IfOk result (λ word. word ≡ text_of lit.now) }
+pub fn print(alloc: Global, lit: &Lit) -> Result<Bytes, AllocError>
+    ensures text { IfOk result (λ bytes. bytes ≡ text_of lit.now) }
+    ensures reads_back { IfOk result (λ bytes. IsPlain lit.now → lit_in bytes ≡ Ok lit.now) }
 {
     let mut out = Writer::new(Vec::new(alloc));
     write(alloc, lit, &mut out)?;
-    let text = unsafe { String::from_utf8_unchecked(out.into_inner()) };
-    Ok(Word::from_string(text))
+    Ok(Bytes::from_vec(out.into_inner()))
 }
 
 #[cycle(write)]

@@ -4,3 +4,4 @@ pub mod DeclarationLemmas
 pub mod WalkLemmas
 pub mod DoubleLemmas
 pub mod SurveyLemmas
+pub mod Examples

@@ -19,3 +19,6 @@ pub use part::is_part;
 pub use prefixes::Prefixes;
 pub use qname::QName;
 pub use word::Word;
+
+#[cfg(test)]
+mod tests;

@@ -10,8 +10,10 @@ pub struct Pair {
     pub text: Word,
 }
 
+/// The attributes of an element, declarations of namespaces among them.
 pub type PairList = Items<Pair>;
 
+/// Trees, one after another.
 pub type LitList = Items<Lit>;
 
 /// A literal tree: a text, or an element.

@@ -21,6 +21,7 @@ impl Model for Word {
 }
 
 impl Word {
+    /// The empty text. Takes no memory.
     pub fn new(alloc: Global) -> Self
         ensures { result ≡ [] }
     {
@@ -29,6 +30,7 @@ impl Word {
         }
     }
 
+    /// A copy of the text.
     pub fn from_str(alloc: Global, text: &str) -> Result<Self, AllocError>
         ensures { IfOk result (λ word. word ≡ text.now) }
     {
@@ -37,31 +39,35 @@ impl Word {
         })
     }
 
-    /// Takes no memory.
+    /// The text itself. Takes no memory.
     pub fn from_string(text: String) -> Self
         ensures { result ≡ string_bytes text }
     {
         Word { text }
     }
 
+    /// The text.
     pub fn as_str(&self) -> &str
         ensures { result.now ≡ self.now }
     {
         self.text.as_str()
     }
 
+    /// The bytes of the text.
     pub fn as_bytes(&self) -> &[u8]
         ensures { result.now ≡ self.now }
     {
         self.text.as_bytes()
     }
 
+    /// How many bytes it has.
     pub fn len(&self) -> usize
         ensures { result ≡ length self.now }
     {
         self.text.len()
     }
 
+    /// Whether it has no bytes.
     pub fn is_empty(&self) -> bool
         ensures { result ≡ nat_eq (length self.now) 0 }
     {
@@ -75,6 +81,7 @@ impl Word {
         self.text.as_str() == text
     }
 
+    /// Puts a text at the end. An `Err` leaves it as it was.
     pub fn push_str(&mut self, more: &str) -> Result<(), AllocError>
         ensures ok { OnOk result (self.new ≡ self.old ++ more.now) }
         ensures err { OnErr result (self.new ≡ self.old) }

@@ -1,0 +1,70 @@
+//! Reading a form.
+
+ghost use Rattle.std.specs.Prelude.{◌≡◌, ◌≤◌, IfOk, Ok, Err};
+ghost use Rattle.xf_base.specs.Faults.{Rose};
+ghost use Rattle.xf_machine.specs.Written.{FormGives};
+ghost use Rattle.xf_cli.specs.Reading.{GivesReading, GivesLoaded};
+
+use std::alloc::Global;
+use xf_form::{Form, FormFault, load};
+use xf_io::{Bytes, Source};
+use xf_name::Word;
+
+// The most bytes of a form.
+const FORM_LIMIT: usize = 1_048_576;
+
+/// What comes of reading a form.
+#[derive(Drop)]
+enum Reading {
+    /// All of its bytes, or one more than it may have.
+    All(Bytes),
+    Fault,
+    Memory,
+}
+
+/// What comes of loading a form.
+#[derive(Drop)]
+pub enum Loaded {
+    Form(Form),
+    Refused(u8, Word),
+    Unread,
+    NoRoom,
+}
+
+/// Reads a form and loads it.
+pub fn load_form<F: Source>(alloc: Global, form: &mut F) -> Loaded
+    ensures loaded { GivesLoaded (F.left form.old) result }
+    ensures fault { result ≡ Loaded.Unread → Rose (F.faults form.old) (F.faults form.new) }
+{
+    match read_form(alloc, form) {
+        Reading::All(bytes) => match load(alloc, bytes.as_slice()) {
+            Ok(form) => Loaded::Form(form),
+            Err(FormFault::Refused(number, place)) => Loaded::Refused(number, place),
+            Err(FormFault::Memory) => Loaded::NoRoom,
+        },
+        Reading::Fault => Loaded::Unread,
+        Reading::Memory => Loaded::NoRoom,
+    }
+}
+
+// The bytes of a form, to their end or to the first that is too many.
+fn read_form<F: Source>(alloc: Global, form: &mut F) -> Reading
+    ensures bytes { GivesReading (F.left form.old) (F.left form.new) result }
+    ensures fault { result ≡ Reading.Fault → Rose (F.faults form.old) (F.faults form.new) }
+{
+    let mut bytes = Bytes::new(alloc);
+    let mut buffer = [0u8; 4096];
+    while bytes.len() <= FORM_LIMIT {
+        let room = (FORM_LIMIT + 1 - bytes.len()).min(buffer.len());
+        match form.read(&mut buffer[..room]) {
+            Ok(0) => break,
+            Ok(count) => {
+                if bytes.extend(&buffer[..count]).is_err() {
+                    return Reading::Memory;
+                }
+            }
+            Err(_) => return Reading::Fault,
+        }
+    }
+    Reading::All(bytes)
+}

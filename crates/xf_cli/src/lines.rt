@@ -1,0 +1,84 @@
+//! Answering the lines of the events.
+
+ghost use Rattle.std.specs.Prelude.{◌≡◌, ◌≤◌, ◌<◌, ◌+◌, ◌^◌, OnErr, true};
+ghost use Rattle.std.specs.Io.KnownBytes.{prepend_known, IsAtEnd};
+ghost use Rattle.xf_base.specs.Faults.{Rose};
+ghost use Rattle.xf_io.specs.Lines.{CountsBytes};
+ghost use Rattle.xf_cli.specs.Answering.{NextKnown, Answered, IsReplyOrEnd, Moves};
+
+use crate::output::write_reply;
+use crate::session::Session;
+use std::alloc::{AllocError, Global};
+use xf_io::{Line, Lines, Sink, Source};
+use xf_machine::Ending;
+
+/// The reply to the next line, or how the lines end.
+#[derive(Drop)]
+enum Next {
+    Reply(String),
+    Ends(Ending),
+}
+
+/// Answers the lines of the events, one after the other, each reply written before the next line is read.
+pub fn answer_lines<E: Source, O: Sink>(
+    alloc: Global,
+    session: &mut Session,
+    events: &mut E,
+    out: &mut O,
+) -> Ending
+    requires { session.old.accepted ≡ 0 }
+    ensures answered { Answered result session.old (E.left events.old) (E.left events.new) (O.taken out.old) (O.taken out.new) }
+    ensures read { result ≡ Ending.ReadFault → Rose (E.faults events.old) (E.faults events.new) }
+    ensures written { result ≡ Ending.SinkFault → Rose (O.faults out.old) (O.faults out.new) }
+    ensures later { O.faults out.old ≤ O.faults out.new }
+{
+    let mut lines = Lines::new();
+    loop {
+        match next_reply(alloc, session, &mut lines, events) {
+            Next::Reply(reply) => match write_reply(out, reply.as_bytes()) {
+                Ok(()) => continue,
+                Err(_) => return Ending::SinkFault,
+            },
+            Next::Ends(ending) => return ending,
+        }
+    }
+}
+
+// Reads the next line and does what it asks for.
+fn next_reply<E: Source>(
+    alloc: Global,
+    session: &mut Session,
+    lines: &mut Lines,
+    events: &mut E,
+) -> Next
+    requires few { session.old.accepted < 2 ^ 63 }
+    requires one_source { lines.old.ended ≡ true → IsAtEnd (E.left events.old) }
+    ensures next { NextKnown session.old session.new (prepend_known lines.old.bytes (E.left events.old)) (prepend_known lines.new.bytes (E.left events.new)) lines.new result }
+    ensures counts { CountsBytes (prepend_known lines.old.bytes (E.left events.old)) (prepend_known lines.new.bytes (E.left events.new)) lines.old.given lines.new.given }
+    ensures moves { Moves result lines.old.given lines.new.given }
+    ensures done { lines.old.ended ≡ true → result ≡ Next.Ends Ending.Done }
+    ensures few { session.new.accepted ≤ session.old.accepted + 1 }
+    ensures one_source { lines.new.ended ≡ true → IsAtEnd (E.left events.new) }
+    ensures later { E.faults events.old ≤ E.faults events.new }
+    ensures fault { result ≡ Next.Ends Ending.ReadFault → Rose (E.faults events.old) (E.faults events.new) }
+    ensures no_sink { result ≡ Next.Ends Ending.SinkFault → ⊥ }
+{
+    match lines.next(alloc, events) {
+        Line::Text(line) => reply_or_end(session.answer(alloc, line.as_slice())),
+        Line::TooLong => reply_or_end(String::from_str(alloc, "no E1 LineTooLong\n")),
+        Line::End => Next::Ends(Ending::Done),
+        Line::ReadFault => Next::Ends(Ending::ReadFault),
+        Line::TooMuch => Next::Ends(Ending::TooMuch),
+        Line::Memory => Next::Ends(Ending::Memory),
+    }
+}
+
+// A reply, or the end for want of memory.
+fn reply_or_end(reply: Result<String, AllocError>) -> Next
+    ensures { IsReplyOrEnd reply result }
+{
+    match reply {
+        Ok(reply) => Next::Reply(reply),
+        Err(_) => Next::Ends(Ending::Memory),
+    }
+}

@@ -1,0 +1,3 @@
+mod TornLemmas
+mod CellsLemmas
+mod MemoryLemmas

@@ -1,0 +1,140 @@
+//! What no contract says: the list of calls, what the runtime's files do, and a few images by hand.
+
+use super::*;
+use std::alloc::{AllocError, Global};
+use std::fs;
+use std::test::Fail;
+use xf_io::Failed;
+
+const FOLDER: &str = "xf_disk_test";
+
+// a slot of four bytes, then a write of three at 2: any of the last three may change, and the length is 4 or 5
+fn written(alloc: Global) -> Result<MemoryDisk, AllocError> {
+    let mut disk = MemoryDisk::new(alloc, b"abcd", b"", 8, 16)?;
+    let _ = disk.write(Slot::A, 2, b"xyz");
+    Ok(disk)
+}
+
+#[test]
+fn a_crash_leaves_what_was_synced_and_any_bytes_in_the_ranges(rt: HostRuntime) -> Result<(), Fail> {
+    let alloc = rt.alloc();
+    let disk = written(rt.alloc())?;
+    // the image of slot A, and whether a crash may leave it
+    let cases: [(&[u8], bool); 8] = [
+        (b"abcd", true),
+        (b"abxyz", true),
+        (b"abxy", true),
+        (b"ab??!", true),
+        (b"abc", false),
+        (b"abxyz!", false),
+        (b"Abxyz", false),
+        (b"", false),
+    ];
+    for (image, may) in cases {
+        let left = disk.left_with(alloc, image, b"")?;
+        assert_eq!(rt; left.is_some(), may);
+        if let Some(left) = &left {
+            assert_eq!(rt; left.held(Slot::A), image);
+        }
+        assert!(rt; disk.left_with(alloc, image, b"b")?.is_none());
+    }
+    Ok(())
+}
+
+#[test]
+fn the_filling_takes_each_byte_that_was_written(rt: HostRuntime) -> Result<(), Fail> {
+    let disk = written(rt.alloc())?;
+    // the filling, how far the slot grew, and what stands then
+    let cases: [(Option<u8>, u64, &[u8]); 4] = [
+        (None, 0, b"abxy"),
+        (None, 9, b"abxyz"),
+        (Some(b'!'), 0, b"ab!!"),
+        (Some(b'!'), 1, b"ab!!!"),
+    ];
+    for (fill, grown, image) in cases {
+        let left = disk.after_crash(rt.alloc(), fill, grown)?;
+        assert_eq!(rt; left.held(Slot::A), image);
+        assert!(rt; left.held(Slot::B).is_empty());
+    }
+    Ok(())
+}
+
+#[test]
+fn a_synced_slot_stays_and_the_other_does_not(rt: HostRuntime) -> Result<(), Fail> {
+    let mut disk = written(rt.alloc())?;
+    assert_eq!(rt; disk.write(Slot::B, 0, b"b"), Ok(()));
+    assert_eq!(rt; disk.sync(Slot::A), Ok(()));
+    let left = disk.after_crash(rt.alloc(), Some(b'!'), 0)?;
+    assert_eq!(rt; left.held(Slot::A), b"abxyz".as_slice());
+    assert!(rt; left.held(Slot::B).is_empty());
+    let want = [
+        Call::Write(Slot::A, 2, 3),
+        Call::Write(Slot::B, 0, 1),
+        Call::Sync(Slot::A),
+    ];
+    assert_eq!(rt; disk.calls(), want.as_slice());
+    Ok(())
+}
+
+#[test]
+fn a_call_past_the_room_fails_and_changes_nothing(rt: HostRuntime) -> Result<(), Fail> {
+    let mut disk = MemoryDisk::new(rt.alloc(), b"", b"", 2, 4)?;
+    let mut into = [b'-'; 3];
+    assert_eq!(rt; disk.write(Slot::A, 0, b"abc"), Err(Failed));
+    assert_eq!(rt; disk.write(Slot::A, 0, b"ab"), Ok(()));
+    assert_eq!(rt; disk.read(Slot::A, 1, &mut into), Ok(1));
+    assert_eq!(rt; into, *b"b--");
+    assert_eq!(rt; disk.len(Slot::A), Ok(2));
+    // the list of calls is full
+    assert_eq!(rt; disk.sync(Slot::A), Err(Failed));
+    assert_eq!(rt; disk.held(Slot::A), b"ab".as_slice());
+    Ok(())
+}
+
+#[test]
+fn a_fuse_passes_its_calls_and_no_more(rt: HostRuntime) -> Result<(), Fail> {
+    let inner = MemoryDisk::new(rt.alloc(), b"ab", b"", 8, 8)?;
+    let mut disk = FusedDisk::new(inner, 2);
+    let mut into = [0; 1];
+    assert_eq!(rt; disk.read(Slot::A, 1, &mut into), Ok(1));
+    assert_eq!(rt; disk.len(Slot::B), Ok(0));
+    assert_eq!(rt; disk.write(Slot::B, 0, b"c"), Err(Failed));
+    assert_eq!(rt; disk.sync(Slot::B), Err(Failed));
+    assert_eq!(rt; disk.len(Slot::B), Err(Failed));
+    assert_eq!(rt; disk.read(Slot::B, 0, &mut into), Err(Failed));
+    assert_eq!(rt; disk.disk.calls().len(), 2);
+    Ok(())
+}
+
+#[test]
+fn two_files_are_a_disk(rt: HostRuntime) -> Result<(), Fail> {
+    let _ = fs::remove_dir_all(&rt, FOLDER);
+    fs::create_dir(&rt, FOLDER)?;
+    let mut disk = FileDisk::new(rt.alloc(), &rt, "xf_disk_test/a", "xf_disk_test/b")?;
+    let mut into = [b'-'; 8];
+    assert_eq!(rt; disk.sync(Slot::A), Ok(()));
+    assert_eq!(rt; disk.write(Slot::A, 0, b"abcd"), Ok(()));
+    assert_eq!(rt; disk.write(Slot::A, 2, b"xyz"), Ok(()));
+    assert_eq!(rt; disk.sync(Slot::A), Ok(()));
+    assert_eq!(rt; disk.len(Slot::A), Ok(5));
+    assert_eq!(rt; disk.read(Slot::A, 1, &mut into), Ok(4));
+    assert_eq!(rt; into, *b"bxyz----");
+    assert_eq!(rt; disk.len(Slot::B), Ok(0));
+    assert_eq!(rt;
+        fs::read(&rt, "xf_disk_test/a")?.as_slice(),
+        b"abxyz".as_slice()
+    );
+    // where a file can't be made, each call fails
+    let mut lost = FileDisk::new(
+        rt.alloc(),
+        &rt,
+        "xf_disk_test/none/a",
+        "xf_disk_test/none/b",
+    )?;
+    assert_eq!(rt; lost.len(Slot::A), Err(Failed));
+    assert_eq!(rt; lost.read(Slot::A, 0, &mut into), Err(Failed));
+    assert_eq!(rt; lost.write(Slot::B, 0, b"b"), Err(Failed));
+    assert_eq!(rt; lost.sync(Slot::B), Err(Failed));
+    let _ = fs::remove_dir_all(&rt, FOLDER);
+    Ok(())
+}

@@ -1,0 +1,11 @@
+use Rattle.std.proofs.Common.{◌∙◌, ◌++◌, ◌∷◌, [], ap}
+use Rattle.xf_form.specs.Placed.{placed_all}
+use Rattle.xf_form.proofs.PlacedLemmas.{placed_all-push}
+use Rattle.xf_form.proofs.nodes.Nodes.push.Goals as goal
+
+pub returns-in-Ok : goal.returns-in-Ok
+returns-in-Ok c =
+    ap (λ ns. placed_all ns c.push-2.new.self) c.in_ok-push.ensures.ok
+    ∙ ap (placed_all (c.self.inside.nodes ++ c.args.node ∷ [])) c.in-Ok.ensures.ok
+    ∙ placed_all-push c.self.inside.nodes c.self.inside.routes c.args.node c.args.route c.self.invariant
+    ∙ ap (λ ps. ps ++ record { node = c.args.node; route = c.args.route } ∷ []) c.self.view_is

@@ -1,0 +1,12 @@
+pub mod Placed
+pub mod Index
+pub mod Tally
+pub mod Child
+pub mod Data
+pub mod Vocabulary
+pub mod Parts
+pub mod Piece
+pub mod Routes
+pub mod Assembly
+pub mod Shapes
+pub mod Form

@@ -1,0 +1,36 @@
+//! A form as it is loaded.
+
+use xf_base::Items;
+use xf_name::Word;
+
+/// What stands at a node of the data.
+#[derive(Debug, Drop)]
+pub enum Held {
+    /// An element with element children.
+    Elements,
+    /// The text of an attribute or of an element without element children.
+    Value(Word),
+    /// A text beside elements.
+    Text(Word),
+}
+
+/// A node of the data with its path, as the state prints it.
+#[derive(Debug, Drop)]
+pub struct DataNode {
+    pub path: Word,
+    pub held: Held,
+}
+
+/// An input: its id, and the place of its node in the data, from 0.
+#[derive(Debug, Drop)]
+pub struct Input {
+    pub id: Word,
+    pub node: usize,
+}
+
+/// A form: its data and its inputs, both in document order.
+#[derive(Debug, Drop)]
+pub struct Form {
+    pub data: Items<DataNode>,
+    pub inputs: Items<Input>,
+}

@@ -1,0 +1,21 @@
+//! Loading a form.
+#![tactic(auto)]
+
+mod adding;
+mod assembly;
+mod fault;
+mod form;
+mod index;
+mod loading;
+mod miss;
+mod nodes;
+mod part;
+mod placing;
+mod vocabulary;
+
+pub use fault::FormFault;
+pub use form::{DataNode, Form, Held, Input};
+pub use loading::load;
+
+#[cfg(test)]
+mod tests;

@@ -1,0 +1,6 @@
+use Rattle.xf_graph.proofs.HasLemmas.{contains-has}
+use Rattle.std.proofs.Common.{◌∙◌}
+use Rattle.xf_graph.proofs.vertices.VertexSet.contains.Goals as goal
+
+pub returns : goal.returns
+returns c = rw (← c.self.view_is) (c.contains.ensures ∙ contains-has c.self.inside.set.keys c.args.vertex)

@@ -1,0 +1,13 @@
+mod NumberLemmas
+mod EntryLemmas
+mod TailLemmas
+mod HeaderLemmas
+mod SlotLemmas
+mod HeldLemmas
+mod AppendLemmas
+mod AppendRun
+mod SpliceLemmas
+mod CreateLemmas
+mod NewLemmas
+mod CreateRun
+mod RunLemmas

@@ -1,0 +1,97 @@
+//! Entries: the line of an event with the answers of the store.
+ghost use Rattle.std.specs.Prelude.{◌≡◌, ◌≤◌, ◌++◌, length, OnOk, IfOk, IsTrue};
+ghost use Rattle.xf_journal.specs.Entry.{written_bytes, is_within, entry_in, body_in, body_bytes};
+
+use crate::answers::{answers_in, copy_answers, put_answers};
+use crate::number::{four, from_four};
+use std::alloc::{AllocError, Global};
+use xf_base::Items;
+use xf_io::Bytes;
+use xf_store::Answers;
+
+/// An event that was accepted: its line without the line feed, and what the store answered.
+#[derive(Debug, Drop)]
+pub struct Accepted {
+    pub line: Bytes,
+    pub answers: Answers,
+}
+
+/// The entries of a journal, in order.
+pub type EntryList = Items<Accepted>;
+
+/// An entry that is to be appended.
+#[derive(Debug, Drop)]
+pub struct Entry {
+    pub line: Bytes,
+    pub answers: Answers,
+    /// The length, the entry and a closed gate, as they are written.
+    pub written: Bytes,
+    ghost as_written: { written ≡ written_bytes line answers },
+    ghost within: { IsTrue (is_within line answers) },
+}
+
+/// The most bytes of a line.
+const LINE_MOST: usize = 65536;
+
+/// Takes the memory for an entry with this line and these answers.
+pub fn make_entry(alloc: Global, line: &[u8], answers: &Answers) -> Result<Entry, AllocError>
+    requires { IsTrue (is_within line.now answers.now) }
+    ensures line { IfOk result (λ entry. entry.line ≡ line.now) }
+    ensures answers { IfOk result (λ entry. entry.answers ≡ answers.now) }
+{
+    let mut body = Vec::new(alloc);
+    put_body(&mut body, line, answers)?;
+    let mut written = Vec::with_capacity(alloc, body.len())?;
+    written.extend_from_slice(&four(body.len() as u32))?;
+    written.extend_from_slice(&body)?;
+    written.push(0)?;
+    Ok(Entry {
+        line: Bytes::from_vec(Vec::from_slice(alloc, line)?),
+        answers: copy_answers(alloc, answers)?,
+        written: Bytes::from_vec(written),
+    })
+}
+
+/// Adds the line with its length before it, and the answers.
+fn put_body(bytes: &mut Vec<u8>, line: &[u8], answers: &Answers) -> Result<(), AllocError>
+    requires { IsTrue (is_within line.now answers.now) }
+    ensures { OnOk result (bytes.new.items ≡ bytes.old.items ++ body_bytes line.now answers.now) }
+{
+    bytes.extend_from_slice(&four(line.len() as u32))?;
+    bytes.extend_from_slice(line)?;
+    put_answers(bytes, answers)
+}
+
+/// The line and the answers that these bytes are, if they are an entry's.
+fn body_in(alloc: Global, body: &[u8]) -> Result<Option<Accepted>, AllocError>
+    ensures { IfOk result (λ entry. entry ≡ body_in body.now) }
+{
+    if body.len() < 4 {
+        return Ok(None);
+    }
+    let length = from_four(body) as usize;
+    if length > LINE_MOST || length > body.len() - 4 {
+        return Ok(None);
+    }
+    match answers_in(alloc, &body[4 + length..])? {
+        None => Ok(None),
+        Some(answers) => {
+            let line = Bytes::from_vec(Vec::from_slice(alloc, &body[4..4 + length])?);
+            Ok(Some(Accepted { line, answers }))
+        }
+    }
+}
+
+/// The entry at the front of these bytes, which stand behind a gate.
+pub(crate) fn entry_in(alloc: Global, bytes: &[u8]) -> Result<Option<Accepted>, AllocError>
+    ensures { IfOk result (λ entry. entry ≡ entry_in bytes.now) }
+{
+    if bytes.len() < 4 {
+        return Ok(None);
+    }
+    let length = from_four(bytes) as usize;
+    if length > bytes.len() - 4 {
+        return Ok(None);
+    }
+    body_in(alloc, &bytes[4..4 + length])
+}

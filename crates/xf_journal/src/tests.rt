@@ -1,0 +1,211 @@
+//! The bytes of slots, by hand; the disk calls of an append; and each stop of one `create` and one `append`.
+
+use super::*;
+use std::alloc::{AllocError, Global};
+use std::test::Fail;
+use xf_disk::{Call, Disk, FusedDisk, MemoryDisk, Slot};
+use xf_io::Bytes;
+use xf_store::{Answer, Answers};
+
+const FORM: &[u8; 123] =
+    br#"["f",{"xmlns:xf":"http://www.w3.org/2002/xforms"},["xf:model",["xf:instance",["d","1"]]],["xf:input",{"id":"a","ref":"."}]]"#;
+
+const LINE: &[u8; 18] = br#"["set","a",[],"2"]"#;
+
+// that form under epoch 1, with a base of no answers and the line as its one entry
+const SLOT: &[u8; 175] =
+    b"\x01XFS1\x01\0\0\0\0\0\0\0\x7b\0\0\0\x02\0\0\0[\"f\",{\"xmlns:xf\":\"http://www.w3.org/2002/xforms\"},[\"xf:model\",[\"xf:instance\",[\"d\",\"1\"]]],[\"xf:input\",{\"id\":\"a\",\"ref\":\".\"}]]\0\0\x01\x17\0\0\0\x12\0\0\0[\"set\",\"a\",[],\"2\"]\0\0";
+
+fn image(alloc: Global) -> Result<Image, AllocError> {
+    Ok(Image {
+        form: Bytes::from_vec(Vec::from_slice(alloc, FORM)?),
+        base: Bytes::from_vec(Vec::from_slice(alloc, &[0, 0])?),
+    })
+}
+
+/// What a scan gives, in short: the damage, or the number of entries with the place where they are cut.
+#[derive(Clone, Copy, Debug, PartialEq, Eq)]
+enum Found {
+    Nothing,
+    Damaged(Slot, u64),
+    Entries(u64, Option<u64>),
+    Else,
+}
+
+fn found(alloc: Global, a: &[u8], b: &[u8]) -> Result<Found, AllocError> {
+    let mut disk = MemoryDisk::new(alloc, a, b, 512, 16)?;
+    Ok(match scan(alloc, &mut disk) {
+        Ok(None) => Found::Nothing,
+        Ok(Some(scanned)) => Found::Entries(scanned.journal.count(), scanned.cut),
+        Err(JournalFault::Damaged(slot, at)) => Found::Damaged(slot, at),
+        Err(_) => Found::Else,
+    })
+}
+
+#[test]
+fn a_new_slot_and_one_entry_have_their_bytes(rt: HostRuntime) -> Result<(), Fail> {
+    let alloc = rt.alloc();
+    let image = image(alloc)?;
+    assert!(rt; image.form.len() <= 1 << 20 && image.base.len() <= 2);
+    let mut disk = MemoryDisk::new(alloc, b"", b"", 256, 64)?;
+    let mut journal = create(&mut disk, Slot::A, 1, &image)
+        .ok()
+        .expect(&rt, "room");
+    assert_eq!(rt; disk.held(Slot::A).len(), 147);
+    let calls = disk.calls().len();
+    let entry = make_entry(alloc, LINE, &Answers::new(alloc))?;
+    assert!(rt; entry.written.len() == 28 && journal.used() == 147);
+    assert_eq!(rt; journal.slot(), Slot::A);
+    assert_eq!(rt; journal.append(&mut disk, &entry), Ok(()));
+    let want = [
+        Call::Write(Slot::A, 147, 28),
+        Call::Sync(Slot::A),
+        Call::Write(Slot::A, 146, 1),
+        Call::Sync(Slot::A),
+    ];
+    assert!(rt; calls <= disk.calls().len());
+    assert_eq!(rt; &disk.calls()[calls..], want.as_slice());
+    let bytes = disk.held(Slot::A);
+    assert_eq!(rt; bytes.len(), 175);
+    assert_eq!(rt;
+        &bytes[..21],
+        b"\x01XFS1\x01\0\0\0\0\0\0\0\x7b\0\0\0\x02\0\0\0".as_slice()
+    );
+    assert_eq!(rt; &bytes[21..144], FORM.as_slice());
+    assert_eq!(rt;
+        &bytes[144..155],
+        [0, 0, 1, 23, 0, 0, 0, 18, 0, 0, 0].as_slice()
+    );
+    assert_eq!(rt; &bytes[155..], b"[\"set\",\"a\",[],\"2\"]\0\0".as_slice());
+    assert!(rt; disk.held(Slot::B).is_empty());
+    Ok(())
+}
+
+#[test]
+fn a_slot_that_is_cut_is_damaged_where_it_ends(rt: HostRuntime) -> Result<(), Fail> {
+    // up to how many bytes, and what is found then
+    let cases = [
+        (21, Found::Nothing),
+        (143, Found::Damaged(Slot::A, 13)),
+        (145, Found::Damaged(Slot::A, 17)),
+        (173, Found::Entries(0, Some(146))),
+        (174, Found::Entries(1, Some(174))),
+        (175, Found::Entries(1, None)),
+    ];
+    let mut n = 0;
+    for (end, want) in cases {
+        while n <= end && n <= SLOT.len() {
+            assert_eq!(rt; found(rt.alloc(), &SLOT[..n], b"")?, want, "{n}");
+            n += 1;
+        }
+    }
+    Ok(())
+}
+
+#[test]
+fn a_byte_that_is_changed_is_found(rt: HostRuntime) -> Result<(), Fail> {
+    let alloc = rt.alloc();
+    // an offset of slot A, the byte there, and what is found
+    let cases = [
+        (0, 0, Found::Nothing),
+        (0, 255, Found::Nothing),
+        (1, 0, Found::Damaged(Slot::A, 1)),
+        (4, b'2', Found::Damaged(Slot::A, 1)),
+        (5, 0, Found::Damaged(Slot::A, 5)),
+        (12, 64, Found::Damaged(Slot::A, 5)),
+        (15, 16, Found::Damaged(Slot::A, 13)),
+        (16, 1, Found::Damaged(Slot::A, 13)),
+        (17, 32, Found::Damaged(Slot::A, 17)),
+        (146, 0, Found::Entries(0, None)),
+        (146, 255, Found::Entries(0, None)),
+        (147, 24, Found::Entries(0, Some(146))),
+        (147, 22, Found::Entries(0, Some(146))),
+        (151, 19, Found::Entries(0, Some(146))),
+        (173, 1, Found::Entries(0, Some(146))),
+        (173, 17, Found::Entries(0, Some(146))),
+        (174, 1, Found::Entries(1, Some(174))),
+        (174, 2, Found::Entries(1, None)),
+    ];
+    for (at, byte, want) in cases {
+        let mut slot = *SLOT;
+        assert!(rt; at < slot.len());
+        slot[at] = byte;
+        assert_eq!(rt; found(alloc, &slot, b"")?, want, "{at} {byte}");
+    }
+    Ok(())
+}
+
+#[test]
+fn the_greater_epoch_is_in_use(rt: HostRuntime) -> Result<(), Fail> {
+    let alloc = rt.alloc();
+    // the bytes at 1, 5 and 146 of slot A and of slot B, and what is found
+    let cases = [
+        ([b'X', 1, 1], [b'X', 2, 0], Found::Entries(0, None)),
+        ([b'X', 2, 1], [b'X', 1, 0], Found::Entries(1, None)),
+        ([b'X', 1, 1], [b'X', 1, 0], Found::Damaged(Slot::B, 5)),
+        ([0, 1, 1], [0, 1, 0], Found::Damaged(Slot::B, 5)),
+        ([0, 1, 1], [b'X', 2, 0], Found::Entries(0, None)),
+        ([b'X', 2, 1], [0, 3, 0], Found::Damaged(Slot::B, 1)),
+    ];
+    for (a, b, want) in cases {
+        let mut slots = [*SLOT, *SLOT];
+        for (slot, [tag, epoch, gate]) in slots.iter_mut().zip([a, b]) {
+            slot[1] = tag;
+            slot[5] = epoch;
+            slot[146] = gate;
+        }
+        assert_eq!(rt; found(alloc, &slots[0], &slots[1])?, want);
+    }
+    Ok(())
+}
+
+/// A fill for the bytes that were written since the last sync, and how far a slot may have grown.
+const CRASHES: [(Option<u8>, u64); 8] = [
+    (None, 0),
+    (None, 1 << 26),
+    (Some(0), 0),
+    (Some(0), 1 << 26),
+    (Some(1), 0),
+    (Some(1), 1 << 26),
+    (Some(255), 0),
+    (Some(255), 1 << 26),
+];
+
+/// Makes a journal in slot A, and in it one entry, as far as the calls go. It says how far they went.
+fn run(disk: &mut FusedDisk<MemoryDisk>, image: &Image, entry: &Entry) -> u8 {
+    if image.form.len() > 1 << 20 || image.base.len() > 2 || entry.written.len() > 28 {
+        return 0;
+    }
+    let Ok(mut journal) = create(disk, Slot::A, 1, image) else {
+        return 0;
+    };
+    let stands = disk.disk.held(journal.slot()).len() as u64;
+    if journal.used() > stands || journal.used() > 256 || journal.append(disk, entry).is_err() {
+        return 1;
+    }
+    2
+}
+
+#[test]
+fn each_stop_leaves_what_was_acknowledged(rt: HostRuntime) -> Result<(), Fail> {
+    let alloc = rt.alloc();
+    let image = image(alloc)?;
+    let entry = make_entry(alloc, LINE, &Answers::new(alloc))?;
+    for calls in 0..16u64 {
+        let inner = MemoryDisk::new(alloc, b"", b"", 256, 64)?;
+        let mut disk = FusedDisk::new(inner, calls);
+        let done = run(&mut disk, &image, &entry);
+        for (fill, grown) in CRASHES {
+            let left = disk.disk.after_crash(alloc, fill, grown)?;
+            let now = found(alloc, left.held(Slot::A), left.held(Slot::B))?;
+            let is_right = match now {
+                Found::Nothing => done == 0,
+                Found::Entries(0, None) => done < 2,
+                Found::Entries(1, None) => done > 0,
+                _ => false,
+            };
+            assert!(rt; is_right, "{calls} {done}");
+        }
+    }
+    Ok(())
+}

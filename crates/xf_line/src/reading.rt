@@ -1,0 +1,303 @@
+//! Reading a line.
+
+ghost use Rattle.std.specs.Prelude.{◌≡◌, IfOk, option_map};
+ghost use Rattle.serde_json.specs.View.{view, items_view};
+ghost use Rattle.xf_base.specs.Gives.{Gives};
+ghost use Rattle.xf_line.specs.Json.{json_of};
+ghost use Rattle.xf_line.specs.Line.{rows_in, set_in, activate_in, index_in, send_in, dispatch_in, reset_in, show_in, is_event_name, event_in, asked_in, asked_of, asked_by};
+
+use crate::event::{Asked, Event, RowList};
+use crate::fault::LineFault;
+use serde_json::{Category, Value};
+use std::alloc::{AllocError, Global};
+use xf_base::Items;
+use xf_name::Word;
+
+// The longest name of an event, in bytes.
+const EVENT_NAME_LIMIT: usize = 255;
+
+/// What a line asks for, without the line feed that ends it. It may have any length.
+///
+/// `NotJson` and `NotEvent` say that it asks for nothing, `Memory` that it may be read again.
+#[tactic(auto, unfolding(crate::specs::Line::asked_by))]
+pub fn read_line(alloc: Global, bytes: &[u8]) -> Result<Asked, LineFault>
+    ensures { Gives LineFault.Memory (λ x. x) result (asked_by bytes.now) }
+{
+    let Some(value) = value_of(alloc, bytes)? else {
+        return Err(LineFault::NotJson);
+    };
+    match asked_of(alloc, &value)? {
+        Some(asked) => Ok(asked),
+        None => Err(LineFault::NotEvent),
+    }
+}
+
+// The value that bytes spell, if they spell one.
+fn value_of(alloc: Global, bytes: &[u8]) -> Result<Option<Value>, AllocError>
+    ensures { IfOk result (λ value. option_map view value ≡ json_of bytes.now) }
+{
+    match Value::from_slice(alloc, bytes) {
+        Ok(value) => Ok(Some(value)),
+        Err(e) => match e.classify() {
+            Category::Memory => Err(AllocError),
+            _ => Ok(None),
+        },
+    }
+}
+
+fn asked_of(alloc: Global, value: &Value) -> Result<Option<Asked>, AllocError>
+    ensures { IfOk result (λ asked. asked ≡ asked_of (view value.now)) }
+{
+    let Some(items) = value.as_array() else {
+        return Ok(None);
+    };
+    let [word, rest @ ..] = items.as_slice() else {
+        return Ok(None);
+    };
+    match word.as_str() {
+        Some(word) => asked_in(alloc, word, rest),
+        None => Ok(None),
+    }
+}
+
+// What a word and what stands behind it ask for.
+fn asked_in(alloc: Global, word: &str, rest: &[Value]) -> Result<Option<Asked>, AllocError>
+    ensures { IfOk result (λ asked. asked ≡ asked_in word.now (items_view rest.now)) }
+{
+    if word == "show" {
+        return Ok(show_in(rest));
+    }
+    Ok(event_in(alloc, word, rest)?.map(Asked::Event))
+}
+
+// Nothing stands behind the word.
+fn show_in(rest: &[Value]) -> Option<Asked>
+    ensures { result ≡ show_in (items_view rest.now) }
+{
+    match rest {
+        [] => Some(Asked::Show),
+        _ => None,
+    }
+}
+
+fn event_in(alloc: Global, word: &str, rest: &[Value]) -> Result<Option<Event>, AllocError>
+    ensures { IfOk result (λ event. event ≡ event_in word.now (items_view rest.now)) }
+{
+    match word {
+        "set" => set_in(alloc, rest),
+        "activate" => activate_in(alloc, rest),
+        "index" => index_in(alloc, rest),
+        "send" => send_in(alloc, rest),
+        "dispatch" => dispatch_in(alloc, rest),
+        "reset" => reset_in(alloc, rest),
+        _ => Ok(None),
+    }
+}
+
+// An id, rows and a text.
+fn set_in(alloc: Global, rest: &[Value]) -> Result<Option<Event>, AllocError>
+    ensures { IfOk result (λ event. event ≡ set_in (items_view rest.now)) }
+{
+    let [id, rows, text] = rest else {
+        return Ok(None);
+    };
+    let (Some(id), Some(rows), Some(text)) = (id.as_str(), rows.as_array(), text.as_str()) else {
+        return Ok(None);
+    };
+    match rows_in(alloc, rows)? {
+        Some(rows) => Ok(Some(Event::Set(
+            Word::from_str(alloc, id)?,
+            rows,
+            Word::from_str(alloc, text)?,
+        ))),
+        None => Ok(None),
+    }
+}
+
+// An id and rows.
+fn activate_in(alloc: Global, rest: &[Value]) -> Result<Option<Event>, AllocError>
+    ensures { IfOk result (λ event. event ≡ activate_in (items_view rest.now)) }
+{
+    let [id, rows] = rest else {
+        return Ok(None);
+    };
+    let (Some(id), Some(rows)) = (id.as_str(), rows.as_array()) else {
+        return Ok(None);
+    };
+    match rows_in(alloc, rows)? {
+        Some(rows) => Ok(Some(Event::Activate(Word::from_str(alloc, id)?, rows))),
+        None => Ok(None),
+    }
+}
+
+// An id and a number.
+fn index_in(alloc: Global, rest: &[Value]) -> Result<Option<Event>, AllocError>
+    ensures { IfOk result (λ event. event ≡ index_in (items_view rest.now)) }
+{
+    let [id, index] = rest else {
+        return Ok(None);
+    };
+    let (Some(id), Some(index)) = (id.as_str(), index.as_u64()) else {
+        return Ok(None);
+    };
+    Ok(Some(Event::Index(Word::from_str(alloc, id)?, index)))
+}
+
+// An id.
+fn send_in(alloc: Global, rest: &[Value]) -> Result<Option<Event>, AllocError>
+    ensures { IfOk result (λ event. event ≡ send_in (items_view rest.now)) }
+{
+    let [id] = rest else {
+        return Ok(None);
+    };
+    match id.as_str() {
+        Some(id) => Ok(Some(Event::Send(Word::from_str(alloc, id)?))),
+        None => Ok(None),
+    }
+}
+
+// The name of an event, and an id.
+fn dispatch_in(alloc: Global, rest: &[Value]) -> Result<Option<Event>, AllocError>
+    ensures { IfOk result (λ event. event ≡ dispatch_in (items_view rest.now)) }
+{
+    let [name, id] = rest else {
+        return Ok(None);
+    };
+    let (Some(name), Some(id)) = (name.as_str(), id.as_str()) else {
+        return Ok(None);
+    };
+    if !is_event_name(name) {
+        return Ok(None);
+    }
+    Ok(Some(Event::Dispatch(Word::from_str(alloc, name)?, Word::from_str(alloc, id)?)))
+}
+
+fn is_event_name(name: &str) -> bool
+    ensures { result ≡ is_event_name name.now }
+{
+    1 <= name.len() && name.len() <= EVENT_NAME_LIMIT
+}
+
+// An id.
+fn reset_in(alloc: Global, rest: &[Value]) -> Result<Option<Event>, AllocError>
+    ensures { IfOk result (λ event. event ≡ reset_in (items_view rest.now)) }
+{
+    let [id] = rest else {
+        return Ok(None);
+    };
+    match id.as_str() {
+        Some(id) => Ok(Some(Event::Reset(Word::from_str(alloc, id)?))),
+        None => Ok(None),
+    }
+}
+
+// Whole numbers, if all of the values are.
+fn rows_in(alloc: Global, values: &[Value]) -> Result<Option<RowList>, AllocError>
+    ensures { IfOk result (λ rows. rows ≡ rows_in (items_view values.now)) }
+{
+    let mut rows = Items::new(alloc);
+    for value in values {
+        match value.as_u64() {
+            Some(row) => rows.push(row)?,
+            None => return Ok(None),
+        }
+    }
+    Ok(Some(rows))
+}
+
+#[cfg(test)]
+mod tests {
+    use super::*;
+    use std::test::Fail;
+
+    // What a line asks for, in words.
+    fn told(alloc: Global, line: &[u8]) -> Result<String, AllocError> {
+        let event = match read_line(alloc, line) {
+            Ok(Asked::Event(event)) => event,
+            Ok(Asked::Show) => return "show".to_string(alloc),
+            Err(fault) => return format!(in alloc; "{fault}"),
+        };
+        match event {
+            Event::Set(id, rows, text) => {
+                format!(in alloc;
+                    "set {} {:?} {}",
+                    id.as_str(),
+                    rows.as_slice(),
+                    text.as_str()
+                )
+            }
+            Event::Activate(id, rows) => {
+                format!(in alloc; "activate {} {:?}", id.as_str(), rows.as_slice())
+            }
+            Event::Index(id, index) => format!(in alloc; "index {} {index}", id.as_str()),
+            Event::Send(id) => format!(in alloc; "send {}", id.as_str()),
+            Event::Dispatch(name, id) => {
+                format!(in alloc; "dispatch {} {}", name.as_str(), id.as_str())
+            }
+            Event::Reset(id) => format!(in alloc; "reset {}", id.as_str()),
+        }
+    }
+
+    #[test]
+    fn lines_ask_for_events(rt: HostRuntime) -> Result<(), Fail> {
+        let alloc = rt.alloc();
+        let cases = [
+            (r#"{"#, "not JSON"),
+            (r#""#, "not JSON"),
+            (r#"["show"] ["show"]"#, "not JSON"),
+            (r#"["set"]"#, "not an event"),
+            (r#"["set","a",[],"2"]"#, "set a [] 2"),
+            (r#"["set","q",[1,2],""]"#, "set q [1, 2] "),
+            (r#"["set","q",[1,"2"],""]"#, "not an event"),
+            (r#"["set","a",[],"2","x"]"#, "not an event"),
+            (r#" [ "activate" , "add" , [ 3 ] ] "#, "activate add [3]"),
+            (r#"["activate","add"]"#, "not an event"),
+            (r#"["index","r",0]"#, "index r 0"),
+            (
+                r#"["index","r",18446744073709551615]"#,
+                "index r 18446744073709551615",
+            ),
+            (r#"["index","r",18446744073709551616]"#, "not an event"),
+            (r#"["index","r",1.0]"#, "not an event"),
+            (r#"["index","r",-1]"#, "not an event"),
+            (r#"["index","r",1e999]"#, "not JSON"),
+            (r#"["send","\u0067o"]"#, "send go"),
+            (r#"["dispatch","ping","x"]"#, "dispatch ping x"),
+            (r#"["dispatch","","x"]"#, "not an event"),
+            (r#"["reset",""]"#, "reset "),
+            (r#"["show"]"#, "show"),
+            (r#"["show",1]"#, "not an event"),
+            (r#"["undo"]"#, "not an event"),
+            (r#"{"show":1}"#, "not an event"),
+        ];
+        for (line, want) in cases {
+            assert_eq!(rt; told(alloc, line.as_bytes())?.as_str(), want, "{line}");
+        }
+        assert_eq!(rt; told(alloc, b"[\"send\",\"\xff\"]")?.as_str(), "not JSON");
+        Ok(())
+    }
+
+    #[test]
+    fn names_and_nesting_have_limits(rt: HostRuntime) -> Result<(), Fail> {
+        let alloc = rt.alloc();
+        let cases = [
+            (255, 127, "dispatch", "not an event"),
+            (256, 128, "not an event", "not JSON"),
+        ];
+        for (length, depth, dispatched, nested) in cases {
+            let name = "n".repeat(alloc, length)?;
+            let line = format!(in alloc; "[\"dispatch\",\"{name}\",\"x\"]")?;
+            assert!(rt;
+                told(alloc, line.as_bytes())?.starts_with(dispatched),
+                "{length}"
+            );
+            let line = format!(in alloc;
+                "{}{}",
+                "[".repeat(alloc, depth)?,
+                "]".repeat(alloc, depth)?
+            )?;
+            assert_eq!(rt; told(alloc, line.as_bytes())?.as_str(), nested, "{depth}");
+        }
+        Ok(())
+    }
+}

@@ -1,0 +1,4 @@
+pub mod TextLemmas
+pub mod DigitLemmas
+mod Examples
+pub mod Laws

@@ -1,0 +1,11 @@
+//! Worked runs of the whole program over memory, as tables of tests.
+#![tactic(auto)]
+
+#[cfg(test)]
+mod devices;
+#[cfg(test)]
+mod forms;
+#[cfg(test)]
+mod lines;
+#[cfg(test)]
+mod runs;
