@@ -6,11 +6,11 @@ use Rattle.xf_doc.specs.declared.content.Node.{Node}
 use Rattle.xf_doc.specs.declared.content.Content.{Content}
 use Rattle.xf_doc.specs.declared.content.Content.TheVariants.{Text}
 use Rattle.xf_doc.specs.Forest.{is_attribute, is_element, is_text, below, past}
-use Rattle.xf_doc.specs.Visit.{Visit, is_first, visits}
+use Rattle.xf_doc.specs.Visit.{Visit, has_parent, is_first, visits}
 use Rattle.xf_doc.specs.Plant.{numbered_from}
 use Rattle.xf_doc.specs.Changes.{shifted, contents_in}
 use Rattle.xf_doc.specs.Texts.{at_depth, with_content, with_texts, with_value, valued, with_attribute_text, is_attribute_at}
-use Rattle.xf_doc.specs.Shape.{Texts, is_replaced, is_gone, text_visit, given_visits, visits_in, filled, retexted, has_elements, only_text, erased, shape, shape_of}
+use Rattle.xf_doc.specs.Shape.{Texts, is_replaced, is_gone, text_visit, given_visits, visits_in, is_borne, filled, retexted, has_elements, only_text, erased, shape, shape_of}
 use Rattle.xf_doc.specs.Same.{IsRenumbering, KeepsTexts, renumbered, renumbered_visit}
 use Rattle.xf_doc.proofs.RenumberLaws.{map-cond, any-through, filter-through, visits-renumbered, first-renumbered}
 use Rattle.xf_doc.proofs.RenumberChanges.{below-renumbered, past-renumbered}
@@ -121,15 +121,23 @@ module _ (f : ℕ → ℕ) (same : IsRenumbering f) where
         ∙ ap (λ l. cond (is_element x.content) l []) (given-renumbered x (u x.number))
         ∙ sym (map-cond (map (renumbered_visit f)) (is_element x.content) (given_visits x (u x.number)) [])
 
+    parent-renumbered : (above : List ℕ) → has_parent (map f above) ≡ has_parent above
+    parent-renumbered [] = refl
+    parent-renumbered (n ∷ ns) = refl
+
+    borne-renumbered : (x : Visit) → is_borne (renumbered_visit f x) ≡ is_borne x
+    borne-renumbered x = ap (λ b. is_attribute x.content && b) (parent-renumbered x.above)
+
     filled-renumbered : (given other : Visit → List Visit) → ((x : Visit) → given (renumbered_visit f x) ≡ map (renumbered_visit f) (other x)) → (waiting all : List Visit)
         → filled given (map (renumbered_visit f) waiting) (map (renumbered_visit f) all) ≡ map (renumbered_visit f) (filled other waiting all)
     filled-renumbered given other h waiting [] = refl
     filled-renumbered given other h waiting (x ∷ xs) =
-        ap (λ l. cond (is_attribute x.content) (renumbered_visit f x ∷ l) (map (renumbered_visit f) waiting ++ renumbered_visit f x ∷ filled given (given (renumbered_visit f x)) (map (renumbered_visit f) xs))) (filled-renumbered given other h waiting xs)
-        ∙ ap (λ l. cond (is_attribute x.content) (map (renumbered_visit f) (x ∷ filled other waiting xs)) (map (renumbered_visit f) waiting ++ renumbered_visit f x ∷ filled given l (map (renumbered_visit f) xs))) (h x)
-        ∙ ap (λ l. cond (is_attribute x.content) (map (renumbered_visit f) (x ∷ filled other waiting xs)) (map (renumbered_visit f) waiting ++ renumbered_visit f x ∷ l)) (filled-renumbered given other h (other x) xs)
-        ∙ ap (cond (is_attribute x.content) (map (renumbered_visit f) (x ∷ filled other waiting xs))) (sym (map-append (renumbered_visit f) waiting (x ∷ filled other (other x) xs)))
-        ∙ sym (map-cond (map (renumbered_visit f)) (is_attribute x.content) (x ∷ filled other waiting xs) (waiting ++ x ∷ filled other (other x) xs))
+        ap (λ b. cond b (renumbered_visit f x ∷ filled given (map (renumbered_visit f) waiting) (map (renumbered_visit f) xs)) (map (renumbered_visit f) waiting ++ renumbered_visit f x ∷ filled given (given (renumbered_visit f x)) (map (renumbered_visit f) xs))) (borne-renumbered x)
+        ∙ ap (λ l. cond (is_borne x) (renumbered_visit f x ∷ l) (map (renumbered_visit f) waiting ++ renumbered_visit f x ∷ filled given (given (renumbered_visit f x)) (map (renumbered_visit f) xs))) (filled-renumbered given other h waiting xs)
+        ∙ ap (λ l. cond (is_borne x) (map (renumbered_visit f) (x ∷ filled other waiting xs)) (map (renumbered_visit f) waiting ++ renumbered_visit f x ∷ filled given l (map (renumbered_visit f) xs))) (h x)
+        ∙ ap (λ l. cond (is_borne x) (map (renumbered_visit f) (x ∷ filled other waiting xs)) (map (renumbered_visit f) waiting ++ renumbered_visit f x ∷ l)) (filled-renumbered given other h (other x) xs)
+        ∙ ap (cond (is_borne x) (map (renumbered_visit f) (x ∷ filled other waiting xs))) (sym (map-append (renumbered_visit f) waiting (x ∷ filled other (other x) xs)))
+        ∙ sym (map-cond (map (renumbered_visit f)) (is_borne x) (x ∷ filled other waiting xs) (waiting ++ x ∷ filled other (other x) xs))
 
     pub retexted-renumbered : (t u : Texts) → ((n : ℕ) → t (f n) ≡ u n) → (all : List Visit) → retexted t (map (renumbered_visit f) all) ≡ map (renumbered_visit f) (retexted u all)
     retexted-renumbered t u h all =

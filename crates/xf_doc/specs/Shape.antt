@@ -6,7 +6,7 @@ use Rattle.xf_doc.specs.declared.content.Node.{Node}
 use Rattle.xf_doc.specs.declared.content.Content.{Content}
 use Rattle.xf_doc.specs.declared.content.Content.TheVariants.{Attribute, Text}
 use Rattle.xf_doc.specs.Forest.{is_element, is_attribute, is_text}
-use Rattle.xf_doc.specs.Visit.{Visit, is_first, visits}
+use Rattle.xf_doc.specs.Visit.{Visit, has_parent, is_first, visits}
 
 -- the number that stands for the one text of an element: past every number that a node can have, so that no new number is needed
 abbrev pub text_number : ℕ → ℕ
@@ -36,10 +36,14 @@ given_visits x (Some texts) = map (text_visit x) texts
 abbrev pub visits_in : Texts → Visit → List Visit
 visits_in texts x = if is_element x.content then given_visits x (texts x.number) else []
 
+-- an attribute of the element that stands before it: a detached one has none
+abbrev pub is_borne : Visit → Bool
+is_borne x = is_attribute x.content && has_parent x.above
+
 -- with the visits that are given for an element after its attributes; those in hand wait until the attributes are past
 abbrev pub filled : (Visit → List Visit) → List Visit → List Visit → List Visit
 filled given waiting [] = waiting
-filled given waiting (x ∷ xs) = if is_attribute x.content then x ∷ filled given waiting xs else waiting ++ x ∷ filled given (given x) xs
+filled given waiting (x ∷ xs) = if is_borne x then x ∷ filled given waiting xs else waiting ++ x ∷ filled given (given x) xs
 
 -- with other texts
 abbrev pub retexted : Texts → List Visit → List Visit

@@ -1,5 +1,5 @@
 -- A forest as the list of its visits in document order (XPath 1.0, section 5): each node with its ancestors, the parent first.
-use Rattle.std.specs.Prelude.{ℕ, Bool, false, not, ◌&&◌, List, [], ◌∷◌, map, filter, find, Option, Some, None, nat_lt, ◌==◌, if◌then◌else◌}
+use Rattle.std.specs.Prelude.{ℕ, Bool, true, false, not, ◌&&◌, List, [], ◌∷◌, map, filter, find, Option, Some, None, nat_lt, ◌==◌, if◌then◌else◌}
 use Rattle.std.specs.List.{list_any}
 use Rattle.xf_doc.specs.declared.content.Node.{Node}
 use Rattle.xf_doc.specs.declared.content.Content.{Content}
@@ -34,6 +34,10 @@ visits nodes = visits_from [] nodes
 
 abbrev pub has : ℕ → List ℕ → Bool
 has n ns = list_any (λ m. n == m) ns
+
+abbrev pub has_parent : List ℕ → Bool
+has_parent [] = false
+has_parent (n ∷ ns) = true
 
 abbrev pub is_first : ℕ → List ℕ → Bool
 is_first n [] = false
