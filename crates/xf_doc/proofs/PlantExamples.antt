@@ -156,3 +156,8 @@ a_bare_attribute_in_no_namespace = refl
 a_double_bare_attribute : bare_at 3 0 (record { name = qname 0 0 (codes "k"); text = [] } ∷ record { name = qname 0 0 (codes "k"); text = codes "x" } ∷ []) ≡ Some BadName
 unfolding chars is_xid_start is_xid_continue in_ranges xid_start_ranges xid_continue_ranges
 a_double_bare_attribute = refl
+
+-- such an attribute would be printed as a declaration
+a_bare_attribute_that_would_declare : bare_at 0 0 (record { name = qname 0 0 (codes "xmlns"); text = codes "urn:q" } ∷ []) ≡ Some BadName
+unfolding chars is_xid_start is_xid_continue in_ranges xid_start_ranges xid_continue_ranges
+a_bare_attribute_that_would_declare = refl

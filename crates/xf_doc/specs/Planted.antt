@@ -1,8 +1,8 @@
 -- Literal trees that come into a forest, as detached trees, and why they do not.
-use Rattle.std.specs.Prelude.{ℕ, suc, ◌+◌, Bool, false, not, ◌||◌, List, [], ◌∷◌, ◌++◌, map, flat_map, length, Option, Some, None, is_none, option_map, Result, Err, ◌==◌, if◌then◌else◌}
+use Rattle.std.specs.Prelude.{ℕ, suc, ◌+◌, Bool, true, false, not, ◌||◌, List, [], ◌∷◌, ◌++◌, map, flat_map, length, Option, Some, None, is_none, option_map, Result, Err, ◌==◌, if◌then◌else◌}
 use Rattle.std.specs.List.{list_any}
 use Rattle.xf_name.specs.Bindings.{Bindings, space_number, numbered, xml_number, text_of_space}
-use Rattle.xf_name.specs.Part.{is_part}
+use Rattle.xf_name.specs.Part.{Kind, no_declaration, is_part, kind_of}
 use Rattle.xf_name.specs.Written.{Written, elements_of}
 use Rattle.xf_name.specs.Faults.{name_fault, has_double}
 use Rattle.xf_name.specs.declared.lit.Lit.{Lit}
@@ -16,7 +16,7 @@ use Rattle.xf_doc.specs.declared.content.Content.{Content}
 use Rattle.xf_doc.specs.declared.content.Content.TheVariants.{Element, Attribute}
 use Rattle.xf_doc.specs.declared.fault.TreeFault.{TreeFault}
 use Rattle.xf_doc.specs.declared.fault.TreeFault.TheVariants.{BadName, Prefix}
-use Rattle.xf_doc.specs.Forest.{Forest}
+use Rattle.xf_doc.specs.Forest.{Forest, written}
 use Rattle.xf_doc.specs.Limits.{Limits, passed_by_tree, unless}
 use Rattle.xf_doc.specs.Plant.{Contents, name_for, in_order, at_depth, text_contents, contents_of, numbered_from}
 
@@ -100,9 +100,21 @@ is_bound_element b name = if name.prefix == 0 then (name.space == 0) || not (is_
 abbrev pub is_bound_attribute : Bindings → QName → Bool
 is_bound_attribute b name = if name.prefix == 0 then name.space == 0 else is_bound b name
 
+abbrev pub is_declaration : Kind → Bool
+is_declaration no_declaration = false
+is_declaration kind = true
+
+-- written out, the attribute would declare a namespace: such a name is that of no attribute
+abbrev pub would_declare : Bindings → BareAttribute → Bool
+would_declare b a = is_declaration (kind_of (written (name_for b a.name)))
+
+abbrev pub has_bad_bare : Bindings → QName → List BareAttribute → Bool
+has_bad_bare b name attributes =
+    not (is_part name.local) || list_any (λ a. not (is_part a.name.local) || would_declare b a) attributes || has_double (map (λ a. (a.name.space, a.name.local)) attributes)
+
 abbrev pub bare_fault : Bindings → QName × List BareAttribute → Option TreeFault
 bare_fault b (name, attributes) =
-    if not (is_part name.local) || list_any (λ a. not (is_part a.name.local)) attributes || has_double (map (λ a. (a.name.space, a.name.local)) attributes) then Some BadName
+    if has_bad_bare b name attributes then Some BadName
     else if not (is_bound_element b name) || list_any (λ a. not (is_bound_attribute b a.name)) attributes then Some Prefix
     else None
 
