@@ -7,6 +7,7 @@ use Rattle.xf_doc.specs.Visit.{Visit, visits}
 use Rattle.xf_doc.specs.Shape.{shape, shape_of, with_contents, text_number, has_elements}
 use Rattle.xf_doc.specs.Texts.{with_text}
 use Rattle.xf_doc.specs.StringValue.{string_value}
+use Rattle.xf_doc.specs.Same.{IsSame}
 use Rattle.xf_doc.specs.Examples.{rows, pair_of_instances, node, element, attribute, text, plain}
 
 abbrev keys : List Visit → List ℕ
@@ -53,6 +54,9 @@ a_content_is_the_string_value = refl
 
 an_empty_content_has_no_text : keys (with_contents (λ n. Some []) (visits pair_of_instances.nodes)) ≡ 0 ∷ 1 ∷ 2 ∷ 3 ∷ []
 an_empty_content_has_no_text = refl
+
+the_next_number_does_not_count : IsSame rows (record rows { next = 99 })
+the_next_number_does_not_count = record { by = λ n. n; renumbers = λ a b. refl; texts = λ n. refl; nodes = refl }
 
 -- an element without a text, and a detached attribute behind it
 a_text_stands_before_a_detached_attribute : keys (shape_of (node 0 0 Root ∷ element 1 1 (codes "d") ∷ attribute 2 2 (codes "k") [] ∷ attribute 3 0 (codes "no") [] ∷ [])) ≡ 0 ∷ 1 ∷ 2 ∷ text_number 1 ∷ 3 ∷ []

@@ -24,4 +24,6 @@ renumbered_visit f x = record { number = f x.number; above = map f x.above; cont
 pub record IsSame (first second : Forest) : Type 0 where
   pub by : ℕ → ℕ
   pub renumbers : IsRenumbering by
+  -- so that shapes go with it too
+  pub texts : KeepsTexts by
   pub nodes : map (renumbered by) first.nodes ≡ second.nodes
