@@ -1,15 +1,15 @@
 -- Changes of small forests: roots, copies, trees detached and attached, and limits at their edges.
 use Rattle.std.proofs.Common.{◌≡◌, false, [], ◌∷◌, ◌++◌, map, take, Some, None, Ok, Err, inr, refl}
 use Rattle.std.specs.Prelude.{ℕ, List, codes}
-use Rattle.xf_doc.specs.declared.content.Content.TheVariants.{Root, Element}
+use Rattle.xf_doc.specs.declared.content.Content.TheVariants.{Root, Element, Attribute}
 use Rattle.xf_doc.specs.declared.fault.TreeFault.TheVariants.{Nodes, AllText, Depth}
 use Rattle.xf_doc.specs.Forest.{Forest}
 use Rattle.xf_doc.specs.Visit.{visits, children_of}
 use Rattle.xf_doc.specs.Limits.{Limits, node_count, all_size}
-use Rattle.xf_doc.specs.Changes.{with_root, root_of, copied, standing, detached, attached, in_instances}
+use Rattle.xf_doc.specs.Changes.{with_root, root_of, copied, standing, detached, placed, attached, in_instances}
 use Rattle.xf_doc.specs.Needs.{MayCopy, MayRoot, MayDetach, MayAttach, in_element, as_attribute, lacks_name, MayDropFrom}
 use Rattle.xf_doc.specs.WellFormed.{IsForest}
-use Rattle.xf_doc.specs.Examples.{rows, pair_of_instances, just, wide, node, element, attribute, text, of_p}
+use Rattle.xf_doc.specs.Examples.{rows, pair_of_instances, just, wide, node, element, attribute, text, of_p, qname}
 
 -- the depths beside the numbers
 abbrev outline : Forest → List (ℕ × ℕ)
@@ -135,6 +135,19 @@ a_detached_element_may_stand_below_another = record { detached = refl; outside =
 
 an_attribute_of_a_new_name_may_be_attached : MayAttach 4 0 0 (in_line (codes "c"))
 an_attribute_of_a_new_name_may_be_attached = record { detached = refl; outside = refl; stands = as_attribute refl refl refl }
+
+-- two attributes that are written alike and mean two names: no form has both, but a forest knows no form
+abbrev alike : Forest
+alike = record { nodes = element 0 0 (codes "e") ∷ attribute 1 1 (codes "b") [] ∷ node 2 0 (Attribute (record { meaning = qname 2 0 (codes "b"); prefix = [] }) []) ∷ []; next = 3 }
+
+alike_is_a_forest : IsForest alike
+alike_is_a_forest = record { apart = refl; below = refl; depths = refl; ordered = refl; single = refl; roots = refl; documents = refl }
+
+an_attribute_written_alike_may_be_attached : MayAttach 2 0 0 alike
+an_attribute_written_alike_may_be_attached = record { detached = refl; outside = refl; stands = as_attribute refl refl refl }
+
+what_may_be_attached_leaves_a_forest : IsForest (placed 2 0 0 alike)
+what_may_be_attached_leaves_a_forest = record { apart = refl; below = refl; depths = refl; ordered = refl; single = refl; roots = refl; documents = refl }
 
 an_attribute_of_a_name_that_stands_may_not : lacks_name 4 0 (in_line (codes "b")) ≡ false
 an_attribute_of_a_name_that_stands_may_not = refl

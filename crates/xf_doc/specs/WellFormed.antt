@@ -39,9 +39,9 @@ are_depths nodes = are_depths_from 0 nodes
 
 abbrev pub comes_after : Node → Node → Bool
 comes_after x y =
-    (is_element x.content && (suc x.depth == y.depth)) || (is_attribute x.content && (x.depth == y.depth) && is_less (written_of x.content) (written_of y.content))
+    (is_element x.content && (suc x.depth == y.depth)) || (is_attribute x.content && (x.depth == y.depth) && not (is_less (written_of y.content) (written_of x.content)))
 
--- an attribute stands right after its element or after an attribute whose written name is less; a detached one is a top
+-- an attribute stands right after its element or after an attribute whose written name is not greater; a detached one is a top
 abbrev pub may_follow : Node → Node → Bool
 may_follow x y = not (is_attribute y.content) || (y.depth == 0) || comes_after x y
 
