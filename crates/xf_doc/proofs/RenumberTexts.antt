@@ -1,5 +1,5 @@
 -- Texts, shapes and new nodes go with a renumbering: new nodes take the next numbers in both forests.
-use Rattle.std.proofs.Common.{◌≡◌, ℕ, suc, ◌+◌, ◌==◌, not, cond, ◌&&◌, List, [], ◌∷◌, ◌++◌, map, Option, Some, None, is_some, refl, sym, ap, ◌∙◌, arith}
+use Rattle.std.proofs.Common.{◌≡◌, ℕ, suc, ◌+◌, ◌<◌, ◌==◌, not, cond, ◌&&◌, List, [], ◌∷◌, ◌++◌, map, length, Option, Some, None, is_some, refl, sym, ap, ◌∙◌, arith}
 use Rattle.std.specs.Prelude.{filter}
 use Rattle.std.proofs.lemmas.List.{map-append}
 use Rattle.xf_doc.specs.declared.content.Node.{Node}
@@ -15,22 +15,25 @@ use Rattle.xf_doc.specs.Same.{IsRenumbering, KeepsTexts, renumbered, renumbered_
 use Rattle.xf_doc.proofs.RenumberLaws.{map-cond, any-through, filter-through, visits-renumbered, first-renumbered}
 use Rattle.xf_doc.proofs.RenumberChanges.{below-renumbered, past-renumbered}
 
--- from these two numbers on, new nodes of one forest are those of the other
-abbrev pub Continues : (ℕ → ℕ) → ℕ → ℕ → Type 0
-Continues f next other = (k : ℕ) → f (next + k) ≡ other + k
+-- so many next numbers of one forest are those of the other; of all numbers past them nothing is asked, since those of the texts in
+-- shapes go with their elements
+abbrev pub Continues : (ℕ → ℕ) → ℕ → ℕ → ℕ → Type 0
+Continues f next other count = (k : ℕ) → k < count → f (next + k) ≡ other + k
 
-later : (f : ℕ → ℕ) (next other : ℕ) → Continues f next other → Continues f (suc next) (suc other)
-later f next other h k =
+later : (f : ℕ → ℕ) (next other count : ℕ) → Continues f next other (suc count) → Continues f (suc next) (suc other) count
+later f next other count h k less =
     let one : suc next + k ≡ next + suc k = omega arith in
     let two : other + suc k ≡ suc other + k = omega arith in
-    ap f one ∙ h (suc k) ∙ two
+    let more : suc k < suc count = omega (arith, less) in
+    ap f one ∙ h (suc k) more ∙ two
 
-pub numbered-renumbered : (f : ℕ → ℕ) (next other : ℕ) → Continues f next other → (contents : List (ℕ × Content)) → map (renumbered f) (numbered_from next contents) ≡ numbered_from other contents
-numbered-renumbered f next other h [] = refl
-numbered-renumbered f next other h (c ∷ cs) =
-    let first : f next ≡ other = ap f (plain next) ∙ h 0 ∙ sym (plain other) in
+pub numbered-renumbered : (f : ℕ → ℕ) (next other : ℕ) (contents : List (ℕ × Content)) → Continues f next other (length contents) → map (renumbered f) (numbered_from next contents) ≡ numbered_from other contents
+numbered-renumbered f next other [] h = refl
+numbered-renumbered f next other (c ∷ cs) h =
+    let less : 0 < suc (length cs) = omega arith in
+    let first : f next ≡ other = ap f (plain next) ∙ h 0 less ∙ sym (plain other) in
     ap (λ n. record { number = n; depth = c.0; content = c.1 } ∷ map (renumbered f) (numbered_from (suc next) cs)) first
-    ∙ ap (λ l. record { number = other; depth = c.0; content = c.1 } ∷ l) (numbered-renumbered f (suc next) (suc other) (later f next other h) cs)
+    ∙ ap (λ l. record { number = other; depth = c.0; content = c.1 } ∷ l) (numbered-renumbered f (suc next) (suc other) cs (later f next other (length cs) h))
   where
     plain : (n : ℕ) → n ≡ n + 0
     plain n = omega arith
