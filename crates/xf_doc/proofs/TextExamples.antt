@@ -80,7 +80,10 @@ what_is_new_goes = refl
 a_text_at_its_limit : text_set (record just { all = 21 }) 2 (codes "9") keeping ≡ Ok (element_texts (5 ∷ []), with_new)
 a_text_at_its_limit = refl
 
-one_node_too_many : text_set (record just { nodes = 12 }) 2 (codes "9") keeping ≡ Err Nodes
+kept_texts_do_not_count : text_set just 2 (codes "9") with_none ≡ Ok (element_texts [], record with_new { kept = with_none.kept })
+kept_texts_do_not_count = refl
+
+one_node_too_many : text_set (record just { nodes = 12; text = 0; all = 0 }) 2 (codes "9") keeping ≡ Err Nodes
 one_node_too_many = refl
 
 one_byte_too_long : text_set (record just { all = 0 }) 2 (codes "99") keeping ≡ Err NodeText
@@ -119,8 +122,18 @@ the_first_content_is_kept_alone : text_filled (element_texts (14 ∷ [])) (recor
     ≡ (record { entries = set 2 (element_texts (5 ∷ [])) ∷ []; next = 14 }, once)
 the_first_content_is_kept_alone = refl
 
-a_change_of_children_parts_two_settings : (text_filled (element_texts (14 ∷ [])) (record { entries = noted (of_text 2) ∷ cut 4 2 1 ∷ set 2 (element_texts (5 ∷ [])) ∷ []; next = 14 }) twice).1 ≡ twice
+a_change_of_children_parts_two_settings : (text_filled (element_texts (14 ∷ [])) (record { entries = noted (of_text 2) ∷ cut 7 2 0 ∷ set 2 (element_texts (5 ∷ [])) ∷ []; next = 14 }) twice).1 ≡ twice
 a_change_of_children_parts_two_settings = refl
+
+an_attribute_parts_no_settings : (text_filled (element_texts (14 ∷ [])) (record { entries = noted (of_text 2) ∷ cut 4 2 1 ∷ joined 3 ∷ set 2 (element_texts (5 ∷ [])) ∷ []; next = 14 }) twice).1 ≡ once
+an_attribute_parts_no_settings = refl
+
+an_attribute_goes_back : rolled_back (record { entries = cut 3 2 0 ∷ []; next = 14 }) (record instances { forest = detached 3 instances.forest }) ≡ instances
+an_attribute_goes_back = refl
+
+-- the first a is detached, then the second one: its place is what it was without the first
+the_last_change_is_undone_first : rolled_back (record { entries = cut 10 6 1 ∷ cut 7 6 0 ∷ []; next = 14 }) (record instances { forest = detached 10 (detached 7 instances.forest) }) ≡ instances
+the_last_change_is_undone_first = refl
 
 a_place_is_filled_in : place_filled 1 1 (with_note (of_detach 6) (kept_at rows)) ≡ record { entries = cut 6 1 1 ∷ []; next = 14 }
 a_place_is_filled_in = refl

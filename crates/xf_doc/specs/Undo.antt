@@ -1,9 +1,9 @@
 -- Changes undone: what is noted of each change, and the forest that it gives back.
-use Rattle.std.specs.Prelude.{ℕ, Bool, false, ◌||◌, List, [], ◌∷◌, ◌==◌, if◌then◌else◌}
+use Rattle.std.specs.Prelude.{ℕ, Bool, false, not, ◌&&◌, ◌||◌, List, [], ◌∷◌, ◌==◌, if◌then◌else◌}
 use Rattle.xf_doc.specs.Forest.{Forest}
-use Rattle.xf_doc.specs.Visit.{visits, is_first, ancestors_of}
+use Rattle.xf_doc.specs.Visit.{visits, has, children_of}
 use Rattle.xf_doc.specs.Changes.{detached, placed}
-use Rattle.xf_doc.specs.Texts.{Keeping, Before, put_back, given_up, without_from}
+use Rattle.xf_doc.specs.Texts.{Keeping, Before, is_attribute_at, put_back, given_up, without_from}
 
 -- a change that is about to be made: a text set, a tree attached, a tree detached, each by its node
 pub data Change : Type 0 where
@@ -35,12 +35,12 @@ with_note change l = record l { entries = noted change ∷ l.entries }
 
 -- ---- the last entry is filled
 
--- a change since the text of this node was set that its children do not outlast
+-- a child of this node came or went; an attribute is none, and texts are set and put back beside attributes
 abbrev pub is_of_child : ℕ → Keeping → Entry → Bool
 is_of_child n k (noted change) = false
 is_of_child n k (set m before) = false
-is_of_child n k (joined m) = is_first n (ancestors_of m (visits k.forest.nodes))
-is_of_child n k (cut m parent place) = parent == n
+is_of_child n k (joined m) = has m (children_of n (visits k.forest.nodes))
+is_of_child n k (cut m parent place) = (parent == n) && not (is_attribute_at m k.forest.nodes)
 
 abbrev pub is_set_of : ℕ → Entry → Bool
 is_set_of n (set m before) = m == n
