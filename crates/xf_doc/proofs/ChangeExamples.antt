@@ -7,7 +7,7 @@ use Rattle.xf_doc.specs.Forest.{Forest}
 use Rattle.xf_doc.specs.Visit.{visits, children_of}
 use Rattle.xf_doc.specs.Limits.{Limits, node_count, all_size}
 use Rattle.xf_doc.specs.Changes.{with_root, root_of, copied, standing, detached, placed, attached, in_instances}
-use Rattle.xf_doc.specs.Needs.{MayCopy, MayRoot, MayDetach, MayAttach, in_element, as_attribute, lacks_name, MayDropFrom}
+use Rattle.xf_doc.specs.Needs.{MayCopy, MayRoot, MayDetach, MayAttach, in_element, in_root, as_attribute, lacks_name, MayDropFrom}
 use Rattle.xf_doc.specs.WellFormed.{IsForest}
 use Rattle.xf_doc.specs.Examples.{rows, pair_of_instances, just, wide, node, element, attribute, text, of_p, qname}
 
@@ -54,6 +54,9 @@ a_top_stands_below_nothing = refl
 a_forest_stays_one : IsForest (detached 6 rows)
 a_forest_stays_one = record { apart = refl; below = refl; depths = refl; ordered = refl; single = refl; roots = refl; documents = refl }
 
+a_tree_cut_out_of_a_detached_one_stands_last : outline (detached 4 (record { nodes = element 3 0 (codes "d") ∷ element 4 1 (codes "a") ∷ text 5 1 (codes "x") ∷ element 6 0 (codes "b") ∷ []; next = 7 })) ≡ (3, 0) ∷ (5, 1) ∷ (6, 0) ∷ (4, 0) ∷ []
+a_tree_cut_out_of_a_detached_one_stands_last = refl
+
 -- ---- attach
 
 attached_in_the_middle : attached wide 12 6 1 rows ≡ Ok (record {
@@ -86,6 +89,21 @@ a_last_attribute_stands_before_the_children = refl
 detached_and_attached_again : attached wide 6 1 1 (detached 6 (record rows { nodes = in_instances rows.nodes })) ≡ Ok (record rows { nodes = in_instances rows.nodes })
 detached_and_attached_again = refl
 
+-- the element of the first instance makes room for a detached one
+abbrev replaced : Forest
+replaced = record { nodes = (detached 1 pair_of_instances).nodes ++ element 5 0 (codes "c") ∷ []; next = 6 }
+
+a_root_without_an_element_is_in_a_forest : IsForest replaced
+a_root_without_an_element_is_in_a_forest = record { apart = refl; below = refl; depths = refl; ordered = refl; single = refl; roots = refl; documents = refl }
+
+an_element_may_be_attached_to_such_a_root : MayAttach 5 0 0 replaced
+an_element_may_be_attached_to_such_a_root = record { detached = refl; outside = refl; stands = in_root refl refl refl refl }
+
+an_element_is_attached_to_its_root : attached (record wide { depth = 1 }) 5 0 0 replaced ≡ Ok (record {
+    nodes = node 0 0 Root ∷ element 5 1 (codes "c") ∷ node 2 0 Root ∷ element 3 1 (codes "b") ∷ text 4 2 (codes "x") ∷ element 1 0 (codes "a") ∷ []; next = 6
+  })
+an_element_is_attached_to_its_root = refl
+
 -- ---- copies
 
 a_copy_has_new_numbers : copied wide 6 (record rows { next = 20 }) ≡ Ok (20, record {
@@ -96,6 +114,9 @@ a_copy_has_new_numbers = refl
 
 a_copy_of_an_attribute : copied wide 3 rows ≡ Ok (14, record { nodes = rows.nodes ++ attribute 14 0 (codes "k") (codes "x") ∷ []; next = 15 })
 a_copy_of_an_attribute = refl
+
+a_copy_of_a_text : copied wide 5 rows ≡ Ok (14, record { nodes = rows.nodes ++ text 14 0 (codes "1") ∷ []; next = 15 })
+a_copy_of_a_text = refl
 
 -- ---- limits
 

@@ -1,8 +1,10 @@
 -- The definitions on small forests: what stands where, string values, order, axes and paths.
-use Rattle.std.proofs.Common.{◌≡◌, true, false, [], ◌∷◌, Some, None, refl}
+use Rattle.std.proofs.Common.{◌≡◌, true, false, List, [], ◌∷◌, Some, None, refl}
 use Rattle.std.specs.Prelude.{codes}
 use Rattle.std.specs.Fmt.{digits}
 use Rattle.xf_name.specs.declared.axis.Axis.TheVariants as axis
+use Rattle.xf_doc.specs.declared.content.Node.{Node}
+use Rattle.xf_doc.specs.declared.content.Content.TheVariants.{Root, Element, Attribute}
 use Rattle.xf_doc.specs.declared.content.Kind.TheVariants as kind
 use Rattle.xf_doc.specs.Forest.{written, tree_of, kind_at, name_at}
 use Rattle.xf_doc.specs.Visit.{visits, numbers, ancestors_of, parent_of, top_of, children_of, attributes_of}
@@ -10,8 +12,8 @@ use Rattle.xf_doc.specs.StringValue.{string_value, string_value_within}
 use Rattle.xf_doc.specs.Order.{is_before}
 use Rattle.xf_doc.specs.Axis.{axis_of}
 use Rattle.xf_doc.specs.Path.{path_of}
-use Rattle.xf_doc.specs.WellFormed.{IsForest}
-use Rattle.xf_doc.specs.Examples.{rows, pair_of_instances, of_p, qname}
+use Rattle.xf_doc.specs.WellFormed.{IsForest, are_depths, are_in_order, are_single, are_roots_first}
+use Rattle.xf_doc.specs.Examples.{rows, pair_of_instances, node, element, attribute, text, of_p, qname}
 
 -- ---- what stands where
 
@@ -65,6 +67,19 @@ rows_is_a_forest = record { apart = refl; below = refl; depths = refl; ordered =
 
 instances_are_a_forest : IsForest pair_of_instances
 instances_are_a_forest = record { apart = refl; below = refl; depths = refl; ordered = refl; single = refl; roots = refl; documents = refl }
+
+an_attribute_behind_a_text_is_out_of_place : are_in_order (element 0 0 (codes "d") ∷ text 1 1 (codes "x") ∷ attribute 2 1 (codes "k") [] ∷ []) ≡ false
+an_attribute_behind_a_text_is_out_of_place = refl
+
+nothing_stands_below_an_attribute : are_depths (element 0 0 (codes "d") ∷ attribute 1 1 (codes "k") [] ∷ text 2 2 (codes "x") ∷ []) ≡ false
+nothing_stands_below_an_attribute = refl
+
+no_root_stands_behind_a_detached_tree : are_roots_first false (element 0 0 (codes "d") ∷ node 1 0 Root ∷ []) ≡ false
+no_root_stands_behind_a_detached_tree = refl
+
+two_prefixes_of_one_namespace_make_one_name : are_single (visits (element 0 0 (codes "d")
+    ∷ node 1 1 (Attribute (of_p (codes "k")) []) ∷ node 2 1 (Attribute (record { meaning = qname 1 2 (codes "k"); prefix = codes "r" }) []) ∷ [])) ≡ false
+two_prefixes_of_one_namespace_make_one_name = refl
 
 -- ---- string values
 
@@ -162,6 +177,22 @@ a_text_counts_texts_alone = refl
 a_detached_path_starts_at_its_top : path_of 13 (visits rows.nodes) ≡ codes "/p:e/text()[1]"
 unfolding digits
 a_detached_path_starts_at_its_top = refl
+
+-- ["d",["a"],["a",{"xmlns":"urn:q"}],["p:a"]], and a detached attribute
+abbrev written_alike : List Node
+written_alike =
+    node 0 0 Root ∷ element 1 1 (codes "d") ∷ element 2 2 (codes "a") ∷ node 3 2 (Element (record { meaning = qname 2 0 (codes "a"); prefix = [] }))
+    ∷ node 4 2 (Element (of_p (codes "a"))) ∷ attribute 5 0 (codes "k") [] ∷ []
+
+namesakes_are_written_alike : path_of 3 (visits written_alike) ≡ codes "/d/a[2]"
+unfolding digits
+namesakes_are_written_alike = refl
+
+a_prefix_makes_another_name : path_of 4 (visits written_alike) ≡ codes "/d/p:a"
+a_prefix_makes_another_name = refl
+
+path_of_a_detached_attribute : path_of 5 (visits written_alike) ≡ codes "/@k"
+path_of_a_detached_attribute = refl
 
 path_of_a_root : path_of 0 (visits rows.nodes) ≡ codes "/"
 path_of_a_root = refl

@@ -45,6 +45,12 @@ a_default_namespace_is_that_of_elements : lit_element (codes "a") (pair (codes "
 unfolding chars is_xid_start is_xid_continue in_ranges xid_start_ranges xid_continue_ranges
 a_default_namespace_is_that_of_elements = refl
 
+-- the one that is in force above reaches what has no prefix, and one declared beside a prefix what is below it
+a_default_is_in_force_below : lit_element (codes "a") [] (lit_element (codes "p:b") (pair (codes "xmlns") (codes "urn:p") ∷ []) (lit_element (codes "c") [] [] ∷ []) ∷ []) 2 0
+    ≡ (0, Element (record { meaning = qname 2 0 (codes "a"); prefix = [] })) ∷ (1, Element (of_p (codes "b"))) ∷ (2, Element (record { meaning = qname 1 0 (codes "c"); prefix = [] })) ∷ []
+unfolding chars is_xid_start is_xid_continue in_ranges xid_start_ranges xid_continue_ranges
+a_default_is_in_force_below = refl
+
 an_empty_default_is_none : lit_element (codes "a") (pair (codes "xmlns") [] ∷ []) [] 2 0 ≡ (0, Element (plain (codes "a"))) ∷ []
 unfolding chars is_xid_start is_xid_continue in_ranges xid_start_ranges xid_continue_ranges
 an_empty_default_is_none = refl
