@@ -1,0 +1,106 @@
+//! Nodes of a forest, and lists of them.
+
+ghost use Rattle.std.specs.Prelude.{◌≡◌, ◌==◌, ◌<◌, ◌↔◌, [], ◌∷◌, ◌++◌, length, IsTrue, OnOk, OnErr, slice_get, option_map, position, Some};
+ghost use Rattle.std.specs.List.{list_any};
+
+use std::alloc::{AllocError, Global};
+use std::marker::Model;
+
+/// A node of a forest. Its number is never given to another; the place is a hint of whoever keeps the forest.
+#[derive(Clone, Copy, Debug)]
+pub struct NodeId {
+    pub number: u128,
+    pub place: usize,
+}
+
+impl NodeId {
+    /// Whether both are the same node.
+    pub fn is_same(self, other: NodeId) -> bool
+        ensures { result ≡ (self.number == other.number) }
+    {
+        self.number == other.number
+    }
+}
+
+/// Nodes, which contracts see as the list of their numbers.
+#[derive(Debug, Drop)]
+pub struct NodeList {
+    nodes: Vec<NodeId>,
+}
+
+impl Model for NodeList {
+    ghost use Rattle.std.specs.Prelude.{ℕ, List, map};
+
+    ghost Value = { List ℕ };
+
+    ghost view = { λ l. map (λ n. n.number) l.nodes.items };
+}
+
+impl NodeList {
+    pub fn new(alloc: Global) -> Self
+        ensures { result ≡ [] }
+    {
+        NodeList {
+            nodes: Vec::new(alloc),
+        }
+    }
+
+    pub fn len(&self) -> usize
+        ensures { result ≡ length self.now }
+    {
+        self.nodes.len()
+    }
+
+    pub fn is_empty(&self) -> bool
+        ensures { IsTrue result ↔ (self.now ≡ []) }
+    {
+        self.nodes.is_empty()
+    }
+
+    pub fn has(&self, node: NodeId) -> bool
+        ensures { result ≡ list_any (λ n. n == node.number) self.now }
+    {
+        has_number(&self.nodes, node.number)
+    }
+
+    /// The place of the node, from 0.
+    pub fn position(&self, node: NodeId) -> Option<usize>
+        ensures { result ≡ position (λ n. n == node.number) self.now }
+    {
+        position_of(&self.nodes, node.number)
+    }
+
+    /// The node at a place that the caller knows to be there.
+    pub fn at(&self, at: usize) -> NodeId
+        requires { at < length self.now }
+        ensures { slice_get self.now at ≡ Some result.number }
+    {
+        self.nodes[at]
+    }
+
+    pub fn get(&self, at: usize) -> Option<NodeId>
+        ensures { option_map (λ n. n.number) result ≡ slice_get self.now at }
+    {
+        self.nodes.get(at).copied()
+    }
+
+    pub fn push(&mut self, node: NodeId) -> Result<(), AllocError>
+        ensures ok { OnOk result (self.new ≡ self.old ++ node.number ∷ []) }
+        ensures err { OnErr result (self.new ≡ self.old) }
+    {
+        self.nodes.push(node)?;
+        Ok(())
+    }
+}
+
+fn has_number(nodes: &[NodeId], number: u128) -> bool
+    ensures { result ≡ list_any (λ n. n.number == number) nodes.now }
+{
+    nodes.iter().any(|node| node.number == number)
+}
+
+fn position_of(nodes: &[NodeId], number: u128) -> Option<usize>
+    ensures { result ≡ position (λ n. n.number == number) nodes.now }
+{
+    nodes.iter().position(|node| node.number == number)
+}
