@@ -85,8 +85,8 @@ absent-filter m p (x ∷ xs) e =
     let parts = or-false (x.number == m) (has_number m xs) e in
     let rest = absent-filter m p xs parts.1 in
     elim (cases_Bool (p x)) [
-      inl q ↦ rw q (rw (turned m x.number ∙ parts.0, rest) refl)
-    | inr q ↦ rw q rest
+      | inl q ↦ rw q (rw (turned m x.number ∙ parts.0, rest) refl)
+      | inr q ↦ rw q rest
     ]
 
 absent-below : (m d : ℕ) (xs : List Node) → has_number m xs ≡ false → has_number m (below d xs) ≡ false
@@ -104,8 +104,8 @@ absent-tree m n [] e = refl
 absent-tree m n (x ∷ xs) e =
     let parts = or-false (x.number == m) (has_number m xs) e in
     elim (cases_Bool (x.number == n)) [
-      inl q ↦ subst (λ l. has_number m l ≡ false) (sym (tree-here n x xs q)) (rw (parts.0, absent-below m x.depth xs parts.1) refl)
-    | inr q ↦ subst (λ l. has_number m l ≡ false) (sym (tree-other n x xs q)) (absent-tree m n xs parts.1)
+      | inl q ↦ subst (λ l. has_number m l ≡ false) (sym (tree-here n x xs q)) (rw (parts.0, absent-below m x.depth xs parts.1) refl)
+      | inr q ↦ subst (λ l. has_number m l ≡ false) (sym (tree-other n x xs q)) (absent-tree m n xs parts.1)
     ]
 
 -- no kept text stands in the forest
@@ -162,18 +162,19 @@ attribute-back : (n : ℕ) (text : List ℕ) (nodes : List Node) → are_apart n
 attribute-back n text [] apart h = refl
 attribute-back n text (x ∷ xs) apart h =
     elim (cases_Bool (x.number == n)) [
-      inl e ↦
-        let k = first-attribute n x xs apart e h in
-        subst (λ l. with_attribute_text n (value_in l) (with_attribute_text n text (x ∷ xs)) ≡ x ∷ xs) (sym (tree-here n x xs e))
+      | inl e ↦
+          let k = first-attribute n x xs apart e h in
+          subst (λ l. with_attribute_text n (value_in l) (with_attribute_text n text (x ∷ xs)) ≡ x ∷ xs) (sym (tree-here n x xs e))
           (here e k.0 (untouched n (own_text x.content) text xs k.1))
-    | inr e ↦
-        subst (λ l. with_attribute_text n (value_in l) (with_attribute_text n text (x ∷ xs)) ≡ x ∷ xs) (sym (tree-other n x xs e))
+      | inr e ↦
+          subst (λ l. with_attribute_text n (value_in l) (with_attribute_text n text (x ∷ xs)) ≡ x ∷ xs) (sym (tree-other n x xs e))
           (there e (attribute-back n text xs (and-true (not (has_number x.number xs)) (are_apart xs) apart).1 (rw e at h)))
     ]
   where
     here : (x.number == n) ≡ true → is_attribute x.content ≡ true → with_attribute_text n (own_text x.content) (with_attribute_text n text xs) ≡ xs
         → with_attribute_text n (own_text x.content) (with_attribute_text n text (x ∷ xs)) ≡ x ∷ xs
     here e a r = rw e (rw e (ap (λ c. record x { content = c } ∷ with_attribute_text n (own_text x.content) (with_attribute_text n text xs)) (value-again x.content text a) ∙ ap (λ l. x ∷ l) r))
+
     there : (x.number == n) ≡ false → with_attribute_text n (value_in (tree_of n xs)) (with_attribute_text n text xs) ≡ xs
         → with_attribute_text n (value_in (tree_of n xs)) (with_attribute_text n text (x ∷ xs)) ≡ x ∷ xs
     there e r = rw e (rw e (ap (λ l. x ∷ l) r))
@@ -199,15 +200,15 @@ put_back-after_set n text k apart out (inr h) =
     let ns = numbers texts in
     let none = others-none n k.forest.nodes k.kept out in
     let taken : filter (is_of ns) (k.kept ++ kept_from n texts) ≡ kept_from n texts
-        = filter-append (is_of ns) k.kept (kept_from n texts)
-          ∙ ap (λ l. l ++ filter (is_of ns) (kept_from n texts)) (none-filter ns k.kept none)
-          ∙ all-filter ns (kept_from n texts) (own-all n texts) in
+    = filter-append (is_of ns) k.kept (kept_from n texts)
+    ∙ ap (λ l. l ++ filter (is_of ns) (kept_from n texts)) (none-filter ns k.kept none)
+    ∙ all-filter ns (kept_from n texts) (own-all n texts) in
     let left : without ns (k.kept ++ kept_from n texts) ≡ k.kept
-        = filter-append (λ t. not (is_of ns t)) k.kept (kept_from n texts)
-          ∙ ap (λ l. l ++ without ns (kept_from n texts)) (none-without ns k.kept none)
-          ∙ ap (λ l. k.kept ++ l) (all-without ns (kept_from n texts) (own-all n texts))
-          ∙ append-nil k.kept in
+    = filter-append (λ t. not (is_of ns t)) k.kept (kept_from n texts)
+    ∙ ap (λ l. l ++ without ns (kept_from n texts)) (none-without ns k.kept none)
+    ∙ ap (λ l. k.kept ++ l) (all-without ns (kept_from n texts) (own-all n texts))
+    ∙ append-nil k.kept in
     let whole : with_texts n (back (kept_from n texts)) (with_texts n (one_text k.forest.next text) k.forest.nodes) ≡ k.forest.nodes
-        = texts-over n (one_text k.forest.next text) (back (kept_from n texts)) k.forest.nodes (one_text-no_attributes k.forest.next text)
-          ∙ texts-kept n n k.forest.nodes h.1 in
+    = texts-over n (one_text k.forest.next text) (back (kept_from n texts)) k.forest.nodes (one_text-no_attributes k.forest.next text)
+    ∙ texts-kept n n k.forest.nodes h.1 in
     rw h.0 (rw (taken, left, whole) refl)

@@ -35,8 +35,9 @@ a_tree_cut_off_stands_last : outline (detached 2 rows) ≡ (0, 0) ∷ (1, 1) ∷
 a_tree_cut_off_stands_last = refl
 
 two_texts_that_meet_stay_two : children_of 1 (visits (detached 2 (record {
-    nodes = node 0 0 Root ∷ element 1 1 (codes "d") ∷ text 3 2 (codes "x") ∷ element 2 2 (codes "a") ∷ text 4 2 (codes "y") ∷ []; next = 5
-  })).nodes) ≡ 3 ∷ 4 ∷ []
+  nodes = node 0 0 Root ∷ element 1 1 (codes "d") ∷ text 3 2 (codes "x") ∷ element 2 2 (codes "a") ∷ text 4 2 (codes "y") ∷ [];
+  next = 5;
+})).nodes) ≡ 3 ∷ 4 ∷ []
 two_texts_that_meet_stay_two = refl
 
 the_place_counts_texts : standing 10 rows.nodes ≡ Some (6, 2)
@@ -60,16 +61,16 @@ a_tree_cut_out_of_a_detached_one_stands_last = refl
 -- ---- attach
 
 attached_in_the_middle : attached wide 12 6 1 rows ≡ Ok (record {
-    nodes = take 9 rows.nodes ++ node 12 3 (Element (of_p (codes "e"))) ∷ text 13 4 (codes "q") ∷ text 9 3 (codes "t") ∷ element 10 3 (codes "a") ∷ text 11 4 (codes "3") ∷ [];
-    next = 14;
-  })
+  nodes = take 9 rows.nodes ++ node 12 3 (Element (of_p (codes "e"))) ∷ text 13 4 (codes "q") ∷ text 9 3 (codes "t") ∷ element 10 3 (codes "a") ∷ text 11 4 (codes "3") ∷ [];
+  next = 14;
+})
 attached_in_the_middle = refl
 
 the_first_place_is_behind_the_attributes : attached wide 12 2 0 rows ≡ Ok (record {
-    nodes = take 5 rows.nodes ++ node 12 3 (Element (of_p (codes "e"))) ∷ text 13 4 (codes "q") ∷ text 5 3 (codes "1")
+  nodes = take 5 rows.nodes ++ node 12 3 (Element (of_p (codes "e"))) ∷ text 13 4 (codes "q") ∷ text 5 3 (codes "1")
       ∷ element 6 2 (codes "row") ∷ element 7 3 (codes "a") ∷ text 8 4 (codes "2") ∷ text 9 3 (codes "t") ∷ element 10 3 (codes "a") ∷ text 11 4 (codes "3") ∷ [];
-    next = 14;
-  })
+  next = 14;
+})
 the_first_place_is_behind_the_attributes = refl
 
 -- an element with the attributes a and c, and a detached attribute
@@ -77,13 +78,15 @@ abbrev in_line : List ℕ → Forest
 in_line name = record { nodes = element 0 0 (codes "e") ∷ attribute 1 1 (codes "b") [] ∷ attribute 2 1 (codes "d") [] ∷ text 3 1 (codes "x") ∷ attribute 4 0 name [] ∷ []; next = 5 }
 
 an_attribute_goes_to_its_place_by_name : attached wide 4 0 7 (in_line (codes "c")) ≡ Ok (record {
-    nodes = element 0 0 (codes "e") ∷ attribute 1 1 (codes "b") [] ∷ attribute 4 1 (codes "c") [] ∷ attribute 2 1 (codes "d") [] ∷ text 3 1 (codes "x") ∷ []; next = 5
-  })
+  nodes = element 0 0 (codes "e") ∷ attribute 1 1 (codes "b") [] ∷ attribute 4 1 (codes "c") [] ∷ attribute 2 1 (codes "d") [] ∷ text 3 1 (codes "x") ∷ [];
+  next = 5;
+})
 an_attribute_goes_to_its_place_by_name = refl
 
 a_last_attribute_stands_before_the_children : attached wide 4 0 0 (in_line (codes "e")) ≡ Ok (record {
-    nodes = element 0 0 (codes "e") ∷ attribute 1 1 (codes "b") [] ∷ attribute 2 1 (codes "d") [] ∷ attribute 4 1 (codes "e") [] ∷ text 3 1 (codes "x") ∷ []; next = 5
-  })
+  nodes = element 0 0 (codes "e") ∷ attribute 1 1 (codes "b") [] ∷ attribute 2 1 (codes "d") [] ∷ attribute 4 1 (codes "e") [] ∷ text 3 1 (codes "x") ∷ [];
+  next = 5;
+})
 a_last_attribute_stands_before_the_children = refl
 
 detached_and_attached_again : attached wide 6 1 1 (detached 6 (record rows { nodes = in_instances rows.nodes })) ≡ Ok (record rows { nodes = in_instances rows.nodes })
@@ -100,16 +103,20 @@ an_element_may_be_attached_to_such_a_root : MayAttach 5 0 0 replaced
 an_element_may_be_attached_to_such_a_root = record { detached = refl; outside = refl; stands = in_root refl refl refl refl }
 
 an_element_is_attached_to_its_root : attached (record wide { depth = 1 }) 5 0 0 replaced ≡ Ok (record {
-    nodes = node 0 0 Root ∷ element 5 1 (codes "c") ∷ node 2 0 Root ∷ element 3 1 (codes "b") ∷ text 4 2 (codes "x") ∷ element 1 0 (codes "a") ∷ []; next = 6
-  })
+  nodes = node 0 0 Root ∷ element 5 1 (codes "c") ∷ node 2 0 Root ∷ element 3 1 (codes "b") ∷ text 4 2 (codes "x") ∷ element 1 0 (codes "a") ∷ [];
+  next = 6;
+})
 an_element_is_attached_to_its_root = refl
 
 -- ---- copies
 
-a_copy_has_new_numbers : copied wide 6 (record rows { next = 20 }) ≡ Ok (20, record {
+a_copy_has_new_numbers : copied wide 6 (record rows { next = 20 }) ≡ Ok (
+  20,
+  record {
     nodes = rows.nodes ++ element 20 0 (codes "row") ∷ element 21 1 (codes "a") ∷ text 22 2 (codes "2") ∷ text 23 1 (codes "t") ∷ element 24 1 (codes "a") ∷ text 25 2 (codes "3") ∷ [];
     next = 26;
-  })
+  },
+)
 a_copy_has_new_numbers = refl
 
 a_copy_of_an_attribute : copied wide 3 rows ≡ Ok (14, record { nodes = rows.nodes ++ attribute 14 0 (codes "k") (codes "x") ∷ []; next = 15 })

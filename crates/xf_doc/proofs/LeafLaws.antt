@@ -45,9 +45,10 @@ module _ (n : ℕ) (x : Node) (stay : List Node) (here : (x.number == n) ≡ tru
   after-child : (y : Node) (ys : List Node) → y.depth ≡ suc x.depth → reach y ≡ y.depth → are_depths_from (reach y) ys ≡ true
       → list_any is_child (visits_from (y ∷ still_above y.depth (x ∷ stay)) ys) ≡ false → (are_depths_from (suc x.depth) ys ≡ true) × (list_any is_child (visits_from (x ∷ stay) ys) ≡ false)
   after-child y ys deep flat depths h =
-      let begins : BeginsWithin y.depth ys = within y.depth ys (subst (λ d. are_depths_from d ys ≡ true) flat depths) in
-      (subst (λ d. are_depths_from d ys ≡ true) (flat ∙ deep) depths,
-       subst (λ l. list_any is_child l ≡ false) (closed y (x ∷ stay) ys begins) (subst (λ l. list_any is_child (visits_from (y ∷ l) ys) ≡ false) (above-is y deep) h))
+      let begins : BeginsWithin y.depth ys = within y.depth ys (subst (λ d. are_depths_from d ys ≡ true) flat depths) in (
+        subst (λ d. are_depths_from d ys ≡ true) (flat ∙ deep) depths,
+        subst (λ l. list_any is_child l ≡ false) (closed y (x ∷ stay) ys begins) (subst (λ l. list_any is_child (visits_from (y ∷ l) ys) ≡ false) (above-is y deep) h),
+      )
 
   not-root : (y : Node) (past rest : Bool) → y.content ≡ Root → y.depth ≡ suc x.depth → ((y.depth == 0) && not past && rest) ≡ true → ⊥
   not-root y past rest is deep h =
@@ -98,8 +99,8 @@ module _ (n : ℕ) (x : Node) (stay : List Node) (here : (x.number == n) ≡ tru
   texts-below p past [] a b r = tt
   texts-below p past (y ∷ ys) a b r =
       elim (cases_Bool (nat_lt x.depth y.depth)) [
-        inl e ↦ rw e (by (λ next. texts-below y (past || (y.depth == 0)) ys next.0 next.1 next.2) y.content refl (deep-of y ys e r.depths))
-      | inr e ↦ rw e tt
+        | inl e ↦ rw e (by (λ next. texts-below y (past || (y.depth == 0)) ys next.0 next.1 next.2) y.content refl (deep-of y ys e r.depths))
+        | inr e ↦ rw e tt
       ]
     where
       by : ((is_element y.content ≡ false) × (is_attribute y.content ≡ false) × Rest y (past || (y.depth == 0)) ys → AreTexts x.depth (below x.depth ys))
@@ -113,8 +114,8 @@ module _ (n : ℕ) (x : Node) (stay : List Node) (here : (x.number == n) ≡ tru
   run-below p past [] r = tt
   run-below p past (y ∷ ys) r =
       elim (cases_Bool (nat_lt x.depth y.depth)) [
-        inl e ↦ rw e (by (λ next. run-below y (past || (y.depth == 0)) ys next) y.content refl (deep-of y ys e r.depths))
-      | inr e ↦ rw e tt
+        | inl e ↦ rw e (by (λ next. run-below y (past || (y.depth == 0)) ys next) y.content refl (deep-of y ys e r.depths))
+        | inr e ↦ rw e tt
       ]
     where
       by : (Rest y (past || (y.depth == 0)) ys → IsRun x.depth (below x.depth ys)) → (c : Content) → y.content ≡ c → y.depth ≡ suc x.depth → IsRun x.depth (y ∷ below x.depth ys)
@@ -149,13 +150,16 @@ leaf-from n most past above (x ∷ xs) is depths ordered roots none =
     let tail = roots-tail past x xs roots in
     let others = (or-false (is_element x.content && is_first n (numbers stay)) (list_any (λ v. is_element v.content && is_first n v.above) (visits_from (x ∷ stay) xs)) none).1 in
     elim (cases_Bool (x.number == n)) [
-      inl e ↦ rw e (rw e at is, run-below n x stay e x tail.0 xs (record {
+      | inl e ↦ rw e (
+        rw e at is,
+        run-below n x stay e x tail.0 xs (record {
           depths = subst (λ d. are_depths_from d xs ≡ true) (element-reach x.content (rw e at is)) inner;
           ordered = ordered;
           roots = tail.1;
           childless = others;
-        }))
-    | inr e ↦ rw e (leaf-from n (reach x) tail.0 (x ∷ stay) xs (rw e at is) inner (order-tail x xs ordered) tail.1 others)
+        }),
+      )
+      | inr e ↦ rw e (leaf-from n (reach x) tail.0 (x ∷ stay) xs (rw e at is) inner (order-tail x xs ordered) tail.1 others)
     ]
   where
     element-reach : (c : Content) → is_element c ≡ true → cond (is_attribute c || is_text c) x.depth (suc x.depth) ≡ suc x.depth
@@ -169,12 +173,13 @@ element-at : (n : ℕ) (nodes : List Node) → kind_at n nodes ≡ Some kind.Ele
 element-at n [] h = tt
 element-at n (x ∷ xs) h =
     elim (cases_Bool (x.number == n)) [
-      inl e ↦ rw e (of_kind x.content (some (rw e at h)))
-    | inr e ↦ rw e (element-at n xs (rw e at h))
+      | inl e ↦ rw e (of_kind x.content (some (rw e at h)))
+      | inr e ↦ rw e (element-at n xs (rw e at h))
     ]
   where
     some : {K : Type 0} {a b : K} → ◌≡◌ {A = Option K} (Some a) (Some b) → a ≡ b
     some e = cc e
+
     of_kind : (c : Content) → kind_of c ≡ kind.Element → is_element c ≡ true
     of_kind Root e = cc e
     of_kind (Element name) e = refl

@@ -13,8 +13,8 @@ absent-past : (n d : ℕ) (xs : List Node) → has_number n xs ≡ false → has
 absent-past n d [] e = refl
 absent-past n d (x ∷ xs) e =
     elim (cases_Bool (nat_lt d x.depth)) [
-      inl q ↦ rw q (absent-past n d xs (or-false (x.number == n) (has_number n xs) e).1)
-    | inr q ↦ rw q e
+      | inl q ↦ rw q (absent-past n d xs (or-false (x.number == n) (has_number n xs) e).1)
+      | inr q ↦ rw q e
     ]
 
 -- where numbers differ, a number that is first comes no more
@@ -26,8 +26,8 @@ pub absent-without : (n : ℕ) (xs : List Node) → are_apart xs ≡ true → ha
 absent-without n [] apart = refl
 absent-without n (x ∷ xs) apart =
     elim (cases_Bool (x.number == n)) [
-      inl e ↦ rw e (absent-past n x.depth xs (gone-after n x xs apart e))
-    | inr e ↦ rw e (rw (e, absent-without n xs (and-true (not (has_number x.number xs)) (are_apart xs) apart).1) refl)
+      | inl e ↦ rw e (absent-past n x.depth xs (gone-after n x xs apart e))
+      | inr e ↦ rw e (rw (e, absent-without n xs (and-true (not (has_number x.number xs)) (are_apart xs) apart).1) refl)
     ]
 
 pub from-behind : (n : ℕ) (xs ys : List Node) → has_number n xs ≡ false → from_node n (xs ++ ys) ≡ from_node n ys
@@ -91,8 +91,8 @@ pub found : (n : ℕ) (nodes : List Node) → has_number n nodes ≡ true → Fo
 found n [] h = absurd (false-true h)
 found n (x ∷ xs) h =
     elim (cases_Bool (x.number == n)) [
-      inl e ↦ record { node = x; after = xs; from = ap (λ b. cond b (x ∷ xs) (from_node n xs)) e; number = e }
-    | inr e ↦ later e (found n xs (rw e at h))
+      | inl e ↦ record { node = x; after = xs; from = ap (λ b. cond b (x ∷ xs) (from_node n xs)) e; number = e }
+      | inr e ↦ later e (found n xs (rw e at h))
     ]
   where
     later : (x.number == n) ≡ false → Found n xs → Found n (x ∷ xs)

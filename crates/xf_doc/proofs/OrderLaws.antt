@@ -118,7 +118,7 @@ seen-different above (x ∷ xs) h =
     let parts = and-true (not (has_number x.number xs)) (are_apart xs) h in
     let stay = x ∷ still_above x.depth above in
     both-true (not (has x.number (map (λ v. v.number) (visits_from stay xs)))) (are_different (map (λ v. v.number) (visits_from stay xs)))
-      (ap not (seen-has x.number stay xs) ∙ parts.0) (seen-different stay xs parts.1)
+    (ap not (seen-has x.number stay xs) ∙ parts.0) (seen-different stay xs parts.1)
 
 -- the order list has no doubles
 pub visits-different : (forest : Forest) → IsForest forest → are_different (map (λ v. v.number) (visits forest.nodes)) ≡ true

@@ -44,7 +44,7 @@ defaults = in_q 0 0 (codes "a") ∷ node 1 1 (Element (of_p (codes "b"))) ∷ in
 
 a_default_is_declared_where_it_changes : lit_of bindings (1 ∷ 2 ∷ 3 ∷ []) 0 defaults
     ≡ Some (tree (codes "a") (pair (codes "xmlns") (codes "urn:q") ∷ pair (codes "xmlns:p") (codes "urn:p") ∷ [])
-        (tree (codes "p:b") [] (tree (codes "c") [] (tree (codes "e") (pair (codes "xmlns") [] ∷ []) [] ∷ []) ∷ []) ∷ []))
+    (tree (codes "p:b") [] (tree (codes "c") [] (tree (codes "e") (pair (codes "xmlns") [] ∷ []) [] ∷ []) ∷ []) ∷ []))
 a_default_is_declared_where_it_changes = refl
 
 declarations_and_attributes_are_in_one_order : lit_of bindings (1 ∷ 2 ∷ []) 0 (node 0 0 (Element (of_p (codes "d"))) ∷ attribute 1 1 (codes "as") (codes "1") ∷ attribute 2 1 (codes "z") [] ∷ [])
@@ -67,8 +67,8 @@ a_bare_tree_has_resolved_names : bare_of 12 rows.nodes ≡ Some (bare.Element (r
 a_bare_tree_has_resolved_names = refl
 
 a_bare_attribute_keeps_its_name : bare_of 2 rows.nodes ≡ Some (bare.Element (roll-BareElement (record {
-    name = qname 0 0 (codes "row");
-    attributes = record { name = qname 0 0 (codes "k"); text = codes "x" } ∷ record { name = qname 0 0 (codes "no"); text = codes "7" } ∷ [];
-    children = bare.Text (codes "1") ∷ [];
-  })))
+  name = qname 0 0 (codes "row");
+  attributes = record { name = qname 0 0 (codes "k"); text = codes "x" } ∷ record { name = qname 0 0 (codes "no"); text = codes "7" } ∷ [];
+  children = bare.Text (codes "1") ∷ [];
+})))
 a_bare_attribute_keeps_its_name = refl

@@ -92,9 +92,9 @@ module _ (f : ℕ → ℕ) (same : IsRenumbering f) where
   pub detached-renumbered : (n next : ℕ) (forest : Forest) → detached (f n) (renumbered_forest f next forest) ≡ renumbered_forest f next (detached n forest)
   detached-renumbered n next forest =
       ap (λ l. record { nodes = l; next = next })
-        (ap (λ l. l ++ moved_to 0 (tree_of (f n) (map (renumbered f) forest.nodes))) (without_tree-renumbered n forest.nodes)
-         ∙ ap (λ l. map (renumbered f) (without_tree n forest.nodes) ++ l) (ap (moved_to 0) (tree_of-renumbered n forest.nodes) ∙ moved_to-renumbered 0 (tree_of n forest.nodes))
-         ∙ sym (map-append (renumbered f) (without_tree n forest.nodes) (moved_to 0 (tree_of n forest.nodes))))
+      (ap (λ l. l ++ moved_to 0 (tree_of (f n) (map (renumbered f) forest.nodes))) (without_tree-renumbered n forest.nodes)
+      ∙ ap (λ l. map (renumbered f) (without_tree n forest.nodes) ++ l) (ap (moved_to 0) (tree_of-renumbered n forest.nodes) ∙ moved_to-renumbered 0 (tree_of n forest.nodes))
+      ∙ sym (map-append (renumbered f) (without_tree n forest.nodes) (moved_to 0 (tree_of n forest.nodes))))
 
   place_among-renumbered : (n : ℕ) (ns : List ℕ) → place_among (f n) (map f ns) ≡ place_among n ns
   place_among-renumbered n [] = refl
@@ -109,7 +109,6 @@ module _ (f : ℕ → ℕ) (same : IsRenumbering f) where
       ∙ ap (λ b. cond b (place_among (f n) (map f (attributes_of p all))) (place_among (f n) (map f (children_of p all)))) (has-renumbered f same n (attributes_of p all))
       ∙ ap (λ k. cond (has n (attributes_of p all)) k (place_among (f n) (map f (children_of p all)))) (place_among-renumbered n (attributes_of p all))
       ∙ ap (cond (has n (attributes_of p all)) (place_among n (attributes_of p all))) (place_among-renumbered n (children_of p all))
-
 
   pub standing-renumbered : (n : ℕ) (nodes : List Node) → standing (f n) (map (renumbered f) nodes) ≡ option_map (λ p. (f p.0, p.1)) (standing n nodes)
   standing-renumbered n nodes =
@@ -164,9 +163,9 @@ module _ (f : ℕ → ℕ) (same : IsRenumbering f) where
   pub placed-renumbered : (n p place next : ℕ) (forest : Forest) → placed (f n) (f p) place (renumbered_forest f next forest) ≡ renumbered_forest f next (placed n p place forest)
   placed-renumbered n p place next forest =
       ap (λ l. record { nodes = l; next = next })
-        (ap (λ l. with_below (f p) place l (without_tree (f n) (map (renumbered f) forest.nodes))) (tree_of-renumbered n forest.nodes)
-         ∙ ap (with_below (f p) place (map (renumbered f) (tree_of n forest.nodes))) (without_tree-renumbered n forest.nodes)
-         ∙ with_below-renumbered p place (tree_of n forest.nodes) (without_tree n forest.nodes))
+      (ap (λ l. with_below (f p) place l (without_tree (f n) (map (renumbered f) forest.nodes))) (tree_of-renumbered n forest.nodes)
+      ∙ ap (with_below (f p) place (map (renumbered f) (tree_of n forest.nodes))) (without_tree-renumbered n forest.nodes)
+      ∙ with_below-renumbered p place (tree_of n forest.nodes) (without_tree n forest.nodes))
 
   -- ---- limits
 
@@ -187,15 +186,15 @@ module _ (f : ℕ → ℕ) (same : IsRenumbering f) where
   elements_above-renumbered p all =
       ap (λ ns. count_by (λ (x : Visit). is_element x.content && has x.number (f p ∷ ns)) (map (renumbered_visit f) all)) (ancestors-renumbered f same p all)
       ∙ counted (renumbered_visit f) (λ x. cond (is_element x.content && has x.number (map f (p ∷ ancestors_of p all))) 1 0) (λ x. cond (is_element x.content && has x.number (p ∷ ancestors_of p all)) 1 0)
-          (λ x. ap (λ b. cond (is_element x.content && b) 1 0) (has-renumbered f same x.number (p ∷ ancestors_of p all))) 0 all
+      (λ x. ap (λ b. cond (is_element x.content && b) 1 0) (has-renumbered f same x.number (p ∷ ancestors_of p all))) 0 all
 
   pub attached-renumbered : (l : Limits) (n p place next : ℕ) (forest : Forest)
       → attached l (f n) (f p) place (renumbered_forest f next forest) ≡ result_map (renumbered_forest f next) (attached l n p place forest)
   attached-renumbered l n p place next forest =
       ap (λ k. unless (if is_too_deep l.depth k (tree_of (f n) (map (renumbered f) forest.nodes)) then Some Depth else None) (placed (f n) (f p) place (renumbered_forest f next forest)))
-        (ap (elements_above (f p)) (visits-renumbered f same forest.nodes) ∙ elements_above-renumbered p (visits forest.nodes))
+      (ap (elements_above (f p)) (visits-renumbered f same forest.nodes) ∙ elements_above-renumbered p (visits forest.nodes))
       ∙ ap (λ b. unless (if b then Some Depth else None) (placed (f n) (f p) place (renumbered_forest f next forest)))
-          (ap (is_too_deep l.depth (elements_above p (visits forest.nodes))) (tree_of-renumbered n forest.nodes) ∙ too_deep-renumbered l.depth (elements_above p (visits forest.nodes)) (tree_of n forest.nodes))
+      (ap (is_too_deep l.depth (elements_above p (visits forest.nodes))) (tree_of-renumbered n forest.nodes) ∙ too_deep-renumbered l.depth (elements_above p (visits forest.nodes)) (tree_of n forest.nodes))
       ∙ ap (unless (if is_too_deep l.depth (elements_above p (visits forest.nodes)) (tree_of n forest.nodes) then Some Depth else None)) (placed-renumbered n p place next forest)
       ∙ by (is_too_deep l.depth (elements_above p (visits forest.nodes)) (tree_of n forest.nodes))
     where

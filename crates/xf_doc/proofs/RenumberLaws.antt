@@ -74,9 +74,9 @@ module _ (f : ℕ → ℕ) (same : IsRenumbering f) where
   renumbered-follows : Follows (renumbered f) (renumbered_visit f)
   renumbered-follows above x =
       ap (λ l. record { number = f x.number; above = l; content = x.content })
-        (ap numbers (still_above-map (renumbered f) (λ y. refl) x.depth above)
-         ∙ map-map (λ (y : Node). y.number) (renumbered f) (still_above x.depth above)
-         ∙ sym (map-map f (λ (y : Node). y.number) (still_above x.depth above)))
+      (ap numbers (still_above-map (renumbered f) (λ y. refl) x.depth above)
+      ∙ map-map (λ (y : Node). y.number) (renumbered f) (still_above x.depth above)
+      ∙ sym (map-map f (λ (y : Node). y.number) (still_above x.depth above)))
 
   pub visits-renumbered : (nodes : List Node) → visits (map (renumbered f) nodes) ≡ map (renumbered_visit f) (visits nodes)
   visits-renumbered nodes = visits-map (renumbered f) (renumbered_visit f) (λ y. refl) renumbered-follows [] nodes
@@ -111,13 +111,13 @@ module _ (f : ℕ → ℕ) (same : IsRenumbering f) where
   pub children_of-renumbered : (n : ℕ) (all : List Visit) → children_of (f n) (map (renumbered_visit f) all) ≡ map f (children_of n all)
   children_of-renumbered n all =
       ap (map (λ (x : Visit). x.number)) (filter-through (renumbered_visit f) (λ x. is_first (f n) x.above && not (is_attribute x.content)) (λ x. is_first n x.above && not (is_attribute x.content))
-        (λ x. ap (λ b. b && not (is_attribute x.content)) (first-renumbered n x.above)) all)
+      (λ x. ap (λ b. b && not (is_attribute x.content)) (first-renumbered n x.above)) all)
       ∙ numbers-renumbered (filter (λ x. is_first n x.above && not (is_attribute x.content)) all)
 
   pub attributes_of-renumbered : (n : ℕ) (all : List Visit) → attributes_of (f n) (map (renumbered_visit f) all) ≡ map f (attributes_of n all)
   attributes_of-renumbered n all =
       ap (map (λ (x : Visit). x.number)) (filter-through (renumbered_visit f) (λ x. is_first (f n) x.above && is_attribute x.content) (λ x. is_first n x.above && is_attribute x.content)
-        (λ x. ap (λ b. b && is_attribute x.content) (first-renumbered n x.above)) all)
+      (λ x. ap (λ b. b && is_attribute x.content) (first-renumbered n x.above)) all)
       ∙ numbers-renumbered (filter (λ x. is_first n x.above && is_attribute x.content) all)
 
   -- ---- string values and order
@@ -230,16 +230,16 @@ module _ (f : ℕ → ℕ) (same : IsRenumbering f) where
   step_by-renumbered Root all x = refl
   step_by-renumbered (Element name) all x =
       ap (λ l. 47 ∷ written name ++ l)
-        (ap (λ l. index_if l (filter (is_namesake (written name) (renumbered_visit f x)) (before (f x.number) (map (renumbered_visit f) all)))) (namesakes-renumbered (written name) x all)
-         ∙ ap (λ l. index_if (map (renumbered_visit f) (filter (is_namesake (written name) x) all)) l)
-             (ap (filter (is_namesake (written name) (renumbered_visit f x))) (before-renumbered x.number all) ∙ namesakes-renumbered (written name) x (before x.number all))
-         ∙ index-renumbered (filter (is_namesake (written name) x) all) (filter (is_namesake (written name) x) (before x.number all)))
+      (ap (λ l. index_if l (filter (is_namesake (written name) (renumbered_visit f x)) (before (f x.number) (map (renumbered_visit f) all)))) (namesakes-renumbered (written name) x all)
+      ∙ ap (λ l. index_if (map (renumbered_visit f) (filter (is_namesake (written name) x) all)) l)
+      (ap (filter (is_namesake (written name) (renumbered_visit f x))) (before-renumbered x.number all) ∙ namesakes-renumbered (written name) x (before x.number all))
+      ∙ index-renumbered (filter (is_namesake (written name) x) all) (filter (is_namesake (written name) x) (before x.number all)))
   step_by-renumbered (Attribute name text) all x = refl
   step_by-renumbered (Text text) all x =
       ap (λ k. codes "/text()" ++ bracketed (suc k))
-        (ap (λ l. length (filter (is_text_beside (renumbered_visit f x)) l)) (before-renumbered x.number all)
-         ∙ ap length (filter-through (renumbered_visit f) (is_text_beside (renumbered_visit f x)) (is_text_beside x) (text_beside-renumbered x) (before x.number all))
-         ∙ length-map (filter (is_text_beside x) (before x.number all)) (renumbered_visit f))
+      (ap (λ l. length (filter (is_text_beside (renumbered_visit f x)) l)) (before-renumbered x.number all)
+      ∙ ap length (filter-through (renumbered_visit f) (is_text_beside (renumbered_visit f x)) (is_text_beside x) (text_beside-renumbered x) (before x.number all))
+      ∙ length-map (filter (is_text_beside x) (before x.number all)) (renumbered_visit f))
 
   step_of-renumbered : (all : List Visit) (n : ℕ) → step_of (map (renumbered_visit f) all) (f n) ≡ step_of all n
   step_of-renumbered all n = ap (step_in (map (renumbered_visit f) all)) (found n all) ∙ by (find (λ x. x.number == n) all)

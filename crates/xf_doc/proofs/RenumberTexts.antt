@@ -145,7 +145,7 @@ module _ (f : ℕ → ℕ) (same : IsRenumbering f) where
     pub retexted-renumbered : (t u : Texts) → ((n : ℕ) → t (f n) ≡ u n) → (all : List Visit) → retexted t (map (renumbered_visit f) all) ≡ map (renumbered_visit f) (retexted u all)
     retexted-renumbered t u h all =
         ap (filled (visits_in t) [])
-          (filter-through (renumbered_visit f) (λ x. not (is_gone t x)) (λ x. not (is_gone u x)) (λ x. ap (λ b. not (is_text x.content && b)) (replaced-renumbered t u h x.above)) all)
+        (filter-through (renumbered_visit f) (λ x. not (is_gone t x)) (λ x. not (is_gone u x)) (λ x. ap (λ b. not (is_text x.content && b)) (replaced-renumbered t u h x.above)) all)
         ∙ filled-renumbered (visits_in t) (visits_in u) (visits_in-renumbered t u h) [] (filter (λ x. not (is_gone u x)) all)
 
     pub shape-renumbered : (all : List Visit) → shape (map (renumbered_visit f) all) ≡ map (renumbered_visit f) (shape all)

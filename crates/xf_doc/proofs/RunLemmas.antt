@@ -140,10 +140,10 @@ content-again d first second xs h =
     let low : below d (with_content d first xs) ≡ zs ++ bs = below-front d (zs ++ bs) xs deep in
     let high : past d (with_content d first xs) ≡ past d xs = past-front d (zs ++ bs) xs deep in
     let none : filter (λ (y : Node). is_attribute y.content) (zs ++ bs) ≡ zs
-        = filter-append (λ (y : Node). is_attribute y.content) zs bs
-          ∙ ap (λ l. filter (λ (y : Node). is_attribute y.content) zs ++ l) (no_attributes-filter bs (no_attributes-placed (suc d) first h))
-          ∙ append-nil (filter (λ (y : Node). is_attribute y.content) zs)
-          ∙ filter-twice (λ (y : Node). is_attribute y.content) (below d xs) in
+    = filter-append (λ (y : Node). is_attribute y.content) zs bs
+    ∙ ap (λ l. filter (λ (y : Node). is_attribute y.content) zs ++ l) (no_attributes-filter bs (no_attributes-placed (suc d) first h))
+    ∙ append-nil (filter (λ (y : Node). is_attribute y.content) zs)
+    ∙ filter-twice (λ (y : Node). is_attribute y.content) (below d xs) in
     ap (λ l. filter (λ (y : Node). is_attribute y.content) l ++ map (at_depth (suc d)) second ++ past d (with_content d first xs)) low
     ∙ ap (λ l. l ++ map (at_depth (suc d)) second ++ past d (with_content d first xs)) none
     ∙ ap (λ l. zs ++ map (at_depth (suc d)) second ++ l) high
@@ -161,8 +161,8 @@ pub texts-over : (n : ℕ) (first second nodes : List Node) → NoAttributes fir
 texts-over n first second [] h = refl
 texts-over n first second (x ∷ xs) h =
     elim (cases_Bool (x.number == n)) [
-      inl e ↦ rw e (rw e (ap (λ l. x ∷ l) (content-again x.depth first second xs h)))
-    | inr e ↦ rw e (rw e (ap (λ l. x ∷ l) (texts-over n first second xs h)))
+      | inl e ↦ rw e (rw e (ap (λ l. x ∷ l) (content-again x.depth first second xs h)))
+      | inr e ↦ rw e (rw e (ap (λ l. x ∷ l) (texts-over n first second xs h)))
     ]
 
 pub tree-other : (n : ℕ) (x : Node) (xs : List Node) → (x.number == n) ≡ false → tree_of n (x ∷ xs) ≡ tree_of n xs
@@ -175,8 +175,8 @@ pub texts-kept : (n owner : ℕ) (nodes : List Node) → IsLeafAt n nodes → wi
 texts-kept n owner [] h = refl
 texts-kept n owner (x ∷ xs) h =
     elim (cases_Bool (x.number == n)) [
-      inl e ↦ here e (rw e at h)
-    | inr e ↦ subst (λ t. with_texts n (back (kept_from owner (texts_in t))) (x ∷ xs) ≡ x ∷ xs) (sym (tree-other n x xs e)) (rw e (ap (λ l. x ∷ l) (texts-kept n owner xs (rw e at h))))
+      | inl e ↦ here e (rw e at h)
+      | inr e ↦ subst (λ t. with_texts n (back (kept_from owner (texts_in t))) (x ∷ xs) ≡ x ∷ xs) (sym (tree-other n x xs e)) (rw e (ap (λ l. x ∷ l) (texts-kept n owner xs (rw e at h))))
     ]
   where
     here : (x.number == n) ≡ true → (is_element x.content ≡ true) × IsRun x.depth (below x.depth xs)

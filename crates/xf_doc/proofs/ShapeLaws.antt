@@ -142,7 +142,7 @@ module _ (n : ℕ) (x : Node) (stay : List Node) (here : (x.number == n) ≡ tru
   runs-differ (y ∷ ys) new rest (inl h) k l = rw h.0 (both (runs-differ ys new rest h.2 k l))
   runs-differ (y ∷ ys) new rest (inr h) k l =
       rw (text-attributes x.depth y ys h.0 h.2)
-        (lefts new k l (rights (y ∷ ys) (h.0, texts-all x.depth ys h.2) (h.1, texts-at x.depth ys h.2) (equal n rest)))
+      (lefts new k l (rights (y ∷ ys) (h.0, texts-all x.depth ys h.2) (h.1, texts-at x.depth ys h.2) (equal n rest)))
 
   contents-differ : (texts xs : List Node) → AllText texts → IsRun x.depth (below x.depth xs)
       → Differ n (visits_from (x ∷ stay) (with_content x.depth texts xs)) (visits_from (x ∷ stay) xs)
@@ -151,19 +151,19 @@ module _ (n : ℕ) (x : Node) (stay : List Node) (here : (x.number == n) ≡ tru
       let zs = filter (λ (y : Node). is_attribute y.content) (below x.depth xs) in
       let deep = at-append (suc x.depth) zs new (run-attributes-at x.depth (below x.depth xs) run) (placed-at (suc x.depth) texts) in
       let one : visits_from (x ∷ stay) (with_content x.depth texts xs) ≡ seen (zs ++ new) ++ visits_from (x ∷ stay) (past x.depth xs)
-          = run-visits x stay (zs ++ new) (past x.depth xs) deep (past-within x.depth xs) in
+      = run-visits x stay (zs ++ new) (past x.depth xs) deep (past-within x.depth xs) in
       let two : visits_from (x ∷ stay) xs ≡ seen (below x.depth xs) ++ visits_from (x ∷ stay) (past x.depth xs)
-          = ap (visits_from (x ∷ stay)) (sym (below-then-past x.depth xs)) ∙ run-visits x stay (below x.depth xs) (past x.depth xs) (run-at x.depth (below x.depth xs) run) (past-within x.depth xs) in
+      = ap (visits_from (x ∷ stay)) (sym (below-then-past x.depth xs)) ∙ run-visits x stay (below x.depth xs) (past x.depth xs) (run-at x.depth (below x.depth xs) run) (past-within x.depth xs) in
       subst (λ l. Differ n l (visits_from (x ∷ stay) xs)) (sym one)
-        (subst (λ l. Differ n (seen (zs ++ new) ++ visits_from (x ∷ stay) (past x.depth xs)) l) (sym two)
-          (runs-differ (below x.depth xs) new (visits_from (x ∷ stay) (past x.depth xs)) run (placed-text (suc x.depth) texts h) (placed-at (suc x.depth) texts)))
+      (subst (λ l. Differ n (seen (zs ++ new) ++ visits_from (x ∷ stay) (past x.depth xs)) l) (sym two)
+      (runs-differ (below x.depth xs) new (visits_from (x ∷ stay) (past x.depth xs)) run (placed-text (suc x.depth) texts h) (placed-at (suc x.depth) texts)))
 
 texts-differ : (n : ℕ) (texts above nodes : List Node) → AllText texts → IsLeafAt n nodes → Differ n (visits_from above (with_texts n texts nodes)) (visits_from above nodes)
 texts-differ n texts above [] h k = ended
 texts-differ n texts above (x ∷ xs) h k =
     elim (cases_Bool (x.number == n)) [
-      inl e ↦ rw e (both (contents-differ n x (still_above x.depth above) e texts xs h (rw e at k).1))
-    | inr e ↦ rw e (both (texts-differ n texts (x ∷ still_above x.depth above) xs h (rw e at k)))
+      | inl e ↦ rw e (both (contents-differ n x (still_above x.depth above) e texts xs h (rw e at k).1))
+      | inr e ↦ rw e (both (texts-differ n texts (x ∷ still_above x.depth above) xs h (rw e at k)))
     ]
 
 -- ---- a text set at an attribute
@@ -210,16 +210,16 @@ revalued-erased : (n : ℕ) (text : List ℕ) (xs : List Visit) → map erased (
 revalued-erased n text [] = refl
 revalued-erased n text (x ∷ xs) =
     elim (cases_Bool (x.number == n)) [
-      inl e ↦ rw e (ap (λ c. record x { content = c } ∷ map erased (map (revalued n text) xs)) (value-erased text x.content) ∙ ap (λ l. erased x ∷ l) (revalued-erased n text xs))
-    | inr e ↦ rw e (ap (λ l. erased x ∷ l) (revalued-erased n text xs))
+      | inl e ↦ rw e (ap (λ c. record x { content = c } ∷ map erased (map (revalued n text) xs)) (value-erased text x.content) ∙ ap (λ l. erased x ∷ l) (revalued-erased n text xs))
+      | inr e ↦ rw e (ap (λ l. erased x ∷ l) (revalued-erased n text xs))
     ]
 
 revalued-elements : (n : ℕ) (text : List ℕ) (m : ℕ) (xs : List Visit) → has_elements (map (revalued n text) xs) m ≡ has_elements xs m
 revalued-elements n text m [] = refl
 revalued-elements n text m (x ∷ xs) =
     elim (cases_Bool (x.number == n)) [
-      inl e ↦ rw e (ap (λ b. (b && is_first m x.above) || has_elements (map (revalued n text) xs) m) (value-element text x.content) ∙ ap (λ b. (is_element x.content && is_first m x.above) || b) (revalued-elements n text m xs))
-    | inr e ↦ rw e (ap (λ b. (is_element x.content && is_first m x.above) || b) (revalued-elements n text m xs))
+      | inl e ↦ rw e (ap (λ b. (b && is_first m x.above) || has_elements (map (revalued n text) xs) m) (value-element text x.content) ∙ ap (λ b. (is_element x.content && is_first m x.above) || b) (revalued-elements n text m xs))
+      | inr e ↦ rw e (ap (λ b. (is_element x.content && is_first m x.above) || b) (revalued-elements n text m xs))
     ]
 
 revalued-shape : (n : ℕ) (text : List ℕ) (xs : List Visit) → shape (map (revalued n text) xs) ≡ shape xs

@@ -29,24 +29,33 @@ an_empty_text_is_none = refl
 a_text_where_none_was : text_set wide 2 (codes "9") with_none ≡ Ok (element_texts [], record with_new { kept = with_none.kept })
 a_text_where_none_was = refl
 
-an_attribute_keeps_its_number : text_set wide 4 (codes "8") keeping ≡ Ok (attribute_text (codes "7"), record keeping {
-    forest = record rows { nodes = take 4 rows.nodes ++ attribute 4 3 (codes "no") (codes "8") ∷ drop 5 rows.nodes }
-  })
+an_attribute_keeps_its_number : text_set wide 4 (codes "8") keeping ≡ Ok (
+  attribute_text (codes "7"),
+  record keeping {
+    forest = record rows { nodes = take 4 rows.nodes ++ attribute 4 3 (codes "no") (codes "8") ∷ drop 5 rows.nodes };
+  },
+)
 an_attribute_keeps_its_number = refl
 
-an_attribute_may_be_empty : text_set wide 4 [] keeping ≡ Ok (attribute_text (codes "7"), record keeping {
-    forest = record rows { nodes = take 4 rows.nodes ++ attribute 4 3 (codes "no") [] ∷ drop 5 rows.nodes }
-  })
+an_attribute_may_be_empty : text_set wide 4 [] keeping ≡ Ok (
+  attribute_text (codes "7"),
+  record keeping {
+    forest = record rows { nodes = take 4 rows.nodes ++ attribute 4 3 (codes "no") [] ∷ drop 5 rows.nodes };
+  },
+)
 an_attribute_may_be_empty = refl
 
 -- two texts side by side, from which an element between was detached
 abbrev two_texts : Keeping
 two_texts = record { forest = record { nodes = element 0 0 (codes "d") ∷ text 1 1 (codes "x") ∷ text 3 1 (codes "y") ∷ element 2 0 (codes "a") ∷ []; next = 4 }; kept = [] }
 
-all_texts_of_an_element_go : text_set wide 0 (codes "z") two_texts ≡ Ok (element_texts (1 ∷ 3 ∷ []), record {
+all_texts_of_an_element_go : text_set wide 0 (codes "z") two_texts ≡ Ok (
+  element_texts (1 ∷ 3 ∷ []),
+  record {
     forest = record { nodes = element 0 0 (codes "d") ∷ text 4 1 (codes "z") ∷ element 2 0 (codes "a") ∷ []; next = 5 };
     kept = kept_text 1 0 (codes "x") ∷ kept_text 3 0 (codes "y") ∷ [];
-  })
+  },
+)
 all_texts_of_an_element_go = refl
 
 what_is_kept_stays_apart : IsKeeping with_new
@@ -142,5 +151,6 @@ a_tree_goes_back : rolled_back (record { entries = cut 6 1 1 ∷ []; next = 14 }
 a_tree_goes_back = refl
 
 what_was_attached_goes : rolled_back (record { entries = joined 14 ∷ []; next = 14 }) (record instances {
-    forest = record { nodes = in_instances rows.nodes ++ text 14 2 (codes "n") ∷ []; next = 15 } }) ≡ instances
+  forest = record { nodes = in_instances rows.nodes ++ text 14 2 (codes "n") ∷ []; next = 15 };
+}) ≡ instances
 what_was_attached_goes = refl

@@ -38,8 +38,8 @@ attribute-there n [] h = absurd (no h)
     no e = cc e
 attribute-there n (x ∷ xs) h =
     elim (cases_Bool (x.number == n)) [
-      inl e ↦ rw (e, attribute-kind x.content (some (rw e at h))) refl
-    | inr e ↦ rw e (attribute-there n xs (rw e at h))
+      | inl e ↦ rw (e, attribute-kind x.content (some (rw e at h))) refl
+      | inr e ↦ rw e (attribute-there n xs (rw e at h))
     ]
 
 element-there : (n : ℕ) (nodes : List Node) → are_apart nodes ≡ true → kind_at n nodes ≡ Some kind.Element → is_attribute_at n nodes ≡ false
@@ -47,10 +47,10 @@ element-there n [] apart h = refl
 element-there n (x ∷ xs) apart h =
     let parts = and-true (not (has_number x.number xs)) (are_apart xs) apart in
     elim (cases_Bool (x.number == n)) [
-      inl e ↦
-        let gone : has_number n xs ≡ false = subst (λ m. has_number m xs ≡ false) (one_number x.number n e) (not-true (has_number x.number xs) parts.0) in
-        rw (e, element-kind x.content (some (rw e at h)), attribute-absent n xs gone) refl
-    | inr e ↦ rw e (element-there n xs parts.1 (rw e at h))
+      | inl e ↦
+          let gone : has_number n xs ≡ false = subst (λ m. has_number m xs ≡ false) (one_number x.number n e) (not-true (has_number x.number xs) parts.0) in
+          rw (e, element-kind x.content (some (rw e at h)), attribute-absent n xs gone) refl
+      | inr e ↦ rw e (element-there n xs parts.1 (rw e at h))
     ]
 
 pub has_text : (n : ℕ) (forest : Forest) → IsForest forest → IsSettable n forest → HasText n forest.nodes

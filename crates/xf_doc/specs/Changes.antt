@@ -50,11 +50,13 @@ root_of (suc place) (x ∷ xs) = if is_root x.content then root_of place xs else
 -- with a new root behind the others, over the detached tree of this node; the number is the root's
 abbrev pub with_root : ℕ → Forest → ℕ × Forest
 with_root top forest =
-    let rest = without_tree top forest.nodes in
-    (forest.next, record {
-      nodes = in_instances rest ++ record { number = forest.next; depth = 0; content = Root } ∷ moved_to 1 (tree_of top forest.nodes) ++ in_detached rest;
-      next = suc forest.next;
-    })
+    let rest = without_tree top forest.nodes in (
+      forest.next,
+      record {
+        nodes = in_instances rest ++ record { number = forest.next; depth = 0; content = Root } ∷ moved_to 1 (tree_of top forest.nodes) ++ in_detached rest;
+        next = suc forest.next;
+      },
+    )
 
 -- the contents of a tree with their depths, as those of a new one
 abbrev pub contents_in : List Node → List (ℕ × Content)
@@ -132,4 +134,4 @@ placed n parent place forest = record forest { nodes = with_below parent place (
 abbrev pub attached : Limits → ℕ → ℕ → ℕ → Forest → Result Forest TreeFault
 attached l n parent place forest =
     unless (if is_too_deep l.depth (elements_above parent (visits forest.nodes)) (tree_of n forest.nodes) then Some Depth else None)
-      (placed n parent place forest)
+    (placed n parent place forest)

@@ -98,7 +98,7 @@ abbrev pub text_set : Limits → ℕ → List ℕ → Keeping → Result (Before
 text_set l n text k =
     let after = with_text n text k.forest in
     unless (passed_by_text l (length text) after.nodes)
-      (before_of n k.forest.nodes, record { forest = after; kept = k.kept ++ taken_from n k.forest.nodes })
+    (before_of n k.forest.nodes, record { forest = after; kept = k.kept ++ taken_from n k.forest.nodes })
 
 -- ---- undo it
 
