@@ -9,12 +9,19 @@ use xf_io::{FileSource, ReaderSource, WriterSink};
 fn main(rt: HostRuntime) -> ExitCode {
     let alloc = rt.alloc();
     let mut words = Vec::new(alloc);
-    // A word that is not UTF-8 leaves no words, which spell no command.
-    if let Ok(args) = env::args(&rt) {
-        for word in args.skip(1) {
-            if words.push(word).is_err() {
+    match env::args(&rt) {
+        Ok(args) => {
+            for word in args.skip(1) {
+                if words.push(word).is_err() {
+                    return ExitCode::from(9);
+                }
+            }
+        }
+        Err(error) => {
+            if error.kind() == io::ErrorKind::OutOfMemory {
                 return ExitCode::from(9);
             }
+            // A word that is not UTF-8 leaves no words, which spell no command.
         }
     }
     let mut form = FileSource::new(&rt, "form.json");
