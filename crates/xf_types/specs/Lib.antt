@@ -1,0 +1,7 @@
+pub mod Shapes
+pub mod Numerals
+pub mod Times
+pub mod Durations
+pub mod Named
+pub mod Meets
+pub mod Parts
