@@ -3,7 +3,7 @@
 set -e
 here=$(cd "$(dirname "$0")" && pwd)
 top=$(cd "$here/../.." && pwd)
-work=${1:-/tmp/graph_bench}
+work=${1:-$(mktemp -d)}
 mkdir -p "$work/crates/graph_bench/src"
 for crate in xf_base xf_graph; do
     mkdir -p "$work/crates/$crate"
