@@ -30,11 +30,11 @@ decimals_of_time time = decimals_at (after_digits (past_parts (codes "HM") time)
 abbrev pub time_of : List ℕ → List ℕ
 time_of parts = past_first (past_parts (codes "YMD") parts)
 
-abbrev pub months_units : ℕ → List ℕ → ℕ
+unfoldable pub months_units : ℕ → List ℕ → ℕ
 months_units d parts = months_at parts * scale d
 
 -- decimals after the d-th are dropped
-abbrev pub seconds_units : ℕ → List ℕ → ℕ
+unfoldable pub seconds_units : ℕ → List ℕ → ℕ
 seconds_units d parts =
     (86400 * part_value 68 (past_parts (codes "YM") parts) + time_at (time_of parts)) * scale d
     + units_of d 0 (decimals_of_time (time_of parts))
@@ -44,7 +44,7 @@ abbrev pub both : ℕ → Bool → List ℕ → Option ℤ × Option ℤ
 both d minus parts = (in_range (signed_size minus (months_units d parts)), in_range (signed_size minus (seconds_units d parts)))
 
 -- the months and the seconds of a duration
-abbrev pub duration_in : ℕ → List ℕ → Option (Option ℤ × Option ℤ)
+unfoldable pub duration_in : ℕ → List ℕ → Option (Option ℤ × Option ℤ)
 duration_in d text =
     if is_duration_of (codes "YMD") true text
     then Some (both d (begins_with 45 text) (past_first (past_minus text)))

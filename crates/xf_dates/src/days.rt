@@ -1,6 +1,6 @@
 //! The days and seconds that dates and dateTimes stand for.
 
-ghost use Rattle.std.specs.Prelude.{◌≡◌, ◌<◌, ◌^◌, true, unsigned_abs};
+ghost use Rattle.std.specs.Prelude.{◌≡◌, ◌<◌, ◌^◌, pos, true, unsigned_abs};
 ghost use Rattle.jiff_core.specs.Calendar.{IsEpochDay};
 ghost use Rattle.xf_types.specs.Times.{is_date_alone, is_date_time};
 ghost use Rattle.xf_dates.specs.Days.{day_at, clock_at, ahead, second_at, day_in, day_of};
@@ -49,7 +49,7 @@ fn day_at(date: &[u8]) -> i64
 
 /// The seconds from midnight to the time that a text begins with.
 fn clock_at(time: &[u8]) -> i64
-    ensures value { result ≡ clock_at time.now }
+    ensures value { result ≡ pos (clock_at time.now) }
     ensures size { unsigned_abs result < 2 ^ 45 }
 {
     3_600 * i64::from(two_digits(time, 0))

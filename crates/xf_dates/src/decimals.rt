@@ -1,6 +1,6 @@
 //! The decimals of a second.
 
-ghost use Rattle.std.specs.Prelude.{◌≡◌, ◌<◌, pos, true, unsigned_abs};
+ghost use Rattle.std.specs.Prelude.{◌≡◌, ◌<◌, true};
 ghost use Rattle.xf_num.specs.Number.{size_limit};
 ghost use Rattle.xf_num.specs.Written.{is_empty, leading_digits, after_digits, units_of};
 ghost use Rattle.xf_dates.specs.Decimals.{decimals_at, past_decimals};
@@ -40,13 +40,13 @@ pub fn past_decimals(text: &[u8]) -> &[u8]
 }
 
 /// The units that decimals write; those after the last that counts are dropped.
-pub fn decimal_units(digits: &[u8]) -> i128
+pub fn decimal_units(digits: &[u8]) -> u64
     requires { is_empty (after_digits digits.now) ≡ true }
-    ensures value { result ≡ pos (units_of DECIMALS 0 digits.now) }
-    ensures size { unsigned_abs result < size_limit }
+    ensures value { result ≡ units_of DECIMALS 0 digits.now }
+    ensures size { result < size_limit }
 {
     match with_decimals(0, digits, DECIMALS).units() {
-        Some(units) => units,
+        Some(units) => units.unsigned_abs() as u64,
         None => unreachable!(),
     }
 }

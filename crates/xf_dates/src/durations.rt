@@ -1,7 +1,7 @@
 //! The months and the seconds that durations stand for.
 
-ghost use Rattle.std.specs.Prelude.{◌≡◌, ◌≤◌, ◌*◌, ◌^◌, min, pos};
-ghost use Rattle.xf_num.specs.Number.{size_limit, in_range};
+ghost use Rattle.std.specs.Prelude.{◌≡◌, ◌<◌, ◌+◌, ◌*◌, ◌^◌, min};
+ghost use Rattle.xf_num.specs.Number.{size_limit, scale, in_range};
 ghost use Rattle.xf_types.specs.Numerals.{signed_size};
 ghost use Rattle.xf_dates.specs.Durations.{part_value, months_units, seconds_units, duration_in, duration};
 
@@ -44,8 +44,7 @@ fn months(minus: bool, parts: &[u8]) -> Num
 {
     let years = part_value(b'Y', parts);
     let months = part_value(b'M', past_part(b'Y', parts));
-    let units = (12 * i128::from(years) + i128::from(months)) * i128::from(units_in_one(DECIMALS));
-    with_sign(minus, units)
+    with_sign(minus, 12 * u128::from(years) + u128::from(months), 0)
 }
 
 /// The seconds of the days and the time of a duration.
@@ -58,15 +57,19 @@ fn seconds(minus: bool, parts: &[u8]) -> Num
     let minutes = part_value(b'M', past_part(b'H', time));
     let last = past_parts(b"HM", time);
     let (whole, _) = digits_onto(0, last);
-    let total = 86_400 * i128::from(days)
-        + 3_600 * i128::from(hours)
-        + 60 * i128::from(minutes)
-        + i128::from(whole);
-    let decimals = decimal_units(decimals_at(after_digits(last)));
-    with_sign(minus, total * i128::from(units_in_one(DECIMALS)) + decimals)
+    let total = 86_400 * u128::from(days)
+        + 3_600 * u128::from(hours)
+        + 60 * u128::from(minutes)
+        + u128::from(whole);
+    with_sign(minus, total, decimal_units(decimals_at(after_digits(last))))
 }
 
-/// So many units with their sign, as a number.
-fn with_sign(minus: bool, units: i128) -> Num {
-    Num::of_units(if minus { -units } else { units })
+/// So many wholes and so many units of the last decimal, with their sign, as a number.
+fn with_sign(minus: bool, whole: u128, decimals: u64) -> Num
+    requires whole { whole < 2 ^ 90 }
+    requires decimals { decimals < size_limit }
+    ensures { result ≡ in_range (signed_size minus (whole * scale DECIMALS + decimals)) }
+{
+    let size = (whole * u128::from(units_in_one(DECIMALS)) + u128::from(decimals)) as i128;
+    Num::of_units(if minus { -size } else { size })
 }

@@ -1,6 +1,7 @@
 //! The seconds that dateTimes stand for, with their decimals.
 
-ghost use Rattle.std.specs.Prelude.{◌≡◌};
+ghost use Rattle.std.specs.Prelude.{◌≡◌, ◌<◌, ◌^◌, pos, ◌+ℤ◌, ◌*ℤ◌, unsigned_abs};
+ghost use Rattle.xf_num.specs.Number.{scale, size_limit, in_range};
 ghost use Rattle.xf_dates.specs.Instants.{seconds_in, seconds_of};
 
 use crate::days::second_at;
@@ -22,6 +23,15 @@ fn seconds_in(text: &[u8]) -> Num
     if !is_date_time(text) {
         return Num::nan();
     }
-    let whole = i128::from(second_at(text)) * i128::from(units_in_one(DECIMALS));
-    Num::of_units(whole + decimal_units(decimals_at(cut(text, 19).1)))
+    with_decimals(second_at(text), decimal_units(decimals_at(cut(text, 19).1)))
+}
+
+/// So many whole seconds and so many units of the last decimal, as a number.
+fn with_decimals(second: i64, decimals: u64) -> Num
+    requires second { unsigned_abs second < 2 ^ 50 }
+    requires decimals { decimals < size_limit }
+    ensures { result ≡ in_range (second *ℤ pos (scale DECIMALS) +ℤ pos decimals) }
+{
+    let one = i128::from(units_in_one(DECIMALS));
+    Num::of_units(i128::from(second) * one + i128::from(decimals))
 }

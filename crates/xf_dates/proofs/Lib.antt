@@ -1,0 +1,4 @@
+pub mod DecimalLemmas
+pub mod TextLemmas
+pub mod DayLemmas
+pub mod TotalLemmas

@@ -1,0 +1,6 @@
+use Rattle.std.proofs.Common.{◌≡◌, ◌∙◌, ap, arith}
+use Rattle.xf_dates.proofs.TotalLemmas.{months_are}
+use Rattle.xf_dates.proofs.durations.months.Goals as goal
+
+pub returns : goal.returns
+returns c = let h = c.with_sign.ensures in ?
