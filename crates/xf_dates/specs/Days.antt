@@ -32,7 +32,7 @@ second_at text =
     day_at (take 10 text) *ℤ pos 86400 +ℤ pos (clock_at (drop 11 text)) -ℤ ahead (past_decimals (drop 19 text))
 
 -- the day number of a date, whose zone is passed over, or of the day that a dateTime has in UTC
-abbrev pub day_in : List ℕ → Option ℤ
+unfoldable pub day_in : List ℕ → Option ℤ
 day_in text =
     if is_date text then Some (day_at (take 10 text))
     else (if is_date_time text then Some (int_div_euclid (second_at text) (pos 86400)) else None)

@@ -8,7 +8,7 @@ use Rattle.xf_dates.specs.Decimals.{decimals_at}
 use Rattle.xf_dates.specs.Days.{second_at}
 
 -- the seconds since 1970-01-01T00:00:00Z, whose decimals count forward from the whole second, and after the d-th are dropped
-abbrev pub seconds_in : ℕ → List ℕ → Option ℤ
+unfoldable pub seconds_in : ℕ → List ℕ → Option ℤ
 seconds_in d text =
     if is_date_time text
     then in_range (second_at text *ℤ pos (scale d) +ℤ pos (units_of d 0 (decimals_at (drop 19 text))))
