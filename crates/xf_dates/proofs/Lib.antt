@@ -2,3 +2,4 @@ pub mod DecimalLemmas
 pub mod TextLemmas
 pub mod DayLemmas
 pub mod TotalLemmas
+mod Examples

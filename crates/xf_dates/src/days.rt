@@ -11,7 +11,7 @@ use xf_num::trimmed;
 use xf_types::{begins_with, cut, is_date, is_date_time, past_first, two_digits, year_of};
 
 /// The seconds in a day.
-const DAY: i64 = 86_400;
+pub const DAY: i64 = 86_400;
 
 /// The days from 1970-01-01 to a date, or to the day that a dateTime has in UTC; none where a text is neither.
 pub fn day_of(text: &str) -> Option<i64>

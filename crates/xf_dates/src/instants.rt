@@ -23,11 +23,11 @@ fn seconds_in(text: &[u8]) -> Num
     if !is_date_time(text) {
         return Num::nan();
     }
-    with_decimals(second_at(text), decimal_units(decimals_at(cut(text, 19).1)))
+    number_of(second_at(text), decimal_units(decimals_at(cut(text, 19).1)))
 }
 
 /// So many whole seconds and so many units of the last decimal, as a number.
-fn with_decimals(second: i64, decimals: u64) -> Num
+fn number_of(second: i64, decimals: u64) -> Num
     requires second { unsigned_abs second < 2 ^ 50 }
     requires decimals { decimals < size_limit }
     ensures { result ≡ in_range (second *ℤ pos (scale DECIMALS) +ℤ pos decimals) }

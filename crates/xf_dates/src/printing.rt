@@ -3,14 +3,15 @@
 ghost use Rattle.std.specs.Prelude.{◌≡◌, IfOk, option_map};
 ghost use Rattle.xf_dates.specs.Printed.{nearest_whole, parts_of, civil_date, date_of, moment_of};
 
+use crate::days::DAY;
 use jiff_core::civil::{Date, DateTime, Time};
 use jiff_fmt::temporal::DateTimePrinter;
 use std::alloc::{AllocError, Global};
 use xf_name::Word;
 use xf_num::{DECIMALS, Num, units_in_one};
 
-/// The seconds in a day.
-const DAY: i64 = 86_400;
+/// The first year that a date is written in.
+const FIRST_YEAR: i16 = 1;
 
 /// The date that is so many days, rounded, after 1970-01-01; empty for NaN and outside the years 0001 to 9999.
 pub fn date_of(alloc: Global, day: Num) -> Result<Word, AllocError>
@@ -59,7 +60,7 @@ fn civil_date(day: i64) -> Option<Date>
 {
     match Date::from_unix_epoch_day(day) {
         Ok(date) => {
-            if date.year < 1 {
+            if date.year < FIRST_YEAR {
                 return None;
             }
             Some(date)

@@ -7,7 +7,7 @@ use Rattle.xf_dates.proofs.instants.seconds_in.Goals as goal
 pub returns : goal.returns
 returns c =
     let second : FitsSigned w64 c.second_at.result = search rules in
-    (simp to_z-of_z at c.with_decimals.ensures)
+    (simp to_z-of_z at c.number_of.ensures)
     ∙ seconds_are 6 c.args.text.now c.cut.result.1.now c.second_at.result c.decimal_units.result
     c.if-not-is_date_time.ensures
     c.second_at.ensures.value

@@ -5,14 +5,14 @@ use Rattle.jiff_core.proofs.DateLemmas.{civil}
 use Rattle.xf_dates.proofs.DayLemmas.{civil_date-of, civil_date-early, civil_date-none}
 use Rattle.xf_dates.proofs.printing.civil_date.Goals as goal
 
-pub returns-then-date-lt1 : goal.returns-then-date-lt1
-returns-then-date-lt1 c =
+pub returns-then-date-lt-FIRST_YEAR : goal.returns-then-date-lt-FIRST_YEAR
+returns-then-date-lt-FIRST_YEAR c =
     let date = c.in-Ok.date in
     let early : date.year <ℤ pos 1 = omega (arith, signed_arith) in
     civil_date-early date.year date.month date.day c.args.day (civil date) early (c.in-Ok.ensures.value ∙ to_z-of_z c.ranges.day)
 
-pub returns-else-date-lt1 : goal.returns-else-date-lt1
-returns-else-date-lt1 c =
+pub returns-else-date-lt-FIRST_YEAR : goal.returns-else-date-lt-FIRST_YEAR
+returns-else-date-lt-FIRST_YEAR c =
     let date = c.in-Ok.date in
     let late : pos 1 ≤ℤ date.year = omega (arith, signed_arith) in
     civil_date-of date.year date.month date.day c.args.day (civil date) late (c.in-Ok.ensures.value ∙ to_z-of_z c.ranges.day)
