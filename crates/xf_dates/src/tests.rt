@@ -202,7 +202,10 @@ fn durations_have_months_and_seconds(rt: HostRuntime) -> Result<(), Fail> {
             assert_prints(&rt, rt.alloc(), right, seconds)?;
         }
     }
-    for text in ["P", "PT", "P1DT", "", "1D", "P1H", "PT1D", "P1.5D", "PT.5S", "PT1.S", "+P1D", "P-1D", "p1D"] {
+    for text in [
+        "P", "PT", "P1DT", "", "1D", "P1H", "PT1D", "P1.5D", "PT.5S", "PT1.S", "+P1D", "P-1D",
+        "p1D",
+    ] {
         assert!(rt; duration(text).is_none(), "{text}");
     }
     Ok(())
