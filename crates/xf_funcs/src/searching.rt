@@ -4,9 +4,12 @@ ghost use Rattle.std.specs.Prelude.{◌≡◌};
 ghost use Rattle.xf_funcs.specs.Numbers.{order_number};
 ghost use Rattle.xf_funcs.specs.Searching.{begins_with, contains, before, after, order_of_texts, is_true_text};
 
-use crate::conversions::{ONE, whole};
+use crate::conversions::whole;
 use std::cmp::Ordering;
 use xf_num::Num;
+
+/// The units of -1.
+const MINUS_ONE: i128 = -1_000_000;
 
 pub fn begins_with(text: &str, front: &str) -> bool
     ensures { result ≡ begins_with text.now front.now }
@@ -45,7 +48,7 @@ pub fn compared(left: &str, right: &str) -> Num
     ensures { result ≡ order_number 6 (order_of_texts left.now right.now) }
 {
     match order_of_texts(left, right) {
-        Ordering::Less => Num::of_units(-i128::from(ONE)),
+        Ordering::Less => Num::of_units(MINUS_ONE),
         Ordering::Equal => whole(0),
         Ordering::Greater => whole(1),
     }

@@ -24,13 +24,14 @@ pub fn substring_of(text: &str, start: Num, count: Num) -> &str
 {
     let from = start.round();
     let to = from.add(count.round());
-    match (least_place(from), least_place(to)) {
-        (Some(first), Some(end)) => {
-            let first = first.max(1);
-            front(past(text, first - 1), end.saturating_sub(first))
-        }
-        _ => "",
-    }
+    let Some(first) = least_place(from) else {
+        return "";
+    };
+    let Some(end) = least_place(to) else {
+        return "";
+    };
+    let first = first.max(1);
+    front(past(text, first - 1), end.saturating_sub(first))
 }
 
 /// The least place that is not below a number, none for NaN.

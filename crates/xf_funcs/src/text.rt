@@ -24,7 +24,8 @@ pub fn char_count(text: &str) -> usize
 
 /// What follows so many characters.
 pub fn past(text: &str, count: usize) -> &str
-    ensures { result.now ≡ encode_utf8_all (drop count (chars text.now)) }
+    ensures value { result.now ≡ encode_utf8_all (drop count (chars text.now)) }
+    ensures left { chars result.now ≡ drop count (chars text.now) }
 {
     let mut rest = text;
     let mut left = count;
@@ -34,7 +35,7 @@ pub fn past(text: &str, count: usize) -> &str
                 rest = after;
                 left -= 1;
             }
-            None => return rest,
+            None => break,
         }
     }
     rest

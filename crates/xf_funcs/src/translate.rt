@@ -1,11 +1,11 @@
 //! Replacing characters.
 
-ghost use Rattle.std.specs.Prelude.{◌≡◌, ℕ, string_bytes, IfOk, chars};
+ghost use Rattle.std.specs.Prelude.{◌≡◌, ℕ, string_bytes, IfOk, IfErr, chars};
 ghost use Rattle.std.specs.BTreeMap.{get};
 ghost use Rattle.std.specs.Ordering.{nat_cmp};
 ghost use Rattle.xf_base.specs.Gives.{Gives};
 ghost use Rattle.xf_funcs.specs.Conversions.{kept};
-ghost use Rattle.xf_funcs.specs.Translate.{mapped, translated};
+ghost use Rattle.xf_funcs.specs.Translate.{first, others, mapped, kept_or, translated};
 
 use crate::conversions::STRING_LIMIT;
 use crate::plain::FuncFault;
@@ -36,7 +36,9 @@ pub fn translated(alloc: Global, text: &str, from: &str, to: &str) -> Result<Str
 }
 
 /// What a character becomes.
-fn image(images: &Images, c: char) -> Option<char> {
+fn image(images: &Images, c: char) -> Option<char>
+    ensures { result ≡ kept_or c (get nat_cmp images.now c) }
+{
     match images.get(&c) {
         Some(image) => *image,
         None => Some(c),
@@ -45,21 +47,30 @@ fn image(images: &Images, c: char) -> Option<char> {
 
 /// What each character of the first text becomes. The first place of a character counts.
 fn images(alloc: Global, from: &str, to: &str) -> Result<Images, FuncFault>
-    ensures { IfOk result (λ m. (c : ℕ) → get nat_cmp m c ≡ mapped (chars from.now) (chars to.now) c) }
+    ensures value { IfOk result (λ m. (c : ℕ) → get nat_cmp m c ≡ mapped (chars from.now) (chars to.now) c) }
+    ensures cause { IfErr result (λ e. e ≡ FuncFault.Memory) }
 {
     let mut images = BTreeMap::new(alloc);
     let mut left = from;
     let mut images_left = to;
     while let Some((c, rest)) = split_first(left) {
+        let (image, others) = first_and_others(images_left);
         left = rest;
-        let mut image = None;
-        if let Some((first, others)) = split_first(images_left) {
-            image = Some(first);
-            images_left = others;
-        }
+        images_left = others;
         if !images.contains_key(&c) {
             images.insert(c, image)?;
         }
     }
     Ok(images)
+}
+
+/// The first character, if there is one, and what follows it.
+fn first_and_others(text: &str) -> (Option<char>, &str)
+    ensures first { result.0 ≡ first (chars text.now) }
+    ensures others { chars result.1.now ≡ others (chars text.now) }
+{
+    match split_first(text) {
+        Some((c, rest)) => (Some(c), rest),
+        None => (None, text),
+    }
 }

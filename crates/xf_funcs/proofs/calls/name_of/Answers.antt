@@ -20,8 +20,7 @@ returns-in-Some c =
     let rows = c.rows.result.now in
     let row = c.in-Some.row.now in
     let within : c.args.code < length rows = search (rules, tests) in
-    let h = c.in-Some.ensures.lookup in
-    ?
+    ap (λ r. r.name.now) c.in-Some.ensures.lookup.1 ∙ name_within rows c.args.code row within ∙ ap (λ entries. name_at entries c.args.code) c.rows.ensures.rows
 
 pub returns-in-None : goal.returns-in-None
 returns-in-None c =
