@@ -1,2 +1,6 @@
 pub mod TextLemmas
 pub mod SearchLemmas
+pub mod PlaceLemmas
+pub mod SpaceLemmas
+pub mod TranslateLemmas
+pub mod LimitLemmas

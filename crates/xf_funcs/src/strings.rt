@@ -120,7 +120,10 @@ fn concat_of(alloc: Global, given: &[Plain]) -> Result<Plain, FuncFault>
 {
     let mut made = Word::new(alloc);
     for value in given {
-        let string = string_of(alloc, value)?;
+        let string = match string_of(alloc, value) {
+            Ok(string) => string,
+            Err(fault) => return Err(fault),
+        };
         if made.len() + string.len() > STRING_LIMIT {
             return Err(FuncFault::Long);
         }
