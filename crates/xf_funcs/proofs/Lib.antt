@@ -4,3 +4,4 @@ pub mod PlaceLemmas
 pub mod SpaceLemmas
 pub mod TranslateLemmas
 pub mod LimitLemmas
+pub mod Examples

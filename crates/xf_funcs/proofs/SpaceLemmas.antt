@@ -73,9 +73,10 @@ rest (c ∷ text) =
 -- before the first word
 pub all_words : (text : List ℕ) → onward false false text ≡ joined (words text)
 all_words [] = refl
-all_words (c ∷ text) = elim (is_space c) as (λ b. (if b then onward false false text else c ∷ onward true false text) ≡ joined (filter some (if b then [] ∷ parts text else onto_first c (parts text))))
-    [ true ↦ all_words text
-    | false ↦ ap (λ t. c ∷ t) (rest text).within ∙ sym (ap joined (longer_words c (parts text)) ∙ joined_spaced (c ∷ first_part (parts text)) (filter some (later_parts (parts text)))) ]
+all_words (c ∷ text) = elim (is_space c) as (λ b. (if b then onward false false text else c ∷ onward true false text) ≡ joined (filter some (if b then [] ∷ parts text else onto_first c (parts text)))) [
+  | true ↦ all_words text
+  | false ↦ ap (λ t. c ∷ t) (rest text).within ∙ sym (ap joined (longer_words c (parts text)) ∙ joined_spaced (c ∷ first_part (parts text)) (filter some (later_parts (parts text))))
+]
 
 -- ---- one character more
 

@@ -14,7 +14,11 @@ use xf_name::Word;
 use xf_num::Num;
 
 /// The string of the argument at a place from 0.
-pub fn string_at<'a>(alloc: Global, given: &'a [Plain], at: usize) -> Result<CowStr<'a, Global>, FuncFault>
+pub fn string_at<'a>(
+    alloc: Global,
+    given: &'a [Plain],
+    at: usize,
+) -> Result<CowStr<'a, Global>, FuncFault>
     ensures { Gives FuncFault.Memory cow_str_bytes result (string_at 6 given.now at) }
 {
     match given.get(at) {

@@ -99,7 +99,10 @@ fn substring_called(alloc: Global, given: &[Plain]) -> Result<Plain, FuncFault>
     let string = string_at(alloc, given, 0)?;
     let start = number_at(given, 1);
     if given.len() == 3 {
-        return text(alloc, substring_of(string.as_str(), start, number_at(given, 2)));
+        return text(
+            alloc,
+            substring_of(string.as_str(), start, number_at(given, 2)),
+        );
     }
     text(alloc, substring_from(string.as_str(), start))
 }

@@ -16,6 +16,7 @@ loop-c-preserved c =
     let due = c.loop-c.space_due in
     let whole = encode_utf8_all (onward false false (chars c.args.text.now)) in
     let before : made ++ encode_utf8_all (onward begun due (c.in-Some.c ∷ chars c.in-Some.rest.now)) ≡ whole =
-    ap (λ cs. made ++ encode_utf8_all (onward begun due cs)) (sym c.in-Some.ensures.0) ∙ c.loop-c.invariant.0 in
-    (pushed made (string_bytes c.push.new.made) (chars c.in-Some.rest.now) whole c.in-Some.c begun due (sym c.if-is_space.ensures) c.in_ok-push.ensures before,
-    search rules)
+    ap (λ cs. made ++ encode_utf8_all (onward begun due cs)) (sym c.in-Some.ensures.0) ∙ c.loop-c.invariant.0 in (
+      pushed made (string_bytes c.push.new.made) (chars c.in-Some.rest.now) whole c.in-Some.c begun due (sym c.if-is_space.ensures) c.in_ok-push.ensures before,
+      search rules,
+    )

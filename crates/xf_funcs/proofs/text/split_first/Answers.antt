@@ -10,9 +10,11 @@ returns-in-Some c =
     let first = c.in-Some.c in
     let rest = c.as_str.result.now in
     let e : c.args.text.now ≡ encode_utf8 first ++ rest =
-    sym c.chars-chars.ensures.rest ∙ c.in-Some.ensures.steps.0 ∙ ap (λ t. encode_utf8 first ++ t) (sym c.as_str.ensures) in
-    (chars_past_char _ rest first c.utf8.text e, omega (arith, ap length e, length-append (encode_utf8 first) rest, encode-some first),
-    encodes-chars rest (IsUtf8-past_char c.args.text.now rest first c.utf8.text e))
+    sym c.chars-chars.ensures.rest ∙ c.in-Some.ensures.steps.0 ∙ ap (λ t. encode_utf8 first ++ t) (sym c.as_str.ensures) in (
+      chars_past_char _ rest first c.utf8.text e,
+      omega (arith, ap length e, length-append (encode_utf8 first) rest, encode-some first),
+      encodes-chars rest (IsUtf8-past_char c.args.text.now rest first c.utf8.text e),
+    )
 
 pub returns-in-None : goal.returns-in-None
 returns-in-None c =
