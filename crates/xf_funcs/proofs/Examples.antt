@@ -1,5 +1,5 @@
 -- Worked values of the definitions.
-use Rattle.std.proofs.Common.{◌≡◌, true, false, List, [], ◌∷◌, Some, None, Ok, pos, negsuc, refl, codes, filter_map}
+use Rattle.std.proofs.Common.{◌≡◌, true, false, [], ◌∷◌, Some, None, Ok, pos, negsuc, refl, codes, filter_map}
 use Rattle.std.specs.Char.{encode_utf8}
 use Rattle.std.specs.Str.{chars}
 use Rattle.std.specs.Fmt.{digits}
@@ -8,10 +8,10 @@ use Rattle.xf_table.specs.Contents.{function_entries}
 use Rattle.xf_funcs.specs.declared.plain.Plain.TheVariants.{Text, Number, Truth}
 use Rattle.xf_funcs.specs.Called.{called}
 use Rattle.xf_funcs.specs.Numbers.{power}
-use Rattle.xf_funcs.specs.Searching.{around, contains, before, after, is_true_text}
+use Rattle.xf_funcs.specs.Searching.{around, is_true_text}
 use Rattle.xf_funcs.specs.Spaces.{words, joined}
-use Rattle.xf_funcs.specs.Substring.{least_place, substring_of, substring_from}
-use Rattle.xf_funcs.specs.Translate.{image, translated}
+use Rattle.xf_funcs.specs.Substring.{substring_of, substring_from}
+use Rattle.xf_funcs.specs.Translate.{image}
 
 -- `translate("bar", "abc", "ABC")` is `BAr`, and `translate("--aaa--", "abc-", "ABC")` is `AAA`
 letters_replaced : filter_map (image (codes "abc") (codes "ABC")) (codes "bar") ≡ codes "BAr"

@@ -1,9 +1,8 @@
 -- The first place of a part in a text, by its bytes and by its characters.
-use Rattle.std.proofs.Common.{◌≡◌, ◌≢◌, ℕ, zero, suc, ◌+◌, ◌<◌, ◌≤◌, Bool, true, false, cond, if◌then◌else◌, nat_eq, List, [], ◌∷◌, ◌++◌, length, take, drop, Some, None, option_map, is_some, Bor, refl, sym, ap, subst, ◌∙◌, arith, length-append, length-drop, take-append-drop, length-take-le, MatchOption, MatchBool, inl, inr}
-use Rattle.std.specs.declared.option.Option.{Option}
+use Rattle.std.proofs.Common.{◌≡◌, ℕ, suc, ◌+◌, ◌<◌, ◌≤◌, Bool, true, false, if◌then◌else◌, nat_eq, List, [], ◌∷◌, ◌++◌, length, take, drop, Some, None, option_map, is_some, refl, sym, ap, ◌∙◌, arith, length-append, length-drop, take-append-drop, length-take-le, MatchBool}
 use Rattle.std.specs.List.{starts_with}
-use Rattle.std.specs.Prelude.{IsUtf8, IsCharBoundary, chars, encode_utf8, encode_utf8_all, bytes_eq}
-use Rattle.std.specs.Str.Pattern.{FindsText, HasTextAt, LacksTextAt, FindsTextPrefix, HasMatch, HasPrefixMatch, SplitsAroundMatch}
+use Rattle.std.specs.Prelude.{IsUtf8, chars, encode_utf8_all}
+use Rattle.std.specs.Str.Pattern.{FindsText, LacksTextAt, FindsTextPrefix, HasMatch, HasPrefixMatch, SplitsAroundMatch}
 use Rattle.std.proofs.lemmas.Str.{encodes-chars, encodes-append, length-le-encodes, chars-append, IsUtf8-append, IsUtf8-drop, IsUtf8-take, IsCharBoundary-from_drop}
 use Rattle.std.proofs.lemmas.Slice.Eq.{bytes_eq-Decides}
 use Rattle.std.proofs.Math.Seq.{take-append_seam, drop-append_seam}

@@ -1,7 +1,7 @@
 -- Texts cut between characters.
-use Rattle.std.proofs.Common.{◌≡◌, ℕ, ◌-◌, ◌+◌, ◌<◌, ◌≤◌, List, [], ◌∷◌, ◌++◌, length, take, drop, refl, sym, ap, ◌∙◌, arith, length-append, take-append-drop}
+use Rattle.std.proofs.Common.{◌≡◌, ℕ, ◌-◌, ◌+◌, ◌≤◌, List, [], ◌++◌, length, take, drop, sym, ap, ◌∙◌, arith, length-append, take-append-drop}
 use Rattle.std.specs.Prelude.{IsUtf8, IsCharBoundary, chars, encode_utf8, encode_utf8_all}
-use Rattle.std.proofs.lemmas.Str.{encodes-chars, encodes-append, scalars-chars, IsCharBoundary-at_seam, length-encode, len_utf8_bounds}
+use Rattle.std.proofs.lemmas.Str.{encodes-chars, encodes-append, IsCharBoundary-at_seam, length-encode, len_utf8_bounds}
 use Rattle.std.proofs.Math.Seq.{take-append_seam, drop-nil}
 
 -- the bytes of the characters of a text are the text, in two parts

@@ -1,6 +1,6 @@
 -- What a call of a function on plain values gives (XPath 1.0, section 4; XForms 1.1, section 7). A function is known by its name in the
 -- table of functions.
-use Rattle.std.specs.Prelude.{ℕ, ◌==◌, true, false, not, List, [], length, ℤ, Option, Result, Ok, Err, if◌then◌else◌, bytes_eq, codes, chars}
+use Rattle.std.specs.Prelude.{ℕ, ◌==◌, true, false, not, List, [], length, ℤ, Option, Result, Ok, if◌then◌else◌, bytes_eq, codes, chars}
 use Rattle.std.specs.List.{flat_map}
 use Rattle.xf_num.specs.Number.{floor_of, ceiling_of, rounded}
 use Rattle.xf_table.specs.Contents.{function_entries}

@@ -1,5 +1,5 @@
 -- Plain values and their conversions (XPath 1.0, sections 4.2 to 4.4).
-use Rattle.std.specs.Prelude.{ℕ, ◌≡◌, ◌*◌, nat_lt, Bool, true, false, not, List, [], length, ℤ, pos, unsigned_abs, Option, Some, None, Result, Ok, Err, codes, if◌then◌else◌}
+use Rattle.std.specs.Prelude.{ℕ, ◌*◌, nat_lt, Bool, true, false, not, List, length, ℤ, pos, unsigned_abs, Option, Some, None, Result, Ok, Err, codes, if◌then◌else◌}
 use Rattle.xf_num.specs.Number.{scale, in_range}
 use Rattle.xf_num.specs.Written.{is_empty, read_at, printed}
 use Rattle.xf_funcs.specs.declared.plain.Plain.{Plain}

@@ -1,5 +1,5 @@
--- `power` (XForms 1.1, section 7.8), over numbers of d decimals.
-use Rattle.std.specs.Prelude.{ℕ, zero, suc, ◌/◌, ◌%◌, ◌*◌, ◌==◌, nat_le, ◌&&◌, ℤ, pos, negsuc, neg_ℤ, Option, Some, None, if◌then◌else◌}
+-- `power` (XForms 1.1, section 7.7), over numbers of d decimals.
+use Rattle.std.specs.Prelude.{ℕ, zero, suc, ◌/◌, ◌%◌, ◌==◌, nat_le, ◌&&◌, ℤ, pos, negsuc, neg_ℤ, Option, Some, None, if◌then◌else◌}
 use Rattle.std.specs.declared.cmp.Ordering.{Ordering}
 use Rattle.std.specs.declared.cmp.Ordering.TheVariants.{Less, Equal, Greater}
 use Rattle.xf_num.specs.Number.{scale, in_range, product}

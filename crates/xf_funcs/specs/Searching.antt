@@ -1,11 +1,10 @@
 -- Parts of texts and their order, by characters (XPath 1.0, section 4.2; XForms 1.1, section 7).
-use Rattle.std.specs.Prelude.{ℕ, nat_eq, Bool, ◌||◌, List, [], ◌∷◌, length, drop, ℤ, pos, neg_ℤ, Option, Some, None, is_some, option_map, if◌then◌else◌, chars, encode_utf8_all, bytes_eq, codes}
+use Rattle.std.specs.Prelude.{ℕ, nat_eq, Bool, ◌||◌, List, [], ◌∷◌, length, drop, Option, Some, None, is_some, option_map, if◌then◌else◌, chars, encode_utf8_all, bytes_eq, codes}
 use Rattle.std.specs.List.{starts_with}
 use Rattle.std.specs.Str.{str_to_ascii_lowercase}
 use Rattle.std.specs.Ordering.{nat_cmp}
 use Rattle.std.specs.Cmp.Lexicographic.{slice_cmp}
 use Rattle.std.specs.declared.cmp.Ordering.{Ordering}
-use Rattle.std.specs.declared.cmp.Ordering.TheVariants.{Less, Equal, Greater}
 use Rattle.xf_num.specs.Written.{is_empty}
 
 -- `starts-with`

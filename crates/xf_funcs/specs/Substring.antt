@@ -1,5 +1,5 @@
 -- `substring` (XPath 1.0, section 4.2): the characters at some places, which are counted from 1.
-use Rattle.std.specs.Prelude.{ℕ, suc, ◌+◌, ◌-◌, ◌*◌, ◌/◌, Bool, true, false, ◌&&◌, not, List, [], ◌∷◌, ℤ, pos, negsuc, Option, Some, None, option_map, if◌then◌else◌, chars, encode_utf8_all}
+use Rattle.std.specs.Prelude.{ℕ, suc, ◌+◌, ◌-◌, ◌*◌, ◌/◌, Bool, false, ◌&&◌, not, List, [], ◌∷◌, ℤ, pos, negsuc, Option, Some, None, option_map, if◌then◌else◌, chars, encode_utf8_all}
 use Rattle.std.specs.Ordering.{is_lt}
 use Rattle.std.specs.declared.cmp.Ordering.{Ordering}
 use Rattle.xf_num.specs.Number.{scale, sum, rounded, order_of}

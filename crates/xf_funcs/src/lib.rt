@@ -17,4 +17,6 @@ pub use calls::call;
 pub use plain::{FuncFault, Plain};
 
 #[cfg(test)]
+mod cases;
+#[cfg(test)]
 mod tests;

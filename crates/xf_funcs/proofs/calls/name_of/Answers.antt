@@ -1,4 +1,4 @@
-use Rattle.std.proofs.Common.{◌≡◌, ℕ, ◌<◌, ◌≤◌, List, [], ◌∷◌, length, get_or, ap, sym, ◌∙◌, refl, zero, suc, arith, rules, tests}
+use Rattle.std.proofs.Common.{◌≡◌, ℕ, ◌<◌, ◌≤◌, List, [], ◌∷◌, length, get_or, ap, ◌∙◌, refl, zero, suc, arith, rules, tests}
 use Rattle.xf_table.specs.declared.row.Row.{Row}
 use Rattle.xf_table.specs.Rows.{Entry, entries_of}
 use Rattle.xf_table.specs.Places.{name_at}

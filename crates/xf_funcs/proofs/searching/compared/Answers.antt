@@ -1,4 +1,4 @@
-use Rattle.std.proofs.Common.{◌≡◌, ◌∙◌, ap}
+use Rattle.std.proofs.Common.{◌∙◌, ap}
 use Rattle.xf_num.specs.Number.{scale}
 use Rattle.xf_funcs.specs.Numbers.{order_number}
 use Rattle.xf_funcs.proofs.searching.compared.Goals as goal

@@ -1,7 +1,7 @@
 use Rattle.std.proofs.Common.{◌≡◌, ◌-◌, ◌∙◌, sym, ap, drop, Some, None, arith}
 use Rattle.std.specs.Prelude.{chars, encode_utf8_all}
 use Rattle.xf_num.specs.Number.{rounded}
-use Rattle.xf_funcs.specs.Substring.{least_place, at_places, is_from}
+use Rattle.xf_funcs.specs.Substring.{least_place}
 use Rattle.xf_funcs.proofs.PlaceLemmas.{from_number, from_nothing}
 use Rattle.xf_funcs.proofs.substring.substring_from.Goals as goal
 

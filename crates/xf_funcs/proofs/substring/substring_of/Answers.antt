@@ -1,4 +1,4 @@
-use Rattle.std.proofs.Common.{◌≡◌, ℕ, ◌-◌, ◌∙◌, sym, ap, take, drop, max, Some, None, arith}
+use Rattle.std.proofs.Common.{◌≡◌, ◌-◌, ◌∙◌, sym, ap, take, drop, max, Some, None, arith}
 use Rattle.std.specs.Prelude.{chars, encode_utf8_all}
 use Rattle.xf_num.specs.Number.{rounded, sum}
 use Rattle.xf_funcs.specs.Substring.{least_place}

@@ -1,7 +1,6 @@
-use Rattle.std.proofs.Common.{◌≡◌, ◌-◌, length, take, ap, sym, ◌∙◌, arith}
-use Rattle.std.specs.List.{slice_range}
+use Rattle.std.proofs.Common.{◌≡◌, ◌-◌, length, take, ◌∙◌, arith}
 use Rattle.std.proofs.lemmas.Grind.{common_steps}
-use Rattle.xf_funcs.proofs.TextLemmas.{Front, front_of}
+use Rattle.xf_funcs.proofs.TextLemmas.{front_of}
 use Rattle.xf_funcs.proofs.text.front.Goals as goal
 
 pub overflow_sub-text : goal.overflow_sub-text

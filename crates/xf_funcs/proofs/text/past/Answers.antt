@@ -1,6 +1,5 @@
-use Rattle.std.proofs.Common.{◌≡◌, refl, arith}
+use Rattle.std.proofs.Common.{refl}
 use Rattle.std.proofs.lemmas.Str.{encodes-chars}
-use Rattle.xf_funcs.proofs.TextLemmas.{past_all, past_few}
 use Rattle.xf_funcs.proofs.text.past.Goals as goal
 
 pub loop-left-init : goal.loop-left-init
