@@ -1,9 +1,8 @@
 -- Digits at the beginning of a text, and how large decimals are.
-use Rattle.std.proofs.Common.{◌≡◌, ℕ, zero, suc, ◌+◌, ◌-◌, ◌*◌, ◌<◌, ◌≤◌, Bool, true, false, List, [], ◌∷◌, length, take, refl, sym, ◌∙◌, ap, if◌then◌else◌, arith, pos, Option, Some, None, ℤ, lit≤}
+use Rattle.std.proofs.Common.{◌≡◌, ℕ, zero, suc, ◌+◌, ◌-◌, ◌*◌, ◌<◌, ◌≤◌, Bool, true, false, List, [], ◌∷◌, length, take, refl, ◌∙◌, ap, if◌then◌else◌, arith, pos, Option, Some, ℤ, lit≤}
 use Rattle.std.proofs.Math.Nat.{mul-le-mul_right}
 use Rattle.std.proofs.lemmas.Bool.Decides.{nat_tests}
 use Rattle.std.specs.Char.{digit_value}
-use Rattle.std.specs.Str.Parse.{digits_value_after}
 use Rattle.xf_num.specs.Number.{scale, in_range, size_limit}
 use Rattle.xf_num.specs.Written.{is_digit, is_empty, leading_digits, after_digits, units_of}
 use Rattle.xf_num.proofs.DigitLemmas.{scale_suc, scale_zero, scale_positive, digit_value-is_digit}

@@ -1,12 +1,12 @@
 -- Worked values of the definitions.
-use Rattle.std.proofs.Common.{◌≡◌, ◌∙◌, ℤ, pos, negsuc, Option, Some, None, refl, sym, ap, codes, rules, List, ℕ}
+use Rattle.std.proofs.Common.{◌≡◌, pos, negsuc, Some, None, refl, sym, ap, codes, rules}
 use Rattle.jiff_core.specs.Calendar.{days_of_years, days_of_months, day_count, days_from_civil}
 use Rattle.xf_num.specs.Number.{scale}
-use Rattle.xf_dates.specs.Days.{day_in, day_of, second_at}
+use Rattle.xf_dates.specs.Days.{day_in, day_of}
 use Rattle.xf_dates.specs.Instants.{seconds_in, seconds_of}
 use Rattle.xf_dates.specs.Durations.{months_units, seconds_units, duration_in, duration}
 use Rattle.xf_dates.specs.Printed.{nearest_whole, civil_date, text_of_date, text_of_moment, date_of, moment_of}
-use Rattle.xf_dates.proofs.DayLemmas.{civil_date-of, civil_date-none}
+use Rattle.xf_dates.proofs.DayLemmas.{civil_date-of}
 
 -- ---- days-from-date
 

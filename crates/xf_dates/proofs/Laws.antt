@@ -1,5 +1,5 @@
 -- Laws of the definitions: a date that is written is read as its day again, and a moment as its second.
-use Rattle.std.proofs.Common.{◌≡◌, ℕ, ◌+◌, ◌-◌, ◌*◌, ◌/◌, ◌%◌, ◌<◌, ◌≤◌, Bool, true, false, ◌&&◌, ◌||◌, ◌==◌, nat_le, List, [], ◌∷◌, ◌++◌, take, drop, refl, sym, ◌∙◌, ap, arith, codes, if◌then◌else◌, ℤ, pos, ◌+ℤ◌, ◌*ℤ◌, ◌-ℤ◌, unsigned_abs, zero, suc, Option, Some, None}
+use Rattle.std.proofs.Common.{◌≡◌, ℕ, ◌+◌, ◌/◌, ◌%◌, ◌<◌, ◌≤◌, Bool, true, ◌&&◌, ◌||◌, nat_le, List, [], ◌∷◌, ◌++◌, refl, sym, ◌∙◌, ap, arith, codes, ℤ, pos, ◌+ℤ◌, ◌*ℤ◌, ◌-ℤ◌, unsigned_abs, zero, suc, Some}
 use Rattle.std.specs.Int.{int_div_euclid, int_rem_euclid}
 use Rattle.std.proofs.lemmas.Bool.Decides.{nat_tests}
 use Rattle.jiff_core.specs.Calendar.{IsCivilDate, days_from_civil, days_in_month}
@@ -9,7 +9,7 @@ use Rattle.xf_num.specs.Number.{scale, in_range}
 use Rattle.xf_num.specs.Written.{is_digit, units_of}
 use Rattle.xf_types.specs.Shapes.{fits, two_digits}
 use Rattle.xf_types.specs.Times.{is_leap, days_in, is_day, is_month, year_of, is_clock, is_midnight, is_clock_text, is_date_alone, is_date, is_date_time, is_time}
-use Rattle.xf_dates.specs.Days.{day_at, clock_at, ahead, second_at, day_in}
+use Rattle.xf_dates.specs.Days.{day_at, clock_at, second_at, day_in}
 use Rattle.xf_dates.specs.Instants.{seconds_in}
 use Rattle.xf_dates.specs.Printed.{date_text, clock_text, civil_date, text_of_date, text_of_moment, day_text, second_text}
 use Rattle.xf_dates.proofs.TextLemmas.{date_is, seconds_are}

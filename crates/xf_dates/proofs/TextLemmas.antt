@@ -1,11 +1,11 @@
 -- What the shapes of dates and dateTimes say of their numbers.
-use Rattle.std.proofs.Common.{◌≡◌, ℕ, suc, ◌+◌, ◌-◌, ◌*◌, ◌<◌, ◌≤◌, Bool, true, false, ◌&&◌, ◌==◌, nat_le, List, [], ◌∷◌, take, drop, refl, sym, ◌∙◌, ap, arith, codes, if◌then◌else◌, ℤ, pos, ◌+ℤ◌, ◌-ℤ◌, ◌*ℤ◌, ◌^◌, unsigned_abs, to_z, of_z, w64, Option, Some, None}
+use Rattle.std.proofs.Common.{◌≡◌, ℕ, ◌-◌, ◌<◌, ◌≤◌, Bool, true, false, ◌&&◌, nat_le, List, [], ◌∷◌, take, drop, refl, ◌∙◌, ap, arith, codes, if◌then◌else◌, ℤ, pos, ◌+ℤ◌, ◌-ℤ◌, ◌*ℤ◌, ◌^◌, unsigned_abs, to_z, of_z, w64, Some, None}
 use Rattle.std.specs.Int.{int_div_euclid}
 use Rattle.std.proofs.lemmas.Bool.Decides.{nat_tests}
 use Rattle.jiff_core.specs.Calendar.{IsCivilDate, IsEpochDay, days_from_civil, days_in_month}
 use Rattle.jiff_core.proofs.SignedLemmas.{signed_arith, one_part}
 use Rattle.xf_num.specs.Written.{is_digit}
-use Rattle.xf_types.specs.Shapes.{fits, fits_place, two_digits}
+use Rattle.xf_types.specs.Shapes.{fits, two_digits}
 use Rattle.xf_types.specs.Times.{is_leap, days_in, is_month, is_day, year_of, is_date_alone, is_date, is_date_time, may_be_zone, is_time}
 use Rattle.xf_num.specs.Number.{scale, in_range}
 use Rattle.xf_num.specs.Written.{units_of}

@@ -1,15 +1,15 @@
 -- Totals of capped parts: a part that is capped is out of range by itself.
-use Rattle.std.proofs.Common.{◌≡◌, ℕ, zero, suc, ◌+◌, ◌-◌, ◌*◌, ◌<◌, ◌≤◌, ◌⊎◌, inl, inr, min, Bool, true, false, refl, sym, ◌∙◌, ap, arith, ℤ, pos, neg_ℤ, Option, Some, None, List, add-zero, codes, if◌then◌else◌}
+use Rattle.std.proofs.Common.{◌≡◌, ℕ, zero, suc, ◌+◌, ◌*◌, ◌≤◌, ◌⊎◌, inl, inr, min, Bool, true, false, refl, sym, ◌∙◌, ap, arith, ℤ, Option, Some, None, List, add-zero, codes, if◌then◌else◌}
 use Rattle.std.proofs.Math.Nat.{mul-le-mul_left}
 use Rattle.std.proofs.lemmas.Bool.{cases_lt}
 use Rattle.std.proofs.lemmas.Bool.Decides.{nat_tests}
 use Rattle.xf_num.specs.Number.{scale, in_range, size_limit}
-use Rattle.xf_num.specs.Written.{leading_digits, after_digits, units_of}
+use Rattle.xf_num.specs.Written.{leading_digits, units_of}
 use Rattle.xf_num.proofs.DigitLemmas.{scale_positive}
 use Rattle.std.specs.Str.Parse.{digits_value}
 use Rattle.xf_types.specs.Numerals.{signed_size}
 use Rattle.xf_types.specs.Durations.{begins_with, past_first, past_minus, past_part, past_parts, is_duration_of}
-use Rattle.xf_dates.specs.Durations.{part_value, months_at, time_at, time_of, decimals_of_time, months_units, seconds_units, both, duration_in}
+use Rattle.xf_dates.specs.Durations.{part_value, months_at, time_of, decimals_of_time, months_units, seconds_units, both, duration_in}
 
 abbrev pub capped : ℕ → ℕ
 capped n = min n size_limit

@@ -1,4 +1,4 @@
-use Rattle.std.proofs.Common.{◌≡◌, ◌∙◌, ap, sym, pos, FitsSigned, w64, to_z-of_z, rules}
+use Rattle.std.proofs.Common.{◌∙◌, ap, sym, pos, FitsSigned, w64, to_z-of_z, rules}
 use Rattle.std.specs.Int.{int_div_euclid}
 use Rattle.xf_types.specs.Times.{is_date_alone}
 use Rattle.xf_dates.proofs.TextLemmas.{date_of_date, date_is, day_is, no_day}

@@ -1,4 +1,4 @@
-use Rattle.std.proofs.Common.{◌≡◌, ◌∙◌, sym, lit≤}
+use Rattle.std.proofs.Common.{◌∙◌, sym, lit≤}
 use Rattle.xf_dates.proofs.DecimalLemmas.{decimals_are_some}
 use Rattle.xf_dates.proofs.decimals.decimal_units.Goals as goal
 

@@ -1,4 +1,4 @@
-use Rattle.std.proofs.Common.{◌≡◌, ◌+◌, ◌*◌, ◌∙◌, ap, arith}
+use Rattle.std.proofs.Common.{◌+◌, ◌*◌, ◌∙◌, ap, arith}
 use Rattle.xf_dates.specs.Durations.{part_value}
 use Rattle.xf_dates.proofs.TotalLemmas.{capped, months_are}
 use Rattle.xf_dates.proofs.durations.months.Goals as goal

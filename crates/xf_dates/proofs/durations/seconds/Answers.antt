@@ -1,4 +1,4 @@
-use Rattle.std.proofs.Common.{◌≡◌, ◌+◌, ◌*◌, ◌∙◌, ap, arith, codes}
+use Rattle.std.proofs.Common.{◌+◌, ◌*◌, ◌∙◌, ap, arith, codes}
 use Rattle.std.specs.Str.Parse.{digits_value}
 use Rattle.xf_num.specs.Written.{leading_digits, after_digits, units_of}
 use Rattle.xf_types.specs.Durations.{past_first, past_part, past_parts}

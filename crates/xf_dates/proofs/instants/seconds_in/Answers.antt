@@ -1,6 +1,5 @@
-use Rattle.std.proofs.Common.{◌≡◌, ◌∙◌, ap, sym, FitsSigned, w64, to_z-of_z, rules}
+use Rattle.std.proofs.Common.{◌∙◌, ap, FitsSigned, w64, to_z-of_z, rules}
 use Rattle.xf_num.specs.Written.{units_of}
-use Rattle.xf_dates.specs.Decimals.{decimals_at}
 use Rattle.xf_dates.proofs.TextLemmas.{seconds_are, no_seconds}
 use Rattle.xf_dates.proofs.instants.seconds_in.Goals as goal
 

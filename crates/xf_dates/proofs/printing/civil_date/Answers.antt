@@ -1,5 +1,4 @@
 use Rattle.std.proofs.Common.{◌≡◌, ◌∙◌, arith, pos, ◌≤ℤ◌, ◌<ℤ◌, true, false, to_z-of_z}
-use Rattle.jiff_core.specs.Calendar.{IsEpochDay}
 use Rattle.jiff_core.proofs.SignedLemmas.{signed_arith}
 use Rattle.jiff_core.proofs.DateLemmas.{civil}
 use Rattle.xf_dates.proofs.DayLemmas.{civil_date-of, civil_date-early, civil_date-none}
