@@ -1,1 +1,2 @@
+pub mod CharLemmas
 mod Examples

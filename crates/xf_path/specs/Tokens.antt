@@ -15,6 +15,11 @@ pub record Token : Type 0 where
   -- its bytes
   pub text : List ℕ
 
+-- what follows white space
+abbrev pub after_space : List ℕ → List ℕ
+after_space [] = []
+after_space (c ∷ cs) = if is_space c then after_space cs else c ∷ cs
+
 -- what follows a point and digits, where these come next
 abbrev pub after_point : List ℕ → List ℕ
 after_point [] = []

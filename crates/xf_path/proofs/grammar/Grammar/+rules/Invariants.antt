@@ -1,0 +1,17 @@
+use Rattle.std.proofs.Common.{◌+◌, ◌*◌}
+use Rattle.xf_path.proofs.grammar.Grammar.+rules.Given as goal
+
+abbrev pub decreases-operand : goal.decreases-operand
+decreases-operand l = 16 * l.depth
+
+abbrev pub decreases-signed : goal.decreases-signed
+decreases-signed l = 16 * l.depth + 1
+
+abbrev pub decreases-unary : goal.decreases-unary
+decreases-unary l = 16 * l.depth + 2
+
+abbrev pub decreases-ranked : goal.decreases-ranked
+decreases-ranked l = 16 * l.depth + 2 * l.ranks + 3
+
+abbrev pub decreases-links : goal.decreases-links
+decreases-links l = 16 * l.depth + 2 * l.rank + 4
