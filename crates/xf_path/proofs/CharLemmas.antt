@@ -61,8 +61,8 @@ name_cuts (c ∷ d ∷ cs) =
     chosen (Cuts (c ∷ d ∷ cs)) ((c == 58) && begins_part d) (k.Name, after_part cs) _
     (record { ends = behind_one c (d ∷ cs) _ (behind_one d cs _ (part_ends cs)); is_token = λ later. refl })
     (chosen (Cuts (c ∷ d ∷ cs)) ((c == 58) && (d == 42)) (k.Other, cs) (k.Name, c ∷ d ∷ cs)
-     (record { ends = behind_one c (d ∷ cs) _ (behind_one d cs _ (all_of cs)); is_token = λ later. refl })
-     (record { ends = all_of (c ∷ d ∷ cs); is_token = λ later. refl }))
+    (record { ends = behind_one c (d ∷ cs) _ (behind_one d cs _ (all_of cs)); is_token = λ later. refl })
+    (record { ends = all_of (c ∷ d ∷ cs); is_token = λ later. refl }))
 
 dot_cuts : (cs : List ℕ) → Cuts cs (dot_from cs)
 dot_cuts [] = record { ends = all_of []; is_token = λ later. refl }
@@ -70,8 +70,8 @@ dot_cuts (c ∷ cs) =
     chosen (Cuts (c ∷ cs)) (c == 46) (k.DotDot, cs) _
     (record { ends = behind_one c cs _ (all_of cs); is_token = λ later. refl })
     (chosen (Cuts (c ∷ cs)) (is_digit c) (k.Number, after_digits cs) (k.Dot, c ∷ cs)
-     (record { ends = behind_one c cs _ (digits_end cs); is_token = λ later. refl })
-     (record { ends = all_of (c ∷ cs); is_token = λ later. refl }))
+    (record { ends = behind_one c cs _ (digits_end cs); is_token = λ later. refl })
+    (record { ends = all_of (c ∷ cs); is_token = λ later. refl }))
 
 slash_cuts : (cs : List ℕ) → Cuts cs (slash_from cs)
 slash_cuts [] = record { ends = all_of []; is_token = λ later. refl }
@@ -99,8 +99,8 @@ token_cuts c cs =
     (chosen (Cuts cs) (c == 46) (dot_from cs) _ (dot_cuts cs)
     (chosen (Cuts cs) (c == 47) (slash_from cs) _ (slash_cuts cs)
     (chosen (Cuts cs) (begins_part c) (name_from (after_part cs)) (sign_of c, cs)
-     (let name = name_cuts (after_part cs) in record { ends = behind_end cs _ _ (part_ends cs) name.ends; is_token = name.is_token })
-     (record { ends = all_of cs; is_token = sign_is_token c }))))
+    (let name = name_cuts (after_part cs) in record { ends = behind_end cs _ _ (part_ends cs) name.ends; is_token = name.is_token })
+    (record { ends = all_of cs; is_token = sign_is_token c }))))
 
 -- ---- bytes
 
@@ -123,18 +123,18 @@ pub record Spaces (cs : List ℕ) : Type 0 where
 
 spaces_by : (b : Bool) (c : ℕ) (cs : List ℕ) → is_space c ≡ b → Spaces cs → Spaces (c ∷ cs)
 spaces_by true c cs h s = record {
-    front = c ∷ s.front;
-    is = rw h (ap (λ rest. c ∷ rest) s.is);
-    passed = λ place. let more = bytes_more c s.front in rw h (s.passed (place + len_utf8 c) ∙ ap (λ p. tokens_from 0 p (after_space cs)) (omega (arith, more)));
-  }
+  front = c ∷ s.front;
+  is = rw h (ap (λ rest. c ∷ rest) s.is);
+  passed = λ place. let more = bytes_more c s.front in rw h (s.passed (place + len_utf8 c) ∙ ap (λ p. tokens_from 0 p (after_space cs)) (omega (arith, more)));
+}
 spaces_by false c cs h s = record {
-    front = [];
-    is = rw h refl;
-    passed = λ place.
-        let none : place ≡ place + length (encode_utf8_all []) = omega arith in
-        let stays : after_space (c ∷ cs) ≡ c ∷ cs = rw h refl in
-        ap (λ p. tokens_from 0 p (c ∷ cs)) none ∙ ap (tokens_from 0 (place + length (encode_utf8_all []))) (sym stays);
-  }
+  front = [];
+  is = rw h refl;
+  passed = λ place.
+      let none : place ≡ place + length (encode_utf8_all []) = omega arith in
+      let stays : after_space (c ∷ cs) ≡ c ∷ cs = rw h refl in
+      ap (λ p. tokens_from 0 p (c ∷ cs)) none ∙ ap (tokens_from 0 (place + length (encode_utf8_all []))) (sym stays);
+}
 
 pub spaces : (cs : List ℕ) → Spaces cs
 spaces [] = record { front = []; is = refl; passed = λ place. ap (λ p. tokens_from 0 p []) (omega arith) }
@@ -197,7 +197,7 @@ tokens_by place c cs front after split found other =
     let first : tokens_from 0 place (c ∷ cs) ≡ record { kind = (token_from c cs).0; place = place; text = encode_utf8_all (c ∷ take (length cs - length (token_from c cs).1) cs) } ∷ tokens_from (length cs - length (token_from c cs).1) (place + len_utf8 c) cs = rw other refl in
     let taken : take (length front) cs ≡ front = ap (take (length front)) split ∙ take-append_seam front after in
     let later : tokens_from (length front) (place + len_utf8 c) cs ≡ tokens_from 0 (place + length (encode_utf8_all (c ∷ front))) after =
-        ap (tokens_from (length front) (place + len_utf8 c)) split ∙ skips front after (place + len_utf8 c) ∙ ap (λ p. tokens_from 0 p after) (omega (arith, more)) in
+    ap (tokens_from (length front) (place + len_utf8 c)) split ∙ skips front after (place + len_utf8 c) ∙ ap (λ p. tokens_from 0 p after) (omega (arith, more)) in
     first
     ∙ ap (λ n. record { kind = (token_from c cs).0; place = place; text = encode_utf8_all (c ∷ take n cs) } ∷ tokens_from n (place + len_utf8 c) cs) count
     ∙ ap (λ t. record { kind = (token_from c cs).0; place = place; text = encode_utf8_all (c ∷ t) } ∷ tokens_from (length front) (place + len_utf8 c) cs) taken
@@ -214,7 +214,7 @@ token_cut text later rest c kind utf8 utf8_rest begins other found =
     let sizes : length text ≡ length (encode_utf8_all (c ∷ front)) + length rest = ap length split ∙ length-append (encode_utf8_all (c ∷ front)) rest in
     let size : length (encode_utf8_all (c ∷ front)) ≡ length text - length rest = omega (arith, sizes) in
     let spelled : take (length text - length rest) text ≡ encode_utf8_all (c ∷ front) =
-        ap (λ n. take n text) (sym size) ∙ ap (take (length (encode_utf8_all (c ∷ front)))) split ∙ take-append_seam (encode_utf8_all (c ∷ front)) rest in
+    ap (λ n. take n text) (sym size) ∙ ap (take (length (encode_utf8_all (c ∷ front)))) split ∙ take-append_seam (encode_utf8_all (c ∷ front)) rest in
     record {
       shorter = omega (arith, sizes);
       boundary = rw (sym size) (IsCharBoundary-at_seam text (encode_utf8_all (c ∷ front)) rest split utf8_rest);

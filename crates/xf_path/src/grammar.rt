@@ -46,12 +46,7 @@ struct Grammar<'a> {
 impl<'a> Grammar<'a> {
     /// An expression whose operators are of the first ranks.
     #[cycle(rules)]
-    fn ranked(
-        &self,
-        tokens: &mut Tokens<'_>,
-        ranks: u32,
-        depth: u32,
-    ) -> Result<Expr, ParseFault>
+    fn ranked(&self, tokens: &mut Tokens<'_>, ranks: u32, depth: u32) -> Result<Expr, ParseFault>
         ensures { Reads (spec.ranked (spec.unary_by (spec.signed 6 self.now.prefixes.now depth)) ranks tokens.old) result tokens.new }
     {
         if ranks == 0 {
@@ -64,12 +59,7 @@ impl<'a> Grammar<'a> {
 
     /// The operators of a rank that follow, with their right sides.
     #[cycle(rules)]
-    fn links(
-        &self,
-        tokens: &mut Tokens<'_>,
-        rank: u32,
-        depth: u32,
-    ) -> Result<LinkList, ParseFault>
+    fn links(&self, tokens: &mut Tokens<'_>, rank: u32, depth: u32) -> Result<LinkList, ParseFault>
         ensures { Reads (spec.more_links (spec.ranked (spec.unary_by (spec.signed 6 self.now.prefixes.now depth)) rank) rank MOST_BYTES [] tokens.old) result tokens.new }
     {
         let mut found = Items::new(self.alloc);

@@ -40,4 +40,3 @@ returns c =
     let utf8 : IsUtf8 c.token_from-kind.result.1.now = search rules in
     let cut = text_cut c.args.text.now c.after_space-text.result.now c.in-Some.behind.now c.token_from-kind.result.1.now c.in-Some.first c.token_from-kind.result.0 c.utf8.text c.after_space-text.utf8 utf8 c.after_space-text.ensures c.in-Some.ensures c.token_from-kind.ensures in
     cut.left c.args.end c.split_at.result.0.now c.split_at.result.1.now c.requires.within c.split_at.ensures.front c.split_at.ensures.back
-
