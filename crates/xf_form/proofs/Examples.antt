@@ -42,8 +42,8 @@ tree =
     ∷ element (codes "b") (pair (codes "x") (codes "3") ∷ pair (codes "xmlns:p") (codes "u") ∷ []) [] ∷ text_child (codes "tail") ∷ [])
 
 nodes_of_tree : map (λ p. p.node) (tree.placed [] (codes "/d") (Some [])) ≡
-    record { path = codes "/d"; held = Elements } ∷ record { path = codes "/d/a[1]"; held = Value (codes "1") } ∷ record { path = codes "/d/a[2]"; held = Value (codes "2") }
-    ∷ record { path = codes "/d/b"; held = Value [] } ∷ record { path = codes "/d/b/@x"; held = Value (codes "3") } ∷ record { path = codes "/d/text()[1]"; held = Text (codes "tail") } ∷ []
+    record { path = codes "/d"; held = Elements; is_readonly = false } ∷ record { path = codes "/d/a[1]"; held = Value (codes "1"); is_readonly = false } ∷ record { path = codes "/d/a[2]"; held = Value (codes "2"); is_readonly = false }
+    ∷ record { path = codes "/d/b"; held = Value []; is_readonly = false } ∷ record { path = codes "/d/b/@x"; held = Value (codes "3"); is_readonly = false } ∷ record { path = codes "/d/text()[1]"; held = Text (codes "tail"); is_readonly = false } ∷ []
 unfolding digits
 nodes_of_tree = refl
 
@@ -103,7 +103,7 @@ abbrev form : List Pair → List Child → Option Form
 form attributes children = option_and_then form_of ((in_role role.Host attributes children).parts no_bindings place.Root [])
 
 the_example : form [] (model ∷ input (codes "a") (codes ".") ∷ []) ≡
-    Some (record { «data» = record { path = codes "/d"; held = Value (codes "1") } ∷ []; inputs = record { id = codes "a"; node = 0 } ∷ [] })
+    Some (record { «data» = record { path = codes "/d"; held = Value (codes "1"); is_readonly = false } ∷ []; inputs = record { id = codes "a"; node = 0 } ∷ []; calculates = [] })
 the_example = refl
 
 host_ids_count : form (pair (codes "id") (codes "a") ∷ []) (model ∷ input (codes "a") (codes ".") ∷ []) ≡ None

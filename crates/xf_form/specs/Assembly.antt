@@ -24,7 +24,7 @@ inputs_of instance [] = Some []
 inputs_of instance (c ∷ cs) = option_and_then (λ node. option_map (λ rest. record { id = c.id; node = node } ∷ rest) (inputs_of instance cs)) (node_of instance c.reference)
 
 abbrev pub form_from : Instance → List Input → Form
-form_from instance inputs = record { «data» = map (λ p. p.node) instance.nodes; inputs = inputs }
+form_from instance inputs = record { «data» = map (λ p. p.node) instance.nodes; inputs = inputs; calculates = [] }
 
 abbrev pub with_instance : List Control → Option Instance → Option Form
 with_instance controls None = None

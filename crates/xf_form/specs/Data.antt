@@ -59,7 +59,7 @@ abbrev pub is_declaration : List ℕ → Bool
 is_declaration name = bytes_eq name (codes "xmlns") || starts_with nat_eq name (codes "xmlns:")
 
 abbrev pub attribute_node : List ℕ → Pair → List Placed
-attribute_node path p = if is_declaration p.name then [] else record { node = record { path = attribute_path path p.name; held = held.Value p.text }; route = None } ∷ []
+attribute_node path p = if is_declaration p.name then [] else record { node = record { path = attribute_path path p.name; held = held.Value p.text; is_readonly = false }; route = None } ∷ []
 
 -- a declaration is no node
 abbrev pub attribute_nodes : List ℕ → List Pair → List Placed
@@ -67,7 +67,7 @@ attribute_nodes path [] = []
 attribute_nodes path (p ∷ ps) = attribute_node path p ++ attribute_nodes path ps
 
 abbrev pub child_nodes_by : Option (List ℕ) → List ℕ → List ℕ → Option (List ℕ) → Child → ℕ → List Placed
-child_nodes_by None default path route c k = record { node = record { path = text_path path k; held = held.Text c.text }; route = None } ∷ []
+child_nodes_by None default path route c k = record { node = record { path = text_path path k; held = held.Text c.text; is_readonly = false }; route = None } ∷ []
 child_nodes_by (Some name) default path route c k = c.placed default (child_path path name k) (child_route route (c.is_bare default) name)
 
 -- the nodes of a child with its number, in an element with this path and route
@@ -84,7 +84,7 @@ abbrev pub nodes_inside : List ℕ → List ℕ → Option (List ℕ) → List C
 nodes_inside default path route children = if has_elements children then all_child_nodes default path route children (indexes_of (names_of children)) else []
 
 abbrev pub element_node : List Child → List ℕ → Option (List ℕ) → Placed
-element_node children path route = record { node = record { path = path; held = held_of children }; route = route }
+element_node children path route = record { node = record { path = path; held = held_of children; is_readonly = false }; route = route }
 
 -- an element, its attributes and its children, under the default namespace that is in force in it
 abbrev pub element_nodes : List Pair → List Child → List ℕ → List ℕ → Option (List ℕ) → List Placed

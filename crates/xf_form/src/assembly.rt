@@ -38,6 +38,7 @@ pub(crate) fn form_of(alloc: Global, parts: Parts) -> Result<Form, Miss>
     Ok(Form {
         data: nodes.into_data(),
         inputs,
+        calculates: Items::new(alloc),
     })
 }
 

@@ -5,6 +5,7 @@ mod adding;
 mod assembly;
 mod fault;
 mod form;
+mod formula;
 mod index;
 mod loading;
 mod miss;
@@ -15,6 +16,7 @@ mod vocabulary;
 
 pub use fault::FormFault;
 pub use form::{DataNode, Form, Held, Input};
+pub use formula::{Arithmetic, Calculate, Formula, Operand};
 pub use loading::load;
 
 #[cfg(test)]

@@ -192,6 +192,7 @@ fn place_attribute(
         DataNode {
             path,
             held: Held::Value(text),
+            is_readonly: false,
         },
         None,
     )
@@ -238,7 +239,11 @@ fn push_element(
     };
     let held = held_of(alloc, children)?;
     let path = Word::from_str(alloc, path)?;
-    nodes.push(DataNode { path, held }, route)
+    nodes.push(DataNode {
+            path,
+            held,
+            is_readonly: false,
+        }, route)
 }
 
 #[cycle(placing)]
@@ -278,7 +283,11 @@ fn place_child(
         Lit::Text(text) => {
             let held = Held::Text(Word::from_str(alloc, text.as_str())?);
             let path = text_path(alloc, path, number)?;
-            nodes.push(DataNode { path, held }, None)
+            nodes.push(DataNode {
+            path,
+            held,
+            is_readonly: false,
+        }, None)
         }
         Lit::Element(element) => {
             let name = element.name.as_str();
