@@ -41,16 +41,16 @@ tree =
     element (codes "a") [] (text_child (codes "1") ∷ []) ∷ element (codes "a") [] (text_child (codes "2") ∷ [])
     ∷ element (codes "b") (pair (codes "x") (codes "3") ∷ pair (codes "xmlns:p") (codes "u") ∷ []) [] ∷ text_child (codes "tail") ∷ [])
 
-nodes_of_tree : map (λ p. p.node) (tree.placed [] (codes "/d") (Some [])) ≡
+nodes_of_tree : map (λ p. p.node) (tree.placed [] (codes "/d") (Some []) 1) ≡
     record { path = codes "/d"; held = Elements; is_readonly = false } ∷ record { path = codes "/d/a[1]"; held = Value (codes "1"); is_readonly = false } ∷ record { path = codes "/d/a[2]"; held = Value (codes "2"); is_readonly = false }
     ∷ record { path = codes "/d/b"; held = Value []; is_readonly = false } ∷ record { path = codes "/d/b/@x"; held = Value (codes "3"); is_readonly = false } ∷ record { path = codes "/d/text()[1]"; held = Text (codes "tail"); is_readonly = false } ∷ []
 unfolding digits
 nodes_of_tree = refl
 
-routes_of_tree : map (λ p. p.route) (tree.placed [] (codes "/d") (Some [])) ≡ Some [] ∷ Some (codes "a") ∷ Some (codes "a") ∷ Some (codes "b") ∷ None ∷ None ∷ []
+routes_of_tree : map (λ p. p.label.route) (tree.placed [] (codes "/d") (Some []) 1) ≡ Some [] ∷ Some (codes "a") ∷ Some (codes "a") ∷ Some (codes "b") ∷ None ∷ None ∷ []
 routes_of_tree = refl
 
-routes_under_a_namespace : map (λ p. p.route) (tree.placed (codes "u") (codes "/d") (Some [])) ≡ Some [] ∷ None ∷ None ∷ None ∷ None ∷ None ∷ []
+routes_under_a_namespace : map (λ p. p.label.route) (tree.placed (codes "u") (codes "/d") (Some []) 1) ≡ Some [] ∷ None ∷ None ∷ None ∷ None ∷ None ∷ []
 routes_under_a_namespace = refl
 
 deep_enough : tree.fits 2 ≡ true
@@ -70,10 +70,10 @@ means = refl
 means_nothing : map (route_of d) ([] ∷ codes "/" ∷ codes "/d/" ∷ codes "/dd" ∷ codes "/e" ∷ []) ≡ None ∷ None ∷ None ∷ None ∷ None ∷ []
 means_nothing = refl
 
-first_of_two : node_at (codes "a") 0 (tree.placed [] (codes "/d") (Some [])) ≡ Some 1
+first_of_two : node_at (codes "a") 0 (tree.placed [] (codes "/d") (Some []) 1) ≡ Some 1
 first_of_two = refl
 
-no_value : node_at [] 0 (tree.placed [] (codes "/d") (Some [])) ≡ None
+no_value : node_at [] 0 (tree.placed [] (codes "/d") (Some []) 1) ≡ None
 no_value = refl
 
 -- ---- forms

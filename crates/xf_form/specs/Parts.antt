@@ -51,7 +51,7 @@ root_path (Some name) = codes "/" ++ name
 
 -- the instance with this document element
 abbrev pub instance_of : List ℕ → Child → Instance
-instance_of default c = record { root = (if c.is_bare default then c.name else None); nodes = c.placed default (root_path c.name) (Some []) }
+instance_of default c = record { root = (if c.is_bare default then c.name else None); nodes = c.placed default (root_path c.name) (Some []) 1 }
 
 abbrev pub instance_by : List ℕ → Option Child → Option Parts
 instance_by default None = None

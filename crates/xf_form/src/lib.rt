@@ -7,6 +7,7 @@ mod fault;
 mod form;
 mod formula;
 mod index;
+mod label;
 mod loading;
 mod miss;
 mod nodes;
