@@ -3,6 +3,7 @@
 ghost use Rattle.std.specs.Prelude.{◌≡◌, ◌++◌, ◌∷◌, [], length, map, OnOk};
 ghost use Rattle.xf_form.specs.Placed.{Placed, placed_all};
 ghost use Rattle.xf_form.specs.Routes.{has_route, has_value, node_at};
+ghost use Rattle.xf_form.specs.Binds.{marked};
 
 use crate::form::{DataNode, Held};
 use crate::label::Label;
@@ -59,11 +60,38 @@ impl Nodes {
         place_among(self.nodes.as_slice(), self.labels.as_slice(), route)
     }
 
-    pub(crate) fn into_data(self) -> Items<DataNode>
-        ensures { result ≡ map (λ p. p.node) self }
+    pub(crate) fn labels(&self) -> &[Label]
+        ensures { result.now ≡ map (λ p. p.label) self.now }
     {
-        let Nodes { nodes, labels: _ } = self;
+        self.labels.as_slice()
+    }
+
+    pub(crate) fn data(&self) -> &[DataNode]
+        ensures { result.now ≡ map (λ p. p.node) self.now }
+    {
+        self.nodes.as_slice()
+    }
+
+    // The data, where each node is read-only as its mark says.
+    pub(crate) fn into_data(self, marks: &[bool]) -> Items<DataNode>
+        requires { length marks.now ≡ length self }
+        ensures { result ≡ marked (map (λ p. p.node) self) marks.now }
+    {
+        let Nodes {
+            mut nodes,
+            labels: _,
+        } = self;
+        mark(&mut nodes, marks);
         Items::from_vec(nodes)
+    }
+}
+
+fn mark(nodes: &mut [DataNode], marks: &[bool])
+    requires { length nodes.old ≡ length marks.now }
+    ensures { nodes.new ≡ marked nodes.old marks.now }
+{
+    for (i, mark) in marks.iter().enumerate() {
+        nodes[i].is_readonly = *mark;
     }
 }
 
@@ -91,7 +119,7 @@ fn has_route(own: &Option<Word>, route: &str) -> bool
     }
 }
 
-fn has_value(held: &Held) -> bool
+pub(crate) fn has_value(held: &Held) -> bool
     ensures { result ≡ has_value held.now }
 {
     match held {

@@ -2,6 +2,8 @@
 #![tactic(auto)]
 
 mod fault;
+mod stub;
 mod token;
 
 pub use fault::{ExprKind, ParseFault};
+pub use stub::parse;
