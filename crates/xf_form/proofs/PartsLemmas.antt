@@ -22,6 +22,11 @@ joined_none p =
     ∙ ap (λ controls. record p { controls = controls; binds = p.binds ++ [] }) (append-nil p.controls)
     ∙ ap (λ binds. record p { binds = binds }) (append-nil p.binds)
 
+-- parts that came behind none
+pub parts_given : (given : Option Parts) (new : Parts) → option_map (joined no_parts) given ≡ Some new → given ≡ Some new
+parts_given None new e = cc
+parts_given (Some p) new e = e
+
 pub joined_assoc : (p q r : Parts) → joined (joined p q) r ≡ joined p (joined q r)
 joined_assoc p q r =
     ap (λ ids. record p { ids = ids; models = p.models ++ q.models ++ r.models; instances = p.instances ++ q.instances ++ r.instances; controls = p.controls ++ q.controls ++ r.controls; binds = p.binds ++ q.binds ++ r.binds }) (append_assoc p.ids q.ids r.ids)

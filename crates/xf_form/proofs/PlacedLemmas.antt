@@ -15,3 +15,9 @@ pub map-placed_all : (ns : List DataNode) (ls : List Label) → length ns ≡ le
 map-placed_all [] ls h = refl
 map-placed_all (m ∷ ns) [] h = absurd (omega arith)
 map-placed_all (m ∷ ns) (s ∷ ls) h = ap (λ ps. m ∷ ps) (map-placed_all ns ls (omega arith))
+
+pub labels-placed_all : (ns : List DataNode) (ls : List Label) → length ns ≡ length ls → map (λ p. p.label) (placed_all ns ls) ≡ ls
+labels-placed_all [] [] h = refl
+labels-placed_all [] (k ∷ ls) h = absurd (omega arith)
+labels-placed_all (m ∷ ns) [] h = absurd (omega arith)
+labels-placed_all (m ∷ ns) (k ∷ ls) h = ap (λ ks. k ∷ ks) (labels-placed_all ns ls (omega arith))

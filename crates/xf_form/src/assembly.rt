@@ -51,7 +51,8 @@ fn with_instance(
 {
     let inputs = inputs_of(alloc, &instance, controls)?;
     let Instance { root: _, nodes } = instance;
-    let Settled { calculates, marks } = settled_by(alloc, &nodes, binds)?;
+    let settled = settled_by(alloc, &nodes, binds)?;
+    let Settled { calculates, marks } = settled;
     Ok(Form {
         data: nodes.into_data(marks.as_slice()),
         inputs,

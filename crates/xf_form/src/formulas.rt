@@ -147,7 +147,10 @@ fn read(alloc: Global, tree: &Tree<'_>, set: NodeSet) -> Result<Items<usize>, Al
 {
     let mut set = set;
     match set.take_first() {
-        Some(node) => places_of(alloc, tree.labels(), node),
+        Some(node) => {
+            let places = places_of(alloc, tree.labels(), node)?;
+            Ok(places)
+        }
         None => Ok(Items::new(alloc)),
     }
 }

@@ -3,6 +3,7 @@
 ghost use Rattle.std.specs.Prelude.{◌≡◌, IfOk};
 ghost use Rattle.xf_base.specs.Gives.{Gives};
 ghost use Rattle.xf_form.specs.Binds.{IsIndependent};
+ghost use Rattle.xf_form.specs.Parts.{no_parts};
 ghost use Rattle.xf_form.specs.Shapes.{Shapes};
 ghost use Rattle.xf_form.specs.Form.{built, not_json, not_built, form_in};
 
@@ -63,15 +64,21 @@ fn built(alloc: Global, lit: &Lit) -> Result<Form, Miss>
         Err(NameFault::Memory) => return Err(Miss::Memory),
         Err(_) => return Err(Miss::NotBuilt),
     };
-    let mut parts = Parts {
+    let mut parts = no_parts(alloc);
+    match add(alloc, lit, &prefixes, Place::Root, "", &mut parts) {
+        Ok(()) => form_of(alloc, parts),
+        Err(miss) => Err(miss),
+    }
+}
+
+fn no_parts(alloc: Global) -> Parts
+    ensures { result ≡ no_parts }
+{
+    Parts {
         ids: Items::new(alloc),
         models: Items::new(alloc),
         instances: Items::new(alloc),
         controls: Items::new(alloc),
         binds: Items::new(alloc),
-    };
-    match add(alloc, lit, &prefixes, Place::Root, "", &mut parts) {
-        Ok(()) => form_of(alloc, parts),
-        Err(miss) => Err(miss),
     }
 }

@@ -1,6 +1,6 @@
 //! What location paths select.
 
-ghost use Rattle.std.specs.Prelude.{◌≡◌, map, option_map, IfOk, OnOk};
+ghost use Rattle.std.specs.Prelude.{◌≡◌, [], ◌∷◌, ◌++◌, map, option_map, if◌then◌else◌, IfOk, OnOk};
 ghost use Rattle.xf_form.specs.Paths.{has_name, is_child, children, parents, with_all, union, texts_of, place_of, is_any, plain_name, along, walked, started};
 ghost use Rattle.xf_form.specs.Formulas.{walk_of};
 ghost use Rattle.xf_form.specs.Shapes.{Shapes};
@@ -161,12 +161,21 @@ fn add_children(
 {
     let depth = depth_at(labels, node);
     for place in node..labels.len() {
-        if labels[place].depth <= depth {
+        let label = &labels[place];
+        if label.depth <= depth {
             return Ok(());
         }
-        if is_child(&labels[place], depth, name) {
-            found.add(place + 1)?;
-        }
+        add_where(is_child(label, depth, name), place + 1, found)?;
+    }
+    Ok(())
+}
+
+// Adds a node where it is wanted.
+fn add_where(is_wanted: bool, node: usize, found: &mut NodeSet) -> Result<(), AllocError>
+    ensures { OnOk result (found.new ≡ with_all found.old (if is_wanted then node ∷ [] else [])) }
+{
+    if is_wanted {
+        return found.add(node);
     }
     Ok(())
 }
@@ -193,12 +202,20 @@ pub(crate) fn places_of(alloc: Global, labels: &[Label], node: usize) -> Result<
     }
     let depth = depth_at(labels, node);
     for place in node..labels.len() {
-        if labels[place].depth <= depth {
+        let label = &labels[place];
+        if label.depth <= depth {
             return Ok(places);
         }
-        if labels[place].holds_text {
-            places.push(place)?;
-        }
+        push_where(label.holds_text, place, &mut places)?;
     }
     Ok(places)
+}
+
+fn push_where(is_wanted: bool, place: usize, places: &mut Items<usize>) -> Result<(), AllocError>
+    ensures { OnOk result (places.new ≡ places.old ++ (if is_wanted then place ∷ [] else [])) }
+{
+    if is_wanted {
+        return places.push(place);
+    }
+    Ok(())
 }
