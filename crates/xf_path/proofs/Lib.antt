@@ -1,1 +1,4 @@
+pub mod CharLemmas
+pub mod Turns
+pub mod GrammarLemmas
 mod Examples

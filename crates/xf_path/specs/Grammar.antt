@@ -200,6 +200,11 @@ unfoldable pub signed : ℕ → Bindings → ℕ → Rule (ℕ × Expr)
 signed d b zero = next_kind >>= sign_by (refuse Deep) (operand d b (refuse Deep))
 signed d b (suc depth) = next_kind >>= sign_by (one_more (signed d b depth)) (operand d b (grouped (expression_by (signed d b depth))))
 
+-- an operand, where parentheses still nest so deep
+abbrev pub operand_at : ℕ → Bindings → ℕ → Rule Expr
+operand_at d b zero = operand d b (refuse Deep)
+operand_at d b (suc depth) = operand d b (grouped (expression_by (signed d b depth)))
+
 -- ---- the whole text
 
 abbrev pub expression : ℕ → Bindings → ℕ → Rule Expr

@@ -15,6 +15,11 @@ pub record Token : Type 0 where
   -- its bytes
   pub text : List ℕ
 
+-- what follows white space
+abbrev pub after_space : List ℕ → List ℕ
+after_space [] = []
+after_space (c ∷ cs) = if is_space c then after_space cs else c ∷ cs
+
 -- what follows a point and digits, where these come next
 abbrev pub after_point : List ℕ → List ℕ
 after_point [] = []
@@ -68,8 +73,8 @@ tokens_from (suc skipped) place (c ∷ cs) = tokens_from skipped (place + len_ut
 tokens_from zero place (c ∷ cs) =
     if is_space c then tokens_from 0 (place + len_utf8 c) cs
     else (let found = token_from c cs in
-          let more = length cs - length found.1 in
-          record { kind = found.0; place = place; text = encode_utf8_all (c ∷ take more cs) } ∷ tokens_from more (place + len_utf8 c) cs)
+    let more = length cs - length found.1 in
+    record { kind = found.0; place = place; text = encode_utf8_all (c ∷ take more cs) } ∷ tokens_from more (place + len_utf8 c) cs)
 
 -- the tokens of a text, of which the last is its end
 abbrev pub tokens_of : List ℕ → List Token
