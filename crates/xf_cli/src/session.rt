@@ -165,7 +165,11 @@ fn copy_node(alloc: Global, node: &DataNode) -> Result<DataNode, AllocError>
 {
     let path = Word::from_str(alloc, node.path.as_str())?;
     let held = copy_held(alloc, &node.held)?;
-    Ok(DataNode { path, held })
+    Ok(DataNode {
+        path,
+        held,
+        is_readonly: node.is_readonly,
+    })
 }
 
 fn copy_held(alloc: Global, held: &Held) -> Result<Held, AllocError>

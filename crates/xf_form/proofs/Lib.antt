@@ -5,4 +5,8 @@ pub mod PlacingLemmas
 pub mod PartsLemmas
 pub mod AssemblyLemmas
 pub mod RouteLemmas
+pub mod TreeLemmas
+pub mod PathLemmas
+pub mod FormulaLemmas
+pub mod BindLemmas
 pub mod Examples

@@ -16,19 +16,25 @@ use Rattle.xf_form.specs.Shapes.{Misses, Adds}
 
 pub joined_none : (p : Parts) → joined p no_parts ≡ p
 joined_none p =
-    ap (λ ids. record p { ids = ids; models = p.models ++ []; instances = p.instances ++ []; controls = p.controls ++ [] }) (append-nil p.ids)
-    ∙ ap (λ models. record p { models = models; instances = p.instances ++ []; controls = p.controls ++ [] }) (append-nil p.models)
-    ∙ ap (λ instances. record p { instances = instances; controls = p.controls ++ [] }) (append-nil p.instances)
-    ∙ ap (λ controls. record p { controls = controls }) (append-nil p.controls)
+    ap (λ ids. record p { ids = ids; models = p.models ++ []; instances = p.instances ++ []; controls = p.controls ++ []; binds = p.binds ++ [] }) (append-nil p.ids)
+    ∙ ap (λ models. record p { models = models; instances = p.instances ++ []; controls = p.controls ++ []; binds = p.binds ++ [] }) (append-nil p.models)
+    ∙ ap (λ instances. record p { instances = instances; controls = p.controls ++ []; binds = p.binds ++ [] }) (append-nil p.instances)
+    ∙ ap (λ controls. record p { controls = controls; binds = p.binds ++ [] }) (append-nil p.controls)
+    ∙ ap (λ binds. record p { binds = binds }) (append-nil p.binds)
+
+-- parts that came behind none
+pub parts_given : (given : Option Parts) (new : Parts) → option_map (joined no_parts) given ≡ Some new → given ≡ Some new
+parts_given None new e = cc
+parts_given (Some p) new e = e
 
 pub joined_assoc : (p q r : Parts) → joined (joined p q) r ≡ joined p (joined q r)
 joined_assoc p q r =
-    ap (λ ids. record p { ids = ids; models = p.models ++ q.models ++ r.models; instances = p.instances ++ q.instances ++ r.instances; controls = p.controls ++ q.controls ++ r.controls }) (append_assoc p.ids q.ids r.ids)
-    ∙ ap (λ models. record p { ids = p.ids ++ (q.ids ++ r.ids); models = models; instances = p.instances ++ q.instances ++ r.instances; controls = p.controls ++ q.controls ++ r.controls }) (append_assoc p.models q.models r.models)
-    ∙ ap (λ instances. record p { ids = p.ids ++ (q.ids ++ r.ids); models = p.models ++ (q.models ++ r.models); instances = instances; controls = p.controls ++ q.controls ++ r.controls }) (append_assoc p.instances q.instances r.instances)
-    ∙ ap (λ controls. record p { ids = p.ids ++ (q.ids ++ r.ids); models = p.models ++ (q.models ++ r.models); instances = p.instances ++ (q.instances ++ r.instances); controls = controls }) (append_assoc p.controls q.controls r.controls)
+    ap (λ ids. record p { ids = ids; models = p.models ++ q.models ++ r.models; instances = p.instances ++ q.instances ++ r.instances; controls = p.controls ++ q.controls ++ r.controls; binds = p.binds ++ q.binds ++ r.binds }) (append_assoc p.ids q.ids r.ids)
+    ∙ ap (λ models. record p { ids = p.ids ++ (q.ids ++ r.ids); models = models; instances = p.instances ++ q.instances ++ r.instances; controls = p.controls ++ q.controls ++ r.controls; binds = p.binds ++ q.binds ++ r.binds }) (append_assoc p.models q.models r.models)
+    ∙ ap (λ instances. record p { ids = p.ids ++ (q.ids ++ r.ids); models = p.models ++ (q.models ++ r.models); instances = instances; controls = p.controls ++ q.controls ++ r.controls; binds = p.binds ++ q.binds ++ r.binds }) (append_assoc p.instances q.instances r.instances)
+    ∙ ap (λ controls. record p { ids = p.ids ++ (q.ids ++ r.ids); models = p.models ++ (q.models ++ r.models); instances = p.instances ++ (q.instances ++ r.instances); controls = controls; binds = p.binds ++ q.binds ++ r.binds }) (append_assoc p.controls q.controls r.controls)
+    ∙ ap (λ binds. record p { ids = p.ids ++ (q.ids ++ r.ids); models = p.models ++ (q.models ++ r.models); instances = p.instances ++ (q.instances ++ r.instances); controls = p.controls ++ (q.controls ++ r.controls); binds = binds }) (append_assoc p.binds q.binds r.binds)
 
--- parts that come behind the first of others
 joined_after : (p q : Parts) (given : Option Parts) → option_map (joined p) (option_map (joined q) given) ≡ option_map (joined (joined p q)) given
 joined_after p q None = refl
 joined_after p q (Some r) = ap Some (sym (joined_assoc p q r))

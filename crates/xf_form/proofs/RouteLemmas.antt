@@ -5,6 +5,7 @@ use Rattle.std.specs.Str.Pattern.{FindsTextPrefix}
 use Rattle.std.specs.declared.option.Option.{Option}
 use Rattle.std.proofs.lemmas.Bool.{cases_Bool, cond-true, cond-false, eqb-true, eq-eqb}
 use Rattle.xf_form.specs.declared.form.DataNode.{DataNode}
+use Rattle.xf_form.specs.declared.label.Label.{Label}
 use Rattle.xf_form.specs.Placed.{placed_all}
 use Rattle.xf_form.specs.Routes.{after, has_route, has_value, node_at}
 
@@ -23,18 +24,19 @@ after_none (b ∷ bs) (c ∷ cs) apart =
       | inr other ↦ cond-false (b == c) (after bs cs) None other
     ]
 
-node_step : (route : List ℕ) (ns : List DataNode) (rs : List (Option (List ℕ))) (n i : ℕ) (r : Option (List ℕ)) → length ns ≡ length rs → i < length rs → r ≡ get_or rs i r → has_route route r ≡ false
-    → node_at route n (placed_all (drop i ns) (drop i rs)) ≡ node_at route (n + 1) (placed_all (drop (suc i) ns) (drop (suc i) rs))
-node_step route [] [] n i r same h e other = absurd (omega arith)
-node_step route [] (s ∷ rs) n i r same h e other = absurd (omega arith)
-node_step route (m ∷ ns) [] n i r same h e other = absurd (omega arith)
-node_step route (m ∷ ns) (s ∷ rs) n zero r same h e other = cond-false (has_route route s) (cond (has_value m.held) (Some n) None) (node_at route (n + 1) (placed_all ns rs)) (ap (has_route route) (sym e) ∙ other)
-node_step route (m ∷ ns) (s ∷ rs) n (suc i) r same h e other = node_step route ns rs n i r (omega arith) (omega arith) e other
+node_step : (route : List ℕ) (ns : List DataNode) (ls : List Label) (n i : ℕ) (l : Label) → length ns ≡ length ls → i < length ls → l ≡ get_or ls i l → has_route route l.route ≡ false
+    → node_at route n (placed_all (drop i ns) (drop i ls)) ≡ node_at route (n + 1) (placed_all (drop (suc i) ns) (drop (suc i) ls))
+node_step route [] [] n i l same h e other = absurd (omega arith)
+node_step route [] (s ∷ ls) n i l same h e other = absurd (omega arith)
+node_step route (m ∷ ns) [] n i l same h e other = absurd (omega arith)
+node_step route (m ∷ ns) (s ∷ ls) n zero l same h e other =
+    cond-false (has_route route s.route) (cond (has_value m.held) (Some n) None) (node_at route (n + 1) (placed_all ns ls)) (ap (λ k. has_route route k.route) (sym e) ∙ other)
+node_step route (m ∷ ns) (s ∷ ls) n (suc i) l same h e other = node_step route ns ls n i l (omega arith) (omega arith) e other
 
-pub node_more : (route : List ℕ) (ns : List DataNode) (rs : List (Option (List ℕ))) (i : ℕ) (r : Option (List ℕ)) (whole : Option ℕ) → length ns ≡ length rs → i < length rs → r ≡ get_or rs i r → has_route route r ≡ false
-    → node_at route i (placed_all (drop i ns) (drop i rs)) ≡ whole → node_at route (i + 1) (placed_all (drop (i + 1) ns) (drop (i + 1) rs)) ≡ whole
-node_more route ns rs i r whole same h e other so_far =
-    ap (λ j. node_at route (i + 1) (placed_all (drop j ns) (drop j rs))) (add-one i) ∙ sym (node_step route ns rs i i r same h e other) ∙ so_far
+pub node_more : (route : List ℕ) (ns : List DataNode) (ls : List Label) (i : ℕ) (l : Label) (whole : Option ℕ) → length ns ≡ length ls → i < length ls → l ≡ get_or ls i l → has_route route l.route ≡ false
+    → node_at route i (placed_all (drop i ns) (drop i ls)) ≡ whole → node_at route (i + 1) (placed_all (drop (i + 1) ns) (drop (i + 1) ls)) ≡ whole
+node_more route ns ls i l whole same h e other so_far =
+    ap (λ j. node_at route (i + 1) (placed_all (drop j ns) (drop j ls))) (add-one i) ∙ sym (node_step route ns ls i i l same h e other) ∙ so_far
 
 -- what a search for a prefix tells
 pub after_told : (found : Option (Bor (List ℕ))) (prefix text : List ℕ)

@@ -2,13 +2,18 @@
 use Rattle.std.specs.Prelude.{ℕ, List, [], ◌∷◌, ◌++◌, length, map, Bool, true, not, ◌&&◌, ◌==◌, nat_le, Option, Some, None, option_map, option_and_then, if◌then◌else◌}
 use Rattle.std.specs.List.{list_any}
 use Rattle.std.specs.Str.{bytes_eq}
+use Rattle.xf_form.specs.declared.form.DataNode.{DataNode}
 use Rattle.xf_form.specs.declared.form.Form.{Form}
+use Rattle.xf_form.specs.declared.label.Label.{Label}
+use Rattle.xf_form.specs.declared.part.Bind.{Bind}
+use Rattle.xf_form.specs.declared.part.Settled.{Settled}
 use Rattle.xf_form.specs.declared.form.Input.{Input}
 use Rattle.xf_form.specs.declared.part.Instance.{Instance}
 use Rattle.xf_form.specs.declared.part.Control.{Control}
 use Rattle.xf_form.specs.declared.part.Parts.{Parts}
 use Rattle.xf_form.specs.Routes.{route_of, node_at}
 use Rattle.xf_form.specs.Parts.{single}
+use Rattle.xf_form.specs.Binds.{settled_by, marked}
 
 -- each id is new among those before it
 abbrev pub are_new : List (List ℕ) → List (List ℕ) → Bool
@@ -23,12 +28,21 @@ abbrev pub inputs_of : Instance → List Control → Option (List Input)
 inputs_of instance [] = Some []
 inputs_of instance (c ∷ cs) = option_and_then (λ node. option_map (λ rest. record { id = c.id; node = node } ∷ rest) (inputs_of instance cs)) (node_of instance c.reference)
 
-abbrev pub form_from : Instance → List Input → Form
-form_from instance inputs = record { «data» = map (λ p. p.node) instance.nodes; inputs = inputs }
+abbrev pub labels_of : Instance → List Label
+labels_of instance = map (λ p. p.label) instance.nodes
 
-abbrev pub with_instance : List Control → Option Instance → Option Form
-with_instance controls None = None
-with_instance controls (Some instance) = option_map (form_from instance) (inputs_of instance controls)
+abbrev pub data_of : Instance → List DataNode
+data_of instance = map (λ p. p.node) instance.nodes
+
+abbrev pub form_from : Instance → List Input → Settled → Form
+form_from instance inputs s = record { «data» = marked (data_of instance) s.marks; inputs = inputs; calculates = s.calculates }
+
+abbrev pub with_inputs : Instance → List Bind → List Input → Option Form
+with_inputs instance binds inputs = option_map (form_from instance inputs) (settled_by (labels_of instance) (data_of instance) binds)
+
+abbrev pub with_instance : List Control → List Bind → Option Instance → Option Form
+with_instance controls binds None = None
+with_instance controls binds (Some instance) = option_and_then (with_inputs instance binds) (inputs_of instance controls)
 
 -- the most inputs of a form
 abbrev pub input_limit : ℕ
@@ -36,4 +50,4 @@ input_limit = 32
 
 abbrev pub form_of : Parts → Option Form
 form_of p =
-    if are_new [] p.ids && (length p.models == 1) && nat_le (length p.controls) input_limit then with_instance p.controls (single p.instances) else None
+    if are_new [] p.ids && (length p.models == 1) && nat_le (length p.controls) input_limit then with_instance p.controls p.binds (single p.instances) else None

@@ -14,7 +14,7 @@ pub record Child : Type 0 where
   pub is_bare : List ℕ → Bool
   -- at most so many elements stand from it down, one in another
   pub fits : ℕ → Bool
-  -- its nodes as data, under a default namespace, with its path and its route
-  pub placed : List ℕ → List ℕ → Option (List ℕ) → List Placed
+  -- its nodes as data, under a default namespace, with its path, its route and its depth
+  pub placed : List ℕ → List ℕ → Option (List ℕ) → ℕ → List Placed
   -- what it gives to the form, under prefixes, in a place and under a default namespace, or None where the form is not built
   pub parts : Bindings → Place → List ℕ → Option Parts

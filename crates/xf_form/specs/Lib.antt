@@ -7,6 +7,10 @@ pub mod Vocabulary
 pub mod Parts
 pub mod Piece
 pub mod Routes
+pub mod Paths
+pub mod Parents
+pub mod Formulas
+pub mod Binds
 pub mod Assembly
 pub mod Shapes
 pub mod Form

@@ -5,7 +5,7 @@ use Rattle.xf_name.specs.declared.lit.Lit.TheOpen.{Lit-F, LitElement-F}
 use Rattle.xf_name.specs.declared.lit.LitElement.{LitElement, fold-LitElement}
 use Rattle.xf_name.specs.Written.{default_below}
 use Rattle.xf_form.specs.Child.{Child}
-use Rattle.xf_form.specs.Data.{element_nodes, is_bare_name, element_fits}
+use Rattle.xf_form.specs.Data.{element_nodes, is_bare_name, bare_name, element_fits}
 use Rattle.xf_form.specs.Parts.{no_parts, element_parts}
 
 abbrev pub text_child : List ℕ → Child
@@ -14,7 +14,7 @@ text_child text = record {
   text = text;
   is_bare = λ default. false;
   fits = λ n. true;
-  placed = λ default path route. [];
+  placed = λ default path route depth. [];
   parts = λ b place default. Some no_parts;
 }
 
@@ -28,7 +28,7 @@ element_child e = record {
   text = [];
   is_bare = λ default. is_bare_name e.name (default_below default e.attributes);
   fits = element_fits e.children;
-  placed = λ default path route. element_nodes e.attributes e.children (default_below default e.attributes) path route;
+  placed = λ default path route depth. element_nodes (bare_name e.name (default_below default e.attributes)) e.attributes e.children (default_below default e.attributes) path route depth;
   parts = λ b place default. element_parts e.name e.attributes e.children b place (default_below default e.attributes);
 }
 

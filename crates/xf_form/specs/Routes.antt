@@ -42,4 +42,4 @@ has_value (Text text) = false
 -- the place of the first node that a route leads to, where the first of the nodes has the place n and that node has a value
 abbrev pub node_at : List ℕ → ℕ → List Placed → Option ℕ
 node_at route n [] = None
-node_at route n (p ∷ ps) = if has_route route p.route then (if has_value p.node.held then Some n else None) else node_at route (n + 1) ps
+node_at route n (p ∷ ps) = if has_route route p.label.route then (if has_value p.node.held then Some n else None) else node_at route (n + 1) ps

@@ -41,6 +41,7 @@ xforms_role local place =
     if bytes_eq local (codes "model") && is_host place then Some role.Model
     else if bytes_eq local (codes "instance") && is_model place then Some role.Instance
     else if bytes_eq local (codes "input") && is_host place then Some role.Input
+    else if bytes_eq local (codes "bind") && is_model place then Some role.Bind
     else None
 
 -- any other element is a host element
@@ -59,18 +60,24 @@ abbrev pub attribute : List ℕ → List Pair → Option (List ℕ)
 attribute name [] = None
 attribute name (p ∷ ps) = if bytes_eq p.name name then Some p.text else attribute name ps
 
--- the attributes of XForms but `id` and `ref`
+-- the attributes of XForms that neither an input nor a bind may have
 abbrev pub vocabulary : List (List ℕ)
 vocabulary =
-    codes "nodeset" ∷ codes "type" ∷ codes "calculate" ∷ codes "relevant" ∷ codes "readonly" ∷ codes "required" ∷ codes "constraint" ∷ codes "resource" ∷ codes "action" ∷ codes "method"
+    codes "type" ∷ codes "relevant" ∷ codes "readonly" ∷ codes "required" ∷ codes "constraint" ∷ codes "resource" ∷ codes "action" ∷ codes "method"
     ∷ codes "bind" ∷ codes "replace" ∷ codes "instance" ∷ codes "targetref" ∷ codes "validate" ∷ codes "serialization" ∷ codes "model" ∷ codes "selected" ∷ codes "startindex" ∷ codes "value"
     ∷ codes "selection" ∷ codes "submission" ∷ codes "context" ∷ codes "origin" ∷ codes "at" ∷ codes "position" ∷ codes "repeat" ∷ codes "index" ∷ codes "case" ∷ codes "control"
     ∷ codes "name" ∷ codes "targetid" ∷ codes "target" ∷ codes "bubbles" ∷ codes "cancelable" ∷ codes "delay" ∷ codes "if" ∷ codes "while" ∷ []
+
+-- those that only one of the two may have are not for the other
+abbrev pub is_foreign : Role → List ℕ → Bool
+is_foreign role.Input name = bytes_eq name (codes "nodeset") || bytes_eq name (codes "calculate")
+is_foreign role.Bind name = bytes_eq name (codes "ref")
+is_foreign other name = false
 
 abbrev pub events_by : Bindings → Result QName NameFault → Bool
 events_by b (Ok name) = is_space b name.space events_space
 events_by b (Err fault) = false
 
--- an attribute that an input may not have: one of XForms, or one of XML Events
-abbrev pub is_unbuilt : Bindings → List ℕ → Bool
-is_unbuilt b name = list_any (bytes_eq name) vocabulary || events_by b (resolved b name 0)
+-- an attribute that an element may not have: one of XForms, or one of XML Events
+abbrev pub is_unbuilt : Role → Bindings → List ℕ → Bool
+is_unbuilt role b name = is_foreign role name || list_any (bytes_eq name) vocabulary || events_by b (resolved b name 0)

@@ -3,16 +3,18 @@
 ghost use Rattle.std.specs.Prelude.{◌≡◌, map, filter, option_map, IfOk, OnOk};
 ghost use Rattle.xf_form.specs.Data.{is_element, all_fit};
 ghost use Rattle.xf_form.specs.Piece.{child_of, child_of_element};
-ghost use Rattle.xf_form.specs.Parts.{joined, id_part, model_part, all_parts, single, instance_of, instance_parts, input_parts};
-ghost use Rattle.xf_form.specs.Shapes.{Adds};
+ghost use Rattle.xf_form.specs.Parts.{joined, id_part, model_part, all_parts, single, instance_of, instance_parts, input_parts, attribute_expression, bind_parts};
+ghost use Rattle.xf_form.specs.Shapes.{Shapes, Adds};
 
 use crate::miss::Miss;
 use crate::nodes::Nodes;
-use crate::part::{Control, Instance, Parts, Place, Role};
+use crate::part::{Bind, Control, Instance, Parts, Place, Role};
 use crate::placing::{default_below, has_elements, is_bare, place_element};
 use crate::vocabulary::{attribute, has_unbuilt, role_of};
 use std::alloc::{AllocError, Global};
+use xf_ast::Expr;
 use xf_name::{Lit, LitElement, Pair, Prefixes, Word};
+use xf_path::{ParseFault, parse};
 
 // The most elements of an instance that stand one in another.
 const DEPTH_LIMIT: usize = 100;
@@ -60,6 +62,7 @@ fn add_element(
         }
         Role::Instance => add_instance(alloc, children, default, parts),
         Role::Input => add_input(alloc, prefixes, attributes, children, parts),
+        Role::Bind => add_bind(alloc, prefixes, attributes, children, parts),
     }
 }
 
@@ -128,7 +131,7 @@ fn instance_of(alloc: Global, element: &LitElement, default: &str) -> Result<Ins
     let mut path = Word::from_str(alloc, "/")?;
     path.push_str(element.name.as_str())?;
     let mut nodes = Nodes::new(alloc);
-    place_element(alloc, element, default, path.as_str(), Some(""), &mut nodes)?;
+    place_element(alloc, element, default, path.as_str(), Some(""), 1, &mut nodes)?;
     let root = if is_bare(element, default) {
         Some(Word::from_str(alloc, element.name.as_str())?)
     } else {
@@ -201,7 +204,7 @@ fn add_input(
 ) -> Result<(), Miss>
     ensures { Adds result parts.old parts.new (input_parts prefixes.now attributes.now (map child_of children.now)) }
 {
-    if has_elements(children) || has_unbuilt(prefixes, attributes)? {
+    if has_elements(children) || has_unbuilt(Role::Input, prefixes, attributes)? {
         return Err(Miss::NotBuilt);
     }
     let Some(id) = attribute("id", attributes) else {
@@ -215,4 +218,45 @@ fn add_input(
         reference: Word::from_str(alloc, reference)?,
     })?;
     Ok(())
+}
+
+// ---- binds
+
+fn add_bind(
+    alloc: Global,
+    prefixes: &Prefixes,
+    attributes: &[Pair],
+    children: &[Lit],
+    parts: &mut Parts,
+) -> Result<(), Miss>
+    ensures { Adds result parts.old parts.new (bind_parts prefixes.now attributes.now (map child_of children.now)) }
+{
+    if has_elements(children) || has_unbuilt(Role::Bind, prefixes, attributes)? {
+        return Err(Miss::NotBuilt);
+    }
+    let node_set = attribute_expression(alloc, prefixes, "nodeset", attributes)?;
+    let calculate = attribute_expression(alloc, prefixes, "calculate", attributes)?;
+    parts.binds.push(Bind {
+        node_set,
+        calculate,
+    })?;
+    Ok(())
+}
+
+fn attribute_expression(
+    alloc: Global,
+    prefixes: &Prefixes,
+    name: &str,
+    attributes: &[Pair],
+) -> Result<Expr, Miss>
+    ensures { Shapes result (attribute_expression prefixes.now name.now attributes.now) }
+{
+    let Some(text) = attribute(name, attributes) else {
+        return Err(Miss::NotBuilt);
+    };
+    match parse(alloc, text, prefixes) {
+        Ok(tree) => Ok(tree),
+        Err(ParseFault::Memory) => Err(Miss::Memory),
+        Err(ParseFault::Expr(_, _)) => Err(Miss::NotBuilt),
+    }
 }

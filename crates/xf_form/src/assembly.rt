@@ -1,14 +1,16 @@
 //! A form from its parts.
 
-ghost use Rattle.std.specs.Prelude.{◌≡◌, [], option_map, IfOk};
+ghost use Rattle.std.specs.Prelude.{◌≡◌, [], Some, option_map, IfOk};
 ghost use Rattle.xf_form.specs.Parts.{single};
 ghost use Rattle.xf_form.specs.Routes.{after, below_root, route_of};
-ghost use Rattle.xf_form.specs.Assembly.{are_new, node_of, inputs_of, form_of};
+ghost use Rattle.xf_form.specs.Assembly.{are_new, node_of, inputs_of, with_instance, form_of};
+ghost use Rattle.xf_form.specs.Binds.{IsIndependent};
 ghost use Rattle.xf_form.specs.Shapes.{Shapes};
 
+use crate::binds::settled_by;
 use crate::form::{Form, Input};
 use crate::miss::Miss;
-use crate::part::{Control, Instance, Parts};
+use crate::part::{Bind, Control, Instance, Parts, Settled};
 use indexmap::IndexSet;
 use std::alloc::{AllocError, Global};
 use xf_base::Items;
@@ -19,13 +21,15 @@ const INPUT_LIMIT: usize = 32;
 
 /// The form of these parts, where they have the built shape.
 pub(crate) fn form_of(alloc: Global, parts: Parts) -> Result<Form, Miss>
-    ensures { Shapes result (form_of parts) }
+    ensures form { Shapes result (form_of parts) }
+    ensures independent { IfOk result IsIndependent }
 {
     let Parts {
         ids,
         models,
         instances,
         controls,
+        binds,
     } = parts;
     if models.len() != 1 || controls.len() > INPUT_LIMIT || !are_new(alloc, ids.as_slice())? {
         return Err(Miss::NotBuilt);
@@ -33,11 +37,26 @@ pub(crate) fn form_of(alloc: Global, parts: Parts) -> Result<Form, Miss>
     let Some(instance) = only(instances) else {
         return Err(Miss::NotBuilt);
     };
-    let inputs = inputs_of(alloc, &instance, controls.as_slice())?;
+    with_instance(alloc, controls.as_slice(), binds.as_slice(), instance)
+}
+
+fn with_instance(
+    alloc: Global,
+    controls: &[Control],
+    binds: &[Bind],
+    instance: Instance,
+) -> Result<Form, Miss>
+    ensures form { Shapes result (with_instance controls.now binds.now (Some instance)) }
+    ensures independent { IfOk result IsIndependent }
+{
+    let inputs = inputs_of(alloc, &instance, controls)?;
     let Instance { root: _, nodes } = instance;
+    let settled = settled_by(alloc, &nodes, binds)?;
+    let Settled { calculates, marks } = settled;
     Ok(Form {
-        data: nodes.into_data(),
+        data: nodes.into_data(marks.as_slice()),
         inputs,
+        calculates,
     })
 }
 

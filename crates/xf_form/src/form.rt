@@ -1,5 +1,6 @@
 //! A form as it is loaded.
 
+use crate::formula::Calculate;
 use xf_base::Items;
 use xf_name::Word;
 
@@ -19,6 +20,8 @@ pub enum Held {
 pub struct DataNode {
     pub path: Word,
     pub held: Held,
+    /// Whether it or an element around it is calculated.
+    pub is_readonly: bool,
 }
 
 /// An input: its id, and the place of its node in the data, from 0.
@@ -28,9 +31,10 @@ pub struct Input {
     pub node: usize,
 }
 
-/// A form: its data and its inputs, both in document order.
-#[derive(Debug, Drop)]
+/// A form: its data and its inputs in document order, and its calculated nodes in the order of the binds.
+#[derive(Drop)]
 pub struct Form {
     pub data: Items<DataNode>,
     pub inputs: Items<Input>,
+    pub calculates: Items<Calculate>,
 }

@@ -1,7 +1,9 @@
 //! Loading a form.
 
-ghost use Rattle.std.specs.Prelude.{◌≡◌};
+ghost use Rattle.std.specs.Prelude.{◌≡◌, IfOk};
 ghost use Rattle.xf_base.specs.Gives.{Gives};
+ghost use Rattle.xf_form.specs.Binds.{IsIndependent};
+ghost use Rattle.xf_form.specs.Parts.{no_parts};
 ghost use Rattle.xf_form.specs.Shapes.{Shapes};
 ghost use Rattle.xf_form.specs.Form.{built, not_json, not_built, form_in};
 
@@ -21,7 +23,8 @@ const FORM_LIMIT: usize = 65536;
 
 /// The form that bytes spell. A refusal has no place.
 pub fn load(alloc: Global, bytes: &[u8]) -> Result<Form, FormFault>
-    ensures { Gives FormFault.Memory (λ form. form) result (form_in bytes.now) }
+    ensures form { Gives FormFault.Memory (λ form. form) result (form_in bytes.now) }
+    ensures independent { IfOk result IsIndependent }
 {
     if bytes.len() > FORM_LIMIT {
         return Err(not_built(alloc));
@@ -53,21 +56,29 @@ fn not_built(alloc: Global) -> FormFault
 
 // The form that a tree is.
 fn built(alloc: Global, lit: &Lit) -> Result<Form, Miss>
-    ensures { Shapes result (built lit.now) }
+    ensures form { Shapes result (built lit.now) }
+    ensures independent { IfOk result IsIndependent }
 {
     let prefixes = match collect(alloc, lit) {
         Ok(prefixes) => prefixes,
         Err(NameFault::Memory) => return Err(Miss::Memory),
         Err(_) => return Err(Miss::NotBuilt),
     };
-    let mut parts = Parts {
+    let mut parts = no_parts(alloc);
+    match add(alloc, lit, &prefixes, Place::Root, "", &mut parts) {
+        Ok(()) => form_of(alloc, parts),
+        Err(miss) => Err(miss),
+    }
+}
+
+fn no_parts(alloc: Global) -> Parts
+    ensures { result ≡ no_parts }
+{
+    Parts {
         ids: Items::new(alloc),
         models: Items::new(alloc),
         instances: Items::new(alloc),
         controls: Items::new(alloc),
-    };
-    match add(alloc, lit, &prefixes, Place::Root, "", &mut parts) {
-        Ok(()) => form_of(alloc, parts),
-        Err(miss) => Err(miss),
+        binds: Items::new(alloc),
     }
 }

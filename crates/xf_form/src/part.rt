@@ -1,6 +1,8 @@
 //! What the elements of a form give to it.
 
+use crate::formula::Calculate;
 use crate::nodes::Nodes;
+use xf_ast::Expr;
 use xf_base::Items;
 use xf_name::Word;
 
@@ -19,6 +21,7 @@ pub(crate) enum Role {
     Model,
     Instance,
     Input,
+    Bind,
 }
 
 // An instance: the name of its document element, where that has neither prefix nor namespace, and its nodes.
@@ -35,6 +38,20 @@ pub(crate) struct Control {
     pub(crate) reference: Word,
 }
 
+// A bind: what it selects, and what calculates the nodes selected.
+#[derive(Drop)]
+pub(crate) struct Bind {
+    pub(crate) node_set: Expr,
+    pub(crate) calculate: Expr,
+}
+
+// What binds settle of a form: its calculates, and which nodes of the data are read-only.
+#[derive(Drop)]
+pub(crate) struct Settled {
+    pub(crate) calculates: Items<Calculate>,
+    pub(crate) marks: Items<bool>,
+}
+
 // What elements give to a form, each list in document order. A model is told by its id.
 #[derive(Drop)]
 pub(crate) struct Parts {
@@ -42,4 +59,5 @@ pub(crate) struct Parts {
     pub(crate) models: Items<Option<Word>>,
     pub(crate) instances: Items<Instance>,
     pub(crate) controls: Items<Control>,
+    pub(crate) binds: Items<Bind>,
 }

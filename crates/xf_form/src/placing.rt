@@ -1,14 +1,15 @@
 //! The nodes of an element, one after another.
 
-ghost use Rattle.std.specs.Prelude.{◌≡◌, ◌++◌, ◌∷◌, [], map, option_map, IfOk, OnOk};
+ghost use Rattle.std.specs.Prelude.{◌≡◌, ◌≤◌, ◌++◌, ◌∷◌, [], length, map, option_map, IfOk, OnOk};
 ghost use Rattle.std.specs.Option.{option_copied};
 ghost use Rattle.xf_name.specs.Written.{default_below};
-ghost use Rattle.xf_form.specs.Data.{is_element, has_elements, text_of, held_of, is_declaration, attribute_node, attribute_nodes, element_node, child_nodes, nodes_inside, is_bare_name};
+ghost use Rattle.xf_form.specs.Data.{is_element, has_elements, text_of, held_of, is_declaration, attribute_node, attribute_nodes, element_node, child_nodes, nodes_inside, is_bare_name, bare_name, unnamed};
 ghost use Rattle.xf_form.specs.Data.{in_brackets, child_path, attribute_path, text_path, child_route};
 ghost use Rattle.xf_form.specs.Piece.{child_of, child_of_element};
 
 use crate::form::{DataNode, Held};
 use crate::index::indexes;
+use crate::label::Label;
 use crate::nodes::Nodes;
 use std::alloc::{AllocError, Global};
 use xf_name::{Lit, LitElement, Pair, Word};
@@ -161,16 +162,39 @@ fn child_route(
 
 // ---- nodes
 
+fn bare_name(alloc: Global, name: &str, default: &str) -> Result<Option<Word>, AllocError>
+    ensures { IfOk result (λ bare. bare ≡ bare_name name.now default.now) }
+{
+    if !is_bare_name(name, default) {
+        return Ok(None);
+    }
+    Ok(Some(Word::from_str(alloc, name)?))
+}
+
+// The label of a node that no name leads to.
+fn unnamed(depth: usize, holds_text: bool) -> Label
+    ensures { result ≡ unnamed depth holds_text }
+{
+    Label {
+        depth,
+        name: None,
+        route: None,
+        holds_text,
+    }
+}
+
 fn place_attributes(
     alloc: Global,
     attributes: &[Pair],
     path: &str,
+    depth: usize,
     nodes: &mut Nodes,
 ) -> Result<(), AllocError>
-    ensures { OnOk result (nodes.new ≡ nodes.old ++ attribute_nodes path.now attributes.now) }
+    requires { depth ≤ length path.now }
+    ensures { OnOk result (nodes.new ≡ nodes.old ++ attribute_nodes path.now depth attributes.now) }
 {
     for attribute in attributes {
-        place_attribute(alloc, attribute, path, nodes)?;
+        place_attribute(alloc, attribute, path, depth, nodes)?;
     }
     Ok(())
 }
@@ -179,25 +203,29 @@ fn place_attribute(
     alloc: Global,
     attribute: &Pair,
     path: &str,
+    depth: usize,
     nodes: &mut Nodes,
 ) -> Result<(), AllocError>
-    ensures { OnOk result (nodes.new ≡ nodes.old ++ attribute_node path.now attribute.now) }
+    requires { depth ≤ length path.now }
+    ensures { OnOk result (nodes.new ≡ nodes.old ++ attribute_node path.now depth attribute.now) }
 {
     if is_declaration(attribute.name.as_str()) {
         return Ok(());
     }
+    let label = unnamed(depth + 1, false);
     let path = attribute_path(alloc, path, attribute.name.as_str())?;
     let text = Word::from_str(alloc, attribute.text.as_str())?;
     nodes.push(
         DataNode {
             path,
             held: Held::Value(text),
+            is_readonly: false,
         },
-        None,
+        label,
     )
 }
 
-// The element with this path and route, its attributes and what is in it.
+// The element with this path, route and depth, its attributes and what is in it.
 #[cycle(placing)]
 pub(crate) fn place_element(
     alloc: Global,
@@ -205,40 +233,52 @@ pub(crate) fn place_element(
     default: &str,
     path: &str,
     route: Option<&str>,
+    depth: usize,
     nodes: &mut Nodes,
 ) -> Result<(), AllocError>
-    ensures { OnOk result (nodes.new ≡ nodes.old ++ (child_of_element element.now).placed default.now path.now (option_copied route.entry)) }
+    requires { depth ≤ length path.now }
+    ensures { OnOk result (nodes.new ≡ nodes.old ++ (child_of_element element.now).placed default.now path.now (option_copied route.entry) depth) }
 {
     let attributes = element.attributes.as_slice();
     let children = element.children.as_slice();
-    push_element(alloc, children, path, route, nodes)?;
-    place_attributes(alloc, attributes, path, nodes)?;
-    place_inside(
-        alloc,
-        children,
-        default_below(default, attributes),
-        path,
-        route,
-        nodes,
-    )
+    let default = default_below(default, attributes);
+    let name = bare_name(alloc, element.name.as_str(), default)?;
+    push_element(alloc, name, children, path, route, depth, nodes)?;
+    place_attributes(alloc, attributes, path, depth, nodes)?;
+    place_inside(alloc, children, default, path, route, depth, nodes)
 }
 
 fn push_element(
     alloc: Global,
+    name: Option<Word>,
     children: &[Lit],
     path: &str,
     route: Option<&str>,
+    depth: usize,
     nodes: &mut Nodes,
 ) -> Result<(), AllocError>
-    ensures { OnOk result (nodes.new ≡ nodes.old ++ element_node (map child_of children.now) path.now (option_copied route.entry) ∷ []) }
+    ensures { OnOk result (nodes.new ≡ nodes.old ++ element_node name (map child_of children.now) path.now (option_copied route.entry) depth ∷ []) }
 {
     let route = match route {
         Some(route) => Some(Word::from_str(alloc, route)?),
         None => None,
     };
+    let label = Label {
+        depth,
+        name,
+        route,
+        holds_text: !has_elements(children),
+    };
     let held = held_of(alloc, children)?;
     let path = Word::from_str(alloc, path)?;
-    nodes.push(DataNode { path, held }, route)
+    nodes.push(
+        DataNode {
+            path,
+            held,
+            is_readonly: false,
+        },
+        label,
+    )
 }
 
 #[cycle(placing)]
@@ -248,16 +288,18 @@ fn place_inside(
     default: &str,
     path: &str,
     route: Option<&str>,
+    depth: usize,
     nodes: &mut Nodes,
 ) -> Result<(), AllocError>
-    ensures { OnOk result (nodes.new ≡ nodes.old ++ nodes_inside default.now path.now (option_copied route.entry) (map child_of children.now)) }
+    requires { depth ≤ length path.now }
+    ensures { OnOk result (nodes.new ≡ nodes.old ++ nodes_inside default.now path.now (option_copied route.entry) depth (map child_of children.now)) }
 {
     if !has_elements(children) {
         return Ok(());
     }
     let numbers = indexes(alloc, children)?;
     for (i, child) in children.iter().enumerate() {
-        place_child(alloc, child, numbers[i], default, path, route, nodes)?;
+        place_child(alloc, child, numbers[i], default, path, route, depth, nodes)?;
     }
     Ok(())
 }
@@ -270,15 +312,25 @@ fn place_child(
     default: &str,
     path: &str,
     route: Option<&str>,
+    depth: usize,
     nodes: &mut Nodes,
 ) -> Result<(), AllocError>
-    ensures { OnOk result (nodes.new ≡ nodes.old ++ child_nodes default.now path.now (option_copied route.entry) (child_of child.now) number) }
+    requires { depth ≤ length path.now }
+    ensures { OnOk result (nodes.new ≡ nodes.old ++ child_nodes default.now path.now (option_copied route.entry) depth (child_of child.now) number) }
 {
     match child {
         Lit::Text(text) => {
+            let label = unnamed(depth + 1, true);
             let held = Held::Text(Word::from_str(alloc, text.as_str())?);
             let path = text_path(alloc, path, number)?;
-            nodes.push(DataNode { path, held }, None)
+            nodes.push(
+                DataNode {
+                    path,
+                    held,
+                    is_readonly: false,
+                },
+                label,
+            )
         }
         Lit::Element(element) => {
             let name = element.name.as_str();
@@ -290,6 +342,7 @@ fn place_child(
                 default,
                 path.as_str(),
                 as_str(&route),
+                depth + 1,
                 nodes,
             )
         }

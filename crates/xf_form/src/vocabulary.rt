@@ -4,7 +4,7 @@ ghost use Rattle.std.specs.Prelude.{◌≡◌, option_map, IfOk};
 ghost use Rattle.std.specs.List.{list_any};
 ghost use Rattle.std.specs.Str.{bytes_eq};
 ghost use Rattle.xf_form.specs.Shapes.{Shapes};
-ghost use Rattle.xf_form.specs.Vocabulary.{is_space, xforms_role, role_of, attribute, vocabulary, is_unbuilt};
+ghost use Rattle.xf_form.specs.Vocabulary.{is_space, xforms_role, role_of, attribute, vocabulary, is_foreign, is_unbuilt};
 
 use crate::miss::Miss;
 use crate::part::{Place, Role};
@@ -15,10 +15,8 @@ const XFORMS_SPACE: &str = "http://www.w3.org/2002/xforms";
 
 const EVENTS_SPACE: &str = "http://www.w3.org/2001/xml-events";
 
-static VOCABULARY: [&str; 38] = [
-    "nodeset",
+static VOCABULARY: [&str; 36] = [
     "type",
-    "calculate",
     "relevant",
     "readonly",
     "required",
@@ -112,6 +110,9 @@ fn xforms_role(local: &str, place: Place) -> Option<Role>
             if local == "instance" {
                 return Some(Role::Instance);
             }
+            if local == "bind" {
+                return Some(Role::Bind);
+            }
             None
         }
     }
@@ -131,28 +132,39 @@ pub(crate) fn attribute<'a>(name: &str, attributes: &'a [Pair]) -> Option<&'a st
     None
 }
 
-/// Whether one of the attributes may not stand at an input.
-pub(crate) fn has_unbuilt(prefixes: &Prefixes, attributes: &[Pair]) -> Result<bool, AllocError>
-    ensures { IfOk result (λ found. found ≡ list_any (λ p. is_unbuilt prefixes.now p.name) attributes.now) }
+/// Whether one of the attributes may not stand at an element that is an input or a bind.
+pub(crate) fn has_unbuilt(role: Role, prefixes: &Prefixes, attributes: &[Pair]) -> Result<bool, AllocError>
+    ensures { IfOk result (λ found. found ≡ list_any (λ p. is_unbuilt role prefixes.now p.name) attributes.now) }
 {
     for pair in attributes {
-        if is_unbuilt(prefixes, pair.name.as_str())? {
+        if is_unbuilt(role, prefixes, pair.name.as_str())? {
             return Ok(true);
         }
     }
     Ok(false)
 }
 
-fn is_unbuilt(prefixes: &Prefixes, name: &str) -> Result<bool, AllocError>
-    ensures { IfOk result (λ found. found ≡ is_unbuilt prefixes.now name.now) }
+fn is_unbuilt(role: Role, prefixes: &Prefixes, name: &str) -> Result<bool, AllocError>
+    ensures { IfOk result (λ found. found ≡ is_unbuilt role prefixes.now name.now) }
 {
-    if is_word(name) {
+    if is_foreign(role, name) || is_word(name) {
         return Ok(true);
     }
     match prefixes.resolve(name, 0) {
         Ok(name) => Ok(is_space(prefixes, name.space, EVENTS_SPACE)),
         Err(NameFault::Memory) => Err(AllocError),
         Err(_) => Ok(false),
+    }
+}
+
+// Whether the attribute is one of those that only the other of the two may have.
+fn is_foreign(role: Role, name: &str) -> bool
+    ensures { result ≡ is_foreign role name.now }
+{
+    match role {
+        Role::Input => name == "nodeset" || name == "calculate",
+        Role::Bind => name == "ref",
+        Role::Host | Role::Model | Role::Instance => false,
     }
 }
 

@@ -12,5 +12,5 @@ pub place_inside-loop-i-preserved : goal.place_inside-loop-i-preserved
 place_inside-loop-i-preserved t c =
     let ns = c.in_ok-numbers.numbers in
     let same : length ns.items ≡ length c.args.children.now = ap length c.in_ok-numbers.ensures ∙ length-indexes c.args.children.now in
-    nodes_more c.args.default.now c.args.path.now (option_map (λ r. r.now) c.args.route) c.args.children.now ns.items c.loop-i.i c.index.result.now c.index-children-i.result c.loop-i.nodes c.place_child.new.nodes _
+    nodes_more c.args.default.now c.args.path.now (option_map (λ r. r.now) c.args.route) c.args.depth c.args.children.now ns.items c.loop-i.i c.index.result.now c.index-children-i.result c.loop-i.nodes c.place_child.new.nodes _
     c.loop-i-test.true (omega (arith, same, c.loop-i-test.true)) c.index-children-i.is c.index.ensures c.in_ok-place_child.ensures c.loop-i.invariant

@@ -5,7 +5,7 @@ use Rattle.xf_form.proofs.nodes.Nodes.push.Goals as goal
 
 pub returns-in-Ok : goal.returns-in-Ok
 returns-in-Ok c =
-    ap (λ ns. placed_all ns c.push-2.new.self) c.in_ok-push.ensures.ok
-    ∙ ap (placed_all (c.self.inside.nodes ++ c.args.node ∷ [])) c.in-Ok.ensures.ok
-    ∙ placed_all-push c.self.inside.nodes c.self.inside.routes c.args.node c.args.route c.self.invariant
-    ∙ ap (λ ps. ps ++ record { node = c.args.node; route = c.args.route } ∷ []) c.self.view_is
+    ap (λ ns. placed_all ns c.push-2.new.self) c.in_ok-push.ensures.items
+    ∙ ap (placed_all (c.self.inside.nodes.items ++ c.args.node ∷ [])) c.in-Ok.ensures.ok
+    ∙ placed_all-push c.self.inside.nodes.items c.self.inside.labels c.args.node c.args.label c.self.invariant
+    ∙ ap (λ ps. ps ++ record { node = c.args.node; label = c.args.label } ∷ []) c.self.view_is
