@@ -9,4 +9,5 @@ pub mod Piece
 pub mod Routes
 pub mod Assembly
 pub mod Shapes
+pub mod Independent
 pub mod Form
