@@ -3,7 +3,7 @@ use Rattle.std.specs.Prelude.{◌≤◌, ℕ, ◌^◌, List, length, Ok, Err}
 use Rattle.std.specs.declared.option.Option.{Option}
 use Rattle.std.specs.Io.KnownBytes.{Consumes, IsAtEnd}
 use Rattle.xf_form.specs.declared.fault.FormFault.TheVariants as fault
-use Rattle.xf_form.specs.Independent.{SettlesAtOnce}
+use Rattle.xf_form.specs.Binds.{IsIndependent}
 use Rattle.xf_machine.specs.Written.{FormGives}
 use Rattle.xf_cli.specs.declared.form.Reading.{Reading}
 use Rattle.xf_cli.specs.declared.form.Reading.TheVariants as reading
@@ -24,8 +24,8 @@ GivesLoaded bytes loaded.Unread = Unit {0}
 GivesLoaded bytes loaded.NoRoom = Unit {0}
 
 -- the form settles at once
-abbrev pub SettlesLoaded : Loaded → Type 0
-SettlesLoaded (loaded.Form form) = SettlesAtOnce form
-SettlesLoaded (loaded.Refused number place) = Unit {0}
-SettlesLoaded loaded.Unread = Unit {0}
-SettlesLoaded loaded.NoRoom = Unit {0}
+abbrev pub IsLoadedIndependent : Loaded → Type 0
+IsLoadedIndependent (loaded.Form form) = IsIndependent form
+IsLoadedIndependent (loaded.Refused number place) = Unit {0}
+IsLoadedIndependent loaded.Unread = Unit {0}
+IsLoadedIndependent loaded.NoRoom = Unit {0}

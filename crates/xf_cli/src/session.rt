@@ -2,7 +2,7 @@
 
 ghost use Rattle.std.specs.Prelude.{◌≡◌, ◌≤◌, ◌<◌, ◌+◌, ◌^◌, IfOk, OnOk, OnErr, codes, option_map, string_bytes};
 ghost use Rattle.std.specs.List.{list_all};
-ghost use Rattle.xf_form.specs.Independent.{SettlesAtOnce};
+ghost use Rattle.xf_form.specs.Binds.{IsIndependent};
 ghost use Rattle.xf_machine.specs.State.{node_of, target, after_set, set_on, started, step};
 ghost use Rattle.xf_machine.specs.Replies.{answer_asked, answer_line, answer_step, is_blank, ok_line};
 
@@ -24,7 +24,7 @@ pub struct Session {
 
 impl Model for Session {
     ghost use Rattle.std.specs.Coded.{codes};
-    ghost use Rattle.xf_form.specs.Independent.{SettlesAtOnce};
+    ghost use Rattle.xf_form.specs.Binds.{IsIndependent};
     ghost use Rattle.xf_form.specs.contracts.formula.Formula as formula;
     ghost use Rattle.xf_machine.specs.State.{State};
 
@@ -34,13 +34,13 @@ impl Model for Session {
 
     ghost view = { λ s. record { form = s.form; nodes = s.nodes.items; accepted = s.accepted } };
 
-    ghost invariant = { λ s. SettlesAtOnce s.form };
+    ghost invariant = { λ s. IsIndependent s.form };
 }
 
 impl Session {
     /// The form as it begins.
     pub fn start(alloc: Global, form: Form) -> Result<Self, AllocError>
-        requires { SettlesAtOnce form }
+        requires { IsIndependent form }
         ensures { IfOk result (λ session. session ≡ started form) }
     {
         let mut nodes = copy_nodes(alloc, form.data.as_slice())?;

@@ -9,5 +9,6 @@ pub mod Piece
 pub mod Routes
 pub mod Assembly
 pub mod Shapes
-pub mod Independent
+pub mod Formulas
+pub mod Binds
 pub mod Form

@@ -10,11 +10,9 @@ put_twice [] place held other = refl
 put_twice (node ∷ nodes) zero held other = refl
 put_twice (node ∷ nodes) (suc place) held other = ap (λ l. node ∷ l) (put_twice nodes place held other)
 
-abbrev Apart : ℕ → ℕ → Type 0
+-- two places differ
+abbrev pub Apart : ℕ → ℕ → Type 0
 Apart p q = p ≡ q → ⊥
-
-pub apart : (p q : ℕ) → (p == q) ≡ false → Apart p q
-apart p q h = λ e. grind (arith, h, e)
 
 -- what is put at two places may be put in either order
 pub put_either : (nodes : List DataNode) (p q : ℕ) (held other : Held) → Apart p q → put_held (put_held nodes p held) q other ≡ put_held (put_held nodes q other) p held
