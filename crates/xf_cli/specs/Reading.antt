@@ -3,6 +3,7 @@ use Rattle.std.specs.Prelude.{◌≤◌, ℕ, ◌^◌, List, length, Ok, Err}
 use Rattle.std.specs.declared.option.Option.{Option}
 use Rattle.std.specs.Io.KnownBytes.{Consumes, IsAtEnd}
 use Rattle.xf_form.specs.declared.fault.FormFault.TheVariants as fault
+use Rattle.xf_form.specs.Binds.{IsIndependent}
 use Rattle.xf_machine.specs.Written.{FormGives}
 use Rattle.xf_cli.specs.declared.form.Reading.{Reading}
 use Rattle.xf_cli.specs.declared.form.Reading.TheVariants as reading
@@ -21,3 +22,10 @@ GivesLoaded bytes (loaded.Form form) = FormGives bytes (Ok form)
 GivesLoaded bytes (loaded.Refused number place) = FormGives bytes (Err (fault.Refused number place))
 GivesLoaded bytes loaded.Unread = Unit {0}
 GivesLoaded bytes loaded.NoRoom = Unit {0}
+
+-- the form settles at once
+abbrev pub IsLoadedIndependent : Loaded → Type 0
+IsLoadedIndependent (loaded.Form form) = IsIndependent form
+IsLoadedIndependent (loaded.Refused number place) = Unit {0}
+IsLoadedIndependent loaded.Unread = Unit {0}
+IsLoadedIndependent loaded.NoRoom = Unit {0}

@@ -3,7 +3,7 @@
 ghost use Rattle.std.specs.Prelude.{◌≡◌, ◌≤◌, IfOk, Ok, Err};
 ghost use Rattle.xf_base.specs.Faults.{Rose};
 ghost use Rattle.xf_machine.specs.Written.{FormGives};
-ghost use Rattle.xf_cli.specs.Reading.{GivesReading, GivesLoaded};
+ghost use Rattle.xf_cli.specs.Reading.{GivesReading, GivesLoaded, IsLoadedIndependent};
 
 use std::alloc::Global;
 use xf_form::{Form, FormFault, load};
@@ -34,6 +34,7 @@ pub enum Loaded {
 /// Reads a form and loads it.
 pub fn load_form<F: Source>(alloc: Global, form: &mut F) -> Loaded
     ensures loaded { GivesLoaded (F.left form.old) result }
+    ensures independent { IsLoadedIndependent result }
     ensures fault { result ≡ Loaded.Unread → Rose (F.faults form.old) (F.faults form.new) }
 {
     match read_form(alloc, form) {

@@ -7,5 +7,6 @@ mod output;
 mod report;
 mod run;
 mod session;
+mod settle;
 
 pub use run::xforms;

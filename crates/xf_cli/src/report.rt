@@ -1,7 +1,8 @@
 //! The text of a state.
 
 ghost use Rattle.std.specs.Prelude.{◌≡◌, ◌++◌, IfOk, OnOk, codes, slice_get, string_bytes};
-ghost use Rattle.xf_machine.specs.Replies.{quoted, held_text, node_line, node_lines, value_held, value_in, control_line, control_lines};
+ghost use Rattle.xf_machine.specs.Replies.{quoted, marks, held_text, node_line, node_lines, value_held, value_in, control_line, control_lines};
+ghost use Rattle.xf_machine.specs.State.{is_readonly_at};
 
 use serde_json::Value;
 use std::alloc::{AllocError, Global};
@@ -31,22 +32,33 @@ fn push_node(alloc: Global, text: &mut String, node: &DataNode) -> Result<(), Al
     ensures { OnOk result (string_bytes text.new ≡ string_bytes text.old ++ node_line node.now) }
 {
     text.push_str(node.path.as_str())?;
-    push_held(alloc, text, &node.held)?;
+    push_held(alloc, text, node.is_readonly, &node.held)?;
     text.push_str("\n")?;
     Ok(())
 }
 
-fn push_held(alloc: Global, text: &mut String, held: &Held) -> Result<(), AllocError>
-    ensures { OnOk result (string_bytes text.new ≡ string_bytes text.old ++ held_text held.now) }
+fn push_held(
+    alloc: Global,
+    text: &mut String,
+    is_readonly: bool,
+    held: &Held,
+) -> Result<(), AllocError>
+    ensures { OnOk result (string_bytes text.new ≡ string_bytes text.old ++ held_text is_readonly held.now) }
 {
     match held {
-        Held::Elements => text.push_str(" ew-v"),
+        Held::Elements => text.push_str(marks(is_readonly)),
         Held::Value(value) => {
-            text.push_str(" ew-v")?;
+            text.push_str(marks(is_readonly))?;
             push_value(alloc, text, value.as_str())
         }
         Held::Text(value) => push_value(alloc, text, value.as_str()),
     }
+}
+
+fn marks(is_readonly: bool) -> &'static str
+    ensures { result.now ≡ marks is_readonly }
+{
+    if is_readonly { " e--v" } else { " ew-v" }
 }
 
 // A blank, and a text as a JSON string.
@@ -84,10 +96,20 @@ fn push_control(
     text.push_str("control ")?;
     text.push_str(input.id.as_str())?;
     text.push_str(" []")?;
-    text.push_str(" ew-v")?;
+    text.push_str(marks(is_readonly_at(nodes, input.node)))?;
     push_value(alloc, text, value_at(nodes, input.node))?;
     text.push_str("\n")?;
     Ok(())
+}
+
+/// Whether the node at a place is readonly.
+pub(crate) fn is_readonly_at(nodes: &[DataNode], place: usize) -> bool
+    ensures { result ≡ is_readonly_at nodes.now place }
+{
+    if place < nodes.len() {
+        return nodes[place].is_readonly;
+    }
+    false
 }
 
 // The value of the node at a place.

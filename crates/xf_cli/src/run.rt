@@ -2,6 +2,7 @@
 
 ghost use Rattle.std.specs.Prelude.{◌≡◌, ◌≤◌, ◌↔◌, ◌++◌, IsTrue, IfOk, OnOk, map, string_bytes};
 ghost use Rattle.xf_base.specs.Faults.{Rose};
+ghost use Rattle.xf_form.specs.Binds.{IsIndependent};
 ghost use Rattle.xf_machine.specs.Written.{Ends, SpellsTry, ending_code, ending_line, status_line, refusal_name, place_part};
 ghost use Rattle.xf_cli.specs.Finish.{Says, Finishes, Runs, AnswersForm};
 
@@ -86,6 +87,7 @@ fn spells_try(words: &[String]) -> bool
 
 // Answers the lines over a form.
 fn answer_form<E: Source, O: Sink>(alloc: Global, form: Form, events: &mut E, out: &mut O) -> Status
+    requires { IsIndependent form }
     ensures answered { AnswersForm result form (E.left events.old) (E.left events.new) (O.taken out.old) (O.taken out.new) }
     ensures read { result ≡ Status.Answered Ending.ReadFault → Rose (E.faults events.old) (E.faults events.new) }
     ensures written { result ≡ Status.Answered Ending.SinkFault → Rose (O.faults out.old) (O.faults out.new) }

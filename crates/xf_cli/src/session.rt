@@ -2,14 +2,14 @@
 
 ghost use Rattle.std.specs.Prelude.{◌≡◌, ◌≤◌, ◌<◌, ◌+◌, ◌^◌, IfOk, OnOk, OnErr, codes, option_map, string_bytes};
 ghost use Rattle.std.specs.List.{list_all};
-ghost use Rattle.xf_form.specs.declared.form.Held.TheVariants.{Value};
-ghost use Rattle.xf_machine.specs.State.{node_of, target, set_value, started, step};
+ghost use Rattle.xf_form.specs.Binds.{IsIndependent};
+ghost use Rattle.xf_machine.specs.State.{node_of, target, after_set, set_on, started, step};
 ghost use Rattle.xf_machine.specs.Replies.{answer_asked, answer_line, answer_step, is_blank, ok_line};
 
-use crate::report::state_text;
+use crate::report::{is_readonly_at, state_text};
+use crate::settle::{set_and_settle, settle};
 use std::alloc::{AllocError, Global};
 use std::marker::Model;
-use std::mem;
 use xf_form::{DataNode, Form, Held, Input};
 use xf_line::{Asked, Event, LineFault, read_line};
 use xf_name::Word;
@@ -23,19 +23,28 @@ pub struct Session {
 }
 
 impl Model for Session {
+    ghost use Rattle.std.specs.Coded.{codes};
+    ghost use Rattle.xf_form.specs.Binds.{IsIndependent};
+    ghost use Rattle.xf_form.specs.contracts.formula.Formula as formula;
     ghost use Rattle.xf_machine.specs.State.{State};
 
     ghost Value = { State };
 
+    ghost coded = { Prim.hlevel (codes, formula.the_row.coded) };
+
     ghost view = { λ s. record { form = s.form; nodes = s.nodes.items; accepted = s.accepted } };
+
+    ghost invariant = { λ s. IsIndependent s.form };
 }
 
 impl Session {
     /// The form as it begins.
     pub fn start(alloc: Global, form: Form) -> Result<Self, AllocError>
+        requires { IsIndependent form }
         ensures { IfOk result (λ session. session ≡ started form) }
     {
-        let nodes = copy_nodes(alloc, form.data.as_slice())?;
+        let mut nodes = copy_nodes(alloc, form.data.as_slice())?;
+        settle(alloc, form.calculates.as_slice(), &mut nodes)?;
         Ok(Session {
             form,
             nodes,
@@ -81,7 +90,7 @@ impl Session {
     {
         match event {
             Event::Set(id, rows, text) => match target(&self.form, &id, rows.as_slice()) {
-                Some(place) => self.set(alloc, place, text),
+                Some(place) => self.set_on(alloc, place, text),
                 None => String::from_str(alloc, "no E4 NoSuchTarget\n"),
             },
             Event::Activate(_, _) => not_built(alloc),
@@ -92,16 +101,29 @@ impl Session {
         }
     }
 
-    // Sets the text on the node at the place.
+    // Sets the text on the node at the place, unless that is readonly.
+    fn set_on(&mut self, alloc: Global, place: usize, text: Word) -> Result<String, AllocError>
+        requires { self.old.accepted < 2 ^ 63 }
+        ensures reply { IfOk result (λ reply. (string_bytes reply, self.new) ≡ answer_step self.old (set_on self.old text (Some place))) }
+        ensures err { OnErr result (self.new ≡ self.old) }
+        ensures few { self.new.accepted ≤ self.old.accepted + 1 }
+    {
+        if is_readonly_at(&self.nodes, place) {
+            return String::from_str(alloc, "no E6 ReadOnly\n");
+        }
+        self.set(alloc, place, text)
+    }
+
+    // Sets the text on the node at the place, and settles the data.
     fn set(&mut self, alloc: Global, place: usize, text: Word) -> Result<String, AllocError>
         requires { self.old.accepted < 2 ^ 63 }
         ensures reply { IfOk result (λ reply. string_bytes reply ≡ ok_line (self.old.accepted + 1) None) }
-        ensures ok { OnOk result (self.new ≡ record { form = self.old.form; nodes = set_value self.old.nodes place text; accepted = self.old.accepted + 1 }) }
+        ensures ok { OnOk result (self.new ≡ record { form = self.old.form; nodes = after_set self.old.form self.old.nodes place text; accepted = self.old.accepted + 1 }) }
         ensures err { OnErr result (self.new ≡ self.old) }
     {
         let accepted = self.accepted + 1;
         let reply = format!(in alloc; "ok {accepted}\n")?;
-        put_value(&mut self.nodes, place, text);
+        set_and_settle(alloc, self.form.calculates.as_slice(), &mut self.nodes, place, text)?;
         self.accepted = accepted;
         Ok(reply)
     }
@@ -111,15 +133,6 @@ fn not_built(alloc: Global) -> Result<String, AllocError>
     ensures { IfOk result (λ text. string_bytes text ≡ codes "no E15 NotBuilt\n") }
 {
     String::from_str(alloc, "no E15 NotBuilt\n")
-}
-
-fn put_value(nodes: &mut Vec<DataNode>, place: usize, text: Word)
-    ensures { nodes.new.items ≡ set_value nodes.old.items place text }
-{
-    if place < nodes.len() {
-        let node = &mut nodes[place];
-        let _ = mem::replace(&mut node.held, Held::Value(text));
-    }
 }
 
 fn is_blank_line(line: &[u8]) -> bool

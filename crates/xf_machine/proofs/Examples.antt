@@ -1,5 +1,5 @@
 -- Worked states, steps and replies.
-use Rattle.std.proofs.Common.{◌≡◌, ℕ, List, [], ◌∷◌, codes, refl, Some, None, Ok, Err}
+use Rattle.std.proofs.Common.{◌≡◌, ℕ, true, false, List, [], ◌∷◌, codes, refl, pos, Some, None, Ok, Err}
 use Rattle.std.specs.Fmt.{digits}
 use Rattle.std.specs.Str.{is_utf8, chars}
 use Rattle.serde_json.proofs.OnLiterals.{serde_json_on_literals}
@@ -13,10 +13,10 @@ use Rattle.xf_machine.specs.Replies.{answer, replies, ok_line, state_text, node_
 
 -- one element with a text, and an input on it
 abbrev one : Form
-one = record { «data» = record { path = codes "/d"; held = Value (codes "1") } ∷ []; inputs = record { id = codes "a"; node = 0 } ∷ [] }
+one = record { «data» = record { path = codes "/d"; held = Value (codes "1"); is_readonly = false } ∷ []; inputs = record { id = codes "a"; node = 0 } ∷ []; calculates = [] }
 
 abbrev one_with : List ℕ → ℕ → State
-one_with text accepted = record { form = one; nodes = record { path = codes "/d"; held = Value text } ∷ []; accepted = accepted }
+one_with text accepted = record { form = one; nodes = record { path = codes "/d"; held = Value text; is_readonly = false } ∷ []; accepted = accepted }
 
 starts : started one ≡ one_with (codes "1") 0
 starts = refl
@@ -45,10 +45,10 @@ shown : state_text (one_with (codes "2") 1) ≡ codes "instance 1.1\n/d ew-v \"2
 unfolding serde_json_on_literals
 shown = refl
 
-elements_have_no_text : node_line (record { path = codes "/d"; held = Elements }) ≡ codes "/d ew-v\n"
+elements_have_no_text : node_line (record { path = codes "/d"; held = Elements; is_readonly = false }) ≡ codes "/d ew-v\n"
 elements_have_no_text = refl
 
-texts_have_no_marks : node_line (record { path = codes "/d/text()[1]"; held = Text (codes "t") }) ≡ codes "/d/text()[1] \"t\"\n"
+texts_have_no_marks : node_line (record { path = codes "/d/text()[1]"; held = Text (codes "t"); is_readonly = false }) ≡ codes "/d/text()[1] \"t\"\n"
 unfolding serde_json_on_literals
 texts_have_no_marks = refl
 

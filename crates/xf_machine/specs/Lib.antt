@@ -1,3 +1,4 @@
+pub mod Calculated
 pub mod State
 pub mod Replies
 pub mod Written

@@ -1,5 +1,5 @@
 -- What is written for the lines of the event stream, and what they make of the state.
-use Rattle.std.specs.Prelude.{ℕ, List, [], ◌∷◌, ◌++◌, Bool, ◌||◌, ◌==◌, Option, Some, None, Result, Ok, Err, codes, decimal, length, nat_lt, slice_get, if◌then◌else◌}
+use Rattle.std.specs.Prelude.{ℕ, List, [], ◌∷◌, ◌++◌, Bool, true, false, ◌||◌, ◌==◌, Option, Some, None, Result, Ok, Err, codes, decimal, length, nat_lt, slice_get, if◌then◌else◌}
 use Rattle.std.specs.List.{list_all}
 use Rattle.serde_json.specs.Data.{string}
 use Rattle.serde_json.specs.Written.{compact_text}
@@ -14,8 +14,8 @@ use Rattle.xf_line.specs.declared.fault.LineFault.{LineFault}
 use Rattle.xf_line.specs.declared.fault.LineFault.TheVariants.{NotJson, NotEvent, Memory}
 use Rattle.xf_line.specs.Line.{asked_by}
 use Rattle.xf_machine.specs.declared.refusal.Refusal.{Refusal}
-use Rattle.xf_machine.specs.declared.refusal.Refusal.TheVariants.{NoSuchTarget, NotBuilt}
-use Rattle.xf_machine.specs.State.{State, step}
+use Rattle.xf_machine.specs.declared.refusal.Refusal.TheVariants.{NoSuchTarget, ReadOnly, NotBuilt}
+use Rattle.xf_machine.specs.State.{State, is_readonly_at, step}
 
 -- a text as a JSON string (RFC 8259, section 7)
 abbrev pub quoted : List ℕ → List ℕ
@@ -23,18 +23,19 @@ quoted text = compact_text (string text)
 
 -- ---- the state
 
--- the marks: relevant, not readonly, not required, valid
-abbrev pub marks : List ℕ
-marks = codes " ew-v"
+-- the marks: relevant, readonly or not, not required, valid
+abbrev pub marks : Bool → List ℕ
+marks true = codes " e--v"
+marks false = codes " ew-v"
 
-abbrev pub held_text : Held → List ℕ
-held_text Elements = marks
-held_text (Value text) = marks ++ codes " " ++ quoted text
-held_text (Text text) = codes " " ++ quoted text
+abbrev pub held_text : Bool → Held → List ℕ
+held_text is_readonly Elements = marks is_readonly
+held_text is_readonly (Value text) = marks is_readonly ++ codes " " ++ quoted text
+held_text is_readonly (Text text) = codes " " ++ quoted text
 
 -- a line for a node of the data
 abbrev pub node_line : DataNode → List ℕ
-node_line node = node.path ++ held_text node.held ++ codes "\n"
+node_line node = node.path ++ held_text node.is_readonly node.held ++ codes "\n"
 
 abbrev pub node_lines : List DataNode → List ℕ
 node_lines [] = []
@@ -50,7 +51,7 @@ value_in (Some node) = value_held node.held
 
 -- a line for a control
 abbrev pub control_line : List DataNode → Input → List ℕ
-control_line nodes input = codes "control " ++ input.id ++ codes " []" ++ marks ++ codes " " ++ quoted (value_in (slice_get nodes input.node)) ++ codes "\n"
+control_line nodes input = codes "control " ++ input.id ++ codes " []" ++ marks (is_readonly_at nodes input.node) ++ codes " " ++ quoted (value_in (slice_get nodes input.node)) ++ codes "\n"
 
 abbrev pub control_lines : List DataNode → List Input → List ℕ
 control_lines nodes [] = []
@@ -73,6 +74,7 @@ ok_line accepted count = codes "ok " ++ decimal accepted ++ count_part count ++ 
 -- the line of a refused event
 abbrev pub refusal_line : Refusal → List ℕ
 refusal_line NoSuchTarget = codes "no E4 NoSuchTarget\n"
+refusal_line ReadOnly = codes "no E6 ReadOnly\n"
 refusal_line NotBuilt = codes "no E15 NotBuilt\n"
 
 -- the line of a line that is too long

@@ -1,23 +1,19 @@
 -- The state of a form (XForms 1.1, section 4).
-use Rattle.std.specs.Prelude.{ℕ, ◌+◌, List, [], ◌∷◌, Option, Some, None, Result, Ok, Err, slice_get, slice_set, bytes_eq, if◌then◌else◌}
+use Rattle.std.specs.Prelude.{ℕ, ◌+◌, List, [], ◌∷◌, Bool, false, Option, Some, None, Result, Ok, Err, slice_get, bytes_eq, if◌then◌else◌}
 use Rattle.xf_form.specs.declared.form.Form.{Form}
 use Rattle.xf_form.specs.declared.form.Input.{Input}
 use Rattle.xf_form.specs.declared.form.DataNode.{DataNode}
-use Rattle.xf_form.specs.declared.form.Held.TheVariants.{Value}
 use Rattle.xf_line.specs.declared.event.Event.{Event}
 use Rattle.xf_line.specs.declared.event.Event.TheVariants.{Set}
 use Rattle.xf_machine.specs.declared.refusal.Refusal.{Refusal}
-use Rattle.xf_machine.specs.declared.refusal.Refusal.TheVariants.{NoSuchTarget, NotBuilt}
+use Rattle.xf_machine.specs.declared.refusal.Refusal.TheVariants.{NoSuchTarget, ReadOnly, NotBuilt}
+use Rattle.xf_machine.specs.Calculated.{set_value, settled}
 
 -- the form, its data as they stand, in document order, and how many events were accepted
 pub record State : Type 0 where
   pub form : Form
   pub nodes : List DataNode
   pub accepted : ℕ
-
--- the state as the form begins
-abbrev pub started : Form → State
-started form = record { form = form; nodes = form.data; accepted = 0 }
 
 -- the node to which the input with an id is bound
 abbrev pub node_of : List ℕ → List Input → Option ℕ
@@ -29,21 +25,30 @@ abbrev pub target : Form → List ℕ → List ℕ → Option ℕ
 target form id [] = node_of id form.inputs
 target form id (row ∷ rows) = None
 
--- the node with this text as its value
-abbrev pub with_value : List ℕ → DataNode → DataNode
-with_value text node = record node { held = Value text }
+-- the decimals of numbers
+abbrev pub decimals : ℕ
+decimals = 6
 
-abbrev pub put_value : List DataNode → ℕ → List ℕ → Option DataNode → List DataNode
-put_value nodes place text None = nodes
-put_value nodes place text (Some node) = slice_set nodes place (with_value text node)
+-- the data after the text is set on the node at the place, settled
+abbrev pub after_set : Form → List DataNode → ℕ → List ℕ → List DataNode
+after_set form nodes place text = settled decimals form.calculates (set_value nodes place text)
 
--- the data after the text is set on the node at the place
-abbrev pub set_value : List DataNode → ℕ → List ℕ → List DataNode
-set_value nodes place text = put_value nodes place text (slice_get nodes place)
+-- the state as the form begins: its data are settled
+abbrev pub started : Form → State
+started form = record { form = form; nodes = settled decimals form.calculates form.data; accepted = 0 }
+
+abbrev pub is_readonly_in : Option DataNode → Bool
+is_readonly_in None = false
+is_readonly_in (Some node) = node.is_readonly
+
+abbrev pub is_readonly_at : List DataNode → ℕ → Bool
+is_readonly_at nodes place = is_readonly_in (slice_get nodes place)
 
 abbrev pub set_on : State → List ℕ → Option ℕ → Result State Refusal
 set_on state text None = Err NoSuchTarget
-set_on state text (Some place) = Ok (record { form = state.form; nodes = set_value state.nodes place text; accepted = state.accepted + 1 })
+set_on state text (Some place) =
+    if is_readonly_at state.nodes place then Err ReadOnly
+    else Ok (record { form = state.form; nodes = after_set state.form state.nodes place text; accepted = state.accepted + 1 })
 
 -- the state after an event, or why it is refused
 abbrev pub step : State → Event → Result State Refusal

@@ -5,6 +5,8 @@
 pub enum Refusal {
     /// No control of that kind has the id, or the rows do not stand.
     NoSuchTarget,
+    /// The control's node is readonly.
+    ReadOnly,
     /// An event that is not built yet.
     NotBuilt,
 }
