@@ -9,3 +9,5 @@ mod forms;
 mod lines;
 #[cfg(test)]
 mod runs;
+#[cfg(test)]
+mod sums;
