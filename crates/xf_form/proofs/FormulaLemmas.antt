@@ -1,70 +1,24 @@
--- What expressions mean and formulas read, one level opened, and the places that are read.
-use Rattle.std.proofs.Common.{◌≡◌, ℕ, zero, suc, ◌+◌, ◌<◌, ◌≤◌, Bool, true, false, cond, List, [], ◌∷◌, ◌++◌, length, get_or, drop, map, Some, None, ap, sym, ◌∙◌, refl, arith, inl, inr, ℤ}
-use Rattle.std.specs.Prelude.{nat_le, nat_lt, ◌||◌, not}
+-- What chains read, and that what is read lies within the data.
+use Rattle.std.proofs.Common.{◌≡◌, ℕ, zero, suc, ◌+◌, ◌<◌, ◌≤◌, Bool, true, false, cond, List, [], ◌∷◌, length, drop, map, ap, sym, ◌∙◌, refl, arith, inl, inr}
+use Rattle.std.specs.Prelude.{nat_le, nat_lt, ◌||◌}
 use Rattle.std.specs.List.{list_any}
-use Rattle.std.specs.declared.option.Option.{Option}
 use Rattle.std.proofs.lemmas.Bool.{cases_Bool, cond-true, cond-false, lt-leb, or_from, cases_lt}
 use Rattle.std.proofs.lemmas.List.{get_or_past, length-drop, drop_all}
-use Rattle.std.proofs.lemmas.List.Folds.{list_any-append}
-use Rattle.xf_ast.specs.declared.expr.Expr.{Expr}
-use Rattle.xf_ast.specs.declared.expr.Expr.TheOpen.{Expr-F}
-use Rattle.xf_ast.specs.declared.expr.Expr.TheFolds.{fold-roll-Expr, fold_out-Link, fold_out-Step}
-use Rattle.xf_ast.specs.declared.expr.Expr.TheVariants.{Number, Negated, Chain, Path, rolls-Number, rolls-Negated, rolls-Chain, rolls-Path}
-use Rattle.xf_ast.specs.declared.expr.Link.{Link}
-use Rattle.xf_ast.specs.declared.expr.Start.{Start}
-use Rattle.xf_ast.specs.declared.expr.Step.{Step}
 use Rattle.xf_form.specs.declared.formula.Formula.{Formula}
 use Rattle.xf_form.specs.declared.formula.Formula.TheOpen.{Formula-F}
 use Rattle.xf_form.specs.declared.formula.Formula.TheFolds.{fold-roll-Formula}
 use Rattle.xf_form.specs.declared.formula.Formula.TheVariants as formula
 use Rattle.xf_form.specs.declared.formula.Operand.{Operand}
 use Rattle.xf_form.specs.declared.label.Label.{Label}
-use Rattle.xf_form.specs.Paths.{root_label, label_at, chosen, below, texts_of, place_of, Walk}
-use Rattle.xf_form.specs.Formulas.{Sense, LinkSense, sense, sense_of_link, walk_of, expr_sense, link_sense, step_walk, read, Reading, reads, operand_reads, formula_reading, operand_reading}
-
--- ---- equations
-
-pub sense-Number : (place : ℕ) (number : Option ℤ) → sense (Number place number) ≡ expr_sense (Expr-F.Number place number)
-sense-Number p n = ap sense (sym (rolls-Number p n)) ∙ fold-roll-Expr Sense LinkSense Walk expr_sense link_sense step_walk (Expr-F.Number p n)
-
-pub sense-Negated : (place count : ℕ) (inner : Expr) → sense (Negated place count inner) ≡ expr_sense (Expr-F.Negated place count (sense inner))
-sense-Negated p k e = ap sense (sym (rolls-Negated p k e)) ∙ fold-roll-Expr Sense LinkSense Walk expr_sense link_sense step_walk (Expr-F.Negated p k e)
-
-pub sense-Chain : (first : Expr) (links : List Link) → sense (Chain first links) ≡ expr_sense (Expr-F.Chain (sense first) (map sense_of_link links))
-sense-Chain e ls = ap sense (sym (rolls-Chain e ls)) ∙ fold-roll-Expr Sense LinkSense Walk expr_sense link_sense step_walk (Expr-F.Chain e ls)
-
-pub sense-Path : (place : ℕ) (start : Start) (steps : List Step) → sense (Path place start steps) ≡ expr_sense (Expr-F.Path place start (map walk_of steps))
-sense-Path p s ss = ap sense (sym (rolls-Path p s ss)) ∙ fold-roll-Expr Sense LinkSense Walk expr_sense link_sense step_walk (Expr-F.Path p s ss)
-
-pub sense_of_link-is : (l : Link) → sense_of_link l ≡ record { operator = l.operator; right = sense l.right }
-sense_of_link-is l = fold_out-Link Sense LinkSense Walk expr_sense link_sense step_walk l
-
-pub walk_of-is : (s : Step) → walk_of s ≡ step_walk (record { place = s.place; is_below = s.is_below; is_written = s.is_written; axis = s.axis; test = s.test; predicates = map sense s.predicates })
-walk_of-is s = fold_out-Step Sense LinkSense Walk expr_sense link_sense step_walk s
-
-pub reads-Number : (number : Option ℤ) → reads (formula.Number number) ≡ formula_reading (Formula-F.Number number)
-reads-Number n = ap reads (sym (formula.rolls-Number n)) ∙ fold-roll-Formula Reading Reading formula_reading operand_reading (Formula-F.Number n)
-
-pub reads-Read : (places : List ℕ) → reads (formula.Read places) ≡ formula_reading (Formula-F.Read places)
-reads-Read ks = ap reads (sym (formula.rolls-Read ks)) ∙ fold-roll-Formula Reading Reading formula_reading operand_reading (Formula-F.Read ks)
-
-pub reads-Negated : (count : ℕ) (inner : Formula) → reads (formula.Negated count inner) ≡ reads inner
-reads-Negated k f = ap reads (sym (formula.rolls-Negated k f)) ∙ fold-roll-Formula Reading Reading formula_reading operand_reading (Formula-F.Negated k f)
+use Rattle.xf_form.specs.Paths.{root_label, label_at, chosen, below, texts_of, place_of}
+use Rattle.xf_form.specs.Formulas.{Reading, reads, operand_reads, formula_reading, operand_reading}
 
 pub reads-Chain : (first : Formula) (operands : List Operand) → reads (formula.Chain first operands) ≡ formula_reading (Formula-F.Chain (reads first) (map operand_reads operands))
 reads-Chain f os = ap reads (sym (formula.rolls-Chain f os)) ∙ fold-roll-Formula Reading Reading formula_reading operand_reading (Formula-F.Chain f os)
 
--- ---- tests of lists
-
 pub any-map : {X Y : Type 0} (p : Y → Bool) (f : X → Y) → (xs : List X) → list_any p (map f xs) ≡ list_any (λ x. p (f x)) xs
 any-map p f [] = refl
 any-map p f (x ∷ xs) = ap (λ b. p (f x) || b) (any-map p f xs)
-
-pub none_appended : {X : Type 0} (p : X → Bool) (xs ys zs : List X) → list_any p xs ≡ false → list_any p ys ≡ false → zs ≡ xs ++ ys → list_any p zs ≡ false
-none_appended p xs ys zs hx hy e = ap (list_any p) e ∙ list_any-append p xs ys ∙ or_from (list_any p xs) (list_any p ys) hx hy
-
-pub none_pushed : {X : Type 0} (p : X → Bool) (xs : List X) (x : X) (zs : List X) → list_any p xs ≡ false → p x ≡ false → zs ≡ xs ++ x ∷ [] → list_any p zs ≡ false
-none_pushed p xs x zs hx hy e = none_appended p xs (x ∷ []) zs hx (or_from (p x) false hy refl) e
 
 -- ---- chains
 

@@ -1,12 +1,10 @@
--- Parents by the nodes before a node, and an index of them that grows.
-use Rattle.std.proofs.Common.{◌≡◌, ℕ, zero, suc, ◌+◌, ◌<◌, ◌≤◌, true, false, cond, List, [], ◌∷◌, ◌++◌, length, get_or, Some, None, ap, sym, ◌∙◌, arith, inl, inr, refl}
+-- The last node before a node that is less deep.
+use Rattle.std.proofs.Common.{◌≡◌, ℕ, zero, suc, ◌<◌, ◌≤◌, true, false, List, length, Some, None, ap, sym, ◌∙◌, arith, inl, inr, refl}
 use Rattle.std.specs.Prelude.{nat_lt}
-use Rattle.std.specs.declared.option.Option.{Option}
-use Rattle.std.proofs.lemmas.Bool.{cases_Bool, cond-true, cond-false, ltb-false, lt-ltb, le-ltb, cases_lt}
-use Rattle.std.proofs.lemmas.List.{get_or_past, get_or_append_left, get_or_push, length_push}
+use Rattle.std.proofs.lemmas.Bool.{cases_Bool, cond-true, cond-false, ltb-false, lt-ltb, le-ltb}
+use Rattle.std.proofs.lemmas.List.{get_or_past}
 use Rattle.xf_form.specs.declared.label.Label.{Label}
 use Rattle.xf_form.specs.Paths.{root_label, label_at, above, parent}
-use Rattle.xf_form.specs.Parents.{HoldsParents}
 
 abbrev depth_of : List Label → ℕ → ℕ
 depth_of ls k = (label_at ls k).depth
@@ -71,14 +69,3 @@ none_above ls d behind before e h none =
 pub passed_over : (ls : List Label) (d behind before next : ℕ) → behind ≡ suc before → d ≤ depth_of ls before → parent ls before ≡ Some next → above ls d behind ≡ above ls d (suc next)
 passed_over ls d behind before next e h some =
     ap (above ls d) e ∙ above_no ls d before (le-ltb (depth_of ls before) d h) ∙ over_some ls d (depth_of ls before) before next h some
-
--- ---- an index that grows
-
-pub holds_more : (ls : List Label) (ps : List (Option ℕ)) (p : Option ℕ) → HoldsParents ls ps → p ≡ parent ls (length ps) → HoldsParents ls (ps ++ p ∷ [])
-holds_more ls ps p h e = λ n within.
-    elim (cases_lt n (length ps)) [
-      | inl l ↦ get_or_append_left ps (p ∷ []) None n l ∙ h n l
-      | inr g ↦
-          let same : n ≡ length ps = omega (arith, length_push ps p, within, g) in
-          ap (λ k. get_or (ps ++ p ∷ []) k None) same ∙ get_or_push ps p None (length ps) refl ∙ e ∙ ap (parent ls) (sym same)
-    ]
