@@ -5,6 +5,8 @@ mod expr;
 mod form;
 
 pub use expr::{Expr, ExprList, Link, LinkList, Operator, Start, Step, StepList, Test};
-pub use form::{Bind, BindList, Instance, InstanceList, Properties, Selection, Submission, SubmissionList, Tables};
-
+pub use form::{
+    Bind, BindList, Instance, InstanceList, Properties, Selection, Submission, SubmissionList,
+    Tables,
+};
 pub use xf_name::Axis;

@@ -76,7 +76,7 @@ fn with_rest(whole: u64, has_whole: bool, rest: &[u8], decimals: u8) -> Num
 }
 
 /// The number of a size in whole units and the digits after its point.
-fn with_decimals(whole: u64, digits: &[u8], decimals: u8) -> Num
+pub fn with_decimals(whole: u64, digits: &[u8], decimals: u8) -> Num
     requires decimals { decimals ≤ 9 }
     requires whole { whole ≤ size_limit }
     requires digits { is_empty (after_digits digits.now) ≡ true }
@@ -100,7 +100,7 @@ fn scaled(size: u64, missing: u8) -> Num
 }
 
 /// The number that the leading digits write after those of the start, at most 10^18, and how many they are.
-fn digits_onto(start: u64, text: &[u8]) -> (u64, usize)
+pub fn digits_onto(start: u64, text: &[u8]) -> (u64, usize)
     requires { start ≤ size_limit }
     ensures size { result.0 ≡ min (digits_value_after 10 start (leading_digits text.now)) size_limit }
     ensures count { result.1 ≡ length (leading_digits text.now) }

@@ -2,3 +2,4 @@ pub mod CharLemmas
 pub mod Turns
 pub mod GrammarLemmas
 mod Examples
+mod StaticExamples

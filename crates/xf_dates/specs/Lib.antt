@@ -1,0 +1,5 @@
+pub mod Decimals
+pub mod Days
+pub mod Instants
+pub mod Printed
+pub mod Durations

@@ -1,0 +1,6 @@
+use Rattle.std.proofs.Common.{◌≡◌, ◌≤◌, length, take, flat_map}
+use Rattle.xf_funcs.specs.Conversions.{string_limit, text_of}
+use Rattle.xf_funcs.proofs.strings.concat_of.Given as goal
+
+abbrev pub invariant-loop-value : goal.invariant-loop-value
+invariant-loop-value l = (l.made ≡ flat_map (text_of 6) (take l.value-index l.given)) × (length l.made ≤ string_limit)

@@ -1,0 +1,8 @@
+pub mod Conversions
+pub mod Given
+pub mod Searching
+pub mod Substring
+pub mod Translate
+pub mod Spaces
+pub mod Numbers
+pub mod Called

@@ -1,0 +1,43 @@
+//! Plain values, and why a call has none.
+
+use std::alloc::{AllocError, AllocFailed};
+use xf_name::Word;
+use xf_num::Num;
+
+/// A value that is no set of nodes.
+#[derive(Debug, Drop)]
+pub enum Plain {
+    Text(Word),
+    Number(Num),
+    Truth(bool),
+}
+
+/// Why a call of a function has no value.
+#[derive(Clone, Copy, Debug, PartialEq, Eq)]
+pub enum FuncFault {
+    /// A string made on the way has more than 4 MiB.
+    Long,
+    Memory,
+}
+
+impl From<AllocError> for FuncFault {
+    ghost use Rattle.std.specs.Prelude.{◌≡◌};
+    ghost use Rattle.xf_funcs.specs.declared.plain.FuncFault.TheVariants.{Memory};
+
+    ghost from_gives = { λ _ e. e ≡ Memory };
+
+    fn from(_: AllocError) -> Self {
+        FuncFault::Memory
+    }
+}
+
+impl<T: Drop> From<AllocFailed<T>> for FuncFault {
+    ghost use Rattle.std.specs.Prelude.{◌≡◌};
+    ghost use Rattle.xf_funcs.specs.declared.plain.FuncFault.TheVariants.{Memory};
+
+    ghost from_gives = { λ _ e. e ≡ Memory };
+
+    fn from(_: AllocFailed<T>) -> Self {
+        FuncFault::Memory
+    }
+}

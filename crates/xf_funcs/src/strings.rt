@@ -1,0 +1,136 @@
+//! Functions of strings.
+
+ghost use Rattle.std.specs.Prelude.{◌≡◌};
+ghost use Rattle.xf_base.specs.Gives.{Gives};
+ghost use Rattle.xf_funcs.specs.declared.plain.Plain.TheVariants.{Text};
+ghost use Rattle.xf_funcs.specs.Called.{property_value, concat_of, substring_called, translate_of, by_strings, by_texts};
+
+use crate::conversions::{STRING_LIMIT, string_of, whole};
+use crate::given::{number_at, string_at};
+use crate::plain::{FuncFault, Plain};
+use crate::searching::{after, before, begins_with, compared, contains, is_true_text};
+use crate::spaces::normalized;
+use crate::substring::{substring_from, substring_of};
+use crate::text::char_count;
+use crate::translate::translated;
+use std::alloc::Global;
+use xf_name::Word;
+
+/// The functions that ask something of strings.
+pub fn by_strings(alloc: Global, name: &str, given: &[Plain]) -> Result<Plain, FuncFault>
+    ensures { Gives FuncFault.Memory (λ value. value) result (by_strings 6 name.now given.now) }
+{
+    if name == "string-length" {
+        let string = string_at(alloc, given, 0)?;
+        return Ok(Plain::Number(whole(char_count(string.as_str()))));
+    }
+    if name == "contains" {
+        let string = string_at(alloc, given, 0)?;
+        let part = string_at(alloc, given, 1)?;
+        return Ok(Plain::Truth(contains(string.as_str(), part.as_str())));
+    }
+    if name == "starts-with" {
+        let string = string_at(alloc, given, 0)?;
+        let front = string_at(alloc, given, 1)?;
+        return Ok(Plain::Truth(begins_with(string.as_str(), front.as_str())));
+    }
+    if name == "compare" {
+        let left = string_at(alloc, given, 0)?;
+        let right = string_at(alloc, given, 1)?;
+        return Ok(Plain::Number(compared(left.as_str(), right.as_str())));
+    }
+    if name == "boolean-from-string" {
+        let string = string_at(alloc, given, 0)?;
+        return Ok(Plain::Truth(is_true_text(string.as_str())));
+    }
+    by_texts(alloc, name, given)
+}
+
+/// The functions that give texts.
+fn by_texts(alloc: Global, name: &str, given: &[Plain]) -> Result<Plain, FuncFault>
+    ensures { Gives FuncFault.Memory (λ value. value) result (by_texts 6 name.now given.now) }
+{
+    if name == "concat" {
+        return concat_of(alloc, given);
+    }
+    if name == "substring" {
+        return substring_called(alloc, given);
+    }
+    if name == "substring-before" {
+        let string = string_at(alloc, given, 0)?;
+        let part = string_at(alloc, given, 1)?;
+        return text(alloc, before(string.as_str(), part.as_str()));
+    }
+    if name == "substring-after" {
+        let string = string_at(alloc, given, 0)?;
+        let part = string_at(alloc, given, 1)?;
+        return text(alloc, after(string.as_str(), part.as_str()));
+    }
+    if name == "normalize-space" {
+        let string = string_at(alloc, given, 0)?;
+        return Ok(Plain::Text(Word::from_string(normalized(alloc, string.as_str())?)));
+    }
+    if name == "translate" {
+        return translate_of(alloc, given);
+    }
+    if name == "property" {
+        let string = string_at(alloc, given, 0)?;
+        return text(alloc, property_value(string.as_str()));
+    }
+    text(alloc, "")
+}
+
+/// A text as a value.
+fn text(alloc: Global, text: &str) -> Result<Plain, FuncFault>
+    ensures { Gives FuncFault.Memory (λ value. value) result (Ok (Text text.now)) }
+{
+    Ok(Plain::Text(Word::from_str(alloc, text)?))
+}
+
+fn property_value(name: &str) -> &'static str
+    ensures { result.now ≡ property_value name.now }
+{
+    if name == "version" { "1.1" } else { "" }
+}
+
+fn substring_called(alloc: Global, given: &[Plain]) -> Result<Plain, FuncFault>
+    ensures { Gives FuncFault.Memory (λ value. value) result (substring_called 6 given.now) }
+{
+    let string = string_at(alloc, given, 0)?;
+    let start = number_at(given, 1);
+    if given.len() == 3 {
+        return text(
+            alloc,
+            substring_of(string.as_str(), start, number_at(given, 2)),
+        );
+    }
+    text(alloc, substring_from(string.as_str(), start))
+}
+
+fn translate_of(alloc: Global, given: &[Plain]) -> Result<Plain, FuncFault>
+    ensures { Gives FuncFault.Memory (λ value. value) result (translate_of 6 given.now) }
+{
+    let string = string_at(alloc, given, 0)?;
+    let from = string_at(alloc, given, 1)?;
+    let to = string_at(alloc, given, 2)?;
+    let made = translated(alloc, string.as_str(), from.as_str(), to.as_str())?;
+    Ok(Plain::Text(Word::from_string(made)))
+}
+
+/// The strings of all arguments, one behind the other.
+fn concat_of(alloc: Global, given: &[Plain]) -> Result<Plain, FuncFault>
+    ensures { Gives FuncFault.Memory (λ value. value) result (concat_of 6 given.now) }
+{
+    let mut made = Word::new(alloc);
+    for value in given {
+        let string = match string_of(alloc, value) {
+            Ok(string) => string,
+            Err(fault) => return Err(fault),
+        };
+        if made.len() + string.len() > STRING_LIMIT {
+            return Err(FuncFault::Long);
+        }
+        made.push_str(string.as_str())?;
+    }
+    Ok(Plain::Text(made))
+}

@@ -1,0 +1,5 @@
+pub mod TableExamples
+pub mod StepExamples
+pub mod ValueExamples
+pub mod FunctionExamples
+pub mod ReadExamples

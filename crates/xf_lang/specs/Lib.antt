@@ -1,0 +1,17 @@
+pub mod Given
+pub mod Plain
+pub mod Setting
+pub mod Tests
+pub mod Steps
+pub mod Conversions
+pub mod Comparisons
+pub mod Operators
+pub mod Table
+pub mod Functions
+pub mod Meaning
+pub mod Binding
+pub mod Asked
+pub mod AskedSteps
+pub mod AskedCalls
+pub mod Reads
+pub mod Examples
