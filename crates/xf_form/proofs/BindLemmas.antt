@@ -1,11 +1,10 @@
 -- The calculates of binds, one after another, and what stands of them.
-use Rattle.std.proofs.Common.{◌≡◌, ℕ, zero, suc, ◌+◌, ◌<◌, Bool, true, false, cond, not, ◌&&◌, ◌||◌, List, [], ◌∷◌, ◌++◌, length, get_or, take, drop, map, set, Some, None, option_map, ap, sym, ◌∙◌, refl, arith, inl, inr, append_assoc, append-nil, ◌≤◌}
+use Rattle.std.proofs.Common.{◌≡◌, ℕ, zero, suc, ◌+◌, ◌<◌, Bool, true, false, cond, ◌&&◌, List, [], ◌∷◌, ◌++◌, length, drop, map, set, Some, None, option_map, ap, sym, ◌∙◌, refl, arith, inl, inr, append_assoc}
 use Rattle.std.specs.Prelude.{option_and_then, nat_le}
-use Rattle.std.specs.List.{list_any, list_all}
+use Rattle.std.specs.List.{list_all}
 use Rattle.std.specs.declared.option.Option.{Option}
 use Rattle.std.proofs.lemmas.Bool.{cases_Bool, cond-true, cond-false, and_parts, and_from}
-use Rattle.std.proofs.lemmas.List.{take_more, drop_more, drop_all, map_push, drop-set-lt, take_more_set}
-use Rattle.std.proofs.lemmas.List.Folds.{list_any-append}
+use Rattle.std.proofs.lemmas.List.{drop_more}
 use Rattle.xf_form.specs.declared.form.DataNode.{DataNode}
 use Rattle.xf_form.specs.declared.formula.Calculate.{Calculate}
 use Rattle.xf_form.specs.declared.formula.Formula.{Formula}
@@ -14,7 +13,7 @@ use Rattle.xf_form.specs.declared.part.Bind.{Bind}
 use Rattle.xf_form.specs.declared.part.Settled.{Settled}
 use Rattle.xf_form.specs.Paths.{root_label, label_at, place_of}
 use Rattle.xf_form.specs.Formulas.{Sense, sense}
-use Rattle.xf_form.specs.Binds.{is_value, value_at, is_leaf, calculate_at, calculates_at, bound, calculates_of, nodes_of, is_among, are_different, some_reads, are_settled, is_readonly, marks, marked, settled, settled_by, AreIndependent}
+use Rattle.xf_form.specs.Binds.{value_at, is_leaf, calculate_at, calculates_at, bound, calculates_of, nodes_of, some_reads, are_settled, is_readonly, marks, marked, settled, settled_by, AreIndependent}
 
 -- ---- marks
 

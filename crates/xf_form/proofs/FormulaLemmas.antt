@@ -1,26 +1,17 @@
 -- What chains read, and that what is read lies within the data.
-use Rattle.std.proofs.Common.{◌≡◌, ℕ, zero, suc, ◌+◌, ◌<◌, ◌≤◌, Bool, true, false, cond, List, [], ◌∷◌, ◌++◌, length, get_or, drop, map, Some, None, ap, sym, ◌∙◌, refl, arith, inl, inr, ℤ}
-use Rattle.std.specs.Prelude.{nat_le, nat_lt, ◌||◌, not}
+use Rattle.std.proofs.Common.{◌≡◌, ℕ, zero, suc, ◌+◌, ◌<◌, ◌≤◌, Bool, true, false, cond, List, [], ◌∷◌, length, drop, map, ap, sym, ◌∙◌, refl, arith, inl, inr}
+use Rattle.std.specs.Prelude.{nat_le, nat_lt, ◌||◌}
 use Rattle.std.specs.List.{list_any}
-use Rattle.std.specs.declared.option.Option.{Option}
 use Rattle.std.proofs.lemmas.Bool.{cases_Bool, cond-true, cond-false, lt-leb, or_from, cases_lt}
 use Rattle.std.proofs.lemmas.List.{get_or_past, length-drop, drop_all}
-use Rattle.std.proofs.lemmas.List.Folds.{list_any-append}
-use Rattle.xf_ast.specs.declared.expr.Expr.{Expr}
-use Rattle.xf_ast.specs.declared.expr.Expr.TheOpen.{Expr-F}
-use Rattle.xf_ast.specs.declared.expr.Expr.TheFolds.{fold-roll-Expr, fold_out-Link, fold_out-Step}
-use Rattle.xf_ast.specs.declared.expr.Expr.TheVariants.{Number, Negated, Chain, Path, rolls-Number, rolls-Negated, rolls-Chain, rolls-Path}
-use Rattle.xf_ast.specs.declared.expr.Link.{Link}
-use Rattle.xf_ast.specs.declared.expr.Start.{Start}
-use Rattle.xf_ast.specs.declared.expr.Step.{Step}
 use Rattle.xf_form.specs.declared.formula.Formula.{Formula}
 use Rattle.xf_form.specs.declared.formula.Formula.TheOpen.{Formula-F}
 use Rattle.xf_form.specs.declared.formula.Formula.TheFolds.{fold-roll-Formula}
 use Rattle.xf_form.specs.declared.formula.Formula.TheVariants as formula
 use Rattle.xf_form.specs.declared.formula.Operand.{Operand}
 use Rattle.xf_form.specs.declared.label.Label.{Label}
-use Rattle.xf_form.specs.Paths.{root_label, label_at, chosen, below, texts_of, place_of, Walk}
-use Rattle.xf_form.specs.Formulas.{Sense, LinkSense, sense, sense_of_link, walk_of, expr_sense, link_sense, step_walk, read, Reading, reads, operand_reads, formula_reading, operand_reading}
+use Rattle.xf_form.specs.Paths.{root_label, label_at, chosen, below, texts_of, place_of}
+use Rattle.xf_form.specs.Formulas.{Reading, reads, operand_reads, formula_reading, operand_reading}
 
 pub reads-Chain : (first : Formula) (operands : List Operand) → reads (formula.Chain first operands) ≡ formula_reading (Formula-F.Chain (reads first) (map operand_reads operands))
 reads-Chain f os = ap reads (sym (formula.rolls-Chain f os)) ∙ fold-roll-Formula Reading Reading formula_reading operand_reading (Formula-F.Chain f os)

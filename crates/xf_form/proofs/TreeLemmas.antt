@@ -1,12 +1,10 @@
 -- The last node before a node that is less deep.
-use Rattle.std.proofs.Common.{◌≡◌, ℕ, zero, suc, ◌+◌, ◌<◌, ◌≤◌, true, false, cond, List, [], ◌∷◌, ◌++◌, length, get_or, Some, None, ap, sym, ◌∙◌, arith, inl, inr, refl}
+use Rattle.std.proofs.Common.{◌≡◌, ℕ, zero, suc, ◌<◌, ◌≤◌, true, false, List, length, Some, None, ap, sym, ◌∙◌, arith, inl, inr, refl}
 use Rattle.std.specs.Prelude.{nat_lt}
-use Rattle.std.specs.declared.option.Option.{Option}
-use Rattle.std.proofs.lemmas.Bool.{cases_Bool, cond-true, cond-false, ltb-false, lt-ltb, le-ltb, cases_lt}
-use Rattle.std.proofs.lemmas.List.{get_or_past, get_or_append_left, get_or_push, length_push}
+use Rattle.std.proofs.lemmas.Bool.{cases_Bool, cond-true, cond-false, ltb-false, lt-ltb, le-ltb}
+use Rattle.std.proofs.lemmas.List.{get_or_past}
 use Rattle.xf_form.specs.declared.label.Label.{Label}
 use Rattle.xf_form.specs.Paths.{root_label, label_at, above, parent}
-use Rattle.xf_form.specs.Parents.{HoldsParents}
 
 abbrev depth_of : List Label → ℕ → ℕ
 depth_of ls k = (label_at ls k).depth

@@ -131,7 +131,15 @@ fn instance_of(alloc: Global, element: &LitElement, default: &str) -> Result<Ins
     let mut path = Word::from_str(alloc, "/")?;
     path.push_str(element.name.as_str())?;
     let mut nodes = Nodes::new(alloc);
-    place_element(alloc, element, default, path.as_str(), Some(""), 1, &mut nodes)?;
+    place_element(
+        alloc,
+        element,
+        default,
+        path.as_str(),
+        Some(""),
+        1,
+        &mut nodes,
+    )?;
     let root = if is_bare(element, default) {
         Some(Word::from_str(alloc, element.name.as_str())?)
     } else {

@@ -103,12 +103,7 @@ fn operands_of(
 }
 
 #[cycle(formulas)]
-fn operand_of(
-    alloc: Global,
-    tree: &Tree<'_>,
-    node: usize,
-    link: &Link,
-) -> Result<Operand, Miss>
+fn operand_of(alloc: Global, tree: &Tree<'_>, node: usize, link: &Link) -> Result<Operand, Miss>
     ensures operand { Shapes result (operand (sense_of_link link.now) tree.now node) }
     ensures within { IfOk result (λ o. operand_reads o (nat_le (length tree.now)) ≡ false) }
 {

@@ -135,12 +135,7 @@ fn add_parent(tree: &Tree<'_>, node: usize, found: &mut NodeSet) -> Result<(), A
 }
 
 // The elements of a name in the nodes.
-fn down(
-    alloc: Global,
-    tree: &Tree<'_>,
-    set: NodeSet,
-    name: &str,
-) -> Result<NodeSet, AllocError>
+fn down(alloc: Global, tree: &Tree<'_>, set: NodeSet, name: &str) -> Result<NodeSet, AllocError>
     ensures { IfOk result (λ found. found ≡ union (children tree.now name.now) set) }
 {
     let mut set = set;
@@ -192,7 +187,11 @@ fn is_child(label: &Label, depth: usize, name: &str) -> bool
 // ---- string values
 
 /// The places of the nodes whose texts, joined, are the string value of a node.
-pub(crate) fn places_of(alloc: Global, labels: &[Label], node: usize) -> Result<Items<usize>, AllocError>
+pub(crate) fn places_of(
+    alloc: Global,
+    labels: &[Label],
+    node: usize,
+) -> Result<Items<usize>, AllocError>
     ensures { IfOk result (λ places. places ≡ map place_of (texts_of labels.now node)) }
 {
     let mut places = Items::new(alloc);

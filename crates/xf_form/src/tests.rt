@@ -270,14 +270,42 @@ fn binds_calculate_what_they_select(rt: HostRuntime) -> Result<(), Fail> {
     let alloc = rt.alloc();
     // node set, calculate, the read-only nodes and the calculates
     let cases: [(&str, &str, &str); 20] = [
-        ("i/s", "../q * ../p", "/o/i[1]/s=! /o/i[2]/s=! 4:=([2,]*[3,]) 8:=([6,]*[7,]) "),
-        ("/o/i/s", "../q * ../p", "/o/i[1]/s=! /o/i[2]/s=! 4:=([2,]*[3,]) 8:=([6,]*[7,]) "),
-        ("./i/../i/./s", "1 + 1", "/o/i[1]/s=! /o/i[2]/s=! 4:=(1+1) 8:=(1+1) "),
+        (
+            "i/s",
+            "../q * ../p",
+            "/o/i[1]/s=! /o/i[2]/s=! 4:=([2,]*[3,]) 8:=([6,]*[7,]) ",
+        ),
+        (
+            "/o/i/s",
+            "../q * ../p",
+            "/o/i[1]/s=! /o/i[2]/s=! 4:=([2,]*[3,]) 8:=([6,]*[7,]) ",
+        ),
+        (
+            "./i/../i/./s",
+            "1 + 1",
+            "/o/i[1]/s=! /o/i[2]/s=! 4:=(1+1) 8:=(1+1) ",
+        ),
         ("i/s", "7", "/o/i[1]/s=! /o/i[2]/s=! 4:=7 8:=7 "),
-        ("i/s", "--../q", "/o/i[1]/s=! /o/i[2]/s=! 4:=-2[2,] 8:=-2[6,] "),
-        ("i/s", "-(../q - 1) * 2", "/o/i[1]/s=! /o/i[2]/s=! 4:=(-1([2,]-1)*2) 8:=(-1([6,]-1)*2) "),
-        ("i/s", "../../i/q + 0", "/o/i[1]/s=! /o/i[2]/s=! 4:=([2,]+0) 8:=([2,]+0) "),
-        ("i/s", "../x + ../../../.. + 1", "/o/i[1]/s=! /o/i[2]/s=! 4:=([]+[]+1) 8:=([]+[]+1) "),
+        (
+            "i/s",
+            "--../q",
+            "/o/i[1]/s=! /o/i[2]/s=! 4:=-2[2,] 8:=-2[6,] ",
+        ),
+        (
+            "i/s",
+            "-(../q - 1) * 2",
+            "/o/i[1]/s=! /o/i[2]/s=! 4:=(-1([2,]-1)*2) 8:=(-1([6,]-1)*2) ",
+        ),
+        (
+            "i/s",
+            "../../i/q + 0",
+            "/o/i[1]/s=! /o/i[2]/s=! 4:=([2,]+0) 8:=([2,]+0) ",
+        ),
+        (
+            "i/s",
+            "../x + ../../../.. + 1",
+            "/o/i[1]/s=! /o/i[2]/s=! 4:=([]+[]+1) 8:=([]+[]+1) ",
+        ),
         ("x", "../q + 1", ""),
         ("../x", "/ + 1", ""),
         ("i/s", "../q", "F19"),
@@ -292,7 +320,9 @@ fn binds_calculate_what_they_select(rt: HostRuntime) -> Result<(), Fail> {
         ("xf:x", "1 + 1", "F19"),
     ];
     for (node_set, calculate, want) in cases {
-        let bind = format!(in alloc; r#",["xf:bind",{{"nodeset":"{node_set}","calculate":"{calculate}"}}]"#)?;
+        let bind = format!(in alloc;
+            r#",["xf:bind",{{"nodeset":"{node_set}","calculate":"{calculate}"}}]"#
+        )?;
         assert_eq!(rt;
             calculated(alloc, LINES, bind.as_str())?.as_str(),
             want,
@@ -319,13 +349,30 @@ fn string_values_are_led_to_their_texts(rt: HostRuntime) -> Result<(), Fail> {
             "../b + 0",
             "/d/s=! 6:=([2,3,5,]+0) ",
         ),
-        (r#"["d",{"y":"1"}]"#, "/", "1 + 1", "/d=! /d/@y=1! 0:=(1+1) "),
+        (
+            r#"["d",{"y":"1"}]"#,
+            "/",
+            "1 + 1",
+            "/d=! /d/@y=1! 0:=(1+1) ",
+        ),
         (r#"["d","2"]"#, ".", "/ + 1", "F19"),
-        (r#"["d",["a",{"xmlns":"u"},"1"],["s"]]"#, "s", "../a + 0", "/d/s=! 2:=([]+0) "),
-        (r#"["e",{"xmlns":"u"},["s",{"xmlns":""}]]"#, "s", "../../e + 1", "/e/s=! 1:=([]+1) "),
+        (
+            r#"["d",["a",{"xmlns":"u"},"1"],["s"]]"#,
+            "s",
+            "../a + 0",
+            "/d/s=! 2:=([]+0) ",
+        ),
+        (
+            r#"["e",{"xmlns":"u"},["s",{"xmlns":""}]]"#,
+            "s",
+            "../../e + 1",
+            "/e/s=! 1:=([]+1) ",
+        ),
     ];
     for (tree, node_set, calculate, want) in cases {
-        let bind = format!(in alloc; r#",["xf:bind",{{"nodeset":"{node_set}","calculate":"{calculate}"}}]"#)?;
+        let bind = format!(in alloc;
+            r#",["xf:bind",{{"nodeset":"{node_set}","calculate":"{calculate}"}}]"#
+        )?;
         assert_eq!(rt;
             calculated(alloc, tree, bind.as_str())?.as_str(),
             want,
@@ -339,25 +386,49 @@ fn string_values_are_led_to_their_texts(rt: HostRuntime) -> Result<(), Fail> {
 fn other_binds_are_refused(rt: HostRuntime) -> Result<(), Fail> {
     let alloc = rt.alloc();
     let cases: [(&str, &str); 14] = [
-        (r#",["xf:bind",{"nodeset":"i/s","calculate":"1","id":"b"}]"#, "/o/i[1]/s=! /o/i[2]/s=! 4:=1 8:=1 "),
+        (
+            r#",["xf:bind",{"nodeset":"i/s","calculate":"1","id":"b"}]"#,
+            "/o/i[1]/s=! /o/i[2]/s=! 4:=1 8:=1 ",
+        ),
         (
             r#",["xf:bind",{"nodeset":"i/s","calculate":"1"}],["xf:bind",{"nodeset":"i/q","calculate":"../p * 2"}]"#,
             "/o/i[1]/q=2! /o/i[1]/s=! /o/i[2]/q=1! /o/i[2]/s=! 4:=1 8:=1 2:=([3,]*2) 6:=([7,]*2) ",
         ),
-        (r#",["xf:bind",{"nodeset":"i/s","calculate":"1"}],["xf:bind",{"nodeset":"i/s","calculate":"2"}]"#, "F19"),
+        (
+            r#",["xf:bind",{"nodeset":"i/s","calculate":"1"}],["xf:bind",{"nodeset":"i/s","calculate":"2"}]"#,
+            "F19",
+        ),
         (
             r#",["xf:bind",{"nodeset":"i/s","calculate":"../q + 1"}],["xf:bind",{"nodeset":"i/q","calculate":"../p * 2"}]"#,
             "F19",
         ),
         (r#",["xf:bind",{"calculate":"1"}]"#, "F19"),
         (r#",["xf:bind",{"nodeset":"i/s"}]"#, "F19"),
-        (r#",["xf:bind",{"nodeset":"i/s","calculate":"1","ref":"x"}]"#, "F19"),
-        (r#",["xf:bind",{"nodeset":"i/s","calculate":"1","readonly":"x"}]"#, "F19"),
-        (r#",["xf:bind",{"nodeset":"i/s","calculate":"1","ev:event":"x"}]"#, "F19"),
-        (r#",["xf:bind",{"nodeset":"i/s","calculate":"1"},["p"]]"#, "F19"),
-        (r#",["xf:bind",{"nodeset":"i/s","calculate":"1"},"text"]"#, "/o/i[1]/s=! /o/i[2]/s=! 4:=1 8:=1 "),
+        (
+            r#",["xf:bind",{"nodeset":"i/s","calculate":"1","ref":"x"}]"#,
+            "F19",
+        ),
+        (
+            r#",["xf:bind",{"nodeset":"i/s","calculate":"1","readonly":"x"}]"#,
+            "F19",
+        ),
+        (
+            r#",["xf:bind",{"nodeset":"i/s","calculate":"1","ev:event":"x"}]"#,
+            "F19",
+        ),
+        (
+            r#",["xf:bind",{"nodeset":"i/s","calculate":"1"},["p"]]"#,
+            "F19",
+        ),
+        (
+            r#",["xf:bind",{"nodeset":"i/s","calculate":"1"},"text"]"#,
+            "/o/i[1]/s=! /o/i[2]/s=! 4:=1 8:=1 ",
+        ),
         (r#",["xf:bind",{"nodeset":"i//s","calculate":"1"}]"#, "F19"),
-        (r#",["xf:bind",{"nodeset":"i/s","calculate":"count(.)"}]"#, "F19"),
+        (
+            r#",["xf:bind",{"nodeset":"i/s","calculate":"count(.)"}]"#,
+            "F19",
+        ),
         (r#"],["xf:bind",{"nodeset":"i/s","calculate":"1"}"#, "F19"),
     ];
     for (binds, want) in cases {

@@ -133,7 +133,11 @@ pub(crate) fn attribute<'a>(name: &str, attributes: &'a [Pair]) -> Option<&'a st
 }
 
 /// Whether one of the attributes may not stand at an element that is an input or a bind.
-pub(crate) fn has_unbuilt(role: Role, prefixes: &Prefixes, attributes: &[Pair]) -> Result<bool, AllocError>
+pub(crate) fn has_unbuilt(
+    role: Role,
+    prefixes: &Prefixes,
+    attributes: &[Pair],
+) -> Result<bool, AllocError>
     ensures { IfOk result (λ found. found ≡ list_any (λ p. is_unbuilt role prefixes.now p.name) attributes.now) }
 {
     for pair in attributes {

@@ -121,10 +121,20 @@ expr_static (Expr-F.Chain first links) = record {
   gives_nodes = list_any (λ link. is_union link.operator) links;
 }
 expr_static (Expr-F.Filter first predicates) = record {
-  place = first.place; fault = or_else first.fault (first_in_predicates predicates); in_predicate = Some first.place; is_literal = false; gives_nodes = true }
+  place = first.place;
+  fault = or_else first.fault (first_in_predicates predicates);
+  in_predicate = Some first.place;
+  is_literal = false;
+  gives_nodes = true;
+}
 expr_static (Expr-F.Path place start steps) = record { place = place; fault = first_of (λ found. found) steps; in_predicate = Some place; is_literal = false; gives_nodes = true }
 expr_static (Expr-F.From first steps) = record {
-  place = first.place; fault = or_else first.fault (first_of (λ found. found) steps); in_predicate = Some first.place; is_literal = false; gives_nodes = true }
+  place = first.place;
+  fault = or_else first.fault (first_of (λ found. found) steps);
+  in_predicate = Some first.place;
+  is_literal = false;
+  gives_nodes = true;
+}
 
 abbrev pub link_static : Link-F Static LinkStatic (Option ℕ) → LinkStatic
 link_static link = record { place = link.place; operator = link.operator; right = link.right }

@@ -290,12 +290,22 @@ a ) q:x => Syntax 2
 (q:x => Prefix 1
 é + q:x => Prefix 5";
 
-fn compare(rt: &impl Abort, alloc: Global, table: &str) -> Result<(), Fail> {
-    let prefixes = prefixes(alloc)?;
+fn assert_answer(
+    rt: &impl Abort,
+    alloc: Global,
+    prefixes: &Prefixes,
+    text: &str,
+    want: &str,
+) -> Result<(), Fail> {
+    let found = answer(alloc, prefixes, text)?;
+    assert_eq!(rt; found.as_str(), want, "of {text}");
+    Ok(())
+}
+
+fn compare(rt: &impl Abort, alloc: Global, prefixes: &Prefixes, table: &str) -> Result<(), Fail> {
     for row in table.split('\n') {
         if let Some((text, want)) = row.split_once(" => ") {
-            let found = answer(alloc, &prefixes, text)?;
-            assert_eq!(rt; found.as_str(), want, "of {text}");
+            assert_answer(rt, alloc, prefixes, text, want)?;
         }
     }
     Ok(())
@@ -303,99 +313,120 @@ fn compare(rt: &impl Abort, alloc: Global, table: &str) -> Result<(), Fail> {
 
 #[test]
 fn texts_and_their_trees(rt: HostRuntime) -> Result<(), Fail> {
-    compare(&rt, rt.alloc(), TREES)
+    let prefixes = prefixes(rt.alloc())?;
+    compare(&rt, rt.alloc(), &prefixes, TREES)
 }
 
 #[test]
 fn texts_and_their_faults(rt: HostRuntime) -> Result<(), Fail> {
-    compare(&rt, rt.alloc(), FAULTS)
+    let prefixes = prefixes(rt.alloc())?;
+    compare(&rt, rt.alloc(), &prefixes, FAULTS)
 }
 
 #[test]
 fn white_space_is_of_four_kinds(rt: HostRuntime) -> Result<(), Fail> {
-    let alloc = rt.alloc();
-    let prefixes = prefixes(alloc)?;
-    let spaced = answer(alloc, &prefixes, "1\n+\t2\r * 3")?;
-    assert_eq!(rt; spaced.as_str(), "(0:1 +2 (4:2 *7 9:3))");
-    let other = answer(alloc, &prefixes, "1\u{b}")?;
-    assert_eq!(rt; other.as_str(), "Syntax 1");
-    Ok(())
+    let prefixes = prefixes(rt.alloc())?;
+    let spaced = "1\n+\t2\r * 3";
+    assert_answer(&rt, rt.alloc(), &prefixes, spaced, "(0:1 +2 (4:2 *7 9:3))")?;
+    assert_answer(&rt, rt.alloc(), &prefixes, "1\u{b}", "Syntax 1")
 }
 
-fn link_count(tree: &Expr) -> usize {
-    match tree {
-        Expr::Chain(_, links) => links.len(),
-        _ => 0,
-    }
-}
-
-// A text so many times over.
-fn push_times(out: &mut String, part: &str, count: usize) -> Result<(), AllocError> {
+// A text, so many times a part, and an end, whose answer is compared.
+fn assert_long(
+    rt: &impl Abort,
+    alloc: Global,
+    prefixes: &Prefixes,
+    text: (&str, &str, usize, &str),
+    want: &str,
+) -> Result<(), Fail> {
+    let (before, part, count, after) = text;
+    let mut text = String::from_str(alloc, before)?;
     for _ in 0..count {
-        out.push_str(part)?;
+        text.push_str(part)?;
     }
-    Ok(())
+    text.push_str(after)?;
+    assert_answer(rt, alloc, prefixes, text.as_str(), want)
+}
+
+// Signs, then a number in parentheses, whose answer is compared.
+fn assert_nested(
+    rt: &impl Abort,
+    alloc: Global,
+    prefixes: &Prefixes,
+    nesting: (usize, usize),
+    want: &str,
+) -> Result<(), Fail> {
+    let (signs, groups) = nesting;
+    let mut text = String::new(alloc);
+    for _ in 0..signs {
+        text.push_str("-")?;
+    }
+    for _ in 0..groups {
+        text.push_str("(")?;
+    }
+    text.push_str("1")?;
+    for _ in 0..groups {
+        text.push_str(")")?;
+    }
+    assert_answer(rt, alloc, prefixes, text.as_str(), want)
 }
 
 #[test]
 fn nesting_has_a_limit(rt: HostRuntime) -> Result<(), Fail> {
-    let alloc = rt.alloc();
-    let prefixes = prefixes(alloc)?;
-    // signs, then parentheses around a number, and what is wanted
-    let cases: [(usize, usize, &str); 8] = [
-        (0, 64, "64:1"),
-        (0, 65, "Deep 64"),
-        (64, 0, "0-64(64:1)"),
-        (65, 0, "Deep 64"),
-        (66, 0, "Deep 64"),
-        (32, 32, "0-32(64:1)"),
-        (32, 33, "Deep 64"),
-        (33, 32, "Deep 64"),
+    let prefixes = prefixes(rt.alloc())?;
+    // signs and parentheses, and what is wanted
+    let cases: [((usize, usize), &str); 8] = [
+        ((0, 64), "64:1"),
+        ((0, 65), "Deep 64"),
+        ((64, 0), "0-64(64:1)"),
+        ((65, 0), "Deep 64"),
+        ((66, 0), "Deep 64"),
+        ((32, 32), "0-32(64:1)"),
+        ((32, 33), "Deep 64"),
+        ((33, 32), "Deep 64"),
     ];
-    for (signs, groups, want) in cases {
-        let mut text = String::new(alloc);
-        push_times(&mut text, "-", signs)?;
-        push_times(&mut text, "(", groups)?;
-        text.push_str("1")?;
-        push_times(&mut text, ")", groups)?;
-        let found = answer(alloc, &prefixes, text.as_str())?;
-        assert_eq!(rt; found.as_str(), want, "of {signs} and {groups}");
+    for (nesting, want) in cases {
+        assert_nested(&rt, rt.alloc(), &prefixes, nesting, want)?;
     }
-    // what was closed nests nothing more
-    let mut text = String::from_str(alloc, "1")?;
-    push_times(&mut text, "+(-1)", 100)?;
-    assert!(rt; parse(alloc, text.as_str(), &prefixes).is_ok());
     Ok(())
 }
 
 #[test]
 fn texts_and_names_have_a_limit(rt: HostRuntime) -> Result<(), Fail> {
-    let alloc = rt.alloc();
-    let prefixes = prefixes(alloc)?;
-    // what stands before so many spaces, and what is wanted
-    let cases: [(&str, usize, &str); 5] = [
-        ("1", 4095, "0:1"),
-        ("1", 4096, "Long 0"),
-        (")", 4095, "Syntax 0"),
-        (")", 4096, "Long 0"),
-        ("1+", 4094, "Syntax 4096"),
+    let prefixes = prefixes(rt.alloc())?;
+    // a beginning, so many times a part, and an end; 300 parentheses beside each other nest nothing
+    let cases: [((&str, &str, usize, &str), &str); 9] = [
+        (("1", " ", 4095, ""), "0:1"),
+        (("1", " ", 4096, ""), "Long 0"),
+        ((")", " ", 4095, ""), "Syntax 0"),
+        ((")", " ", 4096, ""), "Long 0"),
+        (("1+", " ", 4094, ""), "Syntax 4096"),
+        (("1", "+1", 2046, "+"), "Syntax 4094"),
+        (("1", "+(-1)", 300, ")"), "Syntax 1501"),
+        (("1+", "abcde", 51, "+"), "Syntax 258"),
+        (("1+", "abcde", 51, "f"), "Syntax 2"),
     ];
-    for (before, spaces, want) in cases {
-        let mut text = String::from_str(alloc, before)?;
-        push_times(&mut text, " ", spaces)?;
-        let found = answer(alloc, &prefixes, text.as_str())?;
-        assert_eq!(rt; found.as_str(), want, "of {before} and {spaces}");
+    for (text, want) in cases {
+        assert_long(&rt, rt.alloc(), &prefixes, text, want)?;
     }
-    let mut sum = String::from_str(alloc, "1")?;
-    push_times(&mut sum, "+1", 2047)?;
-    let links = link_count(&parse(alloc, sum.as_str(), &prefixes)?);
-    assert_eq!(rt; links, 2047);
-    // a part of 255 bytes is one, and none of 256
-    let mut name = String::from_str(alloc, "1+")?;
-    push_times(&mut name, "abcde", 51)?;
-    assert!(rt; parse(alloc, name.as_str(), &prefixes).is_ok());
-    name.push_str("f")?;
-    let found = answer(alloc, &prefixes, name.as_str())?;
-    assert_eq!(rt; found.as_str(), "Syntax 2");
+    Ok(())
+}
+
+// How many links the sum has of so many times one and one more.
+fn sum_links(alloc: Global, prefixes: &Prefixes, count: usize) -> Result<usize, ParseFault> {
+    let mut text = String::from_str(alloc, "1")?;
+    for _ in 0..count {
+        text.push_str("+1")?;
+    }
+    match &parse(alloc, text.as_str(), prefixes)? {
+        Expr::Chain(_, links) => Ok(links.len()),
+        _ => Ok(0),
+    }
+}
+
+#[test]
+fn a_long_sum_is_one_chain(rt: HostRuntime) -> Result<(), Fail> {
+    let prefixes = prefixes(rt.alloc())?;
+    assert_eq!(rt; sum_links(rt.alloc(), &prefixes, 2047)?, 2047);
     Ok(())
 }

@@ -1,4 +1,4 @@
-use Rattle.std.proofs.Common.{◌≡◌, ◌∙◌, ◌+◌, ◌<◌, ◌++◌, ◌∷◌, [], ap, sym, arith, length}
+use Rattle.std.proofs.Common.{◌≡◌, ◌∙◌, ◌+◌, ◌++◌, ◌∷◌, [], ap, arith, length}
 use Rattle.xf_form.specs.Binds.{is_readonly}
 use Rattle.xf_form.proofs.BindLemmas.{marks_more}
 use Rattle.xf_form.proofs.binds.marks.Goals as goal

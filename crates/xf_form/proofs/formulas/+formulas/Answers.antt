@@ -1,4 +1,4 @@
-use Rattle.std.proofs.Common.{◌≡◌, ◌∙◌, ap, length}
+use Rattle.std.proofs.Common.{◌∙◌, ap, length}
 use Rattle.std.specs.Prelude.{nat_le}
 use Rattle.xf_form.specs.Formulas.{reads}
 use Rattle.xf_form.proofs.FormulaLemmas.{chain_none}

@@ -1,4 +1,4 @@
-use Rattle.std.proofs.Common.{◌≡◌, ◌∙◌, [], Some, Ok, ap, sym, subst}
+use Rattle.std.proofs.Common.{◌≡◌, ◌∙◌, [], Some, ap, sym, subst}
 use Rattle.std.specs.Prelude.{option_and_then, option_map}
 use Rattle.xf_form.specs.declared.part.Place.TheVariants as place
 use Rattle.xf_form.specs.Parts.{joined}

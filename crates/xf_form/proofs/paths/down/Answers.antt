@@ -1,4 +1,4 @@
-use Rattle.std.proofs.Common.{◌≡◌, ◌∙◌, ap, sym}
+use Rattle.std.proofs.Common.{◌∙◌, ap}
 use Rattle.std.specs.Prelude.{flat_map}
 use Rattle.xf_form.specs.Paths.{children, with_all}
 use Rattle.xf_form.proofs.PathLemmas.{added_more}

@@ -1,4 +1,4 @@
-use Rattle.std.proofs.Common.{◌≡◌, ◌∙◌, ◌+◌, ◌-◌, ◌≤◌, ◌<◌, ℕ, suc, Some, None, ap, sym, arith, add-one, length}
+use Rattle.std.proofs.Common.{◌≡◌, ◌∙◌, ◌-◌, ◌≤◌, ◌<◌, Some, None, ap, sym, arith, add-one, length}
 use Rattle.xf_form.specs.Paths.{label_at, above, parent}
 use Rattle.xf_form.proofs.TreeLemmas.{found_above, none_above, passed_over, above_before}
 use Rattle.xf_form.proofs.tree.parent_among.Goals as goal
