@@ -1,0 +1,11 @@
+pub mod Rules
+pub mod Nested
+pub mod Applied
+pub mod Entries
+pub mod Circular
+pub mod Settled
+pub mod Properties
+pub mod Pertinent
+pub mod Submitted
+pub mod Places
+pub mod Taken
