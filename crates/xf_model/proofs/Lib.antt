@@ -1,0 +1,3 @@
+pub mod AppliedExamples
+pub mod CircularExamples
+pub mod SettledExamples

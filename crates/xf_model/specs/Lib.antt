@@ -9,3 +9,4 @@ pub mod Pertinent
 pub mod Submitted
 pub mod Places
 pub mod Taken
+pub mod Examples
