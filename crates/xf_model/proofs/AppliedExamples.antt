@@ -1,5 +1,5 @@
 -- What binds select and set, on small data.
-use Rattle.std.proofs.Common.{◌≡◌, ℕ, true, false, List, [], ◌∷◌, map, Option, Some, None, Result, Ok, Err, refl, codes}
+use Rattle.std.proofs.Common.{◌≡◌, ℕ, true, List, [], ◌∷◌, Option, Some, None, Result, Ok, Err, refl, codes}
 use Rattle.xf_num.specs.Number.{scale}
 use Rattle.xf_name.specs.declared.axis.Axis.TheVariants as axis
 use Rattle.xf_ast.specs.declared.expr.Test.TheVariants as test
@@ -8,9 +8,9 @@ use Rattle.xf_doc.specs.declared.content.Node.{Node}
 use Rattle.xf_doc.specs.Visit.{visits}
 use Rattle.xf_doc.specs.Shape.{shape_of}
 use Rattle.xf_lang.specs.Asked.{Trace}
-use Rattle.xf_lang.specs.Examples.{simple, step, child, up, path, from_root, number, literal, call, two}
+use Rattle.xf_lang.specs.Examples.{simple, step, child, path, from_root, number, call, two}
 use Rattle.xf_model.specs.declared.property.Property.TheVariants as property
-use Rattle.xf_model.specs.Rules.{Rule, Scope}
+use Rattle.xf_model.specs.Rules.{Rule}
 use Rattle.xf_model.specs.Nested.{sets_of, nested}
 use Rattle.xf_model.specs.Applied.{Entry, Exception, twice, on_parent, all_entries, applied}
 use Rattle.xf_model.specs.Examples

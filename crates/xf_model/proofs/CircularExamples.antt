@@ -1,15 +1,13 @@
 -- Cycles of calculates, on small data.
-use Rattle.std.proofs.Common.{◌≡◌, ℕ, true, false, List, [], ◌∷◌, refl, codes}
-use Rattle.xf_ast.specs.declared.expr.Operator.TheVariants as operator
+use Rattle.std.proofs.Common.{◌≡◌, ℕ, false, List, [], ◌∷◌, refl, codes}
 use Rattle.xf_doc.specs.declared.content.Node.{Node}
 use Rattle.xf_doc.specs.Shape.{shape_of}
 use Rattle.xf_graph.specs.Edges.{Adjacency}
 use Rattle.xf_graph.specs.Cycle.{IsCycle}
 use Rattle.xf_lang.specs.Asked.{Trace}
-use Rattle.xf_lang.specs.Examples.{child, up, path, number, literal, call, two}
+use Rattle.xf_lang.specs.Examples.{child, up, path, literal, call}
 use Rattle.xf_model.specs.Rules.{Rule}
 use Rattle.xf_model.specs.Applied.{all_entries}
-use Rattle.xf_model.specs.Entries.{reads_of}
 use Rattle.xf_model.specs.Circular.{Reader, calculated, graph_over, nodes_at}
 use Rattle.xf_model.specs.Examples
 

@@ -1,20 +1,17 @@
 -- Settled texts, on small data.
-use Rattle.std.proofs.Common.{◌≡◌, ℕ, true, false, List, [], ◌∷◌, Some, refl, codes}
-use Rattle.std.specs.Prelude.{digits}
+use Rattle.std.proofs.Common.{◌≡◌, ℕ, List, [], ◌∷◌, refl, codes}
+use Rattle.std.specs.Fmt.{digits}
 use Rattle.xf_num.specs.Number.{scale}
 use Rattle.xf_ast.specs.declared.expr.Operator.TheVariants as operator
 use Rattle.xf_doc.specs.declared.content.Node.{Node}
-use Rattle.xf_doc.specs.Limits.{Limits}
 use Rattle.xf_doc.specs.Visit.{visits}
 use Rattle.xf_doc.specs.Shape.{shape_of}
 use Rattle.xf_doc.specs.StringValue.{string_value}
-use Rattle.xf_doc.specs.Examples.{element, text}
 use Rattle.xf_lang.specs.Asked.{Trace}
 use Rattle.xf_lang.specs.Examples.{child, path, number, literal, call, two}
 use Rattle.xf_model.specs.Rules.{Rule}
 use Rattle.xf_model.specs.Applied.{all_entries}
 use Rattle.xf_model.specs.Settled.{Bounds, bounds, Contents, Passed, long, text, nodes, all_texts, rounds, settled_contents, settled, passed}
-use Rattle.xf_model.specs.Settled as settling
 use Rattle.xf_model.specs.Examples
 
 abbrev contents_on : List Node → List Rule → Contents

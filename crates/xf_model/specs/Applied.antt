@@ -1,6 +1,6 @@
 -- What the binds of a model set on which nodes (XForms 1.1, sections 3.3.4 and 4.3.1): their node sets are selected over the shape of the
 -- data. It is an exception where a property is set twice on a node, or a calculate on an element that has elements in it.
-use Rattle.std.specs.Prelude.{ℕ, suc, Bool, true, false, ◌&&◌, List, [], ◌∷◌, ◌++◌, map, length, filter, Option, Some, None, is_some, unwrap_or, Result, Ok, Err, ◌==◌, if◌then◌else◌}
+use Rattle.std.specs.Prelude.{ℕ, suc, Bool, ◌&&◌, List, [], ◌∷◌, ◌++◌, map, length, filter, Option, Some, None, is_some, unwrap_or, Result, Ok, Err, ◌==◌, if◌then◌else◌}
 use Rattle.std.specs.List.{list_any, flat_map, position_or_len}
 use Rattle.xf_doc.specs.declared.content.Node.{Node}
 use Rattle.xf_doc.specs.Visit.{Visit, has}

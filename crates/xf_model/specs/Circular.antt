@@ -1,7 +1,7 @@
 -- Cycles of calculates (XForms 1.1, section 4.3.2 and appendix C): the nodes with a calculate, each of which depends on the others that it
 -- reads, or an ancestor of which it reads. Where cycles stand, one is reported: it goes through the first node in document order that lies
 -- on a cycle, is the shortest such, and of these the least as a list in document order.
-use Rattle.std.specs.Prelude.{ℕ, suc, ◌≡◌, Bool, ◌&&◌, List, [], ◌∷◌, map, filter, get_or, ◌==◌, if◌then◌else◌}
+use Rattle.std.specs.Prelude.{ℕ, suc, ◌≡◌, Bool, List, [], ◌∷◌, map, filter, get_or, ◌==◌, if◌then◌else◌}
 use Rattle.std.specs.List.{flat_map}
 use Rattle.xf_doc.specs.Visit.{Visit}
 use Rattle.xf_graph.specs.Edges.{Adjacency}

@@ -1,6 +1,6 @@
 -- The expression of an entry (XForms 1.1, section 6.1): its value over some data, and what it reads and looks at over their shape. Its
 -- context is the bound node, with that node's position and size in the node set of the bind (section 7.2).
-use Rattle.std.specs.Prelude.{ℕ, Bool, not, ◌||◌, List, [], ◌∷◌, Option, Some, None, option_and_then, slice_get}
+use Rattle.std.specs.Prelude.{ℕ, Bool, not, List, [], ◌∷◌, Option, Some, None, option_and_then, slice_get}
 use Rattle.std.specs.List.{list_any}
 use Rattle.xf_doc.specs.Visit.{Visit, has, ancestors_of}
 use Rattle.xf_lang.specs.declared.value.Value.{Value}

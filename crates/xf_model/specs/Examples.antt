@@ -1,5 +1,5 @@
 -- Small data with binds over them, to read beside the definitions.
-use Rattle.std.specs.Prelude.{ℕ, Bool, true, false, List, [], ◌∷◌, map, Option, Some, None, codes}
+use Rattle.std.specs.Prelude.{ℕ, Bool, true, false, List, [], ◌∷◌, map, Some, None, codes}
 use Rattle.xf_name.specs.Bindings.{no_bindings}
 use Rattle.xf_name.specs.declared.axis.Axis.TheVariants as axis
 use Rattle.xf_ast.specs.declared.expr.Operator.TheVariants as operator
@@ -26,8 +26,15 @@ placed t = record { trace = t; is_placed = true }
 -- a bind of the first model that sets nothing yet
 abbrev pub bind : Trace → Rule
 bind node_set = record {
-  model = 0; around = None; node_set = node_set;
-  kind = None; calculate = None; relevant = None; readonly = None; required = None; constraint = None;
+  model = 0;
+  around = None;
+  node_set = node_set;
+  kind = None;
+  calculate = None;
+  relevant = None;
+  readonly = None;
+  required = None;
+  constraint = None;
 }
 
 abbrev pub inside : ℕ → Rule → Rule

@@ -1,6 +1,6 @@
 -- The nodes that a bind selects (XForms 1.1, sections 3.3.4 and 7.2): its node set is evaluated once for each node of the bind around it,
 -- and an outermost one's for the document element of the model's first instance.
-use Rattle.std.specs.Prelude.{ℕ, List, [], ◌∷◌, Option, Some, option_map, unwrap_or, get_or}
+use Rattle.std.specs.Prelude.{ℕ, List, [], ◌∷◌, Option, Some, option_map, get_or}
 use Rattle.xf_doc.specs.Visit.{Visit}
 use Rattle.xf_lang.specs.Given.{first_document}
 use Rattle.xf_lang.specs.Setting.{Setting, Focus, ◌>>=◌, setting_over, each, in_order, joined}

@@ -1,6 +1,6 @@
 -- What a recalculation evaluates (XForms 1.1, section 4.3.2 and appendix C): the entries that a change since the last one may concern, and
 -- those that read what a calculate among them gives; no others.
-use Rattle.std.specs.Prelude.{ℕ, zero, suc, ◌≡◌, Bool, true, not, ◌&&◌, ◌||◌, List, [], ◌∷◌, map, filter, length, Option, Some, None, ◌==◌}
+use Rattle.std.specs.Prelude.{ℕ, zero, suc, Bool, not, ◌&&◌, ◌||◌, List, [], map, filter, length, Option, Some, None, ◌==◌}
 use Rattle.std.specs.List.{list_any}
 use Rattle.xf_doc.specs.Visit.{Visit, has}
 use Rattle.xf_model.specs.Rules.{Computed, Scope}

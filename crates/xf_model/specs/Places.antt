@@ -1,9 +1,9 @@
 -- Where the copies of an insert go (XForms 1.1, section 10.3).
-use Rattle.std.specs.Prelude.{ℕ, suc, ◌+◌, ◌-◌, Bool, true, false, not, ◌&&◌, ◌||◌, List, [], ◌∷◌, ◌++◌, map, filter, find, length, reverse, take, ℤ, pos, Option, Some, None, option_map, option_and_then, is_some, nat_lt, int_lt, slice_get, unsigned_abs, ◌==◌, if◌then◌else◌}
+use Rattle.std.specs.Prelude.{ℕ, suc, ◌-◌, Bool, true, false, not, ◌&&◌, List, [], ◌∷◌, ◌++◌, filter, find, length, ℤ, pos, Option, Some, None, option_map, option_and_then, int_lt, slice_get, unsigned_abs, ◌==◌, if◌then◌else◌}
 use Rattle.std.specs.List.{list_any}
 use Rattle.xf_doc.specs.declared.content.Node.{Node}
 use Rattle.xf_doc.specs.declared.content.Content.{Content}
-use Rattle.xf_doc.specs.declared.content.Content.TheVariants.{Root, Element, Attribute, Text}
+use Rattle.xf_doc.specs.declared.content.Content.TheVariants.{Element, Attribute}
 use Rattle.xf_doc.specs.declared.content.Name.{Name}
 use Rattle.xf_doc.specs.Forest.{is_root, is_element, is_attribute, name_in}
 use Rattle.xf_doc.specs.Visit.{Visit, visits, has, is_first, parent_of, children_of}

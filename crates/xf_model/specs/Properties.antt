@@ -1,5 +1,5 @@
 -- Model item properties (XForms 1.1, section 6.1), by the values that the entries had at the last recalculation.
-use Rattle.std.specs.Prelude.{ℕ, Bool, true, false, not, ◌&&◌, ◌||◌, List, [], ◌∷◌, find, Option, Some, None, option_map, option_and_then, slice_get, ◌==◌}
+use Rattle.std.specs.Prelude.{ℕ, Bool, true, false, not, ◌&&◌, List, ◌∷◌, find, Option, Some, None, option_and_then, slice_get, ◌==◌}
 use Rattle.std.specs.List.{list_any, list_all}
 use Rattle.xf_num.specs.Written.{is_empty}
 use Rattle.xf_types.specs.declared.kind.SimpleType.{SimpleType}

@@ -7,7 +7,7 @@ use Rattle.xf_ast.specs.declared.form.Submission.{Submission}
 use Rattle.xf_doc.specs.declared.content.Node.{Node}
 use Rattle.xf_doc.specs.Forest.{is_element}
 use Rattle.xf_doc.specs.Visit.{Visit, has, visits}
-use Rattle.xf_lang.specs.Setting.{◌>>=◌, each, joined, string_limit}
+use Rattle.xf_lang.specs.Setting.{each, joined, string_limit}
 use Rattle.xf_lang.specs.Asked.{Trace}
 use Rattle.xf_lang.specs.Reads.{trace}
 use Rattle.xf_model.specs.Rules.{Scope}
