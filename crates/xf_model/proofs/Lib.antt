@@ -5,3 +5,4 @@ pub mod PropertyExamples
 pub mod PertinentExamples
 pub mod SubmittedExamples
 pub mod PlaceExamples
+pub mod PertinentLaws

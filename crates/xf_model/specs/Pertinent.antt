@@ -1,6 +1,6 @@
 -- What a recalculation evaluates (XForms 1.1, section 4.3.2 and appendix C): the entries that a change since the last one may concern, and
 -- those that read what a calculate among them gives; no others.
-use Rattle.std.specs.Prelude.{ℕ, zero, suc, Bool, not, ◌&&◌, ◌||◌, List, [], map, filter, length, Option, Some, None, ◌==◌}
+use Rattle.std.specs.Prelude.{ℕ, zero, suc, ◌≡◌, Bool, true, not, ◌&&◌, ◌||◌, List, [], ◌∷◌, map, filter, length, Option, Some, None, ◌==◌}
 use Rattle.std.specs.List.{list_any}
 use Rattle.xf_doc.specs.Visit.{Visit, has}
 use Rattle.xf_model.specs.Rules.{Computed, Scope}
@@ -59,9 +59,12 @@ is_begun all changes a =
 abbrev pub calculated_in : List Asking → List ℕ
 calculated_in wave = map (λ a. a.entry.node) (filter (λ a. is_calculate a.entry) wave)
 
--- those that a change concerns, and those that read what a calculate of the wave before gives
+-- a change concerns it, or it reads what a calculate of the wave gives
+abbrev pub follows : List Visit → Changes → List Asking → Asking → Bool
+follows all changes wave a = is_begun all changes a || reads_any all a (calculated_in wave)
+
 abbrev pub next_wave : List Visit → Changes → List Asking → List Asking → List Asking
-next_wave all changes asked wave = filter (λ a. is_begun all changes a || reads_any all a (calculated_in wave)) asked
+next_wave all changes asked wave = filter (follows all changes wave) asked
 
 abbrev pub waves : List Visit → Changes → List Asking → ℕ → List Asking → List Asking
 waves all changes asked zero wave = wave
@@ -77,3 +80,18 @@ pertinent scope all entries changes = map (λ a. a.entry) (pertinent_of all chan
 -- how many are evaluated
 abbrev pub pertinent_count : Scope → List Visit → List Entry → Changes → ℕ
 pertinent_count scope all entries changes = length (pertinent scope all entries changes)
+
+-- ---- what makes them the least
+
+-- the fact holds of each
+abbrev pub AllOf : {X : Type 0} → (X → Type 0) → List X → Type 0
+AllOf P [] = Unit {0}
+AllOf P (x ∷ xs) = P x × AllOf P xs
+
+-- a set of entries that holds what a change concerns, and what reads what a calculate in it gives
+abbrev pub IsClosed : List Visit → Changes → List Asking → (Asking → Bool) → Type 0
+IsClosed all changes asked set = AllOf (λ a. follows all changes (filter set asked) a ≡ true → set a ≡ true) asked
+
+-- one that is pertinent
+abbrev pub is_pertinent : List Visit → Changes → List Asking → Asking → Bool
+is_pertinent all changes asked a = follows all changes (pertinent_of all changes asked) a
