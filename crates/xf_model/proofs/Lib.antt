@@ -5,4 +5,6 @@ pub mod PropertyExamples
 pub mod PertinentExamples
 pub mod SubmittedExamples
 pub mod PlaceExamples
+pub mod EachLemmas
 pub mod PertinentLaws
+pub mod RoundLaws

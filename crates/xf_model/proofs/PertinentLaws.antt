@@ -7,16 +7,7 @@ use Rattle.xf_doc.specs.Visit.{Visit}
 use Rattle.xf_model.specs.Applied.{is_calculate}
 use Rattle.xf_model.specs.Entries.{touches}
 use Rattle.xf_model.specs.Pertinent.{Changes, Asking, AllOf, is_begun, reads_any, calculated_in, follows, next_wave, waves, pertinent_of, IsClosed, is_pertinent}
-
--- ---- facts of each element
-
-pub of_each : {X : Type 0} (P : X → Type 0) → ((x : X) → P x) → (xs : List X) → AllOf P xs
-of_each P h [] = tt
-of_each P h (x ∷ xs) = (h x, of_each P h xs)
-
-pub each_then : {X : Type 0} (P Q : X → Type 0) → ((x : X) → P x → Q x) → (xs : List X) → AllOf P xs → AllOf Q xs
-each_then P Q h [] ps = tt
-each_then P Q h (x ∷ xs) ps = (h x ps.0, each_then P Q h xs ps.1)
+use Rattle.xf_model.proofs.EachLemmas.{of_each, each_then}
 
 -- ---- filters by a test and by one that passes more
 

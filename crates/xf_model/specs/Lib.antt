@@ -6,6 +6,7 @@ pub mod Circular
 pub mod Settled
 pub mod Properties
 pub mod Pertinent
+pub mod Stands
 pub mod Submitted
 pub mod Places
 pub mod Taken
