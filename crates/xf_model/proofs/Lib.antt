@@ -7,4 +7,5 @@ pub mod SubmittedExamples
 pub mod PlaceExamples
 pub mod EachLemmas
 pub mod PertinentLaws
+pub mod RankLemmas
 pub mod RoundLaws

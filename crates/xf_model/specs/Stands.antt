@@ -32,7 +32,7 @@ Agrees b scope entries all =
 
 -- each calculated node stands in the data, once
 abbrev pub AreStanding : List Entry → List Visit → Type 0
-AreStanding entries all = AllOf (λ e. count_by (λ x. x.number == e.node) (shape all) ≡ 1) (calculates entries)
+AreStanding entries all = AllOf (λ e. count_by (λ x. e.node == x.number) (shape all) ≡ 1) (calculates entries)
 
 -- no calculate reads what depends on it
 abbrev pub AreAcyclic : Scope → List Entry → List Visit → Type 0
