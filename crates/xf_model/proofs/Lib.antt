@@ -5,7 +5,9 @@ pub mod PropertyExamples
 pub mod PertinentExamples
 pub mod SubmittedExamples
 pub mod PlaceExamples
+pub mod CircularLemmas
 pub mod EachLemmas
 pub mod PertinentLaws
 pub mod RankLemmas
 pub mod RoundLaws
+pub mod SettledLaws

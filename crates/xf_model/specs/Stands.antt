@@ -1,6 +1,6 @@
 -- What it is for contents to be settled (XForms 1.1, section 4.3.2): every calculated node has the content that its expression gives where
 -- all calculated nodes have theirs. Where no cycle stands, the settled contents are such, and no others are.
-use Rattle.std.specs.Prelude.{ℕ, ◌≡◌, true, false, List, count_by, Option, None, ◌==◌}
+use Rattle.std.specs.Prelude.{ℕ, ◌≡◌, true, false, List, filter, length, Option, None, ◌==◌}
 use Rattle.std.specs.List.{list_any}
 use Rattle.xf_doc.specs.Visit.{Visit}
 use Rattle.xf_doc.specs.Shape.{shape}
@@ -32,7 +32,7 @@ Agrees b scope entries all =
 
 -- each calculated node stands in the data, once
 abbrev pub AreStanding : List Entry → List Visit → Type 0
-AreStanding entries all = AllOf (λ e. count_by (λ x. e.node == x.number) (shape all) ≡ 1) (calculates entries)
+AreStanding entries all = AllOf (λ e. length (filter (λ x. e.node == x.number) (shape all)) ≡ 1) (calculates entries)
 
 -- no calculate reads what depends on it
 abbrev pub AreAcyclic : Scope → List Entry → List Visit → Type 0
