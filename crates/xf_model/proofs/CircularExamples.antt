@@ -34,7 +34,7 @@ e = codes "e"
 
 -- ---- a by ../b, b by ../a
 
-abbrev pair : List Rule
+abbrev pub pair : List Rule
 pair = by a (Examples.beside b) ∷ by b (Examples.beside a) ∷ []
 
 pair_reads : readers_on Examples.four pair ≡ record { node = 2; reads = 4 ∷ [] } ∷ record { node = 4; reads = 2 ∷ [] } ∷ []
@@ -51,7 +51,7 @@ pair_is_told_as = refl
 
 -- ---- a by ../c, b by ../c, c by ../b, e by ../e
 
-abbrev knot : List Rule
+abbrev pub knot : List Rule
 knot = by a (Examples.beside c) ∷ by b (Examples.beside c) ∷ by c (Examples.beside b) ∷ by e (Examples.beside e) ∷ []
 
 knot_depends : graph_on Examples.four knot ≡ [] ∷ (2 ∷ []) ∷ (0 ∷ 1 ∷ []) ∷ (3 ∷ []) ∷ []

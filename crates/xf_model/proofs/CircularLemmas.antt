@@ -1,16 +1,14 @@
 -- The graph of calculated nodes: its vertices are their places, and its edges what each reads.
-use Rattle.std.proofs.Common.{◌≡◌, ℕ, zero, suc, ◌+◌, ◌<◌, ◌≤◌, Bool, true, false, cond, ◌||◌, ◌&&◌, ◌==◌, ◌⊎◌, inl, inr, List, [], ◌∷◌, ◌++◌, map, length, slice_index_or, refl, sym, ap, ◌∙◌, subst, arith}
+use Rattle.std.proofs.Common.{◌≡◌, ℕ, zero, suc, ◌+◌, ◌<◌, ◌≤◌, Bool, true, false, cond, ◌==◌, ◌⊎◌, inl, inr, List, [], ◌∷◌, ◌++◌, map, length, slice_index_or, refl, sym, ap, ◌∙◌, subst, arith}
 use Rattle.std.specs.Prelude.{filter}
-use Rattle.std.specs.List.{list_any, flat_map}
 use Rattle.std.proofs.lemmas.List.{length-append}
 use Rattle.std.proofs.lemmas.Bool.{cases_Bool, cases_lt, false≢true}
 use Rattle.xf_doc.specs.Visit.{Visit}
-use Rattle.xf_graph.specs.Edges.{Adjacency, has, has_edge, IsWithin}
+use Rattle.xf_graph.specs.Edges.{has, has_edge, IsWithin}
 use Rattle.xf_graph.proofs.HasLists.{has_first, has_later, has_cases}
-use Rattle.xf_model.specs.Rules.{Scope}
 use Rattle.xf_model.specs.Applied.{Entry}
-use Rattle.xf_model.specs.Entries.{reads_of, touches}
-use Rattle.xf_model.specs.Circular.{Reader, by_nodes, calculated, places_from, places_of, dependents}
+use Rattle.xf_model.specs.Entries.{touches}
+use Rattle.xf_model.specs.Circular.{Reader, by_nodes, places_from, places_of, dependents}
 use Rattle.xf_model.specs.Pertinent.{AllOf}
 
 -- ---- what stands where in a list

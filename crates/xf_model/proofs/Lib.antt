@@ -9,5 +9,7 @@ pub mod CircularLemmas
 pub mod EachLemmas
 pub mod PertinentLaws
 pub mod RankLemmas
+pub mod ReportedExamples
 pub mod RoundLaws
+pub mod RuleLaws
 pub mod SettledLaws

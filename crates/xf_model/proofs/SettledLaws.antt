@@ -1,22 +1,22 @@
 -- Where no cycle of calculates stands, the settled contents are the only ones in which each calculated node has what its expression gives.
-use Rattle.std.proofs.Common.{◌≡◌, ℕ, zero, suc, ◌+◌, ◌<◌, ◌≤◌, Bool, true, false, ◌==◌, List, [], ◌∷◌, map, length, nat_lt, slice_index_or, refl, sym, ap, ◌∙◌, subst, arith}
+use Rattle.std.proofs.Common.{◌≡◌, ℕ, zero, suc, ◌<◌, true, ◌==◌, List, [], ◌∷◌, length, refl, sym, ap, ◌∙◌, subst, arith}
 use Rattle.std.specs.Prelude.{filter}
 use Rattle.std.proofs.lemmas.Bool.{lt-ltb, ltb-true}
 use Rattle.xf_doc.specs.Visit.{Visit}
 use Rattle.xf_doc.specs.Shape.{shape}
-use Rattle.xf_graph.specs.Edges.{Adjacency, has, has_edge}
+use Rattle.xf_graph.specs.Edges.{Adjacency, has}
 use Rattle.xf_graph.specs.Order.{IsOrder}
 use Rattle.xf_graph.proofs.Laws.{HasOrder-from_acyclic}
 use Rattle.xf_model.specs.Rules.{Scope}
 use Rattle.xf_model.specs.Applied.{Entry}
 use Rattle.xf_model.specs.Entries.{reads_of, touches}
-use Rattle.xf_model.specs.Circular.{Reader, by_nodes, calculated, dependents, graph_over}
+use Rattle.xf_model.specs.Circular.{Reader, by_nodes, calculated, graph_over}
 use Rattle.xf_model.specs.Settled.{Bounds, Contents, calculates, settled_contents}
 use Rattle.xf_model.specs.Pertinent.{AllOf}
 use Rattle.xf_model.specs.Stands.{IsSettled, Agrees, AreStanding, AreAcyclic}
 use Rattle.xf_model.proofs.EachLemmas.{each_then}
 use Rattle.xf_model.proofs.CircularLemmas.{StandsAt, stands-within, within-stands, stands-map, edge-found, size-of_graph, within-graph, stands-by_nodes, length-by_nodes, length-mapped}
-use Rattle.xf_model.proofs.RankLemmas.{rank_in, stands_in, rank-bounded, stands-by, rank-falls, few-below}
+use Rattle.xf_model.proofs.RankLemmas.{rank_in, rank-bounded, stands-by, rank-falls, few-below}
 use Rattle.xf_model.proofs.RoundLaws.{FallsAt, settled-by_rank, stands-by_rank}
 
 -- each element stands at a place

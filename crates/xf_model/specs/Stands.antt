@@ -1,6 +1,6 @@
 -- What it is for contents to be settled (XForms 1.1, section 4.3.2): every calculated node has the content that its expression gives where
 -- all calculated nodes have theirs. Where no cycle stands, the settled contents are such, and no others are.
-use Rattle.std.specs.Prelude.{ℕ, ◌≡◌, true, false, List, filter, length, Option, None, ◌==◌}
+use Rattle.std.specs.Prelude.{ℕ, ◌≡◌, true, false, List, filter, length, None, ◌==◌}
 use Rattle.std.specs.List.{list_any}
 use Rattle.xf_doc.specs.Visit.{Visit}
 use Rattle.xf_doc.specs.Shape.{shape}
