@@ -150,3 +150,16 @@ a_type_twice = refl
 
 different_properties : outcome Examples.nest (Examples.required Examples.yes (Examples.bind a) ∷ Examples.constraint Examples.yes (Examples.bind a) ∷ []) ≡ None
 different_properties = refl
+
+-- bind i, in it bind ../i with a type and a calculate: both sets hold the first i, whose type is set twice before its calculate is tried
+a_property_before_the_next :
+    outcome Examples.invoices (Examples.bind (Examples.to (codes "i")) ∷ Examples.typed (Examples.integer true) (Examples.calculate (number 1) (Examples.inside 0 (Examples.bind (Examples.beside (codes "i"))))) ∷ [])
+    ≡ Some (twice 2)
+a_property_before_the_next = refl
+
+-- bind i, in it the other i's with a calculate: the first one is tried first, though it stands in the second set
+abbrev others : Trace
+others = two (path (step axis.PrecedingSibling (simple (codes "i")) [] ∷ [])) operator.Union (path (step axis.FollowingSibling (simple (codes "i")) [] ∷ []))
+
+in_document_order_over_sets : outcome Examples.invoices (Examples.bind (Examples.to (codes "i")) ∷ Examples.calculate (number 1) (Examples.inside 0 (Examples.bind others)) ∷ []) ≡ Some (on_parent 2)
+in_document_order_over_sets = refl

@@ -10,4 +10,5 @@ pub mod Stands
 pub mod Submitted
 pub mod Places
 pub mod Taken
+pub mod Same
 pub mod Examples

@@ -1,0 +1,33 @@
+-- What is the same but for the numbers of nodes: each definition goes with a renumbering.
+use Rattle.std.specs.Prelude.{ℕ, map, Option, option_map}
+use Rattle.xf_model.specs.declared.asked.InsertAsked.{InsertAsked}
+use Rattle.xf_model.specs.declared.asked.DeleteAsked.{DeleteAsked}
+use Rattle.xf_model.specs.Applied.{Entry, Exception, twice, on_parent}
+use Rattle.xf_model.specs.Places.{Place}
+use Rattle.xf_model.specs.Submitted.{Submitted, left, no_data, invalid}
+
+abbrev pub renumbered_entry : (ℕ → ℕ) → Entry → Entry
+renumbered_entry f e = record e { node = f e.node }
+
+abbrev pub renumbered_exception : (ℕ → ℕ) → Exception → Exception
+renumbered_exception f (twice n) = twice (f n)
+renumbered_exception f (on_parent n) = on_parent (f n)
+
+abbrev pub renumbered_place : (ℕ → ℕ) → Place → Place
+renumbered_place f p = record p { origin = f p.origin; parent = f p.parent; replaces = option_map f p.replaces }
+
+abbrev pub renumbered_insert : (ℕ → ℕ) → InsertAsked → InsertAsked
+renumbered_insert f asked = record asked {
+  set = map f asked.set;
+  context = record { number = f asked.context.number; place = asked.context.place };
+  origin = map f asked.origin;
+  closed = map f asked.closed;
+}
+
+abbrev pub renumbered_delete : (ℕ → ℕ) → DeleteAsked → DeleteAsked
+renumbered_delete f asked = record asked { set = map f asked.set; closed = map f asked.closed }
+
+abbrev pub renumbered_submitted : (ℕ → ℕ) → Submitted → Submitted
+renumbered_submitted f (left n ns) = left (f n) (map f ns)
+renumbered_submitted f no_data = no_data
+renumbered_submitted f (invalid n) = invalid (f n)
