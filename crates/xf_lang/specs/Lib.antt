@@ -14,4 +14,7 @@ pub mod Asked
 pub mod AskedSteps
 pub mod AskedCalls
 pub mod Reads
+pub mod Same
+pub mod Agree
+pub mod Exact
 pub mod Examples

@@ -1,0 +1,43 @@
+-- When two forests agree on what an expression reads and looks at: the premises of the law that it then has one value.
+use Rattle.std.specs.Prelude.{ℕ, ◌≡◌, Bool, true, not, ◌&&◌, List, [], ◌∷◌, map, filter, Some, option_map}
+use Rattle.xf_doc.specs.Forest.{is_text}
+use Rattle.xf_doc.specs.Visit.{Visit, has, is_first}
+use Rattle.xf_lang.specs.Asked.{found, read_for}
+
+-- ---- visits of a forest, and where two agree
+
+abbrev pub numbers_of : List Visit → List ℕ
+numbers_of all = map (λ x. x.number) all
+
+-- no number comes twice
+abbrev pub are_apart : List ℕ → Bool
+are_apart [] = true
+are_apart (n ∷ ns) = not (has n ns) && are_apart ns
+
+abbrev pub untexted : List Visit → List Visit
+untexted all = filter (λ y. not (is_text y.content)) all
+
+-- the list of a node, without the texts in it
+abbrev pub list_of : List Visit → ℕ → List Visit
+list_of all n = filter (λ y. is_first n y.above) (untexted all)
+
+-- what the visits of a forest keep: their numbers differ, and above each node stands its parent, which is no text
+pub record AreVisits (all : List Visit) : Type 0 where
+  pub apart : are_apart (numbers_of all) ≡ true
+  pub closed : (k n : ℕ) (ns : List ℕ) (x : Visit) → found k all ≡ Some x → x.above ≡ n ∷ ns → option_map (λ z. z.above) (found n (untexted all)) ≡ Some ns
+
+-- nodes that stand in both keep their order and what they are
+pub record HaveOneFrame (first second : List Visit) : Type 0 where
+  pub order : filter (λ n. has n (numbers_of (untexted second))) (numbers_of (untexted first)) ≡ filter (λ n. has n (numbers_of (untexted first))) (numbers_of (untexted second))
+  pub contents : (n : ℕ) (x y : Visit) → found n (untexted first) ≡ Some x → found n (untexted second) ≡ Some y → x.content ≡ y.content
+
+-- the lists that are looked at are the same
+abbrev pub AgreeOnLists : List ℕ → List Visit → List Visit → Type 0
+AgreeOnLists looks first second = (n : ℕ) → has n looks ≡ true → list_of first n ≡ list_of second n
+
+abbrev pub AreWithin : List ℕ → List ℕ → Type 0
+AreWithin ns ms = (n : ℕ) → has n ns ≡ true → has n ms ≡ true
+
+-- the string values that are read are the same
+abbrev pub AgreeOnStrings : List ℕ → List Visit → (ℕ → List ℕ) → (ℕ → List ℕ) → Type 0
+AgreeOnStrings reads all first second = (n : ℕ) → AreWithin (read_for all n) reads → first n ≡ second n
