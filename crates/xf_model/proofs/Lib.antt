@@ -9,6 +9,7 @@ pub mod CircularLemmas
 pub mod EachLemmas
 pub mod PertinentLaws
 pub mod RankLemmas
+pub mod RenumberBinds
 pub mod RenumberInsert
 pub mod RenumberPlaces
 pub mod ReportedExamples

@@ -122,8 +122,10 @@ module _ (f : ℕ → ℕ) (same : IsRenumbering f) where
     at_node-renumbered : (after : Bool) (origin : List ℕ) (n : ℕ) (content : Option Content) (parent : Option ℕ)
         → at_node others after (map f origin) (f n) content (option_map f parent) ≡ map (renumbered_place f) (at_node all after origin n content parent)
     at_node-renumbered after origin n (Some (Element name)) (Some parent) =
-        rw (is_in-renumbered f same is_root all parent, elements-renumbered origin)
-            (in_place (is_in is_root all parent) _ _ _ _ (instead-renumbered parent n (elements_among all origin)) (beside-renumbered after parent n origin))
+        rw (is_in-renumbered f same is_root all parent)
+            (in_place (is_in is_root all parent) _ _ _ _
+            (ap (instead (f parent) (f n)) (elements-renumbered origin) ∙ instead-renumbered parent n (elements_among all origin))
+            (beside-renumbered after parent n origin))
     at_node-renumbered after origin n (Some (Attribute name text)) (Some parent) =
         rw (filter-through f (is_in is_attribute others) (is_in is_attribute all) (is_in-renumbered f same is_attribute all) origin)
             (within-renumbered parent 0 [] (filter (is_in is_attribute all) origin))

@@ -1,7 +1,9 @@
 -- What is the same but for the numbers of nodes: each definition goes with a renumbering.
-use Rattle.std.specs.Prelude.{ℕ, map, Option, option_map}
+use Rattle.std.specs.Prelude.{ℕ, List, map, option_map, Result, Ok, Err}
+use Rattle.xf_lang.specs.Same.{renumbered_given}
 use Rattle.xf_model.specs.declared.asked.InsertAsked.{InsertAsked}
 use Rattle.xf_model.specs.declared.asked.DeleteAsked.{DeleteAsked}
+use Rattle.xf_model.specs.Rules.{Scope}
 use Rattle.xf_model.specs.Applied.{Entry, Exception, twice, on_parent}
 use Rattle.xf_model.specs.Places.{Place}
 use Rattle.xf_model.specs.Submitted.{Submitted, left, no_data, invalid}
@@ -31,3 +33,11 @@ abbrev pub renumbered_submitted : (ℕ → ℕ) → Submitted → Submitted
 renumbered_submitted f (left n ns) = left (f n) (map f ns)
 renumbered_submitted f no_data = no_data
 renumbered_submitted f (invalid n) = invalid (f n)
+
+-- the surroundings hold node numbers, the binds none
+abbrev pub renumbered_scope : (ℕ → ℕ) → Scope → Scope
+renumbered_scope f scope = record scope { given = renumbered_given f scope.given }
+
+abbrev pub renumbered_applied : (ℕ → ℕ) → Result (List Entry) Exception → Result (List Entry) Exception
+renumbered_applied f (Ok entries) = Ok (map (renumbered_entry f) entries)
+renumbered_applied f (Err x) = Err (renumbered_exception f x)
