@@ -9,6 +9,7 @@ pub mod CircularLemmas
 pub mod EachLemmas
 pub mod PertinentLaws
 pub mod RankLemmas
+pub mod RenumberApplied
 pub mod RenumberBinds
 pub mod RenumberInsert
 pub mod RenumberPlaces
