@@ -11,8 +11,12 @@ pub mod PertinentLaws
 pub mod RankLemmas
 pub mod RenumberApplied
 pub mod RenumberBinds
+pub mod RenumberCircular
+pub mod RenumberEntries
 pub mod RenumberInsert
+pub mod RenumberPertinent
 pub mod RenumberPlaces
+pub mod RenumberProperties
 pub mod ReportedExamples
 pub mod RoundLaws
 pub mod RuleLaws

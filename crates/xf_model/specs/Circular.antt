@@ -1,11 +1,12 @@
 -- Cycles of calculates (XForms 1.1, section 4.3.2 and appendix C): the nodes with a calculate, each of which depends on the others that it
 -- reads, or an ancestor of which it reads. Where cycles stand, one is reported: it goes through the first node in document order that lies
 -- on a cycle, is the shortest such, and of these the least as a list in document order.
-use Rattle.std.specs.Prelude.{ℕ, suc, ◌≡◌, Bool, List, [], ◌∷◌, map, filter, get_or, ◌==◌, if◌then◌else◌}
+use Rattle.std.specs.Prelude.{ℕ, suc, ◌≡◌, Bool, List, [], ◌∷◌, map, filter, slice_get, ◌==◌, if◌then◌else◌}
 use Rattle.std.specs.List.{flat_map}
 use Rattle.xf_doc.specs.Visit.{Visit}
 use Rattle.xf_graph.specs.Edges.{Adjacency}
 use Rattle.xf_graph.specs.Cycle.{HasCycle, IsChosen}
+use Rattle.xf_lang.specs.Binding.{as_list}
 use Rattle.xf_model.specs.Rules.{Scope}
 use Rattle.xf_model.specs.Applied.{Entry, is_calculate}
 use Rattle.xf_model.specs.Entries.{reads_of, touches}
@@ -46,7 +47,7 @@ abbrev pub IsCircular : Scope → List Visit → List Entry → Type 0
 IsCircular scope all entries = HasCycle (graph_over scope all entries)
 
 abbrev pub nodes_at : List Reader → List ℕ → List ℕ
-nodes_at readers places = map (λ place. get_or (map (λ reader. reader.node) readers) place 0) places
+nodes_at readers places = flat_map (λ place. as_list (slice_get (map (λ reader. reader.node) readers) place)) places
 
 -- each node of the list depends on the next, the last one on the first
 abbrev pub IsReported : Scope → List Visit → List Entry → List ℕ → Type 0
