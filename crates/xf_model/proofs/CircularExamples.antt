@@ -8,6 +8,7 @@ use Rattle.xf_lang.specs.Asked.{Trace}
 use Rattle.xf_lang.specs.Examples.{child, up, path, literal, call}
 use Rattle.xf_model.specs.Rules.{Rule}
 use Rattle.xf_model.specs.Applied.{all_entries}
+use Rattle.xf_model.specs.Entries.{edge_count}
 use Rattle.xf_model.specs.Circular.{Reader, calculated, graph_over, nodes_at}
 use Rattle.xf_model.specs.Examples
 
@@ -109,3 +110,9 @@ both_branches = refl
 -- e by ../c, c by ../b, b by ../a: none
 a_chain_is_none : graph_on Examples.four (by e (Examples.beside c) ∷ by c (Examples.beside b) ∷ by b (Examples.beside a) ∷ []) ≡ (1 ∷ []) ∷ (2 ∷ []) ∷ [] ∷ []
 a_chain_is_none = refl
+
+-- ---- how much is read and looked at together
+
+-- a by ../b: reads b, and looks at the lists of d and b; b by ../a likewise
+of_a_pair : edge_count (Examples.scope pair) (shape_of Examples.four) (all_entries (Examples.scope pair) (shape_of Examples.four)) ≡ 6
+of_a_pair = refl

@@ -76,6 +76,26 @@ module _ {X : Type 0} (test : X → Bool) where
     | inr later ↦ (let less = place-within (suc at) ys v later in omega (arith, less))
   ]
 
+  means-at : (b : Bool) (at : ℕ) (xs : List ℕ) (v : ℕ) → has (cond b (at ∷ xs) xs) v ≡ true → ((b ≡ true) × (at ≡ v)) ⊎ (has xs v ≡ true)
+  means-at true at xs v h = elim (has_cases at v xs h) [ inl e ↦ inl (refl, e) | inr later ↦ inr later ]
+  means-at false at xs v h = inr h
+
+  shifted : (ys : List X) (y : X) (at v : ℕ) → (k : ℕ) × (v ≡ suc at + k) × (x : X) × StandsAt ys k x × (test x ≡ true) → (k : ℕ) × (v ≡ at + k) × (x : X) × StandsAt (y ∷ ys) k x × (test x ≡ true)
+  shifted ys y at v (k, e, x, h, p) = (suc k, omega (arith, e), x, h, p)
+
+  found-from : (at : ℕ) (xs : List X) (v : ℕ) → has (places_from at test xs) v ≡ true → (k : ℕ) × (v ≡ at + k) × (x : X) × StandsAt xs k x × (test x ≡ true)
+  found-from at [] v h = absurd (false≢true h)
+  found-from at (y ∷ ys) v h = elim (means-at (test y) at (places_from (suc at) test ys) v h) [
+    | inl here ↦ (zero, (let e = here.1 in omega (arith, e)), y, refl, here.0)
+    | inr later ↦ shifted ys y at v (found-from (suc at) ys v later)
+  ]
+
+  pub place-means : (at : ℕ) (xs : List X) (v : ℕ) → at ≡ 0 → has (places_from at test xs) v ≡ true → (x : X) × StandsAt xs v x × (test x ≡ true)
+  place-means at xs v none h =
+      let r = found-from at xs v h in
+      let same : r.0 ≡ v = (let e = r.1 in omega (arith, e, none)) in
+      (r.2, subst (λ k. StandsAt xs k r.2) same r.3, r.4)
+
 -- ---- edges
 
 module _ (all : List Visit) (readers : List Reader) where
@@ -103,6 +123,20 @@ module _ (all : List Visit) (readers : List Reader) where
     | inl less ↦ subst (λ n. (from < n) × (to < n)) (sym size-of_graph) (within-from from to e less)
     | inr more ↦ absurd (false≢true (sym (ap (λ ps. has ps to) (got-beyond (dependents all readers) from [] (let same = size-of_graph in omega (arith, more, same)))) ∙ e))
   ]
+
+  edge-from : (s r : ℕ) (source : Reader) → StandsAt readers s source → has_edge (dependents all readers) s r ≡ true
+      → (reader : Reader) × StandsAt readers r reader × (touches all reader.reads source.node ≡ true)
+  edge-from s r source hs e =
+      place-means (λ reader. touches all reader.reads source.node) 0 readers r refl
+      (sym (ap (λ ps. has ps r) (stands-got (dependents all readers) s _ [] (stands-map (λ (x : Reader). places_of (λ reader. touches all reader.reads x.node) readers) readers s source hs))) ∙ e)
+
+  -- an edge means that the one node is read, or an ancestor of it, by the calculate of the other
+  pub edge-means : (s r : ℕ) → has_edge (dependents all readers) s r ≡ true
+      → (source reader : Reader) × StandsAt readers s source × StandsAt readers r reader × (touches all reader.reads source.node ≡ true)
+  edge-means s r e =
+      let at = within-stands readers s (let w = within-graph s r e in let same = size-of_graph in omega (arith, w.0, same)) in
+      let to = edge-from s r at.0 at.1 e in
+      (at.0, to.0, at.1, to.1, to.2)
 
 -- ---- the calculated nodes in document order
 

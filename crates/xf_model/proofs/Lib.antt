@@ -3,6 +3,7 @@ pub mod CircularExamples
 pub mod SettledExamples
 pub mod PropertyExamples
 pub mod PertinentExamples
+pub mod ShapeCorollaries
 pub mod SubmittedExamples
 pub mod PlaceExamples
 pub mod CircularLemmas
@@ -17,6 +18,8 @@ pub mod RenumberInsert
 pub mod RenumberPertinent
 pub mod RenumberPlaces
 pub mod RenumberProperties
+pub mod RenumberSettled
+pub mod RenumberSubmitted
 pub mod ReportedExamples
 pub mod RoundLaws
 pub mod RuleLaws

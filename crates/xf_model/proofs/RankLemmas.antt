@@ -70,11 +70,11 @@ few-below zero [] once below = omega arith
 few-below zero (x ∷ xs) once below = absurd (let none = below x (has_first x xs) in omega (arith, none))
 few-below (suc n) xs once below =
     let rest = few-below n (filter (λ v. not (v == n)) xs) (once-filter (λ v. not (v == n)) xs once)
-        (λ v h. let less = below v (has-filter (λ w. not (w == n)) xs v h) in
-            elim (cases_eq v n) [
-              | inl e ↦ absurd (differs v n (has-passes (λ w. not (w == n)) xs v h) e)
-              | inr ne ↦ omega (arith, less, ne)
-            ]) in
+    (λ v h. let less = below v (has-filter (λ w. not (w == n)) xs v h) in
+    elim (cases_eq v n) [
+      | inl e ↦ absurd (differs v n (has-passes (λ w. not (w == n)) xs v h) e)
+      | inr ne ↦ omega (arith, less, ne)
+    ]) in
     let more = one-less n xs once in
     omega (arith, rest, more)
 

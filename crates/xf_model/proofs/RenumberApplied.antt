@@ -1,11 +1,11 @@
 -- What binds apply goes with a renumbering of the nodes.
-use Rattle.std.proofs.Common.{◌≡◌, ℕ, zero, suc, ◌+◌, ◌==◌, Bool, true, false, not, cond, ◌&&◌, ◌||◌, List, [], ◌∷◌, ◌++◌, map, length, Option, Some, None, option_map, unwrap_or, Result, Ok, Err, if◌then◌else◌, refl, sym, ap, ◌∙◌}
+use Rattle.std.proofs.Common.{◌≡◌, ℕ, zero, suc, ◌==◌, Bool, true, false, ◌&&◌, List, [], ◌∷◌, ◌++◌, map, Option, Some, None, option_map, unwrap_or, if◌then◌else◌, refl, sym, ap, ◌∙◌}
 use Rattle.std.specs.Prelude.{get_or}
 use Rattle.std.specs.List.{list_any, flat_map, position_or_len}
 use Rattle.std.proofs.lemmas.List.{map-append, length-map}
 use Rattle.xf_doc.specs.declared.content.Node.{Node}
 use Rattle.xf_doc.specs.Forest.{is_element}
-use Rattle.xf_doc.specs.Visit.{Visit, has, is_first}
+use Rattle.xf_doc.specs.Visit.{Visit, is_first}
 use Rattle.xf_doc.specs.Shape.{has_elements, shape_of}
 use Rattle.xf_doc.specs.Same.{IsRenumbering, KeepsTexts, renumbered, renumbered_visit}
 use Rattle.xf_doc.proofs.RenumberLaws.{any-through, flat-through, map-map, has-renumbered, first-renumbered}
@@ -14,7 +14,7 @@ use Rattle.xf_lang.specs.Setting.{in_order, joined}
 use Rattle.xf_lang.specs.Asked.{Trace}
 use Rattle.xf_lang.proofs.RenumberLaws.{in_order-renumbered, joined-renumbered}
 use Rattle.xf_model.specs.declared.property.Property.{Property}
-use Rattle.xf_model.specs.Rules.{Rule, Computed, Scope, chain_around, chains_after, chains}
+use Rattle.xf_model.specs.Rules.{Rule, Scope, chain_around, chains_after, chains}
 use Rattle.xf_model.specs.Nested.{sets_of}
 use Rattle.xf_model.specs.Applied.{Entry, Exception, twice, on_parent, is_property, properties_of, standing_in, entry_of, entries_at, entries_on, entries_by, entries_from, all_entries, is_calculate, sets_same, exception_at, or_later, exception_from, unless, applied_over, applied}
 use Rattle.xf_model.specs.Pertinent.{AllOf}
@@ -35,7 +35,7 @@ module _ (f : ℕ → ℕ) where
   chains-append [] ys g h = h
   chains-append (x ∷ xs) ys g h = (g.0, chains-append xs ys g.1 h)
 
-  got : (xs : List (List Trace)) (k : ℕ) → AllOf AllGo xs → AllGo (get_or xs k [])
+  pub got : (xs : List (List Trace)) (k : ℕ) → AllOf AllGo xs → AllGo (get_or xs k [])
   got [] k g = tt
   got (x ∷ xs) zero g = g.0
   got (x ∷ xs) (suc k) g = got xs k g.1
@@ -52,7 +52,7 @@ module _ (f : ℕ → ℕ) where
   chains-go known (r ∷ rs) g h =
       chains-go (known ++ (chain_around known r.around ++ r.node_set ∷ []) ∷ []) rs
       (chains-append known ((chain_around known r.around ++ r.node_set ∷ []) ∷ []) g
-          (go-append (chain_around known r.around) (r.node_set ∷ []) (around-goes known r.around g) (h.0, tt), tt)) h.1
+      (go-append (chain_around known r.around) (r.node_set ∷ []) (around-goes known r.around g) (h.0, tt), tt)) h.1
 
   pub all-chains_go : (scope : Scope) → AllOf SetGoes scope.rules → AllOf AllGo (chains scope)
   all-chains_go scope h = chains-go [] scope.rules tt h
@@ -94,7 +94,7 @@ module _ (f : ℕ → ℕ) (same : IsRenumbering f) where
     by-renumbered bind r own =
         let sets = unwrap_or (sets_of None scope all r) [] in
         ap (λ (found : List (List ℕ)). entries_on bind found (properties_of r) (in_order others (joined found)))
-            (ap (λ m. unwrap_or m []) (sets-renumbered f same None scope all r (around-goes f (chains scope) r.around (all-chains_go f scope goes)) own) ∙ sets-or_none (sets_of None scope all r))
+        (ap (λ m. unwrap_or m []) (sets-renumbered f same None scope all r (around-goes f (chains scope) r.around (all-chains_go f scope goes)) own) ∙ sets-or_none (sets_of None scope all r))
         ∙ ap (entries_on bind (map (map f) sets) (properties_of r)) (ap (in_order others) (joined-renumbered f sets) ∙ in_order-renumbered f same all (joined sets))
         ∙ on-renumbered bind sets (properties_of r) (in_order all (joined sets))
 
@@ -106,7 +106,7 @@ module _ (f : ℕ → ℕ) (same : IsRenumbering f) where
     from-renumbered bind [] h = refl
     from-renumbered bind (r ∷ rs) h =
         rw (if-renumbered (r.model == scope.model) (entries_by scope all bind r) (entries_by (renumbered_scope f scope) others bind r) (by-renumbered bind r h.0), from-renumbered (suc bind) rs h.1)
-            (sym (map-append (renumbered_entry f) (if r.model == scope.model then entries_by scope all bind r else []) (entries_from scope all (suc bind) rs)))
+        (sym (map-append (renumbered_entry f) (if r.model == scope.model then entries_by scope all bind r else []) (entries_from scope all (suc bind) rs)))
 
     pub entries-renumbered : all_entries (renumbered_scope f scope) others ≡ map (renumbered_entry f) (all_entries scope all)
     entries-renumbered = from-renumbered 0 scope.rules goes

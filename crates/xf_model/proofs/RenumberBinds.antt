@@ -1,19 +1,18 @@
 -- The nodes that binds select go with a renumbering.
-use Rattle.std.proofs.Common.{◌≡◌, ℕ, suc, ◌==◌, Bool, true, false, List, [], ◌∷◌, ◌++◌, map, find, Option, Some, None, option_map, refl, sym, ap, ◌∙◌}
+use Rattle.std.proofs.Common.{◌≡◌, ℕ, ◌==◌, List, [], ◌∷◌, map, find, Option, Some, None, option_map, refl, sym, ap, ◌∙◌}
 use Rattle.std.specs.Prelude.{get_or}
 use Rattle.std.specs.List.{flat_map}
 use Rattle.std.proofs.lemmas.List.{map-append}
 use Rattle.xf_doc.specs.declared.content.Content.{Content}
 use Rattle.xf_doc.specs.declared.content.Content.TheVariants.{Root, Element, Attribute, Text}
-use Rattle.xf_doc.specs.Visit.{Visit, first_of, children_of}
+use Rattle.xf_doc.specs.Visit.{Visit, first_of}
 use Rattle.xf_doc.specs.Shape.{erased}
 use Rattle.xf_doc.specs.StringValue.{string_value}
 use Rattle.xf_doc.specs.Same.{IsRenumbering, renumbered_visit}
 use Rattle.xf_doc.proofs.RenumberLaws.{children_of-renumbered, string_value-renumbered}
 use Rattle.xf_ast.specs.declared.expr.Expr.{Expr}
-use Rattle.xf_lang.specs.declared.value.Value.{Value}
-use Rattle.xf_lang.specs.Given.{Document, first_document}
-use Rattle.xf_lang.specs.Setting.{Setting, Focus, ◌>>=◌, setting_over, each, in_order, joined}
+use Rattle.xf_lang.specs.Given.{first_document}
+use Rattle.xf_lang.specs.Setting.{Setting, Focus, ◌>>=◌, each, in_order, joined}
 use Rattle.xf_lang.specs.Conversions.{nodes_of}
 use Rattle.xf_lang.specs.Binding.{as_list, stand_in, stand_ins, bound_nodes}
 use Rattle.xf_lang.specs.Asked.{Trace}
@@ -23,7 +22,7 @@ use Rattle.xf_lang.proofs.Options.{then-through, map-through, each-through}
 use Rattle.xf_lang.proofs.RenumberLaws.{in_order-renumbered, found-renumbered, flat-renumbered, joined-renumbered, nodes-renumbered}
 use Rattle.xf_lang.proofs.RenumberValues.{Renumbers, document_of-renumbered}
 use Rattle.xf_lang.proofs.RenumberReads.{trace-renumbered, reads-renumbered, looks-renumbered}
-use Rattle.xf_model.specs.Rules.{Rule, Computed, Scope, chain_around, chains_after, chains}
+use Rattle.xf_model.specs.Rules.{Rule, Scope, chain_around, chains}
 use Rattle.xf_model.specs.Nested.{alone, setting_for, set_from, reached_through, begun, sets_of, nested}
 use Rattle.xf_model.specs.Pertinent.{AllOf}
 use Rattle.xf_model.specs.Same.{renumbered_scope}
@@ -73,7 +72,7 @@ module _ (f : ℕ → ℕ) (same : IsRenumbering f) where
   bound-renumbered all ns =
       ap (in_order (map (renumbered_visit f) all))
       (flat-renumbered f (λ n. stand_ins all (find (λ x. x.number == n) all)) (λ n. stand_ins (map (renumbered_visit f) all) (find (λ x. x.number == n) (map (renumbered_visit f) all)))
-          (λ n. ap (stand_ins (map (renumbered_visit f) all)) (found-renumbered f same n all) ∙ stand_ins-renumbered all (find (λ x. x.number == n) all)) ns)
+      (λ n. ap (stand_ins (map (renumbered_visit f) all)) (found-renumbered f same n all) ∙ stand_ins-renumbered all (find (λ x. x.number == n) all)) ns)
       ∙ in_order-renumbered f same all (flat_map (λ n. stand_ins all (find (λ x. x.number == n) all)) ns)
 
   -- ---- settings
@@ -103,18 +102,18 @@ module _ (f : ℕ → ℕ) (same : IsRenumbering f) where
         ap (λ s. option_map (λ v. bound_nodes others (nodes_of v)) (t.meaning s (alone (f n)))) (setting-renumbered n)
         ∙ ap (option_map (λ v. bound_nodes others (nodes_of v))) (goes.meaning (setting_for most scope all n) new_strings (strings-kept n) (alone n))
         ∙ map-through (renumbered_value f) (map f) (t.meaning (setting_for most scope all n) (alone n)) (λ v. bound_nodes all (nodes_of v)) (λ v. bound_nodes others (nodes_of v))
-            (λ v. ap (bound_nodes others) (nodes-renumbered f v) ∙ bound-renumbered all (nodes_of v))
+        (λ v. ap (bound_nodes others) (nodes-renumbered f v) ∙ bound-renumbered all (nodes_of v))
 
     pub through-renumbered : (ts : List Trace) → AllOf (TraceGoes f) ts → (ns : List ℕ)
         → reached_through most (renumbered_scope f scope) others ts (map f ns) ≡ option_map (map f) (reached_through most scope all ts ns)
     through-renumbered [] goes ns = refl
     through-renumbered (t ∷ ts) goes ns =
         ap (λ m. m >>= λ sets. reached_through most (renumbered_scope f scope) others ts (in_order others (joined sets)))
-            (each-through f (map f) (set_from most scope all t) (set_from most (renumbered_scope f scope) others t) (set-renumbered t goes.0) ns)
+        (each-through f (map f) (set_from most scope all t) (set_from most (renumbered_scope f scope) others t) (set-renumbered t goes.0) ns)
         ∙ then-through (map (map f)) (map f) (each (set_from most scope all t) ns) (λ sets. reached_through most scope all ts (in_order all (joined sets)))
-            (λ sets. reached_through most (renumbered_scope f scope) others ts (in_order others (joined sets)))
-            (λ sets. ap (reached_through most (renumbered_scope f scope) others ts) (ap (in_order others) (joined-renumbered f sets) ∙ in_order-renumbered f same all (joined sets))
-                ∙ through-renumbered ts goes.1 (in_order all (joined sets)))
+        (λ sets. reached_through most (renumbered_scope f scope) others ts (in_order others (joined sets)))
+        (λ sets. ap (reached_through most (renumbered_scope f scope) others ts) (ap (in_order others) (joined-renumbered f sets) ∙ in_order-renumbered f same all (joined sets))
+        ∙ through-renumbered ts goes.1 (in_order all (joined sets)))
 
     pub begun-renumbered : begun (renumbered_scope f scope) ≡ map f (begun scope)
     begun-renumbered = ap as_list (document_of-renumbered f scope.model [] scope.given.documents) ∙ as_list-renumbered (first_document scope.model scope.given.documents)
@@ -125,8 +124,8 @@ module _ (f : ℕ → ℕ) (same : IsRenumbering f) where
         ap (λ ns. reached_through most (renumbered_scope f scope) others (chain_around (chains scope) r.around) ns >>= each (set_from most (renumbered_scope f scope) others r.node_set)) begun-renumbered
         ∙ ap (λ m. m >>= each (set_from most (renumbered_scope f scope) others r.node_set)) (through-renumbered (chain_around (chains scope) r.around) around (begun scope))
         ∙ then-through (map f) (map (map f)) (reached_through most scope all (chain_around (chains scope) r.around) (begun scope))
-            (each (set_from most scope all r.node_set)) (each (set_from most (renumbered_scope f scope) others r.node_set))
-            (λ ns. each-through f (map f) (set_from most scope all r.node_set) (set_from most (renumbered_scope f scope) others r.node_set) (set-renumbered r.node_set own) ns)
+        (each (set_from most scope all r.node_set)) (each (set_from most (renumbered_scope f scope) others r.node_set))
+        (λ ns. each-through f (map f) (set_from most scope all r.node_set) (set_from most (renumbered_scope f scope) others r.node_set) (set-renumbered r.node_set own) ns)
 
     pub nested-renumbered : (bind : ℕ) → AllOf (TraceGoes f) (get_or (chains scope) bind []) → nested most (renumbered_scope f scope) others bind ≡ option_map (map f) (nested most scope all bind)
     nested-renumbered bind goes =

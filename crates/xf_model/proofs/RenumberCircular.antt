@@ -1,13 +1,11 @@
 -- Cycles of calculates go with a renumbering of the nodes: the graph is the same.
-use Rattle.std.proofs.Common.{◌≡◌, ℕ, zero, suc, ◌==◌, Bool, true, false, cond, List, [], ◌∷◌, ◌++◌, map, Option, Some, None, option_map, refl, sym, ap, ◌∙◌, subst}
+use Rattle.std.proofs.Common.{◌≡◌, ℕ, suc, ◌==◌, Bool, List, [], ◌∷◌, ◌++◌, map, Option, Some, None, option_map, refl, sym, ap, ◌∙◌, subst}
 use Rattle.std.specs.Prelude.{filter, slice_get}
-use Rattle.std.specs.List.{flat_map}
 use Rattle.std.proofs.lemmas.List.{map-append}
 use Rattle.std.proofs.lemmas.Option.{slice_get-map}
 use Rattle.xf_doc.specs.Visit.{Visit}
 use Rattle.xf_doc.specs.Same.{IsRenumbering, renumbered_visit}
-use Rattle.xf_doc.proofs.RenumberLaws.{filter-through, map-map}
-use Rattle.xf_graph.specs.Edges.{Adjacency}
+use Rattle.xf_doc.proofs.RenumberLaws.{filter-through}
 use Rattle.xf_graph.specs.Cycle.{IsChosen}
 use Rattle.xf_lang.specs.Binding.{as_list}
 use Rattle.xf_model.specs.Rules.{Scope}
@@ -55,7 +53,7 @@ module _ (f : ℕ → ℕ) (same : IsRenumbering f) where
     sources-through rs [] = refl
     sources-through rs (s ∷ ss) =
         ap (λ ps. ps ∷ map (λ (source : Reader). places_of (λ (reader : Reader). touches others reader.reads source.node) (map (renumbered_reader f) rs)) (map (renumbered_reader f) ss))
-            (places-through 0 (λ reader. touches others reader.reads (f s.node)) (λ reader. touches all reader.reads s.node) (λ r. touches-renumbered f same all r.reads s.node) rs)
+        (places-through 0 (λ reader. touches others reader.reads (f s.node)) (λ reader. touches all reader.reads s.node) (λ r. touches-renumbered f same all r.reads s.node) rs)
         ∙ ap (λ l. places_of (λ (reader : Reader). touches all reader.reads s.node) rs ∷ l) (sources-through rs ss)
 
     pub graph-renumbered : (entries : List Entry) → graph_over (renumbered_scope f scope) others (map (renumbered_entry f) entries) ≡ graph_over scope all entries
@@ -73,8 +71,8 @@ module _ (f : ℕ → ℕ) (same : IsRenumbering f) where
     nodes-renumbered rs [] = refl
     nodes-renumbered rs (p ∷ ps) =
         rw (nodes-map rs, slice_get-map f (map (λ (r : Reader). r.node) rs) p, as_list-renumbered (slice_get (map (λ (r : Reader). r.node) rs) p))
-            (ap (λ l. map f (as_list (slice_get (map (λ (r : Reader). r.node) rs) p)) ++ l) (nodes-renumbered rs ps)
-            ∙ sym (map-append f (as_list (slice_get (map (λ (r : Reader). r.node) rs) p)) (nodes_at rs ps)))
+        (ap (λ l. map f (as_list (slice_get (map (λ (r : Reader). r.node) rs) p)) ++ l) (nodes-renumbered rs ps)
+        ∙ sym (map-append f (as_list (slice_get (map (λ (r : Reader). r.node) rs) p)) (nodes_at rs ps)))
 
     pub reported-renumbered : (entries : List Entry) (cycle : List ℕ) → IsReported scope all entries cycle → IsReported (renumbered_scope f scope) others (map (renumbered_entry f) entries) (map f cycle)
     reported-renumbered entries cycle r = (

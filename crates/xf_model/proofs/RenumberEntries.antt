@@ -1,5 +1,5 @@
 -- The value of an entry, what it reads and what it looks at go with a renumbering of the nodes.
-use Rattle.std.proofs.Common.{◌≡◌, ℕ, zero, suc, ◌==◌, Bool, true, false, ◌||◌, List, [], ◌∷◌, map, Option, Some, None, option_map, refl, sym, ap, ◌∙◌}
+use Rattle.std.proofs.Common.{◌≡◌, ℕ, zero, suc, List, [], ◌∷◌, map, Option, Some, None, option_map, refl, ap, ◌∙◌}
 use Rattle.std.specs.Prelude.{⊤, option_and_then, slice_get}
 use Rattle.std.specs.List.{list_any}
 use Rattle.xf_ast.specs.declared.expr.Expr.{Expr}
@@ -8,10 +8,9 @@ use Rattle.xf_ast.specs.declared.form.Tables.{Tables}
 use Rattle.xf_doc.specs.Visit.{Visit, has, ancestors_of}
 use Rattle.xf_doc.specs.Same.{IsRenumbering, renumbered_visit}
 use Rattle.xf_doc.proofs.RenumberLaws.{ancestors-renumbered}
-use Rattle.xf_lang.specs.declared.value.Value.{Value}
 use Rattle.xf_lang.specs.Given.{Given}
 use Rattle.xf_lang.specs.Plain.{Functions}
-use Rattle.xf_lang.specs.Setting.{Setting, ◌>>=◌}
+use Rattle.xf_lang.specs.Setting.{◌>>=◌}
 use Rattle.xf_lang.specs.Conversions.{string_of}
 use Rattle.xf_lang.specs.Reads.{reads_in, looks_in}
 use Rattle.xf_lang.specs.Same.{renumbered_value, renumbered_setting}
@@ -95,8 +94,8 @@ module _ (f : ℕ → ℕ) (same : IsRenumbering f) (scope : Scope) (goes : Scop
         ap (λ v. v >>= string_of (setting_for most (renumbered_scope f scope) others (f e.node))) (value-renumbered most e)
         ∙ ap (λ s. option_map (renumbered_value f) (value_of most scope all e) >>= string_of s) (setting-renumbered f same most scope all e.node)
         ∙ then-kept (renumbered_value f) (value_of most scope all e) (string_of (setting_for most scope all e.node))
-            (string_of (renumbered_setting f (new_strings f same most scope all) (setting_for most scope all e.node)))
-            (string_of-renumbered f same (setting_for most scope all e.node) (new_strings f same most scope all) (strings-kept f same most scope all e.node))
+        (string_of (renumbered_setting f (new_strings f same most scope all) (setting_for most scope all e.node)))
+        (string_of-renumbered f same (setting_for most scope all e.node) (new_strings f same most scope all) (strings-kept f same most scope all e.node))
 
     reads-by_expression : (e : Entry) (x : Option Computed) → ExpressionGoes f x → reads_by (renumbered_scope f scope) others (renumbered_entry f e) x ≡ map f (reads_by scope all e x)
     reads-by_expression e None h = refl

@@ -1,20 +1,18 @@
 -- Where the copies of an insert go goes with a renumbering of the nodes.
-use Rattle.std.proofs.Common.{◌≡◌, ℕ, zero, suc, ◌+◌, ◌==◌, Bool, true, false, not, cond, ◌&&◌, ◌||◌, List, [], ◌∷◌, ◌++◌, map, length, find, Option, Some, None, option_map, if◌then◌else◌, refl, sym, ap, ◌∙◌}
+use Rattle.std.proofs.Common.{◌≡◌, ℕ, suc, ◌==◌, Bool, true, false, not, ◌&&◌, List, [], ◌∷◌, ◌++◌, map, find, Option, Some, None, option_map, if◌then◌else◌, refl, sym, ap, ◌∙◌}
 use Rattle.std.specs.Prelude.{filter, option_and_then}
-use Rattle.std.specs.List.{list_any}
 use Rattle.std.proofs.lemmas.List.{map-append}
 use Rattle.xf_doc.specs.declared.content.Node.{Node}
 use Rattle.xf_doc.specs.declared.content.Content.{Content}
 use Rattle.xf_doc.specs.declared.content.Content.TheVariants.{Root, Element, Attribute, Text}
-use Rattle.xf_doc.specs.declared.content.Name.{Name}
 use Rattle.xf_doc.specs.Forest.{is_root, is_element, is_attribute, name_in}
 use Rattle.xf_doc.specs.Visit.{Visit, visits, has, is_first, parent_of, children_of}
 use Rattle.xf_doc.specs.Changes.{place_among}
 use Rattle.xf_doc.specs.WellFormed.{have_same_name}
 use Rattle.xf_doc.specs.Same.{IsRenumbering, renumbered, renumbered_visit}
-use Rattle.xf_doc.proofs.RenumberLaws.{map-cond, filter-through, find-through, has-renumbered, first-renumbered, visits-renumbered, parent_of-renumbered, children_of-renumbered}
+use Rattle.xf_doc.proofs.RenumberLaws.{filter-through, find-through, has-renumbered, first-renumbered, visits-renumbered, parent_of-renumbered, children_of-renumbered}
 use Rattle.xf_model.specs.declared.asked.InsertAsked.{InsertAsked}
-use Rattle.xf_model.specs.Places.{Place, named_by, is_in, content_in, name_of, row_place, elements_among, instead, namesake, later_one, last_alike, unless_again, named_place, within, beside, at_node, at_place, places_at, planned_insert}
+use Rattle.xf_model.specs.Places.{Place, named_by, is_in, content_in, name_of, row_place, elements_among, instead, namesake, last_alike, unless_again, named_place, within, beside, at_node, at_place, places_at, planned_insert}
 use Rattle.xf_model.specs.Same.{renumbered_place, renumbered_insert}
 use Rattle.xf_model.proofs.RenumberPlaces.{named-renumbered, is_in-renumbered}
 
@@ -52,9 +50,9 @@ module _ (f : ℕ → ℕ) (same : IsRenumbering f) where
     namesake-renumbered parent n =
         ap (option_map (λ (x : Visit). x.number))
         (find-through (renumbered_visit f)
-            (λ x. is_first (f parent) x.above && is_attribute x.content && have_same_name (name_of others (f n)) (name_in x.content))
-            (λ x. is_first parent x.above && is_attribute x.content && have_same_name (name_of all n) (name_in x.content))
-            (λ x. rw (first-renumbered f same parent x.above, name-renumbered n) refl) all)
+        (λ x. is_first (f parent) x.above && is_attribute x.content && have_same_name (name_of others (f n)) (name_in x.content))
+        (λ x. is_first parent x.above && is_attribute x.content && have_same_name (name_of all n) (name_in x.content))
+        (λ x. rw (first-renumbered f same parent x.above, name-renumbered n) refl) all)
         ∙ by (find (λ x. is_first parent x.above && is_attribute x.content && have_same_name (name_of all n) (name_in x.content)) all)
       where
         by : (m : Option Visit) → option_map (λ (x : Visit). x.number) (option_map (renumbered_visit f) m) ≡ option_map f (option_map (λ (x : Visit). x.number) m)
@@ -74,7 +72,7 @@ module _ (f : ℕ → ℕ) (same : IsRenumbering f) where
     named-place_renumbered parent earlier n =
         ap (λ k. record { origin = f n; parent = f parent; place = 0; replaces = unless_again k (namesake others (f parent) (f n)); again = k }) (alike-renumbered n 0 earlier)
         ∙ ap (λ r. record { origin = f n; parent = f parent; place = 0; replaces = r; again = last_alike all n 0 earlier })
-            (ap (unless_again (last_alike all n 0 earlier)) (namesake-renumbered parent n) ∙ again-renumbered (last_alike all n 0 earlier) (namesake all parent n))
+        (ap (unless_again (last_alike all n 0 earlier)) (namesake-renumbered parent n) ∙ again-renumbered (last_alike all n 0 earlier) (namesake all parent n))
 
     -- ---- copies within a parent
 
@@ -95,23 +93,23 @@ module _ (f : ℕ → ℕ) (same : IsRenumbering f) where
         let named = named_place all parent earlier n in
         let named' = named_place others (f parent) (map (renumbered_place f) earlier) (f n) in
         ap (λ b. if b then renumbered_place f row ∷ within others (f parent) (suc before) (map (renumbered_place f) earlier ++ renumbered_place f row ∷ []) (map f ns)
-            else if is_in is_attribute others (f n) then named' ∷ within others (f parent) before (map (renumbered_place f) earlier ++ named' ∷ []) (map f ns)
-            else within others (f parent) before (map (renumbered_place f) earlier) (map f ns)) (is_in-renumbered f same is_element all n)
+        else if is_in is_attribute others (f n) then named' ∷ within others (f parent) before (map (renumbered_place f) earlier ++ named' ∷ []) (map f ns)
+        else within others (f parent) before (map (renumbered_place f) earlier) (map f ns)) (is_in-renumbered f same is_element all n)
         ∙ ap (λ b. if is_in is_element all n then renumbered_place f row ∷ within others (f parent) (suc before) (map (renumbered_place f) earlier ++ renumbered_place f row ∷ []) (map f ns)
-            else if b then named' ∷ within others (f parent) before (map (renumbered_place f) earlier ++ named' ∷ []) (map f ns)
-            else within others (f parent) before (map (renumbered_place f) earlier) (map f ns)) (is_in-renumbered f same is_attribute all n)
+        else if b then named' ∷ within others (f parent) before (map (renumbered_place f) earlier ++ named' ∷ []) (map f ns)
+        else within others (f parent) before (map (renumbered_place f) earlier) (map f ns)) (is_in-renumbered f same is_attribute all n)
         ∙ one-of_three (is_in is_element all n) (is_in is_attribute all n) _ _ _ _ _ _
-            (ap (λ l. renumbered_place f row ∷ within others (f parent) (suc before) l (map f ns)) (one-behind earlier row)
-            ∙ ap (λ l. renumbered_place f row ∷ l) (within-renumbered parent (suc before) (earlier ++ row ∷ []) ns))
-            (ap (λ p. p ∷ within others (f parent) before (map (renumbered_place f) earlier ++ p ∷ []) (map f ns)) (named-place_renumbered parent earlier n)
-            ∙ ap (λ l. renumbered_place f named ∷ within others (f parent) before l (map f ns)) (one-behind earlier named)
-            ∙ ap (λ l. renumbered_place f named ∷ l) (within-renumbered parent before (earlier ++ named ∷ []) ns))
-            (within-renumbered parent before earlier ns)
+        (ap (λ l. renumbered_place f row ∷ within others (f parent) (suc before) l (map f ns)) (one-behind earlier row)
+        ∙ ap (λ l. renumbered_place f row ∷ l) (within-renumbered parent (suc before) (earlier ++ row ∷ []) ns))
+        (ap (λ p. p ∷ within others (f parent) before (map (renumbered_place f) earlier ++ p ∷ []) (map f ns)) (named-place_renumbered parent earlier n)
+        ∙ ap (λ l. renumbered_place f named ∷ within others (f parent) before l (map f ns)) (one-behind earlier named)
+        ∙ ap (λ l. renumbered_place f named ∷ l) (within-renumbered parent before (earlier ++ named ∷ []) ns))
+        (within-renumbered parent before earlier ns)
 
     beside-renumbered : (after : Bool) (parent n : ℕ) (ns : List ℕ) → beside others after (f parent) (f n) (map f ns) ≡ map (renumbered_place f) (beside all after parent n ns)
     beside-renumbered after parent n ns =
         rw (children_of-renumbered f same parent all, place_among-renumbered n (children_of parent all), elements-renumbered ns)
-            (within-renumbered parent (if after then suc (place_among n (children_of parent all)) else place_among n (children_of parent all)) [] (elements_among all ns))
+        (within-renumbered parent (if after then suc (place_among n (children_of parent all)) else place_among n (children_of parent all)) [] (elements_among all ns))
 
     -- ---- the insert
 
@@ -123,12 +121,12 @@ module _ (f : ℕ → ℕ) (same : IsRenumbering f) where
         → at_node others after (map f origin) (f n) content (option_map f parent) ≡ map (renumbered_place f) (at_node all after origin n content parent)
     at_node-renumbered after origin n (Some (Element name)) (Some parent) =
         rw (is_in-renumbered f same is_root all parent)
-            (in_place (is_in is_root all parent) _ _ _ _
-            (ap (instead (f parent) (f n)) (elements-renumbered origin) ∙ instead-renumbered parent n (elements_among all origin))
-            (beside-renumbered after parent n origin))
+        (in_place (is_in is_root all parent) _ _ _ _
+        (ap (instead (f parent) (f n)) (elements-renumbered origin) ∙ instead-renumbered parent n (elements_among all origin))
+        (beside-renumbered after parent n origin))
     at_node-renumbered after origin n (Some (Attribute name text)) (Some parent) =
         rw (filter-through f (is_in is_attribute others) (is_in is_attribute all) (is_in-renumbered f same is_attribute all) origin)
-            (within-renumbered parent 0 [] (filter (is_in is_attribute all) origin))
+        (within-renumbered parent 0 [] (filter (is_in is_attribute all) origin))
     at_node-renumbered after origin n (Some (Element name)) None = refl
     at_node-renumbered after origin n (Some (Attribute name text)) None = refl
     at_node-renumbered after origin n (Some Root) parent = refl
@@ -143,7 +141,7 @@ module _ (f : ℕ → ℕ) (same : IsRenumbering f) where
     places-renumbered : (asked : InsertAsked) (ns : List ℕ) → places_at others (renumbered_insert f asked) (map f ns) ≡ map (renumbered_place f) (places_at all asked ns)
     places-renumbered asked [] =
         rw (is_in-renumbered f same is_element all asked.context.number)
-            (in_place (asked.given && is_in is_element all asked.context.number) _ _ _ _ (within-renumbered asked.context.number 0 [] asked.origin) refl)
+        (in_place (asked.given && is_in is_element all asked.context.number) _ _ _ _ (within-renumbered asked.context.number 0 [] asked.origin) refl)
     places-renumbered asked (n ∷ ns) =
         ap (at_place others (renumbered_insert f asked)) (named-renumbered f asked.at (n ∷ ns)) ∙ at_place-renumbered asked (named_by asked.at (n ∷ ns))
 

@@ -1,5 +1,5 @@
 -- What is pertinent goes with a renumbering of the nodes, and how many entries that are is the same.
-use Rattle.std.proofs.Common.{◌≡◌, ℕ, zero, suc, ◌==◌, Bool, true, false, not, ◌&&◌, ◌||◌, List, [], ◌∷◌, map, length, Option, Some, None, refl, sym, ap, ◌∙◌}
+use Rattle.std.proofs.Common.{◌≡◌, ℕ, zero, suc, not, ◌&&◌, ◌||◌, List, [], ◌∷◌, map, length, refl, ap, ◌∙◌}
 use Rattle.std.specs.Prelude.{filter}
 use Rattle.std.specs.List.{list_any}
 use Rattle.std.proofs.lemmas.List.{length-map}
@@ -7,9 +7,9 @@ use Rattle.xf_doc.specs.Visit.{Visit, has}
 use Rattle.xf_doc.specs.Same.{IsRenumbering, renumbered_visit}
 use Rattle.xf_doc.proofs.RenumberLaws.{filter-through, any-through, has-renumbered}
 use Rattle.xf_model.specs.Rules.{Scope}
-use Rattle.xf_model.specs.Applied.{Entry, is_calculate, is_property}
+use Rattle.xf_model.specs.Applied.{Entry, is_calculate}
 use Rattle.xf_model.specs.Entries.{is_computed, expression_of, reads_of, looks_of, touches}
-use Rattle.xf_model.specs.Pertinent.{Changes, Asking, placed_in, asking, askings, is_same, stands_as, reads_any, is_begun, calculated_in, follows, next_wave, waves, pertinent_of, pertinent, pertinent_count}
+use Rattle.xf_model.specs.Pertinent.{Changes, Asking, placed_in, asking, askings, stands_as, reads_any, is_begun, calculated_in, follows, next_wave, waves, pertinent_of, pertinent, pertinent_count}
 use Rattle.xf_model.specs.Same.{renumbered_entry, renumbered_scope, renumbered_changes, renumbered_asking}
 use Rattle.xf_model.proofs.RenumberEntries.{ScopeGoes, reads-renumbered, looks-renumbered, touches-renumbered}
 
@@ -29,13 +29,13 @@ module _ (f : ℕ → ℕ) (same : IsRenumbering f) (all : List Visit) (changes 
   begun-renumbered : (a : Asking) → is_begun others (renumbered_changes f changes) (renumbered_asking f a) ≡ is_begun all changes a
   begun-renumbered a =
       ap (λ b. not b || reads_any others (renumbered_asking f a) (map f changes.texts) || (is_calculate a.entry && has (f a.entry.node) (map f changes.texts)) || list_any (λ n. has n (map f changes.lists)) (map f a.looks))
-          (any-through (renumbered_entry f) (stands_as (renumbered_asking f a)) (stands_as a) (stands-renumbered a) changes.stood)
+      (any-through (renumbered_entry f) (stands_as (renumbered_asking f a)) (stands_as a) (stands-renumbered a) changes.stood)
       ∙ ap (λ b. not (list_any (stands_as a) changes.stood) || b || (is_calculate a.entry && has (f a.entry.node) (map f changes.texts)) || list_any (λ n. has n (map f changes.lists)) (map f a.looks))
-          (reads-any_renumbered a changes.texts)
+      (reads-any_renumbered a changes.texts)
       ∙ ap (λ b. not (list_any (stands_as a) changes.stood) || reads_any all a changes.texts || (is_calculate a.entry && b) || list_any (λ n. has n (map f changes.lists)) (map f a.looks))
-          (has-renumbered f same a.entry.node changes.texts)
+      (has-renumbered f same a.entry.node changes.texts)
       ∙ ap (λ b. not (list_any (stands_as a) changes.stood) || reads_any all a changes.texts || (is_calculate a.entry && has a.entry.node changes.texts) || b)
-          (looks-any_renumbered changes.lists a.looks)
+      (looks-any_renumbered changes.lists a.looks)
 
   calculated-renumbered : (wave : List Asking) → calculated_in (map (renumbered_asking f) wave) ≡ map f (calculated_in wave)
   calculated-renumbered wave =

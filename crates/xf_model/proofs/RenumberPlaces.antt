@@ -1,18 +1,18 @@
 -- Where copies go, what a delete takes and what a submission sends go with a renumbering of the nodes.
-use Rattle.std.proofs.Common.{◌≡◌, ℕ, suc, ◌-◌, ◌==◌, Bool, true, false, not, cond, ◌&&◌, ◌||◌, List, [], ◌∷◌, ◌++◌, map, length, find, ℤ, Option, Some, None, option_map, refl, sym, ap, ◌∙◌}
-use Rattle.std.specs.Prelude.{filter, slice_get}
+use Rattle.std.proofs.Common.{◌≡◌, ℕ, ◌-◌, ◌==◌, Bool, not, cond, ◌&&◌, List, [], ◌∷◌, map, length, ℤ, Option, Some, None, option_map, refl, sym, ap, ◌∙◌}
+use Rattle.std.specs.Prelude.{slice_get}
 use Rattle.std.specs.List.{list_any}
-use Rattle.std.proofs.lemmas.List.{map-append, length-map}
+use Rattle.std.proofs.lemmas.List.{length-map}
 use Rattle.std.proofs.lemmas.Option.{slice_get-map}
 use Rattle.xf_doc.specs.declared.content.Node.{Node}
 use Rattle.xf_doc.specs.declared.content.Content.{Content}
-use Rattle.xf_doc.specs.Forest.{is_root, is_element, is_attribute}
+use Rattle.xf_doc.specs.Forest.{is_root}
 use Rattle.xf_doc.specs.Visit.{Visit, visits, has, parent_of, ancestors_of}
 use Rattle.xf_doc.specs.Same.{IsRenumbering, renumbered, renumbered_visit}
-use Rattle.xf_doc.proofs.RenumberLaws.{map-cond, filter-through, find-through, any-through, has-renumbered, first-renumbered, visits-renumbered, ancestors-renumbered, parent_of-renumbered, children_of-renumbered}
+use Rattle.xf_doc.proofs.RenumberLaws.{map-cond, any-through, has-renumbered, visits-renumbered, ancestors-renumbered, parent_of-renumbered}
 use Rattle.xf_lang.specs.Binding.{as_list}
 use Rattle.xf_model.specs.declared.asked.DeleteAsked.{DeleteAsked}
-use Rattle.xf_model.specs.Places.{held, named_by, is_in, content_in}
+use Rattle.xf_model.specs.Places.{held, named_by, is_in}
 use Rattle.xf_model.specs.Taken.{asked_of, is_open, is_apart, taken_from, planned_delete}
 use Rattle.xf_model.specs.Same.{renumbered_delete}
 
@@ -46,10 +46,10 @@ module _ (f : ℕ → ℕ) (same : IsRenumbering f) where
   taken-renumbered all closed taken [] = refl
   taken-renumbered all closed taken (n ∷ ns) =
       ap (λ p. cond (is_open (map (renumbered_visit f) all) (map f closed) p && is_apart (map (renumbered_visit f) all) (map f taken) (f n))
-          (f n ∷ taken_from (map (renumbered_visit f) all) (map f closed) (map f (n ∷ taken)) (map f ns))
-          (taken_from (map (renumbered_visit f) all) (map f closed) (map f taken) (map f ns))) (parent_of-renumbered f same n all)
+      (f n ∷ taken_from (map (renumbered_visit f) all) (map f closed) (map f (n ∷ taken)) (map f ns))
+      (taken_from (map (renumbered_visit f) all) (map f closed) (map f taken) (map f ns))) (parent_of-renumbered f same n all)
       ∙ rw (open-renumbered all closed (parent_of n all), apart-renumbered all taken n, taken-renumbered all closed (n ∷ taken) ns, taken-renumbered all closed taken ns)
-          (sym (map-cond (map f) (is_open all closed (parent_of n all) && is_apart all taken n) (n ∷ taken_from all closed (n ∷ taken) ns) (taken_from all closed taken ns)))
+      (sym (map-cond (map f) (is_open all closed (parent_of n all) && is_apart all taken n) (n ∷ taken_from all closed (n ∷ taken) ns) (taken_from all closed taken ns)))
 
   asked-renumbered : (at : Option ℤ) (ns : List ℕ) → asked_of at (map f ns) ≡ map f (asked_of at ns)
   asked-renumbered None ns = refl

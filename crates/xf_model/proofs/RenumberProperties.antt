@@ -1,11 +1,8 @@
 -- Model item properties go with a renumbering of the nodes.
-use Rattle.std.proofs.Common.{◌≡◌, ℕ, ◌==◌, Bool, true, false, not, ◌&&◌, ◌||◌, List, [], ◌∷◌, map, find, Option, Some, None, option_map, refl, sym, ap, ◌∙◌}
+use Rattle.std.proofs.Common.{◌≡◌, ℕ, Bool, true, false, ◌&&◌, List, [], ◌∷◌, map, find, Option, Some, None, option_map, refl, ap, ◌∙◌}
 use Rattle.std.specs.Prelude.{option_and_then, slice_get}
 use Rattle.std.specs.List.{list_any, list_all}
-use Rattle.xf_num.specs.Written.{is_empty}
-use Rattle.xf_types.specs.declared.kind.SimpleType.{SimpleType}
 use Rattle.xf_doc.specs.Visit.{Visit, ancestors_of}
-use Rattle.xf_doc.specs.StringValue.{string_value}
 use Rattle.xf_doc.specs.Same.{IsRenumbering, renumbered_visit}
 use Rattle.xf_doc.proofs.RenumberLaws.{find-through, any-through, ancestors-renumbered, string_value-renumbered}
 use Rattle.xf_lang.specs.declared.value.Value.{Value}
@@ -16,7 +13,7 @@ use Rattle.xf_model.specs.declared.property.Property.TheVariants.{Kind, Calculat
 use Rattle.xf_model.specs.Rules.{Rule, Scope}
 use Rattle.xf_model.specs.Applied.{Entry, is_property}
 use Rattle.xf_model.specs.Settled.{Valued}
-use Rattle.xf_model.specs.Properties.{Meets, sets_on, has_own, truth_or, own, own_readonly, is_relevant, is_readonly, is_required, kind_of, meets_kind, is_valid, properties_at}
+use Rattle.xf_model.specs.Properties.{Meets, sets_on, has_own, truth_or, own, own_readonly, is_relevant, is_readonly, is_required, kind_of, is_valid, properties_at}
 use Rattle.xf_model.specs.Same.{renumbered_entry, renumbered_valued, renumbered_scope}
 
 module _ (f : ℕ → ℕ) (same : IsRenumbering f) where

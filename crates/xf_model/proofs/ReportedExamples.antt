@@ -1,9 +1,9 @@
 -- The cycle that is reported, on small data; there is only one such.
-use Rattle.std.proofs.Common.{◌≡◌, ℕ, zero, suc, ◌<◌, ◌≤◌, true, false, ◌⊎◌, inl, inr, List, [], ◌∷◌, length, refl, sym, ap, ◌∙◌, subst, arith}
+use Rattle.std.proofs.Common.{◌≡◌, ℕ, zero, suc, ◌<◌, ◌≤◌, true, inl, inr, List, [], ◌∷◌, length, refl, sym, ap, ◌∙◌, subst, arith}
 use Rattle.std.proofs.lemmas.Bool.{cases_lt, false≢true}
 use Rattle.xf_doc.specs.Visit.{Visit}
 use Rattle.xf_doc.specs.Shape.{shape_of}
-use Rattle.xf_graph.specs.Edges.{Adjacency, has, has_edge}
+use Rattle.xf_graph.specs.Edges.{Adjacency, has}
 use Rattle.xf_graph.specs.Cycle.{ReadsAlong, IsCycle, IsChosen, BeginsWith, IsNotAfter}
 use Rattle.xf_graph.proofs.CycleLemmas.{turned}
 use Rattle.xf_graph.proofs.Laws.{IsChosen-unique}
@@ -40,6 +40,7 @@ chosen-by graph first rest cycle none short early = (
       | inl less ↦ (let t = turned graph other v c h in absurd (none v t.0 less t.1))
       | inr more ↦ more
     ]
+
     earliest_of : (other : List ℕ) → IsCycle graph other → BeginsWith other first → length other ≡ length (first ∷ rest) → IsNotAfter (first ∷ rest) other
     earliest_of [] c b e = absurd c
     earliest_of (o ∷ os) c b e = inr (sym b, early os (subst (λ w. ReadsAlong graph w os w) b c) (omega (arith, e)))

@@ -39,6 +39,7 @@ module _ (made other : Entry → ℕ × List ℕ) (of_made : (e : Entry) → (ma
       first : (b : Bool) → (b || list_any (λ e. e.node == n) es) ≡ false → b ≡ true → ⊥
       first true h e = false≢true (sym h)
       first false h e = false≢true e
+
       later : (b : Bool) → (b || list_any (λ e. e.node == n) es) ≡ false → list_any (λ e. e.node == n) es ≡ false
       later true h = absurd (false≢true (sym h))
       later false h = h
@@ -94,11 +95,11 @@ module _ (b : Bounds) (scope : Scope) (entries : List Entry) (all : List Visit) 
         let Y = rounds b scope entries all k other in
         ap (λ c. content_of c n) (rounds-next k one)
         ∙ ap (option_map (λ p. p.1))
-            (find-agrees (content_by b scope (holding all X)) (content_by b scope (holding all Y)) (λ e. refl) (λ e. refl) n (calculates entries)
-            (each_then _ _ (λ e h same. h.0 X Y (rounds-calculated k one of_one) (rounds-calculated k other of_other)
-                (agree-for e h.1 X Y (rounds-calculated k one of_one) (rounds-calculated k other of_other)
-                (λ m lesser. let at : e.node ≡ n = eqb-true e.node n same in agree-below k one other of_one of_other m (let up : rank e.node ≡ rank n = ap rank at in omega (arith, lesser, less, up)))))
-                (calculates entries) (each_both _ (FallsAt rank) (calculates entries) agrees falls)))
+        (find-agrees (content_by b scope (holding all X)) (content_by b scope (holding all Y)) (λ e. refl) (λ e. refl) n (calculates entries)
+        (each_then _ _ (λ e h same. h.0 X Y (rounds-calculated k one of_one) (rounds-calculated k other of_other)
+        (agree-for e h.1 X Y (rounds-calculated k one of_one) (rounds-calculated k other of_other)
+        (λ m lesser. let at : e.node ≡ n = eqb-true e.node n same in agree-below k one other of_one of_other m (let up : rank e.node ≡ rank n = ap rank at in omega (arith, lesser, less, up)))))
+        (calculates entries) (each_both _ (FallsAt rank) (calculates entries) agrees falls)))
         ∙ sym (ap (λ c. content_of c n) (rounds-next k other))
 
     -- and where all calculated nodes have lesser ones they are the same
@@ -109,10 +110,10 @@ module _ (b : Bounds) (scope : Scope) (entries : List Entry) (all : List Visit) 
         let Y = rounds b scope entries all k other in
         rounds-next k one
         ∙ map-agrees (content_by b scope (holding all X)) (content_by b scope (holding all Y)) (calculates entries)
-            (each_then _ _ (λ e h. h.0.0 X Y (rounds-calculated k one of_one) (rounds-calculated k other of_other)
-                (agree-for e h.0.1 X Y (rounds-calculated k one of_one) (rounds-calculated k other of_other)
-                (λ m lesser. agree-below k one other of_one of_other m (let up = h.1 in omega (arith, lesser, up)))))
-                (calculates entries) (each_both _ (λ e. rank e.node < suc k) (calculates entries) (each_both _ (FallsAt rank) (calculates entries) agrees falls) low))
+        (each_then _ _ (λ e h. h.0.0 X Y (rounds-calculated k one of_one) (rounds-calculated k other of_other)
+        (agree-for e h.0.1 X Y (rounds-calculated k one of_one) (rounds-calculated k other of_other)
+        (λ m lesser. agree-below k one other of_one of_other m (let up = h.1 in omega (arith, lesser, up)))))
+        (calculates entries) (each_both _ (λ e. rank e.node < suc k) (calculates entries) (each_both _ (FallsAt rank) (calculates entries) agrees falls) low))
         ∙ sym (rounds-next k other)
 
     none-calculated : AreCalculated entries []

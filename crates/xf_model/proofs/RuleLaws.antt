@@ -6,7 +6,7 @@ use Rattle.xf_ast.specs.declared.expr.Step.{Step}
 use Rattle.xf_ast.specs.declared.expr.Start.{Start}
 use Rattle.xf_ast.specs.declared.expr.Expr.TheOpen.{Expr-F}
 use Rattle.xf_ast.specs.declared.expr.Expr.TheFolds.{fold-Link, fold-Step, fold-roll-Expr, fold_out-Step, fold_out-Link}
-use Rattle.xf_ast.specs.declared.expr.Expr.TheVariants.{Number, Literal, Call, Negated, Chain, Filter, Path, From, rolls-Number, rolls-Literal, rolls-Call, rolls-Negated, rolls-Chain, rolls-Filter, rolls-Path, rolls-From}
+use Rattle.xf_ast.specs.declared.expr.Expr.TheVariants.{Literal, Call, Negated, Chain, Filter, Path, From, rolls-Literal, rolls-Call, rolls-Negated, rolls-Chain, rolls-Filter, rolls-Path, rolls-From}
 use Rattle.xf_lang.specs.Table.{function_at}
 use Rattle.xf_model.specs.Rules.{is_place, some, expr_placed, link_placed, step_placed, calls_place}
 

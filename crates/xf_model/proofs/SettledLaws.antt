@@ -81,28 +81,28 @@ module _ (b : Bounds) (scope : Scope) (entries : List Entry) (all : List Visit)
   falls-for e s k j he hs touched =
       subst (λ n. rank_in (node_in readers) vertices s.node < rank_in (node_in readers) vertices n) (node-of readers k (reader_of e) he)
       (rank-falls (node_in readers) graph s.node k vertices order.1.reads_back (is_vertex k (reader_of e) he)
-          (stands-by (node_in readers) s.node j vertices (is_vertex j (reader_of s) hs) (node-of readers j (reader_of s) hs))
-          (λ v h same.
-              let at = within-stands readers v (let less = below v h in let sizes = size-of_graph (shape all) readers in omega (arith, less, sizes)) in
-              let node : at.0.node ≡ s.node = sym (node-of readers v at.0 at.1) ∙ same in
-              edge-found (shape all) readers v k at.0 (reader_of e) at.1 he (subst (λ n. touches (shape all) (reads_of scope (shape all) e) n ≡ true) (sym node) touched)))
+      (stands-by (node_in readers) s.node j vertices (is_vertex j (reader_of s) hs) (node-of readers j (reader_of s) hs))
+      (λ v h same.
+      let at = within-stands readers v (let less = below v h in let sizes = size-of_graph (shape all) readers in omega (arith, less, sizes)) in
+      let node : at.0.node ≡ s.node = sym (node-of readers v at.0 at.1) ∙ same in
+      edge-found (shape all) readers v k at.0 (reader_of e) at.1 he (subst (λ n. touches (shape all) (reads_of scope (shape all) e) n ≡ true) (sym node) touched)))
 
   falls : AllOf (FallsAt b scope entries all rank) (calculates entries)
   falls =
       let places = each_place _ (calculates entries) standing in
       each_then _ _ (λ e he. each_then _ _ (λ s hs touched.
-          let pe = place_of e he.0 he.1 he.2 in let ps = place_of s hs.0 hs.1 hs.2 in
-          falls-for e s pe.0 ps.0 pe.1 ps.1 touched) (calculates entries) places) (calculates entries) places
+      let pe = place_of e he.0 he.1 he.2 in let ps = place_of s hs.0 hs.1 hs.2 in
+      falls-for e s pe.0 ps.0 pe.1 ps.1 touched) (calculates entries) places) (calculates entries) places
 
   low : AllOf (λ e. rank e.node < length (calculates entries)) (calculates entries)
   unfolding rank reader_of
   low =
       each_then _ _ (λ e he.
-          let pe = place_of e he.0 he.1 he.2 in
-          let less = rank-bounded (node_in readers) e.node vertices (stands-by (node_in readers) e.node pe.0 vertices (is_vertex pe.0 (reader_of e) pe.1) (node-of readers pe.0 (reader_of e) pe.1)) in
-          let few = few-below (length graph) vertices order.1.once below in
-          let same = size in
-          omega (arith, less, few, same)) (calculates entries) (each_place _ (calculates entries) standing)
+      let pe = place_of e he.0 he.1 he.2 in
+      let less = rank-bounded (node_in readers) e.node vertices (stands-by (node_in readers) e.node pe.0 vertices (is_vertex pe.0 (reader_of e) pe.1) (node-of readers pe.0 (reader_of e) pe.1)) in
+      let few = few-below (length graph) vertices order.1.once below in
+      let same = size in
+      omega (arith, less, few, same)) (calculates entries) (each_place _ (calculates entries) standing)
 
   module _ (agrees : Agrees b scope entries all) where
     pub settled-unique : (contents : Contents) → IsSettled b scope entries all contents → contents ≡ settled_contents b scope entries all

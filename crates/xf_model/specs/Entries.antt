@@ -1,6 +1,6 @@
 -- The expression of an entry (XForms 1.1, section 6.1): its value over some data, and what it reads and looks at over their shape. Its
 -- context is the bound node, with that node's position and size in the node set of the bind (section 7.2).
-use Rattle.std.specs.Prelude.{ℕ, Bool, not, List, [], ◌∷◌, Option, Some, None, option_and_then, slice_get}
+use Rattle.std.specs.Prelude.{ℕ, ◌+◌, Bool, not, List, [], ◌∷◌, length, filter, sum_by, Option, Some, None, option_and_then, slice_get}
 use Rattle.std.specs.List.{list_any}
 use Rattle.xf_doc.specs.Visit.{Visit, has, ancestors_of}
 use Rattle.xf_lang.specs.declared.value.Value.{Value}
@@ -63,3 +63,10 @@ looks_of scope all e = looks_by scope all e (expression_of scope e)
 -- the node or an ancestor of it is among those that are read: its text counts for what was read
 abbrev pub touches : List Visit → List ℕ → ℕ → Bool
 touches all reads n = list_any (λ m. has m reads) (n ∷ ancestors_of n all)
+
+-- how much the entries read and look at together: a limit that a form is held to
+abbrev pub asked_size : Scope → List Visit → Entry → ℕ
+asked_size scope all e = length (reads_of scope all e) + length (looks_of scope all e)
+
+abbrev pub edge_count : Scope → List Visit → List Entry → ℕ
+edge_count scope all entries = sum_by (asked_size scope all) (filter is_computed entries)

@@ -27,7 +27,7 @@ AgreeFor scope all e one other = (n : ℕ) → touches (shape all) (reads_of sco
 abbrev pub Agrees : Bounds → Scope → List Entry → List Visit → Type 0
 Agrees b scope entries all =
     AllOf (λ e. (one other : Contents) → AreCalculated entries one → AreCalculated entries other
-        → AgreeFor scope all e one other → content_by b scope (holding all one) e ≡ content_by b scope (holding all other) e)
+    → AgreeFor scope all e one other → content_by b scope (holding all one) e ≡ content_by b scope (holding all other) e)
     (calculates entries)
 
 -- each calculated node stands in the data, once

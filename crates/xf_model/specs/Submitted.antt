@@ -53,13 +53,13 @@ abbrev pub kept_below : List Visit → (ℕ → Bool) → ℕ → List ℕ
 kept_below all is_left n =
     map (λ x. x.number) (filter (λ x. ((x.number == n) || has n x.above) && is_left x.number) all)
 
+abbrev pub unless_invalid : Option ℕ → ℕ → List ℕ → Submitted
+unless_invalid None n ns = left n ns
+unless_invalid (Some m) n ns = invalid m
+
 abbrev pub validated : Bool → (ℕ → Bool) → ℕ → List ℕ → Submitted
 validated false is_valid n ns = left n ns
 validated true is_valid n ns = unless_invalid (find (λ m. not (is_valid m)) ns) n ns
-  where
-    unless_invalid : Option ℕ → ℕ → List ℕ → Submitted
-    unless_invalid None n ns = left n ns
-    unless_invalid (Some m) n ns = invalid m
 
 -- of the element, where it is left itself
 abbrev pub sent_from : Bool → (ℕ → Bool) → (ℕ → Bool) → List Visit → Option ℕ → Submitted
