@@ -8,6 +8,7 @@ pub mod SubmittedExamples
 pub mod PlaceExamples
 pub mod CircularLemmas
 pub mod EachLemmas
+pub mod HoldingLaws
 pub mod PertinentLaws
 pub mod RankLemmas
 pub mod RenumberApplied
