@@ -112,7 +112,7 @@ pub record SameAt (m : ℕ) (one other : Contents) (x : Visit) : Type 0 where
   pub no_text : is_text x.content ≡ true → (x.number == m) ≡ false
   pub no_given : (text_number x.number == m) ≡ false
 
-abbrev texts_by : Contents → Texts
+abbrev pub texts_by : Contents → Texts
 texts_by contents n = texts_given (content_of contents n)
 
 module _ (m : ℕ) where
@@ -134,7 +134,7 @@ module _ (m : ℕ) where
 
   -- ---- each visit gives its piece
 
-  abbrev piece : Texts → Visit → List ℕ
+  abbrev pub piece : Texts → Visit → List ℕ
   piece t x = if is_gone t x then [] else text_below m x ++ below (visits_in t x)
 
   nothing-borne : (x : Visit) (c : Content) (b : Bool) → is_attribute c ≡ true → (if b then characters c else []) ≡ []
@@ -189,7 +189,7 @@ module _ (m : ℕ) where
   value-characters (Some text) (Attribute name old) = refl
   value-characters (Some text) (Text old) = refl
 
-  value-text : (g : Option (List ℕ)) (c : Content) → is_text (value_given g c) ≡ is_text c
+  pub value-text : (g : Option (List ℕ)) (c : Content) → is_text (value_given g c) ≡ is_text c
   value-text None c = refl
   value-text (Some text) Root = refl
   value-text (Some text) (Element name) = refl
@@ -207,14 +207,14 @@ module _ (m : ℕ) where
   value-piece t given x =
       rw (value-text (given x.number) x.content, value-characters (given x.number) x.content, value-element (given x.number) x.content) refl
 
-  held-below : (all : List Visit) (contents : Contents) → below (holding all contents) ≡ flat_map (piece (texts_by contents)) all
+  pub held-below : (all : List Visit) (contents : Contents) → below (holding all contents) ≡ flat_map (piece (texts_by contents)) all
   held-below all contents =
       flushed (texts_by contents) [] (filter (λ x. not (is_gone (texts_by contents) x)) (map (with_value (content_of contents)) all))
       ∙ kept-pieces (texts_by contents) (map (with_value (content_of contents)) all)
       ∙ flat-through (with_value (content_of contents)) (piece (texts_by contents)) (piece (texts_by contents)) (value-piece (texts_by contents) (content_of contents)) all
 
   module _ (one other : Contents) where
-    given-below : (x : Visit) (b : Bool) → SameAt m one other x
+    pub given-below : (x : Visit) (b : Bool) → SameAt m one other x
         → below (if b then given_visits x (texts_by one x.number) else []) ≡ below (if b then given_visits x (texts_by other x.number) else [])
     given-below x false h = refl
     given-below x true h = elim (cases_Bool (has m (x.number ∷ x.above))) [
@@ -222,7 +222,7 @@ module _ (m : ℕ) where
       | inr e ↦ none-below x (texts_by one x.number) e ∙ sym (none-below x (texts_by other x.number) e)
     ]
 
-    silent : (c : Content) (b d : Bool) (ts us : List Visit) → is_text c ≡ true
+    pub silent : (c : Content) (b d : Bool) (ts us : List Visit) → is_text c ≡ true
         → (if d then [] else [] ++ below (if is_element c then ts else [])) ≡ (if b then [] else [] ++ below (if is_element c then us else []))
     silent Root b d ts us h = absurd (false≢true h)
     silent (Element name) b d ts us h = absurd (false≢true h)

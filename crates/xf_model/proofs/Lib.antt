@@ -9,6 +9,7 @@ pub mod PlaceExamples
 pub mod CircularLemmas
 pub mod EachLemmas
 pub mod HoldingLaws
+pub mod HoldingStrings
 pub mod PertinentLaws
 pub mod RankLemmas
 pub mod RenumberApplied
