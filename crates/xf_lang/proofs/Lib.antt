@@ -25,3 +25,10 @@ pub mod StepAgree
 pub mod BelowAgree
 pub mod PairKeeps
 pub mod ValueAgree
+pub mod AgreeSteps
+pub mod AgreeCalls
+pub mod AgreeFunctions
+pub mod AgreeLaw
+pub mod Agreement
+pub mod ExactExamples
+pub mod AgreeCases

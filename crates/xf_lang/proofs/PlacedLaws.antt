@@ -40,7 +40,7 @@ number_of-without s v h = ap (option_map (number_in s.given.decimals)) (plain_of
 string_of-without : (s : Setting) (v : Value) → WithoutNodes v → string_of s v ≡ capped s.most (text_in s.given.decimals (plain_without v))
 string_of-without s v h = ap (λ m. m >>= λ p. capped s.most (text_in s.given.decimals p)) (plain_of-without s v h)
 
-plain-without : (p : Plain) → WithoutNodes (value_of_plain p)
+pub plain-without : (p : Plain) → WithoutNodes (value_of_plain p)
 plain-without (plain.Text text) = refl
 plain-without (plain.Number k) = refl
 plain-without (plain.Truth b) = refl
@@ -101,7 +101,7 @@ module _ (w : Comparison) where
   u = over_shape w
 
   -- the value has no nodes, and is the value over the shape, too
-  abbrev Settled : Option Value → Value → Type 0
+  abbrev pub Settled : Option Value → Value → Type 0
   Settled m v = (m ≡ Some v) × WithoutNodes v
 
   abbrev pub Placed : Meaning → Type 0
@@ -128,27 +128,27 @@ module _ (w : Comparison) where
     everywhere x y z v i j k h = gives-at i j (both (k, h))
 
     -- what is made of what is given
-    mapped : {A : Type 0} (x y z : Option A) (f : A → Value) → Gives (λ a. z ≡ Some a) x y → ((a : A) → WithoutNodes (f a)) → Gives (Settled (option_map f z)) (option_map f x) (option_map f y)
+    pub mapped : {A : Type 0} (x y z : Option A) (f : A → Value) → Gives (λ a. z ≡ Some a) x y → ((a : A) → WithoutNodes (f a)) → Gives (Settled (option_map f z)) (option_map f x) (option_map f y)
     mapped x y z f h k = gives-map f h (λ a i. (ap (option_map f) i, k a))
 
-    truths : (g : Bool → Bool) (x y z : Option Value) → Gives (Settled z) x y → Gives (Settled (option_map (λ v. Truth (g (truth_of v))) z)) (option_map (λ v. Truth (g (truth_of v))) x) (option_map (λ v. Truth (g (truth_of v))) y)
+    pub truths : (g : Bool → Bool) (x y z : Option Value) → Gives (Settled z) x y → Gives (Settled (option_map (λ v. Truth (g (truth_of v))) z)) (option_map (λ v. Truth (g (truth_of v))) x) (option_map (λ v. Truth (g (truth_of v))) y)
     truths g x y z h = mapped x y z (λ v. Truth (g (truth_of v))) (gives-weaker h (λ v p. p.0)) (λ v. refl)
 
     -- a string, over the shape without a limit
-    strings : (x y z : Option Value) → Gives (Settled z) x y → Gives (λ text. (z >>= string_of u) ≡ Some text) (x >>= string_of s) (y >>= string_of t)
+    pub strings : (x y z : Option Value) → Gives (Settled z) x y → Gives (λ text. (z >>= string_of u) ≡ Some text) (x >>= string_of s) (y >>= string_of t)
     strings x y z h = gives-then (string_of s) (string_of t) h (λ v p.
         gives-at (string_of-without s v p.1) (string_of-without t v p.1)
         (gives-weaker (capped-gives s.most (text_in s.given.decimals (plain_without v))) (λ text i. ap (λ m. m >>= string_of u) p.0 ∙ string_of-without u v p.1 ∙ ap Some (sym i))))
 
-    numbers : (x y z : Option Value) → Gives (Settled z) x y → Gives (λ k. (z >>= number_of u) ≡ Some k) (x >>= number_of s) (y >>= number_of t)
+    pub numbers : (x y z : Option Value) → Gives (Settled z) x y → Gives (λ k. (z >>= number_of u) ≡ Some k) (x >>= number_of s) (y >>= number_of t)
     numbers x y z h = gives-then (number_of s) (number_of t) h (λ v p.
         gives-at (number_of-without s v p.1) (number_of-without t v p.1) (both (ap (λ m. m >>= number_of u) p.0 ∙ number_of-without u v p.1)))
 
-    plains : (x y z : Option Value) → Gives (Settled z) x y → Gives (λ p. (z >>= plain_of u) ≡ Some p) (x >>= plain_of s) (y >>= plain_of t)
+    pub plains : (x y z : Option Value) → Gives (Settled z) x y → Gives (λ p. (z >>= plain_of u) ≡ Some p) (x >>= plain_of s) (y >>= plain_of t)
     plains x y z h = gives-then (plain_of s) (plain_of t) h (λ v p.
         gives-at (plain_of-without s v p.1) (plain_of-without t v p.1) (both (ap (λ m. m >>= plain_of u) p.0 ∙ plain_of-without u v p.1)))
 
-    texts : (x y z : Option (List ℕ)) → Gives (λ a. z ≡ Some a) x y → Gives (Settled (option_map Text z)) (option_map Text x) (option_map Text y)
+    pub texts : (x y z : Option (List ℕ)) → Gives (λ a. z ≡ Some a) x y → Gives (Settled (option_map Text z)) (option_map Text x) (option_map Text y)
     texts x y z h = mapped x y z Text h (λ a. refl)
 
     -- ---- operators
@@ -216,7 +216,7 @@ module _ (w : Comparison) where
     abbrev KnownLink : Type 0
     KnownLink = (l : LinkMeaning) × (is_union l.operator ≡ false) × Placed l.right
 
-    chained-placed : (links : List KnownLink) (a : Value) → WithoutNodes a →
+    pub chained-placed : (links : List KnownLink) (a : Value) → WithoutNodes a →
         Gives (Settled (chained (map (λ (l : KnownLink). l.0) links) a u e)) (chained (map (λ (l : KnownLink). l.0) links) a s c) (chained (map (λ (l : KnownLink). l.0) links) a t d)
     chained-placed [] a h = both (refl, h)
     chained-placed (l ∷ ls) a h = gives-then (λ v. chained (map (λ (l : KnownLink). l.0) ls) v s c) (λ v. chained (map (λ (l : KnownLink). l.0) ls) v t d) (linked-placed l.0.operator l.1 a h (l.0.right, l.2)) (λ b p.
@@ -224,19 +224,19 @@ module _ (w : Comparison) where
 
     -- ---- functions
 
-    argument-placed : (place : ℕ) (ms : List Known) → Gives (Settled (argument place (meanings ms) u e)) (argument place (meanings ms) s c) (argument place (meanings ms) t d)
+    pub argument-placed : (place : ℕ) (ms : List Known) → Gives (Settled (argument place (meanings ms) u e)) (argument place (meanings ms) s c) (argument place (meanings ms) t d)
     argument-placed place [] = both (refl, refl)
     argument-placed zero (m ∷ ms) = m.1 n n' n'' position size
     argument-placed (suc place) (m ∷ ms) = argument-placed place ms
 
-    plains-placed : (ms : List Known) → Gives (λ ps. plain_arguments (meanings ms) u e ≡ Some ps) (plain_arguments (meanings ms) s c) (plain_arguments (meanings ms) t d)
+    pub plains-placed : (ms : List Known) → Gives (λ ps. plain_arguments (meanings ms) u e ≡ Some ps) (plain_arguments (meanings ms) s c) (plain_arguments (meanings ms) t d)
     plains-placed [] = both refl
     plains-placed (m ∷ ms) =
         gives-then (λ p. plain_arguments (meanings ms) s c >>= λ ps. Some (p ∷ ps)) (λ p. plain_arguments (meanings ms) t d >>= λ ps. Some (p ∷ ps)) (plains _ _ _ (m.1 n n' n'' position size)) (λ p i.
         gives-then (λ ps. Some (p ∷ ps)) (λ ps. Some (p ∷ ps)) (plains-placed ms) (λ ps j.
         both (ap (λ r. r >>= λ q. plain_arguments (meanings ms) u e >>= λ qs. Some (q ∷ qs)) i ∙ ap (λ r. r >>= λ qs. Some (p ∷ qs)) j)))
 
-    answers : (code : ℕ) (x y z : Option (List Plain)) → Gives (λ ps. z ≡ Some ps) x y → Gives (Settled (option_map value_of_plain (z >>= w.functions code))) (option_map value_of_plain (x >>= s.functions code)) (option_map value_of_plain (y >>= s.functions code))
+    pub answers : (code : ℕ) (x y z : Option (List Plain)) → Gives (λ ps. z ≡ Some ps) x y → Gives (Settled (option_map value_of_plain (z >>= w.functions code))) (option_map value_of_plain (x >>= s.functions code)) (option_map value_of_plain (y >>= s.functions code))
     answers code x y z h = mapped _ _ _ value_of_plain
         (gives-then (s.functions code) (s.functions code) h (λ ps i. gives-same (s.functions code ps) (s.functions code ps) refl (λ p j. ap (λ m. m >>= w.functions code) i ∙ w.extend code ps p j))) plain-without
 
@@ -244,6 +244,6 @@ module _ (w : Comparison) where
     branch-placed true ms = argument-placed 1 ms
     branch-placed false ms = argument-placed 2 ms
 
-    branched-placed : (ms : List Known) → Gives (Settled (branched (meanings ms) u e)) (branched (meanings ms) s c) (branched (meanings ms) t d)
+    pub branched-placed : (ms : List Known) → Gives (Settled (branched (meanings ms) u e)) (branched (meanings ms) s c) (branched (meanings ms) t d)
     branched-placed ms = gives-then (λ v. branch (truth_of v) (meanings ms) s c) (λ v. branch (truth_of v) (meanings ms) t d) (argument-placed 0 ms) (λ v p.
         gives-weaker (branch-placed (truth_of v) ms) (λ x q. (ap (λ r. r >>= λ y. branch (truth_of y) (meanings ms) u e) p.0 ∙ q.0, q.1)))

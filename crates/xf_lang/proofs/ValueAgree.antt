@@ -20,7 +20,7 @@ use Rattle.xf_lang.specs.Agree.{AgreeOnStrings}
 use Rattle.xf_lang.proofs.VisitFacts.{self-same, or-left, or-right, no}
 use Rattle.xf_lang.proofs.SameKept.{has-left, has-right, has-append}
 use Rattle.xf_lang.proofs.UntextedLaws.{solid-found}
-use Rattle.xf_lang.proofs.Comparison.{Comparison, other, over_shape, Solid, AllSolid, Agree, Within, agree-less, first-order, second-order}
+use Rattle.xf_lang.proofs.Comparison.{Comparison, other, over_shape, Solid, AllSolid, Agree, Within, agree-less, first-order, second-order, order-solid}
 use Rattle.xf_lang.proofs.BelowAgree.{flat-within}
 use Rattle.xf_lang.proofs.Gives.{Gives, both as gives, gives-map, gives-then, gives-equal, gives-at}
 
@@ -44,13 +44,12 @@ pub less : (w : Comparison) (a b : Asked) → Within a.reads b.reads → Within 
 less w a b r l p = record { lists = agree-less w l p.lists; strings = read-less w a.reads b.reads r p.strings }
 
 -- the value has the nodes asked, and is a truth where it is one by its syntax
-abbrev pub Fits : Asked → Value → Type 0
-Fits a v = (nodes_of v ≡ a.set) × (a.is_truth ≡ true → IsTruth v)
+abbrev pub Fits : Comparison → Asked → Value → Type 0
+Fits w a v = (nodes_of v ≡ a.set) × (a.is_truth ≡ true → IsTruth v) × AllSolid w a.set
 
 pub record Agreed (w : Comparison) (a : Asked) (m m' : Option Value) : Type 0 where
   pub tight : a.is_loose ≡ false
-  pub solid : AllSolid w a.set
-  pub given : Gives (Fits a) m m'
+  pub given : Gives (Fits w a) m m'
 
 pub none-solid : (w : Comparison) → AllSolid w []
 none-solid w k h = no h
@@ -178,7 +177,7 @@ module _ (w : Comparison) where
 
   -- ---- what is asked beside a truth
 
-  in-beside : (b : Bool) (a : Asked) → Premise w (beside u b a) → Premise w a
+  pub in-beside : (b : Bool) (a : Asked) → Premise w (beside u b a) → Premise w a
   in-beside true a p = p
   in-beside false a p = in-all_read a p
 
@@ -188,38 +187,38 @@ module _ (w : Comparison) where
 
   -- ---- operators on two values
 
-  module _ (a b : Asked) (v : Value) (fits : Fits a v) (tight : a.is_loose ≡ false) (solid : AllSolid w a.set) where
+  module _ (a b : Asked) (v : Value) (fits : Fits w a v) (tight : a.is_loose ≡ false) where
     -- what the right side gives, and then the operator
     abbrev Right : Option Value → Option Value → Type 0
     Right m m' = Agreed w b m m'
 
-    judged : (o : Operator) (x : Value) → Fits b x → Premise w (asked_by_both u a b) → Gives (Fits (asked_by_both u a b)) (option_map Truth (compared s o v x)) (option_map Truth (compared t o v x))
+    pub judged : (o : Operator) (x : Value) → Fits w b x → Premise w (asked_by_both u a b) → Gives (Fits w (asked_by_both u a b)) (option_map Truth (compared s o v x)) (option_map Truth (compared t o v x))
     judged o x fits_too p =
         let sides : Premise w (both (beside u b.is_truth a) (beside u a.is_truth b)) = record { lists = p.lists; strings = p.strings } in
         let same : compared t o v x ≡ compared s o v x = compared-same o v x a.is_truth b.is_truth
         (λ e n h. strings-beside b.is_truth a (left-both w (beside u b.is_truth a) (beside u a.is_truth b) sides) e n (ap (has n) (sym fits.0) ∙ h))
         (λ e n h. strings-beside a.is_truth b (right-both w (beside u b.is_truth a) (beside u a.is_truth b) sides) e n (ap (has n) (sym fits_too.0) ∙ h))
         fits.1 fits_too.1 in
-        gives-map Truth (gives-equal (compared s o v x) (compared t o v x) same) (λ c e. (refl, λ i. (c, refl)))
+        gives-map Truth (gives-equal (compared s o v x) (compared t o v x) same) (λ c e. (refl, λ i. (c, refl), none-solid w))
 
-    calculated : (operation : Decimal → Decimal → Decimal) (x : Value) → Fits b x → b.is_loose ≡ false → Premise w (asked_computed u a b) → Gives (Fits (asked_computed u a b)) (computed s operation v x) (computed t operation v x)
+    pub calculated : (operation : Decimal → Decimal → Decimal) (x : Value) → Fits w b x → b.is_loose ≡ false → Premise w (asked_computed u a b) → Gives (Fits w (asked_computed u a b)) (computed s operation v x) (computed t operation v x)
     calculated operation x fits_too tight_too p =
         gives-then (λ j. number_of s x >>= λ k. Some (Number (operation j k))) (λ j. number_of t x >>= λ k. Some (Number (operation j k)))
         (gives-equal (number_of s v) (number_of t v) (number-same v (λ n h. strings-first a tight (left-both w (converted u a) (converted u b) p) n (ap (λ ns. has n (first_node ns)) (sym fits.0) ∙ h)))) (λ j e.
         gives-then (λ k. Some (Number (operation j k))) (λ k. Some (Number (operation j k)))
         (gives-equal (number_of s x) (number_of t x) (number-same x (λ n h. strings-first b tight_too (right-both w (converted u a) (converted u b) p) n (ap (λ ns. has n (first_node ns)) (sym fits_too.0) ∙ h)))) (λ k i.
-        gives (refl, λ j. no j)))
+        gives (refl, λ j. no j, none-solid w)))
 
     joined-solid : AllSolid w b.set → AllSolid w (a.set ++ b.set)
-    joined-solid solid_too k h = elim (has-append k a.set b.set h) [ inl l ↦ solid k l | inr r ↦ solid_too k r ]
+    joined-solid solid_too k h = elim (has-append k a.set b.set h) [ inl l ↦ fits.2 k l | inr r ↦ solid_too k r ]
 
-    unites : (x : Value) → Fits b x → AllSolid w b.set → Gives (Fits (either u a b)) (Some (united s v x)) (Some (united t v x))
-    unites x fits_too solid_too =
+    pub unites : (x : Value) → Fits w b x → Gives (Fits w (either u a b)) (Some (united s v x)) (Some (united t v x))
+    unites x fits_too =
         let sets : nodes_of v ++ nodes_of x ≡ a.set ++ b.set = ap (λ l. l ++ nodes_of x) fits.0 ∙ ap (λ l. a.set ++ l) fits_too.0 in
         gives-at
-        (ap (λ ns. Some (Nodes (in_order s.all ns))) sets ∙ ap (λ ns. Some (Nodes ns)) (first-order w (a.set ++ b.set) (joined-solid solid_too)))
-        (ap (λ ns. Some (Nodes (in_order t.all ns))) sets ∙ ap (λ ns. Some (Nodes ns)) (second-order w (a.set ++ b.set) (joined-solid solid_too)))
-        (gives {a = Nodes (in_order w.shape (a.set ++ b.set))} (refl, λ i. no i))
+        (ap (λ ns. Some (Nodes (in_order s.all ns))) sets ∙ ap (λ ns. Some (Nodes ns)) (first-order w (a.set ++ b.set) (joined-solid fits_too.2)))
+        (ap (λ ns. Some (Nodes (in_order t.all ns))) sets ∙ ap (λ ns. Some (Nodes ns)) (second-order w (a.set ++ b.set) (joined-solid fits_too.2)))
+        (gives {a = Nodes (in_order w.shape (a.set ++ b.set))} (refl, λ i. no i, order-solid w (a.set ++ b.set) (joined-solid fits_too.2)))
 
   -- ---- names
 

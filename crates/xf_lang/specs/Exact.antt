@@ -1,6 +1,6 @@
 -- The expressions of which the law is proved that they have one value over two forests that agree: no set in them is loose, and predicates
 -- go by position alone, as in every computed expression.
-use Rattle.std.specs.Prelude.{ℕ, Bool, true, false, not, ◌&&◌, ◌||◌, List, [], ◌∷◌}
+use Rattle.std.specs.Prelude.{Bool, true, false, not, ◌&&◌, ◌||◌, List, [], ◌∷◌}
 use Rattle.std.specs.List.{list_all}
 use Rattle.xf_name.specs.declared.axis.Axis.{Axis}
 use Rattle.xf_name.specs.declared.axis.Axis.TheVariants.{FollowingSibling, PrecedingSibling}
@@ -42,6 +42,11 @@ abbrev pub are_filled : List Facts → Bool
 are_filled [] = false
 are_filled (x ∷ xs) = true
 
+-- the branches of `choose`, behind its condition
+abbrev pub branches : List Facts → List Facts
+branches [] = []
+branches (x ∷ xs) = xs
+
 -- of a function: whether it asks nothing but its arguments, which are written; whether it gives no nodes; whether the law covers it
 abbrev pub call_facts : Function → List Facts → Facts
 call_facts of.asking xs = facts (all_placed xs) true (all_exact xs)
@@ -50,7 +55,7 @@ call_facts of.owning xs = facts (are_filled xs && all_placed xs) true (all_exact
 call_facts of.boolean xs = facts (all_placed xs) true (all_exact xs)
 call_facts of.not xs = facts (all_placed xs) true (all_exact xs)
 call_facts (of.truth b) xs = facts true true true
-call_facts of.choosing xs = facts (all_placed xs) true (all_exact xs && list_all (λ x. x.is_plain) xs)
+call_facts of.choosing xs = facts (all_placed xs) true (all_exact xs && list_all (λ x. x.is_plain) (branches xs))
 call_facts of.branching xs = facts (all_placed xs) true (all_exact xs)
 call_facts of.number xs = facts (are_filled xs && all_placed xs) true (all_exact xs)
 call_facts of.string xs = facts (are_filled xs && all_placed xs) true (all_exact xs)
