@@ -32,3 +32,6 @@ pub mod AgreeLaw
 pub mod Agreement
 pub mod ExactExamples
 pub mod AgreeCases
+pub mod ForestVisits
+pub mod ShapeVisits
+pub mod ForestsAgree

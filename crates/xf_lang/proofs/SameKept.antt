@@ -21,7 +21,7 @@ filter-same_in p q (n ∷ ns) h =
     ∙ ap (λ l. cond (q n) (n ∷ l) l) (filter-same_in p q ns (λ k i. h k (or-right (k == n) (has k ns) i)))
 
 -- another node is found behind the first one
-behind : (y : Visit) (ys : List Visit) (k : ℕ) → has y.number (numbers_of ys) ≡ false → has k (numbers_of ys) ≡ true → found k (y ∷ ys) ≡ found k ys
+pub behind : (y : Visit) (ys : List Visit) (k : ℕ) → has y.number (numbers_of ys) ≡ false → has k (numbers_of ys) ≡ true → found k (y ∷ ys) ≡ found k ys
 behind y ys k a i = by (y.number == k) refl
   where
     by : (b : Bool) → (y.number == k) ≡ b → cond b (Some y) (found k ys) ≡ found k ys

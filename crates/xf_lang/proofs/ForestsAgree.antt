@@ -1,0 +1,135 @@
+-- Two forests that agree on what an expression reads and looks at, as it is told over the shape of the first, give it one value and one
+-- text. This is what recalculating only what a change can reach rests on.
+use Rattle.std.proofs.Common.{◌≡◌, ℕ, Bool, true, List, map, Option, Some, None, sym, ap, ◌∙◌, subst}
+use Rattle.std.specs.Prelude.{filter}
+use Rattle.xf_ast.specs.declared.expr.Expr.{Expr}
+use Rattle.xf_doc.specs.Forest.{Forest}
+use Rattle.xf_doc.specs.Visit.{Visit, visits, has, is_first}
+use Rattle.xf_doc.specs.StringValue.{string_value}
+use Rattle.xf_doc.specs.Shape.{erased, shape_of}
+use Rattle.xf_doc.specs.WellFormed.{IsForest}
+use Rattle.xf_lang.specs.Given.{Given, document_of}
+use Rattle.xf_lang.specs.Plain.{Plain, Functions}
+use Rattle.xf_lang.specs.Plain as plain
+use Rattle.xf_lang.specs.Setting.{Setting, Focus, setting_over, ◌>>=◌}
+use Rattle.xf_lang.specs.Conversions.{nodes_of, string_of}
+use Rattle.xf_lang.specs.Functions.{set_of}
+use Rattle.xf_lang.specs.Table.{function_at}
+use Rattle.xf_lang.specs.Table as of
+use Rattle.xf_lang.specs.Meaning.{meaning}
+use Rattle.xf_lang.specs.Asked.{Asked, found, converted}
+use Rattle.xf_lang.specs.Reads.{trace, shape_setting}
+use Rattle.xf_lang.specs.Agree.{numbers_of, untexted, AreVisits, HaveOneFrame, AgreeOnLists, AgreeOnStrings}
+use Rattle.xf_lang.specs.Exact.{facts_of}
+use Rattle.xf_lang.proofs.AxisAgree.{Frame}
+use Rattle.xf_lang.proofs.UntextedLaws.{bare-apart, bare-closed, itself}
+use Rattle.xf_lang.proofs.Comparison.{Comparison, Solid}
+use Rattle.xf_lang.proofs.ValueAgree.{Premise}
+use Rattle.xf_lang.proofs.AgreeCalls.{Standing}
+use Rattle.xf_lang.proofs.Agreement.{value-agrees, text-agrees}
+use Rattle.xf_lang.proofs.ForestVisits.{forest-visits}
+use Rattle.xf_lang.proofs.ShapeVisits.{AreBelow, shape-untexted, shape-visits}
+
+-- the visits of a forest, texts empty
+abbrev pub bare : Forest → List Visit
+bare forest = map erased (visits forest.nodes)
+
+-- a node that is no text stands in both forests, and is the same
+pub record InBoth (first second : Forest) (k : ℕ) : Type 0 where
+  pub visit : Visit
+  pub in_first : found k (untexted (bare first)) ≡ Some visit
+  pub in_second : found k (untexted (bare second)) ≡ Some visit
+
+-- what two forests have in common, whatever is asked of them
+pub record AreForests (functions : Functions) (most : Option ℕ) (given : Given) (first second : Forest) (model current : ℕ) : Type 0 where
+  pub is_first : IsForest first
+  pub is_second : IsForest second
+  -- no node has the number of a text in a shape
+  pub below : AreBelow (numbers_of (visits first.nodes))
+  pub frame : HaveOneFrame (bare first) (bare second)
+  pub current_too : InBoth first second current
+  pub documents : (id : List ℕ) (k : ℕ) → has k (nodes_of (set_of (document_of model id given.documents))) ≡ true → InBoth first second k
+  -- functions give the same without a limit on strings, and truths where they give truths
+  pub extend : (code : ℕ) (ps : List Plain) (p : Plain) → functions most given.decimals code ps ≡ Some p → functions None given.decimals code ps ≡ Some p
+  pub truths : (code : ℕ) (ps : List Plain) (p : Plain) → function_at code ≡ of.asking → functions most given.decimals code ps ≡ Some p → (b : Bool) × (p ≡ plain.Truth b)
+
+module _ (functions : Functions) (most : Option ℕ) (given : Given) (first second : Forest) (model current : ℕ) (h : AreForests functions most given first second model current) where
+  abbrev shaped : List Visit
+  shaped = map erased (shape_of first.nodes)
+
+  -- without texts the shape is the first forest
+  same : untexted shaped ≡ untexted (bare first)
+  same = shape-untexted (visits first.nodes)
+
+  first_visits : AreVisits (bare first)
+  first_visits = forest-visits first h.is_first
+
+  second_visits : AreVisits (bare second)
+  second_visits = forest-visits second h.is_second
+
+  own-frame : Frame (untexted shaped) (untexted (bare first))
+  own-frame = subst (λ part. Frame part (untexted (bare first))) (sym same) (itself (bare first) first_visits)
+
+  both-frame : Frame (untexted (bare first)) (untexted (bare second))
+  both-frame = record {
+    apart = bare-apart (bare first) first_visits;
+    apart_too = bare-apart (bare second) second_visits;
+    closed = bare-closed (bare first) first_visits;
+    closed_too = bare-closed (bare second) second_visits;
+    order = h.frame.order;
+    contents = h.frame.contents;
+  }
+
+  abbrev comparison : Comparison
+  comparison = record {
+    setting = setting_over functions most given (visits first.nodes) model current;
+    others = bare second;
+    strings = λ n. string_value n (visits second.nodes);
+    shape = shaped;
+    shape_strings = λ n. string_value n (shape_of first.nodes);
+    functions = functions None given.decimals;
+    extend = h.extend;
+    visits = first_visits;
+    other_visits = second_visits;
+    shape_visits = shape-visits first h.is_first h.below;
+    frame = own-frame;
+    other_frame = subst (λ part. Frame part (untexted (bare second))) (sym same) both-frame;
+  }
+
+  solid : (k : ℕ) → InBoth first second k → Solid comparison k
+  solid k x = record { visit = x.visit; in_shape = ap (found k) same ∙ x.in_first; in_first = x.in_first; in_second = x.in_second }
+
+  standing : Standing comparison
+  standing = record { current = solid current h.current_too; documents = λ id k i. solid k (h.documents id k i); truths = h.truths }
+
+  premise : (a : Asked) → AgreeOnLists a.looks (bare first) (bare second) → AgreeOnStrings a.reads shaped (λ n. string_value n (visits first.nodes)) (λ n. string_value n (visits second.nodes)) → Premise comparison a
+  premise a l r = record {
+    lists = record {
+      first = λ n i. ap (filter (λ (y : Visit). is_first n y.above)) same;
+      second = λ n i. ap (filter (λ (y : Visit). is_first n y.above)) same ∙ l n i;
+    };
+    strings = r;
+  }
+
+  abbrev over : Forest → Setting
+  over forest = setting_over functions most given (visits forest.nodes) model current
+
+  -- what is asked of an expression over the shape of the first forest
+  abbrev asked_of : Expr → Focus → Asked
+  asked_of e c = (trace e).asked (shape_setting functions given first.nodes model current) c
+
+  pub one-value : (e : Expr) → (facts_of e).is_exact ≡ true → (c : Focus) → InBoth first second c.node →
+      AgreeOnLists (asked_of e c).looks (bare first) (bare second) →
+      AgreeOnStrings (asked_of e c).reads shaped (λ n. string_value n (visits first.nodes)) (λ n. string_value n (visits second.nodes)) →
+      meaning e (over first) c ≡ meaning e (over second) c
+  one-value e exact c node l r = value-agrees comparison standing e exact c (solid c.node node) (premise (asked_of e c) l r)
+
+  -- the whole expression asked, as that of an entry is
+  abbrev whole_of : Expr → Focus → Asked
+  whole_of e c = converted (shape_setting functions given first.nodes model current) (asked_of e c)
+
+  pub one-text : (e : Expr) → (facts_of e).is_exact ≡ true → (c : Focus) → InBoth first second c.node →
+      AgreeOnLists (whole_of e c).looks (bare first) (bare second) →
+      AgreeOnStrings (whole_of e c).reads shaped (λ n. string_value n (visits first.nodes)) (λ n. string_value n (visits second.nodes)) →
+      (meaning e (over first) c >>= string_of (over first)) ≡ (meaning e (over second) c >>= string_of (over second))
+  one-text e exact c node l r = text-agrees comparison standing e exact c (solid c.node node) (premise (whole_of e c) l r)
