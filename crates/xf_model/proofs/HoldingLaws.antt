@@ -1,16 +1,16 @@
 -- Data that hold other contents: their structure is the same, and so is the string value of a node, where it and what is below it have the
 -- same contents.
-use Rattle.std.proofs.Common.{◌≡◌, ℕ, suc, ◌==◌, Bool, true, false, not, cond, ◌&&◌, ◌||◌, ◌⊎◌, inl, inr, List, [], ◌∷◌, ◌++◌, map, find, Option, Some, None, option_map, is_some, if◌then◌else◌, refl, sym, ap, ◌∙◌}
+use Rattle.std.proofs.Common.{◌≡◌, ℕ, ◌==◌, Bool, true, false, not, cond, ◌&&◌, inl, inr, List, [], ◌∷◌, ◌++◌, map, Option, Some, None, if◌then◌else◌, refl, sym, ap, ◌∙◌}
 use Rattle.std.specs.Prelude.{filter}
-use Rattle.std.specs.List.{list_any, flat_map}
+use Rattle.std.specs.List.{flat_map}
 use Rattle.std.proofs.lemmas.List.{append_assoc, append-nil}
-use Rattle.std.proofs.lemmas.Bool.{cases_Bool, eqb-true, false≢true}
+use Rattle.std.proofs.lemmas.Bool.{cases_Bool, false≢true}
 use Rattle.xf_doc.specs.declared.content.Content.{Content}
 use Rattle.xf_doc.specs.declared.content.Content.TheVariants.{Root, Element, Attribute, Text}
-use Rattle.xf_doc.specs.Forest.{is_text, is_element, is_attribute, own_text}
+use Rattle.xf_doc.specs.Forest.{is_text, is_element, is_attribute}
 use Rattle.xf_doc.specs.Visit.{Visit, has, has_parent}
-use Rattle.xf_doc.specs.Shape.{Texts, text_number, is_replaced, is_gone, text_visit, given_visits, visits_in, is_borne, filled, retexted, without_text, erased, texts_given, value_given, with_value, with_contents}
-use Rattle.xf_doc.specs.StringValue.{characters, text_below, value_of, value_in, string_value}
+use Rattle.xf_doc.specs.Shape.{Texts, text_number, is_replaced, is_gone, text_visit, given_visits, visits_in, is_borne, filled, without_text, erased, texts_given, value_given, with_value}
+use Rattle.xf_doc.specs.StringValue.{characters, text_below}
 use Rattle.xf_doc.proofs.RenumberLaws.{flat-through}
 use Rattle.xf_model.specs.Settled.{Contents, content_of, holding}
 use Rattle.xf_model.specs.Pertinent.{AllOf}

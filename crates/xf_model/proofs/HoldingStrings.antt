@@ -1,13 +1,12 @@
 -- The string value of a node in data that hold other contents is the same, where the node and what is below it have the same contents.
-use Rattle.std.proofs.Common.{◌≡◌, ℕ, suc, ◌==◌, Bool, true, false, not, cond, ◌&&◌, ◌||◌, inl, inr, List, [], ◌∷◌, ◌++◌, map, find, Option, Some, None, option_map, if◌then◌else◌, refl, sym, ap, ◌∙◌}
+use Rattle.std.proofs.Common.{◌≡◌, ℕ, ◌==◌, Bool, true, false, not, cond, ◌&&◌, ◌||◌, inl, inr, List, [], ◌∷◌, ◌++◌, map, find, Option, Some, None, option_map, if◌then◌else◌, refl, sym, ap, ◌∙◌}
 use Rattle.std.specs.Prelude.{filter}
-use Rattle.std.specs.List.{list_any, flat_map}
-use Rattle.std.proofs.lemmas.Bool.{cases_Bool, eqb-true, eq-eqb, false≢true}
-use Rattle.xf_doc.specs.declared.content.Content.{Content}
+use Rattle.std.specs.List.{flat_map}
+use Rattle.std.proofs.lemmas.Bool.{cases_Bool, eqb-true, eq-eqb}
 use Rattle.xf_doc.specs.Forest.{is_text, is_element, own_text}
 use Rattle.xf_doc.specs.Visit.{Visit, has}
-use Rattle.xf_doc.specs.Shape.{Texts, text_number, is_replaced, is_gone, text_visit, given_visits, visits_in, is_borne, filled, texts_given, value_given, with_value}
-use Rattle.xf_doc.specs.StringValue.{characters, text_below, value_of, value_in, string_value}
+use Rattle.xf_doc.specs.Shape.{Texts, text_number, is_replaced, is_gone, text_visit, given_visits, visits_in, is_borne, filled, value_given, with_value}
+use Rattle.xf_doc.specs.StringValue.{text_below, value_in, string_value}
 use Rattle.xf_model.specs.Settled.{Contents, content_of, holding}
 use Rattle.xf_model.specs.Pertinent.{AllOf}
 use Rattle.xf_model.proofs.EachLemmas.{each_then}
@@ -139,9 +138,9 @@ module _ (m : ℕ) where
       let valued = map (with_value (content_of contents)) all in
       ap (option_map (λ y. own_text y.content))
       (found-filled (texts_by contents) [] (filter (λ x. not (is_gone (texts_by contents) x)) valued) tt
-          (each-kept _ (λ x. not (is_gone (texts_by contents) x)) valued (each-made (with_value (content_of contents)) _ all no_given))
+      (each-kept _ (λ x. not (is_gone (texts_by contents) x)) valued (each-made (with_value (content_of contents)) _ all no_given))
       ∙ found-kept (texts_by contents) valued
-          (each-made (with_value (content_of contents)) _ all (each_then _ _ (λ x h e. h (sym (value-text m (content_of contents x.number) x.content) ∙ e)) all no_text)))
+      (each-made (with_value (content_of contents)) _ all (each_then _ _ (λ x h e. h (sym (value-text m (content_of contents x.number) x.content) ∙ e)) all no_text)))
 
   pub string_value-kept : (all : List Visit) (one other : Contents) → AllOf (SameAt m one other) all → string_value m (holding all one) ≡ string_value m (holding all other)
   string_value-kept all one other h =

@@ -14,10 +14,10 @@ use Rattle.xf_lang.specs.declared.value.Value.{Value}
 use Rattle.xf_lang.specs.Same.{renumbered_value}
 use Rattle.xf_model.specs.Rules.{Scope}
 use Rattle.xf_model.specs.Applied.{Entry, is_calculate}
-use Rattle.xf_model.specs.Entries.{is_computed, value_of, text_of}
+use Rattle.xf_model.specs.Entries.{is_computed, value_of, text_of, reads_of, looks_of, asked_size, edge_count}
 use Rattle.xf_model.specs.Settled.{Bounds, Contents, content_of, holding, calculates, fitting, content_by, computed_over, round, rounds, settled_contents, settled, values_over, settled_values, Passed, long, text, nodes, all_texts, is_long, is_over, if_passed, passed_over, passed}
 use Rattle.xf_model.specs.Same.{renumbered_entry, renumbered_scope, renumbered_valued, renumbered_contents, renumbered_passed}
-use Rattle.xf_model.proofs.RenumberEntries.{ScopeGoes, value-renumbered, text-renumbered}
+use Rattle.xf_model.proofs.RenumberEntries.{ScopeGoes, value-renumbered, text-renumbered, reads-renumbered, looks-renumbered}
 
 each-goes : {A A' B B' : Type 0} (g : A → A') (h : B → B') (k : A → B) (k' : A' → B') → ((a : A) → k' (g a) ≡ h (k a)) → (xs : List A) → map k' (map g xs) ≡ map h (map k xs)
 each-goes g h k k' e [] = refl
@@ -153,3 +153,15 @@ module _ (f : ℕ → ℕ) (same : IsRenumbering f) where
 
       pub passed-renumbered : (all : List Visit) → passed b new_scope new_entries (map (renumbered_visit f) all) ≡ map (renumbered_passed f) (passed b scope entries all)
       passed-renumbered all = ap (passed_over b new_scope new_entries) (settled-renumbered all) ∙ passed-over_renumbered (settled b scope entries all)
+
+-- ---- how much is read and looked at together
+
+module _ (f : ℕ → ℕ) (same : IsRenumbering f) (scope : Scope) (goes : ScopeGoes f scope) (all : List Visit) where
+  size-renumbered : (e : Entry) → asked_size (renumbered_scope f scope) (map (renumbered_visit f) all) (renumbered_entry f e) ≡ asked_size scope all e
+  size-renumbered e =
+      rw (reads-renumbered f same scope goes all e, looks-renumbered f same scope goes all e, length-map (reads_of scope all e) f, length-map (looks_of scope all e) f) refl
+
+  pub edges-renumbered : (entries : List Entry) → edge_count (renumbered_scope f scope) (map (renumbered_visit f) all) (map (renumbered_entry f) entries) ≡ edge_count scope all entries
+  edges-renumbered entries =
+      ap (λ es. fold (λ a (e : Entry). a + asked_size (renumbered_scope f scope) (map (renumbered_visit f) all) e) 0 es) (filter-through (renumbered_entry f) is_computed is_computed (λ e. refl) entries)
+      ∙ counted (renumbered_entry f) (asked_size (renumbered_scope f scope) (map (renumbered_visit f) all)) (asked_size scope all) size-renumbered 0 (filter is_computed entries)

@@ -2,8 +2,11 @@
 use Rattle.std.proofs.Common.{◌≡◌, ℕ, Bool, true, false, ◌||◌, List, [], ◌∷◌, map, refl, sym, ap, ◌∙◌, codes}
 use Rattle.xf_ast.specs.declared.expr.Expr.{Expr}
 use Rattle.xf_ast.specs.declared.expr.Link.{Link}
-use Rattle.xf_ast.specs.declared.expr.Step.{Step}
+use Rattle.xf_ast.specs.declared.expr.Step.{Step, roll-Step}
 use Rattle.xf_ast.specs.declared.expr.Start.{Start}
+use Rattle.xf_ast.specs.declared.expr.Start.TheVariants.{Context}
+use Rattle.xf_ast.specs.declared.expr.Test.TheVariants.{AnyName}
+use Rattle.xf_name.specs.declared.axis.Axis.TheVariants.{Child}
 use Rattle.xf_ast.specs.declared.expr.Expr.TheOpen.{Expr-F}
 use Rattle.xf_ast.specs.declared.expr.Expr.TheFolds.{fold-Link, fold-Step, fold-roll-Expr, fold_out-Step, fold_out-Link}
 use Rattle.xf_ast.specs.declared.expr.Expr.TheVariants.{Literal, Call, Negated, Chain, Filter, Path, From, rolls-Literal, rolls-Call, rolls-Negated, rolls-Chain, rolls-Filter, rolls-Path, rolls-From}
@@ -65,3 +68,7 @@ under_a_sign = calls-Negated 0 1 (Call 0 29 []) ∙ calls-Call 0 29 []
 -- instance()[last()]
 in_a_predicate : calls_place (Filter (Call 0 18 []) (Call 0 19 [] ∷ [])) ≡ true
 in_a_predicate = calls-Filter (Call 0 18 []) (Call 0 19 [] ∷ []) ∙ rw (calls-Call 0 18 [], calls-Call 0 19 []) refl
+
+-- x[last()]
+in_a_step : calls_place (Path 0 Context (roll-Step (record { place = 0; is_below = false; is_written = true; axis = Child; test = AnyName; predicates = Call 0 19 [] ∷ [] }) ∷ [])) ≡ true
+in_a_step = calls-Path 0 Context _ ∙ rw (calls-step _) (rw (calls-Call 0 19 []) refl)
