@@ -5,7 +5,9 @@ use Rattle.xf_num.specs.Number.{scale}
 use Rattle.xf_ast.specs.declared.expr.Operator.TheVariants as operator
 use Rattle.xf_doc.specs.declared.content.Node.{Node}
 use Rattle.xf_doc.specs.Visit.{visits}
-use Rattle.xf_doc.specs.Shape.{shape_of}
+use Rattle.xf_doc.specs.declared.content.Content.TheVariants.{Root, Element, Text}
+use Rattle.xf_doc.specs.Examples.{node, element, text as text_node, plain}
+use Rattle.xf_doc.specs.Shape.{shape_of, text_number}
 use Rattle.xf_doc.specs.StringValue.{string_value}
 use Rattle.xf_lang.specs.Asked.{Trace}
 use Rattle.xf_lang.specs.Examples.{child, path, number, literal, call, two}
@@ -139,3 +141,16 @@ counts_as_empty :
     (all_entries (Examples.scope (by b double_a ∷ by c (Examples.beside b) ∷ [])) (shape_of Examples.four)) (visits Examples.four)
     ≡ (4, []) ∷ (5, []) ∷ []
 counts_as_empty = refl
+
+-- limits are asked of the settled data alone: the text that a calculate takes away does not count
+old_texts_do_not_count : passed_on (within 2 2 5 5) (by a (literal []) ∷ []) ≡ []
+old_texts_do_not_count = refl
+
+-- ["d",["a","1"]] where a has a second text: one takes the place of both
+abbrev two_texts : List Node
+two_texts = node 0 0 Root ∷ element 1 1 (codes "d") ∷ element 2 2 (codes "a") ∷ text_node 3 3 (codes "1") ∷ text_node 4 3 (codes "2") ∷ []
+
+one_for_both : settled bounds (Examples.scope (by a (literal (codes "x")) ∷ [])) (all_entries (Examples.scope (by a (literal (codes "x")) ∷ [])) (shape_of two_texts)) (visits two_texts)
+    ≡ record { number = 0; above = []; content = Root } ∷ record { number = 1; above = 0 ∷ []; content = Element (plain (codes "d")) }
+    ∷ record { number = 2; above = 1 ∷ 0 ∷ []; content = Element (plain (codes "a")) } ∷ record { number = text_number 2; above = 2 ∷ 1 ∷ 0 ∷ []; content = Text (codes "x") } ∷ []
+one_for_both = refl

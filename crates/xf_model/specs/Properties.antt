@@ -52,7 +52,7 @@ is_readonly all values n = list_any (own_readonly values) (n ∷ ancestors_of n 
 abbrev pub is_required : List Valued → ℕ → Bool
 is_required values n = own values Required false n
 
--- ---- validity (sections 4.3.3, 6.1.1 and 6.1.5)
+-- ---- validity (sections 4.3.3, 6.1.1 and 6.1.6)
 
 abbrev pub kind_of : Scope → List Entry → ℕ → Option SimpleType
 kind_of scope entries n = option_and_then (λ e. option_and_then (λ r. r.kind) (slice_get scope.rules e.bind)) (find (sets_on n Kind) entries)

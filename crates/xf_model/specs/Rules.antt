@@ -1,4 +1,5 @@
--- The binds of a form's models (XForms 1.1, section 3.3.4), each expression in place of its text with what it means and what it asks.
+-- The binds of a form's models (XForms 1.1, sections 3.3.4 and 7.4.1), each expression in place of its text with what it means and what it
+-- asks.
 use Rattle.std.specs.Prelude.{ℕ, Bool, true, false, ◌||◌, List, [], ◌∷◌, ◌++◌, map, Option, Some, None, option_map, get_or}
 use Rattle.std.specs.List.{list_any}
 use Rattle.xf_ast.specs.declared.expr.Expr.{Expr}

@@ -1,5 +1,6 @@
--- Settled texts (XForms 1.1, section 4.3.2): in one round each calculated node at once takes the text of its expression over the data as
--- they are; after as many rounds as there are calculated nodes no text changes any more, where no cycle stands. Texts have no numbers here.
+-- Settled texts (XForms 1.1, sections 4.3.2 and 6.1.5): in one round each calculated node at once takes the text of its expression over the
+-- data as they are; after as many rounds as there are calculated nodes no text changes any more, where no cycle stands. Texts have no
+-- numbers here.
 use Rattle.std.specs.Prelude.{ℕ, zero, suc, Bool, not, ◌&&◌, ◌||◌, List, [], ◌∷◌, ◌++◌, map, filter, find, length, count_by, sum_by, Option, Some, None, is_none, option_map, nat_lt, ◌==◌, if◌then◌else◌}
 use Rattle.std.specs.List.{list_any}
 use Rattle.xf_doc.specs.Forest.{is_root}
