@@ -1,0 +1,14 @@
+pub mod Rules
+pub mod Nested
+pub mod Applied
+pub mod Entries
+pub mod Circular
+pub mod Settled
+pub mod Properties
+pub mod Pertinent
+pub mod Stands
+pub mod Submitted
+pub mod Places
+pub mod Taken
+pub mod Same
+pub mod Examples
