@@ -123,7 +123,13 @@ impl Session {
     {
         let accepted = self.accepted + 1;
         let reply = format!(in alloc; "ok {accepted}\n")?;
-        set_and_settle(alloc, self.form.calculates.as_slice(), &mut self.nodes, place, text)?;
+        set_and_settle(
+            alloc,
+            self.form.calculates.as_slice(),
+            &mut self.nodes,
+            place,
+            text,
+        )?;
         self.accepted = accepted;
         Ok(reply)
     }

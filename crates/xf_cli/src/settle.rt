@@ -59,9 +59,7 @@ fn worth(alloc: Global, formula: &Formula, nodes: &[DataNode]) -> Result<Num, Al
 {
     match formula {
         Formula::Number(number) => Ok(*number),
-        Formula::Read(places) => Ok(Num::read(
-            texts_at(alloc, nodes, places.as_slice())?.as_str(),
-        )),
+        Formula::Read(places) => Ok(Num::read(texts_at(alloc, nodes, places.as_slice())?.as_str())),
         Formula::Negated(count, inner) => Ok(negated(*count, worth(alloc, inner.get(), nodes)?)),
         Formula::Chain(first, operands) => {
             let first = worth(alloc, first.get(), nodes)?;

@@ -94,7 +94,7 @@ same_texts d nodes cs texts [] h = refl
 same_texts d nodes cs texts (c ∷ some) h =
     let test : ℕ → Bool = is_among (nodes_of cs) in
     ap (λ k. printed d k ∷ map (calculated d (with_texts nodes cs texts)) some)
-        (worth_agrees d test (with_texts nodes cs texts) nodes (keeps_elsewhere nodes cs texts) c.formula (or_left (reads c.formula test) _ h))
+    (worth_agrees d test (with_texts nodes cs texts) nodes (keeps_elsewhere nodes cs texts) c.formula (or_left (reads c.formula test) _ h))
     ∙ ap (λ l. calculated d nodes c ∷ l) (same_texts d nodes cs texts some (or_right (reads c.formula test) _ h))
 
 round_again : (d : ℕ) (cs : List Calculate) (nodes : List DataNode) → some_reads (is_among (nodes_of cs)) cs ≡ false → are_different [] (nodes_of cs) ≡ true → round d cs (round d cs nodes) ≡ round d cs nodes

@@ -7,10 +7,12 @@ use xf_form::{DataNode, FormFault, Held, load};
 use xf_name::Word;
 use xf_plain::{Change, data_after};
 
-const ORDERS: &str = r#"["f",{"xmlns:xf":"http://www.w3.org/2002/xforms"},["xf:model",["xf:instance",["o",["i",["q","2"],["p","3.5"],["s"]],["i",["q","1"],["p","0.25"],["s"]],["t",{"k":""}]]],["xf:bind",{"nodeset":"i/s","calculate":"../q * ../p"}],["xf:bind",{"nodeset":"t","calculate":"../i/q - (../i/p + 1) * -2"}]],["xf:input",{"id":"q","ref":"i/q"}],["xf:input",{"id":"p","ref":"i/p"}]]"#;
+const ORDERS: &str =
+    r#"["f",{"xmlns:xf":"http://www.w3.org/2002/xforms"},["xf:model",["xf:instance",["o",["i",["q","2"],["p","3.5"],["s"]],["i",["q","1"],["p","0.25"],["s"]],["t",{"k":""}]]],["xf:bind",{"nodeset":"i/s","calculate":"../q * ../p"}],["xf:bind",{"nodeset":"t","calculate":"../i/q - (../i/p + 1) * -2"}]],["xf:input",{"id":"q","ref":"i/q"}],["xf:input",{"id":"p","ref":"i/p"}]]"#;
 
 // The places of the two inputs' nodes.
 const QUANTITY: usize = 2;
+
 const PRICE: usize = 3;
 
 fn push_line(text: &mut String, node: &DataNode) -> Result<(), AllocError> {

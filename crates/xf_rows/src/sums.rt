@@ -5,12 +5,10 @@ use std::alloc::{AllocError, Global};
 use std::test::Fail;
 
 // An order of two items, of which each has a quantity, a price and a sum.
-const ORDER: &str =
-    r#"["o",["i",["q","2"],["p","3.5"],["s"]],["i",["q","1"],["p","0.25"],["s"]]]"#;
+const ORDER: &str = r#"["o",["i",["q","2"],["p","3.5"],["s"]],["i",["q","1"],["p","0.25"],["s"]]]"#;
 
 // Inputs on the first quantity and the first sum.
-const INPUTS: &str =
-    r#",["xf:input",{"id":"q","ref":"i/q"}],["xf:input",{"id":"s","ref":"i/s"}]"#;
+const INPUTS: &str = r#",["xf:input",{"id":"q","ref":"i/q"}],["xf:input",{"id":"s","ref":"i/s"}]"#;
 
 // A form with this instance, these binds and this body.
 fn form(alloc: Global, tree: &str, binds: &str, body: &str) -> Result<String, AllocError> {
@@ -31,7 +29,12 @@ fn order_run(alloc: Global, calculate: &str, lines: &str) -> Result<Ran, Fail> {
 }
 
 // What the state of an order has, with these texts and this mark of the first sum.
-fn order_state(alloc: Global, quantity: &str, sum: &str, other: &str) -> Result<String, AllocError> {
+fn order_state(
+    alloc: Global,
+    quantity: &str,
+    sum: &str,
+    other: &str,
+) -> Result<String, AllocError> {
     format!(in alloc;
         "instance 1.1\n/o ew-v\n/o/i[1] ew-v\n/o/i[1]/q ew-v \"{quantity}\"\n/o/i[1]/p ew-v \"3.5\"\n/o/i[1]/s e--v \"{sum}\"\n/o/i[2] ew-v\n/o/i[2]/q ew-v \"1\"\n/o/i[2]/p ew-v \"0.25\"\n/o/i[2]/s e--v \"{other}\"\ncontrol q [] ew-v \"{quantity}\"\ncontrol s [] e--v \"{sum}\"\nend\n"
     )
@@ -81,7 +84,11 @@ fn formulas_are_worth_what_they_say(rt: HostRuntime) -> Result<(), Fail> {
         let ran = order_run(alloc, calculate, "[\"show\"]")?;
         let line = format!(in alloc; "\ncontrol s [] e--v \"{want}\"\n")?;
         assert_eq!(rt; ran.status, 0, "{calculate}");
-        assert_eq!(rt; ran.text.as_str().contains(line.as_str()), true, "{calculate}");
+        assert_eq!(rt;
+            ran.text.as_str().contains(line.as_str()),
+            true,
+            "{calculate}"
+        );
     }
     Ok(())
 }
@@ -141,10 +148,7 @@ fn binds_outside_the_built_shape_are_refused(rt: HostRuntime) -> Result<(), Fail
         ),
         (r#",["xf:bind",{"nodeset":"i/s","calculate":"../q"}]"#, 3),
         (r#",["xf:bind",{"nodeset":"i/s","calculate":"(../q)"}]"#, 3),
-        (
-            r#",["xf:bind",{"nodeset":"i/s","calculate":"now()"}]"#,
-            3,
-        ),
+        (r#",["xf:bind",{"nodeset":"i/s","calculate":"now()"}]"#, 3),
         (r#",["xf:bind",{"nodeset":"i/s","calculate":"1 +"}]"#, 3),
         (r#",["xf:bind",{"nodeset":"1","calculate":"1"}]"#, 3),
         (r#",["xf:bind",{"nodeset":"i","calculate":"1"}]"#, 3),

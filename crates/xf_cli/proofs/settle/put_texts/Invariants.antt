@@ -6,5 +6,5 @@ abbrev pub invariant-loop-i : goal.invariant-loop-i
 invariant-loop-i l = record {
   left : with_texts l.nodes.items (drop l.i l.calculates) (drop l.i l.fn.texts.items) ≡ with_texts l.fn.nodes.items l.calculates l.fn.texts.items;
   kept : drop l.i l.texts.items ≡ drop l.i l.fn.texts.items;
-  many : length l.texts.items ≡ length l.calculates
+  many : length l.texts.items ≡ length l.calculates;
 }

@@ -13,7 +13,7 @@ returns-then-place-len-clause-ok c =
 pub put_held-requires : goal.put_held-requires
 put_held-requires c =
     let many : length c.settle-2.new.nodes.items ≡ length c.args.nodes.now.items =
-        ap length (c.in-Err.ensures.err ∙ c.put_held-before.ensures.nodes) ∙ length-put_held c.args.nodes.now.items c.args.place (Value c.args.text) in
+    ap length (c.in-Err.ensures.err ∙ c.put_held-before.ensures.nodes) ∙ length-put_held c.args.nodes.now.items c.args.place (Value c.args.text) in
     omega (arith, many)
 
 pub returns-in-Err-clause-err : goal.returns-in-Err-clause-err

@@ -13,7 +13,7 @@ returns-clause-ok c =
     let changed : List DataNode = set_value c.self.inside.nodes.items c.args.place c.args.text in
     let by_calculates : List Calculate → List DataNode = λ calculates. round decimals calculates changed in
     let settles : c.set_and_settle.new.nodes.items ≡ after_set form c.self.inside.nodes.items c.args.place c.args.text =
-        c.in_ok-set_and_settle.ensures.ok ∙ ap by_calculates c.as_slice.ensures ∙ sym (settled_at_once decimals form changed c.self.invariant) in
+    c.in_ok-set_and_settle.ensures.ok ∙ ap by_calculates c.as_slice.ensures ∙ sym (settled_at_once decimals form changed c.self.invariant) in
     let with_nodes : List DataNode → State = λ nodes. record { form = form; nodes = nodes; accepted = c.self.inside.accepted + 1 } in
     let after : State → State = λ s. record { form = s.form; nodes = after_set s.form s.nodes c.args.place c.args.text; accepted = s.accepted + 1 } in
     ap with_nodes settles ∙ ap after c.self.view_is

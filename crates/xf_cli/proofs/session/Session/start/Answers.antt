@@ -12,7 +12,7 @@ returns c =
     let form : Form = c.args.form in
     let by_calculates : List Calculate → List DataNode = λ calculates. round decimals calculates c.in_ok-nodes.nodes.items in
     let settles : c.settle.new.nodes.items ≡ settled decimals form.calculates form.data =
-        c.in_ok-settle.ensures.ok ∙ ap by_calculates c.as_slice-2.ensures ∙ ap (round decimals form.calculates) (c.in_ok-nodes.ensures ∙ c.as_slice.ensures)
-        ∙ sym (settled_at_once decimals form form.data c.requires) in
+    c.in_ok-settle.ensures.ok ∙ ap by_calculates c.as_slice-2.ensures ∙ ap (round decimals form.calculates) (c.in_ok-nodes.ensures ∙ c.as_slice.ensures)
+    ∙ sym (settled_at_once decimals form form.data c.requires) in
     let with_nodes : List DataNode → State = λ nodes. record { form = form; nodes = nodes; accepted = 0 } in
     ap with_nodes settles
