@@ -103,7 +103,7 @@ module _ (w : Comparison) (c : Focus) (node : Solid w c.node) where
   strings-given : (f : List (List ℕ) → Value) → ((texts : List (List ℕ)) → WithoutNodes (f texts)) → (a : Asked) (m m' : Option Value) → Agreed w a m m' → Premise w (all_read u a) →
       Gives WithoutNodes (m >>= λ v. option_map f (strings_of s (nodes_of v))) (m' >>= λ v. option_map f (strings_of t (nodes_of v)))
   strings-given f g a m m' h p = of-set (λ ns. option_map f (strings_of s ns)) (λ ns. option_map f (strings_of t ns)) a m m' h (λ ns e solid.
-      plain-mapped w f (gives-equal (strings_of s ns) (strings_of t ns) (strings-same w ns (λ n i. strings-all w a p n (ap (has n) (sym e) ∙ i)))) g)
+      plain-mapped w f (gives-equal (strings_of s ns) (strings_of t ns) (strings-same w ns (λ n i. strings-all w a (λ k j. solid k (ap (has k) e ∙ j)) p n (ap (has n) (sym e) ∙ i)))) g)
 
   names-given : (part : Option node_name.Name → List ℕ) (a : Asked) (m m' : Option Value) → Agreed w a m m' →
       Gives WithoutNodes (m >>= λ v. text_value s (part (first_name s.all (nodes_of v)))) (m' >>= λ v. text_value t (part (first_name t.all (nodes_of v))))

@@ -205,12 +205,12 @@ module _ (w : Comparison) where
   one-solid : (n m : ℕ) → Solid w n → m ≡ n → AllSolid w (m ∷ [])
   one-solid n m h e k i = elim (or-cases (k == m) false i) [ inl a ↦ subst (Solid w) (sym (eqb-true k m a ∙ e)) h | inr b ↦ no b ]
 
-  record Begun (start : Start) (c : Focus) : Type 0 where
+  pub record Begun (start : Start) (c : Focus) : Type 0 where
     pub first : begun start s c ≡ begun start u c
     pub second : begun start t c ≡ begun start u c
     pub solid : AllSolid w (begun start u c)
 
-  begun-agrees : (start : Start) (c : Focus) → Solid w c.node → Begun start c
+  pub begun-agrees : (start : Start) (c : Focus) → Solid w c.node → Begun start c
   begun-agrees Context c h = record { first = refl; second = refl; solid = one-solid c.node c.node h refl }
   begun-agrees Root c h =
       let in_shape : top_of c.node w.shape ≡ last_of c.node h.visit.above = top-at w.shape c.node h.visit (solid-found w.shape w.shape_visits c.node h.visit h.in_shape).0 in

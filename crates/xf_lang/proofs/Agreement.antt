@@ -42,7 +42,7 @@ standing-swapped w h = record {
 }
 
 premise-swapped : (w : Comparison) (a : Asked) → Premise w a → Premise (swapped w) a
-premise-swapped w a p = record { lists = record { first = p.lists.second; second = p.lists.first }; strings = λ n h. sym (p.strings n h) }
+premise-swapped w a p = record { lists = record { first = p.lists.second; second = p.lists.first }; strings = λ n i h. sym (p.strings n i h) }
 
 given-some : {A : Type 0} {P : A → Type 0} {x : A} {m : Option A} → Gives P (Some x) m → m ≡ Some x
 given-some (both p) = refl

@@ -12,7 +12,7 @@ use Rattle.xf_doc.specs.Shape.{erased, without_text}
 use Rattle.xf_doc.proofs.BackLaws.{and-true, not-true}
 use Rattle.xf_doc.proofs.OrderLaws.{visits-different}
 use Rattle.xf_doc.proofs.RenumberLaws.{find-through, filter-through, map-map}
-use Rattle.xf_lang.specs.Asked.{found}
+use Rattle.xf_lang.specs.Asked.{has_list, found}
 use Rattle.xf_lang.specs.Agree.{numbers_of, are_apart, untexted, AreVisits}
 use Rattle.xf_lang.proofs.VisitFacts.{no, some-same, none-some, self-same, found-in, present}
 use Rattle.xf_lang.proofs.SameKept.{behind}
@@ -54,6 +54,15 @@ self-found (y ∷ ys) h =
 
 -- ---- parents
 
+abbrev pub ParentIn : List Visit → Visit → Type 0
+ParentIn all v = (n : ℕ) (ns : List ℕ) (z : Visit) → v.above ≡ n ∷ ns → found n all ≡ Some z → has_list z.content ≡ true
+
+pub list-solid : (c : Content) → has_list c ≡ true → not (is_text c) ≡ true
+list-solid content.Root h = refl
+list-solid (content.Element name) h = refl
+list-solid (content.Attribute name text) h = no h
+list-solid (content.Text text) h = no h
+
 abbrev pub ClosedIn : List Visit → Visit → Type 0
 ClosedIn all v = (n : ℕ) (ns : List ℕ) → v.above ≡ n ∷ ns → option_map (λ z. z.above) (found n all) ≡ Some ns
 
@@ -61,10 +70,10 @@ module _ (all : List Visit) (apart : are_apart (numbers_of all) ≡ true) where
   abbrev entry : Node → List Node → Visit
   entry z zs = record { number = z.number; above = numbers zs; content = z.content }
 
-  -- open nodes, each of which was visited below the rest and is no text
+  -- open nodes, each of which was visited below the rest and has a list
   abbrev AreParents : List Node → Type 0
   AreParents [] = ⊤
-  AreParents (z ∷ zs) = (found z.number all ≡ Some (entry z zs)) × (not (is_text z.content) ≡ true) × AreParents zs
+  AreParents (z ∷ zs) = (found z.number all ≡ Some (entry z zs)) × (has_list z.content ≡ true) × AreParents zs
 
   parents-still : (d : ℕ) (zs : List Node) → AreParents zs → AreParents (still_above d zs)
   parents-still d [] h = tt
@@ -81,23 +90,25 @@ module _ (all : List Visit) (apart : are_apart (numbers_of all) ≡ true) where
   too-deep : (d e : ℕ) → nat_le d e ≡ true → nat_lt e d ≡ true → false ≡ true
   too-deep d e h k = grind (arith, nat_tests, h, k)
 
-  reach-text : (z : Node) → is_text z.content ≡ true → reach z ≡ z.depth
-  reach-text z h = by (is_attribute z.content) (is_text z.content) h
+  -- below attributes and texts nothing stands
+  reach-none : (z : Node) → has_list z.content ≡ false → reach z ≡ z.depth
+  reach-none z h = by z.content h
     where
-      by : (a b : Bool) → b ≡ true → cond (a || b) z.depth (suc z.depth) ≡ z.depth
-      by true b i = refl
-      by false true i = refl
-      by false false i = no i
+      by : (c : Content) → has_list c ≡ false → cond (is_attribute c || is_text c) z.depth (suc z.depth) ≡ z.depth
+      by content.Root i = no (sym i)
+      by (content.Element name) i = no (sym i)
+      by (content.Attribute name text) i = refl
+      by (content.Text text) i = refl
 
   ready-next : (z : Node) (zs : List Node) → found z.number all ≡ Some (entry z zs) → AreParents zs → Ready (z ∷ zs) (reach z)
   ready-next z zs e h d k = by (nat_lt z.depth d) refl (parents-still d zs h)
     where
-      solid : (b : Bool) → is_text z.content ≡ b → nat_lt z.depth d ≡ true → not b ≡ true
-      solid true i j = no (too-deep d z.depth (sym (ap (nat_le d) (reach-text z i)) ∙ k) j)
-      solid false i j = refl
+      solid : (b : Bool) → has_list z.content ≡ b → nat_lt z.depth d ≡ true → b ≡ true
+      solid false i j = too-deep d z.depth (sym (ap (nat_le d) (reach-none z i)) ∙ k) j
+      solid true i j = refl
 
       by : (b : Bool) → nat_lt z.depth d ≡ b → AreParents (still_above d zs) → AreParents (cond b (z ∷ zs) (still_above d zs))
-      by true j i = (e, solid (is_text z.content) refl j, h)
+      by true j i = (e, solid (has_list z.content) refl j, h)
       by false j i = i
 
   closed-by : (stay : List Node) → AreParents stay → (n : ℕ) (ns : List ℕ) → numbers stay ≡ n ∷ ns → option_map (λ (z : Visit). z.above) (found n (untexted all)) ≡ Some ns
@@ -106,8 +117,24 @@ module _ (all : List Visit) (apart : are_apart (numbers_of all) ≡ true) where
       let first : z.number ≡ n = cc e in
       let rest : numbers zs ≡ ns = cc e in
       ap (λ m. option_map (λ (z : Visit). z.above) (found m (untexted all))) (sym first)
-      ∙ ap (option_map (λ (z : Visit). z.above)) (found-in (λ (y : Visit). not (is_text y.content)) z.number all (entry z zs) apart h.0 h.1)
+      ∙ ap (option_map (λ (z : Visit). z.above)) (found-in (λ (y : Visit). not (is_text y.content)) z.number all (entry z zs) apart h.0 (list-solid z.content h.1))
       ∙ ap Some rest
+
+  parent-by : (stay : List Node) → AreParents stay → (n : ℕ) (ns : List ℕ) (z : Visit) → numbers stay ≡ n ∷ ns → found n all ≡ Some z → has_list z.content ≡ true
+  parent-by [] h n ns z e i = cc e
+  parent-by (y ∷ ys) h n ns z e i =
+      let first : y.number ≡ n = cc e in
+      let same : entry y ys ≡ z = some-same (sym h.0 ∙ ap (λ m. found m all) first ∙ i) in
+      ap (λ (v : Visit). has_list v.content) (sym same) ∙ h.1
+
+  parents-from : (stack xs : List Node) (most : ℕ) → Ready stack most → are_depths_from most xs ≡ true → Each (λ v. found v.number all ≡ Some v) (visits_from stack xs) → Each (ParentIn all) (visits_from stack xs)
+  parents-from stack [] most r h e = tt
+  parents-from stack (x ∷ xs) most r h e =
+      let parts = and-true (nat_le x.depth most) (are_depths_from (reach x) xs) h in
+      let stay : AreParents (still_above x.depth stack) = r x.depth parts.0 in (
+        parent-by (still_above x.depth stack) stay,
+        parents-from (x ∷ still_above x.depth stack) xs (reach x) (ready-next x (still_above x.depth stack) e.0 stay) parts.1 e.1,
+      )
 
   closed-from : (stack xs : List Node) (most : ℕ) → Ready stack most → are_depths_from most xs ≡ true → Each (λ v. found v.number all ≡ Some v) (visits_from stack xs) → Each (ClosedIn (untexted all)) (visits_from stack xs)
   closed-from stack [] most r h e = tt
@@ -150,10 +177,27 @@ closed-erased all e k n ns x h i = by (found k all) refl (sym (found-erased k al
         ∙ above-erased (found n (untexted all))
         ∙ each-found (ClosedIn (untexted all)) k all y e j n ns (ap (λ (z : Visit). z.above) (some-same l) ∙ i)
 
+list-erased : (c : Content) → has_list (without_text c) ≡ has_list c
+list-erased content.Root = refl
+list-erased (content.Element name) = refl
+list-erased (content.Attribute name text) = refl
+list-erased (content.Text text) = refl
+
+pub parents-erased : (all : List Visit) → Each (ParentIn all) all → (k n : ℕ) (ns : List ℕ) (x z : Visit) → found k (map erased all) ≡ Some x → x.above ≡ n ∷ ns → found n (map erased all) ≡ Some z → has_list z.content ≡ true
+parents-erased all e k n ns x z h i j = by (found k all) (found n all) refl refl (sym (found-erased k all) ∙ h) (sym (found-erased n all) ∙ j)
+  where
+    by : (m m' : Option Visit) → found k all ≡ m → found n all ≡ m' → option_map erased m ≡ Some x → option_map erased m' ≡ Some z → has_list z.content ≡ true
+    by None m' a b l r = none-some l
+    by (Some y) None a b l r = none-some r
+    by (Some y) (Some v) a b l r =
+        ap (λ (q : Visit). has_list q.content) (sym (some-same r)) ∙ list-erased v.content
+        ∙ each-found (ParentIn all) k all y e a n ns v (ap (λ (q : Visit). q.above) (some-same l) ∙ i) b
+
 pub forest-visits : (forest : Forest) → IsForest forest → AreVisits (map erased (visits forest.nodes))
 forest-visits forest sound =
     let apart : are_apart (numbers_of (visits forest.nodes)) ≡ true = visits-different forest sound in
     record {
       apart = ap are_apart (map-map (λ (x : Visit). x.number) erased (visits forest.nodes)) ∙ apart;
       closed = closed-erased (visits forest.nodes) (closed-from (visits forest.nodes) apart [] forest.nodes 0 (λ d h. tt) sound.depths (self-found (visits forest.nodes) apart));
+      parents = parents-erased (visits forest.nodes) (parents-from (visits forest.nodes) apart [] forest.nodes 0 (λ d h. tt) sound.depths (self-found (visits forest.nodes) apart));
     }

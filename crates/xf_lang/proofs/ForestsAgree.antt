@@ -1,10 +1,11 @@
 -- Two forests that agree on what an expression reads and looks at, as it is told over the shape of the first, give it one value and one
 -- text. This is what recalculating only what a change can reach rests on.
-use Rattle.std.proofs.Common.{◌≡◌, ℕ, Bool, true, List, map, Option, Some, None, sym, ap, ◌∙◌, subst}
+use Rattle.std.proofs.Common.{◌≡◌, ℕ, ◌==◌, Bool, true, false, List, map, Option, Some, None, sym, ap, ◌∙◌, subst}
 use Rattle.std.specs.Prelude.{filter}
 use Rattle.xf_ast.specs.declared.expr.Expr.{Expr}
 use Rattle.xf_doc.specs.Forest.{Forest}
-use Rattle.xf_doc.specs.Visit.{Visit, visits, has, is_first}
+use Rattle.xf_ast.specs.declared.expr.Start.TheVariants.{Root}
+use Rattle.xf_doc.specs.Visit.{Visit, visits, has, is_first, top_of}
 use Rattle.xf_doc.specs.StringValue.{string_value}
 use Rattle.xf_doc.specs.Shape.{erased, shape_of}
 use Rattle.xf_doc.specs.WellFormed.{IsForest}
@@ -21,8 +22,10 @@ use Rattle.xf_lang.specs.Asked.{Asked, found, converted}
 use Rattle.xf_lang.specs.Reads.{trace, shape_setting}
 use Rattle.xf_lang.specs.Agree.{numbers_of, untexted, AreVisits, HaveOneFrame, AgreeOnLists, AgreeOnStrings}
 use Rattle.xf_lang.specs.Exact.{facts_of}
+use Rattle.xf_lang.proofs.VisitFacts.{or-left, self-same, present}
+use Rattle.xf_lang.proofs.AgreeLaw.{begun-agrees}
 use Rattle.xf_lang.proofs.AxisAgree.{Frame}
-use Rattle.xf_lang.proofs.UntextedLaws.{bare-apart, bare-closed, itself}
+use Rattle.xf_lang.proofs.UntextedLaws.{bare-apart, bare-closed, itself, solid-found}
 use Rattle.xf_lang.proofs.Comparison.{Comparison, Solid}
 use Rattle.xf_lang.proofs.ValueAgree.{Premise}
 use Rattle.xf_lang.proofs.AgreeCalls.{Standing}
@@ -77,7 +80,7 @@ module _ (functions : Functions) (most : Option ℕ) (given : Given) (first seco
     closed = bare-closed (bare first) first_visits;
     closed_too = bare-closed (bare second) second_visits;
     order = h.frame.order;
-    contents = h.frame.contents;
+    contents = λ n x y a b. h.frame.contents n x y (solid-found (bare first) first_visits n x a).0 (solid-found (bare second) second_visits n y b).0;
   }
 
   abbrev comparison : Comparison
@@ -110,6 +113,12 @@ module _ (functions : Functions) (most : Option ℕ) (given : Given) (first seco
     };
     strings = r;
   }
+
+  -- the top of the tree of a node that is in both stands in the shape
+  pub top-stands : (n : ℕ) → InBoth first second n → has (top_of n shaped) (numbers_of shaped) ≡ true
+  top-stands n x =
+      let top = (begun-agrees comparison Root (record { node = n; position = 1; size = 1 }) (solid n x)).solid (top_of n shaped) (or-left (top_of n shaped == top_of n shaped) false (self-same (top_of n shaped))) in
+      present (top_of n shaped) shaped top.visit (solid-found shaped (shape-visits first h.is_first h.below) (top_of n shaped) top.visit top.in_shape).0
 
   abbrev over : Forest → Setting
   over forest = setting_over functions most given (visits forest.nodes) model current

@@ -35,3 +35,5 @@ pub mod AgreeCases
 pub mod ForestVisits
 pub mod ShapeVisits
 pub mod ForestsAgree
+pub mod LooksStand
+pub mod ReadsAgree

@@ -12,9 +12,9 @@ use Rattle.xf_doc.specs.Shape.{Texts, text_number, text_visit, given_visits, vis
 use Rattle.xf_doc.proofs.BackLaws.{and-true, or-false, not-true}
 use Rattle.xf_doc.proofs.OrderLaws.{Sub, filter-sub, map-sub, sub-different}
 use Rattle.xf_doc.proofs.RenumberLaws.{map-map}
-use Rattle.xf_lang.specs.Asked.{found}
+use Rattle.xf_lang.specs.Asked.{has_list, found}
 use Rattle.xf_lang.specs.Agree.{numbers_of, are_apart, untexted, AreVisits}
-use Rattle.xf_lang.proofs.VisitFacts.{no, some-same, none-some, self-same, or-cases, or-left, or-right, filter-append, filter-within, found-in}
+use Rattle.xf_lang.proofs.VisitFacts.{no, some-same, none-some, self-same, or-cases, or-left, or-right, filter-append, filter-within, found-in, found-out}
 use Rattle.xf_lang.proofs.SameKept.{has-append}
 use Rattle.xf_lang.proofs.AxisAgree.{has-sub}
 use Rattle.xf_lang.proofs.ForestVisits.{Each, each-map, each-filter, each-found, self-found, ClosedIn, untexted-erased, found-erased, forest-visits}
@@ -113,7 +113,7 @@ both-hold true b h i = i
 both-hold false b h i = h
 
 -- what waits: nothing, or one text of this node
-abbrev Waits : ℕ → List Visit → Type 0
+abbrev pub Waits : ℕ → List Visit → Type 0
 Waits m [] = ⊤
 Waits m (v ∷ vs) = (v.number ≡ text_number m) × (vs ≡ [])
 
@@ -124,7 +124,7 @@ waits-has m k (v ∷ vs) h i = elim (or-cases (k == v.number) (has k (numbers_of
 
 module _ (g : Visit → List Visit) (given : (x : Visit) → Waits x.number (g x)) where
   -- where a number of the filled list comes from
-  abbrev Comes : ℕ → List Visit → ℕ → Type 0
+  abbrev pub Comes : ℕ → List Visit → ℕ → Type 0
   Comes k ys m = (has k (numbers_of ys) ≡ true) ⊎ ((k ≡ text_number m) ⊎ ((n : ℕ) × (k ≡ text_number n) × (has n (numbers_of ys) ≡ true)))
 
   later : (k : ℕ) (y : Visit) (ys : List Visit) (m : ℕ) → Comes k ys m → Comes k (y ∷ ys) m
@@ -141,7 +141,7 @@ module _ (g : Visit → List Visit) (given : (x : Visit) → Waits x.number (g x
   numbers-append [] vs = refl
   numbers-append (v ∷ ws) vs = ap (λ l. v.number ∷ l) (numbers-append ws vs)
 
-  comes : (k m : ℕ) (ws ys : List Visit) → Waits m ws → has k (numbers_of (filled g ws ys)) ≡ true → Comes k ys m
+  pub comes : (k m : ℕ) (ws ys : List Visit) → Waits m ws → has k (numbers_of (filled g ws ys)) ≡ true → Comes k ys m
   comes k m ws [] h i = inr (inl (waits-has m k ws h i))
   comes k m ws (y ∷ ys) h i = by (is_borne y) i (comes k m ws ys h) (comes k y.number (g y) ys (given y))
     where
@@ -154,7 +154,7 @@ module _ (g : Visit → List Visit) (given : (x : Visit) → Waits x.number (g x
           [ inl a ↦ inr (inl (waits-has m k ws h a)) | inr b ↦ here (filled g (g y) ys) (λ l. own k y ys m (q l)) b ]
 
   -- numbers of nodes are not those of texts
-  not-text : (k n : ℕ) → nat_lt k (2 ^ 128) ≡ true → k ≡ text_number n → false ≡ true
+  pub not-text : (k n : ℕ) → nat_lt k (2 ^ 128) ≡ true → k ≡ text_number n → false ≡ true
   not-text k n h e = sym (is-above n) ∙ ap (λ m. nat_lt m (2 ^ 128)) (sym e) ∙ h
 
   filled-apart : (m : ℕ) (ws ys : List Visit) → Waits m ws → has m (numbers_of ys) ≡ false → are_apart (numbers_of ys) ≡ true → AreBelow (numbers_of ys) → are_apart (numbers_of (filled g ws ys)) ≡ true
@@ -215,7 +215,7 @@ one-empty all n texts h = by (has_elements all n) h
     by true i = none-some i
     by false i = sym (some-same i)
 
-shape-waits : (all : List Visit) (x : Visit) → Waits x.number (visits_in (only_text all) x)
+pub shape-waits : (all : List Visit) (x : Visit) → Waits x.number (visits_in (only_text all) x)
 shape-waits all x = by (is_element x.content)
   where
     by : (b : Bool) → Waits x.number (cond b (given_visits x (only_text all x.number)) [])
@@ -274,6 +274,66 @@ module _ (all : List Visit) (v : AreVisits all) where
       (each-map (λ y. found y.number all ≡ Some y) (λ y. ClosedIn (untexted all) y × Each (ClosedIn (untexted all)) (visits_in texts y)) all
       (λ y e. (λ n ns i. v.closed y.number n ns y e i, given-closed texts y e)) (self-found all v.apart)))
 
+-- ---- parents have lists in the shape, too
+
+element-list : (c : Content) → is_element c ≡ true → has_list c ≡ true
+element-list content.Root h = refl
+element-list (content.Element name) h = refl
+element-list (content.Attribute name text) h = no h
+element-list (content.Text text) h = no h
+
+-- the parent of each node stands in the forest and has a list there
+abbrev Hangs : List Visit → Visit → Type 0
+Hangs all v = (n : ℕ) (ns : List ℕ) → v.above ≡ n ∷ ns → (z : Visit) × (found n (untexted all) ≡ Some z) × (has_list z.content ≡ true)
+
+opened : (m : Option Visit) (ns : List ℕ) → option_map (λ (z : Visit). z.above) m ≡ Some ns → (z : Visit) × (m ≡ Some z)
+opened None ns h = none-some h
+opened (Some z) ns h = (z, refl)
+
+module _ (all : List Visit) (v : AreVisits all) where
+  own-hangs : (y : Visit) → found y.number all ≡ Some y → Hangs all y
+  own-hangs y e n ns i =
+      let z = opened (found n (untexted all)) ns (v.closed y.number n ns y e i) in
+      (z.0, z.1, v.parents y.number n ns y z.0 e i (found-out (λ (q : Visit). not (is_text q.content)) n all z.0 v.apart z.1).0)
+
+  texts-hang : (y : Visit) → found y.number all ≡ Some y → is_element y.content ≡ true → (texts : List (List ℕ)) → Each (Hangs all) (map (text_visit y) texts)
+  texts-hang y e h [] = tt
+  texts-hang y e h (text ∷ texts) = (here, texts-hang y e h texts)
+    where
+      here : Hangs all (text_visit y text)
+      here n ns i =
+          let first : y.number ≡ n = cc i in
+          (y, ap (λ m. found m (untexted all)) (sym first) ∙ found-in (λ (z : Visit). not (is_text z.content)) y.number all y v.apart e (element-solid y.content h), element-list y.content h)
+
+  given-hang : (texts : Texts) (y : Visit) → found y.number all ≡ Some y → Each (Hangs all) (visits_in texts y)
+  given-hang texts y e = by (is_element y.content) refl
+    where
+      of : is_element y.content ≡ true → (m : Option (List (List ℕ))) → Each (Hangs all) (given_visits y m)
+      of h None = tt
+      of h (Some ts) = texts-hang y e h ts
+
+      by : (b : Bool) → is_element y.content ≡ b → Each (Hangs all) (cond b (given_visits y (texts y.number)) [])
+      by true h = of h (texts y.number)
+      by false h = tt
+
+  retexted-hang : (texts : Texts) → Each (Hangs all) (retexted texts all)
+  retexted-hang texts =
+      filled-each (Hangs all) (visits_in texts) [] (filter (λ x. not (is_gone texts x)) all) tt
+      (each-filter (λ y. Hangs all y × Each (Hangs all) (visits_in texts y)) (λ x. not (is_gone texts x)) all
+      (each-map (λ y. found y.number all ≡ Some y) (λ y. Hangs all y × Each (Hangs all) (visits_in texts y)) all
+      (λ y e. (own-hangs y e, given-hang texts y e)) (self-found all v.apart)))
+
+-- of a shape whose nodes without texts are those of the forest
+hanging-parents : (xs all : List Visit) → are_apart (numbers_of (map erased xs)) ≡ true → untexted (map erased xs) ≡ untexted all → Each (Hangs all) xs → (k n : ℕ) (ns : List ℕ) (x z : Visit) → found k (map erased xs) ≡ Some x → x.above ≡ n ∷ ns → found n (map erased xs) ≡ Some z → has_list z.content ≡ true
+hanging-parents xs all apart same e k n ns x z h i j = by (found k xs) refl (sym (found-erased k xs) ∙ h)
+  where
+    by : (m : Option Visit) → found k xs ≡ m → option_map erased m ≡ Some x → has_list z.content ≡ true
+    by None a l = none-some l
+    by (Some y) a l =
+        let p = each-found (Hangs all) k xs y e a n ns (ap (λ (q : Visit). q.above) (some-same l) ∙ i) in
+        let here : found n (map erased xs) ≡ Some p.0 = (found-out (λ (q : Visit). not (is_text q.content)) n (map erased xs) p.0 apart (ap (found n) same ∙ p.1)).0 in
+        ap (λ (q : Visit). has_list q.content) (some-same (sym j ∙ here)) ∙ p.2
+
 limit : nat_lt (2 ^ 128) (2 ^ 128) ≡ true → false ≡ true
 limit h = grind (arith, nat_tests, h)
 
@@ -297,7 +357,9 @@ shape-visits forest sound below =
     filled-apart (visits_in texts) (shape-waits (visits forest.nodes)) (2 ^ 128) [] kept tt
     (not-has (has (2 ^ 128) (numbers_of kept)) (λ h. limit (below (2 ^ 128) (ap (has (2 ^ 128)) (sym same) ∙ has-sub (2 ^ 128) part h))))
     (sub-different part v.apart) (λ k h. below k (ap (has k) (sym same) ∙ has-sub k part h)) in
+    let apart_too : are_apart (numbers_of (map erased (shape_of forest.nodes))) ≡ true = ap are_apart (map-map (λ (x : Visit). x.number) erased (shape_of forest.nodes)) ∙ apart in
     record {
-      apart = ap are_apart (map-map (λ (x : Visit). x.number) erased (shape_of forest.nodes)) ∙ apart;
+      apart = apart_too;
+      parents = hanging-parents (shape_of forest.nodes) real apart_too (shape-untexted (visits forest.nodes)) (retexted-hang real v texts);
       closed = closed-erased-in (shape_of forest.nodes) (untexted real) (shape-untexted (visits forest.nodes)) (retexted-closed real v texts);
     }

@@ -1,10 +1,10 @@
 -- Values over two forests that agree on what is read and looked at: conversions, comparisons, operators.
-use Rattle.std.proofs.Common.{◌≡◌, ℕ, ◌==◌, Bool, true, false, List, [], ◌∷◌, ◌++◌, map, Option, Some, option_map, refl, sym, ap, ◌∙◌, inl, inr}
+use Rattle.std.proofs.Common.{◌≡◌, ℕ, ◌==◌, Bool, true, false, not, cond, List, [], ◌∷◌, ◌++◌, map, Option, Some, option_map, unwrap_or, refl, sym, ap, ◌∙◌, inl, inr}
 use Rattle.std.specs.Prelude.{⊤, option_and_then}
 use Rattle.std.specs.List.{flat_map}
 use Rattle.xf_ast.specs.declared.expr.Operator.{Operator}
-use Rattle.xf_doc.specs.Forest.{name_in}
-use Rattle.xf_doc.specs.Visit.{Visit, has}
+use Rattle.xf_doc.specs.Forest.{name_in, is_text}
+use Rattle.xf_doc.specs.Visit.{Visit, has, first_of}
 use Rattle.xf_lang.specs.declared.value.Value.{Value}
 use Rattle.xf_lang.specs.declared.value.Value.TheVariants.{Nodes, Text, Number, Truth}
 use Rattle.xf_lang.specs.Plain.{Plain, Decimal, text_in}
@@ -14,10 +14,10 @@ use Rattle.xf_lang.specs.Conversions.{nodes_of, string_of_node, strings_of, firs
 use Rattle.xf_lang.specs.Comparisons.{plains_of, some_pair, holds, pairs_hold, compared}
 use Rattle.xf_lang.specs.Operators.{computed, united}
 use Rattle.xf_lang.specs.Functions.{first_name}
-use Rattle.xf_lang.specs.Asked.{Asked, read_for, both, with_read, all_read, first_node, asked_first, converted}
+use Rattle.xf_lang.specs.Asked.{Asked, reader_of, read_for, both, with_read, all_read, first_node, asked_first, converted}
 use Rattle.xf_lang.specs.AskedCalls.{beside, asked_by_both, computed as asked_computed, either}
-use Rattle.xf_lang.specs.Agree.{AgreeOnStrings}
-use Rattle.xf_lang.proofs.VisitFacts.{self-same, or-left, or-right, no}
+use Rattle.xf_lang.specs.Agree.{AgreeOnStrings, untexted}
+use Rattle.xf_lang.proofs.VisitFacts.{self-same, or-left, or-right, or-cases, no, present, found-number}
 use Rattle.xf_lang.proofs.SameKept.{has-left, has-right, has-append}
 use Rattle.xf_lang.proofs.UntextedLaws.{solid-found}
 use Rattle.xf_lang.proofs.Comparison.{Comparison, other, over_shape, Solid, AllSolid, Agree, Within, agree-less, first-order, second-order, order-solid}
@@ -34,7 +34,7 @@ module _ (w : Comparison) where
   ReadOn reads = AgreeOnStrings reads w.shape w.setting.strings w.strings
 
   pub read-less : (ns ms : List ℕ) → Within ns ms → ReadOn ms → ReadOn ns
-  read-less ns ms h r n k = r n (λ m i. h m (k m i))
+  read-less ns ms h r n i k = r n i (h n k)
 
 pub record Premise (w : Comparison) (a : Asked) : Type 0 where
   pub lists : Agree w a.looks
@@ -81,14 +81,32 @@ module _ (w : Comparison) where
   pub in-all_read : (a : Asked) → Premise w (all_read u a) → Premise w a
   in-all_read a p = less w a (all_read u a) (λ n h. has-left n a.reads _ h) (λ n h. has-left n a.looks _ h) p
 
-  read-strings : (a : Asked) (ns : List ℕ) → Premise w (with_read w.shape ns a) → StringsOn ns
-  read-strings a ns p n h = p.strings n (λ m i. has-right m a.reads (flat_map (read_for w.shape) ns) (flat-within (read_for w.shape) n ns h m i))
+  -- a node that is no text is read itself
+  own-read : (n : ℕ) → Solid w n → has n (read_for w.shape n) ≡ true
+  own-read n x =
+      let whole = solid-found w.shape w.shape_visits n x.visit x.in_shape in
+      ap (λ m. has n (reader_of m)) whole.0 ∙ by (is_text x.visit.content) whole.1
+    where
+      by : (b : Bool) → not b ≡ true → has n (cond b (unwrap_or (first_of x.visit.above) x.visit.number) x.visit.number ∷ []) ≡ true
+      by true i = no i
+      by false i = or-left (n == x.visit.number) false (ap (λ m. n == m) (found-number n (untexted w.shape) x.visit x.in_shape) ∙ self-same n)
 
-  pub strings-first : (a : Asked) → a.is_loose ≡ false → Premise w (converted u a) → StringsOn (first_node a.set)
-  strings-first a e p n h = read-strings a (asked_first a.is_loose a.set) p n (ap (λ b. has n (asked_first b a.set)) e ∙ h)
+  read-strings : (a : Asked) (ns : List ℕ) → AllSolid w ns → Premise w (with_read w.shape ns a) → StringsOn ns
+  read-strings a ns solid p n h =
+      let x : Solid w n = solid n h in
+      p.strings n (present n w.shape x.visit (solid-found w.shape w.shape_visits n x.visit x.in_shape).0)
+      (has-right n a.reads (flat_map (read_for w.shape) ns) (flat-within (read_for w.shape) n ns h n (own-read n x)))
 
-  pub strings-all : (a : Asked) → Premise w (all_read u a) → StringsOn a.set
-  strings-all a p = read-strings a a.set p
+  first-part : (b : Bool) (ns : List ℕ) → AllSolid w ns → AllSolid w (asked_first b ns)
+  first-part true ns h = h
+  first-part false [] h = none-solid w
+  first-part false (n ∷ ns) h = λ k i. elim (or-cases (k == n) false i) [ inl a ↦ h k (or-left (k == n) (has k ns) a) | inr b ↦ no b ]
+
+  pub strings-first : (a : Asked) → a.is_loose ≡ false → AllSolid w a.set → Premise w (converted u a) → StringsOn (first_node a.set)
+  strings-first a e solid p n h = read-strings a (asked_first a.is_loose a.set) (first-part a.is_loose a.set solid) p n (ap (λ b. has n (asked_first b a.set)) e ∙ h)
+
+  pub strings-all : (a : Asked) → AllSolid w a.set → Premise w (all_read u a) → StringsOn a.set
+  strings-all a solid p = read-strings a a.set solid p
 
   -- ---- conversions
 
@@ -124,7 +142,7 @@ module _ (w : Comparison) where
   pub made : {A : Type 0} (k k' : Value → Option A) → ((v : Value) → StringsOn (first_node (nodes_of v)) → k' v ≡ k v) →
       (a : Asked) (m m' : Option Value) → Agreed w a m m' → Premise w (converted u a) → Gives (λ (x : A). ⊤) (m >>= k) (m' >>= k')
   made k k' same a m m' h p =
-      gives-then k k' h.given (λ v f. gives-equal (k v) (k' v) (same v (λ n i. strings-first a h.tight p n (ap (λ ns. has n (first_node ns)) (sym f.0) ∙ i))))
+      gives-then k k' h.given (λ v f. gives-equal (k v) (k' v) (same v (λ n i. strings-first a h.tight f.2 p n (ap (λ ns. has n (first_node ns)) (sym f.0) ∙ i))))
 
   -- ---- comparisons
 
@@ -181,9 +199,9 @@ module _ (w : Comparison) where
   in-beside true a p = p
   in-beside false a p = in-all_read a p
 
-  strings-beside : (b : Bool) (a : Asked) → Premise w (beside u b a) → b ≡ false → StringsOn a.set
-  strings-beside true a p e = no (sym e)
-  strings-beside false a p e = strings-all a p
+  strings-beside : (b : Bool) (a : Asked) → AllSolid w a.set → Premise w (beside u b a) → b ≡ false → StringsOn a.set
+  strings-beside true a solid p e = no (sym e)
+  strings-beside false a solid p e = strings-all a solid p
 
   -- ---- operators on two values
 
@@ -196,17 +214,17 @@ module _ (w : Comparison) where
     judged o x fits_too p =
         let sides : Premise w (both (beside u b.is_truth a) (beside u a.is_truth b)) = record { lists = p.lists; strings = p.strings } in
         let same : compared t o v x ≡ compared s o v x = compared-same o v x a.is_truth b.is_truth
-        (λ e n h. strings-beside b.is_truth a (left-both w (beside u b.is_truth a) (beside u a.is_truth b) sides) e n (ap (has n) (sym fits.0) ∙ h))
-        (λ e n h. strings-beside a.is_truth b (right-both w (beside u b.is_truth a) (beside u a.is_truth b) sides) e n (ap (has n) (sym fits_too.0) ∙ h))
+        (λ e n h. strings-beside b.is_truth a fits.2 (left-both w (beside u b.is_truth a) (beside u a.is_truth b) sides) e n (ap (has n) (sym fits.0) ∙ h))
+        (λ e n h. strings-beside a.is_truth b fits_too.2 (right-both w (beside u b.is_truth a) (beside u a.is_truth b) sides) e n (ap (has n) (sym fits_too.0) ∙ h))
         fits.1 fits_too.1 in
         gives-map Truth (gives-equal (compared s o v x) (compared t o v x) same) (λ c e. (refl, λ i. (c, refl), none-solid w))
 
     pub calculated : (operation : Decimal → Decimal → Decimal) (x : Value) → Fits w b x → b.is_loose ≡ false → Premise w (asked_computed u a b) → Gives (Fits w (asked_computed u a b)) (computed s operation v x) (computed t operation v x)
     calculated operation x fits_too tight_too p =
         gives-then (λ j. number_of s x >>= λ k. Some (Number (operation j k))) (λ j. number_of t x >>= λ k. Some (Number (operation j k)))
-        (gives-equal (number_of s v) (number_of t v) (number-same v (λ n h. strings-first a tight (left-both w (converted u a) (converted u b) p) n (ap (λ ns. has n (first_node ns)) (sym fits.0) ∙ h)))) (λ j e.
+        (gives-equal (number_of s v) (number_of t v) (number-same v (λ n h. strings-first a tight fits.2 (left-both w (converted u a) (converted u b) p) n (ap (λ ns. has n (first_node ns)) (sym fits.0) ∙ h)))) (λ j e.
         gives-then (λ k. Some (Number (operation j k))) (λ k. Some (Number (operation j k)))
-        (gives-equal (number_of s x) (number_of t x) (number-same x (λ n h. strings-first b tight_too (right-both w (converted u a) (converted u b) p) n (ap (λ ns. has n (first_node ns)) (sym fits_too.0) ∙ h)))) (λ k i.
+        (gives-equal (number_of s x) (number_of t x) (number-same x (λ n h. strings-first b tight_too fits_too.2 (right-both w (converted u a) (converted u b) p) n (ap (λ ns. has n (first_node ns)) (sym fits_too.0) ∙ h)))) (λ k i.
         gives (refl, λ j. no j, none-solid w)))
 
     joined-solid : AllSolid w b.set → AllSolid w (a.set ++ b.set)

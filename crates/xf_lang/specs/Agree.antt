@@ -2,7 +2,7 @@
 use Rattle.std.specs.Prelude.{ℕ, ◌≡◌, Bool, true, not, ◌&&◌, List, [], ◌∷◌, map, filter, Some, option_map}
 use Rattle.xf_doc.specs.Forest.{is_text}
 use Rattle.xf_doc.specs.Visit.{Visit, has, is_first}
-use Rattle.xf_lang.specs.Asked.{found, read_for}
+use Rattle.xf_lang.specs.Asked.{has_list, found}
 
 -- ---- visits of a forest, and where two agree
 
@@ -21,23 +21,21 @@ untexted all = filter (λ y. not (is_text y.content)) all
 abbrev pub list_of : List Visit → ℕ → List Visit
 list_of all n = filter (λ y. is_first n y.above) (untexted all)
 
--- what the visits of a forest keep: their numbers differ, and above each node stands its parent, which is no text
+-- what the visits of a forest keep: their numbers differ, above each node stands its parent, which is no text, and parents have lists
 pub record AreVisits (all : List Visit) : Type 0 where
   pub apart : are_apart (numbers_of all) ≡ true
   pub closed : (k n : ℕ) (ns : List ℕ) (x : Visit) → found k all ≡ Some x → x.above ≡ n ∷ ns → option_map (λ z. z.above) (found n (untexted all)) ≡ Some ns
+  pub parents : (k n : ℕ) (ns : List ℕ) (x z : Visit) → found k all ≡ Some x → x.above ≡ n ∷ ns → found n all ≡ Some z → has_list z.content ≡ true
 
--- nodes that stand in both keep their order and what they are
+-- nodes that stand in both are what they are, and those that are no texts keep their order
 pub record HaveOneFrame (first second : List Visit) : Type 0 where
   pub order : filter (λ n. has n (numbers_of (untexted second))) (numbers_of (untexted first)) ≡ filter (λ n. has n (numbers_of (untexted first))) (numbers_of (untexted second))
-  pub contents : (n : ℕ) (x y : Visit) → found n (untexted first) ≡ Some x → found n (untexted second) ≡ Some y → x.content ≡ y.content
+  pub contents : (n : ℕ) (x y : Visit) → found n first ≡ Some x → found n second ≡ Some y → x.content ≡ y.content
 
 -- the lists that are looked at are the same
 abbrev pub AgreeOnLists : List ℕ → List Visit → List Visit → Type 0
 AgreeOnLists looks first second = (n : ℕ) → has n looks ≡ true → list_of first n ≡ list_of second n
 
-abbrev pub AreWithin : List ℕ → List ℕ → Type 0
-AreWithin ns ms = (n : ℕ) → has n ns ≡ true → has n ms ≡ true
-
--- the string values that are read are the same
+-- the string values of the nodes that are read are the same; of these the nodes of a list count
 abbrev pub AgreeOnStrings : List ℕ → List Visit → (ℕ → List ℕ) → (ℕ → List ℕ) → Type 0
-AgreeOnStrings reads all first second = (n : ℕ) → AreWithin (read_for all n) reads → first n ≡ second n
+AgreeOnStrings reads all first second = (n : ℕ) → has n (numbers_of all) ≡ true → has n reads ≡ true → first n ≡ second n

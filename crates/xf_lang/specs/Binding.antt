@@ -1,4 +1,5 @@
--- What a binding selects (XForms 1.1, section 4.7): a text stands for its parent, and a root for its document element.
+-- What a binding selects (XForms 1.1, sections 3.2.3 and 3.2.4): in this processor a text stands for its parent, and a root for its document
+-- element.
 use Rattle.std.specs.Prelude.{ℕ, List, [], ◌∷◌, find, Option, Some, None, ◌==◌}
 use Rattle.std.specs.List.{flat_map}
 use Rattle.xf_doc.specs.declared.content.Content.{Content}

@@ -86,7 +86,7 @@ abbrev pub namespace_of : Bindings → Option Name → List ℕ
 namespace_of bindings None = []
 namespace_of bindings (Some name) = unwrap_or (text_of_space bindings name.meaning.space) []
 
--- ---- functions of what surrounds the expression (XForms 1.1, sections 7.9 to 7.11)
+-- ---- functions of what surrounds the expression (XForms 1.1, sections 7.7, 7.10 and 7.11)
 
 -- the node, or the empty set
 abbrev pub set_of : Option ℕ → Value
@@ -102,7 +102,7 @@ abbrev pub instance_id : List Meaning → Setting → Focus → Option (List ℕ
 instance_id [] s c = Some []
 instance_id (m ∷ ms) s c = m s c >>= string_of s
 
--- ---- branches (XForms 1.1, sections 7.6 and 7.11): the other one is not evaluated
+-- ---- branches (XForms 1.1, sections 7.8 and 7.11): the other one is not evaluated
 
 abbrev pub branch : Bool → List Meaning → Meaning
 branch true arguments = argument 1 arguments

@@ -30,7 +30,7 @@ first_document model documents = option_map (λ d. d.element) (find (λ d. d.mod
 abbrev pub document_named : ℕ → List ℕ → List Document → Option ℕ
 document_named model id documents = option_map (λ d. d.element) (find (λ d. (d.model == model) && bytes_eq d.id id) documents)
 
--- the empty text names the first (section 7.11.1)
+-- the empty text names the first (section 7.10.1)
 abbrev pub document_of : ℕ → List ℕ → List Document → Option ℕ
 document_of model [] documents = first_document model documents
 document_of model (c ∷ cs) documents = document_named model (c ∷ cs) documents
