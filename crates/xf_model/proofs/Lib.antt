@@ -10,8 +10,10 @@ pub mod CircularLemmas
 pub mod EachLemmas
 pub mod HoldingLaws
 pub mod HoldingStrings
+pub mod HoldingVisits
 pub mod PertinentLaws
 pub mod RankLemmas
+pub mod ReadSolid
 pub mod RenumberApplied
 pub mod RenumberBinds
 pub mod RenumberCircular
