@@ -7,7 +7,7 @@ use Rattle.xf_doc.specs.Forest.{is_text, is_element, is_attribute}
 use Rattle.xf_doc.specs.Visit.{Visit, has, has_parent}
 use Rattle.xf_doc.specs.Shape.{Texts, text_number, text_visit, given_visits, visits_in, is_borne, is_replaced, is_gone, filled, retexted, erased, without_text, as_texts, texts_given, value_given, with_value}
 use Rattle.xf_doc.proofs.OrderLaws.{filter-sub, map-sub, sub-different}
-use Rattle.xf_doc.proofs.RenumberLaws.{map-cond}
+use Rattle.xf_doc.proofs.RenumberLaws.{map-cond, filter-through}
 use Rattle.xf_lang.specs.Asked.{found, has_list}
 use Rattle.xf_lang.specs.Agree.{numbers_of, are_apart, untexted, AreVisits}
 use Rattle.xf_lang.proofs.VisitFacts.{some-same, found-out}
@@ -84,3 +84,65 @@ module _ (contents : Contents) where
   filled-erased : (ws xs : List Visit) → map erased (filled (visits_in (texts_by contents)) ws xs) ≡ filled (visits_in (blanks_by contents)) (map erased ws) (map erased xs)
   filled-erased ws [] = refl
   filled-erased ws (x ∷ xs) = filled-erased_at ws xs x (is_borne x) (ap (λ b. b && has_parent x.above) (attribute-kept x.content)) (filled-erased ws xs) (filled-erased (visits_in (texts_by contents) x) xs)
+
+  value-erased : (all : List Visit) → map erased (map (with_value (content_of contents)) all) ≡ map erased all
+  value-erased [] = refl
+  value-erased (x ∷ xs) =
+      ap (λ (c : Content). record { number = x.number; above = x.above; content = c } ∷ map erased (map (with_value (content_of contents)) xs)) (same (content_of contents x.number) x.content)
+      ∙ ap (λ l. erased x ∷ l) (value-erased xs)
+    where
+      same : (m : Option (List ℕ)) (c : Content) → without_text (value_given m c) ≡ without_text c
+      same None c = refl
+      same (Some text) Root = refl
+      same (Some text) (Element name) = refl
+      same (Some text) (Attribute name old) = refl
+      same (Some text) (Text old) = refl
+
+  pub held-erased : (all : List Visit) → map erased (holding all contents) ≡ retexted (blanks_by contents) (map erased all)
+  held-erased all =
+      filled-erased [] (filter (λ x. not (is_gone (texts_by contents) x)) (map (with_value (content_of contents)) all))
+      ∙ ap (filled (visits_in (blanks_by contents)) [])
+          (sym (filter-through erased (λ x. not (is_gone (blanks_by contents) x)) (λ x. not (is_gone (texts_by contents) x)) (λ x. ap not (gone-same x)) (map (with_value (content_of contents)) all))
+          ∙ ap (filter (λ x. not (is_gone (blanks_by contents) x))) (value-erased all))
+
+  -- ---- at most one text waits
+
+  one-waits : (x : Visit) (m : Option (List ℕ)) → Waits x.number (given_visits x (option_map blank (texts_given m)))
+  one-waits x None = tt
+  one-waits x (Some []) = tt
+  one-waits x (Some (c ∷ cs)) = (refl, refl)
+
+  held-waits : (x : Visit) → Waits x.number (visits_in (blanks_by contents) x)
+  held-waits x = at (is_element x.content)
+    where
+      at : (b : Bool) → Waits x.number (cond b (given_visits x (blanks_by contents x.number)) [])
+      at true = one-waits x (content_of contents x.number)
+      at false = tt
+
+  module _ (bare : List Visit) (v : AreVisits bare) (below : AreBelow (numbers_of bare)) where
+    abbrev new : List Visit
+    new = retexted (blanks_by contents) bare
+
+    new-apart : are_apart (numbers_of new) ≡ true
+    new-apart =
+        let kept : List Visit = filter (λ x. not (is_gone (blanks_by contents) x)) bare in
+        let part = map-sub (λ (x : Visit). x.number) (filter-sub (λ x. not (is_gone (blanks_by contents) x)) bare) in
+        filled-apart (visits_in (blanks_by contents)) held-waits (2 ^ 128) [] kept tt
+        (not-has (has (2 ^ 128) (numbers_of kept)) (λ h. limit (below (2 ^ 128) (has-sub (2 ^ 128) part h))))
+        (sub-different part v.apart) (λ k h. below k (has-sub k part h))
+
+    same : untexted new ≡ untexted bare
+    same = retexted-untexted (blanks_by contents) bare
+
+    new-visits : AreVisits new
+    new-visits = record {
+      apart = new-apart;
+      closed = λ k n ns x e i. ap (λ ys. option_map (λ (z : Visit). z.above) (found n ys)) same ∙ each-found _ k new x (retexted-closed bare v (blanks_by contents)) e n ns i;
+      parents = λ k n ns x z e i j.
+          let hung = each-found (Hangs bare) k new x (retexted-hang bare v (blanks_by contents)) e n ns i in
+          let there = (found-out (λ (q : Visit). not (is_text q.content)) n new hung.0 new-apart (ap (found n) same ∙ hung.1)).0 in
+          ap (λ (q : Visit). has_list q.content) (some-same (sym j ∙ there)) ∙ hung.2;
+    }
+
+pub held-visits : (all : List Visit) → AreVisits (map erased all) → AreBelow (numbers_of (map erased all)) → (contents : Contents) → AreVisits (map erased (holding all contents))
+held-visits all v below contents = subst AreVisits (sym (held-erased contents all)) (new-visits contents (map erased all) v below)
