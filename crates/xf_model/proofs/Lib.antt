@@ -6,6 +6,7 @@ pub mod PertinentExamples
 pub mod ShapeCorollaries
 pub mod SubmittedExamples
 pub mod PlaceExamples
+pub mod AgreeLaws
 pub mod CircularLemmas
 pub mod EachLemmas
 pub mod HoldingLaws

@@ -1,0 +1,148 @@
+-- The agreement law for calculates: where data hold the same contents at the nodes that a calculate reads and below them, it gives one text.
+-- So where no cycle stands, the settled contents are the only ones that stand: for calculates whose expressions the law of xf_lang covers.
+use Rattle.std.proofs.Common.{◌≡◌, ℕ, suc, ◌==◌, ◌^◌, Bool, true, false, not, cond, ◌||◌, List, [], ◌∷◌, ◌++◌, map, find, nat_lt, Option, Some, None, option_map, refl, sym, ap, ◌∙◌, subst, inl, inr, arith}
+use Rattle.std.specs.Prelude.{filter}
+use Rattle.std.specs.List.{list_any}
+use Rattle.std.proofs.lemmas.Bool.{cases_Bool, eqb-true, eq-eqb, or_cases, or_left, or_right, false≢true}
+use Rattle.xf_ast.specs.declared.expr.Expr.{Expr}
+use Rattle.xf_doc.specs.Forest.{Forest, is_text}
+use Rattle.xf_doc.specs.Visit.{Visit, visits, has, is_first, ancestors_of, above_in}
+use Rattle.xf_doc.specs.StringValue.{string_value}
+use Rattle.xf_doc.specs.Shape.{text_number, is_replaced, erased, shape, shape_of, texts_given}
+use Rattle.xf_doc.specs.WellFormed.{IsForest}
+use Rattle.xf_lang.specs.Given.{Given, document_of}
+use Rattle.xf_lang.specs.Plain.{Plain, Functions}
+use Rattle.xf_lang.specs.Plain as plain
+use Rattle.xf_lang.specs.Setting.{Setting, Focus, ◌>>=◌}
+use Rattle.xf_lang.specs.Conversions.{nodes_of, string_of}
+use Rattle.xf_lang.specs.Functions.{set_of}
+use Rattle.xf_lang.specs.Table.{function_at}
+use Rattle.xf_lang.specs.Table as of
+use Rattle.xf_lang.specs.Meaning.{meaning}
+use Rattle.xf_lang.specs.Asked.{Asked, found, converted}
+use Rattle.xf_lang.specs.Reads.{trace, reads_in}
+use Rattle.xf_lang.specs.Agree.{numbers_of, are_apart, untexted, AreVisits}
+use Rattle.xf_lang.specs.Exact.{facts_of}
+use Rattle.xf_lang.proofs.VisitFacts.{found-number, present}
+use Rattle.xf_lang.proofs.AxisAgree.{Frame}
+use Rattle.xf_lang.proofs.UntextedLaws.{itself, solid-found}
+use Rattle.xf_lang.proofs.Comparison.{Comparison, Solid, over_shape}
+use Rattle.xf_lang.proofs.ValueAgree.{Premise}
+use Rattle.xf_lang.proofs.AgreeCalls.{Standing}
+use Rattle.xf_lang.proofs.Agreement.{text-agrees}
+use Rattle.xf_lang.proofs.TraceKeeps.{meaning-of_trace}
+use Rattle.xf_lang.proofs.ReadsAgree.{in-order_has}
+use Rattle.xf_lang.proofs.ForestVisits.{forest-visits}
+use Rattle.xf_lang.proofs.ShapeVisits.{AreBelow, shape-untexted, shape-visits}
+use Rattle.xf_model.specs.Rules.{Computed, Scope, computed_of}
+use Rattle.xf_model.specs.Applied.{Entry}
+use Rattle.xf_model.specs.Entries.{expression_of, focus_of, value_by, text_of, reads_by, reads_of, touches}
+use Rattle.xf_model.specs.Nested.{setting_for}
+use Rattle.xf_model.specs.Settled.{Bounds, Contents, content_of, holding, calculates, fitting, content_by}
+use Rattle.xf_model.specs.Pertinent.{AllOf}
+use Rattle.xf_model.specs.Stands.{AreCalculated, AgreeFor, Agrees}
+use Rattle.xf_model.proofs.EachLemmas.{each_then}
+use Rattle.xf_model.proofs.HoldingLaws.{SameAt, texts_by, structure-kept}
+use Rattle.xf_model.proofs.HoldingStrings.{string_value-kept}
+use Rattle.xf_model.proofs.HoldingVisits.{held-visits}
+use Rattle.xf_model.proofs.ReadSolid.{IsSolid, AreSolid, AreHung, converted-solid, trace-solid}
+
+-- what surrounds the calculates of a model, over the nodes of a forest
+pub record AreData (scope : Scope) (most : ℕ) (forest : Forest) : Type 0 where
+  pub forest_is : IsForest forest
+  -- no node has the number of a text in a shape
+  pub below : AreBelow (numbers_of (visits forest.nodes))
+  -- texts stand in nodes
+  pub hung : AreHung (map erased (shape_of forest.nodes))
+  pub documents : (id : List ℕ) → AreSolid (map erased (visits forest.nodes)) (nodes_of (set_of (document_of scope.model id scope.given.documents)))
+  -- functions give the same without a limit on strings, and truths where they give truths
+  pub extend : (code : ℕ) (ps : List Plain) (p : Plain) → scope.functions (Some most) scope.given.decimals code ps ≡ Some p → scope.functions None scope.given.decimals code ps ≡ Some p
+  pub truths : (code : ℕ) (ps : List Plain) (p : Plain) → function_at code ≡ of.asking → scope.functions (Some most) scope.given.decimals code ps ≡ Some p → (b : Bool) × (p ≡ plain.Truth b)
+
+-- the entry stands at a node that is no text, and the law covers its expression
+pub record IsCovered (scope : Scope) (forest : Forest) (e : Entry) : Type 0 where
+  pub expr : Expr
+  pub expression : expression_of scope e ≡ Some (computed_of expr)
+  pub exact : (facts_of expr).is_exact ≡ true
+  pub node : IsSolid (map erased (visits forest.nodes)) e.node
+
+module _ (scope : Scope) (b : Bounds) (forest : Forest) (entries : List Entry) (data_are : AreData scope b.string forest) where
+  abbrev all : List Visit
+  all = visits forest.nodes
+
+  abbrev bare : List Visit
+  bare = map erased all
+
+  abbrev shaped : List Visit
+  shaped = map erased (shape all)
+
+  bare_visits : AreVisits bare
+  bare_visits = forest-visits forest data_are.forest_is
+
+  -- without texts the shape, and all data that hold other contents, are the forest
+  shape_same : untexted shaped ≡ untexted bare
+  shape_same = shape-untexted all
+
+  held_same : (contents : Contents) → untexted (map erased (holding all contents)) ≡ untexted bare
+  held_same contents = structure-kept all contents
+
+  bare_below : AreBelow (numbers_of bare)
+  bare_below k h = data_are.below k (ap (has k) (sym (numbers all)) ∙ h)
+    where
+      numbers : (xs : List Visit) → numbers_of (map erased xs) ≡ numbers_of xs
+      numbers [] = refl
+      numbers (x ∷ xs) = ap (λ l. x.number ∷ l) (numbers xs)
+
+  held_are : (contents : Contents) → AreVisits (map erased (holding all contents))
+  held_are contents = held-visits all bare_visits bare_below contents
+
+  held_frame : (contents : Contents) → Frame (untexted shaped) (untexted (map erased (holding all contents)))
+  held_frame contents =
+      subst (λ part. Frame part (untexted (map erased (holding all contents)))) (sym shape_same)
+      (subst (λ part. Frame (untexted bare) part) (sym (held_same contents)) (itself bare bare_visits))
+
+  module _ (e : Entry) (covered : IsCovered scope forest e) (one other : Contents) where
+    abbrev comparison : Comparison
+    comparison = record {
+      setting = setting_for (Some b.string) scope (holding all one) e.node;
+      others = map erased (holding all other);
+      strings = λ n. string_value n (holding all other);
+      shape = shaped;
+      shape_strings = λ n. string_value n (shape all);
+      functions = scope.functions None scope.given.decimals;
+      extend = data_are.extend;
+      visits = held_are one;
+      other_visits = held_are other;
+      shape_visits = shape-visits forest data_are.forest_is data_are.below;
+      frame = held_frame one;
+      other_frame = held_frame other;
+    }
+
+    solid : (k : ℕ) → IsSolid bare k → Solid comparison k
+    solid k x = record { visit = x.0; in_shape = ap (found k) shape_same ∙ x.1; in_first = ap (found k) (held_same one) ∙ x.1; in_second = ap (found k) (held_same other) ∙ x.1 }
+
+    standing : Standing comparison
+    standing = record { current = solid e.node covered.node; documents = λ id k i. solid k (data_are.documents id k i); truths = data_are.truths }
+
+    abbrev whole : Asked
+    whole = converted (over_shape comparison) ((trace covered.expr).asked (over_shape comparison) (focus_of e))
+
+    -- the string values that are read
+    abbrev StringsAgree : Type 0
+    StringsAgree = (n : ℕ) → has n (numbers_of shaped) ≡ true → has n whole.reads ≡ true → string_value n (holding all one) ≡ string_value n (holding all other)
+
+    text-same : StringsAgree → text_of (Some b.string) scope (holding all one) e ≡ text_of (Some b.string) scope (holding all other) e
+    text-same strings =
+        let c = focus_of e in
+        ap (λ x. value_by (Some b.string) scope (holding all one) e x >>= string_of (setting_for (Some b.string) scope (holding all one) e.node)) covered.expression
+        ∙ ap (λ m. m (setting_for (Some b.string) scope (holding all one) e.node) c >>= string_of (setting_for (Some b.string) scope (holding all one) e.node)) (meaning-of_trace covered.expr)
+        ∙ text-agrees comparison standing covered.expr covered.exact c (solid e.node covered.node)
+            (record {
+                lists = record {
+                  first = λ n h. ap (filter (λ (y : Visit). is_first n y.above)) (shape_same ∙ sym (held_same one));
+                  second = λ n h. ap (filter (λ (y : Visit). is_first n y.above)) (shape_same ∙ sym (held_same other));
+                };
+                strings = strings;
+              })
+        ∙ sym (ap (λ m. m (setting_for (Some b.string) scope (holding all other) e.node) c >>= string_of (setting_for (Some b.string) scope (holding all other) e.node)) (meaning-of_trace covered.expr))
+        ∙ sym (ap (λ x. value_by (Some b.string) scope (holding all other) e x >>= string_of (setting_for (Some b.string) scope (holding all other) e.node)) covered.expression)
