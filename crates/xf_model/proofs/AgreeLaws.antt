@@ -76,33 +76,33 @@ module _ (scope : Scope) (b : Bounds) (forest : Forest) (entries : List Entry) (
   abbrev shaped : List Visit
   shaped = map erased (shape all)
 
-  bare_visits : AreVisits bare
+  pub bare_visits : AreVisits bare
   bare_visits = forest-visits forest data_are.forest_is
 
   -- without texts the shape, and all data that hold other contents, are the forest
-  shape_same : untexted shaped ≡ untexted bare
+  pub shape_same : untexted shaped ≡ untexted bare
   shape_same = shape-untexted all
 
   held_same : (contents : Contents) → untexted (map erased (holding all contents)) ≡ untexted bare
   held_same contents = structure-kept all contents
 
-  bare_below : AreBelow (numbers_of bare)
+  pub bare_below : AreBelow (numbers_of bare)
   bare_below k h = data_are.below k (ap (has k) (sym (numbers all)) ∙ h)
     where
       numbers : (xs : List Visit) → numbers_of (map erased xs) ≡ numbers_of xs
       numbers [] = refl
       numbers (x ∷ xs) = ap (λ l. x.number ∷ l) (numbers xs)
 
-  held_are : (contents : Contents) → AreVisits (map erased (holding all contents))
+  pub held_are : (contents : Contents) → AreVisits (map erased (holding all contents))
   held_are contents = held-visits all bare_visits bare_below contents
 
-  held_frame : (contents : Contents) → Frame (untexted shaped) (untexted (map erased (holding all contents)))
+  pub held_frame : (contents : Contents) → Frame (untexted shaped) (untexted (map erased (holding all contents)))
   held_frame contents =
       subst (λ part. Frame part (untexted (map erased (holding all contents)))) (sym shape_same)
       (subst (λ part. Frame (untexted bare) part) (sym (held_same contents)) (itself bare bare_visits))
 
   module _ (e : Entry) (covered : IsCovered scope forest e) (one other : Contents) where
-    abbrev comparison : Comparison
+    abbrev pub comparison : Comparison
     comparison = record {
       setting = setting_for (Some b.string) scope (holding all one) e.node;
       others = map erased (holding all other);
@@ -124,14 +124,14 @@ module _ (scope : Scope) (b : Bounds) (forest : Forest) (entries : List Entry) (
     standing : Standing comparison
     standing = record { current = solid e.node covered.node; documents = λ id k i. solid k (data_are.documents id k i); truths = data_are.truths }
 
-    abbrev whole : Asked
+    abbrev pub whole : Asked
     whole = converted (over_shape comparison) ((trace covered.expr).asked (over_shape comparison) (focus_of e))
 
     -- the string values that are read
-    abbrev StringsAgree : Type 0
+    abbrev pub StringsAgree : Type 0
     StringsAgree = (n : ℕ) → has n (numbers_of shaped) ≡ true → has n whole.reads ≡ true → string_value n (holding all one) ≡ string_value n (holding all other)
 
-    text-same : StringsAgree → text_of (Some b.string) scope (holding all one) e ≡ text_of (Some b.string) scope (holding all other) e
+    pub text-same : StringsAgree → text_of (Some b.string) scope (holding all one) e ≡ text_of (Some b.string) scope (holding all other) e
     text-same strings =
         let c = focus_of e in
         ap (λ x. value_by (Some b.string) scope (holding all one) e x >>= string_of (setting_for (Some b.string) scope (holding all one) e.node)) covered.expression

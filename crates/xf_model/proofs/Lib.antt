@@ -7,6 +7,7 @@ pub mod ShapeCorollaries
 pub mod SubmittedExamples
 pub mod PlaceExamples
 pub mod AgreeLaws
+pub mod AgreeStrings
 pub mod CircularLemmas
 pub mod EachLemmas
 pub mod HoldingLaws
