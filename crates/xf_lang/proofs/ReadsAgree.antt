@@ -19,16 +19,18 @@ use Rattle.xf_lang.specs.Setting.{Setting, Focus, setting_over, in_order, ◌>>=
 use Rattle.xf_lang.specs.Conversions.{string_of}
 use Rattle.xf_lang.specs.Meaning.{meaning}
 use Rattle.xf_lang.specs.Asked.{Asked, has_list, found, as_list, parent_in, list_around, converted}
-use Rattle.xf_lang.specs.Reads.{trace, listed, reads_in, looks_in, shape_setting}
+use Rattle.xf_lang.specs.Reads.{trace, listed, reads_in, looks_in, set_looks_in, shape_setting}
 use Rattle.xf_lang.specs.Agree.{numbers_of, are_apart, untexted, list_of, AreVisits, AgreeOnLists, AgreeOnStrings}
 use Rattle.xf_lang.specs.Exact.{facts_of}
+use Rattle.xf_lang.specs.Quiet.{quiet_of}
 use Rattle.xf_lang.proofs.VisitFacts.{no, some-same, none-some, or-cases, found-number, has-found, present, found-in}
 use Rattle.xf_lang.proofs.AxisAgree.{has-sub}
 use Rattle.xf_lang.proofs.UntextedLaws.{bare-apart, solid-found}
 use Rattle.xf_lang.proofs.LooksStand.{Stands, HasParents, AskedStands, converted-stands, asked-stands}
 use Rattle.xf_lang.proofs.ForestVisits.{Each, self-found, list-solid, forest-visits}
 use Rattle.xf_lang.proofs.ShapeVisits.{AreBelow, comes, not-text, shape-waits, shape-untexted, shape-visits}
-use Rattle.xf_lang.proofs.ForestsAgree.{bare, InBoth, AreForests, AgreeOnDocuments, top-stands, one-text}
+use Rattle.xf_lang.proofs.ForestsAgree.{bare, InBoth, AreForests, AgreeOnDocuments, top-stands, one-value, one-text}
+use Rattle.xf_lang.proofs.QuietLaws.{reads-none}
 
 opened : (m : Option Visit) (ns : List ℕ) → option_map (λ (z : Visit). z.above) m ≡ Some ns → (z : Visit) × (m ≡ Some z)
 opened None ns h = none-some h
@@ -216,3 +218,15 @@ module _ (functions : Functions) (most : Option ℕ) (given : Given) (documents 
       let parents : HasParents at_shape = λ n k i. parents-stand shaped shaped_visits n k i in
       let stands : AskedStands at_shape all = converted-stands at_shape parents a (asked-stands e exact at_shape parents c (shape-stands c node)) in
       one-text functions most given documents indexes event first second model current h e exact c node (lists-told all.looks stands.looks l) (documents-told all.looks d) (strings-told all.reads _ _ r)
+
+  -- a set of nodes as that of a bind: what reads nothing depends on the lists alone
+  pub one-set_told : (e : Expr) → (facts_of e).is_exact ≡ true → (quiet_of e).is_quiet ≡ true → (c : Focus) → InBoth first second c.node →
+      AgreeOnLists (set_looks_in (trace e) at_shape c) (bare first) (bare second) →
+      AgreeOnDocuments (set_looks_in (trace e) at_shape c) given documents first second model →
+      meaning e over c ≡ meaning e over_other c
+  one-set_told e exact quiet c node l d =
+      let a : Asked = (trace e).asked at_shape c in
+      let parents : HasParents at_shape = λ n k i. parents-stand shaped shaped_visits n k i in
+      let stands : AskedStands at_shape a = asked-stands e exact at_shape parents c (shape-stands c node) in
+      one-value functions most given documents indexes event first second model current h e exact c node (lists-told a.looks stands.looks l) (documents-told a.looks d)
+      (λ n i j. no (ap (has n) (sym (reads-none e quiet at_shape c)) ∙ j))
