@@ -36,4 +36,5 @@ pub mod ForestVisits
 pub mod ShapeVisits
 pub mod ForestsAgree
 pub mod LooksStand
+pub mod QuietLaws
 pub mod ReadsAgree
