@@ -137,12 +137,12 @@ module _ (scope : Scope) (b : Bounds) (forest : Forest) (entries : List Entry) (
         ap (λ x. value_by (Some b.string) scope (holding all one) e x >>= string_of (setting_for (Some b.string) scope (holding all one) e.node)) covered.expression
         ∙ ap (λ m. m (setting_for (Some b.string) scope (holding all one) e.node) c >>= string_of (setting_for (Some b.string) scope (holding all one) e.node)) (meaning-of_trace covered.expr)
         ∙ text-agrees comparison standing covered.expr covered.exact c (solid e.node covered.node)
-            (record {
-                lists = record {
-                  first = λ n h. ap (filter (λ (y : Visit). is_first n y.above)) (shape_same ∙ sym (held_same one));
-                  second = λ n h. ap (filter (λ (y : Visit). is_first n y.above)) (shape_same ∙ sym (held_same other));
-                };
-                strings = strings;
-              })
+        (record {
+          lists = record {
+            first = λ n h. ap (filter (λ (y : Visit). is_first n y.above)) (shape_same ∙ sym (held_same one));
+            second = λ n h. ap (filter (λ (y : Visit). is_first n y.above)) (shape_same ∙ sym (held_same other));
+          };
+          strings = strings;
+        })
         ∙ sym (ap (λ m. m (setting_for (Some b.string) scope (holding all other) e.node) c >>= string_of (setting_for (Some b.string) scope (holding all other) e.node)) (meaning-of_trace covered.expr))
         ∙ sym (ap (λ x. value_by (Some b.string) scope (holding all other) e x >>= string_of (setting_for (Some b.string) scope (holding all other) e.node)) covered.expression)

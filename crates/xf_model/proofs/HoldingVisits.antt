@@ -34,9 +34,11 @@ module _ (contents : Contents) where
       kind (Element name) = refl
       kind (Attribute name text) = refl
       kind (Text text) = refl
+
       some : (m : Option (List (List ℕ))) → is_some (option_map blank m) ≡ is_some m
       some None = refl
       some (Some ts) = refl
+
       replaced : (ns : List ℕ) → is_replaced (blanks_by contents) ns ≡ is_replaced (texts_by contents) ns
       replaced [] = refl
       replaced (n ∷ ns) = some (texts_by contents n)
@@ -102,8 +104,8 @@ module _ (contents : Contents) where
   held-erased all =
       filled-erased [] (filter (λ x. not (is_gone (texts_by contents) x)) (map (with_value (content_of contents)) all))
       ∙ ap (filled (visits_in (blanks_by contents)) [])
-          (sym (filter-through erased (λ x. not (is_gone (blanks_by contents) x)) (λ x. not (is_gone (texts_by contents) x)) (λ x. ap not (gone-same x)) (map (with_value (content_of contents)) all))
-          ∙ ap (filter (λ x. not (is_gone (blanks_by contents) x))) (value-erased all))
+      (sym (filter-through erased (λ x. not (is_gone (blanks_by contents) x)) (λ x. not (is_gone (texts_by contents) x)) (λ x. ap not (gone-same x)) (map (with_value (content_of contents)) all))
+      ∙ ap (filter (λ x. not (is_gone (blanks_by contents) x))) (value-erased all))
 
   -- ---- at most one text waits
 
