@@ -1,51 +1,42 @@
 -- The agreement law for calculates: where data hold the same contents at the nodes that a calculate reads and below them, it gives one text.
 -- So where no cycle stands, the settled contents are the only ones that stand: for calculates whose expressions the law of xf_lang covers.
-use Rattle.std.proofs.Common.{◌≡◌, ℕ, suc, ◌==◌, ◌^◌, Bool, true, false, not, cond, ◌||◌, List, [], ◌∷◌, ◌++◌, map, find, nat_lt, Option, Some, None, option_map, refl, sym, ap, ◌∙◌, subst, inl, inr, arith}
+use Rattle.std.proofs.Common.{◌≡◌, ℕ, ◌==◌, Bool, true, false, List, [], ◌∷◌, map, Some, None, refl, sym, ap, ◌∙◌, subst}
 use Rattle.std.specs.Prelude.{filter}
-use Rattle.std.specs.List.{list_any}
-use Rattle.std.proofs.lemmas.Bool.{cases_Bool, eqb-true, eq-eqb, or_cases, or_left, or_right, false≢true}
+use Rattle.std.proofs.lemmas.Bool.{eq-eqb, or_left}
 use Rattle.xf_ast.specs.declared.expr.Expr.{Expr}
-use Rattle.xf_doc.specs.Forest.{Forest, is_text}
-use Rattle.xf_doc.specs.Visit.{Visit, visits, has, is_first, ancestors_of, above_in}
+use Rattle.xf_doc.specs.Forest.{Forest}
+use Rattle.xf_doc.specs.Visit.{Visit, visits, has, is_first}
 use Rattle.xf_doc.specs.StringValue.{string_value}
-use Rattle.xf_doc.specs.Shape.{text_number, is_replaced, erased, shape, shape_of, texts_given}
+use Rattle.xf_doc.specs.Shape.{erased, shape, shape_of}
 use Rattle.xf_doc.specs.WellFormed.{IsForest}
-use Rattle.xf_lang.specs.Given.{Given, document_of}
+use Rattle.xf_lang.specs.Given.{document_of}
 use Rattle.xf_lang.specs.Plain.{Plain, Functions}
 use Rattle.xf_lang.specs.Plain as plain
-use Rattle.xf_lang.specs.Setting.{Setting, Focus, ◌>>=◌}
+use Rattle.xf_lang.specs.Setting.{◌>>=◌}
 use Rattle.xf_lang.specs.Conversions.{nodes_of, string_of}
 use Rattle.xf_lang.specs.Functions.{set_of}
 use Rattle.xf_lang.specs.Table.{function_at}
 use Rattle.xf_lang.specs.Table as of
-use Rattle.xf_lang.specs.Meaning.{meaning}
 use Rattle.xf_lang.specs.Asked.{Asked, found, converted}
-use Rattle.xf_lang.specs.Reads.{trace, reads_in}
-use Rattle.xf_lang.specs.Agree.{numbers_of, are_apart, untexted, AreVisits}
+use Rattle.xf_lang.specs.Reads.{trace}
+use Rattle.xf_lang.specs.Agree.{numbers_of, untexted, AreVisits}
 use Rattle.xf_lang.specs.Exact.{facts_of}
-use Rattle.xf_lang.proofs.VisitFacts.{found-number, present}
 use Rattle.xf_lang.proofs.AxisAgree.{Frame}
-use Rattle.xf_lang.proofs.UntextedLaws.{itself, solid-found}
+use Rattle.xf_lang.proofs.UntextedLaws.{itself}
 use Rattle.xf_lang.proofs.Comparison.{Comparison, Solid, over_shape}
-use Rattle.xf_lang.proofs.ValueAgree.{Premise}
 use Rattle.xf_lang.proofs.AgreeCalls.{Standing}
 use Rattle.xf_lang.proofs.Agreement.{text-agrees}
 use Rattle.xf_lang.proofs.TraceKeeps.{meaning-of_trace}
-use Rattle.xf_lang.proofs.ReadsAgree.{in-order_has}
 use Rattle.xf_lang.proofs.ForestVisits.{forest-visits}
 use Rattle.xf_lang.proofs.ShapeVisits.{AreBelow, shape-untexted, shape-visits}
-use Rattle.xf_model.specs.Rules.{Computed, Scope, computed_of}
+use Rattle.xf_model.specs.Rules.{Scope, computed_of}
 use Rattle.xf_model.specs.Applied.{Entry}
-use Rattle.xf_model.specs.Entries.{expression_of, focus_of, value_by, text_of, reads_by, reads_of, touches}
+use Rattle.xf_model.specs.Entries.{expression_of, focus_of, value_by, text_of}
 use Rattle.xf_model.specs.Nested.{setting_for}
-use Rattle.xf_model.specs.Settled.{Bounds, Contents, content_of, holding, calculates, fitting, content_by}
-use Rattle.xf_model.specs.Pertinent.{AllOf}
-use Rattle.xf_model.specs.Stands.{AreCalculated, AgreeFor, Agrees}
-use Rattle.xf_model.proofs.EachLemmas.{each_then}
-use Rattle.xf_model.proofs.HoldingLaws.{SameAt, texts_by, structure-kept}
-use Rattle.xf_model.proofs.HoldingStrings.{string_value-kept}
+use Rattle.xf_model.specs.Settled.{Bounds, Contents, holding}
+use Rattle.xf_model.proofs.HoldingLaws.{structure-kept}
 use Rattle.xf_model.proofs.HoldingVisits.{held-visits}
-use Rattle.xf_model.proofs.ReadSolid.{IsSolid, AreSolid, AreHung, converted-solid, trace-solid}
+use Rattle.xf_model.proofs.ReadSolid.{IsSolid, AreSolid, AreHung}
 
 -- what surrounds the calculates of a model, over the nodes of a forest
 pub record AreData (scope : Scope) (most : ℕ) (forest : Forest) : Type 0 where
@@ -107,8 +98,14 @@ module _ (scope : Scope) (b : Bounds) (forest : Forest) (entries : List Entry) (
       setting = setting_for (Some b.string) scope (holding all one) e.node;
       others = map erased (holding all other);
       strings = λ n. string_value n (holding all other);
+      documents = scope.given.documents;
+      indexes = scope.given.indexes;
+      event = scope.given.event;
       shape = shaped;
       shape_strings = λ n. string_value n (shape all);
+      shape_documents = scope.given.documents;
+      shape_indexes = scope.given.indexes;
+      shape_event = scope.given.event;
       functions = scope.functions None scope.given.decimals;
       extend = data_are.extend;
       visits = held_are one;
@@ -122,7 +119,10 @@ module _ (scope : Scope) (b : Bounds) (forest : Forest) (entries : List Entry) (
     solid k x = record { visit = x.0; in_shape = ap (found k) shape_same ∙ x.1; in_first = ap (found k) (held_same one) ∙ x.1; in_second = ap (found k) (held_same other) ∙ x.1 }
 
     standing : Standing comparison
-    standing = record { current = solid e.node covered.node; documents = λ id k i. solid k (data_are.documents id k i); truths = data_are.truths }
+    standing = record { current = solid e.node covered.node; absent = λ id none. (none, none); truths = data_are.truths }
+
+    document : (id : List ℕ) (n : ℕ) → document_of scope.model id scope.given.documents ≡ Some n → Solid comparison n
+    document id n stands = solid n (data_are.documents id n (ap (λ m. has n (nodes_of (set_of m))) stands ∙ or_left (n == n) false (eq-eqb n n refl)))
 
     abbrev pub whole : Asked
     whole = converted (over_shape comparison) ((trace covered.expr).asked (over_shape comparison) (focus_of e))
@@ -141,6 +141,7 @@ module _ (scope : Scope) (b : Bounds) (forest : Forest) (entries : List Entry) (
           lists = record {
             first = λ n h. ap (filter (λ (y : Visit). is_first n y.above)) (shape_same ∙ sym (held_same one));
             second = λ n h. ap (filter (λ (y : Visit). is_first n y.above)) (shape_same ∙ sym (held_same other));
+            same = λ id n stands looked. record { first = stands; second = stands; solid = document id n stands };
           };
           strings = strings;
         })

@@ -1,9 +1,8 @@
 -- What a calculate reads has one string value in data that hold the same contents at the nodes that it reads and below them: so it gives one
 -- text, and where no cycle stands the settled contents are the only ones that stand.
-use Rattle.std.proofs.Common.{◌≡◌, ℕ, suc, ◌+◌, ◌<◌, ◌==◌, ◌^◌, Bool, true, false, not, cond, ◌||◌, List, [], ◌∷◌, ◌++◌, map, find, is_some, nat_lt, Option, Some, None, option_map, refl, sym, ap, ◌∙◌, subst, inl, inr, arith}
-use Rattle.std.specs.Prelude.{filter}
+use Rattle.std.proofs.Common.{◌≡◌, ℕ, ◌==◌, ◌^◌, Bool, true, false, not, List, [], ◌∷◌, map, is_some, Option, Some, None, option_map, refl, sym, ap, ◌∙◌, subst, inl, inr, arith}
 use Rattle.std.specs.List.{list_any}
-use Rattle.std.proofs.lemmas.Bool.{cases_Bool, eqb-true, eq-eqb, or_cases, or_left, or_right, false≢true, ltb-true}
+use Rattle.std.proofs.lemmas.Bool.{cases_Bool, eqb-true, or_cases, or_left, or_right, false≢true, ltb-true}
 use Rattle.xf_doc.specs.Forest.{Forest, is_text}
 use Rattle.xf_doc.specs.Visit.{Visit, visits, has, ancestors_of, above_in}
 use Rattle.xf_doc.specs.StringValue.{string_value}
@@ -21,12 +20,12 @@ use Rattle.xf_lang.proofs.ForestVisits.{Each, self-found, found-erased}
 use Rattle.xf_lang.proofs.ShapeVisits.{shape-visits}
 use Rattle.xf_model.specs.Rules.{Scope}
 use Rattle.xf_model.specs.Applied.{Entry}
-use Rattle.xf_model.specs.Entries.{focus_of, reads_by, reads_of, touches}
+use Rattle.xf_model.specs.Entries.{focus_of, reads_by, reads_of}
 use Rattle.xf_model.specs.Settled.{Bounds, Contents, content_of, holding, calculates, fitting, settled_contents}
 use Rattle.xf_model.specs.Pertinent.{AllOf}
 use Rattle.xf_model.specs.Stands.{IsSettled, AreCalculated, AgreeFor, Agrees, AreStanding, AreAcyclic}
 use Rattle.xf_model.proofs.EachLemmas.{each_then, each_one}
-use Rattle.xf_model.proofs.HoldingLaws.{SameAt, texts_by}
+use Rattle.xf_model.proofs.HoldingLaws.{SameAt}
 use Rattle.xf_model.proofs.HoldingStrings.{string_value-kept}
 use Rattle.xf_model.proofs.ReadSolid.{IsSolid, converted-solid, trace-solid}
 use Rattle.xf_model.proofs.SettledLaws.{settled-unique, settled-stands}

@@ -1,11 +1,11 @@
 -- The visits of data that hold other contents are those of a forest: their numbers differ, and parents stand.
-use Rattle.std.proofs.Common.{◌≡◌, ℕ, ◌==◌, ◌^◌, Bool, true, false, not, cond, ◌&&◌, is_some, List, [], ◌∷◌, ◌++◌, map, nat_lt, Option, Some, None, option_map, refl, sym, ap, ◌∙◌, subst}
-use Rattle.std.specs.Prelude.{filter, ⊤}
+use Rattle.std.proofs.Common.{◌≡◌, ℕ, ◌^◌, Bool, true, false, not, cond, ◌&&◌, is_some, List, [], ◌∷◌, ◌++◌, map, Option, Some, None, option_map, refl, sym, ap, ◌∙◌, subst}
+use Rattle.std.specs.Prelude.{filter}
 use Rattle.xf_doc.specs.declared.content.Content.{Content}
 use Rattle.xf_doc.specs.declared.content.Content.TheVariants.{Root, Element, Attribute, Text}
 use Rattle.xf_doc.specs.Forest.{is_text, is_element, is_attribute}
 use Rattle.xf_doc.specs.Visit.{Visit, has, has_parent}
-use Rattle.xf_doc.specs.Shape.{Texts, text_number, text_visit, given_visits, visits_in, is_borne, is_replaced, is_gone, filled, retexted, erased, without_text, as_texts, texts_given, value_given, with_value}
+use Rattle.xf_doc.specs.Shape.{Texts, text_number, text_visit, given_visits, visits_in, is_borne, is_replaced, is_gone, filled, retexted, erased, without_text, texts_given, value_given, with_value}
 use Rattle.xf_doc.proofs.OrderLaws.{filter-sub, map-sub, sub-different}
 use Rattle.xf_doc.proofs.RenumberLaws.{map-cond, filter-through}
 use Rattle.xf_lang.specs.Asked.{found, has_list}

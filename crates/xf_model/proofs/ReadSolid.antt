@@ -1,6 +1,5 @@
 -- What an expression reads are no texts: a text that is asked stands for its parent.
-use Rattle.std.proofs.Common.{◌≡◌, ℕ, zero, suc, ◌==◌, Bool, true, false, not, List, [], ◌∷◌, ◌++◌, map, Option, Some, None, option_map, unwrap_or, if◌then◌else◌, refl, sym, ap, ◌∙◌, subst, inl, inr}
-use Rattle.std.specs.Prelude.{filter}
+use Rattle.std.proofs.Common.{◌≡◌, ℕ, zero, suc, ◌==◌, Bool, true, false, not, List, [], ◌∷◌, ◌++◌, map, Option, Some, None, option_map, unwrap_or, if◌then◌else◌, refl, sym, ap, subst, inl, inr}
 use Rattle.std.specs.List.{flat_map}
 use Rattle.std.proofs.lemmas.Bool.{eqb-true}
 use Rattle.xf_name.specs.declared.axis.Axis.{Axis}
@@ -16,7 +15,7 @@ use Rattle.xf_lang.specs.Setting.{Setting, Focus}
 use Rattle.xf_lang.specs.Steps.{begun, begun_at}
 use Rattle.xf_lang.specs.Table.{Function, function_at}
 use Rattle.xf_lang.specs.Table as of
-use Rattle.xf_lang.specs.Asked.{Asked, Trace, LinkTrace, WalkTrace, found, as_list, parent_in, list_around, reader_of, read_for, plainly, tightly, both, as_truth, as_plain, with_read, all_read, asked_first, converted}
+use Rattle.xf_lang.specs.Asked.{Asked, Trace, LinkTrace, WalkTrace, found, as_list, parent_in, reader_of, read_for, tightly, both, as_plain, with_read, all_read, asked_first, converted}
 use Rattle.xf_lang.specs.AskedSteps.{kind_read, tells_kinds, is_pair, read_if, step_asked, walks_asked}
 use Rattle.xf_lang.specs.AskedCalls as asked
 use Rattle.xf_lang.specs.Reads.{expr_trace, link_trace, step_trace, trace}
