@@ -82,7 +82,7 @@ module _ (functions : Functions) (most : Option ℕ) (given : Given) (documents 
   own-frame : Frame (untexted shaped) (untexted (bare first))
   own-frame = subst (λ part. Frame part (untexted (bare first))) (sym same) (itself (bare first) first_visits)
 
-  both-frame : Frame (untexted (bare first)) (untexted (bare second))
+  pub both-frame : Frame (untexted (bare first)) (untexted (bare second))
   both-frame = record {
     apart = bare-apart (bare first) first_visits;
     apart_too = bare-apart (bare second) second_visits;

@@ -38,3 +38,4 @@ pub mod ForestsAgree
 pub mod LooksStand
 pub mod QuietLaws
 pub mod ReadsAgree
+pub mod ShapesAgree

@@ -69,7 +69,7 @@ module _ (all : List Visit) (v : AreVisits all) where
           of (p ∷ ps) j l = elim (or-cases (m == p) false l)
               [ inl a ↦ let z = parent-there n p ps x e j in (z.0, ap (λ q. found q all) (eqb-true m p a) ∙ (solid-found all v p z.0 z.1).0, z.2) | inr b ↦ no b ]
 
-  parents-stand : (n : ℕ) (k : ℕ) → has k (list_around all n) ≡ true → has k (numbers_of all) ≡ true
+  pub parents-stand : (n : ℕ) (k : ℕ) → has k (list_around all n) ≡ true → has k (numbers_of all) ≡ true
   parents-stand n k h = by (found n all) refl h
     where
       by : (m : Option Visit) → found n all ≡ m → has k (parent_in m) ≡ true → has k (numbers_of all) ≡ true
@@ -148,7 +148,7 @@ module _ (functions : Functions) (most : Option ℕ) (given : Given) (documents 
           kept = filter (λ q. not (is_gone (only_text (visits first.nodes)) q)) (bare first)
 
   -- where the lists told are the same, all that are asked are
-  lists-told : (looks : List ℕ) → ((k : ℕ) → has k looks ≡ true → has k (numbers_of shaped) ≡ true) → AgreeOnLists (listed shaped looks) (bare first) (bare second) → AgreeOnLists looks (bare first) (bare second)
+  pub lists-told : (looks : List ℕ) → ((k : ℕ) → has k looks ≡ true → has k (numbers_of shaped) ≡ true) → AgreeOnLists (listed shaped looks) (bare first) (bare second) → AgreeOnLists looks (bare first) (bare second)
   lists-told looks stand told n i =
       let x = standing-at n shaped (stand n i) in
       elim (cases_Bool (has_list x.0.content)) [
@@ -169,7 +169,7 @@ module _ (functions : Functions) (most : Option ℕ) (given : Given) (documents 
   strings-told reads a b told n i k = told n (in-order_has shaped shaped_visits.apart reads n i k)
 
   -- the list around a node is told where it is asked
-  documents-told : (looks : List ℕ) → AgreeOnDocuments (listed shaped looks) given documents first second model → AgreeOnDocuments looks given documents first second model
+  pub documents-told : (looks : List ℕ) → AgreeOnDocuments (listed shaped looks) given documents first second model → AgreeOnDocuments looks given documents first second model
   documents-told looks told id n e w = told id n e (λ m i. around m i (w m i))
     where
       part : are_apart (numbers_of (filter (λ y. has_list y.content) shaped)) ≡ true
@@ -197,7 +197,7 @@ module _ (functions : Functions) (most : Option ℕ) (given : Given) (documents 
   of_document id k (Some n) e i = elim (or-cases (k == n) false i)
       [ inl a ↦ let x = h.documents_stand id n e in ap (λ m. has m (numbers_of shaped)) (eqb-true k n a) ∙ in-shape n x.0 x.1 | inr b ↦ no b ]
 
-  shape-stands : (c : Focus) → InBoth first second c.node → Stands at_shape c
+  pub shape-stands : (c : Focus) → InBoth first second c.node → Stands at_shape c
   shape-stands c node =
       let in_shape : (k : ℕ) → InBoth first second k → has k (numbers_of shaped) ≡ true = λ k x. in-shape k x.visit x.in_first in
       record {
