@@ -1,5 +1,5 @@
 -- Operators and functions over two forests that agree on what is read and looked at.
-use Rattle.std.proofs.Common.{◌≡◌, ℕ, Bool, true, false, ◌||◌, List, Option, Some, option_map, refl, ap, ◌∙◌}
+use Rattle.std.proofs.Common.{◌≡◌, ℕ, Bool, true, false, ◌||◌, List, Option, Some, None, option_map, refl, ap, ◌∙◌}
 use Rattle.xf_num.specs.Number.{sum, difference, product, quotient, remainder}
 use Rattle.xf_ast.specs.declared.expr.Operator.{Operator}
 use Rattle.xf_ast.specs.declared.expr.Operator.TheVariants.{Or, And, Equal, NotEqual, Less, LessOrEqual, Greater, GreaterOrEqual, Add, Subtract, Multiply, Divide, Modulo, Union}
@@ -12,13 +12,12 @@ use Rattle.xf_lang.specs.Setting.{Setting, Focus, Meaning, ◌>>=◌}
 use Rattle.xf_lang.specs.Conversions.{nodes_of, truth_of}
 use Rattle.xf_lang.specs.Comparisons.{compared}
 use Rattle.xf_lang.specs.Operators.{or_else, and_then, computed, combined, linked}
-use Rattle.xf_lang.specs.Functions.{set_of}
 use Rattle.xf_lang.specs.Table.{Function, function_at}
 use Rattle.xf_lang.specs.Table as of
 use Rattle.xf_lang.specs.Asked.{Asked, Trace, plainly, both, as_truth, converted}
 use Rattle.xf_lang.specs.AskedCalls as asked
 use Rattle.xf_lang.proofs.VisitFacts.{no}
-use Rattle.xf_lang.proofs.Comparison.{Comparison, other, over_shape, Solid, AllSolid}
+use Rattle.xf_lang.proofs.Comparison.{Comparison, other, over_shape, Solid}
 use Rattle.xf_lang.proofs.Gives.{Gives, both as gives, gives-map, gives-then, gives-weaker, gives-at}
 use Rattle.xf_lang.proofs.PlacedLaws.{WithoutNodes}
 use Rattle.xf_lang.proofs.ValueAgree.{IsTruth, Premise, Fits, Agreed, none-solid, left-both, right-both, in-converted, in-beside, judged, calculated, unites}
@@ -26,7 +25,8 @@ use Rattle.xf_lang.proofs.ValueAgree.{IsTruth, Premise, Fits, Agreed, none-solid
 -- what surrounds the expression is the same in both
 pub record Standing (w : Comparison) : Type 0 where
   pub current : Solid w w.setting.current
-  pub documents : (id : List ℕ) → AllSolid w (nodes_of (set_of (document_of w.setting.model id w.setting.given.documents)))
+  -- an instance that is not there is there in neither
+  pub absent : (id : List ℕ) → document_of w.setting.model id w.shape_documents ≡ None → (document_of w.setting.model id w.setting.given.documents ≡ None) × (document_of w.setting.model id w.documents ≡ None)
   -- a function that gives a truth gives one
   pub truths : (code : ℕ) (ps : List Plain) (p : Plain) → function_at code ≡ of.asking → w.setting.functions code ps ≡ Some p → (b : Bool) × (p ≡ plain.Truth b)
 

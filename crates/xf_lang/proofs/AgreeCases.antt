@@ -1,7 +1,8 @@
 -- What the induction of the law of two forests keeps, and that calls of functions keep it.
-use Rattle.std.proofs.Common.{◌≡◌, ℕ, zero, suc, Bool, true, not, ◌&&◌, List, [], ◌∷◌, ◌++◌, map, Some, option_map, refl, sym, ap, ◌∙◌, subst}
+use Rattle.std.proofs.Common.{◌≡◌, ℕ, zero, suc, ◌==◌, Bool, true, false, not, ◌&&◌, List, [], ◌∷◌, ◌++◌, map, Option, Some, None, option_map, refl, sym, ap, ◌∙◌, subst, inl, inr}
 use Rattle.std.specs.Prelude as std
-use Rattle.std.specs.List.{list_all}
+use Rattle.std.specs.List.{list_all, flat_map}
+use Rattle.std.proofs.lemmas.Bool.{eqb-true}
 use Rattle.xf_doc.specs.Visit.{Visit, has}
 use Rattle.xf_doc.proofs.BackLaws.{and-true}
 use Rattle.xf_lang.specs.declared.value.Value.TheVariants.{Number}
@@ -11,15 +12,17 @@ use Rattle.xf_lang.specs.Conversions.{nodes_of, value_of_plain}
 use Rattle.xf_lang.specs.Functions.{set_of, instance_id, called}
 use Rattle.xf_lang.specs.Table.{Function, function_at}
 use Rattle.xf_lang.specs.Table as of
-use Rattle.xf_lang.specs.Asked.{Trace, LinkTrace, WalkTrace}
+use Rattle.xf_lang.specs.Asked.{Trace, LinkTrace, WalkTrace, list_around}
 use Rattle.xf_lang.specs.AskedCalls as asked
 use Rattle.xf_lang.specs.Reads.{meaning_in}
 use Rattle.xf_lang.specs.Exact.{Facts, LinkFacts, all_placed, all_exact, are_filled, branches, call_facts}
-use Rattle.xf_lang.proofs.VisitFacts.{no, filter-none}
-use Rattle.xf_lang.proofs.Comparison.{Comparison, other, over_shape, Solid}
-use Rattle.xf_lang.proofs.Gives.{Gives, both, gives-map, gives-then, gives-same}
+use Rattle.xf_lang.proofs.VisitFacts.{or-cases, or-left, self-same, no, filter-none}
+use Rattle.xf_lang.proofs.SameKept.{has-right}
+use Rattle.xf_lang.proofs.BelowAgree.{flat-within}
+use Rattle.xf_lang.proofs.Comparison.{Comparison, other, over_shape, Solid, SameDocument}
+use Rattle.xf_lang.proofs.Gives.{Gives, gives-map_too, both, gives-then, gives-same}
 use Rattle.xf_lang.proofs.PlacedLaws.{Placed, strings, numbers, texts, plains, mapped, truths, argument-placed, plains-placed, answers, branched-placed, plain-without}
-use Rattle.xf_lang.proofs.ValueAgree.{Premise, Agreed}
+use Rattle.xf_lang.proofs.ValueAgree.{Premise, Fits, Agreed}
 use Rattle.xf_lang.proofs.AgreeSteps.{WalkLaw}
 use Rattle.xf_lang.proofs.AgreeCalls.{Standing, ExactLaw}
 use Rattle.xf_lang.proofs.AgreeFunctions.{is_common, called-agreed, choosing-agreed}
@@ -111,18 +114,42 @@ module _ (w : Comparison) where
   id-placed [] c = both refl
   id-placed (p ∷ ps) c = strings w c.node c.node c.node c.position c.size _ _ _ (p.1 c.node c.node c.node c.position c.size)
 
-  instance-exact : (code : ℕ) → Standing w → (ks : List Pair) → all_placed (facts_in ks) ≡ true → (c : Focus) →
+  abbrev document_in : Setting → List ℕ → Option ℕ
+  document_in x id = document_of x.model id x.given.documents
+
+  abbrev instance_set : List Pair → ℕ → Focus → List ℕ
+  instance_set ks code c = asked.nodes_if (called of.instance code (map meaning_in (traces_in ks)) u c)
+
+  instance-fits : (code : ℕ) → Standing w → (ks : List Pair) (c : Focus) → Premise w (asked.call_asked of.instance code (traces_in ks) u c) → (id : List ℕ) → instance_id (map meaning_in (traces_in ks)) u c ≡ Some id →
+      (set_of (document_in t id) ≡ set_of (document_in s id)) × Fits w (asked.call_asked of.instance code (traces_in ks) u c) (set_of (document_in s id))
+  instance-fits code stand ks c p id e = by (document_in u id) refl
+    where
+      found-set : instance_set ks code c ≡ nodes_of (set_of (document_in u id))
+      found-set = ap (λ m. asked.nodes_if (option_map (λ id. set_of (document_in u id)) m)) e
+
+      by : (m : Option ℕ) → document_in u id ≡ m → (set_of (document_in t id) ≡ set_of (document_in s id)) × Fits w (asked.call_asked of.instance code (traces_in ks) u c) (set_of (document_in s id))
+      by None i =
+          let gone = stand.absent id i in
+          let none : instance_set ks code c ≡ [] = found-set ∙ ap (λ m. nodes_of (set_of m)) i in
+          (ap set_of (gone.1 ∙ sym gone.0), (ap (λ m. nodes_of (set_of m)) gone.0 ∙ sym none, λ j. no j, λ k j. no (ap (has k) (sym none) ∙ j)))
+      by (Some n) i =
+          let one : instance_set ks code c ≡ n ∷ [] = found-set ∙ ap (λ m. nodes_of (set_of m)) i in
+          let in_set : has n (instance_set ks code c) ≡ true = ap (has n) one ∙ or-left (n == n) false (self-same n) in
+          let d : SameDocument w id n = p.lists.same id n i (λ m j. has-right m (asked.all_converted (traces_in ks) u c).looks (flat_map (list_around u.all) (instance_set ks code c)) (flat-within (list_around u.all) n (instance_set ks code c) in_set m j)) in (
+            ap set_of (d.second ∙ sym d.first),
+            (
+              ap (λ m. nodes_of (set_of m)) d.first ∙ sym one,
+              λ j. no j,
+              λ k j. elim (or-cases (k == n) false (ap (has k) (sym one) ∙ j)) [ inl a ↦ subst (Solid w) (sym (eqb-true k n a)) d.solid | inr b ↦ no b ],
+            ),
+          )
+
+  instance-exact : (code : ℕ) → Standing w → (ks : List Pair) → all_placed (facts_in ks) ≡ true → (c : Focus) → Premise w (asked.call_asked of.instance code (traces_in ks) u c) →
       Agreed w (asked.call_asked of.instance code (traces_in ks) u c) (called of.instance code (map meaning_in (traces_in ks)) s c) (called of.instance code (map meaning_in (traces_in ks)) t c)
-  instance-exact code stand ks h c =
+  instance-exact code stand ks h c p =
       let ps = placings ks h in
       let ids = subst (λ ms. Gives (λ id. instance_id ms u c ≡ Some id) (instance_id ms s c) (instance_id ms t c)) ps.1 (id-placed ps.0 c) in
-      record {
-        tight = refl;
-        given = gives-map (λ id. set_of (document_of s.model id s.given.documents)) ids (λ id e.
-            let set : asked.nodes_if (called of.instance code (map meaning_in (traces_in ks)) u c) ≡ nodes_of (set_of (document_of s.model id s.given.documents)) =
-            ap (λ m. asked.nodes_if (option_map (λ id. set_of (document_of s.model id s.given.documents)) m)) e in
-            (sym set, λ i. no i, λ k j. stand.documents id k (ap (has k) (sym set) ∙ j)));
-      }
+      record { tight = refl; given = gives-map_too (λ id. set_of (document_in s id)) (λ id. set_of (document_in t id)) ids (instance-fits code stand ks c p) }
 
   pub call-exact : (g : Function) (code : ℕ) → function_at code ≡ g → Standing w → (ks : List Pair) → (call_facts g (facts_in ks)).is_exact ≡ true →
       (c : Focus) → Solid w c.node → Premise w (asked.call_asked g code (traces_in ks) u c) →
@@ -149,7 +176,7 @@ module _ (w : Comparison) where
   call-exact of.current code e stand ks h = λ c node p. called-agreed w c node of.current refl code e stand [] p
   call-exact of.event code e stand ks h = no h
   call-exact of.index code e stand ks h = no h
-  call-exact of.instance code e stand ks h = λ c node p. instance-exact code stand ks h c
+  call-exact of.instance code e stand ks h = λ c node p. instance-exact code stand ks h c p
   call-exact of.last code e stand ks h = λ c node p. called-agreed w c node of.last refl code e stand [] p
   call-exact of.position code e stand ks h = λ c node p. called-agreed w c node of.position refl code e stand [] p
 

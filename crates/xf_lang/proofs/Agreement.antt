@@ -20,6 +20,12 @@ swapped w = record {
   setting = other w;
   others = w.setting.all;
   strings = w.setting.strings;
+  documents = w.setting.given.documents;
+  indexes = w.setting.given.indexes;
+  event = w.setting.given.event;
+  shape_documents = w.shape_documents;
+  shape_indexes = w.shape_indexes;
+  shape_event = w.shape_event;
   shape = w.shape;
   shape_strings = w.shape_strings;
   functions = w.functions;
@@ -37,12 +43,19 @@ solid-swapped w k h = record { visit = h.visit; in_shape = h.in_shape; in_first 
 standing-swapped : (w : Comparison) → Standing w → Standing (swapped w)
 standing-swapped w h = record {
   current = solid-swapped w w.setting.current h.current;
-  documents = λ id k i. solid-swapped w k (h.documents id k i);
+  absent = λ id e. ((h.absent id e).1, (h.absent id e).0);
   truths = h.truths;
 }
 
 premise-swapped : (w : Comparison) (a : Asked) → Premise w a → Premise (swapped w) a
-premise-swapped w a p = record { lists = record { first = p.lists.second; second = p.lists.first }; strings = λ n i h. sym (p.strings n i h) }
+premise-swapped w a p = record {
+  lists = record {
+    first = p.lists.second;
+    second = p.lists.first;
+    same = λ id n e k. let d = p.lists.same id n e k in record { first = d.second; second = d.first; solid = solid-swapped w n d.solid };
+  };
+  strings = λ n i h. sym (p.strings n i h);
+}
 
 given-some : {A : Type 0} {P : A → Type 0} {x : A} {m : Option A} → Gives P (Some x) m → m ≡ Some x
 given-some (both p) = refl

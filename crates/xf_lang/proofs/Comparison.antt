@@ -5,9 +5,11 @@ use Rattle.xf_name.specs.declared.axis.Axis.{Axis}
 use Rattle.xf_name.specs.declared.axis.Axis.TheVariants.{Child, Attribute, Self_, Parent, Ancestor, AncestorOrSelf, Descendant, DescendantOrSelf, FollowingSibling, PrecedingSibling}
 use Rattle.xf_ast.specs.declared.expr.Test.{Test}
 use Rattle.xf_doc.specs.Visit.{Visit, has}
+use Rattle.xf_lang.specs.declared.value.Value.{Value}
+use Rattle.xf_lang.specs.Given.{Document, document_of}
 use Rattle.xf_lang.specs.Plain.{Plain}
 use Rattle.xf_lang.specs.Setting.{Setting, in_order}
-use Rattle.xf_lang.specs.Asked.{found, parent_in, lists_below}
+use Rattle.xf_lang.specs.Asked.{found, parent_in, lists_below, list_around}
 use Rattle.xf_lang.specs.AskedSteps.{lists_of, is_kind, meets_texts}
 use Rattle.xf_lang.specs.Tests.{meets}
 use Rattle.xf_lang.specs.Steps.{reached}
@@ -24,9 +26,16 @@ pub record Comparison : Type 0 where
   -- the other forest, and its string values
   pub others : List Visit
   pub strings : ℕ → List ℕ
+  -- what surrounds it: as the first has, but for documents, indexes and event
+  pub documents : List Document
+  pub indexes : List (List ℕ × ℕ)
+  pub event : Option (List (List ℕ × Value))
   -- the shape, over which it is asked what is read and looked at
   pub shape : List Visit
   pub shape_strings : ℕ → List ℕ
+  pub shape_documents : List Document
+  pub shape_indexes : List (List ℕ × ℕ)
+  pub shape_event : Option (List (List ℕ × Value))
   -- the functions of plain values without a limit on strings
   pub functions : ℕ → List Plain → Option Plain
   pub extend : (code : ℕ) (ps : List Plain) (p : Plain) → setting.functions code ps ≡ Some p → functions code ps ≡ Some p
@@ -38,10 +47,20 @@ pub record Comparison : Type 0 where
 
 -- over the other forest, and over the shape
 abbrev pub other : Comparison → Setting
-other w = record w.setting { all = w.others; strings = w.strings }
+other w = record w.setting {
+  all = w.others;
+  strings = w.strings;
+  given = record w.setting.given { documents = w.documents; indexes = w.indexes; event = w.event };
+}
 
 abbrev pub over_shape : Comparison → Setting
-over_shape w = record w.setting { all = w.shape; strings = w.shape_strings; most = None; functions = w.functions }
+over_shape w = record w.setting {
+  all = w.shape;
+  strings = w.shape_strings;
+  most = None;
+  functions = w.functions;
+  given = record w.setting.given { documents = w.shape_documents; indexes = w.shape_indexes; event = w.shape_event };
+}
 
 -- a node that is no text and is the same in all three
 pub record Solid (w : Comparison) (k : ℕ) : Type 0 where
@@ -53,15 +72,23 @@ pub record Solid (w : Comparison) (k : ℕ) : Type 0 where
 abbrev pub AllSolid : Comparison → List ℕ → Type 0
 AllSolid w ns = (k : ℕ) → has k ns ≡ true → Solid w k
 
-pub record Agree (w : Comparison) (looks : List ℕ) : Type 0 where
-  pub first : AgreeOnLists looks w.shape w.setting.all
-  pub second : AgreeOnLists looks w.shape w.others
-
 abbrev pub Within : List ℕ → List ℕ → Type 0
 Within ns ms = (n : ℕ) → has n ns ≡ true → has n ms ≡ true
 
+-- an instance has the same document element in all three
+pub record SameDocument (w : Comparison) (id : List ℕ) (n : ℕ) : Type 0 where
+  pub first : document_of w.setting.model id w.setting.given.documents ≡ Some n
+  pub second : document_of w.setting.model id w.documents ≡ Some n
+  pub solid : Solid w n
+
+pub record Agree (w : Comparison) (looks : List ℕ) : Type 0 where
+  pub first : AgreeOnLists looks w.shape w.setting.all
+  pub second : AgreeOnLists looks w.shape w.others
+  -- a document is the same where the list of its root is looked at
+  pub same : (id : List ℕ) (n : ℕ) → document_of w.setting.model id w.shape_documents ≡ Some n → Within (list_around w.shape n) looks → SameDocument w id n
+
 pub agree-less : (w : Comparison) {ns ms : List ℕ} → Within ns ms → Agree w ms → Agree w ns
-agree-less w h a = record { first = λ n k. a.first n (h n k); second = λ n k. a.second n (h n k) }
+agree-less w h a = record { first = λ n k. a.first n (h n k); second = λ n k. a.second n (h n k); same = λ id n e k. a.same id n e (λ m i. h m (k m i)) }
 
 pub solid-both : (w : Comparison) (k : ℕ) → Stands (untexted w.shape) (untexted w.setting.all) k → Stands (untexted w.shape) (untexted w.others) k → Solid w k
 solid-both w k a b = record { visit = a.visit; in_shape = a.first; in_first = a.second; in_second = b.second ∙ sym b.first ∙ a.first }

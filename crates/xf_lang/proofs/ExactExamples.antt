@@ -10,6 +10,7 @@ use Rattle.xf_ast.specs.declared.expr.Start.TheVariants as start
 use Rattle.xf_ast.specs.declared.expr.Expr.TheOpen.{Expr-F}
 use Rattle.xf_lang.specs.Examples.{simple}
 use Rattle.xf_lang.specs.Exact.{Facts, expr_facts, step_facts}
+use Rattle.xf_lang.specs.Quiet.{Quiet, quiet, expr_quiet, step_quiet}
 
 abbrev step : Bool → Axis → Test → List Facts → Bool
 step is_below axis test predicates = step_facts (record { place = 0; is_below = is_below; is_written = true; axis = axis; test = test; predicates = predicates })
@@ -81,3 +82,37 @@ the_index_is_not = refl
 
 the_event_is_not : (call 13 (one ∷ [])).is_exact ≡ false
 the_event_is_not = refl
+
+-- ---- what reads nothing by its syntax
+
+abbrev quiet_step : Bool → Axis → Test → Bool
+quiet_step is_below axis test = step_quiet (record { place = 0; is_below = is_below; is_written = true; axis = axis; test = test; predicates = [] })
+
+abbrev quiet_path : List Bool → Quiet
+quiet_path steps = expr_quiet (Expr-F.Path 0 start.Context steps)
+
+-- a | .//a, instance('z')/a, current()
+places_read_nothing : (expr_quiet (Expr-F.Chain (quiet_path (quiet_step false axis.Child (simple (codes "a")) ∷ [])) (record { operator = operator.Union; right = quiet_path (quiet_step true axis.Child (simple (codes "a")) ∷ []) } ∷ []))).is_quiet ≡ true
+places_read_nothing = refl
+
+an_instance_reads_nothing : (expr_quiet (Expr-F.From (expr_quiet (Expr-F.Call 0 18 (expr_quiet (Expr-F.Literal 0 (codes "z")) ∷ []))) (quiet_step false axis.Child (simple (codes "a")) ∷ []))).is_quiet ≡ true
+an_instance_reads_nothing = refl
+
+the_current_node_reads_nothing : expr_quiet (Expr-F.Call 0 10 []) ≡ quiet true false
+the_current_node_reads_nothing = refl
+
+-- instance(a), a/text(), .//.., -a, a = a
+a_computed_id_reads : (expr_quiet (Expr-F.Call 0 18 (quiet_path (quiet_step false axis.Child (simple (codes "a")) ∷ []) ∷ []))).is_quiet ≡ false
+a_computed_id_reads = refl
+
+a_written_text_reads : (quiet_path (quiet_step false axis.Child test.Text ∷ [])).is_quiet ≡ false
+a_written_text_reads = refl
+
+a_pair_reads : (quiet_path (quiet_step true axis.Parent test.Node ∷ [])).is_quiet ≡ false
+a_pair_reads = refl
+
+a_sign_reads : expr_quiet (Expr-F.Negated 0 1 (quiet_path (quiet_step false axis.Child (simple (codes "a")) ∷ []))) ≡ quiet false true
+a_sign_reads = refl
+
+a_comparison_reads : (expr_quiet (Expr-F.Chain (quiet_path []) (record { operator = operator.Equal; right = quiet_path [] } ∷ []))).is_quiet ≡ false
+a_comparison_reads = refl

@@ -9,16 +9,16 @@ use Rattle.xf_doc.specs.Visit.{Visit, visits, has, is_first, top_of}
 use Rattle.xf_doc.specs.StringValue.{string_value}
 use Rattle.xf_doc.specs.Shape.{erased, shape_of}
 use Rattle.xf_doc.specs.WellFormed.{IsForest}
-use Rattle.xf_lang.specs.Given.{Given, document_of}
+use Rattle.xf_lang.specs.declared.value.Value.{Value}
+use Rattle.xf_lang.specs.Given.{Document, Given, document_of}
 use Rattle.xf_lang.specs.Plain.{Plain, Functions}
 use Rattle.xf_lang.specs.Plain as plain
 use Rattle.xf_lang.specs.Setting.{Setting, Focus, setting_over, ◌>>=◌}
-use Rattle.xf_lang.specs.Conversions.{nodes_of, string_of}
-use Rattle.xf_lang.specs.Functions.{set_of}
+use Rattle.xf_lang.specs.Conversions.{string_of}
 use Rattle.xf_lang.specs.Table.{function_at}
 use Rattle.xf_lang.specs.Table as of
 use Rattle.xf_lang.specs.Meaning.{meaning}
-use Rattle.xf_lang.specs.Asked.{Asked, found, converted}
+use Rattle.xf_lang.specs.Asked.{Asked, found, list_around, converted}
 use Rattle.xf_lang.specs.Reads.{trace, shape_setting}
 use Rattle.xf_lang.specs.Agree.{numbers_of, untexted, AreVisits, HaveOneFrame, AgreeOnLists, AgreeOnStrings}
 use Rattle.xf_lang.specs.Exact.{facts_of}
@@ -26,7 +26,7 @@ use Rattle.xf_lang.proofs.VisitFacts.{or-left, self-same, present}
 use Rattle.xf_lang.proofs.AgreeLaw.{begun-agrees}
 use Rattle.xf_lang.proofs.AxisAgree.{Frame}
 use Rattle.xf_lang.proofs.UntextedLaws.{bare-apart, bare-closed, itself, solid-found}
-use Rattle.xf_lang.proofs.Comparison.{Comparison, Solid}
+use Rattle.xf_lang.proofs.Comparison.{Comparison, Solid, Within}
 use Rattle.xf_lang.proofs.ValueAgree.{Premise}
 use Rattle.xf_lang.proofs.AgreeCalls.{Standing}
 use Rattle.xf_lang.proofs.Agreement.{value-agrees, text-agrees}
@@ -44,19 +44,28 @@ pub record InBoth (first second : Forest) (k : ℕ) : Type 0 where
   pub in_second : found k (untexted (bare second)) ≡ Some visit
 
 -- what two forests have in common, whatever is asked of them
-pub record AreForests (functions : Functions) (most : Option ℕ) (given : Given) (first second : Forest) (model current : ℕ) : Type 0 where
+pub record AreForests (functions : Functions) (most : Option ℕ) (given : Given) (documents : List Document) (first second : Forest) (model current : ℕ) : Type 0 where
   pub is_first : IsForest first
   pub is_second : IsForest second
   -- no node has the number of a text in a shape
   pub below : AreBelow (numbers_of (visits first.nodes))
   pub frame : HaveOneFrame (bare first) (bare second)
   pub current_too : InBoth first second current
-  pub documents : (id : List ℕ) (k : ℕ) → has k (nodes_of (set_of (document_of model id given.documents))) ≡ true → InBoth first second k
+  -- the documents of the first stand in it, and an instance is in both or in neither
+  pub documents_stand : (id : List ℕ) (n : ℕ) → document_of model id given.documents ≡ Some n → (x : Visit) × (found n (untexted (bare first)) ≡ Some x)
+  pub absent : (id : List ℕ) → document_of model id given.documents ≡ None → document_of model id documents ≡ None
   -- functions give the same without a limit on strings, and truths where they give truths
   pub extend : (code : ℕ) (ps : List Plain) (p : Plain) → functions most given.decimals code ps ≡ Some p → functions None given.decimals code ps ≡ Some p
   pub truths : (code : ℕ) (ps : List Plain) (p : Plain) → function_at code ≡ of.asking → functions most given.decimals code ps ≡ Some p → (b : Bool) × (p ≡ plain.Truth b)
 
-module _ (functions : Functions) (most : Option ℕ) (given : Given) (first second : Forest) (model current : ℕ) (h : AreForests functions most given first second model current) where
+-- an instance has the same document element in both where the list around it is looked at
+abbrev pub AgreeOnDocuments : List ℕ → Given → List Document → Forest → Forest → ℕ → Type 0
+AgreeOnDocuments looks given documents first second model =
+    (id : List ℕ) (n : ℕ) → document_of model id given.documents ≡ Some n → Within (list_around (map erased (shape_of first.nodes)) n) looks →
+    (document_of model id documents ≡ Some n) × InBoth first second n
+
+module _ (functions : Functions) (most : Option ℕ) (given : Given) (documents : List Document) (indexes : List (List ℕ × ℕ)) (event : Option (List (List ℕ × Value)))
+    (first second : Forest) (model current : ℕ) (h : AreForests functions most given documents first second model current) where
   abbrev shaped : List Visit
   shaped = map erased (shape_of first.nodes)
 
@@ -73,7 +82,7 @@ module _ (functions : Functions) (most : Option ℕ) (given : Given) (first seco
   own-frame : Frame (untexted shaped) (untexted (bare first))
   own-frame = subst (λ part. Frame part (untexted (bare first))) (sym same) (itself (bare first) first_visits)
 
-  both-frame : Frame (untexted (bare first)) (untexted (bare second))
+  pub both-frame : Frame (untexted (bare first)) (untexted (bare second))
   both-frame = record {
     apart = bare-apart (bare first) first_visits;
     apart_too = bare-apart (bare second) second_visits;
@@ -88,6 +97,12 @@ module _ (functions : Functions) (most : Option ℕ) (given : Given) (first seco
     setting = setting_over functions most given (visits first.nodes) model current;
     others = bare second;
     strings = λ n. string_value n (visits second.nodes);
+    documents = documents;
+    indexes = indexes;
+    event = event;
+    shape_documents = given.documents;
+    shape_indexes = given.indexes;
+    shape_event = given.event;
     shape = shaped;
     shape_strings = λ n. string_value n (shape_of first.nodes);
     functions = functions None given.decimals;
@@ -103,13 +118,14 @@ module _ (functions : Functions) (most : Option ℕ) (given : Given) (first seco
   solid k x = record { visit = x.visit; in_shape = ap (found k) same ∙ x.in_first; in_first = x.in_first; in_second = x.in_second }
 
   standing : Standing comparison
-  standing = record { current = solid current h.current_too; documents = λ id k i. solid k (h.documents id k i); truths = h.truths }
+  standing = record { current = solid current h.current_too; absent = λ id e. (e, h.absent id e); truths = h.truths }
 
-  premise : (a : Asked) → AgreeOnLists a.looks (bare first) (bare second) → AgreeOnStrings a.reads shaped (λ n. string_value n (visits first.nodes)) (λ n. string_value n (visits second.nodes)) → Premise comparison a
-  premise a l r = record {
+  premise : (a : Asked) → AgreeOnLists a.looks (bare first) (bare second) → AgreeOnDocuments a.looks given documents first second model → AgreeOnStrings a.reads shaped (λ n. string_value n (visits first.nodes)) (λ n. string_value n (visits second.nodes)) → Premise comparison a
+  premise a l d r = record {
     lists = record {
       first = λ n i. ap (filter (λ (y : Visit). is_first n y.above)) same;
       second = λ n i. ap (filter (λ (y : Visit). is_first n y.above)) same ∙ l n i;
+      same = λ id n e k. let x = d id n e k in record { first = e; second = x.0; solid = solid n x.1 };
     };
     strings = r;
   }
@@ -120,25 +136,29 @@ module _ (functions : Functions) (most : Option ℕ) (given : Given) (first seco
       let top = (begun-agrees comparison Root (record { node = n; position = 1; size = 1 }) (solid n x)).solid (top_of n shaped) (or-left (top_of n shaped == top_of n shaped) false (self-same (top_of n shaped))) in
       present (top_of n shaped) shaped top.visit (solid-found shaped (shape-visits first h.is_first h.below) (top_of n shaped) top.visit top.in_shape).0
 
-  abbrev over : Forest → Setting
-  over forest = setting_over functions most given (visits forest.nodes) model current
+  abbrev over : Setting
+  over = setting_over functions most given (visits first.nodes) model current
+
+  -- the other forest, with what surrounds it
+  abbrev over_other : Setting
+  over_other = setting_over functions most (record given { documents = documents; indexes = indexes; event = event }) (visits second.nodes) model current
 
   -- what is asked of an expression over the shape of the first forest
   abbrev asked_of : Expr → Focus → Asked
   asked_of e c = (trace e).asked (shape_setting functions given first.nodes model current) c
 
   pub one-value : (e : Expr) → (facts_of e).is_exact ≡ true → (c : Focus) → InBoth first second c.node →
-      AgreeOnLists (asked_of e c).looks (bare first) (bare second) →
+      AgreeOnLists (asked_of e c).looks (bare first) (bare second) → AgreeOnDocuments (asked_of e c).looks given documents first second model →
       AgreeOnStrings (asked_of e c).reads shaped (λ n. string_value n (visits first.nodes)) (λ n. string_value n (visits second.nodes)) →
-      meaning e (over first) c ≡ meaning e (over second) c
-  one-value e exact c node l r = value-agrees comparison standing e exact c (solid c.node node) (premise (asked_of e c) l r)
+      meaning e over c ≡ meaning e over_other c
+  one-value e exact c node l d r = value-agrees comparison standing e exact c (solid c.node node) (premise (asked_of e c) l d r)
 
   -- the whole expression asked, as that of an entry is
   abbrev whole_of : Expr → Focus → Asked
   whole_of e c = converted (shape_setting functions given first.nodes model current) (asked_of e c)
 
   pub one-text : (e : Expr) → (facts_of e).is_exact ≡ true → (c : Focus) → InBoth first second c.node →
-      AgreeOnLists (whole_of e c).looks (bare first) (bare second) →
+      AgreeOnLists (whole_of e c).looks (bare first) (bare second) → AgreeOnDocuments (whole_of e c).looks given documents first second model →
       AgreeOnStrings (whole_of e c).reads shaped (λ n. string_value n (visits first.nodes)) (λ n. string_value n (visits second.nodes)) →
-      (meaning e (over first) c >>= string_of (over first)) ≡ (meaning e (over second) c >>= string_of (over second))
-  one-text e exact c node l r = text-agrees comparison standing e exact c (solid c.node node) (premise (whole_of e c) l r)
+      (meaning e over c >>= string_of over) ≡ (meaning e over_other c >>= string_of over_other)
+  one-text e exact c node l d r = text-agrees comparison standing e exact c (solid c.node node) (premise (whole_of e c) l d r)

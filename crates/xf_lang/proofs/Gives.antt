@@ -1,5 +1,5 @@
 -- What one evaluation gives, another gives too, unless a string was too long in the first.
-use Rattle.std.proofs.Common.{◌≡◌, ℕ, Bool, true, false, cond, List, length, nat_lt, Option, Some, None, option_map, refl, sym, subst}
+use Rattle.std.proofs.Common.{◌≡◌, ℕ, Bool, true, false, cond, List, length, nat_lt, Option, Some, None, option_map, refl, sym, subst, ap}
 use Rattle.std.specs.Prelude.{⊤}
 use Rattle.xf_lang.specs.Setting.{◌>>=◌, capped}
 
@@ -26,6 +26,10 @@ gives-same {P = P} (Some a) m' e h = subst (λ n. Gives P (Some a) n) (sym e) (b
 
 pub gives-at : {A : Type 0} {P : A → Type 0} {m m' n n' : Option A} → n ≡ m → n' ≡ m' → Gives P m m' → Gives P n n'
 gives-at {P = P} {m = m} {m' = m'} {n = n} {n' = n'} e i h = subst (λ x. Gives P x n') (sym e) (subst (λ x. Gives P m x) (sym i) h)
+
+pub gives-map_too : {A B : Type 0} {P : A → Type 0} {Q : B → Type 0} {m m' : Option A} (f f' : A → B) → Gives P m m' → ((a : A) → P a → (f' a ≡ f a) × Q (f a)) → Gives Q (option_map f m) (option_map f' m')
+gives-map_too f f' nothing h = nothing
+gives-map_too {Q = Q} f f' (both {a = a} p) h = subst (λ n. Gives Q (Some (f a)) n) (ap Some (sym (h a p).0)) (both (h a p).1)
 
 -- a string within the limit is the string
 pub capped-gives : (most : Option ℕ) (text : List ℕ) → Gives (λ t. t ≡ text) (capped most text) (capped most text)

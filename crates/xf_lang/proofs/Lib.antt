@@ -36,4 +36,6 @@ pub mod ForestVisits
 pub mod ShapeVisits
 pub mod ForestsAgree
 pub mod LooksStand
+pub mod QuietLaws
 pub mod ReadsAgree
+pub mod ShapesAgree

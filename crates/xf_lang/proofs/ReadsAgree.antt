@@ -10,22 +10,27 @@ use Rattle.xf_doc.specs.StringValue.{string_value}
 use Rattle.xf_doc.specs.Shape.{erased, shape_of, only_text, visits_in, is_gone}
 use Rattle.xf_doc.proofs.OrderLaws.{filter-sub, map-sub, sub-different}
 use Rattle.xf_doc.proofs.RenumberLaws.{map-map}
-use Rattle.xf_lang.specs.Given.{Given}
+use Rattle.xf_lang.specs.declared.value.Value.{Value}
+use Rattle.xf_lang.specs.Given.{Document, Given, document_of}
+use Rattle.xf_lang.specs.Conversions.{nodes_of}
+use Rattle.xf_lang.specs.Functions.{set_of}
 use Rattle.xf_lang.specs.Plain.{Functions}
 use Rattle.xf_lang.specs.Setting.{Setting, Focus, setting_over, in_order, ◌>>=◌}
 use Rattle.xf_lang.specs.Conversions.{string_of}
 use Rattle.xf_lang.specs.Meaning.{meaning}
 use Rattle.xf_lang.specs.Asked.{Asked, has_list, found, as_list, parent_in, list_around, converted}
-use Rattle.xf_lang.specs.Reads.{trace, listed, reads_in, looks_in, shape_setting}
+use Rattle.xf_lang.specs.Reads.{trace, listed, reads_in, looks_in, set_looks_in, shape_setting}
 use Rattle.xf_lang.specs.Agree.{numbers_of, are_apart, untexted, list_of, AreVisits, AgreeOnLists, AgreeOnStrings}
 use Rattle.xf_lang.specs.Exact.{facts_of}
+use Rattle.xf_lang.specs.Quiet.{quiet_of}
 use Rattle.xf_lang.proofs.VisitFacts.{no, some-same, none-some, or-cases, found-number, has-found, present, found-in}
 use Rattle.xf_lang.proofs.AxisAgree.{has-sub}
 use Rattle.xf_lang.proofs.UntextedLaws.{bare-apart, solid-found}
 use Rattle.xf_lang.proofs.LooksStand.{Stands, HasParents, AskedStands, converted-stands, asked-stands}
 use Rattle.xf_lang.proofs.ForestVisits.{Each, self-found, list-solid, forest-visits}
 use Rattle.xf_lang.proofs.ShapeVisits.{AreBelow, comes, not-text, shape-waits, shape-untexted, shape-visits}
-use Rattle.xf_lang.proofs.ForestsAgree.{bare, InBoth, AreForests, top-stands, one-text}
+use Rattle.xf_lang.proofs.ForestsAgree.{bare, InBoth, AreForests, AgreeOnDocuments, top-stands, one-value, one-text}
+use Rattle.xf_lang.proofs.QuietLaws.{reads-none}
 
 opened : (m : Option Visit) (ns : List ℕ) → option_map (λ (z : Visit). z.above) m ≡ Some ns → (z : Visit) × (m ≡ Some z)
 opened None ns h = none-some h
@@ -51,7 +56,20 @@ module _ (all : List Visit) (v : AreVisits all) where
       let z = opened (found n (untexted all)) ns (v.closed k n ns x e i) in
       (z.0, z.1, v.parents k n ns x z.0 e i (solid-found all v n z.0 z.1).0)
 
-  parents-stand : (n : ℕ) (k : ℕ) → has k (list_around all n) ≡ true → has k (numbers_of all) ≡ true
+  -- the node around whose list another stands
+  parent-of : (n m : ℕ) → has m (list_around all n) ≡ true → (z : Visit) × (found m all ≡ Some z) × (has_list z.content ≡ true)
+  parent-of n m h = by (found n all) refl h
+    where
+      by : (o : Option Visit) → found n all ≡ o → has m (parent_in o) ≡ true → (z : Visit) × (found m all ≡ Some z) × (has_list z.content ≡ true)
+      by None e i = no i
+      by (Some x) e i = of x.above refl i
+        where
+          of : (ns : List ℕ) → x.above ≡ ns → has m (as_list (first_of ns)) ≡ true → (z : Visit) × (found m all ≡ Some z) × (has_list z.content ≡ true)
+          of [] j l = no l
+          of (p ∷ ps) j l = elim (or-cases (m == p) false l)
+              [ inl a ↦ let z = parent-there n p ps x e j in (z.0, ap (λ q. found q all) (eqb-true m p a) ∙ (solid-found all v p z.0 z.1).0, z.2) | inr b ↦ no b ]
+
+  pub parents-stand : (n : ℕ) (k : ℕ) → has k (list_around all n) ≡ true → has k (numbers_of all) ≡ true
   parents-stand n k h = by (found n all) refl h
     where
       by : (m : Option Visit) → found n all ≡ m → has k (parent_in m) ≡ true → has k (numbers_of all) ≡ true
@@ -84,7 +102,8 @@ module _ (all : List Visit) (v : AreVisits all) where
           by true j l = no (off y e.0 j)
           by false j l = l
 
-module _ (functions : Functions) (most : Option ℕ) (given : Given) (first second : Forest) (model current : ℕ) (h : AreForests functions most given first second model current)
+module _ (functions : Functions) (most : Option ℕ) (given : Given) (documents : List Document) (indexes : List (List ℕ × ℕ)) (event : Option (List (List ℕ × Value)))
+    (first second : Forest) (model current : ℕ) (h : AreForests functions most given documents first second model current)
     (below_too : AreBelow (numbers_of (visits second.nodes))) where
   abbrev shaped : List Visit
   shaped = map erased (shape_of first.nodes)
@@ -129,7 +148,7 @@ module _ (functions : Functions) (most : Option ℕ) (given : Given) (first seco
           kept = filter (λ q. not (is_gone (only_text (visits first.nodes)) q)) (bare first)
 
   -- where the lists told are the same, all that are asked are
-  lists-told : (looks : List ℕ) → ((k : ℕ) → has k looks ≡ true → has k (numbers_of shaped) ≡ true) → AgreeOnLists (listed shaped looks) (bare first) (bare second) → AgreeOnLists looks (bare first) (bare second)
+  pub lists-told : (looks : List ℕ) → ((k : ℕ) → has k looks ≡ true → has k (numbers_of shaped) ≡ true) → AgreeOnLists (listed shaped looks) (bare first) (bare second) → AgreeOnLists looks (bare first) (bare second)
   lists-told looks stand told n i =
       let x = standing-at n shaped (stand n i) in
       elim (cases_Bool (has_list x.0.content)) [
@@ -149,29 +168,65 @@ module _ (functions : Functions) (most : Option ℕ) (given : Given) (first seco
   strings-told : (reads : List ℕ) (a b : ℕ → List ℕ) → ((n : ℕ) → has n (in_order shaped reads) ≡ true → a n ≡ b n) → AgreeOnStrings reads shaped a b
   strings-told reads a b told n i k = told n (in-order_has shaped shaped_visits.apart reads n i k)
 
-  abbrev over : Forest → Setting
-  over forest = setting_over functions most given (visits forest.nodes) model current
+  -- the list around a node is told where it is asked
+  pub documents-told : (looks : List ℕ) → AgreeOnDocuments (listed shaped looks) given documents first second model → AgreeOnDocuments looks given documents first second model
+  documents-told looks told id n e w = told id n e (λ m i. around m i (w m i))
+    where
+      part : are_apart (numbers_of (filter (λ y. has_list y.content) shaped)) ≡ true
+      part = sub-different (map-sub (λ (y : Visit). y.number) (filter-sub (λ y. has_list y.content) shaped)) shaped_visits.apart
+
+      around : (m : ℕ) → has m (list_around shaped n) ≡ true → has m looks ≡ true → has m (listed shaped looks) ≡ true
+      around m i j = let z = parent-of shaped shaped_visits n m i in
+          present m (filter (λ y. has y.number looks) (filter (λ y. has_list y.content) shaped)) z.0
+          (found-in (λ y. has y.number looks) m (filter (λ y. has_list y.content) shaped) z.0 part (found-in (λ y. has_list y.content) m shaped z.0 shaped_visits.apart z.1 z.2) (ap (λ q. has q looks) (found-number m shaped z.0 z.1) ∙ j))
+
+  abbrev over : Setting
+  over = setting_over functions most given (visits first.nodes) model current
+
+  abbrev over_other : Setting
+  over_other = setting_over functions most (record given { documents = documents; indexes = indexes; event = event }) (visits second.nodes) model current
 
   abbrev at_shape : Setting
   at_shape = shape_setting functions given first.nodes model current
 
-  shape-stands : (c : Focus) → InBoth first second c.node → Stands at_shape c
+  in-shape : (k : ℕ) (x : Visit) → found k (untexted (bare first)) ≡ Some x → has k (numbers_of shaped) ≡ true
+  in-shape k x e = present k shaped x (solid-found shaped shaped_visits k x (ap (found k) (shape-untexted (visits first.nodes)) ∙ e)).0
+
+  of_document : (id : List ℕ) (k : ℕ) (m : Option ℕ) → document_of model id given.documents ≡ m → has k (nodes_of (set_of m)) ≡ true → has k (numbers_of shaped) ≡ true
+  of_document id k None e i = no i
+  of_document id k (Some n) e i = elim (or-cases (k == n) false i)
+      [ inl a ↦ let x = h.documents_stand id n e in ap (λ m. has m (numbers_of shaped)) (eqb-true k n a) ∙ in-shape n x.0 x.1 | inr b ↦ no b ]
+
+  pub shape-stands : (c : Focus) → InBoth first second c.node → Stands at_shape c
   shape-stands c node =
-      let in_shape : (k : ℕ) → InBoth first second k → has k (numbers_of shaped) ≡ true = λ k x. present k shaped x.visit (solid-found shaped shaped_visits k x.visit (ap (found k) (shape-untexted (visits first.nodes)) ∙ x.in_first)).0 in
+      let in_shape : (k : ℕ) → InBoth first second k → has k (numbers_of shaped) ≡ true = λ k x. in-shape k x.visit x.in_first in
       record {
         node = in_shape c.node node;
-        top = top-stands functions most given first second model current h c.node node;
+        top = top-stands functions most given documents indexes event first second model current h c.node node;
         current = in_shape current h.current_too;
-        documents = λ id k i. in_shape k (h.documents id k i);
+        documents = λ id k i. of_document id k (document_of model id given.documents) refl i;
       }
 
   pub one-text_told : (e : Expr) → (facts_of e).is_exact ≡ true → (c : Focus) → InBoth first second c.node →
       AgreeOnLists (looks_in (trace e) at_shape c) (bare first) (bare second) →
+      AgreeOnDocuments (looks_in (trace e) at_shape c) given documents first second model →
       ((n : ℕ) → has n (reads_in (trace e) at_shape c) ≡ true → string_value n (visits first.nodes) ≡ string_value n (visits second.nodes)) →
-      (meaning e (over first) c >>= string_of (over first)) ≡ (meaning e (over second) c >>= string_of (over second))
-  one-text_told e exact c node l r =
+      (meaning e over c >>= string_of over) ≡ (meaning e over_other c >>= string_of over_other)
+  one-text_told e exact c node l d r =
       let a : Asked = (trace e).asked at_shape c in
       let all : Asked = converted at_shape a in
       let parents : HasParents at_shape = λ n k i. parents-stand shaped shaped_visits n k i in
       let stands : AskedStands at_shape all = converted-stands at_shape parents a (asked-stands e exact at_shape parents c (shape-stands c node)) in
-      one-text functions most given first second model current h e exact c node (lists-told all.looks stands.looks l) (strings-told all.reads _ _ r)
+      one-text functions most given documents indexes event first second model current h e exact c node (lists-told all.looks stands.looks l) (documents-told all.looks d) (strings-told all.reads _ _ r)
+
+  -- a set of nodes as that of a bind: what reads nothing depends on the lists alone
+  pub one-set_told : (e : Expr) → (facts_of e).is_exact ≡ true → (quiet_of e).is_quiet ≡ true → (c : Focus) → InBoth first second c.node →
+      AgreeOnLists (set_looks_in (trace e) at_shape c) (bare first) (bare second) →
+      AgreeOnDocuments (set_looks_in (trace e) at_shape c) given documents first second model →
+      meaning e over c ≡ meaning e over_other c
+  one-set_told e exact quiet c node l d =
+      let a : Asked = (trace e).asked at_shape c in
+      let parents : HasParents at_shape = λ n k i. parents-stand shaped shaped_visits n k i in
+      let stands : AskedStands at_shape a = asked-stands e exact at_shape parents c (shape-stands c node) in
+      one-value functions most given documents indexes event first second model current h e exact c node (lists-told a.looks stands.looks l) (documents-told a.looks d)
+      (λ n i j. no (ap (has n) (sym (reads-none e quiet at_shape c)) ∙ j))

@@ -62,7 +62,7 @@ swap p q (x ∷ xs) = by (p x) (q x) refl refl (swap p q xs)
     by false true e i h = ap (λ b. cond b (x ∷ filter p (filter q xs)) (filter p (filter q xs))) e ∙ h
     by false false e i h = h
 
-retexted-untexted : (texts : Texts) (all : List Visit) → untexted (retexted texts all) ≡ untexted all
+pub retexted-untexted : (texts : Texts) (all : List Visit) → untexted (retexted texts all) ≡ untexted all
 retexted-untexted texts all =
     filled-untexted (visits_in texts) (in-untexted texts) [] (filter (λ x. not (is_gone texts x)) all) refl
     ∙ swap (λ z. not (is_text z.content)) (λ x. not (is_gone texts x)) all
@@ -104,7 +104,7 @@ is-above n = grind (arith, nat_tests)
 text-same : (n m : ℕ) → text_number n ≡ text_number m → n ≡ m
 text-same n m h = omega (arith, h)
 
-not-has : (b : Bool) → (b ≡ true → false ≡ true) → b ≡ false
+pub not-has : (b : Bool) → (b ≡ true → false ≡ true) → b ≡ false
 not-has true h = sym (h refl)
 not-has false h = refl
 
@@ -157,7 +157,7 @@ module _ (g : Visit → List Visit) (given : (x : Visit) → Waits x.number (g x
   pub not-text : (k n : ℕ) → nat_lt k (2 ^ 128) ≡ true → k ≡ text_number n → false ≡ true
   not-text k n h e = sym (is-above n) ∙ ap (λ m. nat_lt m (2 ^ 128)) (sym e) ∙ h
 
-  filled-apart : (m : ℕ) (ws ys : List Visit) → Waits m ws → has m (numbers_of ys) ≡ false → are_apart (numbers_of ys) ≡ true → AreBelow (numbers_of ys) → are_apart (numbers_of (filled g ws ys)) ≡ true
+  pub filled-apart : (m : ℕ) (ws ys : List Visit) → Waits m ws → has m (numbers_of ys) ≡ false → are_apart (numbers_of ys) ≡ true → AreBelow (numbers_of ys) → are_apart (numbers_of (filled g ws ys)) ≡ true
   filled-apart m [] [] h a d b = refl
   filled-apart m (v ∷ vs) [] h a d b = subst (λ l. are_apart (numbers_of (v ∷ l)) ≡ true) (sym h.1) refl
   filled-apart m ws (y ∷ ys) h a d b =
@@ -267,7 +267,7 @@ module _ (all : List Visit) (v : AreVisits all) where
       by true h = of h (texts y.number)
       by false h = tt
 
-  retexted-closed : (texts : Texts) → Each (ClosedIn (untexted all)) (retexted texts all)
+  pub retexted-closed : (texts : Texts) → Each (ClosedIn (untexted all)) (retexted texts all)
   retexted-closed texts =
       filled-each (ClosedIn (untexted all)) (visits_in texts) [] (filter (λ x. not (is_gone texts x)) all) tt
       (each-filter (λ y. ClosedIn (untexted all) y × Each (ClosedIn (untexted all)) (visits_in texts y)) (λ x. not (is_gone texts x)) all
@@ -283,7 +283,7 @@ element-list (content.Attribute name text) h = no h
 element-list (content.Text text) h = no h
 
 -- the parent of each node stands in the forest and has a list there
-abbrev Hangs : List Visit → Visit → Type 0
+abbrev pub Hangs : List Visit → Visit → Type 0
 Hangs all v = (n : ℕ) (ns : List ℕ) → v.above ≡ n ∷ ns → (z : Visit) × (found n (untexted all) ≡ Some z) × (has_list z.content ≡ true)
 
 opened : (m : Option Visit) (ns : List ℕ) → option_map (λ (z : Visit). z.above) m ≡ Some ns → (z : Visit) × (m ≡ Some z)
@@ -316,7 +316,7 @@ module _ (all : List Visit) (v : AreVisits all) where
       by true h = of h (texts y.number)
       by false h = tt
 
-  retexted-hang : (texts : Texts) → Each (Hangs all) (retexted texts all)
+  pub retexted-hang : (texts : Texts) → Each (Hangs all) (retexted texts all)
   retexted-hang texts =
       filled-each (Hangs all) (visits_in texts) [] (filter (λ x. not (is_gone texts x)) all) tt
       (each-filter (λ y. Hangs all y × Each (Hangs all) (visits_in texts y)) (λ x. not (is_gone texts x)) all
@@ -334,7 +334,7 @@ hanging-parents xs all apart same e k n ns x z h i j = by (found k xs) refl (sym
         let here : found n (map erased xs) ≡ Some p.0 = (found-out (λ (q : Visit). not (is_text q.content)) n (map erased xs) p.0 apart (ap (found n) same ∙ p.1)).0 in
         ap (λ (q : Visit). has_list q.content) (some-same (sym j ∙ here)) ∙ p.2
 
-limit : nat_lt (2 ^ 128) (2 ^ 128) ≡ true → false ≡ true
+pub limit : nat_lt (2 ^ 128) (2 ^ 128) ≡ true → false ≡ true
 limit h = grind (arith, nat_tests, h)
 
 closed-erased-in : (xs part : List Visit) → untexted (map erased xs) ≡ part → Each (ClosedIn part) xs → (k n : ℕ) (ns : List ℕ) (x : Visit) → found k (map erased xs) ≡ Some x → x.above ≡ n ∷ ns → option_map (λ (z : Visit). z.above) (found n (untexted (map erased xs))) ≡ Some ns

@@ -17,4 +17,5 @@ pub mod Reads
 pub mod Same
 pub mod Agree
 pub mod Exact
+pub mod Quiet
 pub mod Examples

@@ -6,12 +6,16 @@ pub mod PertinentExamples
 pub mod ShapeCorollaries
 pub mod SubmittedExamples
 pub mod PlaceExamples
+pub mod AgreeLaws
+pub mod AgreeStrings
 pub mod CircularLemmas
 pub mod EachLemmas
 pub mod HoldingLaws
 pub mod HoldingStrings
+pub mod HoldingVisits
 pub mod PertinentLaws
 pub mod RankLemmas
+pub mod ReadSolid
 pub mod RenumberApplied
 pub mod RenumberBinds
 pub mod RenumberCircular
