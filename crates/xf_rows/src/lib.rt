@@ -8,8 +8,6 @@ mod forms;
 #[cfg(test)]
 mod lines;
 #[cfg(test)]
-mod plain;
-#[cfg(test)]
 mod runs;
 #[cfg(test)]
 mod sums;
