@@ -7,6 +7,7 @@ pub mod Equations
 pub mod Keeps
 pub mod Options
 pub mod OrderLaws
+pub mod WithoutLimit
 pub mod RenumberLaws
 pub mod RenumberValues
 pub mod RenumberAsked
