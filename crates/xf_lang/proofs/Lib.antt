@@ -8,6 +8,7 @@ pub mod Keeps
 pub mod Options
 pub mod OrderLaws
 pub mod WithoutLimit
+pub mod LimitLaws
 pub mod RenumberLaws
 pub mod RenumberValues
 pub mod RenumberAsked
