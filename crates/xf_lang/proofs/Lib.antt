@@ -41,3 +41,4 @@ pub mod LooksStand
 pub mod QuietLaws
 pub mod ReadsAgree
 pub mod ShapesAgree
+pub mod SetsAsked
