@@ -42,3 +42,5 @@ pub mod QuietLaws
 pub mod ReadsAgree
 pub mod ShapesAgree
 pub mod SetsAsked
+pub mod PartLaws
+pub mod PartsAgree
