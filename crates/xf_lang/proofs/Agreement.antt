@@ -1,15 +1,17 @@
 -- The law on which incremental recalculation rests: two forests that agree on what an expression reads and looks at give it one value.
-use Rattle.std.proofs.Common.{◌≡◌, ℕ, true, Option, Some, None, refl, sym, ap, ◌∙◌}
+use Rattle.std.proofs.Common.{◌≡◌, ℕ, true, Option, Some, None, refl, sym, ap, ◌∙◌, subst}
 use Rattle.xf_ast.specs.declared.expr.Expr.{Expr}
 use Rattle.xf_lang.specs.Setting.{Focus, ◌>>=◌}
-use Rattle.xf_lang.specs.Conversions.{string_of}
+use Rattle.xf_lang.specs.declared.value.Value.{Value}
+use Rattle.xf_lang.specs.Conversions.{nodes_of, string_of}
 use Rattle.xf_lang.specs.Meaning.{meaning}
 use Rattle.xf_lang.specs.Asked.{Asked, converted}
 use Rattle.xf_lang.specs.Reads.{trace}
 use Rattle.xf_lang.specs.Exact.{facts_of}
 use Rattle.xf_lang.proofs.TraceKeeps.{meaning-of_trace}
 use Rattle.xf_lang.proofs.Comparison.{Comparison, other, over_shape, Solid}
-use Rattle.xf_lang.proofs.Gives.{Gives, both}
+use Rattle.xf_lang.proofs.Gives.{Gives, nothing, both}
+use Rattle.xf_lang.proofs.VisitFacts.{some-same, none-some}
 use Rattle.xf_lang.proofs.ValueAgree.{Premise, Agreed, in-converted, made, string-of_same}
 use Rattle.xf_lang.proofs.AgreeCalls.{Standing}
 use Rattle.xf_lang.proofs.AgreeLaw.{agreement}
@@ -66,6 +68,10 @@ given-both None None h k = refl
 given-both None (Some y) h k = given-some k
 given-both (Some x) m' h k = sym (given-some h)
 
+of-given : {A : Type 0} {P : A → Type 0} {m m' : Option A} (x : A) → Gives P m m' → m ≡ Some x → P x
+of-given x nothing e = none-some e
+of-given {P = P} x (both p) e = subst P (some-same e) p
+
 module _ (w : Comparison) (stand : Standing w) (x : Expr) (exact : (facts_of x).is_exact ≡ true) (c : Focus) (node : Solid w c.node) where
   abbrev asked : Asked
   asked = (trace x).asked (over_shape w) c
@@ -92,3 +98,7 @@ module _ (w : Comparison) (stand : Standing w) (x : Expr) (exact : (facts_of x).
       (made w (string_of w.setting) (string_of (other w)) (string-of_same w) asked _ _ (first q) p)
       (made (swapped w) (string_of (other w)) (string_of w.setting) (string-of_same (swapped w)) asked _ _ (second q) (premise-swapped w (converted (over_shape w) asked) p))
       ∙ ap (λ m. m (other w) c >>= string_of (other w)) (meaning-of_trace x)
+
+  -- the nodes of the value are those that are asked
+  pub set-asked : Premise w asked → (v : Value) → meaning x w.setting c ≡ Some v → nodes_of v ≡ asked.set
+  set-asked p v e = (of-given v (first p).given (ap (λ m. m w.setting c) (meaning-of_trace x) ∙ e)).0

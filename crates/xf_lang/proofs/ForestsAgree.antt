@@ -70,16 +70,16 @@ module _ (functions : Functions) (most : Option ℕ) (given : Given) (documents 
   shaped = map erased (shape_of first.nodes)
 
   -- without texts the shape is the first forest
-  same : untexted shaped ≡ untexted (bare first)
+  pub same : untexted shaped ≡ untexted (bare first)
   same = shape-untexted (visits first.nodes)
 
-  first_visits : AreVisits (bare first)
+  pub first_visits : AreVisits (bare first)
   first_visits = forest-visits first h.is_first
 
-  second_visits : AreVisits (bare second)
+  pub second_visits : AreVisits (bare second)
   second_visits = forest-visits second h.is_second
 
-  own-frame : Frame (untexted shaped) (untexted (bare first))
+  pub own-frame : Frame (untexted shaped) (untexted (bare first))
   own-frame = subst (λ part. Frame part (untexted (bare first))) (sym same) (itself (bare first) first_visits)
 
   pub both-frame : Frame (untexted (bare first)) (untexted (bare second))
@@ -92,7 +92,7 @@ module _ (functions : Functions) (most : Option ℕ) (given : Given) (documents 
     contents = λ n x y a b. h.frame.contents n x y (solid-found (bare first) first_visits n x a).0 (solid-found (bare second) second_visits n y b).0;
   }
 
-  abbrev comparison : Comparison
+  abbrev pub comparison : Comparison
   comparison = record {
     setting = setting_over functions most given (visits first.nodes) model current;
     others = bare second;
@@ -114,13 +114,13 @@ module _ (functions : Functions) (most : Option ℕ) (given : Given) (documents 
     other_frame = subst (λ part. Frame part (untexted (bare second))) (sym same) both-frame;
   }
 
-  solid : (k : ℕ) → InBoth first second k → Solid comparison k
+  pub solid : (k : ℕ) → InBoth first second k → Solid comparison k
   solid k x = record { visit = x.visit; in_shape = ap (found k) same ∙ x.in_first; in_first = x.in_first; in_second = x.in_second }
 
-  standing : Standing comparison
+  pub standing : Standing comparison
   standing = record { current = solid current h.current_too; absent = λ id e. (e, h.absent id e); truths = h.truths }
 
-  premise : (a : Asked) → AgreeOnLists a.looks (bare first) (bare second) → AgreeOnDocuments a.looks given documents first second model → AgreeOnStrings a.reads shaped (λ n. string_value n (visits first.nodes)) (λ n. string_value n (visits second.nodes)) → Premise comparison a
+  pub premise : (a : Asked) → AgreeOnLists a.looks (bare first) (bare second) → AgreeOnDocuments a.looks given documents first second model → AgreeOnStrings a.reads shaped (λ n. string_value n (visits first.nodes)) (λ n. string_value n (visits second.nodes)) → Premise comparison a
   premise a l d r = record {
     lists = record {
       first = λ n i. ap (filter (λ (y : Visit). is_first n y.above)) same;

@@ -7,6 +7,8 @@ pub mod Equations
 pub mod Keeps
 pub mod Options
 pub mod OrderLaws
+pub mod WithoutLimit
+pub mod LimitLaws
 pub mod RenumberLaws
 pub mod RenumberValues
 pub mod RenumberAsked
@@ -39,3 +41,6 @@ pub mod LooksStand
 pub mod QuietLaws
 pub mod ReadsAgree
 pub mod ShapesAgree
+pub mod SetsAsked
+pub mod PartLaws
+pub mod PartsAgree

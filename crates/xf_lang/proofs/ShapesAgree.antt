@@ -42,13 +42,13 @@ module _ (functions : Functions) (given : Given) (documents : List Document) (in
   same : untexted shaped ≡ untexted (bare first)
   same = shape-untexted (visits first.nodes)
 
-  same-too : untexted shaped_too ≡ untexted (bare second)
+  pub same-too : untexted shaped_too ≡ untexted (bare second)
   same-too = shape-untexted (visits second.nodes)
 
-  shaped_visits : AreVisits shaped
+  pub shaped_visits : AreVisits shaped
   shaped_visits = shape-visits first h.is_first h.below
 
-  frame : Frame (untexted shaped) (untexted shaped_too)
+  pub frame : Frame (untexted shaped) (untexted shaped_too)
   frame = subst (λ part. Frame part (untexted shaped_too)) (sym same) (subst (λ part. Frame (untexted (bare first)) part) (sym same-too)
       (both-frame functions None given documents indexes event first second model current h))
 
@@ -59,7 +59,7 @@ module _ (functions : Functions) (given : Given) (documents : List Document) (in
   abbrev at_shape_too : Setting
   at_shape_too = shape_setting functions (record given { documents = documents; indexes = indexes; event = event }) second.nodes model current
 
-  abbrev comparison : Comparison
+  abbrev pub comparison : Comparison
   comparison = record {
     setting = at_shape;
     others = shaped_too;
@@ -81,10 +81,10 @@ module _ (functions : Functions) (given : Given) (documents : List Document) (in
     other_frame = frame;
   }
 
-  solid : (k : ℕ) → InBoth first second k → Solid comparison k
+  pub solid : (k : ℕ) → InBoth first second k → Solid comparison k
   solid k x = record { visit = x.visit; in_shape = ap (found k) same ∙ x.in_first; in_first = ap (found k) same ∙ x.in_first; in_second = ap (found k) same-too ∙ x.in_second }
 
-  standing : Standing comparison
+  pub standing : Standing comparison
   standing = record { current = solid current h.current_too; absent = λ id e. (e, h.absent id e); truths = h.truths }
 
   -- nothing is read: the lists are enough
