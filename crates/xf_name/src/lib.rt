@@ -15,7 +15,7 @@ pub use axis::Axis;
 pub use fault::{NameFault, SurveyFault};
 pub use form_names::{FirstFault, Surveyed, collect, survey};
 pub use lit::{Lit, LitElement, LitList, Pair, PairList};
-pub use part::is_part;
+pub use part::{at_colon, begins_part, continues_part, is_part};
 pub use prefixes::Prefixes;
 pub use qname::QName;
 pub use word::Word;

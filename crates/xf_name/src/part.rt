@@ -22,20 +22,22 @@ pub fn is_part(text: &str) -> bool
     }
 }
 
-fn begins_part(c: char) -> bool
+/// Whether a character may begin a part of a name.
+pub fn begins_part(c: char) -> bool
     ensures { result ≡ begins_part c }
 {
     is_xid_start(c) || c == '_'
 }
 
-fn continues_part(c: char) -> bool
+/// Whether a character may stand in a part of a name, behind its first one.
+pub fn continues_part(c: char) -> bool
     ensures { result ≡ continues_part c }
 {
     is_xid_continue(c) || c == '-' || c == '.'
 }
 
-// What stands before and after the first colon.
-pub(crate) fn at_colon(text: &str) -> Option<(&str, &str)>
+/// What stands before and after the first colon of a written name.
+pub fn at_colon(text: &str) -> Option<(&str, &str)>
     ensures { option_map (λ p. (p.0.now, p.1.now)) result ≡ at_colon text.now }
 {
     text.split_once(':')

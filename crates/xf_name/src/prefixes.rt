@@ -1,20 +1,22 @@
 //! The prefixes and namespaces of a form.
 
-ghost use Rattle.std.specs.Prelude.{◌≡◌, map, option_map};
+ghost use Rattle.std.specs.Prelude.{◌≡◌, map, option_map, IfOk};
 ghost use Rattle.xf_base.specs.Gives.{Gives};
 ghost use Rattle.xf_name.specs.Part.{is_part, kind_of};
 ghost use Rattle.xf_name.specs.Bindings.{no_bindings, space_number, prefix_numbers, text_of_space, text_of_prefix, resolved};
+ghost use Rattle.xf_name.specs.Faults.{name_fault};
 ghost use Rattle.xf_name.specs.Declarations.{with_space, with_prefix, with_kind, with_attributes};
 ghost use Rattle.xf_name.specs.Declares.{Declares, GivesTables};
 ghost use Rattle.xf_name.specs.Shown.{shown_by, with_shown};
 
 use crate::fault::{NameFault, SurveyFault};
+use crate::faults::name_fault;
 use crate::lit::{LitElement, Pair};
 use crate::part::{at_colon, is_part};
 use crate::qname::QName;
 use crate::word::Word;
 use indexmap::{IndexMap, IndexSet};
-use std::alloc::Global;
+use std::alloc::{AllocError, Global};
 use std::marker::Model;
 
 // The prefix that every form knows, its namespace, and the number of both.
@@ -144,6 +146,14 @@ impl Prefixes {
             Some(text) => Some(text.as_str()),
             None => None,
         }
+    }
+
+    /// The first fault of an element: of its names, then of its prefixes.
+    pub fn fault_of(&self, element: &LitElement) -> Result<Option<NameFault>, AllocError>
+        ensures { IfOk result (λ fault. fault ≡ name_fault self.now element.now.name element.now.attributes) }
+    {
+        let mut seen = IndexSet::new(self.alloc);
+        name_fault(self, element, &mut seen)
     }
 
     // What elements declare, in their order.

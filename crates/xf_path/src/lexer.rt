@@ -7,7 +7,7 @@ ghost use Rattle.xf_name.specs.Part as part;
 ghost use Rattle.xf_path.specs.Tokens as spec;
 
 use crate::token::Kind;
-use unicode_ident::{is_xid_continue, is_xid_start};
+use xf_name::{begins_part, continues_part};
 
 /// The first character of a text, and what follows it.
 pub fn first_char(text: &str) -> Option<(char, &str)>
@@ -31,20 +31,6 @@ fn is_digit(c: char) -> bool
     ensures { result ≡ number.is_digit c }
 {
     '0' <= c && c <= '9'
-}
-
-/// Whether a character may begin a part of a name.
-fn begins_part(c: char) -> bool
-    ensures { result ≡ part.begins_part c }
-{
-    is_xid_start(c) || c == '_'
-}
-
-/// Whether a character may stand in a part of a name.
-fn continues_part(c: char) -> bool
-    ensures { result ≡ part.continues_part c }
-{
-    is_xid_continue(c) || c == '-' || c == '.'
 }
 
 /// What follows the white space that a text begins with.

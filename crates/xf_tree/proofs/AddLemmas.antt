@@ -1,0 +1,314 @@
+-- A tree that came in behind all others.
+use Rattle.std.proofs.Common.{◌≡◌, ℕ, zero, suc, ◌+◌, ◌-◌, ◌<◌, ◌≤◌, ◌^◌, ◌*◌, ◌==◌, ◌&&◌, ◌||◌, not, get_or, Bool, true, false, List, [], ◌∷◌, ◌++◌, map, length, take, drop, Option, Some, None, IsSome, refl, sym, ap, ◌∙◌, subst, inl, inr, nat_lt, if◌then◌else◌, arith, length-append}
+use Rattle.std.specs.Prelude.{is_some}
+use Rattle.std.proofs.lemmas.Bool.{cases_lt, cases_Bool, false≢true}
+use Rattle.std.specs.List.{list_any}
+use Rattle.std.proofs.lemmas.List.{take-append-drop, map-append, length-map}
+use Rattle.slab.specs.Slab.{Slab, get}
+use Rattle.xf_doc.specs.declared.content.Node.{Node}
+use Rattle.xf_doc.specs.declared.content.Content.{Content}
+use Rattle.xf_doc.specs.declared.content.Content.TheVariants.{Root, Element, Attribute, Text}
+use Rattle.xf_doc.specs.declared.content.Kind.{Kind}
+use Rattle.xf_doc.specs.declared.content.Kind.TheVariants as kind
+use Rattle.xf_doc.specs.declared.fault.TreeFault.TheVariants.{Nodes, AllText}
+use Rattle.std.proofs.lemmas.Bool.Decides.{nat_tests}
+use Rattle.xf_doc.specs.Changes.{shifted, contents_in}
+use Rattle.xf_doc.specs.Forest.{is_text, is_root, kind_of, has_number, first_tree, tree_of}
+use Rattle.xf_doc.specs.Limits.{Limits, node_count, all_size, size_of, passed_by_all}
+use Rattle.xf_doc.specs.Plant.{numbered_from}
+use Rattle.xf_doc.specs.Texts.{KeptText, Keeping}
+use Rattle.xf_tree.specs.declared.rows.Row.{Row}
+use Rattle.xf_tree.specs.declared.slot.Slot.{Slot}
+use Rattle.xf_tree.specs.Rows.{Sized, deeper, tree_of as row_tree}
+use Rattle.xf_tree.specs.Calls.{with_contents}
+use Rattle.xf_tree.specs.Tree.{node_of, kept_of, number_in, content_in, times, kept_times, AllLive, AllKept, AllTops, AreSteps, depths, KeepsLive, IsTree, AllPlain, size_of_all, IsSound, IsCounted, IsState, StandsAt, keeping_of, part_of, no_row}
+use Rattle.xf_tree.proofs.SizedLemmas.{sized-append, lt-true, lt-false, AllDeep}
+use Rattle.xf_tree.proofs.CutLemmas.{all-deep-zero, all-deeper}
+use Rattle.xf_tree.proofs.NodeLemmas.{Parted, parted-from, eq-true, times-append}
+use Rattle.xf_tree.proofs.CountLemmas.{nodes-append, sizes-append, sizes-cons, nodes-most}
+use Rattle.xf_tree.proofs.StepLemmas.{most_after, steps-append, steps-more, steps-parts, steps-lowered}
+use Rattle.xf_tree.proofs.ForestLemmas.{live-append, tops-append, tops-parts, above-deep}
+use Rattle.xf_tree.proofs.ParentLemmas.{deep-prefix}
+use Rattle.xf_tree.proofs.PlaceLemmas.{split-at, stands, below-is, parted-at}
+use Rattle.xf_tree.proofs.StackLemmas.{absent-parts}
+use Rattle.xf_tree.proofs.PushLemmas.{kept-nodes, kept-live}
+use Rattle.xf_tree.proofs.NumberLemmas.{low-times, high-times, new-times, new-count, new-size, new-tops}
+
+text-some : (o : Option Slot) → is_text (content_in o) ≡ true → IsSome o
+text-some None e = cc e
+text-some (Some s) e = refl
+
+pub kept-same : (s s2 : Slab Slot) (keys : List ℕ) → AllKept s keys → KeepsLive s s2 → map (kept_of s2) keys ≡ map (kept_of s) keys
+kept-same s s2 [] all keeps = refl
+kept-same s s2 (k ∷ ks) all keeps = let a = keeps k (text-some (get s k) all.0) in let b = kept-same s s2 ks all.1 keeps in cc
+
+pub kept-texts : (s s2 : Slab Slot) (keys : List ℕ) → AllKept s keys → KeepsLive s s2 → AllKept s2 keys
+kept-texts s s2 [] all keeps = tt
+kept-texts s s2 (k ∷ ks) all keeps =
+    (subst (λ o. is_text (content_in o) ≡ true) (sym (keeps k (text-some (get s k) all.0))) all.0, kept-texts s s2 ks all.1 keeps)
+
+-- a slab that has the same under each key
+pub same-state : (s s2 : Slab Slot) (rows : List Row) (kept : List ℕ) (next total size room room2 : ℕ) → ((key : ℕ) → get s2 key ≡ get s key) → room ≤ room2
+    → IsState s rows kept next total size room → IsState s2 rows kept next total size room2
+same-state s s2 rows kept next total size room room2 same more state =
+    let keeps : KeepsLive s s2 = λ key some. same key in
+    let nodes = kept-nodes s s2 rows state.sound.live keeps in
+    let texts = kept-same s s2 kept state.sound.kept_live keeps in
+    record {
+      sound = record {
+        sized = state.sound.sized;
+        steps = state.sound.steps;
+        few = state.sound.few;
+        live = kept-live s s2 rows state.sound.live keeps;
+        kept_live = kept-texts s s2 kept state.sound.kept_live keeps;
+        tops = subst AllTops (sym nodes) state.sound.tops;
+        apart = λ n. omega (arith, state.sound.apart n, ap (times n) nodes, ap (kept_times n) texts);
+        fresh = λ n h. omega (arith, state.sound.fresh n h, ap (times n) nodes, ap (kept_times n) texts);
+      };
+      counted = record {
+        count = state.counted.count ∙ ap node_count (sym nodes);
+        bytes = state.counted.bytes ∙ ap all_size (sym nodes);
+        small = λ key. omega (arith, state.counted.small key, ap (λ o. size_of (content_in o)) (same key));
+      };
+      room = omega (arith, state.room);
+    }
+
+pub same-view : (s s2 : Slab Slot) (rows : List Row) (kept : List ℕ) (next : ℕ) → ((key : ℕ) → get s2 key ≡ get s key) → IsSound s rows kept next → keeping_of s2 rows kept next ≡ keeping_of s rows kept next
+same-view s s2 rows kept next same sound =
+    let keeps : KeepsLive s s2 = λ key some. same key in
+    let whole : List Node → List KeptText → Keeping = λ nodes texts. record { forest = record { nodes = nodes; next = next }; kept = texts } in
+    ap (λ l. whole l (map (kept_of s2) kept)) (kept-nodes s s2 rows sound.live keeps) ∙ ap (whole (map (node_of s) rows)) (kept-same s s2 kept sound.kept_live keeps)
+
+pub room-same : (s s2 : Slab Slot) (c : ℕ) → s2 ≡ record s { capacity = c } → (key : ℕ) → get s2 key ≡ get s key
+room-same s s2 c e key = ap (λ (t : Slab Slot). get t key) e
+
+-- the depths of rows are those of their nodes
+node-steps : (s : Slab Slot) (rows : List Row) (next : ℕ) (cs : List (ℕ × Content)) → map (node_of s) rows ≡ numbered_from next cs → depths rows ≡ map (λ (p : ℕ × Content). p.0) cs
+node-steps s rows next cs e = by_nodes s rows ∙ ap (map (λ (x : Node). x.depth)) e ∙ of_numbered next cs
+  where
+    by_nodes : (s : Slab Slot) (rows : List Row) → depths rows ≡ map (λ (x : Node). x.depth) (map (node_of s) rows)
+    by_nodes s [] = refl
+    by_nodes s (r ∷ rs) = ap (λ l. r.depth ∷ l) (by_nodes s rs)
+
+    of_numbered : (next : ℕ) (cs : List (ℕ × Content)) → map (λ (x : Node). x.depth) (numbered_from next cs) ≡ map (λ (p : ℕ × Content). p.0) cs
+    of_numbered next [] = refl
+    of_numbered next (c ∷ cs) = ap (λ l. c.0 ∷ l) (of_numbered (suc next) cs)
+
+first-top : (rows : List Row) → AreSteps 0 (depths rows) → deeper 0 rows ≡ 0
+first-top [] steps = refl
+first-top (r ∷ rs) steps = low r.depth (deeper 0 rs) steps.0
+  where
+    low : (d n : ℕ) → d ≤ 0 → (if nat_lt 0 d then suc n else 0) ≡ 0
+    low d n h = rw (lt-false 0 d h) refl
+
+module _ (s s2 : Slab Slot) (old rows : List Row) (kept : List ℕ) (next total size room : ℕ) (contents : List (ℕ × Content)) (state : IsState s old kept next total size room)
+    (front : take (length old) rows ≡ old) (nodes : map (node_of s2) (drop (length old) rows) ≡ numbered_from next contents) (keeps : KeepsLive s s2) where
+  pub added-rows : rows ≡ old ++ drop (length old) rows
+  added-rows = sym (take-append-drop (length old) rows) ∙ ap (λ l. l ++ drop (length old) rows) front
+
+  pub added-nodes : map (node_of s2) rows ≡ map (node_of s) old ++ numbered_from next contents
+  added-nodes =
+      ap (map (node_of s2)) added-rows ∙ map-append (node_of s2) old (drop (length old) rows)
+      ∙ ap (λ l. l ++ map (node_of s2) (drop (length old) rows)) (kept-nodes s s2 old state.sound.live keeps) ∙ ap (λ l. map (node_of s) old ++ l) nodes
+
+  pub added-length : length rows ≡ length old + length contents
+  added-length =
+      let a = ap length added-rows ∙ length-append old (drop (length old) rows) in
+      let b = sym (length-map (drop (length old) rows) (node_of s2)) ∙ ap length nodes ∙ numbered-length next contents in
+      omega arith
+    where
+      numbered-length : (next : ℕ) (cs : List (ℕ × Content)) → length (numbered_from next cs) ≡ length cs
+      numbered-length next [] = refl
+      numbered-length next (c ∷ cs) = ap suc (numbered-length (suc next) cs)
+
+  pub added-kept : map (kept_of s2) kept ≡ map (kept_of s) kept
+  added-kept = kept-same s s2 kept state.sound.kept_live keeps
+
+  added-sound : IsTree contents → Sized (drop (length old) rows) → AllLive s2 rows → length old + length contents + length kept < 2 ^ 31 → IsSound s2 rows kept (next + length contents)
+  added-sound tree sized live few =
+      let news = drop (length old) rows in
+      let new_depths : depths news ≡ map (λ (p : ℕ × Content). p.0) contents = node-steps s2 news next contents nodes in
+      let new_steps : AreSteps 0 (depths news) = subst (AreSteps 0) (sym new_depths) tree.steps in
+      let d : Row → ℕ = λ r. r.depth in
+      let split : depths rows ≡ depths old ++ depths news = ap (map d) added-rows ∙ map-append d old news in
+      let least : 0 ≤ most_after 0 (depths old) = omega arith in
+      record {
+        sized = subst Sized (sym added-rows) (sized-append 0 old news (all-deep-zero old) (first-top news new_steps) state.sound.sized sized);
+        steps = subst (AreSteps 0) (sym split) (steps-append 0 (depths old) (depths news) state.sound.steps (steps-more 0 (most_after 0 (depths old)) (depths news) least new_steps));
+        few = omega (arith, added-length);
+        live = live;
+        kept_live = kept-texts s s2 kept state.sound.kept_live keeps;
+        tops = subst AllTops (sym added-nodes) (tops-append (map (node_of s) old) (numbered_from next contents) state.sound.tops (new-tops next contents tree.plain));
+        apart = λ n. let a = ap (times n) added-nodes ∙ times-append n (map (node_of s) old) (numbered_from next contents) in
+            let k = ap (kept_times n) added-kept in
+            elim (cases_lt n next) [
+              | inl l ↦ omega (arith, state.sound.apart n, low-times n next contents l)
+              | inr l ↦ omega (arith, state.sound.fresh n l, new-times n next contents)
+            ];
+        fresh = λ n h. let a = ap (times n) added-nodes ∙ times-append n (map (node_of s) old) (numbered_from next contents) in
+            let k = ap (kept_times n) added-kept in
+            let l : next ≤ n = omega arith in
+            omega (arith, state.sound.fresh n l, high-times n next contents h);
+      }
+
+  pub added-state : (room2 : ℕ) → IsTree contents → Sized (drop (length old) rows) → AllLive s2 rows → length old + length contents + length kept < 2 ^ 31
+      → ((key : ℕ) → size_of (content_in (get s2 key)) ≤ 2 ^ 66) → length old + length contents + length kept ≤ room2
+      → IsState s2 rows kept (next + length contents) (total + length contents) (size + size_of_all contents) room2
+  added-state room2 tree sized live few small most = record {
+    sound = added-sound tree sized live few;
+    counted = record {
+      count = omega (arith, state.counted.count, ap node_count added-nodes, nodes-append (map (node_of s) old) (numbered_from next contents), new-count next contents tree.plain);
+      bytes = omega (arith, state.counted.bytes, ap all_size added-nodes, sizes-append (map (node_of s) old) (numbered_from next contents), new-size next contents);
+      small = small;
+    };
+    room = omega (arith, added-length);
+  }
+
+  pub added-view : keeping_of s2 rows kept (next + length contents) ≡ with_contents contents (keeping_of s old kept next)
+  added-view =
+      let whole : List Node → List KeptText → Keeping = λ l texts. record { forest = record { nodes = l; next = next + length contents }; kept = texts } in
+      ap (λ l. whole l (map (kept_of s2) kept)) added-nodes ∙ ap (whole (map (node_of s) old ++ numbered_from next contents)) added-kept
+
+-- ---- the limits with a tree more
+
+pub count-with : (s : Slab Slot) (rows : List Row) (kept : List ℕ) (next total size room : ℕ) (cs : List (ℕ × Content)) → IsState s rows kept next total size room → AllPlain cs
+    → node_count (map (node_of s) rows ++ numbered_from next cs) ≡ total + length cs
+count-with s rows kept next total size room cs state plain =
+    omega (arith, state.counted.count, nodes-append (map (node_of s) rows) (numbered_from next cs), new-count next cs plain)
+
+pub size-with : (s : Slab Slot) (rows : List Row) (kept : List ℕ) (next total size room : ℕ) (cs : List (ℕ × Content)) → IsState s rows kept next total size room
+    → all_size (map (node_of s) rows ++ numbered_from next cs) ≡ size + size_of_all cs
+size-with s rows kept next total size room cs state =
+    omega (arith, state.counted.bytes, sizes-append (map (node_of s) rows) (numbered_from next cs), new-size next cs)
+
+pub passed-nodes : (l : Limits) (nodes : List Node) → l.nodes < node_count nodes → Some Nodes ≡ passed_by_all l nodes
+passed-nodes l nodes h = rw (lt-true l.nodes (node_count nodes) h) refl
+
+pub passed-bytes : (l : Limits) (nodes : List Node) → node_count nodes ≤ l.nodes → l.all < all_size nodes → Some AllText ≡ passed_by_all l nodes
+passed-bytes l nodes h k = rw (lt-false l.nodes (node_count nodes) h, lt-true l.all (all_size nodes) k) refl
+
+pub passed-none : (l : Limits) (nodes : List Node) → node_count nodes ≤ l.nodes → all_size nodes ≤ l.all → None ≡ passed_by_all l nodes
+passed-none l nodes h k = rw (lt-false l.nodes (node_count nodes) h, lt-false l.all (all_size nodes) k) refl
+
+-- the bytes are far from what a number can count
+pub bytes-most : (s : Slab Slot) (rows : List Row) → ((key : ℕ) → size_of (content_in (get s key)) ≤ 2 ^ 66) → all_size (map (node_of s) rows) ≤ 2 ^ 66 * length rows
+bytes-most s [] small = omega arith
+bytes-most s (r ∷ rs) small = omega (arith, sizes-cons (node_of s r) (map (node_of s) rs), small r.key, bytes-most s rs small)
+
+-- ---- the contents at a place
+
+parts-mean : (s : Slab Slot) (by : ℕ) (rows : List Row) → map (part_of s by) rows ≡ map (λ (x : Node). (x.depth, x.content)) (map (shifted by 0) (map (node_of s) rows))
+parts-mean s by [] = refl
+parts-mean s by (r ∷ rs) =
+    let z : r.depth - by ≡ 0 + (r.depth - by) = omega arith in
+    ap (λ d. (d, content_in (get s r.key)) ∷ map (part_of s by) rs) z ∙ ap (λ l. (0 + (r.depth - by), content_in (get s r.key)) ∷ l) (parts-mean s by rs)
+
+pub contents-mean : (s : Slab Slot) (n at : ℕ) (rows : List Row) → StandsAt s rows n at → times n (map (node_of s) rows) ≤ 1
+    → map (part_of s (get_or rows at no_row).depth) (row_tree (drop at rows)) ≡ contents_in (tree_of n (map (node_of s) rows))
+contents-mean s n at rows here few =
+    let f = node_of s in
+    let x = get_or rows at no_row in
+    let xs = drop (at + 1) rows in
+    let sp = split-at at rows no_row here.within in
+    let p = stands s n at rows here few in
+    let t : tree_of n (map f rows) ≡ map f (row_tree (x ∷ xs)) = ap first_tree (parted-from n _ _ _ _ p) ∙ ap (λ l. f x ∷ l) (below-is s x.depth xs) in
+    ap (λ l. map (part_of s x.depth) (row_tree l)) sp ∙ parts-mean s x.depth (row_tree (x ∷ xs)) ∙ ap contents_in (sym t)
+
+plain-below : (s : Slab Slot) (d : ℕ) (rows : List Row) → AllDeep (d + 1) rows → AllTops (map (node_of s) rows) → ((key : ℕ) → size_of (content_in (get s key)) ≤ 2 ^ 66) → AllPlain (map (part_of s d) rows)
+plain-below s d [] deep tops small = tt
+plain-below s d (r ∷ rs) deep tops small = (
+  elim (cases_Bool (is_root (content_in (get s r.key)))) [
+    | inl e ↦ absurd (let z = tops.0 e in omega (arith, z, deep.0))
+    | inr e ↦ e
+  ],
+  small r.key,
+  plain-below s d rs deep.1 tops.1 small,
+)
+
+depths-parts : (s : Slab Slot) (by : ℕ) (rows : List Row) → map (λ (p : ℕ × Content). p.0) (map (part_of s by) rows) ≡ map (λ d. d - by) (depths rows)
+depths-parts s by [] = refl
+depths-parts s by (r ∷ rs) = ap (λ l. (r.depth - by) ∷ l) (depths-parts s by rs)
+
+pub contents-tree : (s : Slab Slot) (at : ℕ) (rows : List Row) (kept : List ℕ) (next total size room : ℕ) → IsState s rows kept next total size room → at < length rows
+    → is_root (content_in (get s (get_or rows at no_row).key)) ≡ false → IsTree (map (part_of s (get_or rows at no_row).depth) (row_tree (drop at rows)))
+contents-tree s at rows kept next total size room state h top =
+    let x = get_or rows at no_row in
+    let xs = drop (at + 1) rows in
+    let sp = split-at at rows no_row h in
+    let rest = take (deeper x.depth xs) xs in
+    let d : Row → ℕ = λ r. r.depth in
+    let few : deeper x.depth xs ≤ deeper x.depth xs = omega arith in
+    let deep = deep-prefix x.depth (deeper x.depth xs) xs few in
+    let whole : depths rows ≡ depths (take at rows) ++ depths (x ∷ xs) = ap depths (sym (take-append-drop at rows)) ∙ map-append d (take at rows) (drop at rows) ∙ ap (λ l. depths (take at rows) ++ depths l) sp in
+    let one = steps-parts 0 (depths (take at rows)) (depths (x ∷ xs)) (subst (AreSteps 0) whole state.sound.steps) in
+    let split : depths xs ≡ depths rest ++ depths (drop (deeper x.depth xs) xs) = ap depths (sym (take-append-drop (deeper x.depth xs) xs)) ∙ map-append d rest (drop (deeper x.depth xs) xs) in
+    let two = steps-parts (suc x.depth) (depths rest) (depths (drop (deeper x.depth xs) xs)) (subst (AreSteps (suc x.depth)) split one.1.1) in
+    let least : x.depth ≤ suc x.depth = omega arith in
+    let low = steps-lowered x.depth (suc x.depth) (depths rest) least (above-deep x.depth rest (all-deeper x.depth xs)) two.0 in
+    let e : suc x.depth - x.depth ≡ suc (x.depth - x.depth) = omega arith in
+    let low2 : AreSteps (suc (x.depth - x.depth)) (map (λ (p : ℕ × Content). p.0) (map (part_of s x.depth) rest)) =
+    subst (AreSteps (suc (x.depth - x.depth))) (sym (depths-parts s x.depth rest)) (subst (λ m. AreSteps m (map (λ d. d - x.depth) (depths rest))) e low) in
+    let zero_top : x.depth - x.depth ≤ 0 = omega arith in
+    let t1 = tops-parts (map (node_of s) (take at rows)) (map (node_of s) (x ∷ xs)) (subst AllTops (parted-at (node_of s) at rows no_row h) state.sound.tops) in
+    let t2 = tops-parts (map (node_of s) rest) (map (node_of s) (drop (deeper x.depth xs) xs)) (subst AllTops (ap (map (node_of s)) (sym (take-append-drop (deeper x.depth xs) xs)) ∙ map-append (node_of s) rest (drop (deeper x.depth xs) xs)) t1.1.1) in
+    subst (λ l. IsTree (map (part_of s x.depth) (row_tree l))) (sym sp) (record {
+      steps = (zero_top, low2);
+      plain = (top, state.counted.small x.key, plain-below s x.depth rest deep t2.0 state.counted.small);
+    })
+
+-- what may be copied stands there, and is no root
+pub copied-stands : (n : ℕ) (nodes us : List Node) (x : Node) (xs : List Node) → Parted n nodes us x xs → list_any (λ (y : Node). (y.number == n) && not (is_root y.content)) nodes ≡ true → is_root x.content ≡ false
+copied-stands n nodes us x xs p may = not_root (is_root x.content) (go us (subst (λ l. list_any (λ (y : Node). (y.number == n) && not (is_root y.content)) l ≡ true) p.whole may) p.before)
+  where
+    none : (zs : List Node) → has_number n zs ≡ false → list_any (λ (y : Node). (y.number == n) && not (is_root y.content)) zs ≡ false
+    none [] h = refl
+    none (z ∷ zs) h = let q = absent-parts n z zs h in rw q.0 (none zs q.1)
+
+    go : (zs : List Node) → list_any (λ (y : Node). (y.number == n) && not (is_root y.content)) (zs ++ (x ∷ xs)) ≡ true → has_number n zs ≡ false → not (is_root x.content) ≡ true
+    go [] m h = here (not (is_root x.content)) (rw (eq-true x.number n p.number, none xs p.after) at m)
+      where
+        here : (b : Bool) → (b || false) ≡ true → b ≡ true
+        here true e = refl
+        here false e = e
+    go (z ∷ zs) m h = let q = absent-parts n z zs h in go zs (rw q.0 at m) q.1
+
+    not_root : (b : Bool) → not b ≡ true → b ≡ false
+    not_root true e = absurd (false≢true e)
+    not_root false e = refl
+
+pub nothing-copied : (n : ℕ) (nodes : List Node) → has_number n nodes ≡ false → list_any (λ (y : Node). (y.number == n) && not (is_root y.content)) nodes ≡ true → ⊥
+nothing-copied n [] h may = false≢true may
+nothing-copied n (z ∷ zs) h may = let q = absent-parts n z zs h in nothing-copied n zs q.1 (rw q.0 at may)
+
+-- ---- what is said of the node with a number
+
+pub named-meets : (n : ℕ) (p : Node → Bool) (nodes us : List Node) (x : Node) (xs : List Node) → Parted n nodes us x xs → list_any (λ (y : Node). (y.number == n) && p y) nodes ≡ true → p x ≡ true
+named-meets n p nodes us x xs parted may = go us (subst (λ l. list_any (λ (y : Node). (y.number == n) && p y) l ≡ true) parted.whole may) parted.before
+  where
+    none : (zs : List Node) → has_number n zs ≡ false → list_any (λ (y : Node). (y.number == n) && p y) zs ≡ false
+    none [] h = refl
+    none (z ∷ zs) h = let q = absent-parts n z zs h in rw q.0 (none zs q.1)
+
+    alone : (b : Bool) → (b || false) ≡ true → b ≡ true
+    alone true e = refl
+    alone false e = e
+
+    go : (zs : List Node) → list_any (λ (y : Node). (y.number == n) && p y) (zs ++ (x ∷ xs)) ≡ true → has_number n zs ≡ false → p x ≡ true
+    go [] m h = alone (p x) (rw (eq-true x.number n parted.number, none xs parted.after) at m)
+    go (z ∷ zs) m h = let q = absent-parts n z zs h in go zs (rw q.0 at m) q.1
+
+pub zero-depth : (d : ℕ) → (d == 0) ≡ true → d ≡ 0
+zero-depth d e = grind (arith, nat_tests)
+
+pub element-plain : (c : Content) → Some (kind_of c) ≡ Some kind.Element → is_root c ≡ false
+element-plain Root e = absurd (wrong e)
+  where
+    wrong : ◌≡◌ {A = Option Kind} (Some kind.Root) (Some kind.Element) → ⊥
+    wrong e = cc
+element-plain (Element name) e = refl
+element-plain (Attribute name text) e = refl
+element-plain (Text text) e = refl
+
+-- the same rows and slots with more room
+pub stands-same : (s s2 : Slab Slot) (rows rows2 : List Row) (n at : ℕ) → ((key : ℕ) → get s2 key ≡ get s key) → rows2 ≡ rows → StandsAt s rows n at → StandsAt s2 rows2 n at
+stands-same s s2 rows rows2 n at same e here = subst (λ r. StandsAt s2 r n at) (sym e) (record { within = here.within; number = ap number_in (same (get_or rows at no_row).key) ∙ here.number })

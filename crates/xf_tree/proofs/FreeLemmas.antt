@@ -1,0 +1,81 @@
+-- Slots that are emptied, and what keeps its slot.
+use Rattle.std.proofs.Common.{◌≡◌, ◌≢◌, ℕ, zero, suc, ◌+◌, ◌-◌, ◌<◌, ◌≤◌, ◌==◌, not, Bool, true, false, cond, if◌then◌else◌, List, [], ◌∷◌, ◌++◌, map, length, take, drop, get_or, Option, Some, None, IsSome, refl, sym, ap, ◌∙◌, subst, inl, inr, arith}
+use Rattle.std.specs.Prelude.{is_some, ◌⊎◌}
+use Rattle.std.proofs.lemmas.Bool.{cases_Bool, true≢false, cases_lt}
+use Rattle.std.proofs.lemmas.List.{take-append-drop, map-append, take_more}
+use Rattle.slab.specs.Slab.{Slab, get, Updates}
+use Rattle.xf_doc.specs.declared.content.Node.{Node}
+use Rattle.xf_doc.specs.Forest.{is_root}
+use Rattle.xf_doc.specs.Limits.{node_count, all_size, size_of}
+use Rattle.xf_doc.specs.Texts.{KeptText}
+use Rattle.xf_tree.specs.declared.rows.Row.{Row}
+use Rattle.xf_tree.specs.declared.slot.Slot.{Slot}
+use Rattle.xf_tree.specs.Tree.{node_of, kept_of, number_in, content_in, times, kept_times, no_row, AllLive, KeepsBut, KeepsButKept}
+use Rattle.xf_tree.proofs.NodeLemmas.{times-append, eq-true}
+use Rattle.xf_tree.proofs.PlaceLemmas.{times-at}
+use Rattle.xf_tree.proofs.CountLemmas.{nodes-append, sizes-append, nodes-cons, sizes-cons}
+
+pub kept_times-append : (n : ℕ) (xs ys : List KeptText) → kept_times n (xs ++ ys) ≡ kept_times n xs + kept_times n ys
+kept_times-append n [] ys = omega arith
+kept_times-append n (x ∷ xs) ys = omega (arith, kept_times-append n xs ys)
+
+pub same-key : (a b : ℕ) → (a ≡ b → ⊥) ⊎ (a ≡ b)
+same-key a b = elim (cases_lt a b) [
+  | inl l ↦ inl (λ e. let z : ⊥ = omega arith in z)
+  | inr l ↦ elim (cases_lt b a) [
+    | inl m ↦ inl (λ e. let z : ⊥ = omega arith in z)
+    | inr m ↦ inr (let e : a ≡ b = omega arith in e)
+  ]
+]
+
+module _ (s : Slab Slot) (rows : List Row) (i : ℕ) (x : Row) (within : i < length rows) (is : get_or rows i no_row ≡ x) where
+  one-more : map (node_of s) (take (i + 1) rows) ≡ map (node_of s) (take i rows) ++ (node_of s x ∷ [])
+  one-more = ap (map (node_of s)) (take_more rows i no_row within ∙ ap (λ r. take i rows ++ (r ∷ [])) is) ∙ map-append (node_of s) (take i rows) (x ∷ [])
+
+  pub times-more : (n : ℕ) → times n (map (node_of s) (take (i + 1) rows)) ≡ times n (map (node_of s) (take i rows)) + (if number_in (get s x.key) == n then 1 else 0)
+  times-more n = ap (times n) one-more ∙ times-append n (map (node_of s) (take i rows)) (node_of s x ∷ []) ∙ (omega arith)
+
+  pub nodes-more : node_count (map (node_of s) (take (i + 1) rows)) ≡ node_count (map (node_of s) (take i rows)) + cond (not (is_root (content_in (get s x.key)))) 1 0
+  nodes-more = ap node_count one-more ∙ nodes-append (map (node_of s) (take i rows)) (node_of s x ∷ []) ∙ (omega (arith, nodes-cons (node_of s x) []))
+
+  pub sizes-more : all_size (map (node_of s) (take (i + 1) rows)) ≡ all_size (map (node_of s) (take i rows)) + size_of (content_in (get s x.key))
+  sizes-more = ap all_size one-more ∙ sizes-append (map (node_of s) (take i rows)) (node_of s x ∷ []) ∙ (omega (arith, sizes-cons (node_of s x) []))
+
+  pub free-more : (s1 s2 : Slab Slot) → KeepsBut s s1 (map (node_of s) (take i rows)) → Updates s1 s2 x.key None → KeepsBut s s2 (map (node_of s) (take (i + 1) rows))
+  free-more s1 s2 keeps up = λ key none.
+      let t = times-more (number_in (get s key)) in
+      elim (same-key key x.key) [
+        | inl ne ↦ up.others key ne ∙ keeps key (omega arith)
+        | inr e ↦ absurd (let one = ap {B = ℕ} (λ b. if b then 1 else 0) (eq-true (number_in (get s x.key)) (number_in (get s key)) (ap (λ k. number_in (get s k)) (sym e))) in omega arith)
+      ]
+
+  -- the slot of the next row is still what it was
+  pub still-there : (s1 : Slab Slot) → ((n : ℕ) → times n (map (node_of s) rows) ≤ 1) → KeepsBut s s1 (map (node_of s) (take i rows)) → get s1 x.key ≡ get s x.key
+  still-there s1 apart keeps =
+      let n = number_in (get s x.key) in
+      let t = times-more n in
+      let one = ap {B = ℕ} (λ b. if b then 1 else 0) (eq-true n n refl) in
+      let whole = ap (λ l. times n (map (node_of s) l)) (sym (take-append-drop (i + 1) rows)) ∙ ap (times n) (map-append (node_of s) (take (i + 1) rows) (drop (i + 1) rows)) ∙ times-append n (map (node_of s) (take (i + 1) rows)) (map (node_of s) (drop (i + 1) rows)) in
+      keeps x.key (omega (arith, apart n))
+
+-- what is emptied is no larger
+pub less-more : (s s1 s2 : Slab Slot) (at : ℕ) → ((key : ℕ) → size_of (content_in (get s1 key)) ≤ size_of (content_in (get s key))) → Updates s1 s2 at None
+    → (key : ℕ) → size_of (content_in (get s2 key)) ≤ size_of (content_in (get s key))
+less-more s s1 s2 at less up key = elim (same-key key at) [
+  | inl ne ↦ omega (arith, ap (λ o. size_of (content_in o)) (up.others key ne), less key)
+  | inr e ↦ omega (arith, ap (λ k. size_of (content_in (get s2 k))) e, ap (λ o. size_of (content_in o)) up.changed)
+]
+
+module _ (s : Slab Slot) (keys : List ℕ) (i x : ℕ) (within : i < length keys) (is : get_or keys i 0 ≡ x) where
+  pub kept-more : (n : ℕ) → kept_times n (map (kept_of s) (take (i + 1) keys)) ≡ kept_times n (map (kept_of s) (take i keys)) + (if number_in (get s x) == n then 1 else 0)
+  kept-more n =
+      ap (λ l. kept_times n (map (kept_of s) l)) (take_more keys i 0 within ∙ ap (λ r. take i keys ++ (r ∷ [])) is) ∙ ap (kept_times n) (map-append (kept_of s) (take i keys) (x ∷ []))
+      ∙ kept_times-append n (map (kept_of s) (take i keys)) (kept_of s x ∷ []) ∙ (omega arith)
+
+  pub free-kept_more : (s1 s2 : Slab Slot) → KeepsButKept s s1 (map (kept_of s) (take i keys)) → Updates s1 s2 x None → KeepsButKept s s2 (map (kept_of s) (take (i + 1) keys))
+  free-kept_more s1 s2 keeps up = λ key none.
+      let t = kept-more (number_in (get s key)) in
+      elim (same-key key x) [
+        | inl ne ↦ up.others key ne ∙ keeps key (omega arith)
+        | inr e ↦ absurd (let one = ap {B = ℕ} (λ b. if b then 1 else 0) (eq-true (number_in (get s x)) (number_in (get s key)) (ap (λ k. number_in (get s k)) (sym e))) in omega arith)
+      ]

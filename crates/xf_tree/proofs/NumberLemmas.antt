@@ -1,0 +1,57 @@
+-- New nodes with the next numbers.
+use Rattle.std.proofs.Common.{◌≡◌, ℕ, zero, suc, ◌+◌, ◌-◌, ◌<◌, ◌≤◌, ◌^◌, ◌*◌, ◌==◌, not, Bool, true, false, cond, if◌then◌else◌, List, [], ◌∷◌, ◌++◌, map, length, refl, sym, ap, ◌∙◌, subst, inl, inr, arith}
+use Rattle.std.specs.Prelude.{sum_by}
+use Rattle.std.proofs.lemmas.List.Sums.{sum_by-cons}
+use Rattle.xf_doc.specs.declared.content.Node.{Node}
+use Rattle.xf_doc.specs.declared.content.Content.{Content}
+use Rattle.xf_doc.specs.Forest.{is_root}
+use Rattle.xf_doc.specs.Limits.{node_count, all_size, size_of}
+use Rattle.xf_doc.specs.Plant.{numbered_from}
+use Rattle.xf_tree.specs.Tree.{times, AllPlain, AllTops, size_of_all}
+use Rattle.xf_tree.proofs.NodeLemmas.{eq-false, eq-true}
+use Rattle.xf_tree.proofs.CountLemmas.{nodes-cons, sizes-cons}
+use Rattle.xf_tree.proofs.FreeLemmas.{same-key}
+
+pub low-times : (n next : ℕ) (cs : List (ℕ × Content)) → n < next → times n (numbered_from next cs) ≡ 0
+low-times n next [] h = refl
+low-times n next (c ∷ cs) h =
+    let e = eq-false next n (λ same. let z : ⊥ = omega arith in z) in
+    rw e (omega (arith, low-times n (suc next) cs (omega arith)))
+
+pub high-times : (n next : ℕ) (cs : List (ℕ × Content)) → next + length cs ≤ n → times n (numbered_from next cs) ≡ 0
+high-times n next [] h = refl
+high-times n next (c ∷ cs) h =
+    let e = eq-false next n (λ same. let z : ⊥ = omega arith in z) in
+    rw e (omega (arith, high-times n (suc next) cs (omega arith)))
+
+pub new-times : (n next : ℕ) (cs : List (ℕ × Content)) → times n (numbered_from next cs) ≤ 1
+new-times n next [] = omega arith
+new-times n next (c ∷ cs) = elim (same-key next n) [
+  | inl ne ↦ rw (eq-false next n ne) (omega (arith, new-times n (suc next) cs))
+  | inr e ↦ rw (eq-true next n e) (omega (arith, low-times n (suc next) cs (omega arith)))
+]
+
+pub new-count : (next : ℕ) (cs : List (ℕ × Content)) → AllPlain cs → node_count (numbered_from next cs) ≡ length cs
+new-count next [] plain = refl
+new-count next (c ∷ cs) plain =
+    let one = ap {B = ℕ} (λ b. cond (not b) 1 0) plain.0 in
+    omega (arith, nodes-cons (record { number = next; depth = c.0; content = c.1 }) (numbered_from (suc next) cs), new-count (suc next) cs plain.2)
+
+pub new-size : (next : ℕ) (cs : List (ℕ × Content)) → all_size (numbered_from next cs) ≡ size_of_all cs
+new-size next [] = refl
+new-size next (c ∷ cs) =
+    let p : ℕ × Content → ℕ = λ p. size_of p.1 in
+    omega (arith, sizes-cons (record { number = next; depth = c.0; content = c.1 }) (numbered_from (suc next) cs), new-size (suc next) cs, sum_by-cons p c cs)
+
+pub new-tops : (next : ℕ) (cs : List (ℕ × Content)) → AllPlain cs → AllTops (numbered_from next cs)
+new-tops next [] plain = tt
+new-tops next (c ∷ cs) plain = (λ e. absurd (contrary (sym plain.0 ∙ e)), new-tops (suc next) cs plain.2)
+  where
+    contrary : false ≡ true → ⊥
+    contrary e = cc e
+
+pub size-most : (cs : List (ℕ × Content)) → AllPlain cs → size_of_all cs ≤ 2 ^ 66 * length cs
+size-most [] plain = omega arith
+size-most (c ∷ cs) plain =
+    let p : ℕ × Content → ℕ = λ p. size_of p.1 in
+    omega (arith, sum_by-cons p c cs, plain.1, size-most cs plain.2)

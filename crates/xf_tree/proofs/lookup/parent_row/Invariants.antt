@@ -1,0 +1,12 @@
+use Rattle.std.proofs.Common.{◌≡◌, ◌≤◌, take, reverse}
+use Rattle.xf_tree.specs.Rows.{less_deep, parent_row_of}
+use Rattle.xf_tree.proofs.lookup.parent_row.Given as goal
+
+abbrev pub invariant-loop-left : goal.invariant-loop-left
+invariant-loop-left l = record {
+  within : l.left ≤ l.at;
+  so_far : less_deep l.row.depth (reverse (take l.left l.rows)) ≡ parent_row_of l.rows l.at;
+}
+
+abbrev pub decreases-loop-left : goal.decreases-loop-left
+decreases-loop-left l = l.left

@@ -1,0 +1,14 @@
+use Rattle.std.proofs.Common.{◌≡◌, ◌≤◌, ◌+◌, ◌-◌, length, take, drop}
+use Rattle.xf_tree.specs.Tree.{kin_in}
+use Rattle.xf_tree.proofs.lookup.place_of.Given as goal
+
+abbrev pub invariant-loop-next : goal.invariant-loop-next
+invariant-loop-next l = record {
+  first : l.above + 1 ≤ l.next;
+  last : l.next ≤ l.at;
+  count : l.place ≤ l.next;
+  so_far : l.place ≡ kin_in l.slots l.depth l.wanted (take (l.next - (l.above + 1)) (drop (l.above + 1) l.rows));
+}
+
+abbrev pub decreases-loop-next : goal.decreases-loop-next
+decreases-loop-next l = l.at - l.next

@@ -1,0 +1,30 @@
+use Rattle.std.proofs.Common.{◌≡◌, ◌<◌, ◌≤◌, ◌-◌, length, map, drop, get_or, refl, sym, ap, ◌∙◌, arith}
+use Rattle.std.proofs.lemmas.List.{get_or_default}
+use Rattle.slab.specs.Slab.{get}
+use Rattle.xf_doc.specs.Forest.{is_root}
+use Rattle.xf_doc.specs.Changes.{root_of}
+use Rattle.xf_tree.specs.declared.rows.Row.{Row}
+use Rattle.xf_tree.specs.Tree.{node_of, content_in, no_row}
+use Rattle.xf_tree.proofs.RootLemmas.{root-other, root-more}
+use Rattle.xf_tree.proofs.lookup.root_row.Goals as goal
+use Rattle.xf_tree.proofs.lookup.root_row.Goals.{then-is_root_at+else-left-eq0, else-is_root_at}
+
+pub loop-at-preserved : goal.loop-at-preserved
+loop-at-preserved c =
+    let s = c.args.slots.now in
+    let rows = c.args.rows.now in
+    let at = c.loop-at.at in
+    let end = c.end_of-at.result in
+    record {
+      within = c.end_of-at.ensures.within;
+      so_far = elim c.if-is_root_at.branch [
+        | then-is_root_at+else-left-eq0 w ↦
+            ap (λ k. root_of k (map (node_of s) (drop end rows))) w.left-is
+            ∙ root-more s c.loop-at.left at end rows c.loop-at-test.true c.end_of-at.ensures.answer c.requires.tops (sym c.is_root_at.ensures ∙ w.if-is_root_at.true) (omega arith)
+            ∙ c.loop-at.invariant.so_far
+        | else-is_root_at w ↦
+            ap (λ k. root_of k (map (node_of s) (drop end rows))) w.left-is
+            ∙ root-other s c.loop-at.left at end rows c.loop-at-test.true c.end_of-at.ensures.answer c.requires.tops (sym c.is_root_at.ensures ∙ w.if-is_root_at.false)
+            ∙ c.loop-at.invariant.so_far
+      ];
+    }

@@ -1,0 +1,7 @@
+use Rattle.std.proofs.Common.{◌≡◌, ◌++◌, take}
+use Rattle.std.specs.Prelude.{string_bytes}
+use Rattle.xf_tree.specs.Tree.{texts_in}
+use Rattle.xf_tree.proofs.text.push_texts.Given as goal
+
+abbrev pub invariant-loop-row : goal.invariant-loop-row
+invariant-loop-row l = string_bytes l.text ≡ string_bytes l.fn.text ++ texts_in l.slots (take l.row-index l.rows)

@@ -1,0 +1,14 @@
+use Rattle.std.proofs.Common.{◌≡◌, ◌≤◌, ◌+◌, ◌-◌, length, drop, get_or}
+use Rattle.xf_tree.specs.Rows.{deeper}
+use Rattle.xf_tree.specs.Tree.{no_row}
+use Rattle.xf_tree.proofs.tree.tree_end.Given as goal
+
+abbrev pub invariant-loop-next : goal.invariant-loop-next
+invariant-loop-next l = record {
+  first : l.at + 1 ≤ l.next;
+  within : l.next ≤ length l.rows;
+  so_far : l.next + deeper l.depth (drop l.next l.rows) ≡ l.at + 1 + deeper l.depth (drop (l.at + 1) l.rows);
+}
+
+abbrev pub decreases-loop-next : goal.decreases-loop-next
+decreases-loop-next l = length l.rows - l.next

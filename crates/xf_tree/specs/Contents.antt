@@ -1,0 +1,48 @@
+-- The contents of literal trees, one after another, and what holds of each such part of a tree.
+use Rattle.std.specs.Prelude.{ℕ, Bool, ◌&&◌, nat_lt, nat_le, length, ◌≤◌, ◌≡◌, ◌^◌, true, false, ◌++◌, List, [], ◌∷◌, map, flat_map}
+use Rattle.xf_name.specs.Bindings.{Bindings}
+use Rattle.xf_name.specs.declared.lit.Lit.{Lit}
+use Rattle.xf_name.specs.declared.lit.LitElement.{LitElement, fold-LitElement}
+use Rattle.xf_doc.specs.declared.content.Content.{Content}
+use Rattle.xf_doc.specs.Plant.{Contents, lit_contents, element_contents, contents_of, is_less, written_of}
+use Rattle.xf_doc.specs.Limits.{Limits, size_of}
+use Rattle.xf_doc.specs.Forest.{own_text, is_element}
+use Rattle.xf_tree.specs.Tree.{AreSteps, AllPlain}
+
+abbrev pub contents_of_element : Bindings → LitElement → Contents
+contents_of_element b = fold-LitElement Contents Contents lit_contents (element_contents b)
+
+abbrev pub contents_of_all : Bindings → List Lit → Contents
+contents_of_all b xs space depth = flat_map (λ x. contents_of b x space depth) xs
+
+abbrev pub AllFrom : ℕ → List ℕ → Type 0
+AllFrom d [] = Unit {0}
+AllFrom d (x ∷ xs) = (d ≤ x) × AllFrom d xs
+
+-- a part of a tree: nothing in it is less deep than this, and it may stand after whatever allows this depth
+pub record IsPart (depth : ℕ) (contents : List (ℕ × Content)) : Type 0 where
+  pub steps : (most : ℕ) → depth ≤ most → AreSteps most (map (λ p. p.0) contents)
+  pub deep : AllFrom depth (map (λ p. p.0) contents)
+  pub plain : AllPlain contents
+
+-- each of these comes before a content by the bytes of written names
+abbrev pub AllLess : Content → List Content → Type 0
+AllLess content [] = Unit {0}
+AllLess content (x ∷ xs) = (is_less (written_of x) (written_of content) ≡ true) × AllLess content xs
+
+-- the last of these, where there is one, does not
+abbrev pub EndsNotLess : Content → List Content → Type 0
+EndsNotLess content [] = Unit {0}
+EndsNotLess content (x ∷ []) = is_less (written_of x) (written_of content) ≡ false
+EndsNotLess content (x ∷ (y ∷ ys)) = EndsNotLess content (y ∷ ys)
+
+abbrev pub AllSmall : List Content → Type 0
+AllSmall [] = Unit {0}
+AllSmall (c ∷ cs) = (size_of c ≤ 2 ^ 66) × AllSmall cs
+
+-- a text that is longer than the limit, and an element that is deeper
+abbrev pub is_long : Limits → ℕ × Content → Bool
+is_long l p = nat_lt l.text (length (own_text p.1))
+
+abbrev pub is_deep : Limits → ℕ × Content → Bool
+is_deep l p = is_element p.1 && nat_le l.depth p.0

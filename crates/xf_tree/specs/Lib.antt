@@ -1,0 +1,4 @@
+pub mod Rows
+pub mod Tree
+pub mod Calls
+pub mod Contents

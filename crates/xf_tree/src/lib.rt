@@ -1,0 +1,17 @@
+//! The forest of instance data: rows in document order over a slab of contents.
+#![tactic(auto)]
+
+mod fault;
+mod forest;
+mod lookup;
+mod name;
+mod plant;
+mod root;
+mod rows;
+mod slot;
+#[cfg(test)]
+mod tests;
+mod text;
+mod tree;
+
+pub use forest::Forest;

@@ -1,0 +1,152 @@
+//! Where a node's row stands, and rows beside it.
+ghost use Rattle.std.specs.Prelude.{◌≡◌, ◌+◌, ◌<◌, ◌≤◌, ◌^◌, length, map, take, drop, false, IfSome, MatchOption, slice_index_or};
+ghost use Rattle.xf_doc.specs.Forest.{has_number};
+ghost use Rattle.xf_doc.specs.Changes.{root_of, in_instances, is_detached_top};
+ghost use Rattle.xf_tree.specs.Rows.{Sized, deeper, parent_row_of, tree_of};
+ghost use Rattle.xf_tree.specs.Tree.{node_of, StandsAt, AllTops, number_at, no_row, is_kin, kin_before};
+
+use crate::rows::{Row, end_of};
+use crate::slot::{Slot, is_attribute_at, is_of_kind, is_root_at, number_of};
+use slab::Slab;
+use xf_doc::NodeId;
+
+/// What is thought of the node under a key: where its row stands, and the parent's key. It is tested where it is used.
+#[derive(Clone, Copy, Debug)]
+pub struct Hint {
+    pub row: usize,
+    pub parent: usize,
+}
+
+/// Where the node's row stands: where the hint says so, else found by looking.
+pub fn row_of(rows: &[Row], slots: &Slab<Slot>, hints: &[Hint], node: NodeId) -> Option<usize>
+    ensures { MatchOption result (has_number node.number (map (node_of slots.now) rows.now) ≡ false) (λ at. StandsAt slots.now rows.now node.number at) }
+{
+    if let Some(hint) = hints.get(node.place) {
+        let at = hint.row;
+        if at < rows.len() && number_of(slots, rows[at].key) == node.number {
+            return Some(at);
+        }
+    }
+    for at in 0..rows.len() {
+        if number_of(slots, rows[at].key) == node.number {
+            return Some(at);
+        }
+    }
+    None
+}
+
+/// The row of the parent: where the hints say so and the sizes show it, else found by going back.
+pub fn parent_row(rows: &[Row], hints: &[Hint], at: usize) -> Option<usize>
+    requires within { at < length rows.now }
+    requires sized { Sized rows.now }
+    ensures answer { result ≡ parent_row_of rows.now at }
+    ensures within { IfSome result (λ above. above < at) }
+{
+    let row = rows[at];
+    if let Some(hint) = hints.get(row.key) {
+        if let Some(beyond) = hints.get(hint.parent) {
+            let above = beyond.row;
+            if above < at
+                && rows[above].depth < row.depth
+                && row.depth - rows[above].depth == 1
+                && at < end_of(rows, above)
+            {
+                return Some(above);
+            }
+        }
+    }
+    let mut left = at;
+    while left > 0 {
+        left -= 1;
+        if rows[left].depth < row.depth {
+            return Some(left);
+        }
+    }
+    None
+}
+
+/// The row of the root with a place among the roots.
+pub fn root_row(rows: &[Row], slots: &Slab<Slot>, instance: u32) -> Option<usize>
+    requires sized { Sized rows.now }
+    requires tops { AllTops (map (node_of slots.now) rows.now) }
+    ensures answer { number_at slots.now rows.now result ≡ root_of instance (map (node_of slots.now) rows.now) }
+    ensures within { IfSome result (λ at. at < length rows.now) }
+{
+    let mut left = instance;
+    let mut at = 0;
+    while at < rows.len() {
+        if is_root_at(slots, rows[at].key) {
+            if left == 0 {
+                return Some(at);
+            }
+            left -= 1;
+        }
+        at = end_of(rows, at);
+    }
+    None
+}
+
+/// Where the detached trees begin.
+pub fn tops_end(rows: &[Row], slots: &Slab<Slot>) -> usize
+    requires sized { Sized rows.now }
+    ensures answer { map (node_of slots.now) (take result rows.now) ≡ in_instances (map (node_of slots.now) rows.now) }
+    ensures within { result ≤ length rows.now }
+    ensures stops { deeper 0 (drop result rows.now) ≡ 0 }
+{
+    let mut at = 0;
+    while at < rows.len() {
+        if is_detached_at(rows, slots, at) {
+            return at;
+        }
+        at = end_of(rows, at);
+    }
+    at
+}
+
+/// How many siblings of its kind stand before the node at a place, below the parent's row.
+pub fn place_of(rows: &[Row], slots: &Slab<Slot>, above: usize, at: usize) -> u32
+    requires order { above < at }
+    requires inside { at < above + length (tree_of (drop above rows.now)) }
+    requires child { (slice_index_or rows.now at no_row).depth ≡ (slice_index_or rows.now above no_row).depth + 1 }
+    requires sized { Sized rows.now }
+    requires few { length rows.now < 2 ^ 32 }
+    ensures { result ≡ kin_before slots.now rows.now above at }
+{
+    let wanted = is_attribute_at(slots, rows[at].key);
+    let depth = rows[at].depth;
+    let mut place = 0;
+    let mut next = above + 1;
+    while next < at {
+        if is_kin_at(rows, slots, next, depth, wanted) {
+            place += 1;
+        }
+        next = end_of(rows, next);
+    }
+    place
+}
+
+/// Whether the row at a place is of the top of a detached tree.
+fn is_detached_at(rows: &[Row], slots: &Slab<Slot>, at: usize) -> bool
+    requires { at < length rows.now }
+    ensures { result ≡ is_detached_top (node_of slots.now (slice_index_or rows.now at no_row)) }
+{
+    rows[at].depth == 0 && !is_root_at(slots, rows[at].key)
+}
+
+/// Whether the row at a place has this depth, and is of an attribute, where one is wanted, or of none, where none is.
+fn is_kin_at(rows: &[Row], slots: &Slab<Slot>, at: usize, depth: u32, wanted: bool) -> bool
+    requires { at < length rows.now }
+    ensures { result ≡ is_kin depth wanted (node_of slots.now (slice_index_or rows.now at no_row)) }
+{
+    rows[at].depth == depth && is_of_kind(slots, rows[at].key, wanted)
+}
+
+/// Notes anew where the rows from a place on stand. What is noted is only a hint, so nothing is promised of it.
+pub fn note_rows(hints: &mut [Hint], rows: &[Row], from: usize) {
+    for at in from..rows.len() {
+        let key = rows[at].key;
+        if key < hints.len() {
+            hints[key].row = at;
+        }
+    }
+}

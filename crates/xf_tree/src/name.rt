@@ -1,0 +1,98 @@
+//! Names of nodes, and their order by the bytes of what is written.
+ghost use Rattle.std.specs.Prelude.{◌≡◌, IfOk, length, slice_get};
+ghost use Rattle.xf_doc.specs.Forest.{written};
+ghost use Rattle.xf_doc.specs.Plant.{is_less, name_for, no_name, written_of};
+
+use std::alloc::{AllocError, Global};
+use xf_doc::{Content, Name};
+use xf_name::{Prefixes, QName, Word};
+
+/// A resolved name with its prefix as it is written.
+pub fn name_for(alloc: Global, prefixes: &Prefixes, meaning: QName) -> Result<Name, AllocError>
+    ensures { IfOk result (λ name. name ≡ name_for prefixes.now meaning) }
+{
+    let prefix = match prefixes.prefix_text(meaning.prefix) {
+        Some(text) => Word::from_str(alloc, text)?,
+        None => Word::new(alloc),
+    };
+    Ok(Name { meaning, prefix })
+}
+
+/// The name of what has none.
+pub fn no_name(alloc: Global, prefixes: &Prefixes) -> Result<Name, AllocError>
+    ensures { IfOk result (λ name. name ≡ name_for prefixes.now no_name) }
+{
+    let meaning = QName {
+        space: 0,
+        prefix: 0,
+        local: Word::new(alloc),
+    };
+    name_for(alloc, prefixes, meaning)
+}
+
+/// Whether the first node's name, as it is written, comes before the second's, by bytes.
+pub fn written_less(first: &Content, second: &Content) -> bool
+    ensures { result ≡ is_less (written_of first.now) (written_of second.now) }
+{
+    for at in 0..written_len(second) {
+        let Some(other) = written_byte(second, at) else {
+            return false;
+        };
+        let Some(one) = written_byte(first, at) else {
+            return true;
+        };
+        if one != other {
+            return one < other;
+        }
+    }
+    false
+}
+
+fn written_len(content: &Content) -> usize
+    ensures { result ≡ length (written_of content.now) }
+{
+    match content {
+        Content::Element(name) => len_of(name),
+        Content::Attribute(name, _) => len_of(name),
+        _ => 0,
+    }
+}
+
+fn len_of(name: &Name) -> usize
+    ensures { result ≡ length (written name.now) }
+{
+    let prefix = name.prefix.as_bytes();
+    let local = name.meaning.local.as_bytes();
+    if prefix.is_empty() {
+        return local.len();
+    }
+    prefix.len() + 1 + local.len()
+}
+
+fn written_byte(content: &Content, at: usize) -> Option<u8>
+    ensures { result ≡ slice_get (written_of content.now) at }
+{
+    match content {
+        Content::Element(name) => byte_of(name, at),
+        Content::Attribute(name, _) => byte_of(name, at),
+        _ => None,
+    }
+}
+
+/// The byte at a place of a name as it is written.
+fn byte_of(name: &Name, at: usize) -> Option<u8>
+    ensures { result ≡ slice_get (written name.now) at }
+{
+    let prefix = name.prefix.as_bytes();
+    let local = name.meaning.local.as_bytes();
+    if prefix.is_empty() {
+        return local.get(at).copied();
+    }
+    if at < prefix.len() {
+        return prefix.get(at).copied();
+    }
+    if at == prefix.len() {
+        return Some(b':');
+    }
+    local.get(at - prefix.len() - 1).copied()
+}

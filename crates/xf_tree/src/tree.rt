@@ -1,0 +1,191 @@
+//! Trees that come in behind all others.
+ghost use Rattle.std.specs.Prelude.{◌≡◌, ◌+◌, ◌-◌, ◌≤◌, ◌<◌, ◌^◌, ℕ, ◌∷◌, [], ◌++◌, length, map, take, drop, Some, None, slice_index_or, vec_len, vec_capacity, IfOk, ◌*◌};
+ghost use Rattle.slab.specs.Slab.{get, slab_len, Updates, HasRoomFor};
+ghost use Rattle.xf_doc.specs.Limits.{size_of};
+ghost use Rattle.xf_doc.specs.Plant.{numbered_from};
+ghost use Rattle.xf_tree.specs.Rows.{Sized, deeper};
+ghost use Rattle.xf_tree.specs.Tree.{node_of, content_in, no_row, AllLive, IsTree, KeepsLive, unsized, part_of, size_of_all};
+
+use crate::lookup::Hint;
+use crate::rows::Row;
+use crate::slot::{Slot, duplicate, size_in};
+use slab::Slab;
+use std::alloc::{AllocError, Global};
+use xf_doc::Content;
+
+/// A node of a tree: its depth below the top, and its content. A tree is the list of these in document order.
+pub type Part = (u32, Content);
+
+/// Puts a node behind all others.
+pub fn push_node(
+    rows: &mut Vec<Row>,
+    slots: &mut Slab<Slot>,
+    number: u128,
+    depth: u32,
+    size: usize,
+    content: Content,
+) -> usize
+    requires slot { HasRoomFor slots.old 1 }
+    requires row { vec_len rows.old < vec_capacity rows.old }
+    ensures vacant { get slots.old result ≡ None }
+    ensures slot { Updates slots.old slots.new result (Some (record { number = number; owner = 0; content = content })) }
+    ensures row { rows.new.items ≡ rows.old.items ++ (record { key = result; size = size; depth = depth } ∷ []) }
+    ensures more { vec_len rows.new ≡ vec_len rows.old + 1 }
+    ensures room { vec_capacity rows.new ≡ vec_capacity rows.old }
+    ensures count { slab_len slots.new ≡ slab_len slots.old + 1 }
+    ensures slots { slots.new.capacity ≡ slots.old.capacity }
+{
+    let key = slots.insert_reserved(Slot {
+        number,
+        owner: 0,
+        content,
+    });
+    rows.push_reserved(Row { key, size, depth });
+    key
+}
+
+/// Makes room for a hint under a key. Where there is no memory for it, there is none, and the node is looked for.
+pub fn hint_at(hints: &mut Vec<Hint>, key: usize) {
+    while hints.len() <= key {
+        if hints.push(Hint { row: 0, parent: 0 }).is_err() {
+            return;
+        }
+    }
+}
+
+/// Puts the nodes of a tree behind all others, with numbers from the first one on.
+pub fn push_tree(
+    rows: &mut Vec<Row>,
+    slots: &mut Slab<Slot>,
+    hints: &mut Vec<Hint>,
+    first: u128,
+    tree: Vec<Part>,
+)
+    requires tree { IsTree tree.items }
+    requires slots { HasRoomFor slots.old (length tree.items) }
+    requires rows { vec_len rows.old + length tree.items ≤ vec_capacity rows.old }
+    requires live { AllLive slots.old rows.old.items }
+    requires small { (key : ℕ) → size_of (content_in (get slots.old key)) ≤ 2 ^ 66 }
+    requires numbers { first + length tree.items < 2 ^ 128 }
+    ensures front { take (length rows.old.items) rows.new.items ≡ rows.old.items }
+    ensures nodes { map (node_of slots.new) (drop (length rows.old.items) rows.new.items) ≡ numbered_from first tree.items }
+    ensures sized { Sized (drop (length rows.old.items) rows.new.items) }
+    ensures live { AllLive slots.new rows.new.items }
+    ensures rest { KeepsLive slots.old slots.new }
+    ensures small { (key : ℕ) → size_of (content_in (get slots.new key)) ≤ 2 ^ 66 }
+    ensures room { vec_capacity rows.new ≡ vec_capacity rows.old }
+{
+    let start = rows.len();
+    push_all(rows, slots, hints, first, tree);
+    set_sizes_in(rows, hints, start);
+}
+
+/// `set_sizes` on vectors.
+fn set_sizes_in(rows: &mut Vec<Row>, hints: &mut Vec<Hint>, start: usize)
+    requires { start ≤ length rows.old.items }
+    ensures sized { Sized (drop start rows.new.items) }
+    ensures front { take start rows.new.items ≡ take start rows.old.items }
+    ensures same { map unsized rows.new.items ≡ map unsized rows.old.items }
+    ensures room { vec_capacity rows.new ≡ vec_capacity rows.old }
+{
+    set_sizes(rows, hints, start);
+}
+
+fn push_all(
+    rows: &mut Vec<Row>,
+    slots: &mut Slab<Slot>,
+    hints: &mut Vec<Hint>,
+    first: u128,
+    tree: Vec<Part>,
+)
+    requires tree { IsTree tree.items }
+    requires slots { HasRoomFor slots.old (length tree.items) }
+    requires rows { vec_len rows.old + length tree.items ≤ vec_capacity rows.old }
+    requires live { AllLive slots.old rows.old.items }
+    requires small { (key : ℕ) → size_of (content_in (get slots.old key)) ≤ 2 ^ 66 }
+    requires numbers { first + length tree.items < 2 ^ 128 }
+    ensures front { take (length rows.old.items) rows.new.items ≡ rows.old.items }
+    ensures nodes { map (node_of slots.new) (drop (length rows.old.items) rows.new.items) ≡ numbered_from first tree.items }
+    ensures live { AllLive slots.new rows.new.items }
+    ensures rest { KeepsLive slots.old slots.new }
+    ensures small { (key : ℕ) → size_of (content_in (get slots.new key)) ≤ 2 ^ 66 }
+    ensures room { vec_capacity rows.new ≡ vec_capacity rows.old }
+{
+    let mut number = first;
+    for (depth, content) in tree {
+        let key = push_node(rows, slots, number, depth, 1, content);
+        hint_at(hints, key);
+        number += 1;
+    }
+}
+
+/// Sets the sizes of the rows from a place on, from the last one back.
+fn set_sizes(rows: &mut [Row], hints: &mut [Hint], start: usize)
+    requires { start ≤ length rows.old }
+    ensures sized { Sized (drop start rows.new) }
+    ensures front { take start rows.new ≡ take start rows.old }
+    ensures same { map unsized rows.new ≡ map unsized rows.old }
+{
+    let mut at = rows.len();
+    while at > start {
+        at -= 1;
+        let end = tree_end(rows, hints, at);
+        rows[at].size = end - at;
+    }
+}
+
+/// Where the tree of the row at a place ends, by the sizes of the rows behind it. Hints are noted for the row and its children.
+fn tree_end(rows: &[Row], hints: &mut [Hint], at: usize) -> usize
+    requires within { at < length rows.now }
+    requires sized { Sized (drop (at + 1) rows.now) }
+    ensures answer { result ≡ at + 1 + deeper (slice_index_or rows.now at no_row).depth (drop (at + 1) rows.now) }
+    ensures within { result ≤ length rows.now }
+{
+    let key = rows[at].key;
+    let depth = rows[at].depth;
+    if key < hints.len() {
+        hints[key].row = at;
+    }
+    let mut next = at + 1;
+    while next < rows.len() && rows[next].depth > depth {
+        let child = rows[next].key;
+        if child < hints.len() {
+            hints[child].parent = key;
+        }
+        next += rows[next].size;
+    }
+    next
+}
+
+/// The contents of these rows, with their depths below a top.
+pub fn contents_of(
+    alloc: Global,
+    slots: &Slab<Slot>,
+    rows: &[Row],
+    top: u32,
+) -> Result<Vec<Part>, AllocError>
+    ensures { IfOk result (λ tree. tree.items ≡ map (part_of slots.now top) rows.now) }
+{
+    let mut tree = Vec::new(alloc);
+    for row in rows {
+        let content = match slots.get(row.key) {
+            Some(slot) => duplicate(alloc, &slot.content)?,
+            None => Content::Root,
+        };
+        tree.push((row.depth.saturating_sub(top), content))?;
+    }
+    Ok(tree)
+}
+
+/// The bytes of the names and texts of a tree.
+pub fn size_of_tree(tree: &[Part]) -> u128
+    requires few { length tree.now < 2 ^ 31 }
+    ensures answer { result ≡ size_of_all tree.now }
+    ensures small { size_of_all tree.now ≤ 2 ^ 66 * length tree.now }
+{
+    let mut size = 0;
+    for part in tree {
+        size += size_in(&part.1);
+    }
+    size
+}
