@@ -12,8 +12,8 @@ use Rattle.xf_tree.proofs.PlaceLemmas.{stands, one_of, content-means}
 use Rattle.xf_tree.proofs.PushLemmas.{insert-keeps}
 use Rattle.xf_tree.proofs.AddLemmas.{same-state, same-view, room-same, kept-same, kept-texts, named-meets, zero-depth, element-plain, stands-same}
 use Rattle.xf_tree.proofs.OverLemmas.{over-state, over-view}
-use Rattle.xf_tree.proofs.change.Forest.add_root.Goals as goal
-use Rattle.xf_tree.proofs.change.Forest.add_root.Goals.{After-root_over-place}
+use Rattle.xf_tree.proofs.forest.Forest.add_root.Goals as goal
+use Rattle.xf_tree.proofs.forest.Forest.add_root.Goals.{After-root_over-place}
 
 pub invariant_of-self : goal.invariant_of-self
 invariant_of-self c =

@@ -6,7 +6,7 @@ use Rattle.xf_doc.specs.Texts.{Keeping}
 use Rattle.xf_tree.specs.Tree.{node_of, size_of_all}
 use Rattle.xf_tree.proofs.AddLemmas.{count-with, size-with}
 use Rattle.xf_tree.proofs.FaultLemmas.{long-numbered, deep-numbered, tree-nodes, tree-long, tree-bytes, tree-deep, tree-none}
-use Rattle.xf_tree.proofs.change.Forest.passed_by_tree.Goals as goal
+use Rattle.xf_tree.proofs.forest.Forest.passed_by_tree.Goals as goal
 
 pub returns-then-self-tree-gt-NODE_LIMIT : goal.returns-then-self-tree-gt-NODE_LIMIT
 returns-then-self-tree-gt-NODE_LIMIT c =

@@ -5,7 +5,7 @@ use Rattle.xf_doc.specs.Plant.{numbered_from}
 use Rattle.xf_doc.specs.Texts.{Keeping}
 use Rattle.xf_tree.specs.Tree.{node_of, size_of_all}
 use Rattle.xf_tree.proofs.AddLemmas.{count-with, size-with, passed-nodes, passed-bytes, passed-none}
-use Rattle.xf_tree.proofs.change.Forest.passed_by_all.Goals as goal
+use Rattle.xf_tree.proofs.forest.Forest.passed_by_all.Goals as goal
 
 pub returns-then-self-tree-gt-NODE_LIMIT : goal.returns-then-self-tree-gt-NODE_LIMIT
 returns-then-self-tree-gt-NODE_LIMIT c =

@@ -13,8 +13,8 @@ use Rattle.xf_tree.specs.Tree.{StandsAt, IsTree, node_of, part_of, no_row}
 use Rattle.xf_tree.proofs.CutLemmas.{tree-is-front}
 use Rattle.xf_tree.proofs.PlaceLemmas.{stands, one_of}
 use Rattle.xf_tree.proofs.AddLemmas.{contents-mean, contents-tree, copied-stands, nothing-copied}
-use Rattle.xf_tree.proofs.change.Forest.contents_at.Goals as goal
-use Rattle.xf_tree.proofs.change.Forest.contents_at.Goals.{After-contents_of}
+use Rattle.xf_tree.proofs.forest.Forest.contents_at.Goals as goal
+use Rattle.xf_tree.proofs.forest.Forest.contents_at.Goals.{After-contents_of}
 
 ok-tree : {V E : Type 0} (r : Result V E) (items : V → List (ℕ × Content)) (l : List (ℕ × Content)) → IfOk r (λ v. items v ≡ l) → IsTree l → IfOk r (λ v. IsTree (items v))
 ok-tree (Ok v) items l e tree = subst IsTree (sym e) tree

@@ -7,8 +7,8 @@ use Rattle.xf_tree.specs.Calls.{with_contents}
 use Rattle.xf_tree.specs.Tree.{IsState, AllLive, content_in, keeping_of, size_of_all}
 use Rattle.xf_tree.proofs.PushLemmas.{kept-live}
 use Rattle.xf_tree.proofs.AddLemmas.{same-state, same-view, room-same, added-state, added-view, bytes-most}
-use Rattle.xf_tree.proofs.change.Forest.add.Goals as goal
-use Rattle.xf_tree.proofs.change.Forest.add.Goals.{After-push_tree}
+use Rattle.xf_tree.proofs.forest.Forest.add.Goals as goal
+use Rattle.xf_tree.proofs.forest.Forest.add.Goals.{After-push_tree}
 
 pub invariant_of-self : goal.invariant_of-self
 invariant_of-self c =

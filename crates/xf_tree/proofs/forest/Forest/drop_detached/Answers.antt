@@ -9,8 +9,8 @@ use Rattle.xf_tree.specs.Rows.{deeper}
 use Rattle.xf_tree.specs.Tree.{node_of, kept_of, times, KeepsBut, KeepsButKept, IsState}
 use Rattle.xf_tree.proofs.NodeLemmas.{times-append}
 use Rattle.xf_tree.proofs.DropLemmas.{rest-of, dropped-state, dropped-nodes}
-use Rattle.xf_tree.proofs.change.Forest.drop_detached.Goals as goal
-use Rattle.xf_tree.proofs.change.Forest.drop_detached.Goals.{After-clear}
+use Rattle.xf_tree.proofs.forest.Forest.drop_detached.Goals as goal
+use Rattle.xf_tree.proofs.forest.Forest.drop_detached.Goals.{After-clear}
 
 pub free_rows-requires : goal.free_rows-requires
 free_rows-requires c = λ n.
