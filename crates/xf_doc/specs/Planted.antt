@@ -1,7 +1,7 @@
 -- Literal trees that come into a forest, as detached trees, and why they do not.
 use Rattle.std.specs.Prelude.{ℕ, suc, ◌+◌, Bool, true, false, not, ◌||◌, List, [], ◌∷◌, ◌++◌, map, flat_map, length, Option, Some, None, is_none, option_map, Result, Err, ◌==◌, if◌then◌else◌}
 use Rattle.std.specs.List.{list_any}
-use Rattle.xf_name.specs.Bindings.{Bindings, space_number, numbered, xml_number, text_of_space}
+use Rattle.xf_name.specs.Bindings.{Bindings, space_number, space_of_prefix, text_of_space}
 use Rattle.xf_name.specs.Part.{Kind, no_declaration, is_part, kind_of}
 use Rattle.xf_name.specs.Written.{Written, elements_of}
 use Rattle.xf_name.specs.Faults.{name_fault, has_double}
@@ -81,10 +81,6 @@ bare_element_elements e = (e.name, e.attributes) ∷ flat_map (λ child. child) 
 
 abbrev pub elements_of_bare : Bare → Elements
 elements_of_bare = fold-Bare Elements Elements bare_elements bare_element_elements
-
--- the number of the namespace of the prefix with a number
-abbrev pub space_of_prefix : Bindings → ℕ → Option ℕ
-space_of_prefix b prefix = if prefix == xml_number then Some xml_number else option_map (λ p. p.1) (numbered b.prefixes prefix)
 
 abbrev pub is_space : Option ℕ → ℕ → Bool
 is_space None space = false

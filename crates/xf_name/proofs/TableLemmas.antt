@@ -10,7 +10,7 @@ use Rattle.indexmap.specs.IndexMap.{insert_entry}
 use Rattle.std.proofs.lemmas.Iterator.Adapters.{position_from-zero}
 use Rattle.std.proofs.lemmas.Bool.Decides.{eqb_tells}
 use Rattle.xf_name.specs.Part.{is_part}
-use Rattle.xf_name.specs.Bindings.{Bindings, numbers_from, space_number, prefix_numbers, xml_space, xml_prefix, xml_number, numbered, text_of_space, text_of_prefix}
+use Rattle.xf_name.specs.Bindings.{Bindings, numbers_from, space_number, prefix_numbers, xml_space, xml_prefix, xml_number, numbered, text_of_space, text_of_prefix, space_of_prefix}
 use Rattle.xf_name.specs.Declarations.{with_space, with_prefix, with_last_prefix}
 
 -- ---- the place of an item, counted from another number, and in a list that is mapped
@@ -109,6 +109,15 @@ pub prefix_text-is : (b : Bindings) (n : ℕ) (es : List Entry) → map entry_vi
 prefix_text-is b n es shown other some =
     name_of (slice_get es (n - 1)) ∙ ap (option_map (λ p. p.0)) (numbered-is entry_view es n some ∙ ap (λ xs. numbered xs n) shown)
     ∙ sym (unless_equal n xml_number (Some xml_prefix) (option_map (λ p. p.0) (numbered b.prefixes n)) other)
+
+space_in : (o : Option Entry) → option_map (λ e. e.1) o ≡ option_map (λ p. p.1) (option_map entry_view o)
+space_in None = refl
+space_in (Some e) = refl
+
+pub prefix_space-is : (b : Bindings) (n : ℕ) (es : List Entry) → map entry_view es ≡ b.prefixes → (n ≡ xml_number → ⊥) → (n ≡ 0 → ⊥) → option_map (λ e. e.1) (slice_get es (n - 1)) ≡ space_of_prefix b n
+prefix_space-is b n es shown other some =
+    space_in (slice_get es (n - 1)) ∙ ap (option_map (λ p. p.1)) (numbered-is entry_view es n some ∙ ap (λ xs. numbered xs n) shown)
+    ∙ sym (unless_equal n xml_number (Some xml_number) (option_map (λ p. p.1) (numbered b.prefixes n)) other)
 
 -- ---- one more namespace, one more prefix
 

@@ -49,6 +49,10 @@ text_of_space b number = if number == xml_number then Some xml_space else number
 abbrev pub text_of_prefix : Bindings → ℕ → Option (List ℕ)
 text_of_prefix b number = if number == xml_number then Some xml_prefix else option_map (λ p. p.0) (numbered b.prefixes number)
 
+-- the number of the namespace of the prefix with a number
+abbrev pub space_of_prefix : Bindings → ℕ → Option ℕ
+space_of_prefix b number = if number == xml_number then Some xml_number else option_map (λ p. p.1) (numbered b.prefixes number)
+
 abbrev pub prefixed : List ℕ → Option (ℕ × ℕ) → Result QName NameFault
 prefixed local None = Err PrefixUnknown
 prefixed local (Some numbers) = Ok (record { space = numbers.1; prefix = numbers.0; local = local })

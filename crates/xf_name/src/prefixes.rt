@@ -3,7 +3,7 @@
 ghost use Rattle.std.specs.Prelude.{◌≡◌, map, option_map, IfOk};
 ghost use Rattle.xf_base.specs.Gives.{Gives};
 ghost use Rattle.xf_name.specs.Part.{is_part, kind_of};
-ghost use Rattle.xf_name.specs.Bindings.{no_bindings, space_number, prefix_numbers, text_of_space, text_of_prefix, resolved};
+ghost use Rattle.xf_name.specs.Bindings.{no_bindings, space_number, prefix_numbers, text_of_space, text_of_prefix, space_of_prefix, resolved};
 ghost use Rattle.xf_name.specs.Faults.{name_fault};
 ghost use Rattle.xf_name.specs.Declarations.{with_space, with_prefix, with_kind, with_attributes};
 ghost use Rattle.xf_name.specs.Declares.{Declares, GivesTables};
@@ -128,6 +128,22 @@ impl Prefixes {
         }
         match self.prefixes.get_index(prefix as usize - 1) {
             Some((text, _)) => Some(text.as_str()),
+            None => None,
+        }
+    }
+
+    /// The number of the namespace that the prefix with a number stands for.
+    pub fn space_of_prefix(&self, prefix: u16) -> Option<u16>
+        ensures { result ≡ space_of_prefix self.now prefix }
+    {
+        if prefix == XML_NUMBER {
+            return Some(XML_NUMBER);
+        }
+        if prefix == 0 {
+            return None;
+        }
+        match self.prefixes.get_index(prefix as usize - 1) {
+            Some((_, space)) => Some(*space),
             None => None,
         }
     }
