@@ -20,3 +20,27 @@ namespace_limit = 256
 -- prefixes of a form
 abbrev pub prefix_limit : ℕ
 prefix_limit = 32768
+
+-- a string that an expression makes on the way
+abbrev pub string_limit : ℕ
+string_limit = 4194304
+
+-- the text of an expression; no list in it has more parts
+abbrev pub expression_limit : ℕ
+expression_limit = 4096
+
+-- parentheses and signs of an expression, one inside another
+abbrev pub nesting_limit : ℕ
+nesting_limit = 64
+
+-- the name of an event
+abbrev pub event_name_limit : ℕ
+event_name_limit = 255
+
+-- what a store gives for one name
+abbrev pub found_limit : ℕ
+found_limit = 2 ^ 20
+
+-- how often a store answers within one event
+abbrev pub answer_limit : ℕ
+answer_limit = 16

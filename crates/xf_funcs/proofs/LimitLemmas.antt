@@ -3,10 +3,11 @@ use Rattle.std.proofs.Common.{◌≡◌, ◌⊎◌, ℕ, ◌+◌, ◌<◌, ◌�
 use Rattle.std.proofs.lemmas.Bool.{cases_lt}
 use Rattle.std.proofs.lemmas.Bool.Decides.{nat_tests}
 use Rattle.std.proofs.lemmas.List.Folds.{length-flat_map-take}
+use Rattle.xf_base.specs.Limits.{string_limit}
 use Rattle.xf_funcs.specs.declared.plain.Plain.{Plain}
 use Rattle.xf_funcs.specs.declared.plain.FuncFault.{FuncFault}
 use Rattle.xf_funcs.specs.declared.plain.FuncFault.TheVariants.{Long, Memory}
-use Rattle.xf_funcs.specs.Conversions.{string_limit, kept, text_of, string_of}
+use Rattle.xf_funcs.specs.Conversions.{kept, text_of, string_of}
 use Rattle.xf_funcs.specs.Called.{text, concat_of}
 
 pub kept_long : (bytes : List ℕ) → string_limit < length bytes → kept bytes ≡ Err Long

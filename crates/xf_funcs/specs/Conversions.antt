@@ -1,15 +1,12 @@
 -- Plain values and their conversions (XPath 1.0, sections 4.2 to 4.4).
 use Rattle.std.specs.Prelude.{ℕ, ◌*◌, nat_lt, Bool, true, false, not, List, length, ℤ, pos, unsigned_abs, Option, Some, None, Result, Ok, Err, codes, if◌then◌else◌}
+use Rattle.xf_base.specs.Limits.{string_limit}
 use Rattle.xf_num.specs.Number.{scale, in_range}
 use Rattle.xf_num.specs.Written.{is_empty, read_at, printed}
 use Rattle.xf_funcs.specs.declared.plain.Plain.{Plain}
 use Rattle.xf_funcs.specs.declared.plain.Plain.TheVariants.{Text, Number, Truth}
 use Rattle.xf_funcs.specs.declared.plain.FuncFault.{FuncFault}
 use Rattle.xf_funcs.specs.declared.plain.FuncFault.TheVariants.{Long}
-
--- the bytes that one string may have
-abbrev pub string_limit : ℕ
-string_limit = 4194304
 
 -- a string, or Long where it passes the limit
 abbrev pub kept : List ℕ → Result (List ℕ) FuncFault

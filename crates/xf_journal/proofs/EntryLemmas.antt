@@ -6,10 +6,12 @@ use Rattle.std.specs.Option.{option_map}
 use Rattle.std.specs.List.{flat_map, list_all}
 use Rattle.std.specs.Prelude.{Bool, true, false, ◌&&◌, nat_le, if◌then◌else◌}
 use Rattle.std.specs.Option.{option_and_then}
+use Rattle.xf_store.specs.Replies.{is_short}
+use Rattle.xf_base.specs.Limits.{line_limit, found_limit}
 use Rattle.xf_store.specs.declared.answers.Answer.{Answer}
 use Rattle.xf_store.specs.declared.answers.Answer.TheVariants as answer
 use Rattle.xf_journal.specs.declared.entry.Accepted.{Accepted}
-use Rattle.xf_journal.specs.Entry.{line_most, found_most, answer_bytes, answers_bytes, body_bytes, entry_bytes, is_within, is_short, found_in, answer_in, these_answers, answers_in, body_in, entry_in, size_at}
+use Rattle.xf_journal.specs.Entry.{answer_bytes, answers_bytes, body_bytes, entry_bytes, is_within, found_in, answer_in, these_answers, answers_in, body_in, entry_in, size_at}
 use Rattle.xf_journal.specs.Numbers.{four, from_four}
 use Rattle.xf_journal.proofs.NumberLemmas.{length-four, from_four-four}
 
@@ -88,7 +90,7 @@ found_written bytes rest within =
     let front : drop 4 all ≡ bytes ++ rest = ap (λ (l : List ℕ). drop 4 l) split ∙ drop_four n (bytes ++ rest) in
     let whole : drop (4 + n) all ≡ rest = drop_sum 4 n all ∙ ap (λ (l : List ℕ). drop n l) front ∙ drop_exactly bytes rest in
     let taken : take n (drop 4 all) ≡ bytes = ap (λ (l : List ℕ). take n l) front ∙ take_exactly bytes rest in
-    let test : (nat_le 4 (length all) && nat_le (from_four all) found_most && nat_le (4 + from_four all) (length all)) ≡ true =
+    let test : (nat_le 4 (length all) && nat_le (from_four all) found_limit && nat_le (4 + from_four all) (length all)) ≡ true =
     and_three _ _ _ (le-leb 4 (length all) (omega (arith, size))) (le-leb (from_four all) (2 ^ 20) (omega (arith, number, within))) (le-leb (4 + from_four all) (length all) (omega (arith, number, size))) in
     if_true _ (Some (answer.Found (take (from_four all) (drop 4 all)), drop (4 + from_four all) all)) None test
     ∙ ap (λ (k : ℕ). Some (answer.Found (take k (drop 4 all)), drop (4 + k) all)) number
@@ -129,7 +131,7 @@ module _ (line : List ℕ) (answers : List Answer) (within : is_within line answ
       let front : drop 4 body ≡ line ++ answers_bytes answers = ap (λ (l : List ℕ). drop 4 l) split ∙ drop_four m (line ++ answers_bytes answers) in
       let behind : drop (4 + m) body ≡ answers_bytes answers = drop_sum 4 m body ∙ ap (λ (l : List ℕ). drop m l) front ∙ drop_exactly line (answers_bytes answers) in
       let taken : take m (drop 4 body) ≡ line = ap (λ (l : List ℕ). take m l) front ∙ take_exactly line (answers_bytes answers) in
-      let test : (nat_le 4 (length body) && nat_le (from_four body) line_most && nat_le (4 + from_four body) (length body)) ≡ true =
+      let test : (nat_le 4 (length body) && nat_le (from_four body) line_limit && nat_le (4 + from_four body) (length body)) ≡ true =
       and_three _ _ _ (le-leb 4 (length body) (omega (arith, size))) (le-leb (from_four body) 65536 (omega (arith, number, sizes.0))) (le-leb (4 + from_four body) (length body) (omega (arith, number, size))) in
       if_true _ (option_map (λ (read : List Answer). accepted (take (from_four body) (drop 4 body)) read) (answers_in (drop (4 + from_four body) body))) None test
       ∙ ap (λ (k : ℕ). option_map (λ (read : List Answer). accepted (take k (drop 4 body)) read) (answers_in (drop (4 + k) body))) number

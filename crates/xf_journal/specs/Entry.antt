@@ -2,20 +2,12 @@
 use Rattle.std.specs.Prelude.{ℕ, zero, suc, ◌+◌, ◌^◌, List, [], ◌∷◌, ◌++◌, length, take, drop, Bool, true, ◌&&◌, ◌==◌, nat_le, if◌then◌else◌, Option, Some, None, option_and_then, option_map}
 use Rattle.std.specs.Borrow.{Bor}
 use Rattle.std.specs.List.{flat_map, list_all}
+use Rattle.xf_store.specs.Replies.{is_short}
+use Rattle.xf_base.specs.Limits.{line_limit, found_limit, answer_limit}
 use Rattle.xf_store.specs.declared.answers.Answer.{Answer}
 use Rattle.xf_store.specs.declared.answers.Answer.TheVariants as answer
 use Rattle.xf_journal.specs.declared.entry.Accepted.{Accepted}
 use Rattle.xf_journal.specs.Numbers.{four, from_four}
-
--- the most bytes of a line, of what a store found, and the most answers of one event
-abbrev pub line_most : ℕ
-line_most = 65536
-
-abbrev pub found_most : ℕ
-found_most = 2 ^ 20
-
-abbrev pub answers_most : ℕ
-answers_most = 16
 
 -- a kind, and what was found with its length before it
 abbrev pub answer_bytes : Answer → List ℕ
@@ -41,17 +33,9 @@ entry_bytes line answers = four (length (body_bytes line answers)) ++ body_bytes
 abbrev pub written_bytes : List ℕ → List Answer → List ℕ
 written_bytes line answers = entry_bytes line answers ++ 0 ∷ []
 
--- what was found is no longer than a store gives
-abbrev pub is_short : Answer → Bool
-is_short answer.PutDone = true
-is_short answer.Failed = true
-is_short (answer.Found bytes) = nat_le (length bytes) found_most
-is_short answer.Absent = true
-is_short answer.TooLong = true
-
 -- the entry has as much as an entry may have
 abbrev pub is_within : List ℕ → List Answer → Bool
-is_within line answers = nat_le (length line) line_most && nat_le (length answers) answers_most && list_all is_short answers
+is_within line answers = nat_le (length line) line_limit && nat_le (length answers) answer_limit && list_all is_short answers
 
 -- an answer, with the bytes behind it
 abbrev pub front_of : Answer × Bor (List ℕ) → Answer × List ℕ
@@ -60,7 +44,7 @@ front_of found = (found.0, found.1.now)
 -- what was found, at the front of these bytes, and the bytes behind it
 abbrev pub found_in : List ℕ → Option (Answer × List ℕ)
 found_in bytes =
-    if nat_le 4 (length bytes) && nat_le (from_four bytes) found_most && nat_le (4 + from_four bytes) (length bytes)
+    if nat_le 4 (length bytes) && nat_le (from_four bytes) found_limit && nat_le (4 + from_four bytes) (length bytes)
     then Some (answer.Found (take (from_four bytes) (drop 4 bytes)), drop (4 + from_four bytes) bytes)
     else None
 
@@ -89,12 +73,12 @@ these_answers (suc n) bytes =
 -- the answers that these bytes are, if they are answers
 abbrev pub answers_in : List ℕ → Option (List Answer)
 answers_in [] = None
-answers_in (count ∷ bytes) = if nat_le count answers_most then these_answers count bytes else None
+answers_in (count ∷ bytes) = if nat_le count answer_limit then these_answers count bytes else None
 
 -- the line and the answers that these bytes are, if they are an entry's
 abbrev pub body_in : List ℕ → Option Accepted
 body_in body =
-    if nat_le 4 (length body) && nat_le (from_four body) line_most && nat_le (4 + from_four body) (length body)
+    if nat_le 4 (length body) && nat_le (from_four body) line_limit && nat_le (4 + from_four body) (length body)
     then option_map (λ (answers : List Answer). record { line = take (from_four body) (drop 4 body); answers = answers }) (answers_in (drop (4 + from_four body) body))
     else None
 

@@ -2,7 +2,8 @@
 ghost use Rattle.std.specs.Prelude.{◌≡◌, ◌≤◌, ◌++◌, length, IfOk, OnOk, IsTrue};
 ghost use Rattle.std.specs.Option.{option_map};
 ghost use Rattle.std.specs.List.{list_all};
-ghost use Rattle.xf_journal.specs.Entry.{answer_bytes, answers_bytes, is_short, front_of, answer_in, found_in, these_answers, answers_in};
+ghost use Rattle.xf_store.specs.Replies.{is_short};
+ghost use Rattle.xf_journal.specs.Entry.{answer_bytes, answers_bytes, front_of, answer_in, found_in, these_answers, answers_in};
 
 use crate::number::{four, from_four};
 use std::alloc::{AllocError, Global};

@@ -1,6 +1,7 @@
 -- A small forest, what surrounds it, and expressions over it, one level at a time, to read beside the definitions.
 use Rattle.std.specs.Prelude.{ℕ, ◌*◌, Bool, true, false, List, [], ◌∷◌, pos, Option, Some, option_map, codes, ◌==◌, if◌then◌else◌}
 use Rattle.std.specs.List.{flat_map}
+use Rattle.xf_base.specs.Limits.{string_limit}
 use Rattle.xf_name.specs.Bindings.{no_bindings}
 use Rattle.xf_name.specs.declared.axis.Axis.{Axis}
 use Rattle.xf_name.specs.declared.axis.Axis.TheVariants as axis
@@ -18,7 +19,7 @@ use Rattle.xf_lang.specs.declared.value.Value.TheVariants.{Nodes, Text}
 use Rattle.xf_lang.specs.Given.{Given}
 use Rattle.xf_lang.specs.Plain.{Plain, Functions, text_in}
 use Rattle.xf_lang.specs.Plain as plain
-use Rattle.xf_lang.specs.Setting.{Focus, setting_over, capped, string_limit}
+use Rattle.xf_lang.specs.Setting.{Focus, setting_over, capped}
 use Rattle.xf_lang.specs.Asked.{Trace, WalkTrace}
 use Rattle.xf_lang.specs.Reads.{expr_trace, step_trace, reads_in, looks_in, shape_setting}
 

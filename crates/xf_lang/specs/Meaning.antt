@@ -1,5 +1,6 @@
 -- The value of an expression (XPath 1.0, section 3): what one level of the syntax tree makes of its parts, and the whole as its fold.
 use Rattle.std.specs.Prelude.{ℕ, List, Option, Some, None, option_map, Result, Ok, Err}
+use Rattle.xf_base.specs.Limits.{string_limit}
 use Rattle.xf_ast.specs.declared.expr.Expr.{Expr}
 use Rattle.xf_ast.specs.declared.expr.Link.{Link}
 use Rattle.xf_ast.specs.declared.expr.Step.{Step}
@@ -14,7 +15,7 @@ use Rattle.xf_lang.specs.declared.value.Value.{Value}
 use Rattle.xf_lang.specs.declared.value.Value.TheVariants.{Nodes, Number}
 use Rattle.xf_lang.specs.Given.{Given}
 use Rattle.xf_lang.specs.Plain.{Functions}
-use Rattle.xf_lang.specs.Setting.{Setting, Focus, Meaning, LinkMeaning, Walk, ◌>>=◌, setting_over, string_limit}
+use Rattle.xf_lang.specs.Setting.{Setting, Focus, Meaning, LinkMeaning, Walk, ◌>>=◌, setting_over}
 use Rattle.xf_lang.specs.Conversions.{nodes_of, number_of, string_of}
 use Rattle.xf_lang.specs.Steps.{step_walk, kept_by_all, walked, begun}
 use Rattle.xf_lang.specs.Operators.{chained, signed}

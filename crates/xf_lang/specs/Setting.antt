@@ -9,10 +9,6 @@ use Rattle.xf_lang.specs.declared.value.Value.{Value}
 use Rattle.xf_lang.specs.Given.{Given}
 use Rattle.xf_lang.specs.Plain.{Plain, Functions}
 
--- the bytes that one string may have
-abbrev pub string_limit : ℕ
-string_limit = 4 * 2 ^ 20
-
 -- what is the same in all parts of an expression; the structure of the data stands apart from their texts
 pub record Setting : Type 0 where
   -- the visits of the forest, with empty texts

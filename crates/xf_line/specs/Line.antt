@@ -1,6 +1,7 @@
 -- What a line of the event stream asks for. It is a JSON array (RFC 8259): a word, then what the word wants, and nothing more.
 use Rattle.std.specs.Prelude.{ℕ, List, [], ◌∷◌, Bool, ◌&&◌, Option, Some, None, option_map, ok_or, Result, Ok, Err, length, nat_le, if◌then◌else◌, codes, bytes_eq}
 use Rattle.serde_json.specs.Data.{unsigned, Data, number, string, array, Items, no_items, item}
+use Rattle.xf_base.specs.Limits.{event_name_limit}
 use Rattle.xf_line.specs.Json.{json_of}
 use Rattle.xf_line.specs.declared.event.Event.{Event}
 use Rattle.xf_line.specs.declared.event.Event.TheVariants.{Set, Activate, Index, Send, Dispatch, Reset}
@@ -14,10 +15,6 @@ abbrev pub rows_in : Items → Option (List ℕ)
 rows_in no_items = Some []
 rows_in (item (number (unsigned row)) rest) = option_map (λ rows. row ∷ rows) (rows_in rest)
 rows_in (item value rest) = None
-
--- the longest name of an event, in bytes
-abbrev pub event_name_limit : ℕ
-event_name_limit = 255
 
 -- the name of an event is not empty
 abbrev pub is_event_name : List ℕ → Bool

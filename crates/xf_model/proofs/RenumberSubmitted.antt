@@ -1,5 +1,6 @@
 -- What a submission sends goes with a renumbering of the nodes.
 use Rattle.std.proofs.Common.{◌≡◌, ℕ, ◌==◌, Bool, true, false, not, ◌&&◌, ◌||◌, List, [], ◌∷◌, map, find, Option, Some, None, option_map, if◌then◌else◌, refl, sym, ap, ◌∙◌}
+use Rattle.xf_base.specs.Limits.{string_limit}
 use Rattle.xf_ast.specs.declared.form.Selection.{Selection}
 use Rattle.xf_ast.specs.declared.form.Selection.TheVariants.{Whole, Ref, Bind}
 use Rattle.xf_ast.specs.declared.form.Submission.{Submission}
@@ -8,7 +9,7 @@ use Rattle.xf_doc.specs.Visit.{Visit, has, visits}
 use Rattle.xf_doc.specs.declared.content.Node.{Node}
 use Rattle.xf_doc.specs.Same.{IsRenumbering, renumbered, renumbered_visit}
 use Rattle.xf_doc.proofs.RenumberLaws.{map-map, filter-through, find-through, has-renumbered, visits-renumbered}
-use Rattle.xf_lang.specs.Setting.{each, joined, string_limit}
+use Rattle.xf_lang.specs.Setting.{each, joined}
 use Rattle.xf_lang.specs.Reads.{trace}
 use Rattle.xf_lang.proofs.Options.{map-through, each-through}
 use Rattle.xf_lang.proofs.RenumberLaws.{found-renumbered, joined-renumbered}

@@ -1,11 +1,11 @@
 -- What a submission sends, on small data.
 use Rattle.std.proofs.Common.{◌≡◌, ℕ, Bool, true, false, not, ◌||◌, ◌==◌, [], ◌∷◌, Option, Some, None, refl, codes}
+use Rattle.xf_base.specs.Limits.{string_limit}
 use Rattle.xf_ast.specs.declared.expr.Test.TheVariants as test
 use Rattle.xf_ast.specs.declared.form.Selection.TheVariants.{Whole, Bind}
 use Rattle.xf_ast.specs.declared.form.Submission.{Submission}
 use Rattle.xf_name.specs.declared.axis.Axis.TheVariants as axis
 use Rattle.xf_doc.specs.Visit.{visits}
-use Rattle.xf_lang.specs.Setting.{string_limit}
 use Rattle.xf_lang.specs.Asked.{Trace}
 use Rattle.xf_lang.specs.Examples.{child, step, path, from_root, number, call}
 use Rattle.xf_model.specs.Submitted.{Submitted, left, no_data, invalid, by_expression, selected_by, submitted_from}

@@ -1,13 +1,14 @@
 -- What a submission sends (XForms 1.1, section 11.2): the selected element with what is below it, irrelevant nodes left out, unless
 -- nothing is left or a node that is left is invalid.
 use Rattle.std.specs.Prelude.{ℕ, Bool, true, false, not, ◌&&◌, ◌||◌, List, [], ◌∷◌, map, filter, find, Option, Some, None, option_map, ◌==◌, if◌then◌else◌}
+use Rattle.xf_base.specs.Limits.{string_limit}
 use Rattle.xf_ast.specs.declared.form.Selection.{Selection}
 use Rattle.xf_ast.specs.declared.form.Selection.TheVariants.{Whole, Ref, Bind}
 use Rattle.xf_ast.specs.declared.form.Submission.{Submission}
 use Rattle.xf_doc.specs.declared.content.Node.{Node}
 use Rattle.xf_doc.specs.Forest.{is_element}
 use Rattle.xf_doc.specs.Visit.{Visit, has, visits}
-use Rattle.xf_lang.specs.Setting.{each, joined, string_limit}
+use Rattle.xf_lang.specs.Setting.{each, joined}
 use Rattle.xf_lang.specs.Asked.{Trace}
 use Rattle.xf_lang.specs.Reads.{trace}
 use Rattle.xf_model.specs.Rules.{Scope}

@@ -1,6 +1,7 @@
 -- The grammar of expressions (XPath 1.0, sections 2 and 3): numbers, paths of names, `.` and `..`, signs, sums, differences, products
 -- and parentheses. Each rule has its production's number; b are the bindings of the form, d is the number of decimals.
 use Rattle.std.specs.Prelude.{ℕ, zero, suc, ◌+◌, Bool, true, false, if◌then◌else◌, nat_lt, List, [], ◌∷◌, ◌++◌, length, Option, Some, None, Result, Ok, Err}
+use Rattle.xf_base.specs.Limits.{expression_limit, nesting_limit}
 use Rattle.xf_num.specs.Written.{read_at}
 use Rattle.xf_name.specs.Bindings.{Bindings, resolved}
 use Rattle.xf_name.specs.declared.axis.Axis.{Axis}
@@ -24,14 +25,6 @@ use Rattle.xf_path.specs.declared.token.Kind.{Kind}
 use Rattle.xf_path.specs.declared.token.Kind.TheVariants as k
 use Rattle.xf_path.specs.Tokens.{Token, tokens_of}
 use Rattle.xf_path.specs.Reading.{Outcome, Rule, kind_of, place_of, text_of, and_then, ◌>>=◌, ◌>>◌, pure, next_kind, next_place, take_next, refuse}
-
--- the longest text, in bytes; no list in it has more parts
-abbrev pub text_limit : ℕ
-text_limit = 4096
-
--- how deep parentheses and signs nest
-abbrev pub depth_limit : ℕ
-depth_limit = 64
 
 -- ---- location paths
 
@@ -71,7 +64,7 @@ more_steps b (suc most) found = do
 
 -- [3] RelativeLocationPath
 abbrev pub steps : Bindings → Rule (List Step)
-steps b = step b >>= (λ first. more_steps b text_limit (first ∷ []))
+steps b = step b >>= (λ first. more_steps b expression_limit (first ∷ []))
 
 -- a token that would begin a step behind a `/`; a `*` there is no operator
 abbrev pub begins_step : Kind → Bool
@@ -161,7 +154,7 @@ chain_of first (l ∷ ls) = e.Chain first (l ∷ ls)
 abbrev pub chain : Rule Expr → ℕ → Rule Expr
 chain side rank = do
   first ← side
-  found ← more_links side rank text_limit []
+  found ← more_links side rank expression_limit []
   pure (chain_of first found)
 
 -- expressions whose operators are of the first few ranks, over this rule for their sides
@@ -221,4 +214,4 @@ whole (Err fault) = Err fault
 
 -- the expression that a text is, under the bindings of a form and with so many decimals, or the fault at the least place
 abbrev pub parsed : ℕ → Bindings → List ℕ → Result Expr ParseFault
-parsed d b text = if nat_lt text_limit (length text) then Err (fault.Expr 0 Long) else whole (expression d b depth_limit (tokens_of text))
+parsed d b text = if nat_lt expression_limit (length text) then Err (fault.Expr 0 Long) else whole (expression d b nesting_limit (tokens_of text))

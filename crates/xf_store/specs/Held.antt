@@ -1,11 +1,12 @@
 -- Bytes under names, and what a put and a get do to them.
 use Rattle.std.specs.Prelude.{◌≡◌, ◌⊎◌, ◌≤◌, ℕ, suc, List, [], ◌∷◌, length, if◌then◌else◌, Option, Some, None, Result, Ok, Err}
 use Rattle.std.specs.Str.{bytes_eq}
+use Rattle.xf_base.specs.Limits.{found_limit}
 use Rattle.xf_store.specs.declared.call.Named.{Named}
 use Rattle.xf_store.specs.declared.got.Got.{Got}
 use Rattle.xf_store.specs.declared.got.Got.TheVariants as got
 use Rattle.xf_store.specs.declared.got.GetFault.{GetFault}
-use Rattle.xf_store.specs.Replies.{got_most, answer_for, get_answer}
+use Rattle.xf_store.specs.Replies.{answer_for, get_answer}
 
 -- the bytes under a name
 abbrev pub found : List ℕ → List Named → Option (List ℕ)
@@ -36,7 +37,7 @@ Gets (Some held) name (Err _) into = Unit {0}
 
 -- what was found is no longer than a get gives, and where nothing was, the bytes are as before
 abbrev pub Leaves : Result Got GetFault → List ℕ → List ℕ → Type 0
-Leaves (Ok got.Found) old new = length new ≤ got_most
+Leaves (Ok got.Found) old new = length new ≤ found_limit
 Leaves (Ok got.Absent) old new = new ≡ old
 Leaves (Ok got.TooLong) old new = new ≡ old
 Leaves (Err _) old new = new ≡ old

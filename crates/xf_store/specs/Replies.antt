@@ -1,5 +1,6 @@
 -- What a store answers.
 use Rattle.std.specs.Prelude.{◌≡◌, ℕ, ◌^◌, List, ◌∷◌, length, Bool, true, nat_le, if◌then◌else◌, Option, Some, None, Result, Ok, Err}
+use Rattle.xf_base.specs.Limits.{found_limit}
 use Rattle.xf_store.specs.declared.answers.Answer.{Answer}
 use Rattle.xf_store.specs.declared.answers.Answer.TheVariants as answer
 use Rattle.xf_store.specs.declared.got.Got.{Got}
@@ -7,22 +8,18 @@ use Rattle.xf_store.specs.declared.got.Got.TheVariants as got
 use Rattle.xf_store.specs.declared.got.GetFault.{GetFault}
 use Rattle.xf_store.specs.declared.got.GetFault.TheVariants as fault
 
--- the most bytes that a get gives
-abbrev pub got_most : ℕ
-got_most = 2 ^ 20
-
 -- what was found is no longer than a get gives
 abbrev pub is_short : Answer → Bool
 is_short answer.PutDone = true
 is_short answer.Failed = true
-is_short (answer.Found bytes) = nat_le (length bytes) got_most
+is_short (answer.Found bytes) = nat_le (length bytes) found_limit
 is_short answer.Absent = true
 is_short answer.TooLong = true
 
 -- what a get answers where this stands under the name
 abbrev pub answer_for : Option (List ℕ) → Answer
 answer_for None = answer.Absent
-answer_for (Some bytes) = if nat_le (length bytes) got_most then answer.Found bytes else answer.TooLong
+answer_for (Some bytes) = if nat_le (length bytes) found_limit then answer.Found bytes else answer.TooLong
 
 -- the answer of a put
 abbrev pub put_answer : {T E : Type 0} → Result T E → Answer

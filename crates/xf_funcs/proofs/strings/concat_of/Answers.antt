@@ -1,6 +1,6 @@
 use Rattle.std.proofs.Common.{◌+◌, ◌<◌, length, inr, arith}
-use Rattle.xf_funcs.specs.Conversions.{string_limit}
 use Rattle.std.specs.Cow.{cow_str_bytes}
+use Rattle.xf_base.specs.Limits.{string_limit}
 use Rattle.xf_funcs.proofs.LimitLemmas.{concat_fault, concat_long}
 use Rattle.xf_funcs.proofs.strings.concat_of.Goals as goal
 

@@ -1,5 +1,6 @@
 use Rattle.std.proofs.Common.{◌≡◌, ◌≤◌, length, take, flat_map}
-use Rattle.xf_funcs.specs.Conversions.{string_limit, text_of}
+use Rattle.xf_base.specs.Limits.{string_limit}
+use Rattle.xf_funcs.specs.Conversions.{text_of}
 use Rattle.xf_funcs.proofs.strings.concat_of.Given as goal
 
 abbrev pub invariant-loop-value : goal.invariant-loop-value

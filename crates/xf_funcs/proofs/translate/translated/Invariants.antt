@@ -2,7 +2,7 @@ use Rattle.std.proofs.Common.{◌≡◌, ◌≤◌, ◌++◌, length, string_byt
 use denote.Text.{Utf8}
 use denote.Shadow.{shadow}
 use Rattle.std.specs.Prelude.{chars, encode_utf8_all}
-use Rattle.xf_funcs.specs.Conversions.{string_limit}
+use Rattle.xf_base.specs.Limits.{string_limit}
 use Rattle.xf_funcs.specs.Translate.{image, translated}
 use Rattle.xf_funcs.proofs.translate.translated.Given as goal
 
