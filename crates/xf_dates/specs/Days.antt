@@ -1,4 +1,4 @@
--- The days and seconds that dates and dateTimes stand for (XML Schema part 2, sections 3.2.7 and 3.2.9; XForms 1.1, section 7, on
+-- The days and seconds that dates and dateTimes stand for (XML Schema part 2, sections 3.2.7 and 3.2.9; XForms 1.1, section 7.9, on
 -- days-from-date and seconds-from-dateTime).
 use Rattle.std.specs.Prelude.{ℕ, ◌+◌, ◌*◌, ◌==◌, if◌then◌else◌, List, [], ◌∷◌, take, drop, ℤ, pos, neg_ℤ, ◌+ℤ◌, ◌-ℤ◌, ◌*ℤ◌, Option, Some, None}
 use Rattle.std.specs.Int.{int_div_euclid}

@@ -1,4 +1,4 @@
--- The months and the seconds that durations stand for (XML Schema part 2, section 3.2.6; XForms 1.1, section 7, on months and
+-- The months and the seconds that durations stand for (XML Schema part 2, section 3.2.6; XForms 1.1, section 7.9, on months and
 -- seconds).
 use Rattle.std.specs.Prelude.{ℕ, ◌+◌, ◌*◌, Bool, true, if◌then◌else◌, List, ℤ, Option, Some, None, codes}
 use Rattle.std.specs.Str.Parse.{digits_value}

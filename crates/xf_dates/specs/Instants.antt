@@ -1,4 +1,4 @@
--- The seconds that dateTimes stand for, with d decimals (XML Schema part 2, section 3.2.7; XForms 1.1, section 7, on
+-- The seconds that dateTimes stand for, with d decimals (XML Schema part 2, section 3.2.7; XForms 1.1, section 7.9, on
 -- seconds-from-dateTime).
 use Rattle.std.specs.Prelude.{ℕ, if◌then◌else◌, List, drop, ℤ, pos, ◌+ℤ◌, ◌*ℤ◌, Option, None}
 use Rattle.xf_num.specs.Number.{scale, in_range}

@@ -1,4 +1,4 @@
--- The texts of days and of seconds (XML Schema part 2, sections 3.2.7 and 3.2.9; XForms 1.1, section 7, on days-to-date and
+-- The texts of days and of seconds (XML Schema part 2, sections 3.2.7 and 3.2.9; XForms 1.1, section 7.9, on days-to-date and
 -- seconds-to-dateTime).
 use Rattle.std.specs.Prelude.{ℕ, zero, suc, ◌+◌, ◌/◌, ◌%◌, if◌then◌else◌, List, [], ◌∷◌, ◌++◌, ℤ, pos, ◌-ℤ◌, int_le, int_lt, unsigned_abs, Option, Some, None, option_map}
 use Rattle.std.specs.Int.{int_div_euclid, int_rem_euclid}

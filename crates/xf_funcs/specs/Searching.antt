@@ -1,4 +1,4 @@
--- Parts of texts and their order, by characters (XPath 1.0, section 4.2; XForms 1.1, section 7).
+-- Parts of texts and their order, by characters (XPath 1.0, section 4.2; XForms 1.1, section 7.7).
 use Rattle.std.specs.Prelude.{ℕ, nat_eq, Bool, ◌||◌, List, [], ◌∷◌, length, drop, Option, Some, None, is_some, option_map, if◌then◌else◌, chars, encode_utf8_all, bytes_eq, codes}
 use Rattle.std.specs.List.{starts_with}
 use Rattle.std.specs.Str.{str_to_ascii_lowercase}
