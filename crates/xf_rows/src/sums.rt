@@ -21,10 +21,15 @@ fn bind(alloc: Global, nodes: &str, calculate: &str) -> Result<String, AllocErro
     format!(in alloc; ",[\"xf:bind\",{{\"nodeset\":\"{nodes}\",\"calculate\":\"{calculate}\"}}]")
 }
 
-// A run over one order, with inputs, whose sums are calculated.
-fn order_run(alloc: Global, calculate: &str, lines: &str) -> Result<Ran, Fail> {
+/// The form of one order, with inputs, whose sums are calculated.
+pub fn order_form(alloc: Global, calculate: &str) -> Result<String, AllocError> {
     let bind = bind(alloc, "i/s", calculate)?;
-    let form = form(alloc, ORDER, bind.as_str(), INPUTS)?;
+    form(alloc, ORDER, bind.as_str(), INPUTS)
+}
+
+// A run over it.
+fn order_run(alloc: Global, calculate: &str, lines: &str) -> Result<Ran, Fail> {
+    let form = order_form(alloc, calculate)?;
     run(alloc, form.as_str(), lines)
 }
 
