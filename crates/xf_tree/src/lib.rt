@@ -2,6 +2,7 @@
 #![tactic(auto)]
 
 mod change;
+mod drop;
 mod fault;
 mod forest;
 mod lookup;
