@@ -27,3 +27,5 @@ pub mod ContentsLemmas
 pub mod FaultLemmas
 pub mod RootedLemmas
 pub mod OverLemmas
+pub mod NamedLemmas
+pub mod ChildLemmas

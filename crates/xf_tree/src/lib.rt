@@ -2,9 +2,11 @@
 #![tactic(auto)]
 
 mod change;
+mod child;
 mod fault;
 mod forest;
 mod lookup;
+mod may;
 mod name;
 mod plant;
 mod root;
