@@ -1,6 +1,6 @@
 -- Walks over what stands right below a row, and what they count.
 use Rattle.std.proofs.Common.{◌≡◌, ℕ, zero, suc, ◌+◌, ◌-◌, ◌<◌, ◌≤◌, ◌==◌, ◌&&◌, ◌||◌, not, Bool, true, false, cond, List, [], ◌∷◌, ◌++◌, map, length, take, drop, get_or, nat_lt, nat_le, refl, sym, ap, ◌∙◌, subst, inl, inr, arith, length-take, length-drop, take-add}
-use Rattle.std.specs.Prelude.{filter, count_by}
+use Rattle.std.specs.Prelude.{filter, count_by, Option, Some, None, option_and_then}
 use Rattle.std.specs.List.{list_any}
 use Rattle.std.proofs.lemmas.Bool.{cases_Bool, cases_lt}
 use Rattle.std.proofs.lemmas.Bool.Decides.{nat_tests}
@@ -8,12 +8,17 @@ use Rattle.std.proofs.lemmas.List.{take-append-drop, map-append, drop-drop, take
 use Rattle.slab.specs.Slab.{Slab, get}
 use Rattle.xf_doc.specs.declared.content.Node.{Node}
 use Rattle.xf_doc.specs.declared.content.Content.{Content}
+use Rattle.xf_doc.specs.declared.content.Name.{Name}
+use Rattle.xf_doc.specs.Forest.{Forest, has_number, content_at, is_attribute, is_element, name_in}
+use Rattle.xf_doc.specs.Needs.{lacks_name}
+use Rattle.xf_doc.specs.Shape.{has_elements}
 use Rattle.xf_doc.specs.Visit.{Visit, visits, is_first, numbers}
+use Rattle.xf_doc.specs.WellFormed.{have_same_name}
 use Rattle.xf_tree.specs.declared.rows.Row.{Row}
 use Rattle.xf_tree.specs.declared.slot.Slot.{Slot}
 use Rattle.xf_tree.specs.Rows.{deeper, tree_of, after_tree}
 use Rattle.xf_tree.specs.Tree.{node_of, content_in, no_row, AreSteps, depths, StandsAt, IsSound}
-use Rattle.xf_tree.specs.Kids.{is_kid, kids_in, kids_at}
+use Rattle.xf_tree.specs.Kids.{is_kid, is_attribute_like, kids_in, kids_at}
 use Rattle.xf_tree.proofs.SizedLemmas.{lt-true, lt-false, AllDeep}
 use Rattle.xf_tree.proofs.CutLemmas.{tree-is-front, tree-within, stops-after}
 use Rattle.xf_tree.proofs.CountLemmas.{count-append, count-cons}
@@ -22,7 +27,7 @@ use Rattle.xf_tree.proofs.ParentLemmas.{deep-prefix}
 use Rattle.xf_tree.proofs.PlaceLemmas.{split-at, stands, below-is, tree-size, one_of}
 use Rattle.xf_tree.proofs.AboveLemmas.{inside-deeper}
 use Rattle.xf_tree.proofs.RootLemmas.{past-tree}
-use Rattle.xf_tree.proofs.KidLemmas.{kids, parted-kids, node_depths, filtered-length}
+use Rattle.xf_tree.proofs.KidLemmas.{kids, kids-none, parted-kids, node_depths, filtered-length}
 
 -- ---- one row of a walk
 
@@ -183,3 +188,44 @@ and-turned true true = refl
 and-turned true false = refl
 and-turned false true = refl
 and-turned false false = refl
+
+and-joined : (a b c : Bool) → (a && b && c) ≡ (a && (b && c))
+and-joined true b c = refl
+and-joined false b c = refl
+
+-- element children, and attributes with a name
+pub elements-are : (n : ℕ) (all : List Visit) → has_elements all n ≡ nat_lt 0 (length (kids is_element n all))
+elements-are n all =
+    any-alike (λ (v : Visit). is_element v.content && is_first n v.above) (λ (v : Visit). is_first n v.above && is_element v.content) (λ v. and-turned (is_element v.content) (is_first n v.above)) all
+    ∙ any-left (λ (v : Visit). is_first n v.above && is_element v.content) all
+
+pub lacks-are : (n m : ℕ) (forest : Forest) (like : Content) → content_at n forest.nodes ≡ Some like
+    → lacks_name n m forest ≡ not (nat_lt 0 (length (kids (is_attribute_like like) m (visits forest.nodes))))
+lacks-are n m forest like e =
+    ap (λ o. not (list_any (λ (v : Visit). is_first m v.above && is_attribute v.content && have_same_name (name_in v.content) (option_and_then name_in o)) (visits forest.nodes))) e
+    ∙ ap not (any-alike (λ (v : Visit). is_first m v.above && is_attribute v.content && have_same_name (name_in v.content) (name_in like)) (λ (v : Visit). is_first m v.above && is_attribute_like like v.content)
+    (λ v. and-joined (is_first m v.above) (is_attribute v.content) (have_same_name (name_in v.content) (name_in like))) (visits forest.nodes))
+    ∙ ap not (any-left (λ (v : Visit). is_first m v.above && is_attribute_like like v.content) (visits forest.nodes))
+
+-- what has no name is named like nothing
+pub lacks-nameless : (n m : ℕ) (forest : Forest) → content_at n forest.nodes ≡ None → lacks_name n m forest ≡ true
+lacks-nameless n m forest e =
+    ap (λ o. not (list_any (λ (v : Visit). is_first m v.above && is_attribute v.content && have_same_name (name_in v.content) (option_and_then name_in o)) (visits forest.nodes))) e
+    ∙ ap not (nobody (visits forest.nodes))
+  where
+    unlike : (o : Option Name) → have_same_name o None ≡ false
+    unlike None = refl
+    unlike (Some a) = refl
+
+    both : (a b c : Bool) → c ≡ false → (a && b && c) ≡ false
+    both true true c e = e
+    both true false c e = refl
+    both false b c e = refl
+
+    nobody : (vs : List Visit) → list_any (λ (v : Visit). is_first m v.above && is_attribute v.content && have_same_name (name_in v.content) None) vs ≡ false
+    nobody [] = refl
+    nobody (v ∷ vs) = rw (both (is_first m v.above) (is_attribute v.content) (have_same_name (name_in v.content) None) (unlike (name_in v.content))) (nobody vs)
+
+pub lacks-nobody : (n m : ℕ) (forest : Forest) (like : Content) → content_at n forest.nodes ≡ Some like → has_number m forest.nodes ≡ false → lacks_name n m forest ≡ true
+lacks-nobody n m forest like e none =
+    lacks-are n m forest like e ∙ ap (λ l. not (nat_lt 0 (length l))) (kids-none (is_attribute_like like) m [] forest.nodes refl none)
