@@ -93,11 +93,11 @@ tree-inside rows above next o h inside =
     elim (cases_lt last end) [
       | inl l ↦
           absurd (
-            let last_rows : last < length rows = omega arith in
-            let low = ends-low rows above last in_rows refl last_rows in
-            let one = inside-deeper rows above next o h inside in
-            let two = inside-deeper rows next last inside last_rows l in
-            omega arith
+          let last_rows : last < length rows = omega arith in
+          let low = ends-low rows above last in_rows refl last_rows in
+          let one = inside-deeper rows above next o h inside in
+          let two = inside-deeper rows next last inside last_rows l in
+          omega arith
           )
       | inr l ↦ l
     ]

@@ -1,15 +1,18 @@
 //! Whether what a change needs holds, for a caller who cannot know it. A node that does not stand in the forest may nothing.
-ghost use Rattle.std.specs.Prelude.{◌≡◌, ◌↔◌, Some, IsTrue, is_some, length, nat_le};
+ghost use Rattle.std.specs.Prelude.{◌≡◌, ◌↔◌, Some, IsTrue, is_some, length, map, nat_le};
+ghost use Rattle.std.specs.List.{list_all};
 ghost use Rattle.xf_doc.specs.Forest.{has_number, kind_at, tree_of};
-ghost use Rattle.xf_doc.specs.Needs.{MayCopy, MayRoot, MayDetach, MayAttach, MayStand, IsSettable, is_top, lacks_name};
+ghost use Rattle.xf_doc.specs.Needs.{MayCopy, MayRoot, MayDetach, MayAttach, MayStand, MayDropFrom, IsSettable, is_top, lacks_name, goes_or_stays};
 ghost use Rattle.xf_doc.specs.Shape.{has_elements};
 ghost use Rattle.xf_doc.specs.Visit.{visits, parent_of, children_of};
+ghost use Rattle.xf_tree.specs.Tree.{node_of, AreSteps, depths};
 
 use crate::child::{has_attribute, has_children, has_element};
 use crate::forest::Forest;
 use crate::lookup::{parent_row, row_of};
-use crate::rows::end_of;
-use crate::slot::{is_root_at, kind};
+use crate::rows::{Row, end_of};
+use crate::slot::{Slot, is_root_at, kind, number_of};
+use slab::Slab;
 use xf_doc::{Kind, NodeId};
 
 impl Forest {
@@ -51,6 +54,13 @@ impl Forest {
     {
         (self.is_of_kind(node, Kind::Attribute) || self.is_of_kind(node, Kind::Element))
             && !self.has_elements(node)
+    }
+
+    /// Whether the nodes with this number or a later one stand in trees of their own, so that they can be dropped.
+    pub fn may_drop_from(&self, number: u128) -> bool
+        ensures { IsTrue result ↔ MayDropFrom number self.now.forest }
+    {
+        number <= self.next && are_whole(&self.rows, &self.slots, number)
     }
 
     /// Whether the kinds of both let the node stand below a parent, at this place.
@@ -143,4 +153,23 @@ impl Forest {
             None => true,
         }
     }
+}
+
+/// Whether each tree's nodes have either all this number or a later one, and are no roots, or all an earlier one.
+fn are_whole(rows: &[Row], slots: &Slab<Slot>, number: u128) -> bool
+    requires { AreSteps 0 (depths rows.now) }
+    ensures { result ≡ list_all (goes_or_stays number) (visits (map (node_of slots.now) rows.now)) }
+{
+    let mut before = false;
+    for row in rows {
+        let is_new = number_of(slots, row.key) >= number;
+        if row.depth > 0 && is_new != before {
+            return false;
+        }
+        if is_new && is_root_at(slots, row.key) {
+            return false;
+        }
+        before = is_new;
+    }
+    true
 }

@@ -29,8 +29,7 @@ returns-in-Some c =
     let row = c.index.ensures ∙ get_or_default rows at _ no_row here.within in
     let means = ap (option_map kind_of) (content-means s n at rows c.self.inside.kept.items c.self.inside.next c.self.invariant.sound here) in
     let is : Some c.kind.result ≡ kind_at n c.args.self.now.forest.nodes =
-    ap Some (c.kind.ensures ∙ ap (λ (r : Row). kind_of (content_in (get s r.key))) row) ∙ sym means ∙ ap (λ (k : Keeping). kind_at n k.forest.nodes) c.self.view_is in
-    (
+    ap Some (c.kind.ensures ∙ ap (λ (r : Row). kind_of (content_in (get s r.key))) row) ∙ sym means ∙ ap (λ (k : Keeping). kind_at n k.forest.nodes) c.self.view_is in (
       λ e. sym is ∙ ap Some (same_true the_type tt c.kind.result c.args.wanted (sym c.eq.ensures ∙ e)),
       λ e. c.eq.ensures ∙ true_same the_type c.kind.result c.args.wanted (one-kind c.kind.result c.args.wanted (is ∙ e)),
     )
