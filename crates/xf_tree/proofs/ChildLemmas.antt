@@ -25,7 +25,7 @@ use Rattle.xf_tree.proofs.CountLemmas.{count-append, count-cons}
 use Rattle.xf_tree.proofs.NodeLemmas.{eq-false}
 use Rattle.xf_tree.proofs.ParentLemmas.{deep-prefix}
 use Rattle.xf_tree.proofs.PlaceLemmas.{split-at, stands, below-is, tree-size, one_of}
-use Rattle.xf_tree.proofs.AboveLemmas.{inside-deeper}
+use Rattle.xf_tree.proofs.AboveLemmas.{inside-deeper, depths-of}
 use Rattle.xf_tree.proofs.RootLemmas.{past-tree}
 use Rattle.xf_tree.proofs.KidLemmas.{kids, kids-none, parted-kids, node_depths, filtered-length}
 
@@ -155,10 +155,6 @@ kid-step q s rows above next end last h first inside l e =
     }
 
 -- ---- what is counted
-
-depths-of : (s : Slab Slot) (xs : List Row) → node_depths (map (node_of s) xs) ≡ depths xs
-depths-of s [] = refl
-depths-of s (x ∷ xs) = ap (λ l. x.depth ∷ l) (depths-of s xs)
 
 -- the visits right below a node whose contents meet a test are as many as the rows
 pub kids-mean : (q : Content → Bool) (s : Slab Slot) (n above : ℕ) (rows : List Row) (kept : List ℕ) (next : ℕ) → IsSound s rows kept next → StandsAt s rows n above

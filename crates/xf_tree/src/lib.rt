@@ -3,6 +3,7 @@
 
 mod change;
 mod child;
+mod drop;
 mod fault;
 mod forest;
 mod lookup;

@@ -1,11 +1,11 @@
 //! Whether what a change needs holds, for a caller who cannot know it. A node that does not stand in the forest may nothing.
-ghost use Rattle.std.specs.Prelude.{◌≡◌, ◌↔◌, Some, IsTrue, is_some, length, map, nat_le};
-ghost use Rattle.std.specs.List.{list_all};
+ghost use Rattle.std.specs.Prelude.{◌≡◌, ◌↔◌, false, Some, IsTrue, is_some, length, map, nat_le};
 ghost use Rattle.xf_doc.specs.Forest.{has_number, kind_at, tree_of};
-ghost use Rattle.xf_doc.specs.Needs.{MayCopy, MayRoot, MayDetach, MayAttach, MayStand, MayDropFrom, IsSettable, is_top, lacks_name, goes_or_stays};
+ghost use Rattle.xf_doc.specs.Needs.{MayCopy, MayRoot, MayDetach, MayAttach, MayStand, MayDropFrom, IsSettable, is_top, lacks_name};
 ghost use Rattle.xf_doc.specs.Shape.{has_elements};
 ghost use Rattle.xf_doc.specs.Visit.{visits, parent_of, children_of};
-ghost use Rattle.xf_tree.specs.Tree.{node_of, AreSteps, depths};
+ghost use Rattle.xf_tree.specs.Older.{AreWhole};
+ghost use Rattle.xf_tree.specs.Tree.{node_of};
 
 use crate::child::{has_attribute, has_children, has_element};
 use crate::forest::Forest;
@@ -155,10 +155,10 @@ impl Forest {
     }
 }
 
-/// Whether each tree's nodes have either all this number or a later one, and are no roots, or all an earlier one.
+/// Whether each tree's nodes have either all this number or a later one, and are no roots, or all an earlier one: a node
+/// that is no top is of one tree with the node before it.
 fn are_whole(rows: &[Row], slots: &Slab<Slot>, number: u128) -> bool
-    requires { AreSteps 0 (depths rows.now) }
-    ensures { result ≡ list_all (goes_or_stays number) (visits (map (node_of slots.now) rows.now)) }
+    ensures { IsTrue result ↔ AreWhole number false (map (node_of slots.now) rows.now) }
 {
     let mut before = false;
     for row in rows {
