@@ -13,6 +13,7 @@ use Rattle.xf_doc.specs.Forest.{has_number, past, below, is_attribute}
 use Rattle.xf_doc.specs.Visit.{Visit, still_above, numbers, visit, visits_from, visits, has, is_first, children_of, attributes_of}
 use Rattle.xf_doc.proofs.RunLemmas.{AreDeeper}
 use Rattle.xf_tree.specs.Tree.{AreSteps, same_kind, is_kin}
+pub use Rattle.xf_tree.specs.Kids.{is_kid}
 use Rattle.xf_tree.proofs.NodeLemmas.{Parted, eq-true, eq-false, eq-turned, has-append}
 use Rattle.xf_tree.proofs.StackLemmas.{stack, visits-append, absent-above, absent-parts, absent-cons, absent-stack, has-numbers, above-inside, above-past, deeper-above, lt-from, le-from}
 use Rattle.xf_tree.proofs.SizedLemmas.{lt-true, lt-false}
@@ -71,7 +72,8 @@ based-above d e most more y (t ∷ (u ∷ us)) b same h l deep = elim (cases_lt 
 abbrev pub kids : (Content → Bool) → ℕ → List Visit → List ℕ
 kids q n all = map (λ v. v.number) (filter (λ v. is_first n v.above && q v.content) all)
 
-kids-none : (q : Content → Bool) (n : ℕ) (above us : List Node) → has_number n above ≡ false → has_number n us ≡ false → kids q n (visits_from above us) ≡ []
+-- what is not there has nothing right below it
+pub kids-none : (q : Content → Bool) (n : ℕ) (above us : List Node) → has_number n above ≡ false → has_number n us ≡ false → kids q n (visits_from above us) ≡ []
 kids-none q n above [] h k = refl
 kids-none q n above (u ∷ us) h k =
     let p = absent-parts n u us k in
@@ -79,10 +81,6 @@ kids-none q n above (u ∷ us) h k =
     let no : is_first n (numbers (still_above u.depth above)) ≡ false = is_first-absent n (numbers (still_above u.depth above)) (has-numbers n (still_above u.depth above) ∙ a) in
     let rest = kids-none q n (u ∷ still_above u.depth above) us (absent-cons n u (still_above u.depth above) p.0 a) p.1 in
     rw no rest
-
--- a node one deeper that meets the test
-abbrev pub is_kid : (Content → Bool) → ℕ → Node → Bool
-is_kid q depth y = (y.depth == depth) && q y.content
 
 kid-cons : (b c : Bool) (n : ℕ) (ns : List ℕ) (y : Node) (v : Visit) (ys : List Node) (vs : List Visit) → b ≡ c → v.number ≡ y.number
     → map (λ (w : Visit). w.number) vs ≡ numbers ys → map (λ (w : Visit). w.number) (cond b (v ∷ vs) vs) ≡ numbers (cond c (y ∷ ys) ys)
@@ -174,7 +172,7 @@ absent-filter n k (b ∷ bs) h =
 numbers-append : (xs ys : List Node) → numbers (xs ++ ys) ≡ numbers xs ++ numbers ys
 numbers-append xs ys = map-append (λ (x : Node). x.number) xs ys
 
-filtered-length : (k : Node → Bool) (bs : List Node) → length (numbers (filter k bs)) ≡ count_by k bs
+pub filtered-length : (k : Node → Bool) (bs : List Node) → length (numbers (filter k bs)) ≡ count_by k bs
 filtered-length k bs = length-map (filter k bs) (λ (x : Node). x.number) ∙ length-filter k bs
 
 pub place-of_kin : (n : ℕ) (k : Node → Bool) (bs : List Node) (a : Node) (cs : List Node) → a.number ≡ n → has_number n bs ≡ false → k a ≡ true

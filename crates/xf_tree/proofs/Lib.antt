@@ -31,3 +31,5 @@ pub mod MoveOlderLemmas
 pub mod WholeLemmas
 pub mod RootedLemmas
 pub mod OverLemmas
+pub mod NamedLemmas
+pub mod ChildLemmas

@@ -104,3 +104,45 @@ whole-is number nodes steps e = whole-from number 0 false [] nodes steps refl tt
 pub rows-whole : (s : Slab Slot) (number next : ℕ) (rows : List Row) (kept : List ℕ) → IsSound s rows kept next → list_all (goes_or_stays number) (visits (map (node_of s) rows)) ≡ true
     → AreWhole number false (map (node_of s) rows)
 rows-whole s number next rows kept sound e = whole-is number (map (node_of s) rows) (subst (AreSteps 0) (sym (depths-of s rows)) sound.steps) e
+
+-- ---- and the other way round
+
+goes-back : (number : ℕ) (y : Node) (ts : List Node) → AllAs number (is_new number y.number) ts → (is_new number y.number ≡ true → is_root y.content ≡ false)
+    → goes_or_stays number (record { number = y.number; above = numbers ts; content = y.content }) ≡ true
+goes-back number y ts all plain = elim (cases_Bool (is_new number y.number)) [
+  | inl n ↦ rw (n, plain n) (all-new ts (subst (λ b. AllAs number b ts) n all))
+  | inr n ↦ rw n (all-old ts (subst (λ b. AllAs number b ts) n all))
+]
+  where
+    all-new : (us : List Node) → AllAs number true us → list_all (is_new number) (numbers us) ≡ true
+    all-new [] a = refl
+    all-new (u ∷ us) a = rw a.0 (all-new us a.1)
+
+    all-old : (us : List Node) → AllAs number false us → list_all (λ n. not (is_new number n)) (numbers us) ≡ true
+    all-old [] a = refl
+    all-old (u ∷ us) a = rw a.0 (all-old us a.1)
+
+whole-to : (number most : ℕ) (b : Bool) (ts nodes : List Node) → AreSteps most (node_depths nodes) → Grounded most ts → AllAs number b ts → AreWhole number b nodes
+    → list_all (goes_or_stays number) (visits_from ts nodes) ≡ true
+whole-to number most b ts [] steps g all w = refl
+whole-to number most b ts (y ∷ ys) steps g all w =
+    let us = still_above y.depth ts in
+    let later : Grounded (suc y.depth) (y ∷ us) × AllAs number (is_new number y.number) us = elim (cases_lt 0 y.depth) [
+      | inl l ↦ (open-grounded (suc y.depth) y us (open-above y.depth most ts l steps.0 g), subst (λ c. AllAs number c us) (sym (w.0 l)) (same-above number y.depth b ts all))
+      | inr l ↦
+          let top : y.depth ≡ 0 = omega arith in
+          let none = none-above y.depth ts top in
+          (subst (λ vs. Grounded (suc y.depth) (y ∷ vs)) (sym none) top, subst (λ vs. AllAs number (is_new number y.number) vs) (sym none) tt)
+    ] in
+    let here = goes-back number y us later.1 w.1 in
+    let rest = whole-to number (suc y.depth) (is_new number y.number) (y ∷ us) ys steps.1 later.0 (refl, later.1) w.2 in
+    both (goes_or_stays number (visit ts y)) _ here rest
+  where
+    both : (p q : Bool) → p ≡ true → q ≡ true → (p && q) ≡ true
+    both true true e f = refl
+    both true false e f = absurd (false≢true f)
+    both false q e f = absurd (false≢true e)
+
+pub whole-rows : (s : Slab Slot) (number next : ℕ) (rows : List Row) (kept : List ℕ) → IsSound s rows kept next → AreWhole number false (map (node_of s) rows)
+    → list_all (goes_or_stays number) (visits (map (node_of s) rows)) ≡ true
+whole-rows s number next rows kept sound w = whole-to number 0 false [] (map (node_of s) rows) (subst (AreSteps 0) (sym (depths-of s rows)) sound.steps) refl tt w

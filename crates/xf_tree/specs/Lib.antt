@@ -3,4 +3,5 @@ pub mod Leaves
 pub mod Tree
 pub mod Calls
 pub mod Contents
+pub mod Kids
 pub mod Older

@@ -2,10 +2,12 @@
 #![tactic(auto)]
 
 mod change;
+mod child;
 mod drop;
 mod fault;
 mod forest;
 mod lookup;
+mod may;
 mod name;
 mod plant;
 mod root;

@@ -2,8 +2,9 @@
 ghost use Rattle.std.specs.Prelude.{◌≡◌, ◌-◌, ◌≤◌, ◌^◌, ℕ, not, cond, map, option_map, None, IfOk};
 ghost use Rattle.slab.specs.Slab.{get, Updates};
 ghost use Rattle.xf_doc.specs.Limits.{node_count, all_size, size_of};
-ghost use Rattle.xf_doc.specs.Forest.{is_root, is_attribute, kind_of, name_in, own_text};
+ghost use Rattle.xf_doc.specs.Forest.{is_root, is_element, is_attribute, kind_of, name_in, own_text};
 ghost use Rattle.xf_doc.specs.StringValue.{characters};
+ghost use Rattle.xf_doc.specs.WellFormed.{have_same_name};
 ghost use Rattle.xf_tree.specs.Tree.{number_in, content_in, same_kind, node_of, kept_of, times, KeepsBut, KeepsButKept};
 
 use crate::rows::Row;
@@ -106,6 +107,28 @@ pub fn is_attribute_at(slots: &Slab<Slot>, key: usize) -> bool
             _ => false,
         },
         None => false,
+    }
+}
+
+pub fn is_element_at(slots: &Slab<Slot>, key: usize) -> bool
+    ensures { result ≡ is_element (content_in (get slots.now key)) }
+{
+    match slots.get(key) {
+        Some(slot) => match &slot.content {
+            Content::Element(_) => true,
+            _ => false,
+        },
+        None => false,
+    }
+}
+
+/// Whether both are named, with the same namespace and local name.
+pub fn has_same_name(slots: &Slab<Slot>, first: usize, second: usize) -> bool
+    ensures { result ≡ have_same_name (name_in (content_in (get slots.now first))) (name_in (content_in (get slots.now second))) }
+{
+    match (name(slots, first), name(slots, second)) {
+        (Some(one), Some(other)) => one.space == other.space && one.local.is(other.local.as_str()),
+        _ => false,
     }
 }
 

@@ -1,0 +1,100 @@
+//! What stands right below a row. Each walk goes from one row below to the next one by its size.
+ghost use Rattle.std.specs.Prelude.{◌≡◌, ◌<◌, ◌==◌, suc, nat_lt, nat_le, length, slice_index_or};
+ghost use Rattle.slab.specs.Slab.{get};
+ghost use Rattle.xf_doc.specs.Forest.{is_element};
+ghost use Rattle.xf_tree.specs.Rows.{Sized};
+ghost use Rattle.xf_tree.specs.Tree.{node_of, content_in, no_row};
+ghost use Rattle.xf_tree.specs.Kids.{is_kid, is_no_attribute, is_attribute_like, kids_at};
+
+use crate::rows::{Row, end_of};
+use crate::slot::{Slot, has_same_name, is_attribute_at, is_element_at};
+use slab::Slab;
+
+/// Whether the node at a place has so many children at least.
+pub fn has_children(rows: &[Row], slots: &Slab<Slot>, above: usize, least: u32) -> bool
+    requires within { above < length rows.now }
+    requires sized { Sized rows.now }
+    ensures { result ≡ nat_le least (kids_at is_no_attribute slots.now rows.now above) }
+{
+    let depth = rows[above].depth;
+    let end = end_of(rows, above);
+    let mut left = least;
+    let mut next = above + 1;
+    while next < end {
+        if left == 0 {
+            return true;
+        }
+        if is_child_at(rows, slots, next, depth) {
+            left -= 1;
+        }
+        next = end_of(rows, next);
+    }
+    left == 0
+}
+
+/// Whether the node at a place has an element child.
+pub fn has_element(rows: &[Row], slots: &Slab<Slot>, above: usize) -> bool
+    requires within { above < length rows.now }
+    requires sized { Sized rows.now }
+    ensures { result ≡ nat_lt 0 (kids_at is_element slots.now rows.now above) }
+{
+    let depth = rows[above].depth;
+    let end = end_of(rows, above);
+    let mut next = above + 1;
+    while next < end {
+        if is_element_below(rows, slots, next, depth) {
+            return true;
+        }
+        next = end_of(rows, next);
+    }
+    false
+}
+
+/// Whether the node at a place has an attribute of the name of the node under a key.
+pub fn has_attribute(rows: &[Row], slots: &Slab<Slot>, above: usize, like: usize) -> bool
+    requires within { above < length rows.now }
+    requires sized { Sized rows.now }
+    ensures { result ≡ nat_lt 0 (kids_at (is_attribute_like (content_in (get slots.now like))) slots.now rows.now above) }
+{
+    let depth = rows[above].depth;
+    let end = end_of(rows, above);
+    let mut next = above + 1;
+    while next < end {
+        if is_like_below(rows, slots, next, depth, like) {
+            return true;
+        }
+        next = end_of(rows, next);
+    }
+    false
+}
+
+/// Whether the row at a place is one deeper than this.
+fn is_next(rows: &[Row], at: usize, depth: u32) -> bool
+    requires { at < length rows.now }
+    ensures { result ≡ ((slice_index_or rows.now at no_row).depth == suc depth) }
+{
+    rows[at].depth.saturating_sub(depth) == 1
+}
+
+fn is_child_at(rows: &[Row], slots: &Slab<Slot>, at: usize, depth: u32) -> bool
+    requires { at < length rows.now }
+    ensures { result ≡ is_kid is_no_attribute (suc depth) (node_of slots.now (slice_index_or rows.now at no_row)) }
+{
+    is_next(rows, at, depth) && !is_attribute_at(slots, rows[at].key)
+}
+
+fn is_element_below(rows: &[Row], slots: &Slab<Slot>, at: usize, depth: u32) -> bool
+    requires { at < length rows.now }
+    ensures { result ≡ is_kid is_element (suc depth) (node_of slots.now (slice_index_or rows.now at no_row)) }
+{
+    is_next(rows, at, depth) && is_element_at(slots, rows[at].key)
+}
+
+fn is_like_below(rows: &[Row], slots: &Slab<Slot>, at: usize, depth: u32, like: usize) -> bool
+    requires { at < length rows.now }
+    ensures { result ≡ is_kid (is_attribute_like (content_in (get slots.now like))) (suc depth) (node_of slots.now (slice_index_or rows.now at no_row)) }
+{
+    is_next(rows, at, depth)
+        && is_attribute_at(slots, rows[at].key)
+        && has_same_name(slots, rows[at].key, like)
+}
