@@ -24,3 +24,4 @@ pub mod ContentsLemmas
 pub mod FaultLemmas
 pub mod RootedLemmas
 pub mod OverLemmas
+pub mod WalkLemmas

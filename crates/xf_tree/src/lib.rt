@@ -14,5 +14,7 @@ mod slot;
 mod tests;
 mod text;
 mod tree;
+mod walk;
 
 pub use forest::Forest;
+pub use walk::Walk;
