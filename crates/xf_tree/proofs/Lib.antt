@@ -25,3 +25,6 @@ pub mod FaultLemmas
 pub mod RootedLemmas
 pub mod OverLemmas
 pub mod WalkLemmas
+pub mod FoundLemmas
+pub mod SiblingLemmas
+pub mod AxisLemmas

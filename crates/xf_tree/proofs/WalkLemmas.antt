@@ -82,7 +82,7 @@ kin-behind s d e wanted (suc m) (y ∷ ys) h = elim (cases_lt e y.depth) [
   | inr l ↦ let z : suc m - 0 ≡ suc m = omega arith in rw (lt-false e y.depth l) (ap (λ n. chosen s (is_kin d wanted) (take n (y ∷ ys))) z)
 ]
 
-deep-behind : (d m k : ℕ) (ys : List Row) → AllDeep d (take m ys) → AllDeep d (take (m - k) (drop k ys))
+pub deep-behind : (d m k : ℕ) (ys : List Row) → AllDeep d (take m ys) → AllDeep d (take (m - k) (drop k ys))
 deep-behind d m zero ys all = let z : m - 0 ≡ m = omega arith in subst (λ n. AllDeep d (take n ys)) (sym z) all
 deep-behind d m (suc k) [] all = subst (λ l. AllDeep d l) (sym (nothing (m - suc k))) tt
   where
@@ -159,7 +159,7 @@ deep-append : (d : ℕ) (xs ys : List Row) → AllDeep d xs → AllDeep d ys →
 deep-append d [] ys p q = q
 deep-append d (x ∷ xs) ys p q = (p.0, deep-append d xs ys p.1 q)
 
-deep-less : (d e : ℕ) (xs : List Row) → e ≤ d → AllDeep d xs → AllDeep e xs
+pub deep-less : (d e : ℕ) (xs : List Row) → e ≤ d → AllDeep d xs → AllDeep e xs
 deep-less d e [] h all = tt
 deep-less d e (x ∷ xs) h all = (omega (arith, all.0), deep-less d e xs h all.1)
 

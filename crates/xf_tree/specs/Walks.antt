@@ -1,5 +1,5 @@
 -- What a walk over rows has left.
-use Rattle.std.specs.Prelude.{ℕ, suc, ◌≡◌, ◌+◌, ◌-◌, ◌<◌, ◌≤◌, Bool, true, false, not, length, slice_index_or, List, [], ◌∷◌, take, drop, reverse, map, filter, Option, Some, None, IfSome, nat_lt, if◌then◌else◌}
+use Rattle.std.specs.Prelude.{ℕ, suc, ◌≡◌, ◌+◌, ◌-◌, ◌<◌, ◌≤◌, ◌^◌, Bool, true, false, not, length, slice_index_or, List, [], ◌∷◌, take, drop, reverse, map, filter, Option, Some, None, IfSome, nat_lt, if◌then◌else◌}
 use Rattle.slab.specs.Slab.{Slab, get}
 use Rattle.xf_doc.specs.declared.content.Node.{Node}
 use Rattle.xf_doc.specs.Forest.{is_attribute}
@@ -9,7 +9,7 @@ use Rattle.xf_tree.specs.declared.slot.Slot.{Slot}
 use Rattle.xf_tree.specs.declared.walk.Left.{Left}
 use Rattle.xf_tree.specs.declared.walk.Left.TheVariants.{Nothing, Trees, Rows, Up, Back}
 use Rattle.xf_tree.specs.Rows.{Sized, AllDeep, top_depth}
-use Rattle.xf_tree.specs.Tree.{node_of, number_in, no_row, is_kin}
+use Rattle.xf_tree.specs.Tree.{node_of, number_in, no_row, is_kin, times, depths, AreSteps}
 
 -- the rows from one place to before another
 abbrev pub between : ℕ → ℕ → List Row → List Row
@@ -64,3 +64,10 @@ pub record IsStep (s : Slab Slot) (rows : List Row) (old : Left) (at : ℕ) (new
   pub within : at < length rows
   pub ready : IsReady rows new
   pub rest : left_of s rows old ≡ number_of_row s rows at ∷ left_of s rows new
+
+-- the rows of a forest's nodes
+pub record AreNodes (s : Slab Slot) (rows : List Row) : Type 0 where
+  pub sized : Sized rows
+  pub steps : AreSteps 0 (depths rows)
+  pub few : length rows < 2 ^ 31
+  pub apart : (n : ℕ) → times n (map (node_of s) rows) ≤ 1
