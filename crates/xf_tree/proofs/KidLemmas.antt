@@ -125,7 +125,7 @@ kids-inside q n most ts x stay (y ∷ ys) e deep based steps t h k =
           ap (λ z. is_first n (numbers (z ++ (x ∷ stay)))) (none-above x.depth y.depth ts same deep) ∙ eq-true n x.number (sym e) ∙ sym (eq-true y.depth (suc x.depth) same)
     ]
 
-kids-append : (q : Content → Bool) (n : ℕ) (vs ws : List Visit) → kids q n (vs ++ ws) ≡ kids q n vs ++ kids q n ws
+pub kids-append : (q : Content → Bool) (n : ℕ) (vs ws : List Visit) → kids q n (vs ++ ws) ≡ kids q n vs ++ kids q n ws
 kids-append q n vs ws = ap (map (λ (v : Visit). v.number)) (filter-append (λ (v : Visit). is_first n v.above && q v.content) vs ws)
     ∙ map-append (λ (v : Visit). v.number) (filter (λ (v : Visit). is_first n v.above && q v.content) vs) (filter (λ (v : Visit). is_first n v.above && q v.content) ws)
 

@@ -33,3 +33,7 @@ pub mod RootedLemmas
 pub mod OverLemmas
 pub mod NamedLemmas
 pub mod ChildLemmas
+pub mod WalkLemmas
+pub mod FoundLemmas
+pub mod SiblingLemmas
+pub mod AxisLemmas

@@ -18,11 +18,11 @@ use Rattle.xf_tree.proofs.NodeLemmas.{Parted}
 use Rattle.xf_tree.proofs.StackLemmas.{stack, still-shut, parted-ancestors}
 
 -- what is open after these nodes, which come from the nearest on
-abbrev opened : List Node → List Node
+abbrev pub opened : List Node → List Node
 opened [] = []
 opened (y ∷ ys) = y ∷ still_above y.depth (opened ys)
 
-stack-opened : (ys us : List Node) → stack (opened ys) us ≡ opened (reverse us ++ ys)
+pub stack-opened : (ys us : List Node) → stack (opened ys) us ≡ opened (reverse us ++ ys)
 stack-opened ys [] = refl
 stack-opened ys (u ∷ us) =
     let turn : reverse (u ∷ us) ++ ys ≡ reverse us ++ (u ∷ ys) = ap (λ l. l ++ ys) (reverse-append (u ∷ []) us) ∙ append_assoc (reverse us) (u ∷ []) ys in

@@ -5,6 +5,7 @@ use Rattle.std.proofs.lemmas.Bool.{cases_lt}
 use Rattle.std.proofs.lemmas.List.{reverse-append}
 use Rattle.xf_tree.specs.declared.rows.Row.{Row}
 use Rattle.xf_tree.specs.Rows.{deeper, Sized, grown, shrunk}
+pub use Rattle.xf_tree.specs.Rows.{AllDeep}
 
 -- the sizes of the rows before a place, the nearest first, are right with this after them
 abbrev pub SizedBefore : List Row → List Row → Type 0
@@ -87,11 +88,6 @@ shrunk-sized by depth (y ∷ ys) first second longer before after =
 pub deeper-append : (e : ℕ) (xs ys : List Row) → deeper e ys ≡ 0 → deeper e (xs ++ ys) ≡ deeper e xs
 deeper-append e [] ys h = h
 deeper-append e (x ∷ xs) ys h = ap (λ n. cond (nat_lt e x.depth) (suc n) 0) (deeper-append e xs ys h)
-
--- each row is at least so deep
-abbrev pub AllDeep : ℕ → List Row → Type 0
-AllDeep d [] = Unit {0}
-AllDeep d (x ∷ xs) = (d ≤ x.depth) × AllDeep d xs
 
 pub deeper-less : (d e : ℕ) (ys : List Row) → d ≤ e → deeper d ys ≡ 0 → deeper e ys ≡ 0
 deeper-less d e [] h z = refl

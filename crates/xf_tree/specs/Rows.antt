@@ -7,6 +7,11 @@ abbrev pub deeper : ℕ → List Row → ℕ
 deeper depth [] = 0
 deeper depth (y ∷ ys) = if nat_lt depth y.depth then suc (deeper depth ys) else 0
 
+-- each row is at least so deep
+abbrev pub AllDeep : ℕ → List Row → Type 0
+AllDeep depth [] = Unit {0}
+AllDeep depth (x ∷ xs) = (depth ≤ x.depth) × AllDeep depth xs
+
 -- each row's size is the length of its tree
 abbrev pub Sized : List Row → Type 0
 Sized [] = Unit {0}

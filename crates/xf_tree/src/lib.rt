@@ -1,6 +1,7 @@
 //! The forest of instance data: rows in document order over a slab of contents.
 #![tactic(auto)]
 
+mod axis;
 mod change;
 mod child;
 mod drop;
@@ -17,5 +18,7 @@ mod slot;
 mod tests;
 mod text;
 mod tree;
+mod walk;
 
 pub use forest::Forest;
+pub use walk::Walk;

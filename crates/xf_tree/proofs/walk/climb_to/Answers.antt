@@ -1,0 +1,20 @@
+use Rattle.std.proofs.Common.{◌≡◌, ◌+◌, ◌<◌, ◌≤◌, length, Some, arith}
+use Rattle.xf_tree.specs.Rows.{parent_row_of}
+use Rattle.xf_tree.proofs.AboveLemmas.{above-is}
+use Rattle.xf_tree.proofs.WalkLemmas.{climb-on, climb-bounded}
+use Rattle.xf_tree.proofs.walk.climb_to.Goals as goal
+
+pub loop-at-preserved : goal.loop-at-preserved
+loop-at-preserved c =
+    let rows = c.args.rows.now in
+    let at = c.loop-at.at in
+    let place = c.in-Some.place in
+    let i = c.loop-at.invariant in
+    let in_rows : at < length rows = omega (arith, i.within, c.requires.within) in
+    let a = above-is rows place at in_rows c.in-Some.ensures.answer in
+    let low = climb-bounded rows c.args.above place at a in_rows i.least (omega (arith, c.requires.less, c.loop-at-test.true)) in
+    record {
+      least = low;
+      within = omega (arith, i.within, a.order);
+      deep = climb-on rows c.args.depth place at c.args.from a c.loop-at-test.true i.within c.requires.within i.deep;
+    }

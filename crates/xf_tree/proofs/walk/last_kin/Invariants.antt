@@ -1,0 +1,14 @@
+use Rattle.std.proofs.Common.{◌≡◌, ◌<◌, ◌≤◌, ◌+◌, false}
+use Rattle.xf_tree.specs.Tree.{is_kin}
+use Rattle.xf_tree.specs.Walks.{between, chosen}
+use Rattle.xf_tree.proofs.walk.last_kin.Given as goal
+
+abbrev pub invariant-loop-next : goal.invariant-loop-next
+invariant-loop-next l = record {
+  least : l.above ≤ l.next;
+  within : l.next < l.at;
+  same : chosen l.slots (is_kin l.depth false) (between (l.above + 1) (l.next + 1) l.rows) ≡ chosen l.slots (is_kin l.depth false) (between (l.above + 1) l.at l.rows);
+}
+
+abbrev pub decreases-loop-next : goal.decreases-loop-next
+decreases-loop-next l = l.next

@@ -1,0 +1,265 @@
+//! Walks over the nodes of a forest, from row to row.
+ghost use Rattle.std.specs.Prelude.{◌≡◌, ℕ, ◌+◌, ◌-◌, ◌<◌, ◌≤◌, List, [], true, false, length, slice_index_or, MatchOption};
+ghost use Rattle.std.specs.Iterator.{YieldsFirstBy, item_count};
+ghost use Rattle.xf_tree.specs.Rows.{Sized, AllDeep};
+ghost use Rattle.xf_tree.specs.Tree.{node_of, no_row, is_kin};
+ghost use Rattle.xf_tree.specs.Walks.{between, chosen, is_plain, left_of, IsReady, IsStep};
+
+use crate::lookup::{Hint, is_kin_at, parent_row};
+use crate::rows::{Row, end_of};
+use crate::slot::{Slot, is_attribute_at, number_of};
+use slab::Slab;
+use std::marker::Model;
+use xf_doc::NodeId;
+
+/// What a walk has left besides a first node. Places are those of rows.
+#[derive(Clone, Copy, Debug)]
+pub enum Left {
+    Nothing,
+    /// Of the trees from one place to before another the tops that have this depth, and are attributes where these are
+    /// wanted, and are none where not.
+    Trees {
+        at: usize,
+        end: usize,
+        depth: u32,
+        wanted: bool,
+    },
+    /// The nodes from one place to before another, without the attributes.
+    Rows {
+        at: usize,
+        end: usize,
+    },
+    /// The ancestors of the node at a place, the nearest first.
+    Up {
+        at: usize,
+    },
+    /// The nodes of this depth before one place, back to behind another, without the attributes.
+    Back {
+        above: usize,
+        at: usize,
+        depth: u32,
+    },
+}
+
+/// The nodes on an axis, nearest first. It costs what it yields.
+#[derive(Drop)]
+pub struct Walk<'a> {
+    pub(crate) rows: &'a [Row],
+    pub(crate) slots: &'a Slab<Slot>,
+    pub(crate) hints: &'a [Hint],
+    pub(crate) first: Option<usize>,
+    pub(crate) left: Left,
+}
+
+impl<'a> Model for Walk<'a> {
+    ghost use Rattle.std.specs.Prelude.{ℕ, List};
+
+    ghost Value = { List ℕ };
+
+    ghost use Rattle.xf_tree.specs.Walks.{walk_of, IsWalk};
+
+    ghost view = { λ w. walk_of w.slots.now w.rows.now w.first w.left };
+
+    ghost invariant = { λ w. IsWalk w.rows.now w.first w.left };
+}
+
+impl<'a> Iterator for Walk<'a> {
+    ghost use Rattle.xf_doc.specs.declared.node.NodeId.{NodeId};
+
+    type Item = NodeId;
+
+    ghost next_gives = { YieldsFirstBy (λ (n : NodeId). n.number) (λ w. w) };
+
+    ghost remaining = { item_count (λ w. w) };
+
+    fn next(&mut self) -> Option<NodeId> {
+        let (at, left) = match self.first {
+            Some(at) => (at, self.left),
+            None => step(self.rows, self.slots, self.hints, self.left)?,
+        };
+        self.first = None;
+        self.left = left;
+        let place = self.rows[at].key;
+        Some(NodeId {
+            number: number_of(self.slots, place),
+            place,
+        })
+    }
+}
+
+/// The row that comes next, and what is left behind it.
+fn step(rows: &[Row], slots: &Slab<Slot>, hints: &[Hint], left: Left) -> Option<(usize, Left)>
+    requires sized { Sized rows.now }
+    requires ready { IsReady rows.now left }
+    ensures { MatchOption result (left_of slots.now rows.now left ≡ []) (λ r. IsStep slots.now rows.now left r.0 r.1) }
+{
+    match left {
+        Left::Nothing => None,
+        Left::Trees {
+            at,
+            end,
+            depth,
+            wanted,
+        } => step_over_trees(rows, slots, at, end, depth, wanted),
+        Left::Rows { at, end } => step_over_rows(rows, slots, at, end),
+        Left::Up { at } => step_up(rows, slots, hints, at),
+        Left::Back { above, at, depth } => step_back(rows, slots, hints, above, at, depth),
+    }
+}
+
+fn step_over_trees(
+    rows: &[Row],
+    slots: &Slab<Slot>,
+    at: usize,
+    end: usize,
+    depth: u32,
+    wanted: bool,
+) -> Option<(usize, Left)>
+    requires sized { Sized rows.now }
+    requires ready { IsReady rows.now (Left.Trees at end depth wanted) }
+    ensures { MatchOption result (left_of slots.now rows.now (Left.Trees at end depth wanted) ≡ []) (λ r. IsStep slots.now rows.now (Left.Trees at end depth wanted) r.0 r.1) }
+{
+    let next = next_kin(rows, slots, at, end, depth, wanted);
+    if next >= end {
+        return None;
+    }
+    let at = end_of(rows, next);
+    Some((
+        next,
+        Left::Trees {
+            at,
+            end,
+            depth,
+            wanted,
+        },
+    ))
+}
+
+fn step_over_rows(rows: &[Row], slots: &Slab<Slot>, at: usize, end: usize) -> Option<(usize, Left)>
+    requires { end ≤ length rows.now }
+    ensures { MatchOption result (left_of slots.now rows.now (Left.Rows at end) ≡ []) (λ r. IsStep slots.now rows.now (Left.Rows at end) r.0 r.1) }
+{
+    let next = next_plain(rows, slots, at, end);
+    if next >= end {
+        return None;
+    }
+    Some((next, Left::Rows { at: next + 1, end }))
+}
+
+fn step_up(rows: &[Row], slots: &Slab<Slot>, hints: &[Hint], at: usize) -> Option<(usize, Left)>
+    requires sized { Sized rows.now }
+    requires within { at < length rows.now }
+    ensures { MatchOption result (left_of slots.now rows.now (Left.Up at) ≡ []) (λ r. IsStep slots.now rows.now (Left.Up at) r.0 r.1) }
+{
+    match parent_row(rows, hints, at) {
+        Some(above) => Some((above, Left::Up { at: above })),
+        None => None,
+    }
+}
+
+fn step_back(
+    rows: &[Row],
+    slots: &Slab<Slot>,
+    hints: &[Hint],
+    above: usize,
+    at: usize,
+    depth: u32,
+) -> Option<(usize, Left)>
+    requires sized { Sized rows.now }
+    requires ready { IsReady rows.now (Left.Back above at depth) }
+    ensures { MatchOption result (left_of slots.now rows.now (Left.Back above at depth) ≡ []) (λ r. IsStep slots.now rows.now (Left.Back above at depth) r.0 r.1) }
+{
+    let next = last_kin(rows, slots, hints, above, at, depth);
+    if next <= above {
+        return None;
+    }
+    Some((
+        next,
+        Left::Back {
+            above,
+            at: next,
+            depth,
+        },
+    ))
+}
+
+/// The place of the next top of a tree that has this depth and is of the wanted kind, or the end or past it where there is none.
+pub fn next_kin(
+    rows: &[Row],
+    slots: &Slab<Slot>,
+    at: usize,
+    end: usize,
+    depth: u32,
+    wanted: bool,
+) -> usize
+    requires sized { Sized rows.now }
+    requires within { end ≤ length rows.now }
+    requires deep { AllDeep depth (between at end rows.now) }
+    ensures found { result < end → is_kin depth wanted (node_of slots.now (slice_index_or rows.now result no_row)) ≡ true }
+    ensures same { chosen slots.now (is_kin depth wanted) (between result end rows.now) ≡ chosen slots.now (is_kin depth wanted) (between at end rows.now) }
+    ensures deep { AllDeep depth (between result end rows.now) }
+{
+    let mut next = at;
+    while next < end && !is_kin_at(rows, slots, next, depth, wanted) {
+        next = end_of(rows, next);
+    }
+    next
+}
+
+/// The place of the next node that is no attribute, or the end or past it where there is none.
+fn next_plain(rows: &[Row], slots: &Slab<Slot>, at: usize, end: usize) -> usize
+    requires within { end ≤ length rows.now }
+    ensures found { result < end → is_plain (node_of slots.now (slice_index_or rows.now result no_row)) ≡ true }
+    ensures same { chosen slots.now is_plain (between result end rows.now) ≡ chosen slots.now is_plain (between at end rows.now) }
+{
+    let mut next = at;
+    while next < end && is_attribute_at(slots, rows[next].key) {
+        next += 1;
+    }
+    next
+}
+
+/// The place of the last node before a place that has this depth and is no attribute, or the first place where there is none
+/// behind it.
+fn last_kin(
+    rows: &[Row],
+    slots: &Slab<Slot>,
+    hints: &[Hint],
+    above: usize,
+    at: usize,
+    depth: u32,
+) -> usize
+    requires sized { Sized rows.now }
+    requires order { above < at }
+    requires within { at ≤ length rows.now }
+    requires less { (slice_index_or rows.now above no_row).depth < depth }
+    ensures within { result < at }
+    ensures found { above < result → is_kin depth false (node_of slots.now (slice_index_or rows.now result no_row)) ≡ true }
+    ensures same { chosen slots.now (is_kin depth false) (between (above + 1) (result + 1) rows.now) ≡ chosen slots.now (is_kin depth false) (between (above + 1) at rows.now) }
+{
+    let mut next = climb_to(rows, hints, above, at - 1, depth);
+    while next > above && !is_kin_at(rows, slots, next, depth, false) {
+        next = climb_to(rows, hints, above, next - 1, depth);
+    }
+    next
+}
+
+/// The place of the nearest row back from a place, itself included, that is no deeper than this, down to a row that is less deep.
+fn climb_to(rows: &[Row], hints: &[Hint], above: usize, from: usize, depth: u32) -> usize
+    requires sized { Sized rows.now }
+    requires order { above ≤ from }
+    requires within { from < length rows.now }
+    requires less { (slice_index_or rows.now above no_row).depth < depth }
+    ensures order { above ≤ result }
+    ensures within { result ≤ from }
+    ensures deep { AllDeep (depth + 1) (between (result + 1) (from + 1) rows.now) }
+{
+    let mut at = from;
+    while rows[at].depth > depth {
+        match parent_row(rows, hints, at) {
+            Some(place) => at = place,
+            None => return at,
+        }
+    }
+    at
+}
