@@ -12,7 +12,7 @@ use Rattle.xf_doc.specs.Limits.{node_count, all_size, size_of}
 use Rattle.xf_doc.specs.Texts.{KeptText, Keeping}
 use Rattle.xf_tree.specs.declared.rows.Row.{Row}
 use Rattle.xf_tree.specs.declared.slot.Slot.{Slot}
-use Rattle.xf_tree.specs.Rows.{Sized, deeper, deepened, tree_of as row_tree, after_tree}
+use Rattle.xf_tree.specs.Rows.{Sized, deeper, deepened, tree_of as row_tree, after_tree, rest_of}
 use Rattle.xf_tree.specs.Tree.{node_of, kept_of, number_in, content_in, times, kept_times, AllLive, AllTops, AreSteps, depths, KeepsLive, IsSound, IsCounted, IsState, StandsAt, keeping_of, no_row, IsOver}
 use Rattle.xf_tree.proofs.SizedLemmas.{lt-true, lt-false, AllDeep, sized-append, sized-front}
 use Rattle.xf_tree.proofs.CutLemmas.{all-deep-zero, tree-parts, stops-after, all-deeper}
@@ -72,9 +72,6 @@ first-zero (r ∷ rs) more stops a most = elim (cases_lt 0 r.depth) [
 all-one : (rows : List Row) → deeper 0 (map (deepened 1) rows) ≡ length rows
 all-one [] = refl
 all-one (r ∷ rs) = let l : 0 < r.depth + 1 = omega arith in rw (lt-true 0 (r.depth + 1) l) (ap suc (all-one rs))
-
-abbrev pub rest_of : ℕ → List Row → List Row
-rest_of at old = take at old ++ after_tree (drop at old)
 
 -- the rows but those of a top's tree
 pub rest-sized : (at : ℕ) (old : List Row) → at < length old → (get_or old at no_row).depth ≡ 0 → Sized old
