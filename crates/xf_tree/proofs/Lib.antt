@@ -24,3 +24,5 @@ pub mod ContentsLemmas
 pub mod FaultLemmas
 pub mod RootedLemmas
 pub mod OverLemmas
+pub mod BelowLemmas
+pub mod BehindLemmas

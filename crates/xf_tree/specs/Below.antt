@@ -31,7 +31,7 @@ part_at depth place content nodes = if is_attribute content then attribute_at de
 -- the row where a node with this content goes below the node at a place
 abbrev pub row_below : Slab Slot → List Row → ℕ → Content → ℕ → ℕ
 row_below s rows above content place =
-    above + 1 + part_at (suc (slice_index_or rows above no_row).depth) place content (map (node_of s) (drop (above + 1) rows))
+    above + 1 + part_at ((slice_index_or rows above no_row).depth + 1) place content (map (node_of s) (drop (above + 1) rows))
 
 -- how many elements are open for a node of this depth, going back over the rows before it, the nearest first
 abbrev pub elements_open : Slab Slot → ℕ → List Row → ℕ
@@ -41,7 +41,7 @@ elements_open s depth (y ∷ ys) =
 
 -- how many elements a child of the node at a place is below
 abbrev pub elements_over : Slab Slot → List Row → ℕ → ℕ
-elements_over s rows above = elements_open s (suc (slice_index_or rows above no_row).depth) (reverse (take (above + 1) rows))
+elements_over s rows above = elements_open s ((slice_index_or rows above no_row).depth + 1) (reverse (take (above + 1) rows))
 
 -- a tree and a row outside it stand so that the row is before the tree, and the other rows are as they were
 pub record IsBehind (at above from over : ℕ) (old new : List Row) : Type 0 where
@@ -60,6 +60,6 @@ pub record IsPlaced (at above place : ℕ) (s : Slab Slot) (old new : List Row) 
   pub row : slice_index_or (rest_of at old) over no_row ≡ slice_index_or old above no_row
   pub rows : let rest = rest_of at old in
       let tree = tree_of (drop at old) in
-      let depth = suc (slice_index_or old above no_row).depth in
+      let depth = (slice_index_or old above no_row).depth + 1 in
       let to = row_below s rest over (content_in (get s (slice_index_or old at no_row).key)) place in
       new ≡ grown (length tree) depth (reverse (take to rest)) (map (deepened depth) tree ++ drop to rest)

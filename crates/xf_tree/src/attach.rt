@@ -169,9 +169,8 @@ fn place_below(
     place: u32,
 ) -> usize
     requires within { above < length rows.now }
+    requires fits { (slice_index_or rows.now above no_row).depth + 1 < 2 ^ 32 }
     requires sized { Sized rows.now }
-    requires steps { AreSteps 0 (depths rows.now) }
-    requires few { length rows.now < 2 ^ 31 }
     ensures { result ≡ row_below slots.now rows.now above (content_in (get slots.now key)) place }
 {
     if is_attribute_at(slots, key) {
@@ -184,9 +183,9 @@ fn place_below(
 /// The row before which a child with this place comes, below the node at a place, or behind all children.
 fn child_place(rows: &[Row], slots: &Slab<Slot>, above: usize, place: u32) -> usize
     requires within { above < length rows.now }
+    requires fits { (slice_index_or rows.now above no_row).depth + 1 < 2 ^ 32 }
     requires sized { Sized rows.now }
-    requires few { length rows.now < 2 ^ 31 }
-    ensures { result ≡ above + 1 + child_at (suc (slice_index_or rows.now above no_row).depth) place (map (node_of slots.now) (drop (above + 1) rows.now)) }
+    ensures { result ≡ above + 1 + child_at ((slice_index_or rows.now above no_row).depth + 1) place (map (node_of slots.now) (drop (above + 1) rows.now)) }
 {
     let depth = rows[above].depth + 1;
     let end = end_of(rows, above);
@@ -207,8 +206,8 @@ fn child_place(rows: &[Row], slots: &Slab<Slot>, above: usize, place: u32) -> us
 /// The row before which the attribute under a key comes, among those of the element at a place.
 fn attribute_place(rows: &[Row], slots: &Slab<Slot>, above: usize, key: usize) -> usize
     requires within { above < length rows.now }
-    requires few { length rows.now < 2 ^ 31 }
-    ensures { result ≡ above + 1 + attribute_at (suc (slice_index_or rows.now above no_row).depth) (written_of (content_in (get slots.now key))) (map (node_of slots.now) (drop (above + 1) rows.now)) }
+    requires fits { (slice_index_or rows.now above no_row).depth + 1 < 2 ^ 32 }
+    ensures { result ≡ above + 1 + attribute_at ((slice_index_or rows.now above no_row).depth + 1) (written_of (content_in (get slots.now key))) (map (node_of slots.now) (drop (above + 1) rows.now)) }
 {
     let depth = rows[above].depth + 1;
     let mut next = above + 1;
