@@ -7,7 +7,6 @@ use Rattle.xf_tree.specs.Rows.{deepened, deepened_part, rotated, tree_of, after_
 use Rattle.xf_tree.specs.Tree.{AreSteps, depths}
 use Rattle.xf_tree.proofs.MoveLemmas.{rotated-parts, parts}
 use Rattle.xf_tree.proofs.CutLemmas.{tree-parts, tree-is-front}
-use Rattle.xf_tree.proofs.RootLemmas.{past-tree, past-end}
 
 -- a list in three parts
 three-parts : {X : Type 0} (a b : ℕ) (xs : List X) → a ≤ b → xs ≡ take a xs ++ (take (b - a) (drop a xs) ++ drop b xs)
@@ -128,12 +127,3 @@ depths-fit at old rows2 R steps few zero_depth is = λ k d h.
     (under-append b (take at old ++ after_tree (drop at old)) (tree_of (drop at old)) (under-append b (take at old) (after_tree (drop at old)) p.0 q.1) q.0) (root, tt) in
     let u = under-index b rows2 k d (subst (AllUnder b) (sym is) whole) h in
     omega arith
-
--- a tree that is the last one
-pub stands-last : (at : ℕ) (rows : List Row) → length rows ≡ at + length (tree_of (drop at rows)) → rows ≡ take at rows ++ (after_tree (drop at rows) ++ tree_of (drop at rows))
-stands-last at rows e =
-    let here = drop at rows in
-    let most : length rows ≤ length rows = omega arith in
-    let none : after_tree here ≡ [] = sym (past-tree at (length rows) rows e) ∙ past-end (length rows) rows most in
-    let all : here ≡ tree_of here = sym (tree-parts here) ∙ ap (λ l. tree_of here ++ l) none ∙ append-nil (tree_of here) in
-    sym (take-append-drop at rows) ∙ ap (λ l. take at rows ++ l) (all ∙ ap (λ l. l ++ tree_of here) (sym none))

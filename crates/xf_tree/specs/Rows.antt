@@ -26,10 +26,6 @@ shrunk by depth (y ∷ ys) tail =
     if nat_lt y.depth depth then shrunk by y.depth ys (record { key = y.key; size = y.size - by; depth = y.depth } ∷ tail)
     else shrunk by depth ys (y ∷ tail)
 
--- the part from one place to before another turned round
-abbrev pub flipped : {X : Type 0} → ℕ → ℕ → List X → List X
-flipped from to xs = take from xs ++ (reverse (take (to - from) (drop from xs)) ++ drop to xs)
-
 -- the part from the first place to before the second stands behind that to before the third
 abbrev pub rotated : {X : Type 0} → ℕ → ℕ → ℕ → List X → List X
 rotated at mid end xs = take at xs ++ ((take (end - mid) (drop mid xs) ++ take (mid - at) (drop at xs)) ++ drop end xs)

@@ -138,7 +138,7 @@ fn place_tree(
     let to = place_below(&rows[..from], slots, over, top, place);
     paste_in(rows, from, to, depth);
     note_parent(hints, top, parent);
-    note_rows(hints, &rows[..end], at.min(to));
+    note_rows(hints, rows, at.min(to), end);
 }
 
 /// Makes the tree at a place stand behind a row outside it. The answer is where the tree and the row stand then.

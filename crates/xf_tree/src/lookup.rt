@@ -141,9 +141,9 @@ pub fn is_kin_at(rows: &[Row], slots: &Slab<Slot>, at: usize, depth: u32, wanted
     rows[at].depth == depth && is_of_kind(slots, rows[at].key, wanted)
 }
 
-/// Notes anew where the rows from a place on stand. What is noted is only a hint, so nothing is promised of it.
-pub fn note_rows(hints: &mut [Hint], rows: &[Row], from: usize) {
-    for at in from..rows.len() {
+/// Notes anew where the rows from one place to before another stand. What is noted is only a hint, so nothing is promised of it.
+pub fn note_rows(hints: &mut [Hint], rows: &[Row], from: usize, end: usize) {
+    for at in from..end.min(rows.len()) {
         let key = rows[at].key;
         if key < hints.len() {
             hints[key].row = at;

@@ -38,6 +38,6 @@ pub fn root_over(
     lift_root_in(rows, place, from);
     hint_at(hints, key);
     note_parent(hints, top, key);
-    note_rows(hints, rows, place);
+    note_rows(hints, rows, place, rows.len());
     key
 }

@@ -1,9 +1,6 @@
-use Rattle.std.proofs.Common.{◌≡◌, ◌+◌, length, sym, ap, ◌∙◌}
-use Rattle.xf_tree.proofs.RootedLemmas.{last-moved, stands-last}
+use Rattle.std.proofs.Common.{◌≡◌, ◌+◌, length, ap, ◌∙◌}
+use Rattle.xf_tree.proofs.RootedLemmas.{last-moved}
 use Rattle.xf_tree.proofs.rows.move_last.Goals as goal
-
-pub returns-then-end-all-clause-moved : goal.returns-then-end-all-clause-moved
-returns-then-end-all-clause-moved c = stands-last c.args.at c.args.rows.now (sym c.if-end-all.true ∙ c.end_of-end.ensures.answer)
 
 pub returns-clause-moved : goal.returns-clause-moved
 returns-clause-moved c =
