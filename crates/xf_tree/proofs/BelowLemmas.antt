@@ -47,7 +47,7 @@ passed s d left x xs h other =
         turned true e = refl
         turned false e = absurd (true≢false e)
 
-eq-is : (m n : ℕ) → (m == n) ≡ true → m ≡ n
+pub eq-is : (m n : ℕ) → (m == n) ≡ true → m ≡ n
 eq-is m n e = grind (arith, nat_tests)
 
 not-is : (b : Bool) → not b ≡ true → b ≡ false

@@ -9,6 +9,7 @@ ghost use Rattle.xf_doc.specs.Needs.{MayAttach};
 ghost use Rattle.xf_doc.specs.Plant.{is_less, written_of};
 ghost use Rattle.xf_doc.specs.Visit.{visits};
 ghost use Rattle.xf_tree.specs.Rows.{Sized, tree_of as rows_of_tree};
+ghost use Rattle.xf_tree.specs.Leaves.{AreLeaves, parts_in};
 ghost use Rattle.xf_tree.specs.Tree.{node_of, content_in, no_row, AreSteps, depths};
 ghost use Rattle.xf_tree.specs.Below.{attribute_at, child_at, row_below, elements_over, IsBehind, IsPlaced};
 
@@ -126,6 +127,7 @@ fn place_tree(
     requires sized { Sized rows.old.items }
     requires steps { AreSteps 0 (depths rows.old.items) }
     requires few { length rows.old.items < 2 ^ 31 }
+    requires leaves { AreLeaves (parts_in (map (node_of slots.now) rows.old.items)) }
     ensures sized { Sized rows.new.items }
     ensures answer { IsPlaced at above place slots.now rows.old.items rows.new.items }
     ensures room { vec_capacity rows.new ≡ vec_capacity rows.old }
