@@ -36,3 +36,5 @@ pub mod PlacedLemmas
 pub mod AttachLemmas
 pub mod AttachedLemmas
 pub mod NeedLemmas
+pub mod OpenLemmas
+pub mod ElementLemmas

@@ -8,7 +8,7 @@ use Rattle.xf_doc.specs.declared.content.Content.TheVariants.{Root, Element, Att
 use Rattle.xf_doc.specs.declared.content.Kind.{Kind}
 use Rattle.xf_doc.specs.declared.content.Kind.TheVariants as kind
 use Rattle.xf_doc.specs.Forest.{Forest, is_root, kind_of, kind_at, node_at, has_number}
-use Rattle.xf_doc.specs.Needs.{MayStand, in_element, in_root, as_attribute}
+use Rattle.xf_doc.specs.Needs.{MayAttach, MayStand, in_element, in_root, as_attribute}
 use Rattle.xf_tree.specs.Leaves.{is_leaf}
 use Rattle.xf_tree.proofs.StackLemmas.{absent-parts}
 
@@ -49,3 +49,16 @@ no-leaf_content Root e = refl
 no-leaf_content (Element name) e = refl
 no-leaf_content (Attribute name text) e = absurd (elim e [ inl x ↦ cc x | inr x ↦ cc x ])
 no-leaf_content (Text text) e = absurd (elim e [ inl x ↦ cc x | inr x ↦ cc x ])
+
+-- both are there
+pub node-live : (n m place : ℕ) (forest : Forest) → MayAttach n m place forest → has_number n forest.nodes ≡ true
+node-live n m place forest may = elim (cases_Bool (has_number n forest.nodes)) [
+  | inl e ↦ e
+  | inr e ↦ absurd (none-named n (λ (x : Node). x.depth == 0) forest.nodes e may.detached)
+]
+
+pub parent-live : (n m place : ℕ) (forest : Forest) → MayAttach n m place forest → has_number m forest.nodes ≡ true
+parent-live n m place forest may = elim (cases_Bool (has_number m forest.nodes)) [
+  | inl e ↦ e
+  | inr e ↦ absurd (elim (parent-kind n m place forest may.stands) [ inl k ↦ none-kind m kind.Element forest.nodes e k | inr k ↦ none-kind m kind.Root forest.nodes e k ])
+]
