@@ -30,6 +30,7 @@ pub mod OldTreeLemmas
 pub mod MoveOlderLemmas
 pub mod WholeLemmas
 pub mod RootedLemmas
+pub mod DeepenLemmas
 pub mod OverLemmas
 pub mod NamedLemmas
 pub mod ChildLemmas
@@ -37,3 +38,13 @@ pub mod WalkLemmas
 pub mod FoundLemmas
 pub mod SiblingLemmas
 pub mod AxisLemmas
+pub mod BelowLemmas
+pub mod BehindLemmas
+pub mod PartLemmas
+pub mod RestLemmas
+pub mod PlacedLemmas
+pub mod AttachLemmas
+pub mod AttachedLemmas
+pub mod NeedLemmas
+pub mod OpenLemmas
+pub mod ElementLemmas

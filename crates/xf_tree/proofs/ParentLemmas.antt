@@ -84,7 +84,7 @@ deep-append : (d : ℕ) (xs ys : List Row) → AllDeep d xs → AllDeep d ys →
 deep-append d [] ys p q = q
 deep-append d (x ∷ xs) ys p q = (p.0, deep-append d xs ys p.1 q)
 
-deep-reverse : (d : ℕ) (xs : List Row) → AllDeep d xs → AllDeep d (reverse xs)
+pub deep-reverse : (d : ℕ) (xs : List Row) → AllDeep d xs → AllDeep d (reverse xs)
 deep-reverse d [] p = tt
 deep-reverse d (x ∷ xs) p = subst (AllDeep d) (sym (reverse-append (x ∷ []) xs)) (deep-append d (reverse xs) (x ∷ []) (deep-reverse d xs p.1) (p.0, tt))
 

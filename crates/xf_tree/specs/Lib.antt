@@ -6,3 +6,4 @@ pub mod Contents
 pub mod Kids
 pub mod Older
 pub mod Walks
+pub mod Below

@@ -2,6 +2,7 @@
 #![tactic(auto)]
 
 mod axis;
+mod attach;
 mod change;
 mod child;
 mod drop;
@@ -16,6 +17,8 @@ mod rows;
 mod slot;
 #[cfg(test)]
 mod tests;
+#[cfg(test)]
+mod tests_attach;
 mod text;
 mod tree;
 mod walk;

@@ -150,3 +150,10 @@ pub fn note_rows(hints: &mut [Hint], rows: &[Row], from: usize, end: usize) {
         }
     }
 }
+
+/// Notes whose child the node under a key is.
+pub fn note_parent(hints: &mut [Hint], key: usize, parent: usize) {
+    if key < hints.len() {
+        hints[key].parent = parent;
+    }
+}

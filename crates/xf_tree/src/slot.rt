@@ -3,10 +3,12 @@ ghost use Rattle.std.specs.Prelude.{◌≡◌, ◌-◌, ◌≤◌, ◌^◌, ℕ,
 ghost use Rattle.slab.specs.Slab.{get, Updates};
 ghost use Rattle.xf_doc.specs.Limits.{node_count, all_size, size_of};
 ghost use Rattle.xf_doc.specs.Forest.{is_root, is_element, is_attribute, kind_of, name_in, own_text};
+ghost use Rattle.xf_doc.specs.Plant.{is_less, written_of};
 ghost use Rattle.xf_doc.specs.StringValue.{characters};
 ghost use Rattle.xf_doc.specs.WellFormed.{have_same_name};
 ghost use Rattle.xf_tree.specs.Tree.{number_in, content_in, same_kind, node_of, kept_of, times, KeepsBut, KeepsButKept};
 
+use crate::name::written_less;
 use crate::rows::Row;
 use slab::Slab;
 use std::alloc::{AllocError, Global};
@@ -128,6 +130,17 @@ pub fn has_same_name(slots: &Slab<Slot>, first: usize, second: usize) -> bool
 {
     match (name(slots, first), name(slots, second)) {
         (Some(one), Some(other)) => one.space == other.space && one.local.is(other.local.as_str()),
+        _ => false,
+    }
+}
+
+/// Whether the first node's name, as it is written, comes before the second's, by bytes.
+pub fn is_less_at(slots: &Slab<Slot>, first: usize, second: usize) -> bool
+    ensures { result ≡ is_less (written_of (content_in (get slots.now first))) (written_of (content_in (get slots.now second))) }
+{
+    match (slots.get(first), slots.get(second)) {
+        (Some(one), Some(other)) => written_less(&one.content, &other.content),
+        (None, Some(other)) => written_less(&Content::Root, &other.content),
         _ => false,
     }
 }
