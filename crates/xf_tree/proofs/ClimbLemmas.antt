@@ -59,6 +59,16 @@ past-most d (y ∷ ys) = elim (cases_lt y.depth d) [
   | inr l ↦ rw (lt-false y.depth d l) (let i = past-most d ys in omega arith)
 ]
 
+none-less : (ys : List Row) → less_deep 0 ys ≡ None
+none-less [] = refl
+none-less (y ∷ ys) = let h : 0 ≤ y.depth = omega arith in rw (lt-false y.depth 0 h) (none-less ys)
+
+-- a top has no parent
+pub top-alone : (rows : List Row) (at : ℕ) → at < length rows → (get_or rows at no_row).depth ≡ 0 → None ≡ parent_row_of rows at
+top-alone rows at h top =
+    let d : top_depth (drop at rows) ≡ 0 = ap top_depth (split-at at rows no_row h) ∙ top in
+    sym (ap (λ k. less_deep k (reverse (take at rows))) d ∙ none-less (reverse (take at rows)))
+
 -- a change that leaves a row as it is which is no less deep
 abbrev Passes : (ℕ → List Row → List Row → List Row) → Type 0
 Passes g = (d : ℕ) (y : Row) (ys tail : List Row) → d ≤ y.depth → g d (y ∷ ys) tail ≡ g d ys (y ∷ tail)

@@ -45,7 +45,7 @@ pub fn parent_row(rows: &[Row], hints: &[Hint], at: usize) -> Option<usize>
     above_row(rows, hints, at)
 }
 
-/// Where the rows end up to the parent's: right after it, or at the front where there is none.
+/// How many rows there are up to the parent's, it included: none where there is no parent.
 pub fn above_end(rows: &[Row], hints: &[Hint], at: usize) -> usize
     requires within { at < length rows.now }
     requires sized { SizedBefore (reverse (take at rows.now)) (drop at rows.now) }
@@ -58,7 +58,7 @@ pub fn above_end(rows: &[Row], hints: &[Hint], at: usize) -> usize
     }
 }
 
-/// The same as `parent_row`, where the sizes before the place alone are right.
+/// The row of the parent, as by `parent_row`, where only the sizes before the place need be right.
 fn above_row(rows: &[Row], hints: &[Hint], at: usize) -> Option<usize>
     requires within { at < length rows.now }
     requires sized { SizedBefore (reverse (take at rows.now)) (drop at rows.now) }
@@ -66,6 +66,10 @@ fn above_row(rows: &[Row], hints: &[Hint], at: usize) -> Option<usize>
     ensures within { IfSome result (λ above. above < at) }
 {
     let row = rows[at];
+    // A top has no parent, and no row before it is looked at.
+    if row.depth == 0 {
+        return None;
+    }
     if let Some(hint) = hints.get(row.key) {
         if let Some(beyond) = hints.get(hint.parent) {
             let above = beyond.row;

@@ -1,7 +1,10 @@
 use Rattle.std.proofs.Common.{◌≡◌, ◌≤◌, length, arith}
 use Rattle.xf_tree.proofs.ParentLemmas.{hint-parent}
-use Rattle.xf_tree.proofs.ClimbLemmas.{size-above}
+use Rattle.xf_tree.proofs.ClimbLemmas.{size-above, top-alone}
 use Rattle.xf_tree.proofs.lookup.above_row.Goals as goal
+
+pub returns-then-row-eq0-clause-answer : goal.returns-then-row-eq0-clause-answer
+returns-then-row-eq0-clause-answer c = top-alone c.args.rows.now c.args.at c.requires.within c.if-row-eq0.true
 
 pub returns-then-at-above-clause-answer : goal.returns-then-at-above-clause-answer
 returns-then-at-above-clause-answer c =
