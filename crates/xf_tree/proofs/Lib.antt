@@ -26,4 +26,15 @@ pub mod WrittenLemmas
 pub mod ContentsLemmas
 pub mod FaultLemmas
 pub mod RootedLemmas
+pub mod DeepenLemmas
 pub mod OverLemmas
+pub mod BelowLemmas
+pub mod BehindLemmas
+pub mod PartLemmas
+pub mod RestLemmas
+pub mod PlacedLemmas
+pub mod AttachLemmas
+pub mod AttachedLemmas
+pub mod NeedLemmas
+pub mod OpenLemmas
+pub mod ElementLemmas

@@ -46,6 +46,10 @@ abbrev pub top_depth : List Row → ℕ
 top_depth [] = 0
 top_depth (x ∷ xs) = x.depth
 
+-- the rows but those of the tree at a place
+abbrev pub rest_of : ℕ → List Row → List Row
+rest_of at rows = take at rows ++ after_tree (drop at rows)
+
 -- the new rows are the old ones with the tree at this place at the end
 abbrev pub IsCut : ℕ → List Row → List Row → Type 0
 IsCut at old new =
