@@ -1,7 +1,7 @@
 -- A tree moved below a node: what the rows stand for.
-use Rattle.std.proofs.Common.{◌≡◌, ℕ, zero, suc, ◌+◌, ◌-◌, ◌<◌, ◌≤◌, ◌^◌, ◌==◌, ◌⊎◌, Bool, true, false, if◌then◌else◌, List, [], ◌∷◌, ◌++◌, map, length, take, drop, get_or, reverse, append_assoc, take-add, add-one, refl, sym, ap, ◌∙◌, subst, inl, inr, arith, length-append, length-take, length-drop}
-use Rattle.std.proofs.lemmas.List.{take-append-drop, map-append, length-map, reverse-reverse, take_at, take-map, drop-map, drop-drop, take_more, get_or-take, get_or-drop}
-use Rattle.std.proofs.lemmas.Bool.{cases_Bool, cases_lt, true≢false, false≢true}
+use Rattle.std.proofs.Common.{◌≡◌, ℕ, suc, ◌+◌, ◌-◌, ◌<◌, ◌≤◌, ◌==◌, ◌⊎◌, false, List, [], ◌∷◌, ◌++◌, map, length, take, drop, get_or, reverse, append_assoc, take-add, refl, sym, ap, ◌∙◌, inl, inr, arith}
+use Rattle.std.proofs.lemmas.List.{take-append-drop, map-append, reverse-reverse, take_at, take-map, drop-map, drop-drop, take_more, get_or-take, get_or-drop}
+use Rattle.std.proofs.lemmas.Bool.{cases_Bool, cases_lt, true≢false}
 use Rattle.slab.specs.Slab.{Slab, get}
 use Rattle.xf_doc.specs.declared.content.Node.{Node}
 use Rattle.xf_doc.specs.declared.content.Content.{Content}
@@ -9,16 +9,14 @@ use Rattle.xf_doc.specs.Forest.{has_number, first_tree, tree_of}
 use Rattle.xf_doc.specs.Changes.{shifted, moved_to, without_tree, with_part, with_below}
 use Rattle.xf_tree.specs.declared.rows.Row.{Row}
 use Rattle.xf_tree.specs.declared.slot.Slot.{Slot}
-use Rattle.xf_tree.specs.Rows.{deeper, deepened, grown, tree_of as row_tree, after_tree, rest_of}
+use Rattle.xf_tree.specs.Rows.{deeper, deepened, tree_of as row_tree, after_tree, rest_of}
 use Rattle.xf_tree.specs.Tree.{node_of, number_in, content_in, times, StandsAt, IsSound, no_row}
 use Rattle.xf_tree.specs.Below.{part_at, row_below, IsPlaced}
-use Rattle.xf_tree.proofs.NodeLemmas.{Parted, part, parted-without, parted-from, times-append, eq-true}
-use Rattle.xf_tree.proofs.StackLemmas.{absent-parts}
-use Rattle.xf_tree.proofs.PlaceLemmas.{split-at, parted-at, stands, below-is, past-is, one_of, has-true, times-at}
+use Rattle.xf_tree.proofs.NodeLemmas.{Parted, parted-without, parted-from, times-append, eq-true}
+use Rattle.xf_tree.proofs.PlaceLemmas.{split-at, stands, below-is, past-is, one_of, has-true, times-at}
 use Rattle.xf_tree.proofs.ForestLemmas.{IgnoresSize, map-grown, node-ignores, whole-map}
 use Rattle.xf_tree.proofs.CutLemmas.{tree-parts}
-use Rattle.xf_tree.proofs.RootLemmas.{past-tree}
-use Rattle.xf_tree.proofs.DeepenLemmas.{lowered, times-shifted}
+use Rattle.xf_tree.proofs.DeepenLemmas.{lowered}
 use Rattle.xf_tree.proofs.PartLemmas.{part-is}
 
 below-go : (m place : ℕ) (tree us : List Node) (x : Node) (xs : List Node) → x.number ≡ m → has_number m us ≡ false
@@ -72,16 +70,16 @@ stands-outside s n m at above rows here there few outside =
       | inr l ↦ elim (cases_lt above (at + length T)) [
         | inl k ↦
             absurd (
-              let i = above - at in
-              let sum : at + i ≡ above = omega arith in
-              let within : i < length T = omega arith in
-              let whole : drop at rows ≡ T ++ after_tree (drop at rows) = sym (tree-parts (drop at rows)) in
-              let front : take (length T) (drop at rows) ≡ T = tree-front T (after_tree (drop at rows)) (drop at rows) whole in
-              let same : get_or T i no_row ≡ get_or rows above no_row =
-              ap (λ l. get_or l i no_row) (sym front) ∙ get_or-take (length T) (drop at rows) i no_row within ∙ get_or-drop at rows i no_row ∙ ap (λ k. get_or rows k no_row) sum in
-              let number = ap (λ (r : Row). number_in (get s r.key)) same ∙ there.number in
-              let has = has-true m (map (node_of s) T) (times-at s m i T within number) in
-              true≢false (sym has ∙ ap (has_number m) (sym (tree-nodes s n at rows here few)) ∙ outside)
+            let i = above - at in
+            let sum : at + i ≡ above = omega arith in
+            let within : i < length T = omega arith in
+            let whole : drop at rows ≡ T ++ after_tree (drop at rows) = sym (tree-parts (drop at rows)) in
+            let front : take (length T) (drop at rows) ≡ T = tree-front T (after_tree (drop at rows)) (drop at rows) whole in
+            let same : get_or T i no_row ≡ get_or rows above no_row =
+            ap (λ l. get_or l i no_row) (sym front) ∙ get_or-take (length T) (drop at rows) i no_row within ∙ get_or-drop at rows i no_row ∙ ap (λ k. get_or rows k no_row) sum in
+            let number = ap (λ (r : Row). number_in (get s r.key)) same ∙ there.number in
+            let has = has-true m (map (node_of s) T) (times-at s m i T within number) in
+            true≢false (sym has ∙ ap (has_number m) (sym (tree-nodes s n at rows here few)) ∙ outside)
             )
         | inr k ↦ inr k
       ]

@@ -1,13 +1,13 @@
 -- A tree that was put behind a row outside it.
-use Rattle.std.proofs.Common.{◌≡◌, ℕ, suc, ◌+◌, ◌-◌, ◌<◌, ◌≤◌, List, [], ◌∷◌, ◌++◌, length, take, drop, get_or, nat_lt, cond, refl, sym, ap, ◌∙◌, subst, inl, inr, arith, append-nil, length-append, length-take, length-drop}
+use Rattle.std.proofs.Common.{◌≡◌, ℕ, ◌+◌, ◌-◌, ◌<◌, ◌≤◌, List, [], ◌∷◌, ◌++◌, length, take, drop, get_or, refl, sym, ap, ◌∙◌, subst, inl, inr, arith, append-nil, length-append, length-take}
 use Rattle.std.proofs.lemmas.Bool.{cases_lt}
-use Rattle.std.proofs.lemmas.List.{take-append-drop, drop_at, get_or-take, get_or-drop}
+use Rattle.std.proofs.lemmas.List.{drop_at, get_or-take, get_or-drop}
 use Rattle.xf_tree.specs.declared.rows.Row.{Row}
 use Rattle.xf_tree.specs.Rows.{Sized, deeper, tree_of, after_tree, rest_of}
 use Rattle.xf_tree.specs.Tree.{no_row}
 use Rattle.xf_tree.specs.Below.{IsBehind}
 use Rattle.xf_tree.proofs.SizedLemmas.{lt-true, lt-false, sized-append}
-use Rattle.xf_tree.proofs.CutLemmas.{all-deep-zero, tree-parts}
+use Rattle.xf_tree.proofs.CutLemmas.{all-deep-zero}
 use Rattle.xf_tree.proofs.PlaceLemmas.{split-at, tree-size}
 use Rattle.xf_tree.proofs.RootLemmas.{past-tree}
 use Rattle.xf_tree.proofs.RootedLemmas.{rest-front}

@@ -1,10 +1,8 @@
 -- Walks over the nodes after a parent, to where a child or an attribute goes.
-use Rattle.std.proofs.Common.{◌≡◌, ℕ, zero, suc, ◌+◌, ◌-◌, ◌<◌, ◌≤◌, ◌==◌, ◌&&◌, ◌||◌, not, Bool, true, false, List, [], ◌∷◌, ◌++◌, map, length, take, drop, get_or, nat_lt, cond, if◌then◌else◌, refl, sym, ap, ◌∙◌, subst, inl, inr, arith, length-drop}
+use Rattle.std.proofs.Common.{◌≡◌, ℕ, zero, suc, ◌+◌, ◌-◌, ◌<◌, ◌≤◌, ◌==◌, ◌&&◌, ◌||◌, not, Bool, true, false, List, [], ◌∷◌, map, length, drop, get_or, nat_lt, refl, sym, ap, ◌∙◌, inl, inr, arith}
 use Rattle.std.proofs.lemmas.Bool.Decides.{nat_tests}
-use Rattle.std.proofs.lemmas.Bool.{cases_lt, cases_Bool, true≢false, false≢true, and_parts}
+use Rattle.std.proofs.lemmas.Bool.{cases_lt, true≢false, false≢true, and_parts}
 use Rattle.slab.specs.Slab.{Slab, get}
-use Rattle.xf_doc.specs.declared.content.Node.{Node}
-use Rattle.xf_doc.specs.declared.content.Content.{Content}
 use Rattle.xf_doc.specs.Forest.{is_attribute}
 use Rattle.xf_doc.specs.Plant.{is_less, written_of}
 use Rattle.xf_tree.specs.declared.rows.Row.{Row}
@@ -13,8 +11,8 @@ use Rattle.xf_tree.specs.Rows.{deeper, tree_of, after_tree}
 use Rattle.xf_tree.specs.Tree.{node_of, content_in, no_row, is_kin}
 use Rattle.xf_tree.specs.Below.{child_at, attribute_at}
 use Rattle.xf_tree.proofs.SizedLemmas.{lt-true, lt-false}
-use Rattle.xf_tree.proofs.CutLemmas.{stops-after, deeper-length, tree-within}
-use Rattle.xf_tree.proofs.NodeLemmas.{eq-true, eq-false}
+use Rattle.xf_tree.proofs.CutLemmas.{stops-after, tree-within}
+use Rattle.xf_tree.proofs.NodeLemmas.{eq-true}
 use Rattle.xf_tree.proofs.PlaceLemmas.{split-at, tree-size}
 use Rattle.xf_tree.proofs.AboveLemmas.{inside-deeper}
 use Rattle.xf_tree.proofs.RootLemmas.{past-tree, past-end}
@@ -141,11 +139,11 @@ tree-inside rows above next o h inside =
     elim (cases_lt last end) [
       | inl l ↦
           absurd (
-            let last_rows : last < length rows = omega arith in
-            let low = ends-low rows above last in_rows refl last_rows in
-            let one = inside-deeper rows above next o h inside in
-            let two = inside-deeper rows next last inside last_rows l in
-            omega arith
+          let last_rows : last < length rows = omega arith in
+          let low = ends-low rows above last in_rows refl last_rows in
+          let one = inside-deeper rows above next o h inside in
+          let two = inside-deeper rows next last inside last_rows l in
+          omega arith
           )
       | inr l ↦ l
     ]
@@ -162,17 +160,3 @@ attribute-more s d next name rows h is less =
     let a : attribute_at d name (map (node_of s) (x ∷ later)) ≡ suc (attribute_at d name (map (node_of s) later)) = rw (p.0, p.1, less) refl in
     let b = ap (λ l. attribute_at d name (map (node_of s) l)) (split-at next rows no_row h) in
     omega (arith, a, b)
-
-pub attribute-stop : (s : Slab Slot) (d next : ℕ) (name : List ℕ) (rows : List Row) → next < length rows
-    → (is_kin d true (node_of s (get_or rows next no_row)) && is_less (written_of (content_in (get s (get_or rows next no_row).key))) name) ≡ false
-    → attribute_at d name (map (node_of s) (drop next rows)) ≡ 0
-attribute-stop s d next name rows h is =
-    let x = get_or rows next no_row in
-    ap (λ l. attribute_at d name (map (node_of s) l)) (split-at next rows no_row h) ∙ rw (joined (x.depth == d) (is_attribute (content_in (get s x.key))) (is_less (written_of (content_in (get s x.key))) name) is) refl
-  where
-    joined : (p q r : Bool) → ((p && q) && r) ≡ false → (p && q && r) ≡ false
-    joined true q r e = e
-    joined false q r e = refl
-
-pub attribute-end : (s : Slab Slot) (d next : ℕ) (name : List ℕ) (rows : List Row) → length rows ≤ next → attribute_at d name (map (node_of s) (drop next rows)) ≡ 0
-attribute-end s d next name rows h = ap (λ l. attribute_at d name (map (node_of s) l)) (past-end next rows h)

@@ -1,9 +1,9 @@
 -- The elements that are open at a node are those of it and its ancestors.
-use Rattle.std.proofs.Common.{◌≡◌, ℕ, zero, suc, ◌+◌, ◌<◌, ◌≤◌, ◌==◌, ◌&&◌, ◌||◌, Bool, true, false, cond, if◌then◌else◌, List, [], ◌∷◌, ◌++◌, map, length, take, drop, get_or, nat_lt, reverse, append-nil, refl, sym, ap, ◌∙◌, subst, inl, inr, arith}
+use Rattle.std.proofs.Common.{◌≡◌, ℕ, ◌+◌, ◌<◌, ◌≤◌, ◌&&◌, ◌||◌, Bool, true, false, cond, if◌then◌else◌, List, [], ◌∷◌, ◌++◌, map, take, drop, get_or, reverse, append-nil, refl, sym, ap, ◌∙◌, inl, inr, arith}
 use Rattle.std.specs.Prelude.{count_by}
-use Rattle.std.proofs.lemmas.Bool.{cases_lt, cases_Bool}
+use Rattle.std.proofs.lemmas.Bool.{cases_lt}
 use Rattle.std.proofs.lemmas.List.{take-append-drop, map-append, reverse-append}
-use Rattle.slab.specs.Slab.{Slab, get}
+use Rattle.slab.specs.Slab.{Slab}
 use Rattle.xf_doc.specs.declared.content.Node.{Node}
 use Rattle.xf_doc.specs.Changes.{elements_above}
 use Rattle.xf_doc.specs.Forest.{has_number, is_element}
@@ -11,10 +11,10 @@ use Rattle.xf_doc.specs.Visit.{Visit, visit, visits, visits_from, still_above, n
 use Rattle.xf_doc.proofs.RenumberLaws.{map-reverse}
 use Rattle.xf_tree.specs.declared.rows.Row.{Row}
 use Rattle.xf_tree.specs.declared.slot.Slot.{Slot}
-use Rattle.xf_tree.specs.Tree.{node_of, number_in, times, StandsAt, no_row}
+use Rattle.xf_tree.specs.Tree.{node_of, times, StandsAt, no_row}
 use Rattle.xf_tree.specs.Below.{elements_open, elements_over}
 use Rattle.xf_tree.proofs.SizedLemmas.{lt-true, lt-false}
-use Rattle.xf_tree.proofs.NodeLemmas.{eq-true, eq-false, eq-turned, times-append, absent-times}
+use Rattle.xf_tree.proofs.NodeLemmas.{eq-true, eq-turned, times-append, absent-times}
 use Rattle.xf_tree.proofs.CountLemmas.{count-append, count-cons}
 use Rattle.xf_tree.proofs.RowLemmas.{reverse-take}
 use Rattle.xf_tree.proofs.StackLemmas.{stack, absent-above, absent-cons, absent-parts, has-numbers, still-shut, parted-ancestors}
@@ -90,20 +90,20 @@ open-count s d (y ∷ ys) apart =
     elim (cases_lt y.depth d) [
       | inl l ↦
           rw (lt-true y.depth d l) (
-            count-cons (is_among (f y ∷ S)) (f y) (map f ys)
-            ∙ ap (λ b. cond (is_element (f y).content && (b || has_number (f y).number S)) 1 0 + count_by (is_among (f y ∷ S)) (map f ys)) (eq-true (f y).number (f y).number refl)
-            ∙ ap (λ b. cond b 1 0 + count_by (is_among (f y ∷ S)) (map f ys)) (and-true (is_element (f y).content))
-            ∙ ap (λ k. cond (is_element (f y).content) 1 0 + k) (other-count (f y) S (map f ys) absent ∙ open-count s y.depth ys (apart-rest (f y) (map f ys) apart))
+          count-cons (is_among (f y ∷ S)) (f y) (map f ys)
+          ∙ ap (λ b. cond (is_element (f y).content && (b || has_number (f y).number S)) 1 0 + count_by (is_among (f y ∷ S)) (map f ys)) (eq-true (f y).number (f y).number refl)
+          ∙ ap (λ b. cond b 1 0 + count_by (is_among (f y ∷ S)) (map f ys)) (and-true (is_element (f y).content))
+          ∙ ap (λ k. cond (is_element (f y).content) 1 0 + k) (other-count (f y) S (map f ys) absent ∙ open-count s y.depth ys (apart-rest (f y) (map f ys) apart))
           )
       | inr l ↦
           let rest = still_above d (opened (map f ys)) in
           let same : still_above d S ≡ rest = still-shut d y.depth (opened (map f ys)) l in
           let none : has_number (f y).number rest ≡ false = absent-above (f y).number d (opened (map f ys)) (absent-opened (f y).number (map f ys) absent) in
           rw (lt-false y.depth d l) (
-            ap (λ o. count_by (is_among o) (f y ∷ map f ys)) same ∙ count-cons (is_among rest) (f y) (map f ys)
-            ∙ ap (λ b. cond (is_element (f y).content && b) 1 0 + count_by (is_among rest) (map f ys)) none
-            ∙ ap (λ b. cond b 1 0 + count_by (is_among rest) (map f ys)) (and-false (is_element (f y).content))
-            ∙ (let i = open-count s d ys (apart-rest (f y) (map f ys) apart) in omega arith)
+          ap (λ o. count_by (is_among o) (f y ∷ map f ys)) same ∙ count-cons (is_among rest) (f y) (map f ys)
+          ∙ ap (λ b. cond (is_element (f y).content && b) 1 0 + count_by (is_among rest) (map f ys)) none
+          ∙ ap (λ b. cond b 1 0 + count_by (is_among rest) (map f ys)) (and-false (is_element (f y).content))
+          ∙ (let i = open-count s d ys (apart-rest (f y) (map f ys) apart) in omega arith)
           )
     ]
 

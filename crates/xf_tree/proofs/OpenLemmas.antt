@@ -1,8 +1,7 @@
 -- How many elements a child of a node is below.
-use Rattle.std.proofs.Common.{◌≡◌, ℕ, zero, suc, ◌+◌, ◌-◌, ◌<◌, ◌≤◌, ◌==◌, ◌&&◌, ◌||◌, Bool, true, false, cond, if◌then◌else◌, List, [], ◌∷◌, ◌++◌, map, length, take, drop, get_or, nat_lt, reverse, Option, Some, None, append_assoc, append-nil, take-add, add-one, refl, sym, ap, ◌∙◌, subst, inl, inr, arith, length-append, length-take, length-drop}
-use Rattle.std.specs.Prelude.{count_by}
-use Rattle.std.proofs.lemmas.Bool.{cases_lt, cases_Bool}
-use Rattle.std.proofs.lemmas.List.{take-append-drop, reverse-append, take_more, drop-drop}
+use Rattle.std.proofs.Common.{◌≡◌, ℕ, ◌+◌, ◌-◌, ◌<◌, cond, List, [], ◌∷◌, ◌++◌, length, take, drop, get_or, reverse, Some, None, take-add, refl, sym, ap, ◌∙◌, inl, inr, arith}
+use Rattle.std.proofs.lemmas.Bool.{cases_lt}
+use Rattle.std.proofs.lemmas.List.{reverse-append}
 use Rattle.slab.specs.Slab.{Slab, get}
 use Rattle.xf_doc.specs.Forest.{is_element}
 use Rattle.xf_tree.specs.declared.rows.Row.{Row}
@@ -14,7 +13,7 @@ use Rattle.xf_tree.proofs.SizedLemmas.{lt-true, lt-false, AllDeep}
 use Rattle.xf_tree.proofs.RowLemmas.{reverse-take}
 use Rattle.xf_tree.proofs.ParentLemmas.{deep-reverse}
 use Rattle.xf_tree.proofs.PlaceLemmas.{split-at}
-use Rattle.xf_tree.proofs.AboveLemmas.{Above, above-is}
+use Rattle.xf_tree.proofs.AboveLemmas.{above-is}
 
 abbrev pub one_if : Slab Slot → Row → ℕ
 one_if s r = cond (is_element (content_in (get s r.key))) 1 0

@@ -1,17 +1,17 @@
 -- A tree moved below a row outside it: the rows.
-use Rattle.std.proofs.Common.{◌≡◌, ℕ, suc, ◌+◌, ◌-◌, ◌<◌, ◌≤◌, ◌^◌, List, [], ◌∷◌, ◌++◌, map, length, take, drop, get_or, reverse, refl, sym, ap, ◌∙◌, subst, arith, add-one, length-append, length-take, length-drop}
+use Rattle.std.proofs.Common.{◌≡◌, ℕ, ◌+◌, ◌-◌, ◌<◌, ◌≤◌, ◌^◌, List, ◌++◌, map, length, take, drop, get_or, reverse, refl, sym, ap, ◌∙◌, subst, arith, add-one, length-append, length-take, length-drop}
 use Rattle.std.specs.List.{All}
 use Rattle.std.proofs.lemmas.List.{take-append-drop, take-append-le, drop-append-le, drop-take, drop-drop, take-take, take_at, get_or-take, length-map}
 use Rattle.slab.specs.Slab.{Slab, get}
 use Rattle.xf_doc.specs.declared.content.Content.{Content}
 use Rattle.xf_tree.specs.declared.rows.Row.{Row}
 use Rattle.xf_tree.specs.declared.slot.Slot.{Slot}
-use Rattle.xf_tree.specs.Rows.{Sized, deeper, deepened, grown, tree_of, after_tree, rest_of, top_depth, IsPaste}
+use Rattle.xf_tree.specs.Rows.{Sized, deeper, deepened, grown, tree_of, after_tree, rest_of, IsPaste}
 use Rattle.xf_tree.specs.Leaves.{parts_in, NotDeeper, AreLeaves}
 use Rattle.xf_tree.specs.Tree.{node_of, content_in, no_row, AreSteps, depths}
 use Rattle.xf_tree.specs.Below.{part_at, row_below, IsBehind, IsPlaced}
 use Rattle.xf_tree.proofs.SizedLemmas.{lt-false, deeper-append, deeper-less, sized-front}
-use Rattle.xf_tree.proofs.CutLemmas.{all-deep-zero, tree-parts, depth-at}
+use Rattle.xf_tree.proofs.CutLemmas.{all-deep-zero, tree-parts}
 use Rattle.xf_tree.proofs.PlaceLemmas.{split-at}
 use Rattle.xf_tree.proofs.OverLemmas.{rest-sized}
 use Rattle.xf_tree.proofs.RootedLemmas.{AllUnder, under-append, under-parts, under-index}

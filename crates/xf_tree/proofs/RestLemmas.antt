@@ -1,5 +1,5 @@
 -- The rows without a tree that stands by itself.
-use Rattle.std.proofs.Common.{◌≡◌, ℕ, suc, ◌+◌, ◌-◌, ◌<◌, ◌≤◌, ◌^◌, List, [], ◌∷◌, ◌++◌, map, length, take, drop, get_or, refl, sym, ap, ◌∙◌, subst, arith, length-append, length-take, length-drop}
+use Rattle.std.proofs.Common.{◌≡◌, ℕ, suc, ◌+◌, ◌<◌, ◌≤◌, List, [], ◌∷◌, ◌++◌, map, length, take, drop, get_or, sym, ap, ◌∙◌, subst, arith}
 use Rattle.std.proofs.lemmas.List.{take-append-drop, map-append}
 use Rattle.slab.specs.Slab.{Slab}
 use Rattle.xf_tree.specs.declared.rows.Row.{Row}
@@ -9,7 +9,7 @@ use Rattle.xf_tree.specs.Leaves.{parts_in, NotDeeper, AreLeaves}
 use Rattle.xf_tree.specs.Tree.{node_of, no_row, AreSteps, depths}
 use Rattle.xf_tree.proofs.CutLemmas.{tree-parts}
 use Rattle.xf_tree.proofs.StepLemmas.{most_after, steps-append, steps-parts}
-use Rattle.xf_tree.proofs.LeafLemmas.{parts-append, steps-not_deeper, leaves-parts}
+use Rattle.xf_tree.proofs.LeafLemmas.{parts-append, leaves-parts}
 use Rattle.xf_tree.proofs.StateLemmas.{without-leaves}
 use Rattle.xf_tree.proofs.PlaceLemmas.{split-at}
 use Rattle.xf_tree.proofs.OverLemmas.{rest-sized, first-zero}
@@ -30,8 +30,7 @@ module _ (s : Slab Slot) (at : ℕ) (old : List Row) (h : at < length old) (top 
       let r = rest-sized at old h top sized in
       let whole = steps-parts 0 (depths (take at old)) (depths (drop at old)) (subst (AreSteps 0) (ap depths (sym (take-append-drop at old)) ∙ map-append g (take at old) (drop at old)) steps) in
       let most = most_after 0 (depths (take at old)) in
-      let parts = steps-parts most (depths T) (depths after) (subst (AreSteps most) (ap depths (sym (tree-parts (drop at old))) ∙ map-append g T after) whole.1) in
-      (
+      let parts = steps-parts most (depths T) (depths after) (subst (AreSteps most) (ap depths (sym (tree-parts (drop at old))) ∙ map-append g T after) whole.1) in (
         subst (AreSteps 0) (sym (map-append g (take at old) after)) (steps-append 0 (depths (take at old)) (depths after) whole.0 (first-zero after _ r.1 parts.1 most)),
         first-zero T _ (top-stops at old h top) parts.0 0,
       )

@@ -1,5 +1,5 @@
 -- Where a tree goes below a parent, and how many elements it is below then.
-use Rattle.std.specs.Prelude.{ℕ, suc, ◌≡◌, ◌+◌, ◌-◌, ◌≤◌, ◌<◌, ◌==◌, ◌&&◌, ◌||◌, cond, nat_lt, slice_index_or, List, [], ◌∷◌, ◌++◌, map, take, drop, reverse, length, if◌then◌else◌}
+use Rattle.std.specs.Prelude.{ℕ, suc, ◌≡◌, ◌+◌, ◌<◌, ◌==◌, ◌&&◌, ◌||◌, cond, nat_lt, slice_index_or, List, [], ◌∷◌, ◌++◌, map, take, drop, reverse, length, if◌then◌else◌}
 use Rattle.slab.specs.Slab.{Slab, get}
 use Rattle.xf_doc.specs.declared.content.Node.{Node}
 use Rattle.xf_doc.specs.declared.content.Content.{Content}

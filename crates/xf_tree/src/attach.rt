@@ -1,12 +1,12 @@
 //! A detached tree comes into place below a parent.
-ghost use Rattle.std.specs.Prelude.{◌≡◌, ◌+◌, ◌≤◌, ◌<◌, ◌^◌, ◌⊎◌, suc, map, take, drop, reverse, length, nat_lt, slice_index_or, vec_capacity, OnErr, IfSome};
+ghost use Rattle.std.specs.Prelude.{◌≡◌, ◌+◌, ◌≤◌, ◌<◌, ◌^◌, ◌⊎◌, map, drop, length, slice_index_or, vec_capacity, OnErr};
 ghost use Rattle.std.specs.Result.{result_map_both};
 ghost use Rattle.slab.specs.Slab.{get};
-ghost use Rattle.xf_doc.specs.Forest.{IsLive, is_element, tree_of};
+ghost use Rattle.xf_doc.specs.Forest.{IsLive, tree_of};
 ghost use Rattle.xf_doc.specs.Changes.{placed, attached, elements_above};
 ghost use Rattle.xf_doc.specs.Limits.{limits, is_too_deep};
 ghost use Rattle.xf_doc.specs.Needs.{MayAttach};
-ghost use Rattle.xf_doc.specs.Plant.{is_less, written_of};
+ghost use Rattle.xf_doc.specs.Plant.{written_of};
 ghost use Rattle.xf_doc.specs.Visit.{visits};
 ghost use Rattle.xf_tree.specs.Rows.{Sized, tree_of as rows_of_tree};
 ghost use Rattle.xf_tree.specs.Leaves.{AreLeaves, parts_in};
@@ -163,13 +163,7 @@ fn put_behind(rows: &mut Vec<Row>, at: usize, above: usize) -> (usize, usize)
 }
 
 /// The row where the node under a key goes below the one at a place.
-fn place_below(
-    rows: &[Row],
-    slots: &Slab<Slot>,
-    above: usize,
-    key: usize,
-    place: u32,
-) -> usize
+fn place_below(rows: &[Row], slots: &Slab<Slot>, above: usize, key: usize, place: u32) -> usize
     requires within { above < length rows.now }
     requires fits { (slice_index_or rows.now above no_row).depth + 1 < 2 ^ 32 }
     requires sized { Sized rows.now }

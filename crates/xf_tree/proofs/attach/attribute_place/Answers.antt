@@ -1,8 +1,8 @@
-use Rattle.std.proofs.Common.{◌≡◌, ◌+◌, ◌≤◌, ◌<◌, length, get_or, sym, ◌∙◌, arith}
+use Rattle.std.proofs.Common.{◌+◌, get_or, sym, ◌∙◌, arith}
 use Rattle.slab.specs.Slab.{get}
 use Rattle.xf_doc.specs.Plant.{written_of}
 use Rattle.xf_tree.specs.Tree.{content_in, no_row}
-use Rattle.xf_tree.proofs.BelowLemmas.{attribute-more, attribute-stop, attribute-end}
+use Rattle.xf_tree.proofs.BelowLemmas.{attribute-more}
 use Rattle.xf_tree.proofs.attach.attribute_place.Goals as goal
 
 pub loop-next-preserved : goal.loop-next-preserved

@@ -1,7 +1,6 @@
-use Rattle.std.proofs.Common.{◌≡◌, ℕ, ◌+◌, ◌-◌, ◌<◌, ◌≤◌, length, map, drop, get_or, refl, sym, ap, ◌∙◌, arith}
+use Rattle.std.proofs.Common.{◌≡◌, ℕ, ◌+◌, ◌<◌, length, map, drop, get_or, refl, sym, ap, ◌∙◌, arith}
 use Rattle.xf_tree.specs.Tree.{node_of, no_row}
 use Rattle.xf_tree.specs.Below.{child_at}
-use Rattle.xf_tree.proofs.CutLemmas.{tree-within}
 use Rattle.xf_tree.proofs.PlaceLemmas.{tree-size}
 use Rattle.xf_tree.proofs.AboveLemmas.{inside-deeper}
 use Rattle.xf_tree.proofs.BelowLemmas.{child-other, child-more, child-here, child-none, tree-inside}

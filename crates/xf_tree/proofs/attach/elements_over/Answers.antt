@@ -1,9 +1,5 @@
-use Rattle.std.proofs.Common.{◌≡◌, ℕ, ◌+◌, ◌<◌, ◌≤◌, cond, get_or, Bool, sym, ap, ◌∙◌, inl, inr, arith}
-use Rattle.std.proofs.lemmas.Bool.{cases_Bool}
-use Rattle.slab.specs.Slab.{get}
-use Rattle.xf_doc.specs.Forest.{is_element}
-use Rattle.xf_tree.specs.Tree.{content_in, no_row}
-use Rattle.xf_tree.proofs.OpenLemmas.{one_if, over-more, over-top}
+use Rattle.std.proofs.Common.{ℕ, cond, sym, ap, ◌∙◌, arith}
+use Rattle.xf_tree.proofs.OpenLemmas.{over-more, over-top}
 use Rattle.xf_tree.proofs.attach.elements_over.Goals as goal
 use Rattle.xf_tree.proofs.attach.elements_over.Goals.{then-is_element_at, else-is_element_at}
 

@@ -1,14 +1,13 @@
-use Rattle.std.proofs.Common.{◌≡◌, ℕ, ◌+◌, ◌<◌, ◌≤◌, ◌^◌, List, length, take, drop, get_or, refl, sym, ap, ◌∙◌, subst, arith}
+use Rattle.std.proofs.Common.{◌≡◌, ◌+◌, ◌<◌, ◌≤◌, ◌^◌, length, take, drop, get_or, sym, ap, ◌∙◌, subst, arith}
 use Rattle.std.specs.List.{All}
 use Rattle.std.proofs.lemmas.List.{get_or_default}
 use Rattle.slab.specs.Slab.{get}
 use Rattle.xf_tree.specs.declared.rows.Row.{Row}
 use Rattle.xf_tree.specs.Rows.{Sized, deeper, IsPaste}
-use Rattle.xf_tree.specs.Tree.{content_in, no_row, depths}
+use Rattle.xf_tree.specs.Tree.{content_in, no_row}
 use Rattle.xf_tree.specs.Below.{row_below}
-use Rattle.xf_tree.proofs.PlaceLemmas.{split-at}
 use Rattle.xf_tree.proofs.RootedLemmas.{under-steps, under-index}
-use Rattle.xf_tree.proofs.PlacedLemmas.{front-sized, front-fits, to, place-order, place-stops, place-fits, placed-is}
+use Rattle.xf_tree.proofs.PlacedLemmas.{front-sized, front-fits, place-order, place-stops, place-fits, placed-is}
 use Rattle.xf_tree.proofs.attach.place_tree.Goals as goal
 use Rattle.xf_tree.proofs.attach.place_tree.Goals.{After-index-3, After-deref-2, After-place_below-to}
 

@@ -1,4 +1,4 @@
-use Rattle.std.proofs.Common.{◌≡◌, ◌+◌, ◌-◌, ◌<◌, ◌≤◌, length, drop, ap, inl, inr, arith}
+use Rattle.std.proofs.Common.{◌+◌, ◌-◌, ◌≤◌, length, drop, ap, inl, inr, arith}
 use Rattle.xf_tree.specs.Rows.{tree_of}
 use Rattle.xf_tree.proofs.BehindLemmas.{last-sized, last-behind}
 use Rattle.xf_tree.proofs.attach.put_behind.Goals as goal

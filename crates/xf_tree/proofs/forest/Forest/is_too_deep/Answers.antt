@@ -1,11 +1,9 @@
-use Rattle.std.proofs.Common.{◌≡◌, ℕ, ◌+◌, ◌-◌, List, length, map, take, drop, sym, ap, ◌∙◌, subst, arith}
-use Rattle.xf_doc.specs.declared.content.Node.{Node}
+use Rattle.std.proofs.Common.{◌≡◌, ◌-◌, length, map, take, drop, sym, ap, ◌∙◌, subst, arith}
 use Rattle.xf_doc.specs.Forest.{tree_of}
 use Rattle.xf_doc.specs.Changes.{elements_above}
 use Rattle.xf_doc.specs.Limits.{is_too_deep}
 use Rattle.xf_doc.specs.Visit.{visits}
 use Rattle.xf_doc.specs.Texts.{Keeping}
-use Rattle.xf_tree.specs.declared.rows.Row.{Row}
 use Rattle.xf_tree.specs.Rows.{tree_of as row_tree}
 use Rattle.xf_tree.specs.Tree.{StandsAt, node_of}
 use Rattle.xf_tree.specs.Below.{elements_over}

@@ -1,13 +1,13 @@
-use Rattle.std.proofs.Common.{◌≡◌, ℕ, ◌+◌, ◌<◌, ◌≤◌, ◌==◌, ◌⊎◌, List, length, map, drop, get_or, Some, None, false, true, option_map, inl, inr, sym, ap, ◌∙◌, subst, arith}
+use Rattle.std.proofs.Common.{◌≡◌, ◌==◌, List, map, get_or, false, true, option_map, inl, inr, sym, ap, ◌∙◌, subst}
 use Rattle.slab.specs.Slab.{get}
 use Rattle.xf_doc.specs.declared.content.Node.{Node}
 use Rattle.xf_doc.specs.declared.content.Kind.TheVariants as kind
-use Rattle.xf_doc.specs.Forest.{has_number, kind_of, kind_at, tree_of, is_root}
+use Rattle.xf_doc.specs.Forest.{has_number, kind_of, tree_of, is_root}
 use Rattle.xf_doc.specs.Changes.{placed}
 use Rattle.xf_doc.specs.Needs.{is_top, MayStand}
 use Rattle.xf_doc.specs.Texts.{Keeping}
 use Rattle.xf_tree.specs.Leaves.{is_leaf}
-use Rattle.xf_tree.specs.Tree.{StandsAt, IsSound, node_of, kept_of, content_in, keeping_of, no_row}
+use Rattle.xf_tree.specs.Tree.{StandsAt, node_of, kept_of, content_in, keeping_of, no_row}
 use Rattle.xf_tree.proofs.PlaceLemmas.{stands, one_of, content-means}
 use Rattle.xf_tree.proofs.AddLemmas.{named-meets, zero-depth}
 use Rattle.xf_tree.proofs.NeedLemmas.{none-named, none-kind, node-kind, parent-kind, no-root_content, no-leaf_content}
@@ -21,8 +21,8 @@ returns-in_default c =
     let n = c.args.node.number in
     let s = c.self.inside.slots in
     absurd (
-      let absent = subst (λ r. has_number n (map (node_of s) r) ≡ false) c.deref.ensures.value c.in_default.ensures in
-      none-named n (λ (x : Node). x.depth == 0) _ absent (subst (λ (k : Keeping). is_top n k.forest.nodes ≡ true) (sym c.self.view_is) c.requires.detached)
+    let absent = subst (λ r. has_number n (map (node_of s) r) ≡ false) c.deref.ensures.value c.in_default.ensures in
+    none-named n (λ (x : Node). x.depth == 0) _ absent (subst (λ (k : Keeping). is_top n k.forest.nodes ≡ true) (sym c.self.view_is) c.requires.detached)
     )
 
 pub returns-in_default-row_of : goal.returns-in_default-row_of
@@ -31,9 +31,9 @@ returns-in_default-row_of c =
     let m = c.args.parent.number in
     let s = c.self.inside.slots in
     absurd (
-      let absent = subst (λ r. has_number m (map (node_of s) r) ≡ false) c.deref-3.ensures.value c.in_default-row_of.ensures in
-      let may = subst (λ (k : Keeping). MayStand n m c.args.place k.forest) (sym c.self.view_is) c.requires.stands in
-      elim (parent-kind n m c.args.place _ may) [ inl e ↦ none-kind m kind.Element _ absent e | inr e ↦ none-kind m kind.Root _ absent e ]
+    let absent = subst (λ r. has_number m (map (node_of s) r) ≡ false) c.deref-3.ensures.value c.in_default-row_of.ensures in
+    let may = subst (λ (k : Keeping). MayStand n m c.args.place k.forest) (sym c.self.view_is) c.requires.stands in
+    elim (parent-kind n m c.args.place _ may) [ inl e ↦ none-kind m kind.Element _ absent e | inr e ↦ none-kind m kind.Root _ absent e ]
     )
 
 -- where the node's row stands, and the parent's
