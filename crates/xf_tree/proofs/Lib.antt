@@ -28,3 +28,6 @@ pub mod WalkLemmas
 pub mod FoundLemmas
 pub mod SiblingLemmas
 pub mod AxisLemmas
+pub mod AlikeLemmas
+pub mod PathLemmas
+pub mod PathTextLemmas

@@ -3,3 +3,4 @@ pub mod Tree
 pub mod Calls
 pub mod Contents
 pub mod Walks
+pub mod Siblings

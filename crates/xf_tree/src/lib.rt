@@ -7,9 +7,11 @@ mod fault;
 mod forest;
 mod lookup;
 mod name;
+mod path;
 mod plant;
 mod root;
 mod rows;
+mod siblings;
 mod slot;
 #[cfg(test)]
 mod tests;

@@ -43,6 +43,9 @@ pub fn parent_row(rows: &[Row], hints: &[Hint], at: usize) -> Option<usize>
     ensures within { IfSome result (λ above. above < at) }
 {
     let row = rows[at];
+    if row.depth == 0 {
+        return None;
+    }
     if let Some(hint) = hints.get(row.key) {
         if let Some(beyond) = hints.get(hint.parent) {
             let above = beyond.row;
