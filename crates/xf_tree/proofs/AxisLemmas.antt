@@ -212,13 +212,13 @@ preceding-axis s rows above at nodes h e other =
     sym (preceding-is s rows at nodes h ∙ ap reverse (siblings-are s rows above at (visits (map (node_of s) (take at rows))) f other ∙ f.earlier))
 
 -- the rows behind the tree at a place, to the end of its parent's
-pub record Beside (s : Slab Slot) (rows : List Row) (at stop end : ℕ) : Type 0 where
+pub record Beside (q : Content → Bool) (s : Slab Slot) (rows : List Row) (at stop end : ℕ) : Type 0 where
   pub deep : AllDeep (get_or rows at no_row).depth (between stop end rows)
-  pub same : chosen s (is_kin (get_or rows at no_row).depth false) (between stop end rows) ≡ chosen s (is_kin (get_or rows at no_row).depth false) (between (at + 1) end rows)
+  pub same : chosen s (is_kid q (get_or rows at no_row).depth) (between stop end rows) ≡ chosen s (is_kid q (get_or rows at no_row).depth) (between (at + 1) end rows)
 
-pub beside : (s : Slab Slot) (rows : List Row) (above at stop end : ℕ) → Family no_attribute s rows above at → stop ≡ at + length (tree_of (drop at rows)) → end ≡ above + length (tree_of (drop above rows))
-    → Beside s rows at stop end
-beside s rows above at stop end f e g =
+pub beside : (q : Content → Bool) (s : Slab Slot) (rows : List Row) (above at stop end : ℕ) → Family q s rows above at → stop ≡ at + length (tree_of (drop at rows)) → end ≡ above + length (tree_of (drop above rows))
+    → Beside q s rows at stop end
+beside q s rows above at stop end f e g =
     let p = get_or rows above no_row in
     let x = get_or rows at no_row in
     let later = drop (above + 1) rows in
@@ -235,7 +235,7 @@ beside s rows above at stop end f e g =
     let from_at : AllDeep (p.depth + 1) (between at end rows) =
     subst (AllDeep (p.depth + 1)) (ap (λ n. take n (drop k later)) left ∙ ap (take (end - at)) (drop-drop k (above + 1) rows ∙ ap (λ n. drop n rows) sum)) (deep-behind (p.depth + 1) (end - (above + 1)) k later all) in
     let deep = subst (λ d. AllDeep d (between at end rows)) (sym f.depth) from_at in
-    let b = behind s x.depth false rows at end stop (omega arith) (omega arith) deep e in
+    let b = behind s x.depth q rows at end stop (omega arith) (omega arith) deep e in
     record { deep = b.deep; same = b.same }
 
 pub following-axis : (s : Slab Slot) (rows : List Row) (above at stop end : ℕ) → AreNodes s rows → at < length rows → Some above ≡ parent_row_of rows at
@@ -243,7 +243,7 @@ pub following-axis : (s : Slab Slot) (rows : List Row) (above at stop end : ℕ)
     → chosen s (is_kin (get_or rows at no_row).depth false) (between stop end rows) ≡ axis_of axis.FollowingSibling (number_of_row s rows at) (visits (map (node_of s) rows))
 following-axis s rows above at stop end nodes h e other to last =
     let f = family no_attribute s rows above at nodes h e in
-    let b = beside s rows above at stop end f to last in
+    let b = beside no_attribute s rows above at stop end f to last in
     let d = (get_or rows at no_row).depth in
     sym (following-is s rows at nodes h ∙ siblings-are s rows above at (visits_behind s rows at) f other ∙ later-kids no_attribute s rows above at nodes h f
     ∙ ap (λ k. chosen s (is_kin d false) (between (at + 1) k rows)) (sym last) ∙ sym b.same)

@@ -49,3 +49,6 @@ pub mod AttachedLemmas
 pub mod NeedLemmas
 pub mod OpenLemmas
 pub mod ElementLemmas
+pub mod AlikeLemmas
+pub mod PathLemmas
+pub mod PathTextLemmas

@@ -68,6 +68,14 @@ parent-means s n at rows here few =
     let h : top_depth (drop at rows) ≡ x.depth = ap top_depth (split-at at rows no_row here.within) in
     a ∙ b ∙ d ∙ e ∙ ap (λ l. number_at s l (less_deep x.depth (reverse us))) g ∙ ap (λ t. number_at s rows (less_deep t (reverse us))) (sym h)
 
+less-none : (ys : List Row) → less_deep 0 ys ≡ None
+less-none [] = refl
+less-none (y ∷ ys) = let l : 0 ≤ y.depth = omega arith in rw (lt-false y.depth 0 l) (less-none ys)
+
+-- nothing is less deep than a top
+pub top-alone : (rows : List Row) (at : ℕ) → at < length rows → (get_or rows at no_row).depth ≡ 0 → None ≡ parent_row_of rows at
+top-alone rows at h e = sym (ap (λ d. less_deep d (reverse (take at rows))) (ap top_depth (split-at at rows no_row h) ∙ e) ∙ less-none (reverse (take at rows)))
+
 -- a hint that the sizes bear out: the place is within the tree of a row one less deep
 pub deep-prefix : (d k : ℕ) (xs : List Row) → k ≤ deeper d xs → AllDeep (d + 1) (take k xs)
 deep-prefix d zero xs h = tt

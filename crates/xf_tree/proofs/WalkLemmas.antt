@@ -7,15 +7,17 @@ use Rattle.std.proofs.lemmas.List.Elements.{filter-append}
 use Rattle.std.proofs.Math.Seq.{get_or-append_seam}
 use Rattle.slab.specs.Slab.{Slab, get}
 use Rattle.xf_doc.specs.declared.content.Node.{Node}
+use Rattle.xf_doc.specs.declared.content.Content.{Content}
 use Rattle.xf_doc.specs.Visit.{numbers}
 use Rattle.xf_tree.specs.declared.rows.Row.{Row}
 use Rattle.xf_tree.specs.declared.slot.Slot.{Slot}
 use Rattle.xf_tree.specs.Rows.{AllDeep, deeper, tree_of, top_depth, less_deep}
-use Rattle.xf_tree.specs.Tree.{node_of, number_in, no_row, is_kin}
+use Rattle.xf_tree.specs.Tree.{node_of, number_in, no_row}
 use Rattle.xf_tree.specs.Walks.{between, chosen, climbed}
 use Rattle.xf_tree.proofs.SizedLemmas.{lt-true, lt-false}
 use Rattle.xf_tree.proofs.NodeLemmas.{eq-false}
 use Rattle.xf_tree.proofs.PlaceLemmas.{split-at, tree-size}
+use Rattle.xf_tree.proofs.KidLemmas.{is_kid}
 use Rattle.xf_tree.proofs.AboveLemmas.{Above, deep-at}
 
 -- ---- rows between two places
@@ -58,28 +60,28 @@ chosen-yes s test x xs e = rw e refl
 pub chosen-no : (s : Slab Slot) (test : Node → Bool) (x : Row) (xs : List Row) → test (node_of s x) ≡ false → chosen s test (x ∷ xs) ≡ chosen s test xs
 chosen-no s test x xs e = rw e refl
 
-pub deep-no : (s : Slab Slot) (d : ℕ) (wanted : Bool) (x : Row) → d < x.depth → is_kin d wanted (node_of s x) ≡ false
-deep-no s d wanted x h =
+pub deep-no : (s : Slab Slot) (d : ℕ) (q : Content → Bool) (x : Row) → d < x.depth → is_kid q d (node_of s x) ≡ false
+deep-no s d q x h =
     let other : (x.depth == d) ≡ false = eq-false x.depth d (λ e. let z : ⊥ = omega arith in z) in
     rw other refl
 
--- among deeper rows there is none
-pub deep-none : (s : Slab Slot) (d : ℕ) (wanted : Bool) (xs : List Row) → AllDeep (d + 1) xs → chosen s (is_kin d wanted) xs ≡ []
-deep-none s d wanted [] all = refl
-deep-none s d wanted (x ∷ xs) all = chosen-no s (is_kin d wanted) x xs (deep-no s d wanted x (omega (arith, all.0))) ∙ deep-none s d wanted xs all.1
+-- among deeper rows there is none at this depth
+pub deep-none : (s : Slab Slot) (d : ℕ) (q : Content → Bool) (xs : List Row) → AllDeep (d + 1) xs → chosen s (is_kid q d) xs ≡ []
+deep-none s d q [] all = refl
+deep-none s d q (x ∷ xs) all = chosen-no s (is_kid q d) x xs (deep-no s d q x (omega (arith, all.0))) ∙ deep-none s d q xs all.1
 
 -- ---- past the tree at a place
 
-kin-behind : (s : Slab Slot) (d e : ℕ) (wanted : Bool) (m : ℕ) (ys : List Row) → d ≤ e
-    → chosen s (is_kin d wanted) (take (m - deeper e ys) (drop (deeper e ys) ys)) ≡ chosen s (is_kin d wanted) (take m ys)
-kin-behind s d e wanted m [] h = let z : m - 0 ≡ m = omega arith in ap (λ n. chosen s (is_kin d wanted) (take n [])) z
-kin-behind s d e wanted zero (y ∷ ys) h = let z : 0 - deeper e (y ∷ ys) ≡ 0 = omega arith in ap (λ n. chosen s (is_kin d wanted) (take n (drop (deeper e (y ∷ ys)) (y ∷ ys)))) z
-kin-behind s d e wanted (suc m) (y ∷ ys) h = elim (cases_lt e y.depth) [
+kin-behind : (s : Slab Slot) (d e : ℕ) (q : Content → Bool) (m : ℕ) (ys : List Row) → d ≤ e
+    → chosen s (is_kid q d) (take (m - deeper e ys) (drop (deeper e ys) ys)) ≡ chosen s (is_kid q d) (take m ys)
+kin-behind s d e q m [] h = let z : m - 0 ≡ m = omega arith in ap (λ n. chosen s (is_kid q d) (take n [])) z
+kin-behind s d e q zero (y ∷ ys) h = let z : 0 - deeper e (y ∷ ys) ≡ 0 = omega arith in ap (λ n. chosen s (is_kid q d) (take n (drop (deeper e (y ∷ ys)) (y ∷ ys)))) z
+kin-behind s d e q (suc m) (y ∷ ys) h = elim (cases_lt e y.depth) [
   | inl l ↦
-      let other = chosen-no s (is_kin d wanted) y (take m ys) (deep-no s d wanted y (omega arith)) in
+      let other = chosen-no s (is_kid q d) y (take m ys) (deep-no s d q y (omega arith)) in
       let z : suc m - suc (deeper e ys) ≡ m - deeper e ys = omega arith in
-      rw (lt-true e y.depth l) (ap (λ n. chosen s (is_kin d wanted) (take n (drop (deeper e ys) ys))) z ∙ kin-behind s d e wanted m ys h ∙ sym other)
-  | inr l ↦ let z : suc m - 0 ≡ suc m = omega arith in rw (lt-false e y.depth l) (ap (λ n. chosen s (is_kin d wanted) (take n (y ∷ ys))) z)
+      rw (lt-true e y.depth l) (ap (λ n. chosen s (is_kid q d) (take n (drop (deeper e ys) ys))) z ∙ kin-behind s d e q m ys h ∙ sym other)
+  | inr l ↦ let z : suc m - 0 ≡ suc m = omega arith in rw (lt-false e y.depth l) (ap (λ n. chosen s (is_kid q d) (take n (y ∷ ys))) z)
 ]
 
 pub deep-behind : (d m k : ℕ) (ys : List Row) → AllDeep d (take m ys) → AllDeep d (take (m - k) (drop k ys))
@@ -92,16 +94,16 @@ deep-behind d m (suc k) [] all = subst (λ l. AllDeep d l) (sym (nothing (m - su
 deep-behind d zero (suc k) (y ∷ ys) all = let z : 0 - suc k ≡ 0 = omega arith in subst (λ n. AllDeep d (take n (drop k ys))) (sym z) tt
 deep-behind d (suc m) (suc k) (y ∷ ys) all = let z : suc m - suc k ≡ m - k = omega arith in subst (λ n. AllDeep d (take n (drop k ys))) (sym z) (deep-behind d m k ys all.1)
 
-pub record Behind (s : Slab Slot) (d : ℕ) (wanted : Bool) (rows : List Row) (next end stop : ℕ) : Type 0 where
+pub record Behind (s : Slab Slot) (d : ℕ) (q : Content → Bool) (rows : List Row) (next end stop : ℕ) : Type 0 where
   pub further : next < stop
   pub least : d ≤ (get_or rows next no_row).depth
   pub first : between next end rows ≡ get_or rows next no_row ∷ between (next + 1) end rows
-  pub same : chosen s (is_kin d wanted) (between stop end rows) ≡ chosen s (is_kin d wanted) (between (next + 1) end rows)
+  pub same : chosen s (is_kid q d) (between stop end rows) ≡ chosen s (is_kid q d) (between (next + 1) end rows)
   pub deep : AllDeep d (between stop end rows)
 
-pub behind : (s : Slab Slot) (d : ℕ) (wanted : Bool) (rows : List Row) (next end stop : ℕ) → next < end → end ≤ length rows → AllDeep d (between next end rows)
-    → stop ≡ next + length (tree_of (drop next rows)) → Behind s d wanted rows next end stop
-behind s d wanted rows next end stop h l all e =
+pub behind : (s : Slab Slot) (d : ℕ) (q : Content → Bool) (rows : List Row) (next end stop : ℕ) → next < end → end ≤ length rows → AllDeep d (between next end rows)
+    → stop ≡ next + length (tree_of (drop next rows)) → Behind s d q rows next end stop
+behind s d q rows next end stop h l all e =
     let x = get_or rows next no_row in
     let xs = drop (next + 1) rows in
     let w = deeper x.depth xs in
@@ -117,43 +119,43 @@ behind s d wanted rows next end stop h l all e =
       further = omega arith;
       least = deep.0;
       first = first;
-      same = ap (chosen s (is_kin d wanted)) (sym is) ∙ kin-behind s d x.depth wanted m xs deep.0;
+      same = ap (chosen s (is_kid q d)) (sym is) ∙ kin-behind s d x.depth q m xs deep.0;
       deep = subst (AllDeep d) is (deep-behind d m w xs deep.1);
     }
 
-pub kin-passed : (s : Slab Slot) (d : ℕ) (wanted : Bool) (rows : List Row) (next end stop : ℕ) → Behind s d wanted rows next end stop → is_kin d wanted (node_of s (get_or rows next no_row)) ≡ false
-    → chosen s (is_kin d wanted) (between stop end rows) ≡ chosen s (is_kin d wanted) (between next end rows)
-kin-passed s d wanted rows next end stop b other =
-    b.same ∙ sym (ap (chosen s (is_kin d wanted)) b.first ∙ chosen-no s (is_kin d wanted) (get_or rows next no_row) (between (next + 1) end rows) other)
+pub kin-passed : (s : Slab Slot) (d : ℕ) (q : Content → Bool) (rows : List Row) (next end stop : ℕ) → Behind s d q rows next end stop → is_kid q d (node_of s (get_or rows next no_row)) ≡ false
+    → chosen s (is_kid q d) (between stop end rows) ≡ chosen s (is_kid q d) (between next end rows)
+kin-passed s d q rows next end stop b other =
+    b.same ∙ sym (ap (chosen s (is_kid q d)) b.first ∙ chosen-no s (is_kid q d) (get_or rows next no_row) (between (next + 1) end rows) other)
 
-pub kin-found : (s : Slab Slot) (d : ℕ) (wanted : Bool) (rows : List Row) (next end stop : ℕ) → Behind s d wanted rows next end stop → is_kin d wanted (node_of s (get_or rows next no_row)) ≡ true
-    → chosen s (is_kin d wanted) (between next end rows) ≡ number_in (get s (get_or rows next no_row).key) ∷ chosen s (is_kin d wanted) (between stop end rows)
-kin-found s d wanted rows next end stop b is =
-    ap (chosen s (is_kin d wanted)) b.first ∙ chosen-yes s (is_kin d wanted) (get_or rows next no_row) (between (next + 1) end rows) is
+pub kin-found : (s : Slab Slot) (d : ℕ) (q : Content → Bool) (rows : List Row) (next end stop : ℕ) → Behind s d q rows next end stop → is_kid q d (node_of s (get_or rows next no_row)) ≡ true
+    → chosen s (is_kid q d) (between next end rows) ≡ number_in (get s (get_or rows next no_row).key) ∷ chosen s (is_kid q d) (between stop end rows)
+kin-found s d q rows next end stop b is =
+    ap (chosen s (is_kid q d)) b.first ∙ chosen-yes s (is_kid q d) (get_or rows next no_row) (between (next + 1) end rows) is
     ∙ ap (λ l. number_in (get s (get_or rows next no_row).key) ∷ l) (sym b.same)
 
 -- ---- going back
 
 -- what is deeper at the end makes no difference
-pub kin-before_deep : (s : Slab Slot) (d : ℕ) (wanted : Bool) (rows : List Row) (from mid to : ℕ) → from ≤ mid → mid ≤ to → AllDeep (d + 1) (between mid to rows)
-    → chosen s (is_kin d wanted) (between from mid rows) ≡ chosen s (is_kin d wanted) (between from to rows)
-kin-before_deep s d wanted rows from mid to h l all =
-    sym (ap (chosen s (is_kin d wanted)) (between-parts from mid to rows h l) ∙ chosen-append s (is_kin d wanted) (between from mid rows) (between mid to rows)
-    ∙ ap (λ l. chosen s (is_kin d wanted) (between from mid rows) ++ l) (deep-none s d wanted (between mid to rows) all) ∙ append-nil (chosen s (is_kin d wanted) (between from mid rows)))
+pub kin-before_deep : (s : Slab Slot) (d : ℕ) (q : Content → Bool) (rows : List Row) (from mid to : ℕ) → from ≤ mid → mid ≤ to → AllDeep (d + 1) (between mid to rows)
+    → chosen s (is_kid q d) (between from mid rows) ≡ chosen s (is_kid q d) (between from to rows)
+kin-before_deep s d q rows from mid to h l all =
+    sym (ap (chosen s (is_kid q d)) (between-parts from mid to rows h l) ∙ chosen-append s (is_kid q d) (between from mid rows) (between mid to rows)
+    ∙ ap (λ l. chosen s (is_kid q d) (between from mid rows) ++ l) (deep-none s d q (between mid to rows) all) ∙ append-nil (chosen s (is_kid q d) (between from mid rows)))
 
-pub kin-back_none : (s : Slab Slot) (d : ℕ) (wanted : Bool) (rows : List Row) (from at : ℕ) → from ≤ at → at < length rows → is_kin d wanted (node_of s (get_or rows at no_row)) ≡ false
-    → chosen s (is_kin d wanted) (between from (at + 1) rows) ≡ chosen s (is_kin d wanted) (between from at rows)
-kin-back_none s d wanted rows from at h l other =
-    ap (chosen s (is_kin d wanted)) (between-last from at rows h l) ∙ chosen-append s (is_kin d wanted) (between from at rows) (get_or rows at no_row ∷ [])
-    ∙ ap (λ l. chosen s (is_kin d wanted) (between from at rows) ++ l) (chosen-no s (is_kin d wanted) (get_or rows at no_row) [] other) ∙ append-nil (chosen s (is_kin d wanted) (between from at rows))
+pub kin-back_none : (s : Slab Slot) (d : ℕ) (q : Content → Bool) (rows : List Row) (from at : ℕ) → from ≤ at → at < length rows → is_kid q d (node_of s (get_or rows at no_row)) ≡ false
+    → chosen s (is_kid q d) (between from (at + 1) rows) ≡ chosen s (is_kid q d) (between from at rows)
+kin-back_none s d q rows from at h l other =
+    ap (chosen s (is_kid q d)) (between-last from at rows h l) ∙ chosen-append s (is_kid q d) (between from at rows) (get_or rows at no_row ∷ [])
+    ∙ ap (λ l. chosen s (is_kid q d) (between from at rows) ++ l) (chosen-no s (is_kid q d) (get_or rows at no_row) [] other) ∙ append-nil (chosen s (is_kid q d) (between from at rows))
 
-pub kin-back_found : (s : Slab Slot) (d : ℕ) (wanted : Bool) (rows : List Row) (from at : ℕ) → from ≤ at → at < length rows → is_kin d wanted (node_of s (get_or rows at no_row)) ≡ true
-    → reverse (chosen s (is_kin d wanted) (between from (at + 1) rows)) ≡ number_in (get s (get_or rows at no_row).key) ∷ reverse (chosen s (is_kin d wanted) (between from at rows))
-kin-back_found s d wanted rows from at h l is =
+pub kin-back_found : (s : Slab Slot) (d : ℕ) (q : Content → Bool) (rows : List Row) (from at : ℕ) → from ≤ at → at < length rows → is_kid q d (node_of s (get_or rows at no_row)) ≡ true
+    → reverse (chosen s (is_kid q d) (between from (at + 1) rows)) ≡ number_in (get s (get_or rows at no_row).key) ∷ reverse (chosen s (is_kid q d) (between from at rows))
+kin-back_found s d q rows from at h l is =
     let n = number_in (get s (get_or rows at no_row).key) in
-    ap reverse (ap (chosen s (is_kin d wanted)) (between-last from at rows h l) ∙ chosen-append s (is_kin d wanted) (between from at rows) (get_or rows at no_row ∷ [])
-    ∙ ap (λ l. chosen s (is_kin d wanted) (between from at rows) ++ l) (chosen-yes s (is_kin d wanted) (get_or rows at no_row) [] is))
-    ∙ reverse-append (chosen s (is_kin d wanted) (between from at rows)) (n ∷ [])
+    ap reverse (ap (chosen s (is_kid q d)) (between-last from at rows h l) ∙ chosen-append s (is_kid q d) (between from at rows) (get_or rows at no_row ∷ [])
+    ∙ ap (λ l. chosen s (is_kid q d) (between from at rows) ++ l) (chosen-yes s (is_kid q d) (get_or rows at no_row) [] is))
+    ∙ reverse-append (chosen s (is_kid q d) (between from at rows)) (n ∷ [])
 
 deep-append : (d : ℕ) (xs ys : List Row) → AllDeep d xs → AllDeep d ys → AllDeep d (xs ++ ys)
 deep-append d [] ys p q = q

@@ -7,3 +7,4 @@ pub mod Kids
 pub mod Older
 pub mod Walks
 pub mod Below
+pub mod Siblings

@@ -138,7 +138,7 @@ fn place_tree(
     let (from, over) = put_behind(rows, at, above);
     let end = end_of(rows, from);
     let to = place_below(&rows[..from], slots, over, top, place);
-    paste_in(rows, from, to, depth);
+    paste_in(rows, hints, from, to, depth);
     note_parent(hints, top, parent);
     note_rows(hints, rows, at.min(to), end);
 }

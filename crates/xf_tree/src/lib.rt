@@ -11,9 +11,11 @@ mod forest;
 mod lookup;
 mod may;
 mod name;
+mod path;
 mod plant;
 mod root;
 mod rows;
+mod siblings;
 mod slot;
 #[cfg(test)]
 mod tests;

@@ -1,5 +1,6 @@
 //! Names of nodes, and their order by the bytes of what is written.
 ghost use Rattle.std.specs.Prelude.{◌≡◌, IfOk, length, slice_get};
+ghost use Rattle.std.specs.Str.{bytes_eq};
 ghost use Rattle.xf_doc.specs.Forest.{written};
 ghost use Rattle.xf_doc.specs.Plant.{is_less, name_for, no_name, written_of};
 
@@ -46,6 +47,13 @@ pub fn written_less(first: &Content, second: &Content) -> bool
         }
     }
     false
+}
+
+/// Whether the names of both are written alike: neither comes before the other.
+pub fn same_written(first: &Content, second: &Content) -> bool
+    ensures { result ≡ bytes_eq (written_of first.now) (written_of second.now) }
+{
+    !written_less(first, second) && !written_less(second, first)
 }
 
 fn written_len(content: &Content) -> usize

@@ -158,7 +158,7 @@ pub fn paste(rows: &mut [Row], hints: &[Hint], from: usize, to: usize, depth: u3
 }
 
 /// `paste` on a vector.
-pub fn paste_in(rows: &mut Vec<Row>, from: usize, to: usize, depth: u32)
+pub fn paste_in(rows: &mut Vec<Row>, hints: &[Hint], from: usize, to: usize, depth: u32)
     requires order { to ≤ from }
     requires within { from < length rows.old.items }
     requires few { length rows.old.items < 2 ^ 32 }
@@ -170,23 +170,7 @@ pub fn paste_in(rows: &mut Vec<Row>, from: usize, to: usize, depth: u32)
     ensures answer { IsPaste from to depth rows.old.items rows.new.items }
     ensures room { vec_capacity rows.new ≡ vec_capacity rows.old }
 {
-    paste(rows, from, to, depth);
-}
-
-/// `paste` on a vector.
-pub fn paste_in(rows: &mut Vec<Row>, from: usize, to: usize, depth: u32)
-    requires order { to ≤ from }
-    requires within { from < length rows.old.items }
-    requires few { length rows.old.items < 2 ^ 32 }
-    requires sized { Sized rows.old.items }
-    requires alone { top_depth (drop from rows.old.items) ≡ 0 }
-    requires place { deeper depth (drop to rows.old.items) ≡ 0 }
-    requires fits { All (λ r. r.depth + depth < 2 ^ 32) rows.old.items }
-    ensures sized { Sized rows.new.items }
-    ensures answer { IsPaste from to depth rows.old.items rows.new.items }
-    ensures room { vec_capacity rows.new ≡ vec_capacity rows.old }
-{
-    paste(rows, from, to, depth);
+    paste(rows, hints, from, to, depth);
 }
 
 /// Puts the last row before the rows from `from` on, which go one deeper below it, and all of these at an earlier place.

@@ -13,7 +13,7 @@ returns-then-is_attribute_at-clause-answer c =
 pub returns-clause-ready : goal.returns-clause-ready
 returns-clause-ready c =
     let f = family no_attribute c.args.slots.now c.args.rows.now c.in-Some.above c.args.at c.requires.nodes c.requires.within c.in-Some.ensures.answer in
-    (c.end_of-2.ensures.within, (beside _ _ _ _ _ _ f c.end_of.ensures.answer c.end_of-2.ensures.answer).deep)
+    (c.end_of-2.ensures.within, (beside _ _ _ _ _ _ _ f c.end_of.ensures.answer c.end_of-2.ensures.answer).deep)
 
 pub returns-clause-answer : goal.returns-clause-answer
 returns-clause-answer c =

@@ -1,5 +1,6 @@
 use Rattle.std.proofs.Common.{◌≡◌, ℕ, ◌+◌, ◌-◌, ◌<◌, ◌≤◌, length, false, true, sym, ap, ◌∙◌, subst, arith}
 use Rattle.xf_tree.specs.Rows.{AllDeep}
+use Rattle.xf_tree.specs.Tree.{same_kind}
 use Rattle.xf_tree.specs.Walks.{between}
 use Rattle.xf_tree.proofs.WalkLemmas.{kin-before_deep, kin-back_none}
 use Rattle.xf_tree.proofs.walk.last_kin.Goals as goal
@@ -14,7 +15,7 @@ loop-next-init c =
     record {
       least = c.climb_to-next.ensures.order;
       within = omega (arith, c.climb_to-next.ensures.within, c.requires.order);
-      same = kin-before_deep c.args.slots.now c.args.depth false rows (c.args.above + 1) (next + 1) at (omega (arith, c.climb_to-next.ensures.order)) (omega (arith, c.climb_to-next.ensures.within, c.requires.order)) deep;
+      same = kin-before_deep c.args.slots.now c.args.depth (same_kind false) rows (c.args.above + 1) (next + 1) at (omega (arith, c.climb_to-next.ensures.order)) (omega (arith, c.climb_to-next.ensures.within, c.requires.order)) deep;
     }
 
 pub loop-next-preserved : goal.loop-next-preserved
@@ -32,7 +33,7 @@ loop-next-preserved c =
     record {
       least = given.order;
       within = omega (arith, given.within, i.within);
-      same = kin-before_deep s c.args.depth false rows (c.args.above + 1) (next + 1) old (omega (arith, given.order)) (omega (arith, given.within, c.loop-next-test.true)) deep
-          ∙ sym (kin-back_none s c.args.depth false rows (c.args.above + 1) old (omega (arith, c.loop-next-test.true)) in_rows (sym c.is_kin_at.ensures ∙ c.if-not-is_kin_at.true))
+      same = kin-before_deep s c.args.depth (same_kind false) rows (c.args.above + 1) (next + 1) old (omega (arith, given.order)) (omega (arith, given.within, c.loop-next-test.true)) deep
+          ∙ sym (kin-back_none s c.args.depth (same_kind false) rows (c.args.above + 1) old (omega (arith, c.loop-next-test.true)) in_rows (sym c.is_kin_at.ensures ∙ c.if-not-is_kin_at.true))
           ∙ i.same;
     }

@@ -1,4 +1,5 @@
 use Rattle.std.proofs.Common.{◌≡◌, ◌+◌, ◌<◌, ◌≤◌, length, false, reverse, sym, ap, ◌∙◌, arith}
+use Rattle.xf_tree.specs.Tree.{same_kind}
 use Rattle.xf_tree.proofs.WalkLemmas.{kin-back_found}
 use Rattle.xf_tree.proofs.walk.step_back.Goals as goal
 
@@ -11,5 +12,5 @@ returns c =
     record {
       within = in_rows;
       ready = (c.if-next-above.false, omega arith, c.requires.ready.2);
-      rest = ap reverse (sym given.same) ∙ kin-back_found c.args.slots.now c.args.depth false rows (c.args.above + 1) next (omega (arith, c.if-next-above.false)) in_rows (given.found c.if-next-above.false);
+      rest = ap reverse (sym given.same) ∙ kin-back_found c.args.slots.now c.args.depth (same_kind false) rows (c.args.above + 1) next (omega (arith, c.if-next-above.false)) in_rows (given.found c.if-next-above.false);
     }

@@ -1,0 +1,205 @@
+//! Paths as they are printed.
+ghost use Rattle.std.specs.Prelude.{◌≡◌, ◌+◌, ◌<◌, ◌++◌, suc, length, map, reverse, slice_index_or, string_bytes, IfOk, OnOk};
+ghost use Rattle.std.specs.List.{flat_map};
+ghost use Rattle.slab.specs.Slab.{get};
+ghost use Rattle.xf_doc.specs.Forest.{IsLive, written};
+ghost use Rattle.xf_doc.specs.Path.{path_of, step_of};
+ghost use Rattle.xf_doc.specs.Visit.{visits};
+ghost use Rattle.xf_tree.specs.Rows.{Sized, parent_row_of};
+ghost use Rattle.xf_tree.specs.Siblings.{index_text, index_among, like_before, like_after, rows_up, AllPlaces};
+ghost use Rattle.xf_tree.specs.Tree.{content_in, node_of, no_row};
+ghost use Rattle.xf_tree.specs.Walks.{AreNodes, number_of_row};
+
+use crate::forest::Forest;
+use crate::lookup::{Hint, parent_row, row_of};
+use crate::rows::{Row, end_of};
+use crate::siblings::{count_like, has_like};
+use crate::slot::Slot;
+use itoa::Buffer;
+use slab::Slab;
+use std::alloc::{AllocError, Global};
+use xf_doc::{Content, Name, NodeId};
+use xf_name::Word;
+
+impl Forest {
+    /// The path of a node, from the top of its tree: a location path (XPath 1.0, section 2.5) where prefixes are known.
+    pub fn path(&self, node: NodeId) -> Result<Word, AllocError>
+        requires { IsLive node.number self.now.forest }
+        ensures { IfOk result (λ text. text ≡ path_of node.number (visits self.now.forest.nodes)) }
+    {
+        match row_of(&self.rows, &self.slots, &self.hints, node) {
+            Some(at) => path_at(self.alloc, &self.rows, &self.slots, &self.hints, at),
+            None => Ok(Word::new(self.alloc)),
+        }
+    }
+}
+
+fn path_at(
+    alloc: Global,
+    rows: &[Row],
+    slots: &Slab<Slot>,
+    hints: &[Hint],
+    at: usize,
+) -> Result<Word, AllocError>
+    requires nodes { AreNodes slots.now rows.now }
+    requires within { at < length rows.now }
+    ensures { IfOk result (λ text. text ≡ path_of (number_of_row slots.now rows.now at) (visits (map (node_of slots.now) rows.now))) }
+{
+    let places = places_up(alloc, rows, hints, at)?;
+    let mut text = String::new(alloc);
+    push_steps(&mut text, rows, slots, hints, places)?;
+    if text.is_empty() {
+        text.push('/')?;
+    }
+    Ok(Word::from_string(text))
+}
+
+/// The places of a row and of those above it, the nearest first.
+fn places_up(
+    alloc: Global,
+    rows: &[Row],
+    hints: &[Hint],
+    at: usize,
+) -> Result<Vec<usize>, AllocError>
+    requires sized { Sized rows.now }
+    requires within { at < length rows.now }
+    ensures rows { IfOk result (λ places. map (λ p. slice_index_or rows.now p no_row) places.items ≡ rows_up rows.now (Some at)) }
+    ensures within { IfOk result (λ places. AllPlaces rows.now places.items) }
+{
+    let mut places = Vec::new(alloc);
+    let mut next = Some(at);
+    while let Some(place) = next {
+        places.push(place)?;
+        next = parent_row(rows, hints, place);
+    }
+    Ok(places)
+}
+
+/// Appends what the path has for the nodes at these places, from the last one on.
+fn push_steps(
+    text: &mut String,
+    rows: &[Row],
+    slots: &Slab<Slot>,
+    hints: &[Hint],
+    places: Vec<usize>,
+) -> Result<(), AllocError>
+    requires nodes { AreNodes slots.now rows.now }
+    requires within { AllPlaces rows.now places.items }
+    ensures { OnOk result (string_bytes text.new ≡ string_bytes text.old ++ flat_map (step_of (visits (map (node_of slots.now) rows.now))) (reverse (map (number_of_row slots.now rows.now) places.items))) }
+{
+    let mut left = places;
+    while let Some(place) = left.pop() {
+        push_step(text, rows, slots, hints, place)?;
+    }
+    Ok(())
+}
+
+/// Appends what the path has for one node.
+fn push_step(
+    text: &mut String,
+    rows: &[Row],
+    slots: &Slab<Slot>,
+    hints: &[Hint],
+    at: usize,
+) -> Result<(), AllocError>
+    requires nodes { AreNodes slots.now rows.now }
+    requires within { at < length rows.now }
+    ensures { OnOk result (string_bytes text.new ≡ string_bytes text.old ++ step_of (visits (map (node_of slots.now) rows.now)) (number_of_row slots.now rows.now at)) }
+{
+    match slots.get(rows[at].key) {
+        Some(slot) => match &slot.content {
+            Content::Root => Ok(()),
+            Content::Element(name) => {
+                text.push('/')?;
+                push_name(text, name)?;
+                push_index(text, index_of(rows, slots, hints, at, &slot.content))?;
+                Ok(())
+            }
+            Content::Attribute(name, _) => {
+                text.push_str("/@")?;
+                push_name(text, name)?;
+                Ok(())
+            }
+            Content::Text(_) => {
+                text.push_str("/text()")?;
+                let earlier = count_before(rows, slots, hints, at, &slot.content);
+                push_index(text, Some(earlier + 1))?;
+                Ok(())
+            }
+        },
+        None => Ok(()),
+    }
+}
+
+/// Appends a name as it is written.
+fn push_name(text: &mut String, name: &Name) -> Result<(), AllocError>
+    ensures { OnOk result (string_bytes text.new ≡ string_bytes text.old ++ written name.now) }
+{
+    if !name.prefix.is_empty() {
+        text.push_str(name.prefix.as_str())?;
+        text.push(':')?;
+    }
+    text.push_str(name.meaning.local.as_str())
+}
+
+/// Appends an index in brackets, where there is one.
+fn push_index(text: &mut String, index: Option<usize>) -> Result<(), AllocError>
+    ensures { OnOk result (string_bytes text.new ≡ string_bytes text.old ++ index_text index) }
+{
+    let Some(index) = index else {
+        return Ok(());
+    };
+    let mut buffer = Buffer::new();
+    text.push('[')?;
+    text.push_str(buffer.format(index))?;
+    text.push(']')?;
+    Ok(())
+}
+
+/// The place of the node at a place of the rows among the siblings that are counted with it, from 1, where there are any.
+fn index_of(
+    rows: &[Row],
+    slots: &Slab<Slot>,
+    hints: &[Hint],
+    at: usize,
+    like: &Content,
+) -> Option<usize>
+    requires nodes { AreNodes slots.now rows.now }
+    requires within { at < length rows.now }
+    ensures { result ≡ index_among (like_before slots.now rows.now like.now at (parent_row_of rows.now at)) (like_after slots.now rows.now like.now at (parent_row_of rows.now at)) }
+{
+    let above = parent_row(rows, hints, at)?;
+    let earlier = count_before(rows, slots, hints, at, like);
+    if earlier == 0
+        && !has_like(
+            rows,
+            slots,
+            end_of(rows, at),
+            end_of(rows, above),
+            rows[at].depth,
+            like,
+        )
+    {
+        return None;
+    }
+    Some(earlier + 1)
+}
+
+/// How many siblings before the node at a place are counted with it.
+fn count_before(
+    rows: &[Row],
+    slots: &Slab<Slot>,
+    hints: &[Hint],
+    at: usize,
+    like: &Content,
+) -> usize
+    requires nodes { AreNodes slots.now rows.now }
+    requires within { at < length rows.now }
+    ensures answer { result ≡ length (like_before slots.now rows.now like.now at (parent_row_of rows.now at)) }
+    ensures few { result < length rows.now }
+{
+    match parent_row(rows, hints, at) {
+        Some(above) => count_like(rows, slots, above + 1, at, rows[at].depth, like),
+        None => 0,
+    }
+}
