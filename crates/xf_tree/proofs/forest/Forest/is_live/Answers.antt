@@ -9,7 +9,7 @@ use Rattle.xf_tree.proofs.forest.Forest.is_live.Goals as goal
 pub returns-in-Some : goal.returns-in-Some
 returns-in-Some c =
     let n = c.args.node.number in
-    let here = subst (λ r. StandsAt c.self.inside.slots r n c.in-Some.at) c.deref.ensures.value c.in-Some.ensures in
+    let here = subst (λ r. StandsAt c.self.inside.slots r n c.in-Some.field-0) c.deref.ensures.value c.in-Some.ensures in
     (λ e. subst (λ (k : Keeping). has_number n k.forest.nodes ≡ true) c.self.view_is (stands-live c.self.inside.slots n c.in-Some.field-0 c.self.inside.rows.items here), λ live. refl)
 
 pub returns-in-None : goal.returns-in-None
