@@ -13,7 +13,7 @@ use Rattle.xf_doc.specs.declared.content.Kind.TheVariants as kind
 use Rattle.xf_doc.specs.declared.fault.TreeFault.TheVariants.{Nodes, AllText}
 use Rattle.std.proofs.lemmas.Bool.Decides.{nat_tests}
 use Rattle.xf_doc.specs.Changes.{shifted, contents_in}
-use Rattle.xf_doc.specs.Forest.{is_text, is_root, kind_of, has_number, first_tree, tree_of}
+use Rattle.xf_doc.specs.Forest.{is_text, is_root, is_element, kind_of, has_number, first_tree, tree_of}
 use Rattle.xf_doc.specs.Limits.{Limits, node_count, all_size, size_of, passed_by_all}
 use Rattle.xf_doc.specs.Plant.{numbered_from}
 use Rattle.xf_doc.specs.Texts.{KeptText, Keeping}
@@ -21,6 +21,7 @@ use Rattle.xf_tree.specs.declared.rows.Row.{Row}
 use Rattle.xf_tree.specs.declared.slot.Slot.{Slot}
 use Rattle.xf_tree.specs.Rows.{Sized, deeper, tree_of as row_tree}
 use Rattle.xf_tree.specs.Leaves.{parts_in, AreLeaves}
+use Rattle.xf_tree.specs.First.{AreFirst}
 use Rattle.xf_tree.specs.Calls.{with_contents}
 use Rattle.xf_tree.specs.Tree.{node_of, kept_of, number_in, content_in, times, kept_times, AllLive, AllKept, AllTops, AreSteps, depths, KeepsLive, IsTree, AllPlain, size_of_all, IsSound, IsCounted, IsState, StandsAt, keeping_of, part_of, no_row}
 use Rattle.xf_tree.proofs.SizedLemmas.{sized-append, lt-true, lt-false, AllDeep}
@@ -29,6 +30,7 @@ use Rattle.xf_tree.proofs.NodeLemmas.{Parted, parted-from, eq-true, times-append
 use Rattle.xf_tree.proofs.CountLemmas.{nodes-append, sizes-append, sizes-cons, nodes-most}
 use Rattle.xf_tree.proofs.StepLemmas.{most_after, steps-append, steps-more, steps-parts, steps-lowered}
 use Rattle.xf_tree.proofs.LeafLemmas.{leaves-top, leaves-parts, leaves-shifted, parts-append, parts-numbered, steps-not_deeper}
+use Rattle.xf_tree.proofs.FirstLemmas.{first-append, first-anywhere}
 use Rattle.xf_tree.proofs.ForestLemmas.{live-append, tops-append, tops-parts, above-deep}
 use Rattle.xf_tree.proofs.ParentLemmas.{deep-prefix}
 use Rattle.xf_tree.proofs.PlaceLemmas.{split-at, stands, below-is, parted-at}
@@ -65,6 +67,7 @@ same-state s s2 rows kept next total size room room2 same more state =
         kept_live = kept-texts s s2 kept state.sound.kept_live keeps;
         tops = subst AllTops (sym nodes) state.sound.tops;
         leaves = subst (λ l. AreLeaves (parts_in l)) (sym nodes) state.sound.leaves;
+        first = subst (λ l. AreFirst 0 (parts_in l)) (sym nodes) state.sound.first;
         apart = λ n. omega (arith, state.sound.apart n, ap (times n) nodes, ap (kept_times n) texts);
         fresh = λ n h. omega (arith, state.sound.fresh n h, ap (times n) nodes, ap (kept_times n) texts);
       };
@@ -114,6 +117,9 @@ module _ (s s2 : Slab Slot) (old rows : List Row) (kept : List ℕ) (next total 
       ap (map (node_of s2)) added-rows ∙ map-append (node_of s2) old (drop (length old) rows)
       ∙ ap (λ l. l ++ map (node_of s2) (drop (length old) rows)) (kept-nodes s s2 old state.sound.live keeps) ∙ ap (λ l. map (node_of s) old ++ l) nodes
 
+  added-parts : parts_in (map (node_of s2) rows) ≡ parts_in (map (node_of s) old) ++ contents
+  added-parts = ap parts_in added-nodes ∙ parts-append (map (node_of s) old) (numbered_from next contents) ∙ ap (λ l. parts_in (map (node_of s) old) ++ l) (parts-numbered next contents)
+
   pub added-length : length rows ≡ length old + length contents
   added-length =
       let a = ap length added-rows ∙ length-append old (drop (length old) rows) in
@@ -142,8 +148,9 @@ module _ (s s2 : Slab Slot) (old rows : List Row) (kept : List ℕ) (next total 
         live = live;
         kept_live = kept-texts s s2 kept state.sound.kept_live keeps;
         tops = subst AllTops (sym added-nodes) (tops-append (map (node_of s) old) (numbered_from next contents) state.sound.tops (new-tops next contents tree.plain));
-        leaves = subst AreLeaves (sym (ap parts_in added-nodes ∙ parts-append (map (node_of s) old) (numbered_from next contents) ∙ ap (λ l. parts_in (map (node_of s) old) ++ l) (parts-numbered next contents)))
+        leaves = subst AreLeaves (sym added-parts)
             (leaves-top (parts_in (map (node_of s) old)) contents (steps-not_deeper 0 contents tree.steps) state.sound.leaves tree.leaves);
+        first = subst (AreFirst 0) (sym added-parts) (first-append 0 (parts_in (map (node_of s) old)) contents state.sound.first (first-anywhere _ contents tree.first));
         apart = λ n. let a = ap (times n) added-nodes ∙ times-append n (map (node_of s) old) (numbered_from next contents) in
             let k = ap (kept_times n) added-kept in
             elim (cases_lt n next) [
@@ -220,14 +227,20 @@ named-meets n p nodes us x xs parted may = go us (subst (λ l. list_any (λ (y :
 pub zero-depth : (d : ℕ) → (d == 0) ≡ true → d ≡ 0
 zero-depth d e = grind (arith, nat_tests)
 
-pub element-plain : (c : Content) → Some (kind_of c) ≡ Some kind.Element → is_root c ≡ false
-element-plain Root e = absurd (wrong e)
+pub element-is : (c : Content) → Some (kind_of c) ≡ Some kind.Element → is_element c ≡ true
+element-is Root e = absurd (wrong e)
   where
     wrong : ◌≡◌ {A = Option Kind} (Some kind.Root) (Some kind.Element) → ⊥
     wrong e = cc
-element-plain (Element name) e = refl
-element-plain (Attribute name text) e = refl
-element-plain (Text text) e = refl
+element-is (Element name) e = refl
+element-is (Attribute name text) e = absurd (wrong e)
+  where
+    wrong : ◌≡◌ {A = Option Kind} (Some kind.Attribute) (Some kind.Element) → ⊥
+    wrong e = cc
+element-is (Text text) e = absurd (wrong e)
+  where
+    wrong : ◌≡◌ {A = Option Kind} (Some kind.Text) (Some kind.Element) → ⊥
+    wrong e = cc
 
 -- the same rows and slots with more room
 pub stands-same : (s s2 : Slab Slot) (rows rows2 : List Row) (n at : ℕ) → ((key : ℕ) → get s2 key ≡ get s key) → rows2 ≡ rows → StandsAt s rows n at → StandsAt s2 rows2 n at

@@ -1,17 +1,19 @@
 -- A tree moved below a node: what every forest keeps.
-use Rattle.std.proofs.Common.{◌≡◌, ℕ, suc, ◌+◌, ◌-◌, ◌≤◌, false, List, [], ◌∷◌, ◌++◌, map, length, take, drop, get_or, reverse, append_assoc, take-add, refl, sym, ap, ◌∙◌, subst, inl, inr, arith, length-append}
-use Rattle.std.proofs.lemmas.List.{take-append-drop, map-append, length-map, take_more}
-use Rattle.std.proofs.lemmas.Bool.{cases_lt, true≢false}
+use Rattle.std.proofs.Common.{◌≡◌, ℕ, suc, ◌+◌, ◌-◌, ◌<◌, ◌≤◌, true, false, List, [], ◌∷◌, ◌++◌, map, length, take, drop, get_or, reverse, ◌⊎◌, append_assoc, take-add, refl, sym, ap, ◌∙◌, subst, inl, inr, arith, length-append}
+use Rattle.std.proofs.lemmas.List.{take-append-drop, drop-drop, map-append, length-map, take_more}
+use Rattle.std.proofs.lemmas.Bool.{cases_lt, cases_Bool, true≢false, false≢true}
 use Rattle.slab.specs.Slab.{Slab, get}
 use Rattle.xf_doc.specs.declared.content.Node.{Node}
 use Rattle.xf_doc.specs.declared.content.Content.{Content}
+use Rattle.xf_doc.specs.declared.content.Content.TheVariants.{Root, Element, Attribute, Text}
 use Rattle.xf_doc.specs.Changes.{shifted}
-use Rattle.xf_doc.specs.Forest.{is_root}
+use Rattle.xf_doc.specs.Forest.{is_root, is_element, is_attribute}
 use Rattle.xf_doc.specs.Limits.{node_count, all_size}
 use Rattle.xf_tree.specs.declared.rows.Row.{Row}
 use Rattle.xf_tree.specs.declared.slot.Slot.{Slot}
 use Rattle.xf_tree.specs.Rows.{Sized, deeper, deepened, grown, tree_of, after_tree, rest_of}
 use Rattle.xf_tree.specs.Leaves.{is_leaf, parts_in, NotDeeper, AreLeaves}
+use Rattle.xf_tree.specs.First.{attribute_depth, AreFirst}
 use Rattle.xf_tree.specs.Contents.{AllFrom}
 use Rattle.xf_tree.specs.Tree.{node_of, content_in, times, AllLive, AllTops, AreSteps, depths, StandsAt, IsSound, IsState, no_row}
 use Rattle.xf_tree.specs.Below.{part_at, IsPlaced}
@@ -22,11 +24,13 @@ use Rattle.xf_tree.proofs.CountLemmas.{nodes-append, sizes-append, count-alike, 
 use Rattle.xf_tree.proofs.PlaceLemmas.{split-at}
 use Rattle.xf_tree.proofs.StepLemmas.{most_after, steps-append, steps-parts, steps-more, steps-raised, AllAbove}
 use Rattle.xf_tree.proofs.LeafLemmas.{leaves-append, leaves-parts, leaves-shifted, parts-append, first-not_deeper}
+use Rattle.xf_tree.proofs.FirstLemmas.{depth_behind, first-append, first-parts, first-anywhere}
+use Rattle.xf_tree.proofs.FirstRowLemmas.{tree-first, attribute-tree, part-first}
 use Rattle.xf_tree.proofs.ForestLemmas.{live-append, live-parts, live-reverse, tops-append, tops-parts, whole-map, above-deep, first-low, depth-ignores}
 use Rattle.xf_tree.proofs.ParentLemmas.{deep-prefix}
 use Rattle.xf_tree.proofs.DeepenLemmas.{live-deepened, times-shifted, depths-deepened, no-roots}
 use Rattle.xf_tree.proofs.PartLemmas.{part-deep}
-use Rattle.xf_tree.proofs.RestLemmas.{rest-steps, rest-leaves}
+use Rattle.xf_tree.proofs.RestLemmas.{rest-steps, rest-leaves, rest-first}
 use Rattle.xf_tree.proofs.PlacedLemmas.{below-stops}
 use Rattle.xf_tree.proofs.AttachLemmas.{goes_to, new-parts, new-nodes, same-sum}
 
@@ -61,6 +65,18 @@ leaves-behind d [] p zs ys bears a deep first b = (λ e. absurd (true≢false (s
 leaves-behind d (u ∷ []) p zs ys bears a deep first b = (a.0, leaves-behind d [] p zs ys bears a.1 deep first b)
 leaves-behind d (u ∷ (v ∷ us)) p zs ys bears a deep first b = (a.0, leaves-behind d (v ∷ us) p zs ys bears a.1 deep first b)
 
+element-behind : (e : ℕ) (c : Content) → is_element c ≡ true → attribute_depth e c ≡ e + 1
+element-behind e Root is = absurd (false≢true is)
+element-behind e (Element name) is = omega arith
+element-behind e (Attribute name text) is = absurd (false≢true is)
+element-behind e (Text text) is = absurd (false≢true is)
+
+parent-behind : (e : ℕ) (c : Content) → is_leaf c ≡ false → (attribute_depth e c ≡ 0) ⊎ (e + 1 ≤ attribute_depth e c)
+parent-behind e Root is = inl refl
+parent-behind e (Element name) is = inr (omega arith)
+parent-behind e (Attribute name text) is = absurd (true≢false is)
+parent-behind e (Text text) is = inl refl
+
 live-grown : (s : Slab Slot) (by d : ℕ) (ys tail : List Row) → AllLive s ys → AllLive s tail → AllLive s (grown by d ys tail)
 live-grown s by d [] tail p q = q
 live-grown s by d (y ∷ ys) tail p q =
@@ -71,7 +87,8 @@ live-grown s by d (y ∷ ys) tail p q =
 
 module _ (s : Slab Slot) (n m at above place next total size spare : ℕ) (kept : List ℕ) (old new : List Row) (state : IsState s old kept next total size spare) (here : StandsAt s old n at)
     (there : StandsAt s old m above) (top : (get_or old at no_row).depth ≡ 0) (p : IsPlaced at above place s old new) (plain : is_root (content_in (get s (get_or old at no_row).key)) ≡ false)
-    (bears : is_leaf (content_in (get s (get_or old above no_row).key)) ≡ false) (is_sized : Sized new) where
+    (bears : is_leaf (content_in (get s (get_or old above no_row).key)) ≡ false)
+    (holds : is_attribute (content_in (get s (get_or old at no_row).key)) ≡ true → is_element (content_in (get s (get_or old above no_row).key)) ≡ true) (is_sized : Sized new) where
   abbrev f : Row → Node
   f = node_of s
 
@@ -133,6 +150,49 @@ module _ (s : Slab Slot) (n m at above place next total size spare : ℕ) (kept 
       let is : depths new ≡ us ++ (low ++ vs) = new-parts s n m at above place next kept old new state.sound here there top p g depth-ignores ∙ ap (λ l. us ++ (l ++ vs)) (depths-deepened d T) in
       subst (AreSteps 0) (sym is) (steps-append 0 us (low ++ vs) w.0 (steps-append (most_after 0 us) low vs tree back))
 
+  -- the rows that stay and all rows then, about the parent
+  old-are : parts_in (map f W) ≡ (parts_in (map f (take p.over W)) ++ ((y.depth, content_in (get s y.key)) ∷ parts_in (map f (take i later)))) ++ parts_in (map f (drop to W))
+  old-are =
+      let us = map f (take p.over W) in
+      let zs = map f (take i later) in
+      let vs = map f (drop to W) in
+      ap (λ l. parts_in (map f l)) (sym (take-append-drop to W)) ∙ ap parts_in (map-append f (take to W) (drop to W) ∙ ap (λ l. map f l ++ vs) front ∙ ap (λ l. l ++ vs) (map-append f (take p.over W) (y ∷ take i later)))
+      ∙ parts-append (us ++ (f y ∷ zs)) vs ∙ ap (λ l. l ++ parts_in vs) (parts-append us (f y ∷ zs))
+
+  new-are : parts_in (map f new)
+      ≡ parts_in (map f (take p.over W)) ++ ((y.depth, content_in (get s y.key)) ∷ (parts_in (map f (take i later)) ++ (parts_in (map (shifted 0 d) (map f T)) ++ parts_in (map f (drop to W)))))
+  new-are =
+      let low = map (shifted 0 d) (map f T) in
+      let us = map f (take p.over W) in
+      let zs = map f (take i later) in
+      let vs = map f (drop to W) in
+      ap parts_in (new-nodes s n m at above place next kept old new state.sound here there top p ∙ ap (λ l. map f l ++ (low ++ vs)) front ∙ ap (λ l. l ++ (low ++ vs)) (map-append f (take p.over W) (y ∷ take i later))
+      ∙ append_assoc us (f y ∷ zs) (low ++ vs)) ∙ parts-append us (f y ∷ (zs ++ (low ++ vs)))
+      ∙ ap (λ l. parts_in us ++ ((y.depth, content_in (get s y.key)) ∷ l)) (parts-append zs (low ++ vs) ∙ ap (λ l. parts_in zs ++ l) (parts-append low vs))
+
+  new-first : AreFirst 0 (parts_in (map f new))
+  new-first =
+      let c = content_in (get s (get_or old at no_row).key) in
+      let us = parts_in (map f (take p.over W)) in
+      let zs = parts_in (map f (take i later)) in
+      let low = parts_in (map (shifted 0 d) (map f T)) in
+      let vs = parts_in (map f (drop to W)) in
+      let own = attribute_depth y.depth (content_in (get s y.key)) in
+      let w = first-parts 0 us ((y.depth, content_in (get s y.key)) ∷ (zs ++ vs)) (subst (AreFirst 0) (old-are ∙ append_assoc us ((y.depth, content_in (get s y.key)) ∷ zs) vs) (rest-first s at old here.within top state.sound.sized state.sound.first)) in
+      let element : is_attribute c ≡ true → own ≡ y.depth + 1 = λ is. element-behind y.depth (content_in (get s y.key)) (ap (λ (r : Row). is_element (content_in (get s r.key))) p.row ∙ holds is) in
+      let under : (own ≡ 0) ⊎ (y.depth + 1 ≤ own) = parent-behind y.depth (content_in (get s y.key)) (ap (λ (r : Row). is_leaf (content_in (get s r.key))) p.row ∙ bears) in
+      let split : parts_in (map f later) ≡ zs ++ vs =
+      ap (λ l. parts_in (map f l)) (sym (take-append-drop i later)) ∙ ap parts_in (map-append f (take i later) (drop i later)) ∙ parts-append (map f (take i later)) (map f (drop i later))
+      ∙ ap (λ l. zs ++ parts_in (map f l)) (drop-drop i (p.over + 1) W) in
+      let part = part-first s (y.depth + 1) place own c later element under (subst (AreFirst own) (sym split) w.1.1) in
+      let tree : AreFirst (depth_behind own zs) low =
+      subst (λ k. AreFirst (depth_behind own zs) (parts_in (map (shifted k d) (map f T)))) top (tree-first s at d (depth_behind own zs) old here.within (λ is pos. sym (part.0 is ∙ deep)) state.sound.first) in
+      let back : AreFirst (depth_behind (depth_behind own zs) low) vs = elim (cases_Bool (is_attribute c)) [
+        | inl is ↦ subst (λ k. AreFirst k vs) (part.0 is ∙ deep ∙ sym (attribute-tree s at d (depth_behind own zs) old here.within top is leaves.1)) (first-parts own zs vs w.1.1).1
+        | inr other ↦ first-anywhere _ vs (subst (AreFirst 0) (ap (λ l. parts_in (map f l)) (drop-drop i (p.over + 1) W)) (part.1 other))
+      ] in
+      subst (AreFirst 0) (sym new-are) (first-append 0 us ((y.depth, content_in (get s y.key)) ∷ (zs ++ (low ++ vs))) w.0 (w.1.0, first-append own zs (low ++ vs) (first-parts own zs vs w.1.1).0 (first-append (depth_behind own zs) low vs tree back)))
+
   new-leaves : AreLeaves (parts_in (map f new))
   new-leaves =
       let low = map (shifted 0 d) (map f T) in
@@ -140,20 +200,13 @@ module _ (s : Slab Slot) (n m at above place next total size spare : ℕ) (kept 
       let zs = map f (take i later) in
       let vs = map f (drop to W) in
       let part : ℕ × Content = (y.depth, content_in (get s y.key)) in
-      let whole : parts_in (map f W) ≡ (parts_in us ++ (part ∷ parts_in zs)) ++ parts_in vs =
-      ap (λ l. parts_in (map f l)) (sym (take-append-drop to W)) ∙ ap parts_in (map-append f (take to W) (drop to W) ∙ ap (λ l. map f l ++ vs) front ∙ ap (λ l. l ++ vs) (map-append f (take p.over W) (y ∷ take i later)))
-      ∙ parts-append (us ++ (f y ∷ zs)) vs ∙ ap (λ l. l ++ parts_in vs) (parts-append us (f y ∷ zs)) in
-      let w = leaves-parts (parts_in us ++ (part ∷ parts_in zs)) (parts_in vs) (subst AreLeaves whole leaves.0) in
+      let w = leaves-parts (parts_in us ++ (part ∷ parts_in zs)) (parts_in vs) (subst AreLeaves old-are leaves.0) in
       let back = leaves-append d (parts_in low) (parts_in vs) (from-shifted d (map f T)) (first-not_deeper s d (drop to W) stops) (leaves-shifted 0 d (map f T) leaves.1) w.1 in
       let first : NotDeeper d (parts_in low ++ parts_in vs) =
       subst (λ l. NotDeeper d (parts_in (map (shifted 0 d) (map f (tree_of l))) ++ parts_in vs)) (sym (split-at at old no_row here.within)) (omega (arith, top)) in
       let parent : is_leaf (content_in (get s y.key)) ≡ false = ap (λ (r : Row). is_leaf (content_in (get s r.key))) p.row ∙ bears in
       let all = leaves-behind d (parts_in us) part (parts_in zs) (parts_in low ++ parts_in vs) parent w.0 (from-deep s d (take i later) passed) first back in
-      let is : parts_in (map f new) ≡ parts_in us ++ (part ∷ (parts_in zs ++ (parts_in low ++ parts_in vs))) =
-      ap parts_in (new-nodes s n m at above place next kept old new state.sound here there top p ∙ ap (λ l. map f l ++ (low ++ vs)) front ∙ ap (λ l. l ++ (low ++ vs)) (map-append f (take p.over W) (y ∷ take i later))
-      ∙ append_assoc us (f y ∷ zs) (low ++ vs)) ∙ parts-append us (f y ∷ (zs ++ (low ++ vs)))
-      ∙ ap (λ l. parts_in us ++ (part ∷ l)) (parts-append zs (low ++ vs) ∙ ap (λ l. parts_in zs ++ l) (parts-append low vs)) in
-      subst AreLeaves (sym is) all
+      subst AreLeaves (sym new-are) all
 
   new-tops : AllTops (map f new)
   new-tops =
@@ -195,6 +248,7 @@ module _ (s : Slab Slot) (n m at above place next total size spare : ℕ) (kept 
     kept_live = state.sound.kept_live;
     tops = new-tops;
     leaves = new-leaves;
+    first = new-first;
     apart = λ k. omega (arith, state.sound.apart k, same (times k) (times-append k) (times-shifted k d));
     fresh = λ k h. omega (arith, state.sound.fresh k h, same (times k) (times-append k) (times-shifted k d));
   }

@@ -10,8 +10,7 @@ use Rattle.xf_tree.proofs.SizedLemmas.{lt-true, lt-false, sized-append}
 use Rattle.xf_tree.proofs.CutLemmas.{all-deep-zero}
 use Rattle.xf_tree.proofs.PlaceLemmas.{split-at, tree-size}
 use Rattle.xf_tree.proofs.RootLemmas.{past-tree}
-use Rattle.xf_tree.proofs.RootedLemmas.{rest-front}
-use Rattle.xf_tree.proofs.OverLemmas.{rest-sized}
+use Rattle.xf_tree.proofs.RootedLemmas.{rest-front, rest-sized}
 
 -- ---- a tree by itself
 

@@ -13,12 +13,14 @@ use Rattle.xf_tree.specs.declared.rows.Row.{Row}
 use Rattle.xf_tree.specs.declared.slot.Slot.{Slot}
 use Rattle.xf_tree.specs.Rows.{deeper, tree_of as row_tree}
 use Rattle.xf_tree.specs.Leaves.{parts_in, AreLeaves}
+use Rattle.xf_tree.specs.First.{AreFirst}
 use Rattle.xf_tree.specs.Tree.{node_of, content_in, times, AllTops, AreSteps, depths, IsTree, AllPlain, IsState, StandsAt, part_of, no_row}
 use Rattle.xf_tree.proofs.SizedLemmas.{AllDeep}
 use Rattle.xf_tree.proofs.CutLemmas.{all-deeper}
 use Rattle.xf_tree.proofs.NodeLemmas.{Parted, parted-from, eq-true}
 use Rattle.xf_tree.proofs.StepLemmas.{steps-parts, steps-lowered}
 use Rattle.xf_tree.proofs.LeafLemmas.{leaves-parts, leaves-shifted, parts-append}
+use Rattle.xf_tree.proofs.FirstRowLemmas.{tree-first}
 use Rattle.xf_tree.proofs.ForestLemmas.{tops-parts, above-deep}
 use Rattle.xf_tree.proofs.ParentLemmas.{deep-prefix}
 use Rattle.xf_tree.proofs.PlaceLemmas.{split-at, stands, below-is, parted-at}
@@ -83,10 +85,12 @@ contents-tree s at rows kept next total size room state h top =
     let tree = map-append (node_of s) (x ∷ rest) (drop (deeper x.depth xs) xs) in
     let l2 = leaves-parts (parts_in (map (node_of s) (x ∷ rest))) (parts_in (map (node_of s) (drop (deeper x.depth xs) xs)))
     (subst AreLeaves (ap (λ l. parts_in (node_of s x ∷ map (node_of s) l)) (sym (take-append-drop (deeper x.depth xs) xs)) ∙ ap parts_in tree ∙ parts-append (map (node_of s) (x ∷ rest)) (map (node_of s) (drop (deeper x.depth xs) xs))) l1.1) in
+    let w = subst (λ l. AreFirst 0 (parts_in (map (shifted x.depth 0) (map (node_of s) (row_tree l))))) sp (tree-first s at 0 0 rows h (λ is pos. refl) state.sound.first) in
     subst (λ l. IsTree (map (part_of s x.depth) (row_tree l))) (sym sp) (record {
       steps = (zero_top, low2);
       plain = (top, state.counted.small x.key, plain-below s x.depth rest deep t2.0 state.counted.small);
       leaves = subst AreLeaves (sym (parts-mean s x.depth (x ∷ rest))) (leaves-shifted x.depth 0 (map (node_of s) (x ∷ rest)) l2.0);
+      first = subst (AreFirst 0) (sym (parts-mean s x.depth (x ∷ rest))) w;
     })
 
 -- what may be copied stands there, and is no root

@@ -9,6 +9,7 @@ use Rattle.xf_tree.specs.declared.rows.Row.{Row}
 use Rattle.xf_tree.specs.declared.slot.Slot.{Slot}
 use Rattle.xf_tree.specs.Rows.{deeper, Sized}
 use Rattle.xf_tree.specs.Leaves.{parts_in, AreLeaves}
+use Rattle.xf_tree.specs.First.{AreFirst}
 use Rattle.xf_tree.specs.Tree.{node_of, kept_of, number_in, content_in, times, kept_times, AllLive, AllTops, AreSteps, depths, KeepsBut, KeepsButKept, IsSound, IsCounted, IsState}
 use Rattle.xf_tree.proofs.NodeLemmas.{times-append, eq-true}
 use Rattle.xf_tree.proofs.SizedLemmas.{sized-front}
@@ -16,6 +17,7 @@ use Rattle.xf_tree.proofs.CutLemmas.{all-deep-zero}
 use Rattle.xf_tree.proofs.CountLemmas.{nodes-append, sizes-append}
 use Rattle.xf_tree.proofs.StepLemmas.{steps-parts}
 use Rattle.xf_tree.proofs.LeafLemmas.{leaves-parts, parts-append}
+use Rattle.xf_tree.proofs.FirstLemmas.{first-parts}
 use Rattle.xf_tree.proofs.ForestLemmas.{live-parts, tops-parts}
 
 -- these rows' keys have in both slabs the same
@@ -56,6 +58,7 @@ pub record IsShaped (s : Slab Slot) (rows : List Row) : Type 0 where
   pub live : AllLive s rows
   pub tops : AllTops (map (node_of s) rows)
   pub leaves : AreLeaves (parts_in (map (node_of s) rows))
+  pub first : AreFirst 0 (parts_in (map (node_of s) rows))
 
 -- the nodes are those of the rows that stay and those of the others, whatever is counted
 abbrev pub ArePartedTo : Slab Slot → List Row → List Row → List Row → Type 0
@@ -93,6 +96,7 @@ module _ (s s1 s2 : Slab Slot) (rows stay gone : List Row) (kept : List ℕ) (ne
     live = live-same s s2 stay stay-same shape.live;
     tops = subst AllTops (sym dropped-nodes) shape.tops;
     leaves = subst (λ l. AreLeaves (parts_in l)) (sym dropped-nodes) shape.leaves;
+    first = subst (λ l. AreFirst 0 (parts_in l)) (sym dropped-nodes) shape.first;
     apart = λ n. let e = ap (times n) dropped-nodes in omega (arith, both n);
     fresh = λ n h. let e = ap (times n) dropped-nodes in omega (arith, fresh n h);
   }
@@ -124,11 +128,12 @@ front-shaped s end next rows kept sound stops =
     let d : Row → ℕ = λ r. r.depth in
     let split : depths rows ≡ depths (take end rows) ++ depths (drop end rows) = ap (map d) (sym (take-append-drop end rows)) ∙ map-append d (take end rows) (drop end rows) in
     let whole : map f rows ≡ map f (take end rows) ++ map f (drop end rows) = ap (map f) (sym (take-append-drop end rows)) ∙ map-append f (take end rows) (drop end rows) in
+    let parts : parts_in (map f rows) ≡ parts_in (map f (take end rows)) ++ parts_in (map f (drop end rows)) = ap parts_in whole ∙ parts-append (map f (take end rows)) (map f (drop end rows)) in
     record {
       sized = (sized-front 0 (take end rows) (drop end rows) (all-deep-zero (take end rows)) stops (subst (λ l. Sized l) (sym (take-append-drop end rows)) sound.sized)).0;
       steps = (steps-parts 0 (depths (take end rows)) (depths (drop end rows)) (subst (AreSteps 0) split sound.steps)).0;
       live = (live-parts s (take end rows) (drop end rows) (subst (AllLive s) (sym (take-append-drop end rows)) sound.live)).0;
       tops = (tops-parts (map f (take end rows)) (map f (drop end rows)) (subst AllTops whole sound.tops)).0;
-      leaves = (leaves-parts (parts_in (map f (take end rows))) (parts_in (map f (drop end rows)))
-          (subst AreLeaves (ap parts_in whole ∙ parts-append (map f (take end rows)) (map f (drop end rows))) sound.leaves)).0;
+      leaves = (leaves-parts (parts_in (map f (take end rows))) (parts_in (map f (drop end rows))) (subst AreLeaves parts sound.leaves)).0;
+      first = (first-parts 0 (parts_in (map f (take end rows))) (parts_in (map f (drop end rows))) (subst (AreFirst 0) parts sound.first)).0;
     }

@@ -12,6 +12,8 @@ pub mod TextLemmas
 pub mod KidLemmas
 pub mod StepLemmas
 pub mod LeafLemmas
+pub mod FirstLemmas
+pub mod FirstRowLemmas
 pub mod CountLemmas
 pub mod ForestLemmas
 pub mod StateLemmas

@@ -7,7 +7,7 @@ use Rattle.xf_doc.specs.declared.content.Content.{Content}
 use Rattle.xf_doc.specs.declared.content.Content.TheVariants.{Root, Element, Attribute, Text}
 use Rattle.xf_doc.specs.declared.content.Kind.{Kind}
 use Rattle.xf_doc.specs.declared.content.Kind.TheVariants as kind
-use Rattle.xf_doc.specs.Forest.{Forest, is_root, kind_of, kind_at, node_at, has_number}
+use Rattle.xf_doc.specs.Forest.{Forest, is_root, is_attribute, kind_of, kind_at, node_at, has_number}
 use Rattle.xf_doc.specs.Needs.{MayAttach, MayStand, in_element, in_root, as_attribute}
 use Rattle.xf_tree.specs.Leaves.{is_leaf}
 use Rattle.xf_tree.proofs.StackLemmas.{absent-parts}
@@ -37,6 +37,21 @@ pub parent-kind : (n m place : ℕ) (forest : Forest) → MayStand n m place for
 parent-kind n m place forest (in_element a b e) = inl b
 parent-kind n m place forest (in_root a b e g) = inr b
 parent-kind n m place forest (as_attribute a b e) = inl b
+
+-- an attribute comes below an element
+pub attribute-parent : (n m place : ℕ) (forest : Forest) → MayStand n m place forest → kind_at n forest.nodes ≡ Some kind.Attribute → kind_at m forest.nodes ≡ Some kind.Element
+attribute-parent n m place forest (in_element a b e) is = b
+attribute-parent n m place forest (in_root a b e g) is = absurd (wrong (sym a ∙ is))
+  where
+    wrong : ◌≡◌ {A = Option Kind} (Some kind.Element) (Some kind.Attribute) → ⊥
+    wrong e = cc
+attribute-parent n m place forest (as_attribute a b e) is = b
+
+pub attribute-kind : (c : Content) → is_attribute c ≡ true → kind_of c ≡ kind.Attribute
+attribute-kind Root is = absurd (false≢true is)
+attribute-kind (Element name) is = absurd (false≢true is)
+attribute-kind (Attribute name text) is = refl
+attribute-kind (Text text) is = absurd (false≢true is)
 
 pub no-root_content : (c : Content) → (Some (kind_of c) ≡ Some kind.Element) ⊎ (Some (kind_of c) ≡ Some kind.Attribute) → is_root c ≡ false
 no-root_content Root e = absurd (elim e [ inl x ↦ cc x | inr x ↦ cc x ])

@@ -9,7 +9,8 @@ use Rattle.xf_tree.specs.declared.rows.Row.{Row}
 use Rattle.xf_tree.specs.declared.slot.Slot.{Slot}
 use Rattle.xf_tree.specs.Rows.{Sized, deeper}
 use Rattle.xf_tree.specs.Leaves.{parts_in, NotDeeper, AreLeaves}
-use Rattle.xf_tree.specs.Tree.{node_of, number_in, times, AllLive, AllTops, AreSteps, depths, IsSound}
+use Rattle.xf_tree.specs.First.{attribute_depth, AreFirst}
+use Rattle.xf_tree.specs.Tree.{node_of, number_in, content_in, times, AllLive, AllTops, AreSteps, depths, IsSound}
 use Rattle.xf_tree.specs.Older.{is_older, is_newer, AreWhole}
 use Rattle.xf_tree.proofs.SizedLemmas.{lt-true, lt-false, deeper-less, AllDeep}
 use Rattle.xf_tree.proofs.NodeLemmas.{eq-false}
@@ -147,6 +148,16 @@ leaves-older s number before (x ∷ xs) w leaves = elim (cases_Bool (is_older s 
   | inr e ↦ rw e (leaves-older s number true xs (subst (λ b. WholeRows s number b xs) (ap not e) w.2) leaves.1)
 ]
 
+pub first-older : (s : Slab Slot) (number d more : ℕ) (before : Bool) (rows : List Row) → WholeRows s number before rows → (before ≡ false → d ≡ more) → AreFirst d (parts_in (map (node_of s) rows))
+    → AreFirst more (parts_in (map (node_of s) (olds s number rows)))
+first-older s number d more before [] w h first = tt
+first-older s number d more before (x ∷ xs) w h first =
+    let next = attribute_depth x.depth (content_in (get s x.key)) in
+    elim (cases_Bool (is_older s number x)) [
+      | inl e ↦ rw e ((λ is pos. first.0 is pos ∙ h (sym (w.0 pos) ∙ ap not e)), first-older s number next next _ xs w.2 (λ b. refl) first.1)
+      | inr e ↦ rw e (first-older s number next more _ xs w.2 (λ b. absurd (true≢false (sym (ap not e) ∙ b))) first.1)
+    ]
+
 pub older-shaped : (s : Slab Slot) (number next : ℕ) (rows : List Row) (kept : List ℕ) → IsSound s rows kept next → WholeRows s number false rows → IsShaped s (filter (is_older s number) rows)
 older-shaped s number next rows kept sound w =
     let least : 0 ≤ 0 = omega arith in
@@ -156,4 +167,5 @@ older-shaped s number next rows kept sound w =
       live = live-older s number rows sound.live;
       tops = tops-older s number rows sound.tops;
       leaves = leaves-older s number false rows w sound.leaves;
+      first = first-older s number 0 0 false rows w (λ e. refl) sound.first;
     }

@@ -5,8 +5,8 @@ use Rattle.std.proofs.lemmas.Bool.{cases_Bool, cases_lt, true≢false, false≢t
 use Rattle.slab.specs.Slab.{Slab, get}
 use Rattle.xf_doc.specs.declared.content.Node.{Node}
 use Rattle.xf_doc.specs.declared.content.Content.{Content}
-use Rattle.xf_doc.specs.declared.content.Content.TheVariants.{Root}
-use Rattle.xf_doc.specs.Forest.{Forest, first_tree, tree_of, is_root}
+use Rattle.xf_doc.specs.declared.content.Content.TheVariants.{Root, Element, Attribute, Text}
+use Rattle.xf_doc.specs.Forest.{Forest, first_tree, tree_of, is_root, is_element, is_attribute}
 use Rattle.xf_doc.specs.Changes.{shifted, moved_to, without_tree, in_instances, in_detached, with_root, is_detached_top}
 use Rattle.xf_doc.specs.Limits.{node_count, all_size, size_of}
 use Rattle.xf_doc.specs.Texts.{KeptText, Keeping}
@@ -14,6 +14,7 @@ use Rattle.xf_tree.specs.declared.rows.Row.{Row}
 use Rattle.xf_tree.specs.declared.slot.Slot.{Slot}
 use Rattle.xf_tree.specs.Rows.{Sized, deeper, deepened, tree_of as row_tree, after_tree, rest_of}
 use Rattle.xf_tree.specs.Leaves.{parts_in, AreLeaves}
+use Rattle.xf_tree.specs.First.{AreFirst}
 use Rattle.xf_tree.specs.Tree.{node_of, kept_of, number_in, content_in, times, kept_times, AllLive, AllTops, AreSteps, depths, KeepsLive, IsSound, IsCounted, IsState, StandsAt, keeping_of, no_row, IsOver}
 use Rattle.xf_tree.proofs.SizedLemmas.{lt-true, lt-false, AllDeep, sized-append, sized-front}
 use Rattle.xf_tree.proofs.CutLemmas.{all-deep-zero, tree-parts, stops-after, all-deeper}
@@ -24,9 +25,12 @@ use Rattle.xf_tree.proofs.PlaceLemmas.{split-at, stands, below-is, past-is, one_
 use Rattle.xf_tree.proofs.CountLemmas.{nodes-append, sizes-append, nodes-cons, sizes-cons, count-alike, size-alike}
 use Rattle.xf_tree.proofs.StepLemmas.{most_after, steps-append, steps-parts, steps-more, steps-raised}
 use Rattle.xf_tree.proofs.LeafLemmas.{leaves-top, leaves-parts, leaves-shifted, parts-append, first-not_deeper}
+use Rattle.xf_tree.proofs.FirstLemmas.{depth_behind, first-append, first-parts, first-top}
+use Rattle.xf_tree.proofs.FirstRowLemmas.{without-first, tree-first}
 use Rattle.xf_tree.proofs.ForestLemmas.{live-append, live-parts, tops-append, tops-parts, whole-map}
 use Rattle.xf_tree.proofs.StateLemmas.{without-leaves}
 use Rattle.xf_tree.proofs.ParentLemmas.{deep-prefix}
+use Rattle.xf_tree.proofs.RootedLemmas.{first-zero, rest-sized}
 use Rattle.xf_tree.proofs.PushLemmas.{kept-nodes, kept-live, insert-keeps, small-insert}
 use Rattle.xf_tree.proofs.AddLemmas.{kept-same, kept-texts}
 use Rattle.xf_tree.proofs.FreeLemmas.{same-key}
@@ -43,31 +47,15 @@ instances-rest nodes front rest e f = same_end front rest (in_detached nodes) (s
     same_end [] vs ws h = h
     same_end (u ∷ us) vs ws h = let t : us ++ vs ≡ us ++ ws = cc in same_end us vs ws t
 
-pub first-zero : (rows : List Row) (more : ℕ) → deeper 0 rows ≡ 0 → AreSteps more (depths rows) → (most : ℕ) → AreSteps most (depths rows)
-first-zero [] more stops a most = tt
-first-zero (r ∷ rs) more stops a most = elim (cases_lt 0 r.depth) [
-  | inl l ↦ absurd (let z : suc (deeper 0 rs) ≡ 0 = rw (lt-true 0 r.depth l) at stops in omega arith)
-  | inr l ↦ (omega arith, a.1)
-]
-
 all-one : (rows : List Row) → deeper 0 (map (deepened 1) rows) ≡ length rows
 all-one [] = refl
 all-one (r ∷ rs) = let l : 0 < r.depth + 1 = omega arith in rw (lt-true 0 (r.depth + 1) l) (ap suc (all-one rs))
 
--- the rows but those of a top's tree
-pub rest-sized : (at : ℕ) (old : List Row) → at < length old → (get_or old at no_row).depth ≡ 0 → Sized old
-    → Sized (rest_of at old) × (deeper 0 (after_tree (drop at old)) ≡ 0) × Sized (row_tree (drop at old))
-rest-sized at old h top sized =
-    let us = take at old in
-    let x = get_or old at no_row in
-    let xs = drop (at + 1) old in
-    let sp = split-at at old no_row h in
-    let whole : old ≡ us ++ (row_tree (drop at old) ++ after_tree (drop at old)) = sym (take-append-drop at old) ∙ ap (λ l. us ++ l) (sym (tree-parts (drop at old))) in
-    let stops : deeper 0 (after_tree (drop at old)) ≡ 0 = ap (λ l. deeper 0 (after_tree l)) sp ∙ ap (λ d. deeper d (drop (deeper x.depth xs) xs)) (sym top) ∙ stops-after x.depth xs in
-    let first : deeper 0 (row_tree (drop at old) ++ after_tree (drop at old)) ≡ 0 = ap (deeper 0) (tree-parts (drop at old)) ∙ ap (deeper 0) sp ∙ rw (lt-false 0 x.depth (omega arith)) refl in
-    let a = sized-front 0 us (row_tree (drop at old) ++ after_tree (drop at old)) (all-deep-zero us) first (subst Sized whole sized) in
-    let b = sized-front 0 (row_tree (drop at old)) (after_tree (drop at old)) (all-deep-zero (row_tree (drop at old))) stops a.1 in
-    (sized-append 0 us (after_tree (drop at old)) (all-deep-zero us) stops a.0 b.1, stops, b.0)
+element-plain : (c : Content) → is_element c ≡ true → (is_root c ≡ false) × (is_attribute c ≡ false)
+element-plain Root e = absurd (false≢true e)
+element-plain (Element name) e = (refl, refl)
+element-plain (Attribute name text) e = absurd (false≢true e)
+element-plain (Text text) e = absurd (false≢true e)
 
 module _ (s s2 : Slab Slot) (n at key next total size spare : ℕ) (old new : List Row) (kept : List ℕ) (state : IsState s old kept next total size spare) (here : StandsAt s old n at)
     (top : (get_or old at no_row).depth ≡ 0) (over : IsOver at next key s s2 old new) where
@@ -209,34 +197,68 @@ module _ (s s2 : Slab Slot) (n at key next total size spare : ℕ) (old new : Li
       let tree2 : AllTops (map (shifted 0 1) (map f T)) = subst (λ l. AllTops (map (shifted 0 1) (map f (row_tree l)))) (sym sp) tree in
       subst AllTops (sym over-nodes) (tops-append A ((root ∷ map (shifted 0 1) (map f T)) ++ B) ab.0 (tops-append (root ∷ map (shifted 0 1) (map f T)) B (λ e. refl, tree2) ab.1))
 
-  over-leaves : AreLeaves (parts_in (map (node_of s2) new))
-  over-leaves =
+  -- the rows that stay, and all rows then
+  rest-parts : parts_in (map (node_of s) (take at old)) ++ parts_in (map (node_of s) (after_tree (drop at old)))
+      ≡ parts_in (map (node_of s) (take over.place (rest_of at old))) ++ parts_in (map (node_of s) (drop over.place (rest_of at old)))
+  rest-parts =
       let f = node_of s in
       let us = map f (take at old) in
       let after = map f (after_tree (drop at old)) in
+      let A = map f (take over.place (rest_of at old)) in
+      let B = map f (drop over.place (rest_of at old)) in
+      let both : us ++ after ≡ A ++ B = sym (map-append f (take at old) (after_tree (drop at old))) ∙ ap (map f) (sym (take-append-drop over.place (rest_of at old)))
+      ∙ map-append f (take over.place (rest_of at old)) (drop over.place (rest_of at old)) in
+      sym (parts-append us after) ∙ ap parts_in both ∙ parts-append A B
+
+  over-parts : parts_in (map (node_of s2) new)
+      ≡ parts_in (map (node_of s) (take over.place (rest_of at old)))
+      ++ (parts_in (record { number = next; depth = 0; content = Root } ∷ map (shifted 0 1) (map (node_of s) (row_tree (drop at old)))) ++ parts_in (map (node_of s) (drop over.place (rest_of at old))))
+  over-parts =
+      let f = node_of s in
+      let A = map f (take over.place (rest_of at old)) in
+      let B = map f (drop over.place (rest_of at old)) in
+      let root : Node = record { number = next; depth = 0; content = Root } in
+      let below = root ∷ map (shifted 0 1) (map f (row_tree (drop at old))) in
+      ap parts_in over-nodes ∙ parts-append A (below ++ B) ∙ ap (λ l. parts_in A ++ l) (parts-append below B)
+
+  over-first : is_attribute (content_in (get s (get_or old at no_row).key)) ≡ false → AreFirst 0 (parts_in (map (node_of s2) new))
+  over-first plain =
+      let f = node_of s in
+      let A = parts_in (map f (take over.place (rest_of at old))) in
+      let B = parts_in (map f (drop over.place (rest_of at old))) in
+      let root : Node = record { number = next; depth = 0; content = Root } in
+      let T = map (shifted 0 1) (map f (row_tree (drop at old))) in
+      let below = parts_in (root ∷ T) in
+      let ab = first-parts 0 A B (subst (AreFirst 0) rest-parts (without-first s at old here.within state.sound.first)) in
+      let tree = tree-first s at 1 0 old here.within (λ is pos. absurd (true≢false (sym is ∙ plain))) state.sound.first in
+      let own : AreFirst 0 (parts_in T) = subst (λ d. AreFirst 0 (parts_in (map (shifted d 1) (map f (row_tree (drop at old)))))) top tree in
+      let back = first-top (depth_behind (depth_behind 0 A) below) (depth_behind 0 A) B (first-not_deeper s 0 (drop over.place (rest_of at old)) over.stops) ab.1 in
+      subst (AreFirst 0) (sym over-parts) (first-append 0 A (below ++ B) ab.0 (first-append (depth_behind 0 A) below B ((λ is pos. absurd (false≢true is)), own) back))
+
+  over-leaves : AreLeaves (parts_in (map (node_of s2) new))
+  over-leaves =
+      let f = node_of s in
       let T = map f (row_tree (drop at old)) in
       let A = map f (take over.place (rest_of at old)) in
       let B = map f (drop over.place (rest_of at old)) in
       let root : Node = record { number = next; depth = 0; content = Root } in
       let below = root ∷ map (shifted 0 1) T in
       let w = without-leaves s at old here.within state.sound.leaves in
-      let both : us ++ after ≡ A ++ B = sym (map-append f (take at old) (after_tree (drop at old))) ∙ ap (map f) (sym (take-append-drop over.place (rest_of at old)))
-      ∙ map-append f (take over.place (rest_of at old)) (drop over.place (rest_of at old)) in
-      let ab = leaves-parts (parts_in A) (parts_in B) (subst AreLeaves (sym (parts-append us after) ∙ ap parts_in both ∙ parts-append A B) w.0) in
+      let ab = leaves-parts (parts_in A) (parts_in B) (subst AreLeaves rest-parts w.0) in
       let back = leaves-top (parts_in below) (parts_in B) (first-not_deeper s 0 (drop over.place (rest_of at old)) over.stops) (λ e. absurd (false≢true e), leaves-shifted 0 1 T w.1) ab.1 in
-      let is : parts_in (map (node_of s2) new) ≡ parts_in A ++ (parts_in below ++ parts_in B) = ap parts_in over-nodes ∙ parts-append A (below ++ B) ∙ ap (λ l. parts_in A ++ l) (parts-append below B) in
       let first : 0 ≤ 0 = omega arith in
-      subst AreLeaves (sym is) (leaves-top (parts_in A) (parts_in below ++ parts_in B) first ab.0 back)
+      subst AreLeaves (sym over-parts) (leaves-top (parts_in A) (parts_in below ++ parts_in B) first ab.0 back)
 
-  over-sound : is_root (content_in (get s (get_or old at no_row).key)) ≡ false → length old + 1 + length kept < 2 ^ 31 → IsSound s2 new kept (next + 1)
-  over-sound plain few = record {
+  over-sound : is_element (content_in (get s (get_or old at no_row).key)) ≡ true → length old + 1 + length kept < 2 ^ 31 → IsSound s2 new kept (next + 1)
+  over-sound element few = record {
     sized = over-sized;
     steps = over-steps;
     few = omega (arith, over-length);
     live = over-live;
     kept_live = kept-texts s s2 kept state.sound.kept_live keeps;
-    tops = over-tops plain;
+    tops = over-tops (element-plain _ element).0;
     leaves = over-leaves;
+    first = over-first (element-plain _ element).1;
     apart = λ m.
         let t = more (times m) (times-append m) (times-shifted m 1) _ refl in
         let k = ap (kept_times m) (kept-same s s2 kept state.sound.kept_live keeps) in
@@ -252,10 +274,10 @@ module _ (s s2 : Slab Slot) (n at key next total size spare : ℕ) (old new : Li
         omega (arith, state.sound.fresh m g);
   }
 
-  pub over-state : (spare2 : ℕ) → is_root (content_in (get s (get_or old at no_row).key)) ≡ false → length old + 1 + length kept < 2 ^ 31 → length old + 1 + length kept ≤ spare2
+  pub over-state : (spare2 : ℕ) → is_element (content_in (get s (get_or old at no_row).key)) ≡ true → length old + 1 + length kept < 2 ^ 31 → length old + 1 + length kept ≤ spare2
       → IsState s2 new kept (next + 1) total size spare2
-  over-state spare2 plain few most = record {
-    sound = over-sound plain few;
+  over-state spare2 element few most = record {
+    sound = over-sound element few;
     counted = record {
       count = omega (arith, state.counted.count, more node_count nodes-append (count-alike (shifted 0 1) (λ x. refl)) 0 refl);
       bytes = omega (arith, state.counted.bytes, more all_size sizes-append (size-alike (shifted 0 1) (λ x. refl)) 0 refl);

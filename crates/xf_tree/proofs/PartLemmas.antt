@@ -20,7 +20,13 @@ use Rattle.xf_tree.proofs.StackLemmas.{lt-from, le-from}
 use Rattle.xf_tree.proofs.BelowLemmas.{eq-is}
 
 -- what the test of an attribute says
-before-parts : (p q r : Bool) → (p && q && r) ≡ true → (p ≡ true) × (q ≡ true)
+pub attribute-leaf : (c : Content) → is_attribute c ≡ true → is_leaf c ≡ true
+attribute-leaf Root e = absurd (true≢false (sym e))
+attribute-leaf (Element name) e = absurd (true≢false (sym e))
+attribute-leaf (Attribute name text) e = refl
+attribute-leaf (Text text) e = refl
+
+pub before-parts : (p q r : Bool) → (p && q && r) ≡ true → (p ≡ true) × (q ≡ true)
 before-parts true true r e = (refl, refl)
 before-parts true false r e = absurd (true≢false (sym e))
 before-parts false q r e = absurd (true≢false (sym e))
@@ -186,15 +192,9 @@ module _ (s : Slab Slot) where
       elim (cases_Bool ((x.depth == d) && is_attribute c && is_less (written_of c) name)) [
         | inl a ↦
             let p = before-parts (x.depth == d) (is_attribute c) (is_less (written_of c) name) a in
-            rw a (attribute-stops d name xs leaves.1 (subst (λ e. NotDeeper e (parts_in (nodes xs))) (eq-is x.depth d p.0) (leaves.0 (leaf c p.1))))
+            rw a (attribute-stops d name xs leaves.1 (subst (λ e. NotDeeper e (parts_in (nodes xs))) (eq-is x.depth d p.0) (leaves.0 (attribute-leaf c p.1))))
         | inr a ↦ rw a (rw (lt-false d x.depth first) refl)
       ]
-    where
-      leaf : (c : Content) → is_attribute c ≡ true → is_leaf c ≡ true
-      leaf Root e = absurd (true≢false (sym e))
-      leaf (Element name) e = absurd (true≢false (sym e))
-      leaf (Attribute name text) e = refl
-      leaf (Text text) e = refl
 
   pub part-stops : (d place : ℕ) (c : Content) (xs : List Row) → AreLeaves (parts_in (nodes xs)) → NotDeeper d (parts_in (nodes xs)) → deeper d (drop (part_at d place c (nodes xs)) xs) ≡ 0
   part-stops d place c xs leaves first = elim (cases_Bool (is_attribute c)) [

@@ -13,8 +13,7 @@ use Rattle.xf_tree.specs.Below.{part_at, row_below, IsBehind, IsPlaced}
 use Rattle.xf_tree.proofs.SizedLemmas.{lt-false, deeper-append, deeper-less, sized-front}
 use Rattle.xf_tree.proofs.CutLemmas.{all-deep-zero, tree-parts}
 use Rattle.xf_tree.proofs.PlaceLemmas.{split-at}
-use Rattle.xf_tree.proofs.OverLemmas.{rest-sized}
-use Rattle.xf_tree.proofs.RootedLemmas.{AllUnder, under-append, under-parts, under-index}
+use Rattle.xf_tree.proofs.RootedLemmas.{rest-sized, AllUnder, under-append, under-parts, under-index}
 use Rattle.xf_tree.proofs.PartLemmas.{part-within, part-front, part-stops}
 use Rattle.xf_tree.proofs.RestLemmas.{rest-steps, rest-leaves, rest-under, later-steps, later-leaves, steps-first}
 

@@ -6,14 +6,15 @@ use Rattle.xf_tree.specs.declared.rows.Row.{Row}
 use Rattle.xf_tree.specs.declared.slot.Slot.{Slot}
 use Rattle.xf_tree.specs.Rows.{Sized, tree_of, after_tree, rest_of}
 use Rattle.xf_tree.specs.Leaves.{parts_in, NotDeeper, AreLeaves}
+use Rattle.xf_tree.specs.First.{AreFirst}
 use Rattle.xf_tree.specs.Tree.{node_of, no_row, AreSteps, depths}
 use Rattle.xf_tree.proofs.CutLemmas.{tree-parts}
 use Rattle.xf_tree.proofs.StepLemmas.{most_after, steps-append, steps-parts}
 use Rattle.xf_tree.proofs.LeafLemmas.{parts-append, leaves-parts}
+use Rattle.xf_tree.proofs.FirstRowLemmas.{without-first}
 use Rattle.xf_tree.proofs.StateLemmas.{without-leaves}
 use Rattle.xf_tree.proofs.PlaceLemmas.{split-at}
-use Rattle.xf_tree.proofs.OverLemmas.{rest-sized, first-zero}
-use Rattle.xf_tree.proofs.RootedLemmas.{AllUnder, under-steps, under-append, under-parts}
+use Rattle.xf_tree.proofs.RootedLemmas.{rest-sized, first-zero, AllUnder, under-steps, under-append, under-parts}
 use Rattle.xf_tree.proofs.BehindLemmas.{top-stops}
 
 module _ (s : Slab Slot) (at : ℕ) (old : List Row) (h : at < length old) (top : (get_or old at no_row).depth ≡ 0) (sized : Sized old) where
@@ -35,14 +36,21 @@ module _ (s : Slab Slot) (at : ℕ) (old : List Row) (h : at < length old) (top 
         first-zero T _ (top-stops at old h top) parts.0 0,
       )
 
+  rest-parts : parts_in (map (node_of s) (rest_of at old)) ≡ parts_in (map (node_of s) (take at old)) ++ parts_in (map (node_of s) (after_tree (drop at old)))
+  rest-parts =
+      let f = node_of s in
+      ap parts_in (map-append f (take at old) after) ∙ parts-append (map f (take at old)) (map f after)
+
   -- and their leaves
   pub rest-leaves : AreLeaves (parts_in (map (node_of s) old)) → AreLeaves (parts_in (map (node_of s) (rest_of at old))) × AreLeaves (parts_in (map (node_of s) (tree_of (drop at old))))
   rest-leaves leaves =
       let f = node_of s in
       let w = without-leaves s at old h leaves in
-      let is : parts_in (map f (rest_of at old)) ≡ parts_in (map f (take at old)) ++ parts_in (map f after) =
-      ap parts_in (map-append f (take at old) after) ∙ parts-append (map f (take at old)) (map f after) in
-      (subst AreLeaves (sym is) w.0, w.1)
+      (subst AreLeaves (sym rest-parts) w.0, w.1)
+
+  -- and where attributes stand
+  pub rest-first : AreFirst 0 (parts_in (map (node_of s) old)) → AreFirst 0 (parts_in (map (node_of s) (rest_of at old)))
+  rest-first first = subst (AreFirst 0) (sym rest-parts) (without-first s at old h first)
 
   pub rest-under : (b : ℕ) → AreSteps 0 (depths old) → length old ≤ b → AllUnder b (rest_of at old) × AllUnder b (tree_of (drop at old))
   rest-under b steps few =

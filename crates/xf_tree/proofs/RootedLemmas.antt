@@ -1,12 +1,15 @@
 -- A root put over a tree: the rows.
-use Rattle.std.proofs.Common.{◌≡◌, ℕ, zero, suc, ◌+◌, ◌-◌, ◌<◌, ◌≤◌, ◌^◌, List, [], ◌∷◌, ◌++◌, map, length, take, drop, get_or, append_assoc, append-nil, refl, sym, ap, ◌∙◌, subst, arith, length-append, length-take, length-drop, take-add}
+use Rattle.std.proofs.Common.{◌≡◌, ℕ, zero, suc, ◌+◌, ◌-◌, ◌<◌, ◌≤◌, ◌^◌, List, [], ◌∷◌, ◌++◌, map, length, take, drop, get_or, append_assoc, append-nil, refl, sym, ap, ◌∙◌, subst, inl, inr, arith, length-append, length-take, length-drop, take-add}
 use Rattle.std.specs.List.{All}
+use Rattle.std.proofs.lemmas.Bool.{cases_lt}
 use Rattle.std.proofs.lemmas.List.{take-append-drop, drop-drop, length-map, take_at, drop_at}
 use Rattle.xf_tree.specs.declared.rows.Row.{Row}
-use Rattle.xf_tree.specs.Rows.{deepened, deepened_part, rotated, tree_of, after_tree, IsRooted}
-use Rattle.xf_tree.specs.Tree.{AreSteps, depths}
+use Rattle.xf_tree.specs.Rows.{Sized, deeper, deepened, deepened_part, rotated, tree_of, after_tree, rest_of, IsRooted}
+use Rattle.xf_tree.specs.Tree.{AreSteps, depths, no_row}
+use Rattle.xf_tree.proofs.SizedLemmas.{lt-true, lt-false, sized-append, sized-front}
 use Rattle.xf_tree.proofs.MoveLemmas.{rotated-parts, parts}
-use Rattle.xf_tree.proofs.CutLemmas.{tree-parts, tree-is-front}
+use Rattle.xf_tree.proofs.CutLemmas.{all-deep-zero, tree-parts, tree-is-front, stops-after}
+use Rattle.xf_tree.proofs.PlaceLemmas.{split-at}
 
 -- a list in three parts
 three-parts : {X : Type 0} (a b : ℕ) (xs : List X) → a ≤ b → xs ≡ take a xs ++ (take (b - a) (drop a xs) ++ drop b xs)
@@ -127,3 +130,26 @@ depths-fit at old rows2 R steps few zero_depth is = λ k d h.
     (under-append b (take at old ++ after_tree (drop at old)) (tree_of (drop at old)) (under-append b (take at old) (after_tree (drop at old)) p.0 q.1) q.0) (root, tt) in
     let u = under-index b rows2 k d (subst (AllUnder b) (sym is) whole) h in
     omega arith
+
+-- ---- the rows but those of a top's tree
+
+pub first-zero : (rows : List Row) (more : ℕ) → deeper 0 rows ≡ 0 → AreSteps more (depths rows) → (most : ℕ) → AreSteps most (depths rows)
+first-zero [] more stops a most = tt
+first-zero (r ∷ rs) more stops a most = elim (cases_lt 0 r.depth) [
+  | inl l ↦ absurd (let z : suc (deeper 0 rs) ≡ 0 = rw (lt-true 0 r.depth l) at stops in omega arith)
+  | inr l ↦ (omega arith, a.1)
+]
+
+pub rest-sized : (at : ℕ) (old : List Row) → at < length old → (get_or old at no_row).depth ≡ 0 → Sized old
+    → Sized (rest_of at old) × (deeper 0 (after_tree (drop at old)) ≡ 0) × Sized (tree_of (drop at old))
+rest-sized at old h top sized =
+    let us = take at old in
+    let x = get_or old at no_row in
+    let xs = drop (at + 1) old in
+    let sp = split-at at old no_row h in
+    let whole : old ≡ us ++ (tree_of (drop at old) ++ after_tree (drop at old)) = sym (take-append-drop at old) ∙ ap (λ l. us ++ l) (sym (tree-parts (drop at old))) in
+    let stops : deeper 0 (after_tree (drop at old)) ≡ 0 = ap (λ l. deeper 0 (after_tree l)) sp ∙ ap (λ d. deeper d (drop (deeper x.depth xs) xs)) (sym top) ∙ stops-after x.depth xs in
+    let first : deeper 0 (tree_of (drop at old) ++ after_tree (drop at old)) ≡ 0 = ap (deeper 0) (tree-parts (drop at old)) ∙ ap (deeper 0) sp ∙ rw (lt-false 0 x.depth (omega arith)) refl in
+    let a = sized-front 0 us (tree_of (drop at old) ++ after_tree (drop at old)) (all-deep-zero us) first (subst Sized whole sized) in
+    let b = sized-front 0 (tree_of (drop at old)) (after_tree (drop at old)) (all-deep-zero (tree_of (drop at old))) stops a.1 in
+    (sized-append 0 us (after_tree (drop at old)) (all-deep-zero us) stops a.0 b.1, stops, b.0)

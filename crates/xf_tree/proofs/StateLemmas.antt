@@ -8,9 +8,12 @@ use Rattle.xf_tree.specs.declared.rows.Row.{Row}
 use Rattle.xf_tree.specs.declared.slot.Slot.{Slot}
 use Rattle.xf_tree.specs.Rows.{deeper, Sized, raised, tree_of, after_tree, top_depth, IsCut}
 use Rattle.xf_tree.specs.Leaves.{parts_in, NotDeeper, AreLeaves}
+use Rattle.xf_tree.specs.First.{AreFirst}
 use Rattle.xf_tree.specs.Tree.{node_of, no_row, AllLive, AllTops, IsSound, IsState}
 use Rattle.xf_tree.proofs.CutLemmas.{tree-parts, stops-after}
 use Rattle.xf_tree.proofs.PlaceLemmas.{split-at}
+use Rattle.xf_tree.proofs.FirstLemmas.{depth_behind, first-append, first-anywhere}
+use Rattle.xf_tree.proofs.FirstRowLemmas.{without-first, tree-first}
 use Rattle.xf_tree.proofs.LeafLemmas.{leaves-top, leaves-without, leaves-shifted, parts-append, first-not_deeper}
 use Rattle.xf_tree.proofs.ForestLemmas.{whole-map, cut-map, node-ignores, depth-ignores, map-lifted, cut-times, cut-counted, cut-stepped, live-append, live-parts, live-shrunk, live-reverse, live-raised, tops-append, tops-parts, tops-lifted}
 
@@ -30,6 +33,30 @@ without-leaves s at old h leaves =
     let w = leaves-without (parts_in us) (x.depth, (f x).content) (parts_in rest) (parts_in after) (subst AreLeaves was leaves) (first-not_deeper s x.depth (after_tree (x ∷ xs)) (stops-after x.depth xs)) in
     subst (λ l. AreLeaves (parts_in us ++ parts_in (map f (after_tree l))) × AreLeaves (parts_in (map f (tree_of l)))) (sym (split-at at old no_row h)) w
 
+-- the nodes after a cut
+cut-parts : (s : Slab Slot) (at : ℕ) (old new : List Row) → IsCut at old new
+    → parts_in (map (node_of s) new)
+    ≡ (parts_in (map (node_of s) (take at old)) ++ parts_in (map (node_of s) (after_tree (drop at old)))) ++ parts_in (map (shifted (top_depth (drop at old)) 0) (map (node_of s) (tree_of (drop at old))))
+cut-parts s at old new is_cut =
+    let f = node_of s in
+    let here = drop at old in
+    let us = map f (take at old) in
+    let after = map f (after_tree here) in
+    let low = map (shifted (top_depth here) 0) (map f (tree_of here)) in
+    ap parts_in (cut-map f (node-ignores s) at old new is_cut ∙ ap (λ l. us ++ (after ++ l)) (map-lifted s (top_depth here) (tree_of here)) ∙ sym (append_assoc us after low))
+    ∙ parts-append (us ++ after) low ∙ ap (λ l. l ++ parts_in low) (parts-append us after)
+
+cut-first : (s : Slab Slot) (at : ℕ) (old new : List Row) → at < length old → IsCut at old new → AreFirst 0 (parts_in (map (node_of s) old)) → AreFirst 0 (parts_in (map (node_of s) new))
+cut-first s at old new h is_cut first =
+    let f = node_of s in
+    let here = drop at old in
+    let before = parts_in (map f (take at old)) ++ parts_in (map f (after_tree here)) in
+    let low = parts_in (map (shifted (top_depth here) 0) (map f (tree_of here))) in
+    let tree = tree-first s at 0 0 old h (λ is pos. refl) first in
+    let depth : (get_or old at no_row).depth ≡ top_depth here = ap top_depth (sym (split-at at old no_row h)) in
+    let own : AreFirst 0 low = subst (λ d. AreFirst 0 (parts_in (map (shifted d 0) (map f (tree_of here))))) depth tree in
+    subst (AreFirst 0) (sym (cut-parts s at old new is_cut)) (first-append 0 before low (without-first s at old h first) (first-anywhere (depth_behind 0 before) low own))
+
 cut-leaves : (s : Slab Slot) (at : ℕ) (old new : List Row) → at < length old → IsCut at old new → AreLeaves (parts_in (map (node_of s) old)) → AreLeaves (parts_in (map (node_of s) new))
 cut-leaves s at old new h is_cut leaves =
     let f = node_of s in
@@ -39,10 +66,7 @@ cut-leaves s at old new h is_cut leaves =
     let low = map (shifted (top_depth here) 0) (map f (tree_of here)) in
     let w = without-leaves s at old h leaves in
     let top : NotDeeper 0 (parts_in low) = subst (λ l. NotDeeper 0 (parts_in (map (shifted (top_depth l) 0) (map f (tree_of l))))) (sym (split-at at old no_row h)) (omega arith) in
-    let is : parts_in (map f new) ≡ (parts_in us ++ parts_in after) ++ parts_in low =
-    ap parts_in (cut-map f (node-ignores s) at old new is_cut ∙ ap (λ l. us ++ (after ++ l)) (map-lifted s (top_depth here) (tree_of here)) ∙ sym (append_assoc us after low))
-    ∙ parts-append (us ++ after) low ∙ ap (λ l. l ++ parts_in low) (parts-append us after) in
-    subst AreLeaves (sym is) (leaves-top (parts_in us ++ parts_in after) (parts_in low) top w.0 (leaves-shifted (top_depth here) 0 (map f (tree_of here)) w.1))
+    subst AreLeaves (sym (cut-parts s at old new is_cut)) (leaves-top (parts_in us ++ parts_in after) (parts_in low) top w.0 (leaves-shifted (top_depth here) 0 (map f (tree_of here)) w.1))
 
 pub cut-length : (at : ℕ) (old new : List Row) → IsCut at old new → length new ≡ length old
 cut-length at old new is_cut =
@@ -87,6 +111,7 @@ cut-sound s at next kept old new sound h is_sized is_cut =
       fresh = λ n g. let e = cut-times s n at old new is_cut in let l = sound.fresh n g in omega (arith, e, l);
       kept_live = sound.kept_live;
       leaves = cut-leaves s at old new h is_cut sound.leaves;
+      first = cut-first s at old new h is_cut sound.first;
       live = subst (AllLive s) (sym is_cut) (live-shrunk s (length (tree_of here)) (top_depth here) (reverse (take at old)) _ (live-reverse s (take at old) p.0)
           (live-append s (after_tree here) _ q.1 (live-raised s (top_depth here) (tree_of here) q.0)));
     }

@@ -9,7 +9,7 @@ use Rattle.std.proofs.lemmas.Bool.{true≢false, false≢true, cases_Bool}
 use Rattle.std.proofs.lemmas.List.{take-append-drop, reverse-append, reverse-reverse, take_more}
 use Rattle.xf_doc.specs.declared.content.Content.{Content}
 use Rattle.xf_doc.specs.declared.content.Content.TheVariants.{Root, Element, Attribute, Text}
-use Rattle.xf_doc.specs.Forest.{written_with, is_root}
+use Rattle.xf_doc.specs.Forest.{written_with, is_attribute}
 use Rattle.xf_doc.specs.Plant.{is_less, written_of, in_place, in_order, attribute_in, attribute_by}
 use Rattle.xf_name.specs.Bindings.{Bindings, resolved}
 use Rattle.xf_name.specs.Part.{Kind, no_declaration, of_default, of_prefix, kind_of}
@@ -17,6 +17,7 @@ use Rattle.xf_name.specs.declared.lit.Pair.{Pair}
 use Rattle.xf_name.specs.declared.qname.QName.{QName}
 use Rattle.xf_name.specs.declared.fault.NameFault.{NameFault}
 use Rattle.xf_tree.specs.Contents.{AllLess, EndsNotLess}
+use Rattle.xf_tree.proofs.FirstLemmas.{AllAttributes}
 
 -- ---- bytes of a written name
 
@@ -158,30 +159,26 @@ insert-place c ys at less ends =
 
 -- ---- attributes are no roots
 
-abbrev pub AllRootless : List Content → Type 0
-AllRootless [] = Unit {0}
-AllRootless (c ∷ cs) = (is_root c ≡ false) × AllRootless cs
-
-place-rootless : (c : Content) (xs : List Content) → is_root c ≡ false → AllRootless xs → AllRootless (in_place c xs)
-place-rootless c [] h all = (h, tt)
-place-rootless c (x ∷ xs) h all = elim (cases_Bool (is_less (written_of x) (written_of c))) [
-  | inl e ↦ rw e (all.0, place-rootless c xs h all.1)
+place-attributes : (c : Content) (xs : List Content) → is_attribute c ≡ true → AllAttributes xs → AllAttributes (in_place c xs)
+place-attributes c [] h all = (h, tt)
+place-attributes c (x ∷ xs) h all = elim (cases_Bool (is_less (written_of x) (written_of c))) [
+  | inl e ↦ rw e (all.0, place-attributes c xs h all.1)
   | inr e ↦ rw e (h, all)
 ]
 
-order-rootless : (xs : List Content) → AllRootless xs → AllRootless (in_order xs)
-order-rootless [] all = tt
-order-rootless (x ∷ xs) all = place-rootless x (in_order xs) all.0 (order-rootless xs all.1)
+order-attributes : (xs : List Content) → AllAttributes xs → AllAttributes (in_order xs)
+order-attributes [] all = tt
+order-attributes (x ∷ xs) all = place-attributes x (in_order xs) all.0 (order-attributes xs all.1)
 
-by-rootless : (b : Bindings) (k : Kind) (text : List ℕ) (name : Result QName NameFault) (cs : List Content) → AllRootless cs → AllRootless (cons_option (attribute_by b k text name) cs)
-by-rootless b no_declaration text (Ok name) cs all = (refl, all)
-by-rootless b no_declaration text (Err e) cs all = all
-by-rootless b of_default text name cs all = all
-by-rootless b (of_prefix p) text name cs all = all
+by-attributes : (b : Bindings) (k : Kind) (text : List ℕ) (name : Result QName NameFault) (cs : List Content) → AllAttributes cs → AllAttributes (cons_option (attribute_by b k text name) cs)
+by-attributes b no_declaration text (Ok name) cs all = (refl, all)
+by-attributes b no_declaration text (Err e) cs all = all
+by-attributes b of_default text name cs all = all
+by-attributes b (of_prefix p) text name cs all = all
 
-pub attributes-rootless : (b : Bindings) (ps : List Pair) → AllRootless (in_order (filter_map (attribute_in b) ps))
-attributes-rootless b ps = order-rootless (filter_map (attribute_in b) ps) (each ps)
+pub all-attributes : (b : Bindings) (ps : List Pair) → AllAttributes (in_order (filter_map (attribute_in b) ps))
+all-attributes b ps = order-attributes (filter_map (attribute_in b) ps) (each ps)
   where
-    each : (ps : List Pair) → AllRootless (filter_map (attribute_in b) ps)
+    each : (ps : List Pair) → AllAttributes (filter_map (attribute_in b) ps)
     each [] = tt
-    each (p ∷ ps) = by-rootless b (kind_of p.name) p.text (resolved b p.name 0) (filter_map (attribute_in b) ps) (each ps)
+    each (p ∷ ps) = by-attributes b (kind_of p.name) p.text (resolved b p.name 0) (filter_map (attribute_in b) ps) (each ps)

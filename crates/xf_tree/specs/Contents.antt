@@ -8,6 +8,7 @@ use Rattle.xf_doc.specs.Plant.{Contents, lit_contents, element_contents, content
 use Rattle.xf_doc.specs.Limits.{Limits, size_of}
 use Rattle.xf_doc.specs.Forest.{own_text, is_element}
 use Rattle.xf_tree.specs.Leaves.{AreLeaves}
+use Rattle.xf_tree.specs.First.{AreFirst}
 use Rattle.xf_tree.specs.Tree.{AreSteps, AllPlain}
 
 abbrev pub contents_of_element : Bindings → LitElement → Contents
@@ -20,12 +21,13 @@ abbrev pub AllFrom : ℕ → List ℕ → Type 0
 AllFrom d [] = Unit {0}
 AllFrom d (x ∷ xs) = (d ≤ x) × AllFrom d xs
 
--- a part of a tree: nothing in it is less deep than this, and it may stand after whatever allows this depth
+-- a part of a tree: nothing in it is less deep than this, and it may stand after whatever allows this depth, also to an attribute
 pub record IsPart (depth : ℕ) (contents : List (ℕ × Content)) : Type 0 where
   pub steps : (most : ℕ) → depth ≤ most → AreSteps most (map (λ p. p.0) contents)
   pub deep : AllFrom depth (map (λ p. p.0) contents)
   pub plain : AllPlain contents
   pub leaves : AreLeaves contents
+  pub first : AreFirst depth contents
 
 -- each of these comes before a content by the bytes of written names
 abbrev pub AllLess : Content → List Content → Type 0

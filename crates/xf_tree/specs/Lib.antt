@@ -1,5 +1,6 @@
 pub mod Rows
 pub mod Leaves
+pub mod First
 pub mod Tree
 pub mod Calls
 pub mod Contents

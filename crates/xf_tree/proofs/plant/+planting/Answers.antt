@@ -9,7 +9,7 @@ use Rattle.xf_doc.specs.declared.content.Content.{Content}
 use Rattle.xf_doc.specs.declared.content.Content.TheVariants.{Element}
 use Rattle.xf_doc.specs.Plant.{contents_of, default_below, element_name, at_depth, in_order, attribute_in}
 use Rattle.xf_tree.specs.Contents.{contents_of_all, IsPart}
-use Rattle.xf_tree.proofs.ContentsLemmas.{part-append, part-element, added-element}
+use Rattle.xf_tree.proofs.ContentsLemmas.{part-append, part-element, added-element, children-plain}
 use Rattle.xf_tree.proofs.plant.+planting.Goals as goal
 use Rattle.xf_tree.proofs.plant.+planting.Goals.{push_element-After-push_all}
 
@@ -25,7 +25,7 @@ push_all-loop-lit-preserved t c =
     let whole : contents_of_all b (drop i lits) c.args.space c.args.depth ≡ here ++ rest = ap (λ l. contents_of_all b l c.args.space c.args.depth) split in
     record {
       so_far = ap (λ l. l ++ rest) c.in_ok-push_lit.ensures.added ∙ append_assoc c.loop-lit.tree.items here rest ∙ ap (λ l. c.loop-lit.tree.items ++ l) (sym whole) ∙ c.loop-lit.invariant.so_far;
-      part = λ p. c.loop-lit.invariant.part (subst (IsPart c.args.depth) (sym whole) (part-append c.args.depth here rest c.in_ok-push_lit.ensures.part p));
+      part = λ p. c.loop-lit.invariant.part (subst (IsPart c.args.depth) (sym whole) (part-append c.args.depth here rest c.in_ok-push_lit.ensures.part p (children-plain b (drop (i + 1) lits) c.args.space c.args.depth)));
     }
 
 -- ---- an element

@@ -6,8 +6,7 @@ use Rattle.xf_tree.specs.declared.rows.Row.{Row}
 use Rattle.xf_tree.specs.Rows.{Sized, deeper, deepened, tree_of, after_tree, rest_of}
 use Rattle.xf_tree.specs.Tree.{node_of, no_row}
 use Rattle.xf_tree.proofs.CutLemmas.{size-at, tree-within}
-use Rattle.xf_tree.proofs.OverLemmas.{rest-sized}
-use Rattle.xf_tree.proofs.RootedLemmas.{rooted-is, rest-front, depths-fit}
+use Rattle.xf_tree.proofs.RootedLemmas.{rest-sized, rooted-is, rest-front, depths-fit}
 use Rattle.xf_tree.proofs.root.root_over.Goals as goal
 
 pub tops_end-place-requires : goal.tops_end-place-requires

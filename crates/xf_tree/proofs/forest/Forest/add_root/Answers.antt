@@ -3,14 +3,14 @@ use Rattle.slab.specs.Slab.{Slab, get}
 use Rattle.xf_doc.specs.declared.content.Node.{Node}
 use Rattle.xf_doc.specs.declared.content.Kind.TheVariants as kind
 use Rattle.xf_doc.specs.Changes.{with_root}
-use Rattle.xf_doc.specs.Forest.{kind_of, kind_at, is_root}
+use Rattle.xf_doc.specs.Forest.{kind_of, kind_at, is_element}
 use Rattle.xf_doc.specs.Needs.{is_top}
 use Rattle.xf_doc.specs.Texts.{Keeping}
 use Rattle.xf_tree.specs.declared.rows.Row.{Row}
 use Rattle.xf_tree.specs.Tree.{IsState, StandsAt, node_of, kept_of, content_in, keeping_of, no_row}
 use Rattle.xf_tree.proofs.PlaceLemmas.{stands, one_of, content-means}
 use Rattle.xf_tree.proofs.PushLemmas.{insert-keeps}
-use Rattle.xf_tree.proofs.AddLemmas.{same-state, same-view, room-same, kept-same, kept-texts, named-meets, zero-depth, element-plain, stands-same}
+use Rattle.xf_tree.proofs.AddLemmas.{same-state, same-view, room-same, kept-same, kept-texts, named-meets, zero-depth, element-is, stands-same}
 use Rattle.xf_tree.proofs.OverLemmas.{over-state, over-view}
 use Rattle.xf_tree.proofs.forest.Forest.add_root.Goals as goal
 use Rattle.xf_tree.proofs.forest.Forest.add_root.Goals.{After-root_over-place}
@@ -65,8 +65,8 @@ at-top c =
     let top = named-meets n (λ (x : Node). x.depth == 0) _ _ _ _ (stands s n at rows (standing-here c) (one_of s rows c.self.inside.kept.items c.self.inside.next n c.self.invariant.sound)) may in
     ap (λ r. (get_or r at no_row).depth) c.reserve-2.ensures.items ∙ zero-depth (get_or rows at no_row).depth top
 
-no-root_there : (c : After-root_over-place) → is_root (content_in (get c.reserve.new.self (get_or c.reserve-2.new.self.items c.in-Some.at no_row).key)) ≡ false
-no-root_there c =
+element-there : (c : After-root_over-place) → is_element (content_in (get c.reserve.new.self (get_or c.reserve-2.new.self.items c.in-Some.at no_row).key)) ≡ true
+element-there c =
     let n = c.args.top.number in
     let s = c.self.inside.slots in
     let s1 = c.reserve.new.self in
@@ -74,9 +74,9 @@ no-root_there c =
     let at = c.in-Some.at in
     let element = subst (λ (k : Keeping). kind_at n k.forest.nodes ≡ Some kind.Element) (sym c.self.view_is) c.requires.may.kind in
     let means = ap (option_map kind_of) (content-means s n at rows c.self.inside.kept.items c.self.inside.next c.self.invariant.sound (standing-here c)) in
-    let plain = element-plain (content_in (get s (get_or rows at no_row).key)) (sym means ∙ element) in
-    ap (λ r. is_root (content_in (get s1 (get_or r at no_row).key))) c.reserve-2.ensures.items
-    ∙ ap (λ o. is_root (content_in o)) (room-same s s1 _ c.reserve.ensures.rest_kept (get_or rows at no_row).key) ∙ plain
+    let is = element-is (content_in (get s (get_or rows at no_row).key)) (sym means ∙ element) in
+    ap (λ r. is_element (content_in (get s1 (get_or r at no_row).key))) c.reserve-2.ensures.items
+    ∙ ap (λ o. is_element (content_in o)) (room-same s s1 _ c.reserve.ensures.rest_kept (get_or rows at no_row).key) ∙ is
 
 pub invariant_of-self-2 : goal.invariant_of-self-2
 invariant_of-self-2 c =
@@ -88,7 +88,7 @@ invariant_of-self-2 c =
     let most : length rows + 1 + length kept ≤ vec_capacity c.root_over-place.new.rows =
     omega (arith, c.in_ok-reserve-2.ensures.ok, c.root_over-place.ensures.room, c.len-kept.ensures, c.reserve-2.new.self.ok.0, c.self.inside.kept.ok.0) in
     over-state c.reserve.new.self c.root_over-place.new.slots c.args.top.number c.in-Some.at c.root_over-place.result c.self.inside.next c.self.inside.count c.self.inside.bytes _ rows c.root_over-place.new.rows.items kept
-    (reserved k) (standing-reserved k) (at-top k) c.root_over-place.ensures.answer (vec_capacity c.root_over-place.new.rows) (no-root_there k) few most
+    (reserved k) (standing-reserved k) (at-top k) c.root_over-place.ensures.answer (vec_capacity c.root_over-place.new.rows) (element-there k) few most
 
 pub returns-clause-ok : goal.returns-clause-ok
 returns-clause-ok c =

@@ -1,16 +1,16 @@
-use Rattle.std.proofs.Common.{◌≡◌, ◌==◌, List, map, get_or, false, true, option_map, inl, inr, sym, ap, ◌∙◌, subst}
+use Rattle.std.proofs.Common.{◌≡◌, ◌==◌, List, Some, map, get_or, false, true, option_map, inl, inr, sym, ap, ◌∙◌, subst}
 use Rattle.slab.specs.Slab.{get}
 use Rattle.xf_doc.specs.declared.content.Node.{Node}
 use Rattle.xf_doc.specs.declared.content.Kind.TheVariants as kind
-use Rattle.xf_doc.specs.Forest.{has_number, kind_of, tree_of, is_root}
+use Rattle.xf_doc.specs.Forest.{has_number, kind_of, tree_of, is_root, is_element, is_attribute}
 use Rattle.xf_doc.specs.Changes.{placed}
 use Rattle.xf_doc.specs.Needs.{is_top, MayStand}
 use Rattle.xf_doc.specs.Texts.{Keeping}
 use Rattle.xf_tree.specs.Leaves.{is_leaf}
 use Rattle.xf_tree.specs.Tree.{StandsAt, node_of, kept_of, content_in, keeping_of, no_row}
 use Rattle.xf_tree.proofs.PlaceLemmas.{stands, one_of, content-means}
-use Rattle.xf_tree.proofs.AddLemmas.{named-meets, zero-depth}
-use Rattle.xf_tree.proofs.NeedLemmas.{none-named, none-kind, node-kind, parent-kind, no-root_content, no-leaf_content}
+use Rattle.xf_tree.proofs.AddLemmas.{named-meets, zero-depth, element-is}
+use Rattle.xf_tree.proofs.NeedLemmas.{none-named, none-kind, node-kind, parent-kind, attribute-parent, attribute-kind, no-root_content, no-leaf_content}
 use Rattle.xf_tree.proofs.AttachLemmas.{stands-outside, placed-means}
 use Rattle.xf_tree.proofs.AttachedLemmas.{placed-state}
 use Rattle.xf_tree.proofs.forest.Forest.place.Goals as goal
@@ -82,11 +82,21 @@ no-leaf_there c =
     let means = ap (option_map kind_of) (content-means s c.args.parent.number c.in-Some-row_of.above rows c.self.inside.kept.items c.self.inside.next c.self.invariant.sound (parent-here c)) in
     no-leaf_content _ (elim (parent-kind _ _ c.args.place _ (may-stand c)) [ inl e ↦ inl (sym means ∙ e) | inr e ↦ inr (sym means ∙ e) ])
 
+element-there : (c : After-deref_mut) → is_attribute (content_in (get c.self.inside.slots (get_or c.self.inside.rows.items c.in-Some.at no_row).key)) ≡ true
+    → is_element (content_in (get c.self.inside.slots (get_or c.self.inside.rows.items c.in-Some-row_of.above no_row).key)) ≡ true
+element-there c is =
+    let s = c.self.inside.slots in
+    let rows = c.self.inside.rows.items in
+    let kept = c.self.inside.kept.items in
+    let one = ap (option_map kind_of) (content-means s c.args.node.number c.in-Some.at rows kept c.self.inside.next c.self.invariant.sound (node-here c)) in
+    let two = ap (option_map kind_of) (content-means s c.args.parent.number c.in-Some-row_of.above rows kept c.self.inside.next c.self.invariant.sound (parent-here c)) in
+    element-is _ (sym two ∙ attribute-parent _ _ c.args.place _ (may-stand c) (one ∙ ap Some (attribute-kind _ is)))
+
 pub invariant_of-self : goal.invariant_of-self
 invariant_of-self c =
     let k = (goal.at.invariant_of-self c).After-deref_mut in
     placed-state c.self.inside.slots c.args.node.number c.args.parent.number c.in-Some.at c.in-Some-row_of.above c.args.place c.self.inside.next c.self.inside.count c.self.inside.bytes _
-    c.self.inside.kept.items c.self.inside.rows.items c.place_tree.new.rows.items c.self.invariant (node-here k) (parent-here k) (at-top k) c.place_tree.ensures.answer (no-root_there k) (no-leaf_there k)
+    c.self.inside.kept.items c.self.inside.rows.items c.place_tree.new.rows.items c.self.invariant (node-here k) (parent-here k) (at-top k) c.place_tree.ensures.answer (no-root_there k) (no-leaf_there k) (element-there k)
     c.place_tree.ensures.sized _ c.place_tree.ensures.room
 
 pub returns : goal.returns
