@@ -15,6 +15,8 @@ mod rows;
 mod slot;
 #[cfg(test)]
 mod tests;
+#[cfg(test)]
+mod tests_may;
 mod text;
 mod tree;
 
