@@ -1,7 +1,7 @@
 use Rattle.std.proofs.Common.{◌≡◌, ℕ, ◌≤◌, true, false, map, nat_le, sym, subst, arith}
 use Rattle.std.specs.List.{list_all}
 use Rattle.std.proofs.lemmas.Bool.Decides.{nat_tests}
-use Rattle.xf_doc.specs.Needs.{MayDropFrom, goes_or_stays}
+use Rattle.xf_doc.specs.Needs.{goes_or_stays}
 use Rattle.xf_doc.specs.Texts.{Keeping}
 use Rattle.xf_doc.specs.Visit.{visits}
 use Rattle.xf_tree.specs.Older.{AreWhole}
