@@ -2,12 +2,12 @@
 use Rattle.std.proofs.Common.{◌≡◌, ℕ, zero, suc, ◌+◌, ◌-◌, ◌<◌, ◌≤◌, Bool, true, false, List, [], ◌∷◌, ◌++◌, map, length, take, drop, get_or, nat_lt, cond, reverse, subst, append_assoc, inl, inr, refl, sym, ap, ◌∙◌, arith, length-drop, length-take, length-append}
 use Rattle.std.proofs.lemmas.Bool.Decides.{nat_tests}
 use Rattle.std.proofs.lemmas.Bool.{cases_lt}
-use Rattle.std.proofs.lemmas.List.{take-append-drop, reverse-reverse, take_at, drop_at, length-map, append-nil, drop-drop}
+use Rattle.std.proofs.lemmas.List.{take-append-drop, reverse-reverse, length-reverse, take_at, drop_at, length-map, append-nil, drop-drop}
 use Rattle.std.proofs.Math.Seq.{drop-cons}
 use Rattle.xf_tree.specs.declared.rows.Row.{Row}
-use Rattle.xf_tree.specs.Rows.{deeper, Sized, grown, shrunk, raised, tree_of, after_tree, top_depth, rotated, IsCut, raised_part}
+use Rattle.xf_tree.specs.Rows.{deeper, Sized, SizedBefore, grown, shrunk, raised, tree_of, after_tree, top_depth, rotated, IsCut, raised_part}
 use Rattle.xf_tree.proofs.MoveLemmas.{rotated-parts}
-use Rattle.xf_tree.proofs.SizedLemmas.{lt-true, lt-false, SizedBefore, Longer, AllDeep, deeper-append, sized-append, sized-front, longer-tree, shrunk-sized, sized-before}
+use Rattle.xf_tree.proofs.SizedLemmas.{lt-true, lt-false, Longer, AllDeep, deeper-append, sized-append, sized-front, longer-tree, shrunk-sized, sized-before}
 
 abbrev pub no_row : Row
 no_row = record { key = 0; size = 0; depth = 0 }
@@ -110,33 +110,53 @@ tree-is-front xs n e = (
   ap (drop n) (sym (tree-parts xs)) ∙ drop_at (tree_of xs) (after_tree xs) n (sym e),
 )
 
+-- what stands after the rows is not looked at
+pub shrunk-tail : (by d : ℕ) (ys tail : List Row) → shrunk by d ys tail ≡ shrunk by d ys [] ++ tail
+shrunk-tail by d [] tail = refl
+shrunk-tail by d (y ∷ ys) tail =
+    let small : Row = record { key = y.key; size = y.size - by; depth = y.depth } in
+    elim (cases_lt y.depth d) [
+      | inl h ↦ rw (lt-true y.depth d h)
+          (shrunk-tail by y.depth ys (small ∷ tail) ∙ sym (append_assoc (shrunk by y.depth ys []) (small ∷ []) tail) ∙ ap (λ l. l ++ tail) (sym (shrunk-tail by y.depth ys (small ∷ []))))
+      | inr h ↦ rw (lt-false y.depth d h) (shrunk-tail by d ys (y ∷ tail) ∙ sym (append_assoc (shrunk by d ys []) (y ∷ []) tail) ∙ ap (λ l. l ++ tail) (sym (shrunk-tail by d ys (y ∷ []))))
+    ]
+
+pub shrunk-length : (by d : ℕ) (ys tail : List Row) → length (shrunk by d ys tail) ≡ length ys + length tail
+shrunk-length by d [] tail = omega arith
+shrunk-length by d (y ∷ ys) tail = elim (cases_lt y.depth d) [
+  | inl h ↦ rw (lt-true y.depth d h) (omega (arith, shrunk-length by y.depth ys (record { key = y.key; size = y.size - by; depth = y.depth } ∷ tail)))
+  | inr h ↦ rw (lt-false y.depth d h) (omega (arith, shrunk-length by d ys (y ∷ tail)))
+]
+
 pub cut-steps : (at n depth : ℕ) (xs one two three : List Row) → at < length xs → n ≡ length (tree_of (drop at xs)) → depth ≡ top_depth (drop at xs)
-    → one ≡ raised_part at (at + n) depth xs
-    → two ≡ rotated at (at + n) (length xs) one
-    → three ≡ shrunk n depth (reverse (take at two)) (drop at two)
+    → one ≡ shrunk n depth (reverse (take at xs)) (drop at xs)
+    → two ≡ raised_part at (at + n) depth one
+    → three ≡ rotated at (at + n) (length xs) two
     → IsCut at xs three
 cut-steps at n depth xs one two three h e f is_one is_two is_three =
     let here = drop at xs in
-    let us = take at xs in
-    let low = map (raised depth) (tree_of here) in
+    let tree = tree_of here in
     let after = after_tree here in
-    let front = tree-is-front here n e in
-    let ft = front.0 in
-    let fd = drop-drop n at xs in
-    let fe = front.1 in
-    let m : at + n - at ≡ n = omega arith in
-    let o : one ≡ us ++ (low ++ after) = cc in
-    let lu : at ≡ length us = omega (arith, length-take at xs) in
-    let ll : length low ≡ n = length-map (tree_of here) (raised depth) ∙ sym e in
-    let lb : at + n ≡ length us + length low = omega arith in
-    let la : length (tree_of here) + length after ≡ length here = sym (length-append (tree_of here) after) ∙ ap length (tree-parts here) in
-    let lc : length xs ≡ (at + n) + length after = omega (arith, length-drop at xs, tree-within at xs h) in
-    let nil : (us ++ (low ++ (after ++ [])) ≡ us ++ (low ++ after)) = cc (append-nil after) in
-    let t : two ≡ us ++ ((after ++ low) ++ []) = is_two ∙ ap (rotated at (at + n) (length xs)) (o ∙ sym nil) ∙ rotated-parts us low after [] at (at + n) (length xs) lu lb lc in
-    let t2 : two ≡ us ++ (after ++ low) = t ∙ ap (λ l. us ++ l) (append-nil (after ++ low)) in
-    let f1 : take at two ≡ us = ap (take at) t2 ∙ take_at us (after ++ low) at (sym lu) in
-    let d1 : drop at two ≡ after ++ low = ap (drop at) t2 ∙ drop_at us (after ++ low) at (sym lu) in
-    cc
+    let low = map (raised depth) tree in
+    let back = reverse (take at xs) in
+    let us = shrunk n depth back [] in
+    let lu : at ≡ length us = omega (arith, shrunk-length n depth back [], length-reverse (take at xs), length-take at xs) in
+    let lt : at + n ≡ length us + length tree = omega arith in
+    let o : one ≡ us ++ (tree ++ after) = is_one ∙ shrunk-tail n depth back here ∙ ap (λ l. us ++ l) (sym (tree-parts here)) in
+    let m : at + n - at ≡ length tree = omega arith in
+    let d1 : drop at one ≡ tree ++ after = ap (drop at) o ∙ drop_at us (tree ++ after) at (sym lu) in
+    let f1 : take at one ≡ us = ap (take at) o ∙ take_at us (tree ++ after) at (sym lu) in
+    let t1 : take (at + n - at) (drop at one) ≡ tree = ap (take (at + n - at)) d1 ∙ take_at tree after (at + n - at) (sym m) in
+    let sum : at + (at + n - at) ≡ at + n = omega arith in
+    let r1 : drop (at + n) one ≡ after = ap (λ k. drop k one) (sym sum) ∙ sym (drop-drop (at + n - at) at one) ∙ ap (drop (at + n - at)) d1 ∙ drop_at tree after (at + n - at) (sym m) in
+    let t : two ≡ us ++ (low ++ (after ++ [])) =
+    is_two ∙ ap (λ l. l ++ (map (raised depth) (take (at + n - at) (drop at one)) ++ drop (at + n) one)) f1
+    ∙ ap (λ l. us ++ (map (raised depth) l ++ drop (at + n) one)) t1 ∙ ap (λ l. us ++ (low ++ l)) (r1 ∙ sym (append-nil after)) in
+    let ll : at + n ≡ length us + length low = omega (arith, length-map tree (raised depth)) in
+    let la : length xs ≡ at + n + length after = omega (arith, length-append tree after, ap length (tree-parts here), length-drop at xs) in
+    is_three ∙ ap (rotated at (at + n) (length xs)) t ∙ rotated-parts us low after [] at (at + n) (length xs) lu ll la ∙ ap (λ l. us ++ l) (append-nil (after ++ low))
+    ∙ sym (shrunk-tail n depth back (after ++ low)) ∙ ap (λ k. shrunk k depth back (after ++ low)) e
+    ∙ ap (λ d. shrunk (length tree) d back (after ++ map (raised d) tree)) f
 
 pub depth-at : (at : ℕ) (xs : List Row) (d : Row) → at < length xs → (get_or xs at d).depth ≡ top_depth (drop at xs)
 depth-at zero [] d h = absurd (omega arith)

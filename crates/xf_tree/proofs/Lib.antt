@@ -2,6 +2,7 @@ pub mod RowLemmas
 pub mod SizedLemmas
 pub mod MoveLemmas
 pub mod CutLemmas
+pub mod ClimbLemmas
 pub mod PasteLemmas
 pub mod NodeLemmas
 pub mod StackLemmas

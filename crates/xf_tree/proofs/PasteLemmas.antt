@@ -5,8 +5,8 @@ use Rattle.std.proofs.lemmas.List.{take-append-drop, reverse-reverse, length-rev
 use Rattle.std.proofs.lemmas.List.Edits.{map_over_more}
 use Rattle.std.specs.List.{All}
 use Rattle.xf_tree.specs.declared.rows.Row.{Row}
-use Rattle.xf_tree.specs.Rows.{deeper, Sized, grown, deepened, deepened_part, rotated, tree_of, after_tree, top_depth, IsPaste}
-use Rattle.xf_tree.proofs.SizedLemmas.{lt-true, lt-false, SizedBefore, Longer, AllDeep, deeper-append, deeper-less, sized-append, sized-front, longer-tree, grown-sized, sized-before}
+use Rattle.xf_tree.specs.Rows.{deeper, Sized, SizedBefore, grown, deepened, deepened_part, rotated, tree_of, after_tree, top_depth, IsPaste}
+use Rattle.xf_tree.proofs.SizedLemmas.{lt-true, lt-false, Longer, AllDeep, deeper-append, deeper-less, sized-append, sized-front, longer-tree, grown-sized, sized-before}
 use Rattle.xf_tree.proofs.CutLemmas.{tree-parts, sized-take, sized-drop, all-deep-zero, tree-is-front, tree-within, stops-after, deeper-length}
 use Rattle.xf_tree.proofs.MoveLemmas.{rotated-parts}
 
@@ -82,33 +82,68 @@ fits-part from n by xs h all = λ k d l.
     let g = get_or-drop from xs k d in
     rw (e, g) (all (from + k) d in_xs)
 
+-- what stands after the rows is not looked at
+pub grown-tail : (by d : ℕ) (ys tail : List Row) → grown by d ys tail ≡ grown by d ys [] ++ tail
+grown-tail by d [] tail = refl
+grown-tail by d (y ∷ ys) tail =
+    let large : Row = record { key = y.key; size = y.size + by; depth = y.depth } in
+    elim (cases_lt y.depth d) [
+      | inl h ↦ rw (lt-true y.depth d h)
+          (grown-tail by y.depth ys (large ∷ tail) ∙ sym (append_assoc (grown by y.depth ys []) (large ∷ []) tail) ∙ ap (λ l. l ++ tail) (sym (grown-tail by y.depth ys (large ∷ []))))
+      | inr h ↦ rw (lt-false y.depth d h) (grown-tail by d ys (y ∷ tail) ∙ sym (append_assoc (grown by d ys []) (y ∷ []) tail) ∙ ap (λ l. l ++ tail) (sym (grown-tail by d ys (y ∷ []))))
+    ]
+
+pub grown-length : (by d : ℕ) (ys tail : List Row) → length (grown by d ys tail) ≡ length ys + length tail
+grown-length by d [] tail = omega arith
+grown-length by d (y ∷ ys) tail = elim (cases_lt y.depth d) [
+  | inl h ↦ rw (lt-true y.depth d h) (omega (arith, grown-length by y.depth ys (record { key = y.key; size = y.size + by; depth = y.depth } ∷ tail)))
+  | inr h ↦ rw (lt-false y.depth d h) (omega (arith, grown-length by d ys (y ∷ tail)))
+]
+
+-- the rows before a place are other ones, as many as they were
+pub after-grown : (from to n depth : ℕ) (xs : List Row) → to ≤ from → to ≤ length xs → drop from (grown n depth (reverse (take to xs)) (drop to xs)) ≡ drop from xs
+after-grown from to n depth xs h l =
+    let back = reverse (take to xs) in
+    let us = grown n depth back [] in
+    let lu : length us ≡ to = omega (arith, grown-length n depth back [], length-reverse (take to xs), length-take to xs) in
+    let sum : to + (from - to) ≡ from = omega arith in
+    ap (λ k. drop k (grown n depth back (drop to xs))) (sym sum) ∙ sym (drop-drop (from - to) to (grown n depth back (drop to xs)))
+    ∙ ap (λ r. drop (from - to) (drop to r)) (grown-tail n depth back (drop to xs)) ∙ ap (drop (from - to)) (drop_at us (drop to xs) to lu)
+    ∙ drop-drop (from - to) to xs ∙ ap (λ k. drop k xs) sum
+
 pub paste-steps : (from to n depth : ℕ) (xs one two three : List Row) → to ≤ from → from < length xs → n ≡ length (tree_of (drop from xs))
-    → one ≡ deepened_part from (from + n) depth xs
-    → two ≡ rotated to from (from + n) one
-    → three ≡ grown n depth (reverse (take to two)) (drop to two)
+    → one ≡ grown n depth (reverse (take to xs)) (drop to xs)
+    → two ≡ deepened_part from (from + n) depth one
+    → three ≡ rotated to from (from + n) two
     → IsPaste from to depth xs three
 paste-steps from to n depth xs one two three h l e is_one is_two is_three =
     let here = drop from xs in
-    let us = take to xs in
-    let ms = take (from - to) (drop to xs) in
-    let low = map (deepened depth) (tree_of here) in
+    let tree = tree_of here in
     let after = after_tree here in
-    let front = tree-is-front here n e in
-    let ft = front.0 in
-    let fe = front.1 in
-    let fd = drop-drop n from xs in
-    let m : from + n - from ≡ n = omega arith in
-    let o : one ≡ take from xs ++ (low ++ after) = cc in
-    let sum : to + (from - to) ≡ from = omega arith in
-    let split : take from xs ≡ us ++ ms = ap (λ k. take k xs) (sym sum) ∙ take-add to (from - to) xs in
-    let o2 : one ≡ us ++ (ms ++ (low ++ after)) = o ∙ ap (λ r. r ++ (low ++ after)) split ∙ append_assoc us ms (low ++ after) in
-    let lu : to ≡ length us = omega (arith, length-take to xs) in
+    let ms = take (from - to) (drop to xs) in
+    let low = map (deepened depth) tree in
+    let back = reverse (take to xs) in
+    let us = grown n depth back [] in
+    let lu : to ≡ length us = omega (arith, grown-length n depth back [], length-reverse (take to xs), length-take to xs) in
     let lm : from ≡ length us + length ms = omega (arith, length-take (from - to) (drop to xs), length-drop to xs) in
-    let ll : from + n ≡ from + length low = ap (λ k. from + k) (e ∙ sym (length-map (tree_of here) (deepened depth))) in
-    let t : two ≡ us ++ ((low ++ ms) ++ after) = is_two ∙ ap (rotated to from (from + n)) o2 ∙ rotated-parts us ms low after to from (from + n) lu lm ll in
-    let f1 : take to two ≡ us = ap (take to) t ∙ take_at us ((low ++ ms) ++ after) to (sym lu) in
-    let d1 : drop to two ≡ low ++ (ms ++ after) = ap (drop to) t ∙ drop_at us ((low ++ ms) ++ after) to (sym lu) ∙ append_assoc low ms after in
-    cc
+    let lb : length (us ++ ms) ≡ from = omega (arith, length-append us ms) in
+    let sum : to + (from - to) ≡ from = omega arith in
+    let later : drop to xs ≡ ms ++ (tree ++ after) =
+    sym (take-append-drop (from - to) (drop to xs)) ∙ ap (λ r. ms ++ r) (drop-drop (from - to) to xs ∙ ap (λ k. drop k xs) sum ∙ sym (tree-parts here)) in
+    let o : one ≡ (us ++ ms) ++ (tree ++ after) = is_one ∙ grown-tail n depth back (drop to xs) ∙ ap (λ r. us ++ r) later ∙ sym (append_assoc us ms (tree ++ after)) in
+    let m : from + n - from ≡ length tree = omega arith in
+    let f1 : take from one ≡ us ++ ms = ap (take from) o ∙ take_at (us ++ ms) (tree ++ after) from lb in
+    let d1 : drop from one ≡ tree ++ after = ap (drop from) o ∙ drop_at (us ++ ms) (tree ++ after) from lb in
+    let t1 : take (from + n - from) (drop from one) ≡ tree = ap (take (from + n - from)) d1 ∙ take_at tree after (from + n - from) (sym m) in
+    let to_end : from + (from + n - from) ≡ from + n = omega arith in
+    let r1 : drop (from + n) one ≡ after =
+    ap (λ k. drop k one) (sym to_end) ∙ sym (drop-drop (from + n - from) from one) ∙ ap (drop (from + n - from)) d1 ∙ drop_at tree after (from + n - from) (sym m) in
+    let t : two ≡ us ++ (ms ++ (low ++ after)) =
+    is_two ∙ ap (λ r. r ++ (map (deepened depth) (take (from + n - from) (drop from one)) ++ drop (from + n) one)) f1
+    ∙ ap (λ r. (us ++ ms) ++ (map (deepened depth) r ++ drop (from + n) one)) t1 ∙ ap (λ r. (us ++ ms) ++ (low ++ r)) r1 ∙ append_assoc us ms (low ++ after) in
+    let ll : from + n ≡ from + length low = ap (λ k. from + k) (e ∙ sym (length-map tree (deepened depth))) in
+    is_three ∙ ap (rotated to from (from + n)) t ∙ rotated-parts us ms low after to from (from + n) lu lm ll ∙ ap (λ r. us ++ r) (append_assoc low ms after)
+    ∙ sym (grown-tail n depth back (low ++ (ms ++ after))) ∙ ap (λ k. grown k depth back (low ++ (ms ++ after))) e
 
 paste-here : (us ms here : List Row) (d : ℕ) → 0 < length here → Sized (us ++ (ms ++ here)) → top_depth here ≡ 0 → deeper d (ms ++ here) ≡ 0
     → Sized (grown (length (tree_of here)) d (reverse us) (map (deepened d) (tree_of here) ++ (ms ++ after_tree here)))
@@ -131,13 +166,3 @@ paste-keeps from to depth xs new h l s top place is =
     let s2 : Sized (take to xs ++ (take (from - to) (drop to xs) ++ drop from xs)) = subst Sized whole s in
     let p2 : deeper depth (take (from - to) (drop to xs) ++ drop from xs) ≡ 0 = subst (λ r. deeper depth r ≡ 0) later place in
     subst Sized (sym is) (paste-here (take to xs) (take (from - to) (drop to xs)) (drop from xs) depth some s2 top p2)
-
-pub paste-room : (from to n depth : ℕ) (xs one two : List Row) → to ≤ from → from < length xs → from + n ≤ length xs
-    → one ≡ deepened_part from (from + n) depth xs → two ≡ rotated to from (from + n) one → take to two ≡ take to xs
-paste-room from to n depth xs one two h l m is_one is_two =
-    let mid = map (deepened depth) (take (from + n - from) (drop from xs)) in
-    let a : length (take to one) ≡ to = length-take to one ∙ (let c = ap length is_one in let d = length-append (take from xs) (mid ++ drop (from + n) xs) in let g = length-take from xs in omega arith) in
-    let b : take to two ≡ take to one = ap (take to) is_two ∙ take_at (take to one) _ to a in
-    let i : length (take from xs) ≡ from = omega (arith, length-take from xs) in
-    let j : to ≤ length (take from xs) = omega arith in
-    b ∙ ap (take to) is_one ∙ take-append-le to (take from xs) (mid ++ drop (from + n) xs) j ∙ take-take to from xs h

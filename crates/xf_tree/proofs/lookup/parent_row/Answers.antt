@@ -1,7 +1,5 @@
-use Rattle.std.proofs.Common.{◌≡◌, arith}
-use Rattle.xf_tree.proofs.ParentLemmas.{hint-parent}
+use Rattle.xf_tree.proofs.CutLemmas.{sized-take}
 use Rattle.xf_tree.proofs.lookup.parent_row.Goals as goal
 
-pub returns-then-at-end_of-clause-answer : goal.returns-then-at-end_of-clause-answer
-returns-then-at-end_of-clause-answer c =
-    hint-parent c.args.rows.now c.in-Some-get.beyond.now.row c.args.at c.if-above-at.true c.requires.within c.if-rows-above.true c.if-row-rows-eq1.true (omega (arith, c.end_of.ensures.answer, c.if-at-end_of.true))
+pub above_row-requires-clause-sized : goal.above_row-requires-clause-sized
+above_row-requires-clause-sized c = sized-take c.args.at c.args.rows.now c.requires.sized

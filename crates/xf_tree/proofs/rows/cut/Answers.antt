@@ -1,4 +1,4 @@
-use Rattle.std.proofs.Common.{◌≡◌, ◌+◌, ◌-◌, ◌<◌, length, take, drop, get_or, refl, sym, ap, ◌∙◌, arith, subst, length-drop}
+use Rattle.std.proofs.Common.{◌≡◌, ◌+◌, ◌-◌, ◌<◌, length, take, drop, get_or, reverse, refl, sym, ap, ◌∙◌, arith, subst, length-drop}
 use Rattle.xf_tree.specs.Rows.{Sized, tree_of, top_depth, raised_part, rotated, shrunk, IsCut}
 use Rattle.xf_tree.proofs.CutLemmas.{cut-steps, cut-sized, sized-take, sized-drop, depth-at, no_row}
 use Rattle.xf_tree.proofs.rows.cut.Goals as goal
@@ -8,10 +8,10 @@ returns-clause-answer c =
     let n = c.end_of-end.result - c.args.at in
     let e : n ≡ length (tree_of (drop c.args.at c.args.rows.now)) = omega (arith, c.end_of-end.ensures.answer) in
     let end : c.end_of-end.result ≡ c.args.at + n = omega (arith, c.end_of-end.ensures.answer) in
-    cut-steps c.args.at n _ c.args.rows.now c.raise.new.rows c.rotate.new.rows c.shrink.new.rows c.requires.within e (depth-at c.args.at c.args.rows.now no_row c.requires.within)
-    (c.raise.ensures ∙ ap (λ x. raised_part c.args.at x (get_or c.args.rows.now c.args.at no_row).depth c.args.rows.now) end)
-    (c.rotate.ensures ∙ ap (λ x. rotated c.args.at x (length c.args.rows.now) c.raise.new.rows) end)
+    cut-steps c.args.at n _ c.args.rows.now c.shrink.new.rows c.raise.new.rows c.rotate.new.rows c.requires.within e (depth-at c.args.at c.args.rows.now no_row c.requires.within)
     c.shrink.ensures
+    (c.raise.ensures ∙ ap (λ x. raised_part c.args.at x (get_or c.args.rows.now c.args.at no_row).depth c.shrink.new.rows) end)
+    (c.rotate.ensures ∙ ap (λ x. rotated c.args.at x (length c.args.rows.now) c.raise.new.rows) end)
 
 pub returns-clause-sized : goal.returns-clause-sized
 returns-clause-sized c =

@@ -1,23 +1,26 @@
-use Rattle.std.proofs.Common.{◌≡◌, ℕ, ◌+◌, ◌-◌, ◌<◌, ◌≤◌, ◌^◌, List, length, take, drop, refl, sym, ap, ◌∙◌, arith, subst}
+use Rattle.std.proofs.Common.{◌≡◌, ℕ, ◌+◌, ◌-◌, ◌<◌, ◌≤◌, ◌^◌, List, length, take, drop, reverse, refl, sym, ap, ◌∙◌, arith, subst}
 use Rattle.std.specs.List.{All}
 use Rattle.xf_tree.specs.declared.rows.Row.{Row}
 use Rattle.xf_tree.specs.Rows.{Sized, tree_of, top_depth, deepened_part, rotated, grown, IsPaste}
-use Rattle.xf_tree.proofs.PasteLemmas.{paste-steps, paste-keeps, paste-room, room-for}
+use Rattle.xf_tree.proofs.PasteLemmas.{paste-steps, paste-keeps, room-for, fits-part, after-grown}
 use Rattle.xf_tree.proofs.rows.paste.Goals as goal
 
 pub grow-requires-clause-room : goal.grow-requires-clause-room
 grow-requires-clause-room c =
+    let xs = c.args.rows.now in
+    let le : c.end_of-end.result - c.args.from ≤ length xs = omega (arith, c.end_of-end.ensures.within) in
+    room-for c.args.to (c.end_of-end.result - c.args.from) xs c.requires.sized c.requires.few le
+
+pub deepen-requires-clause-fits : goal.deepen-requires-clause-fits
+deepen-requires-clause-fits c =
     let from = c.args.from in
     let to = c.args.to in
     let xs = c.args.rows.now in
     let n = c.end_of-end.result - from in
-    let end : c.end_of-end.result ≡ from + n = omega (arith, c.end_of-end.ensures.answer) in
-    let m : from + n ≤ length xs = omega (arith, c.end_of-end.ensures.within) in
-    let le : n ≤ length xs = omega arith in
-    let e = paste-room from to n c.args.depth xs c.deepen.new.rows c.rotate.new.rows c.requires.order c.requires.within m
-    (c.deepen.ensures ∙ ap (λ x. deepened_part from x c.args.depth xs) end)
-    (c.rotate.ensures ∙ ap (λ x. rotated to from x c.deepen.new.rows) end) in
-    subst (λ l. All (λ (r : Row). r.size + n < 2 ^ 64) l) (sym e) (room-for to n xs c.requires.sized c.requires.few le)
+    let in_xs : to ≤ length xs = omega (arith, c.requires.order, c.requires.within) in
+    let from_in : from ≤ length xs = omega (arith, c.requires.within) in
+    let same = ap (drop from) c.grow.ensures ∙ after-grown from to n c.args.depth xs c.requires.order in_xs in
+    subst (λ l. All (λ (r : Row). r.depth + c.args.depth < 2 ^ 32) (take n l)) (sym same) (fits-part from n c.args.depth xs from_in c.requires.fits)
 
 pub returns-clause-answer : goal.returns-clause-answer
 returns-clause-answer c =
@@ -27,11 +30,11 @@ returns-clause-answer c =
     let n = c.end_of-end.result - from in
     let e : n ≡ length (tree_of (drop from xs)) = omega (arith, c.end_of-end.ensures.answer) in
     let end : c.end_of-end.result ≡ from + n = omega (arith, c.end_of-end.ensures.answer) in
-    paste-steps from to n c.args.depth xs c.deepen.new.rows c.rotate.new.rows c.grow.new.rows c.requires.order c.requires.within e
-    (c.deepen.ensures ∙ ap (λ x. deepened_part from x c.args.depth xs) end)
-    (c.rotate.ensures ∙ ap (λ x. rotated to from x c.deepen.new.rows) end)
+    paste-steps from to n c.args.depth xs c.grow.new.rows c.deepen.new.rows c.rotate.new.rows c.requires.order c.requires.within e
     c.grow.ensures
+    (c.deepen.ensures ∙ ap (λ x. deepened_part from x c.args.depth c.grow.new.rows) end)
+    (c.rotate.ensures ∙ ap (λ x. rotated to from x c.deepen.new.rows) end)
 
 pub returns-clause-sized : goal.returns-clause-sized
 returns-clause-sized c =
-    paste-keeps c.args.from c.args.to c.args.depth c.args.rows.now c.grow.new.rows c.requires.order c.requires.within c.requires.sized c.requires.alone c.requires.place (returns-clause-answer c)
+    paste-keeps c.args.from c.args.to c.args.depth c.args.rows.now c.rotate.new.rows c.requires.order c.requires.within c.requires.sized c.requires.alone c.requires.place (returns-clause-answer c)

@@ -1,6 +1,6 @@
 use Rattle.std.proofs.Common.{◌≡◌, ◌≤◌, take, reverse}
 use Rattle.xf_tree.specs.Rows.{less_deep, parent_row_of}
-use Rattle.xf_tree.proofs.lookup.parent_row.Given as goal
+use Rattle.xf_tree.proofs.lookup.above_row.Given as goal
 
 abbrev pub invariant-loop-left : goal.invariant-loop-left
 invariant-loop-left l = record {

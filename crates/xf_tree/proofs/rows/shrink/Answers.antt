@@ -1,0 +1,23 @@
+use Rattle.std.proofs.Common.{◌≡◌, ◌+◌, ◌-◌, ◌<◌, ◌≤◌, ◌^◌, ◌∷◌, List, length, take, get_or, sym, ap, ◌∙◌, subst, arith, length-take}
+use Rattle.std.proofs.lemmas.List.{get_or-take}
+use Rattle.xf_tree.specs.declared.rows.Row.{Row}
+use Rattle.xf_tree.specs.Rows.{shrunk}
+use Rattle.xf_tree.specs.Tree.{no_row}
+use Rattle.xf_tree.proofs.ClimbLemmas.{shrunk-passes, shrunk-changes, sized-here, row-here, climb-past, climb-over}
+use Rattle.xf_tree.proofs.rows.shrink.Goals as goal
+
+pub above_end-left-requires-clause-sized : goal.above_end-left-requires-clause-sized
+above_end-left-requires-clause-sized c =
+    sized-here (shrunk c.args.by) (shrunk-passes c.args.by) c.args.rows.now c.loop-left.rows c.args.at c.args.depth c.loop-left.left c.loop-left.below c.loop-left-test.true c.requires.within c.requires.sized c.loop-left.invariant
+
+pub loop-left-preserved-then-row-below : goal.loop-left-preserved-then-row-below
+loop-left-preserved-then-row-below c =
+    let y = get_or c.loop-left.rows (c.loop-left.left - 1) no_row in
+    let changes = shrunk-changes c.args.by c.loop-left.below y c.if-row-below.true in
+    climb-over (shrunk c.args.by) (shrunk-passes c.args.by) c.args.rows.now c.loop-left.rows c.args.at c.args.depth c.loop-left.left c.loop-left.below c.loop-left-test.true c.requires.within c.requires.sized c.loop-left.invariant
+    c.above_end-left.result c.saturating_sub.result (λ ys tail. changes ys tail ∙ ap (λ k. shrunk c.args.by y.depth ys (record { key = y.key; size = k; depth = y.depth } ∷ tail)) (sym c.saturating_sub.ensures)) c.above_end-left.ensures.answer
+
+pub loop-left-preserved : goal.loop-left-preserved
+loop-left-preserved c =
+    climb-past (shrunk c.args.by) (shrunk-passes c.args.by) c.args.rows.now c.loop-left.rows c.args.at c.args.depth c.loop-left.left c.loop-left.below c.loop-left-test.true c.requires.within c.requires.sized c.loop-left.invariant
+    c.above_end-left.result c.if-row-below.false c.above_end-left.ensures.answer
