@@ -1,9 +1,9 @@
-use Rattle.std.proofs.Common.{◌≡◌, ℕ, ◌+◌, ◌-◌, ◌<◌, ◌≤◌, true, length, drop, cond, nat_lt, refl, sym, ap, ◌∙◌, arith}
+use Rattle.std.proofs.Common.{ℕ, ◌+◌, ◌<◌, length, drop, cond, refl, sym, ap, ◌∙◌, arith}
 use Rattle.slab.specs.Slab.{get}
 use Rattle.xf_tree.specs.Tree.{content_in}
 use Rattle.xf_tree.specs.Rows.{tree_of}
 use Rattle.xf_tree.specs.Kids.{is_attribute_like, kids_at}
-use Rattle.xf_tree.proofs.ChildLemmas.{Step, kid-step}
+use Rattle.xf_tree.proofs.ChildLemmas.{kid-step}
 use Rattle.xf_tree.proofs.SizedLemmas.{lt-true}
 use Rattle.xf_tree.proofs.child.has_attribute.Goals as goal
 
