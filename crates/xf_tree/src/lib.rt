@@ -15,6 +15,8 @@ mod siblings;
 mod slot;
 #[cfg(test)]
 mod tests;
+#[cfg(test)]
+mod tests_axis;
 mod text;
 mod tree;
 mod walk;

@@ -8,7 +8,7 @@ use xf_doc::{Kind, TreeFault};
 use xf_name::{Lit, LitElement, Pair, Prefixes, Word, collect};
 
 /// An element with attributes and children.
-fn element(
+pub fn element(
     alloc: Global,
     name: &str,
     attributes: &[(&str, &str)],
@@ -28,7 +28,7 @@ fn element(
     }))
 }
 
-fn text(alloc: Global, text: &str) -> Result<Lit, AllocError> {
+pub fn text(alloc: Global, text: &str) -> Result<Lit, AllocError> {
     Ok(Lit::Text(Word::from_str(alloc, text)?))
 }
 
@@ -43,7 +43,7 @@ fn rows(alloc: Global) -> Result<Lit, AllocError> {
     element(alloc, "d", &[], children)
 }
 
-fn no_prefixes(alloc: Global) -> Result<Prefixes, Fail> {
+pub fn no_prefixes(alloc: Global) -> Result<Prefixes, Fail> {
     Ok(collect(alloc, &element(alloc, "f", &[], Vec::new(alloc))?)?)
 }
 
