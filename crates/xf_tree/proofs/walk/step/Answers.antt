@@ -1,4 +1,4 @@
-use Rattle.std.proofs.Common.{◌≡◌, ◌<◌, length, map, take, drop, reverse, ap, ◌∙◌, subst, arith}
+use Rattle.std.proofs.Common.{◌<◌, length, map, take, drop, reverse, ap, ◌∙◌, subst, arith}
 use Rattle.xf_doc.specs.Visit.{numbers}
 use Rattle.xf_tree.specs.Rows.{top_depth}
 use Rattle.xf_tree.specs.Tree.{node_of}
