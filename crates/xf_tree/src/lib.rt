@@ -22,6 +22,7 @@ mod tests;
 #[cfg(test)]
 mod tests_attach;
 mod tests_may;
+mod tests_axis;
 mod text;
 mod tree;
 mod walk;
