@@ -1,10 +1,9 @@
 -- Walks over attributes: they stand first, so none comes behind what is none.
-use Rattle.std.proofs.Common.{◌≡◌, ℕ, suc, ◌+◌, ◌-◌, ◌<◌, ◌≤◌, ◌==◌, ◌&&◌, Bool, true, false, List, [], ◌∷◌, ◌++◌, map, length, take, drop, get_or, nat_lt, if◌then◌else◌, cond, refl, sym, ap, ◌∙◌, subst, inl, inr, arith}
+use Rattle.std.proofs.Common.{◌≡◌, ℕ, suc, ◌+◌, ◌<◌, ◌≤◌, ◌==◌, ◌&&◌, Bool, true, false, List, [], ◌∷◌, ◌++◌, map, length, take, drop, get_or, refl, sym, ap, ◌∙◌, subst, inl, inr, arith}
 use Rattle.std.specs.Prelude.{filter}
-use Rattle.std.proofs.lemmas.Bool.{cases_Bool, cases_lt, true≢false, false≢true, and_parts}
+use Rattle.std.proofs.lemmas.Bool.{cases_Bool, cases_lt, true≢false, and_parts}
 use Rattle.std.proofs.lemmas.List.{take-append-drop, map-append}
 use Rattle.slab.specs.Slab.{Slab, get}
-use Rattle.xf_doc.specs.declared.content.Node.{Node}
 use Rattle.xf_doc.specs.declared.content.Content.{Content}
 use Rattle.xf_doc.specs.declared.content.Content.TheVariants.{Root, Element, Attribute, Text}
 use Rattle.xf_doc.specs.Forest.{is_attribute, name_in}
@@ -16,7 +15,7 @@ use Rattle.xf_tree.specs.Rows.{deeper}
 use Rattle.xf_tree.specs.Leaves.{parts_in}
 use Rattle.xf_tree.specs.First.{attribute_depth, AreFirst}
 use Rattle.xf_tree.specs.Kids.{is_kid, is_attribute_like, kids_in}
-use Rattle.xf_tree.specs.Tree.{node_of, number_in, content_in, no_row, is_kin}
+use Rattle.xf_tree.specs.Tree.{node_of, content_in, no_row}
 use Rattle.xf_tree.specs.Walks.{attributes_ahead}
 use Rattle.xf_tree.proofs.SizedLemmas.{lt-true, lt-false}
 use Rattle.xf_tree.proofs.NodeLemmas.{eq-true, eq-false}
@@ -26,7 +25,6 @@ use Rattle.xf_tree.proofs.LeafLemmas.{parts-append}
 use Rattle.xf_tree.proofs.FirstLemmas.{first-parts}
 use Rattle.xf_tree.proofs.BelowLemmas.{eq-is}
 use Rattle.xf_tree.proofs.KidLemmas.{filtered-length}
-use Rattle.xf_tree.proofs.RootLemmas.{past-end}
 
 -- where attributes stand behind a row
 pub later-first : (s : Slab Slot) (at : ℕ) (rows : List Row) → at < length rows → AreFirst 0 (parts_in (map (node_of s) rows))
@@ -60,10 +58,10 @@ none-later s q only d p (x ∷ xs) none a =
       | inl l ↦ elim (cases_Bool ((x.depth == suc d) && is_attribute c)) [
         | inl is ↦
             absurd (
-              let both = and_parts (x.depth == suc d) (is_attribute c) is in
-              let depth = eq-is x.depth (suc d) both.0 in
-              let pos : 0 < x.depth = omega arith in
-              none (sym (a.0 both.1 pos) ∙ depth)
+            let both = and_parts (x.depth == suc d) (is_attribute c) is in
+            let depth = eq-is x.depth (suc d) both.0 in
+            let pos : 0 < x.depth = omega arith in
+            none (sym (a.0 both.1 pos) ∙ depth)
             )
         | inr other ↦
             let pos : 0 < suc d = omega arith in

@@ -1,7 +1,7 @@
 -- Attributes stand first: a content for another, and what stands below a node for what stood there.
-use Rattle.std.proofs.Common.{◌≡◌, ℕ, suc, ◌+◌, ◌<◌, ◌≤◌, ◌⊎◌, true, false, List, [], ◌∷◌, ◌++◌, map, refl, sym, ap, ◌∙◌, subst, inl, inr, arith}
+use Rattle.std.proofs.Common.{◌≡◌, ℕ, suc, ◌<◌, ◌≤◌, ◌⊎◌, false, List, [], ◌∷◌, ◌++◌, map, refl, sym, ◌∙◌, subst, inl, inr, arith}
 use Rattle.std.specs.Prelude.{filter}
-use Rattle.std.proofs.lemmas.Bool.{cases_Bool, true≢false, false≢true}
+use Rattle.std.proofs.lemmas.Bool.{cases_Bool, true≢false}
 use Rattle.slab.specs.Slab.{Slab, get}
 use Rattle.xf_doc.specs.declared.content.Content.{Content}
 use Rattle.xf_doc.specs.declared.content.Content.TheVariants.{Root, Element, Attribute, Text}
@@ -12,7 +12,7 @@ use Rattle.xf_tree.specs.Leaves.{parts_in, NotDeeper}
 use Rattle.xf_tree.specs.First.{attribute_depth, AreFirst}
 use Rattle.xf_tree.specs.Tree.{node_of, content_in}
 use Rattle.xf_tree.specs.Contents.{AllFrom}
-use Rattle.xf_tree.proofs.FirstLemmas.{depth_behind, first-append, first-parts, first-anywhere, first-low, behind-deep, attribute-behind}
+use Rattle.xf_tree.proofs.FirstLemmas.{depth_behind, first-append, first-parts, first-anywhere, first-low, attribute-behind}
 
 -- a content for another, where both are attributes or neither is, and an attribute stands as deep behind both
 pub first-changed : (e : ℕ) (us : List (ℕ × Content)) (d : ℕ) (c c2 : Content) (xs : List (ℕ × Content)) → is_attribute c2 ≡ is_attribute c → attribute_depth d c2 ≡ attribute_depth d c

@@ -17,32 +17,16 @@ use xf_doc::NodeId;
 pub enum Left {
     Nothing,
     /// Of the trees from one place to before another the tops that have this depth, without the attributes.
-    Trees {
-        at: usize,
-        end: usize,
-        depth: u32,
-    },
+    Trees { at: usize, end: usize, depth: u32 },
     /// The attributes of this depth from a place on, to before the first node that is none. No other of their element's
     /// comes later.
-    Attributes {
-        at: usize,
-        depth: u32,
-    },
+    Attributes { at: usize, depth: u32 },
     /// The nodes from one place to before another, without the attributes.
-    Rows {
-        at: usize,
-        end: usize,
-    },
+    Rows { at: usize, end: usize },
     /// The ancestors of the node at a place, the nearest first.
-    Up {
-        at: usize,
-    },
+    Up { at: usize },
     /// The nodes of this depth before one place, back to behind another, without the attributes.
-    Back {
-        above: usize,
-        at: usize,
-        depth: u32,
-    },
+    Back { above: usize, at: usize, depth: u32 },
 }
 
 /// The nodes on an axis, nearest first. It costs what it yields.

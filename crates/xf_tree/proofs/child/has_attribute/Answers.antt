@@ -1,4 +1,4 @@
-use Rattle.std.proofs.Common.{◌≡◌, ℕ, false, nat_lt, sym, ap, ◌∙◌}
+use Rattle.std.proofs.Common.{nat_lt, sym, ap, ◌∙◌}
 use Rattle.slab.specs.Slab.{get}
 use Rattle.xf_tree.specs.Tree.{content_in}
 use Rattle.xf_tree.proofs.AheadLemmas.{like-stop}

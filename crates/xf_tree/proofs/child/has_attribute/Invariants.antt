@@ -1,4 +1,4 @@
-use Rattle.std.proofs.Common.{◌≡◌, ◌+◌, ◌-◌, ◌≤◌, length}
+use Rattle.std.proofs.Common.{◌≡◌, ◌-◌, length}
 use Rattle.slab.specs.Slab.{get}
 use Rattle.xf_tree.specs.Tree.{content_in}
 use Rattle.xf_tree.specs.Kids.{is_attribute_like, kids_at}
