@@ -173,6 +173,26 @@ impl Arena {
         }
     }
 
+    fn may_attach(&self, node: usize, parent: usize, place: u32) -> bool {
+        if !self.detached.contains(&node) || self.nodes[parent].kind != Kind::Element {
+            return false;
+        }
+        let mut above = parent;
+        while above != NONE {
+            if above == node {
+                return false;
+            }
+            above = self.nodes[above].parent;
+        }
+        let mut left = place;
+        let mut child = self.nodes[parent].first;
+        while left > 0 && child != NONE {
+            left -= 1;
+            child = self.nodes[child].after;
+        }
+        left == 0
+    }
+
     fn print(&self, node: usize, kept: &HashSet<u128>) -> Lit {
         let here = &self.nodes[node];
         if here.kind == Kind::Text {
@@ -391,6 +411,9 @@ fn double() -> u64 {
     while all.len() < 8192 {
         for at in 0..all.len() {
             let copy = arena.copy(all[at]);
+            if !arena.may_attach(copy, top, all.len() as u32) {
+                return 0;
+            }
             arena.attach(copy, top, all.len() as u32);
             all.push(copy);
         }

@@ -1,12 +1,10 @@
 -- Walks over what stands right below a row, and what they count.
-use Rattle.std.proofs.Common.{◌≡◌, ℕ, zero, suc, ◌+◌, ◌-◌, ◌<◌, ◌≤◌, ◌==◌, ◌&&◌, ◌||◌, not, Bool, true, false, cond, List, [], ◌∷◌, ◌++◌, map, length, take, drop, get_or, nat_lt, nat_le, refl, sym, ap, ◌∙◌, subst, inl, inr, arith, length-take, length-drop, take-add}
+use Rattle.std.proofs.Common.{◌≡◌, ℕ, suc, ◌+◌, ◌-◌, ◌<◌, ◌≤◌, ◌==◌, ◌&&◌, ◌||◌, not, Bool, true, false, cond, List, [], ◌∷◌, ◌++◌, map, length, take, drop, get_or, nat_lt, refl, sym, ap, ◌∙◌, subst, inl, inr, arith, take-add}
 use Rattle.std.specs.Prelude.{filter, count_by, Option, Some, None, option_and_then}
 use Rattle.std.specs.List.{list_any}
 use Rattle.std.proofs.lemmas.Bool.{cases_Bool, cases_lt}
-use Rattle.std.proofs.lemmas.Bool.Decides.{nat_tests}
 use Rattle.std.proofs.lemmas.List.{take-append-drop, map-append, drop-drop, take-take}
-use Rattle.slab.specs.Slab.{Slab, get}
-use Rattle.xf_doc.specs.declared.content.Node.{Node}
+use Rattle.slab.specs.Slab.{Slab}
 use Rattle.xf_doc.specs.declared.content.Content.{Content}
 use Rattle.xf_doc.specs.declared.content.Name.{Name}
 use Rattle.xf_doc.specs.Forest.{Forest, has_number, content_at, is_attribute, is_element, name_in}
@@ -17,9 +15,9 @@ use Rattle.xf_doc.specs.WellFormed.{have_same_name}
 use Rattle.xf_tree.specs.declared.rows.Row.{Row}
 use Rattle.xf_tree.specs.declared.slot.Slot.{Slot}
 use Rattle.xf_tree.specs.Rows.{deeper, tree_of, after_tree}
-use Rattle.xf_tree.specs.Tree.{node_of, content_in, no_row, AreSteps, depths, StandsAt, IsSound}
+use Rattle.xf_tree.specs.Tree.{node_of, no_row, AreSteps, StandsAt, IsSound}
 use Rattle.xf_tree.specs.Kids.{is_kid, is_attribute_like, kids_in, kids_at}
-use Rattle.xf_tree.proofs.SizedLemmas.{lt-true, lt-false, AllDeep}
+use Rattle.xf_tree.proofs.SizedLemmas.{lt-true, AllDeep}
 use Rattle.xf_tree.proofs.CutLemmas.{tree-is-front, tree-within, stops-after}
 use Rattle.xf_tree.proofs.CountLemmas.{count-append, count-cons}
 use Rattle.xf_tree.proofs.NodeLemmas.{eq-false}

@@ -1,18 +1,18 @@
 -- What a test of the node with a number says where its row is known, and where it has none.
-use Rattle.std.proofs.Common.{◌≡◌, ℕ, zero, suc, ◌+◌, ◌-◌, ◌<◌, ◌≤◌, ◌==◌, ◌&&◌, ◌||◌, Bool, true, false, List, [], ◌∷◌, ◌++◌, map, length, take, drop, get_or, nat_lt, nat_le, Option, Some, None, option_map, refl, sym, ap, ◌∙◌, subst, inl, inr, arith, length-take, length-drop}
+use Rattle.std.proofs.Common.{◌≡◌, ℕ, zero, suc, ◌+◌, ◌-◌, ◌<◌, ◌≤◌, ◌==◌, ◌&&◌, ◌||◌, Bool, true, false, List, [], ◌∷◌, ◌++◌, map, length, take, drop, get_or, nat_lt, nat_le, None, option_map, refl, sym, ap, ◌∙◌, inl, inr, arith, length-take, length-drop}
 use Rattle.std.specs.List.{list_any}
 use Rattle.std.proofs.lemmas.Bool.{cases_lt}
 use Rattle.std.proofs.lemmas.Bool.Decides.{nat_tests}
 use Rattle.std.proofs.lemmas.List.{take-append-drop, map-append, get_or-take, get_or-drop}
 use Rattle.slab.specs.Slab.{Slab, get}
 use Rattle.xf_doc.specs.declared.content.Node.{Node}
-use Rattle.xf_doc.specs.Forest.{has_number, node_at, from_node, first_tree, kind_of, kind_at, content_at, tree_of as tree_of_node}
+use Rattle.xf_doc.specs.Forest.{has_number, node_at, from_node, first_tree, kind_of, kind_at, tree_of as tree_of_node}
 use Rattle.xf_tree.specs.declared.rows.Row.{Row}
 use Rattle.xf_tree.specs.declared.slot.Slot.{Slot}
 use Rattle.xf_tree.specs.Rows.{tree_of}
-use Rattle.xf_tree.specs.Tree.{node_of, number_in, content_in, times, no_row, StandsAt, IsSound}
+use Rattle.xf_tree.specs.Tree.{node_of, number_in, times, no_row, StandsAt, IsSound}
 use Rattle.xf_tree.proofs.CutLemmas.{tree-is-front}
-use Rattle.xf_tree.proofs.NodeLemmas.{Parted, parted-from, eq-true, times-append, times-absent, absent-times}
+use Rattle.xf_tree.proofs.NodeLemmas.{parted-from, eq-true, times-append, times-absent, absent-times}
 use Rattle.xf_tree.proofs.PlaceLemmas.{stands, stands-live, one_of, split-at, below-is}
 use Rattle.xf_tree.proofs.SizedLemmas.{lt-true, lt-false}
 use Rattle.xf_tree.proofs.StackLemmas.{absent-parts}

@@ -1,5 +1,5 @@
 //! The forest of instance data, and what is read of it.
-ghost use Rattle.std.specs.Prelude.{◌≡◌, false, Some, IfOk, IfSome, MatchOption, option_map};
+ghost use Rattle.std.specs.Prelude.{◌≡◌, ◌↔◌, false, Some, IsTrue, IfOk, IfSome, MatchOption, option_map};
 ghost use Rattle.xf_doc.specs.Forest.{IsLive, has_number, kind_at, name_at};
 ghost use Rattle.xf_doc.specs.Changes.{root_of};
 ghost use Rattle.xf_doc.specs.Order.{is_before};
@@ -88,6 +88,16 @@ impl Forest {
                 place: self.rows[at].key,
             }),
             None => None,
+        }
+    }
+
+    /// Whether the node stands in the forest.
+    pub fn is_live(&self, node: NodeId) -> bool
+        ensures { IsTrue result ↔ IsLive node.number self.now.forest }
+    {
+        match row_of(&self.rows, &self.slots, &self.hints, node) {
+            Some(_) => true,
+            None => false,
         }
     }
 

@@ -21,6 +21,7 @@ mod slot;
 mod tests;
 #[cfg(test)]
 mod tests_attach;
+mod tests_may;
 mod text;
 mod tree;
 mod walk;

@@ -1,8 +1,8 @@
-use Rattle.std.proofs.Common.{◌≡◌, ℕ, ◌+◌, ◌-◌, ◌<◌, ◌≤◌, true, length, drop, cond, nat_lt, refl, sym, ap, ◌∙◌, arith}
+use Rattle.std.proofs.Common.{ℕ, ◌+◌, ◌<◌, length, drop, cond, refl, sym, ap, ◌∙◌, arith}
 use Rattle.xf_doc.specs.Forest.{is_element}
 use Rattle.xf_tree.specs.Rows.{tree_of}
 use Rattle.xf_tree.specs.Kids.{kids_at}
-use Rattle.xf_tree.proofs.ChildLemmas.{Step, kid-step}
+use Rattle.xf_tree.proofs.ChildLemmas.{kid-step}
 use Rattle.xf_tree.proofs.SizedLemmas.{lt-true}
 use Rattle.xf_tree.proofs.child.has_element.Goals as goal
 

@@ -1,8 +1,7 @@
-use Rattle.std.proofs.Common.{◌≡◌, ℕ, not, true, false, List, [], map, length, nat_lt, option_map, get_or, refl, sym, ap, ◌∙◌, subst}
+use Rattle.std.proofs.Common.{◌≡◌, not, false, map, nat_lt, option_map, get_or, sym, ap, ◌∙◌, subst}
 use Rattle.std.proofs.lemmas.List.{get_or_default}
 use Rattle.slab.specs.Slab.{get}
 use Rattle.xf_doc.specs.declared.content.Node.{Node}
-use Rattle.xf_doc.specs.declared.content.Content.{Content}
 use Rattle.xf_doc.specs.Forest.{Forest, has_number}
 use Rattle.xf_doc.specs.Needs.{lacks_name}
 use Rattle.xf_doc.specs.Texts.{Keeping}
