@@ -1,5 +1,5 @@
 -- What stands on each axis from the node at a place, by rows.
-use Rattle.std.proofs.Common.{◌≡◌, ℕ, zero, suc, ◌+◌, ◌-◌, ◌<◌, ◌≤◌, ◌==◌, ◌&&◌, ◌||◌, not, Bool, true, false, cond, List, [], ◌∷◌, ◌++◌, map, length, take, drop, get_or, nat_lt, reverse, Option, Some, None, refl, sym, ap, ◌∙◌, subst, inl, inr, arith, add-one}
+use Rattle.std.proofs.Common.{◌≡◌, ℕ, zero, suc, ◌+◌, ◌-◌, ◌<◌, ◌≤◌, ◌==◌, ◌&&◌, ◌||◌, not, Bool, true, false, List, [], ◌∷◌, map, length, take, drop, get_or, reverse, Option, Some, None, refl, sym, ap, ◌∙◌, subst, arith, add-one}
 use Rattle.std.specs.Prelude.{filter}
 use Rattle.std.proofs.lemmas.List.{drop-drop}
 use Rattle.slab.specs.Slab.{Slab, get}
@@ -8,23 +8,22 @@ use Rattle.xf_name.specs.declared.axis.Axis.TheVariants as axis
 use Rattle.xf_doc.specs.declared.content.Node.{Node}
 use Rattle.xf_doc.specs.declared.content.Content.{Content}
 use Rattle.xf_doc.specs.Forest.{is_attribute}
-use Rattle.xf_doc.specs.Visit.{Visit, numbers, visit, visits, visits_from, still_above, has, is_first, first_of, same_parent}
+use Rattle.xf_doc.specs.Visit.{Visit, numbers, visits, still_above, has, is_first, first_of, same_parent}
 use Rattle.xf_doc.specs.Axis.{axis_of, axis_from, on_axis, in_proximity, are_siblings, before, after}
 use Rattle.xf_doc.proofs.RenumberLaws.{map-reverse}
 use Rattle.xf_tree.specs.declared.rows.Row.{Row}
 use Rattle.xf_tree.specs.declared.slot.Slot.{Slot}
-use Rattle.xf_tree.specs.declared.walk.Left.{Left}
 use Rattle.xf_tree.specs.declared.walk.Left.TheVariants.{Nothing}
 use Rattle.xf_tree.specs.Rows.{AllDeep, deeper, tree_of, parent_row_of}
-use Rattle.xf_tree.specs.Tree.{node_of, number_in, content_in, no_row, is_kin, number_at, times, depths, AreSteps}
-use Rattle.xf_tree.specs.Walks.{between, attributes_ahead, chosen, is_plain, climbed, ancestor_rows, number_of_row, walk_of, AreNodes}
+use Rattle.xf_tree.specs.Tree.{node_of, content_in, no_row, is_kin, number_at, times, depths, AreSteps}
+use Rattle.xf_tree.specs.Walks.{between, attributes_ahead, chosen, is_plain, ancestor_rows, number_of_row, walk_of, AreNodes}
 use Rattle.xf_tree.proofs.SizedLemmas.{lt-true, lt-false}
-use Rattle.xf_tree.proofs.NodeLemmas.{Parted, eq-turned}
+use Rattle.xf_tree.proofs.NodeLemmas.{eq-turned}
 use Rattle.xf_tree.proofs.StackLemmas.{stack, parted-visit, still-shut}
-use Rattle.xf_tree.proofs.PlaceLemmas.{split-at, below-is, tree-size}
+use Rattle.xf_tree.proofs.PlaceLemmas.{below-is, tree-size}
 use Rattle.xf_tree.proofs.ParentLemmas.{opened, deep-prefix}
 use Rattle.xf_tree.proofs.KidLemmas.{kids, is_kid}
-use Rattle.xf_tree.proofs.WalkLemmas.{between-first, behind, deep-behind}
+use Rattle.xf_tree.proofs.WalkLemmas.{behind, deep-behind}
 use Rattle.xf_tree.proofs.FoundLemmas.{found, found-alike, found-none, by-number, one-equal, filter-alike, filter-none, open-found, parted-under, visits-before, visits-after}
 use Rattle.xf_tree.proofs.AheadLemmas.{later-first, ahead-all}
 use Rattle.xf_tree.proofs.SiblingLemmas.{visit_at, visits_behind, parted-here, stack-is, above-rows, first-is, first-test, no-first, same-first, same-none, tree-between, kids-below, Family, family, later-kids}

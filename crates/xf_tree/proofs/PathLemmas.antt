@@ -1,12 +1,11 @@
 -- What a path has for the node at a place.
-use Rattle.std.proofs.Common.{◌≡◌, ℕ, zero, suc, ◌+◌, ◌-◌, ◌<◌, ◌≤◌, ◌==◌, ◌&&◌, not, Bool, true, false, cond, if◌then◌else◌, List, [], ◌∷◌, ◌++◌, map, length, take, drop, get_or, nat_lt, reverse, find, codes, Option, Some, None, refl, sym, ap, ◌∙◌, subst, inl, inr, arith, length-append, length-take, append_assoc, append-nil}
-use Rattle.std.specs.Prelude.{filter, decimal}
+use Rattle.std.proofs.Common.{◌≡◌, ℕ, suc, ◌+◌, ◌<◌, ◌≤◌, ◌&&◌, Bool, true, false, if◌then◌else◌, List, [], ◌∷◌, ◌++◌, map, length, take, drop, get_or, nat_lt, reverse, codes, Option, Some, None, refl, sym, ap, ◌∙◌, inl, inr, arith, length-append}
+use Rattle.std.specs.Prelude.{filter}
 use Rattle.std.specs.List.{flat_map}
 use Rattle.std.specs.Str.{bytes_eq}
 use Rattle.std.proofs.lemmas.Bool.{cases_lt}
-use Rattle.std.proofs.lemmas.List.{length-map, reverse-append}
+use Rattle.std.proofs.lemmas.List.{length-map}
 use Rattle.std.proofs.lemmas.List.Sums.{length-filter, count_by-le-length}
-use Rattle.std.proofs.lemmas.Slice.Eq.{bytes_eq-Decides}
 use Rattle.slab.specs.Slab.{Slab, get}
 use Rattle.xf_doc.specs.declared.content.Node.{Node}
 use Rattle.xf_doc.specs.declared.content.Name.{Name}
@@ -20,16 +19,16 @@ use Rattle.xf_tree.specs.declared.rows.Row.{Row}
 use Rattle.xf_tree.specs.declared.slot.Slot.{Slot}
 use Rattle.xf_tree.specs.Rows.{tree_of, parent_row_of}
 use Rattle.xf_tree.specs.Tree.{node_of, number_in, content_in, no_row, number_at}
-use Rattle.xf_tree.specs.Walks.{between, chosen, number_of_row, ancestor_rows, AreNodes}
+use Rattle.xf_tree.specs.Walks.{between, chosen, number_of_row, AreNodes}
 use Rattle.xf_tree.specs.Siblings.{same_sort, is_like, like_before, like_after, index_among, index_text, rows_up}
 use Rattle.xf_tree.proofs.SizedLemmas.{lt-true, lt-false}
 use Rattle.xf_tree.proofs.NodeLemmas.{eq-true}
 use Rattle.xf_tree.proofs.StackLemmas.{parted-visit, parted-ancestors, le-from}
 use Rattle.xf_tree.proofs.KidLemmas.{kids, is_kid}
 use Rattle.xf_tree.proofs.WalkLemmas.{chosen-append, chosen-yes}
-use Rattle.xf_tree.proofs.FoundLemmas.{found, found-alike, found-none, visits-before}
+use Rattle.xf_tree.proofs.FoundLemmas.{found-alike, found-none, visits-before}
 use Rattle.xf_tree.proofs.AxisLemmas.{beside}
-use Rattle.xf_tree.proofs.SiblingLemmas.{visit_at, parted-here, above-rows, first-is, same-first, same-none, Family, family}
+use Rattle.xf_tree.proofs.SiblingLemmas.{visit_at, parted-here, above-rows, first-is, same-first, same-none, family}
 
 -- ---- counting
 

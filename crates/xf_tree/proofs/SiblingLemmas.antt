@@ -1,27 +1,27 @@
 -- The children of a node, and the siblings before and after one, as rows.
-use Rattle.std.proofs.Common.{◌≡◌, ℕ, zero, suc, ◌+◌, ◌-◌, ◌<◌, ◌≤◌, ◌==◌, ◌&&◌, not, Bool, true, false, cond, List, [], ◌∷◌, ◌++◌, map, length, take, drop, get_or, nat_lt, reverse, Option, Some, None, refl, sym, ap, ◌∙◌, subst, inl, inr, arith, take-add, append-nil}
+use Rattle.std.proofs.Common.{◌≡◌, ℕ, suc, ◌+◌, ◌-◌, ◌<◌, ◌≤◌, ◌==◌, Bool, true, false, List, [], ◌∷◌, ◌++◌, map, length, take, drop, get_or, nat_lt, reverse, Some, None, refl, sym, ap, ◌∙◌, subst, inl, inr, arith, take-add, append-nil}
 use Rattle.std.specs.Prelude.{filter}
-use Rattle.std.proofs.lemmas.Bool.{cases_Bool, true≢false}
+use Rattle.std.proofs.lemmas.Bool.{cases_Bool}
 use Rattle.std.proofs.lemmas.List.{map-append, take-append-drop, append_cancel_left}
-use Rattle.slab.specs.Slab.{Slab, get}
+use Rattle.slab.specs.Slab.{Slab}
 use Rattle.xf_doc.specs.declared.content.Node.{Node}
 use Rattle.xf_doc.specs.declared.content.Content.{Content}
-use Rattle.xf_doc.specs.Forest.{below, has_number}
+use Rattle.xf_doc.specs.Forest.{below}
 use Rattle.xf_doc.specs.Visit.{Visit, numbers, visit, visits, visits_from, still_above, first_of, is_first, same_parent}
 use Rattle.xf_doc.proofs.RenumberLaws.{map-reverse}
 use Rattle.xf_tree.specs.declared.rows.Row.{Row}
 use Rattle.xf_tree.specs.declared.slot.Slot.{Slot}
 use Rattle.xf_tree.specs.Rows.{AllDeep, deeper, tree_of, top_depth, parent_row_of}
-use Rattle.xf_tree.specs.Tree.{node_of, number_in, no_row, times, depths, AreSteps, StandsAt, number_at}
+use Rattle.xf_tree.specs.Tree.{node_of, no_row, times, depths, AreSteps, StandsAt, number_at}
 use Rattle.xf_tree.specs.Walks.{between, chosen, climbed, ancestor_rows, number_of_row, AreNodes}
-use Rattle.xf_tree.proofs.SizedLemmas.{lt-true, lt-false}
+use Rattle.xf_tree.proofs.SizedLemmas.{lt-true}
 use Rattle.xf_tree.proofs.NodeLemmas.{Parted, part, eq-true, times-append}
 use Rattle.xf_tree.proofs.StackLemmas.{stack, visits-append, parted-ancestors, still-shut, le-from}
 use Rattle.xf_tree.proofs.StepLemmas.{steps-parts}
 use Rattle.xf_tree.proofs.PlaceLemmas.{split-at, tree-size, below-is, stands}
 use Rattle.xf_tree.proofs.ParentLemmas.{opened, stack-opened, parent-means}
 use Rattle.xf_tree.proofs.KidLemmas.{kids, is_kid, kids-append, node_depths, parted-kids}
-use Rattle.xf_tree.proofs.AboveLemmas.{Above, above-is, above-inside, child-depth}
+use Rattle.xf_tree.proofs.AboveLemmas.{above-is, above-inside, child-depth}
 use Rattle.xf_tree.proofs.CutLemmas.{tree-within}
 use Rattle.xf_tree.proofs.WalkLemmas.{between-first, between-parts, chosen-append, deep-less}
 

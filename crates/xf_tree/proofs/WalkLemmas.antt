@@ -1,8 +1,8 @@
 -- Rows that a walk passes by, and those at which it stops.
-use Rattle.std.proofs.Common.{◌≡◌, ℕ, zero, suc, ◌+◌, ◌-◌, ◌<◌, ◌≤◌, ◌==◌, ◌&&◌, Bool, true, false, List, [], ◌∷◌, ◌++◌, map, length, take, drop, nat_lt, cond, if◌then◌else◌, reverse, Option, Some, None, length-drop, length-take, append-nil, append_assoc, subst, inl, inr, refl, sym, ap, ◌∙◌, arith, get_or, take-add}
+use Rattle.std.proofs.Common.{◌≡◌, ℕ, zero, suc, ◌+◌, ◌-◌, ◌<◌, ◌≤◌, ◌==◌, Bool, true, false, List, [], ◌∷◌, ◌++◌, map, length, take, drop, reverse, Some, None, length-drop, length-take, append-nil, append_assoc, subst, inl, inr, refl, sym, ap, ◌∙◌, arith, get_or, take-add}
 use Rattle.std.specs.Prelude.{filter}
 use Rattle.std.proofs.lemmas.Bool.{cases_lt}
-use Rattle.std.proofs.lemmas.List.{map-append, take-append-drop, drop-drop, take_more, reverse-append, reverse-reverse, length-reverse, take_at, drop_at, get_or-take, get_or-drop}
+use Rattle.std.proofs.lemmas.List.{map-append, take-append-drop, drop-drop, reverse-append, reverse-reverse, length-reverse, take_at, drop_at, get_or-take, get_or-drop}
 use Rattle.std.proofs.lemmas.List.Elements.{filter-append}
 use Rattle.std.proofs.Math.Seq.{get_or-append_seam}
 use Rattle.slab.specs.Slab.{Slab, get}

@@ -1,5 +1,5 @@
 -- What a walk over rows has left.
-use Rattle.std.specs.Prelude.{ℕ, suc, ◌≡◌, ◌+◌, ◌-◌, ◌<◌, ◌≤◌, ◌^◌, Bool, true, false, not, length, slice_index_or, List, [], ◌∷◌, take, drop, reverse, map, filter, Option, Some, None, IfSome, nat_lt, if◌then◌else◌}
+use Rattle.std.specs.Prelude.{ℕ, ◌≡◌, ◌+◌, ◌-◌, ◌<◌, ◌≤◌, ◌^◌, Bool, true, false, not, length, slice_index_or, List, [], ◌∷◌, take, drop, reverse, map, filter, Option, Some, None, IfSome, nat_lt, if◌then◌else◌}
 use Rattle.slab.specs.Slab.{Slab, get}
 use Rattle.xf_doc.specs.declared.content.Node.{Node}
 use Rattle.xf_doc.specs.Forest.{is_attribute}

@@ -116,10 +116,8 @@ fn all_below(rows: &[Row], at: usize) -> Left
     requires sized { Sized rows.now }
     ensures { result ≡ Left.Rows (at + 1) (at + length (tree_of (drop at rows.now))) }
 {
-    Left::Rows {
-        at: at + 1,
-        end: end_of(rows, at),
-    }
+    let end = end_of(rows, at);
+    Left::Rows { at: at + 1, end }
 }
 
 fn later_siblings(rows: &[Row], slots: &Slab<Slot>, hints: &[Hint], at: usize) -> Left

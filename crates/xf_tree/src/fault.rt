@@ -133,7 +133,7 @@ fn own_len(content: &Content) -> usize
     }
 }
 
-fn is_element(content: &Content) -> bool
+pub fn is_element(content: &Content) -> bool
     ensures { result ≡ is_element content.now }
 {
     match content {

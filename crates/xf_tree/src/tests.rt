@@ -32,7 +32,7 @@ pub fn element(
     }))
 }
 
-fn text(alloc: Global, text: &str) -> Result<Lit, AllocError>
+pub fn text(alloc: Global, text: &str) -> Result<Lit, AllocError>
     ensures { IfOk result (λ lit. lit ≡ Text text.now) }
 {
     Ok(Lit::Text(Word::from_str(alloc, text)?))

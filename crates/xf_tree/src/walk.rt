@@ -86,7 +86,10 @@ fn step(rows: &[Row], slots: &Slab<Slot>, hints: &[Hint], left: Left) -> Option<
         Left::Trees { at, end, depth } => step_over_trees(rows, slots, at, end, depth),
         Left::Attributes { at, depth } => step_over_attributes(rows, slots, at, depth),
         Left::Rows { at, end } => step_over_rows(rows, slots, at, end),
-        Left::Up { at } => step_up(rows, slots, hints, at),
+        Left::Up { at } => match parent_row(rows, hints, at) {
+            Some(above) => Some((above, Left::Up { at: above })),
+            None => None,
+        },
         Left::Back { above, at, depth } => step_back(rows, slots, hints, above, at, depth),
     }
 }
@@ -136,17 +139,6 @@ fn step_over_rows(rows: &[Row], slots: &Slab<Slot>, at: usize, end: usize) -> Op
         return None;
     }
     Some((next, Left::Rows { at: next + 1, end }))
-}
-
-fn step_up(rows: &[Row], slots: &Slab<Slot>, hints: &[Hint], at: usize) -> Option<(usize, Left)>
-    requires sized { Sized rows.now }
-    requires within { at < length rows.now }
-    ensures { MatchOption result (left_of slots.now rows.now (Left.Up at) ≡ []) (λ r. IsStep slots.now rows.now (Left.Up at) r.0 r.1) }
-{
-    match parent_row(rows, hints, at) {
-        Some(above) => Some((above, Left::Up { at: above })),
-        None => None,
-    }
 }
 
 fn step_back(

@@ -1,4 +1,4 @@
-use Rattle.std.proofs.Common.{◌≡◌, ◌<◌, ◌≤◌, sym, ◌∙◌, arith}
+use Rattle.std.proofs.Common.{sym, ◌∙◌, arith}
 use Rattle.xf_tree.proofs.AboveLemmas.{above-is}
 use Rattle.xf_tree.proofs.AxisLemmas.{preceding-alone, preceding-attribute, preceding-axis}
 use Rattle.xf_tree.proofs.axis.earlier_siblings.Goals as goal

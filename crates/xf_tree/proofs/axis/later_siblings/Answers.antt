@@ -1,4 +1,4 @@
-use Rattle.std.proofs.Common.{◌≡◌, ◌<◌, ◌≤◌, sym, ◌∙◌, arith}
+use Rattle.std.proofs.Common.{sym, ◌∙◌}
 use Rattle.xf_tree.proofs.SiblingLemmas.{family}
 use Rattle.xf_tree.proofs.AxisLemmas.{following-alone, following-attribute, following-axis, beside, no_attribute}
 use Rattle.xf_tree.proofs.axis.later_siblings.Goals as goal

@@ -1,7 +1,4 @@
-use Rattle.std.proofs.Common.{◌≡◌, ℕ, ◌+◌, ◌<◌, ◌≤◌, length, get_or, arith, ap, sym, ◌∙◌}
-use Rattle.std.proofs.lemmas.List.{length-map}
-use Rattle.xf_tree.specs.declared.rows.Row.{Row}
-use Rattle.xf_tree.specs.Tree.{depths, no_row}
+use Rattle.std.proofs.Common.{arith}
 use Rattle.xf_tree.proofs.AxisLemmas.{depth-small}
 use Rattle.xf_tree.proofs.axis.right_below.Goals as goal
 

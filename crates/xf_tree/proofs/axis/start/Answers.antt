@@ -1,10 +1,5 @@
-use Rattle.std.proofs.Common.{◌≡◌, ℕ, ◌<◌, ◌≤◌, List, ◌∷◌, map, sym, ap, ◌∙◌, subst, arith}
-use Rattle.xf_name.specs.declared.axis.Axis.{Axis}
-use Rattle.xf_doc.specs.Visit.{visits}
-use Rattle.xf_doc.specs.Axis.{axis_of}
-use Rattle.xf_tree.specs.declared.walk.Left.{Left}
-use Rattle.xf_tree.specs.Tree.{node_of}
-use Rattle.xf_tree.specs.Walks.{left_of, number_of_row, IsWalk, IsReady}
+use Rattle.std.proofs.Common.{◌∷◌, sym, ap, ◌∙◌, subst}
+use Rattle.xf_tree.specs.Walks.{left_of, number_of_row, IsReady}
 use Rattle.xf_tree.proofs.CutLemmas.{tree-within}
 use Rattle.xf_tree.proofs.AxisLemmas.{self-axis, child-axis, attribute-axis, parent-axis, ancestor-axis, ancestor-or_self-axis, descendant-axis, descendant-or_self-axis, tree-deep}
 use Rattle.xf_tree.proofs.axis.start.Goals as goal

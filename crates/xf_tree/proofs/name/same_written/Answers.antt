@@ -1,4 +1,4 @@
-use Rattle.std.proofs.Common.{◌≡◌, ◌&&◌, not, false, true, sym, ap, ◌∙◌}
+use Rattle.std.proofs.Common.{not, sym, ap, ◌∙◌}
 use Rattle.xf_doc.specs.Plant.{written_of}
 use Rattle.xf_tree.proofs.AlikeLemmas.{same-written, other-written}
 use Rattle.xf_tree.proofs.name.same_written.Goals as goal

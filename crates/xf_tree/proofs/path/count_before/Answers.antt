@@ -1,4 +1,4 @@
-use Rattle.std.proofs.Common.{◌≡◌, ◌+◌, ◌-◌, ◌<◌, ◌≤◌, length, take, drop, get_or, arith, length-take}
+use Rattle.std.proofs.Common.{◌+◌, ◌-◌, drop, get_or, arith, length-take}
 use Rattle.xf_tree.specs.Siblings.{is_like}
 use Rattle.xf_tree.specs.Tree.{no_row}
 use Rattle.xf_tree.specs.Walks.{between}

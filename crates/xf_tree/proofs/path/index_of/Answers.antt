@@ -1,7 +1,5 @@
-use Rattle.std.proofs.Common.{◌≡◌, ℕ, ◌+◌, ◌<◌, ◌≤◌, length, nat_lt, Some, None, Option, sym, ap, ◌∙◌, subst, arith, get_or}
-use Rattle.xf_tree.specs.Siblings.{same_sort, is_like, like_before, like_after, index_among}
-use Rattle.xf_tree.specs.Tree.{no_row}
-use Rattle.xf_tree.specs.Walks.{between, chosen}
+use Rattle.std.proofs.Common.{length, nat_lt, sym, ap, ◌∙◌, arith}
+use Rattle.xf_tree.specs.Siblings.{same_sort}
 use Rattle.xf_tree.proofs.SiblingLemmas.{family}
 use Rattle.xf_tree.proofs.StackLemmas.{lt-from}
 use Rattle.xf_tree.proofs.AxisLemmas.{beside}

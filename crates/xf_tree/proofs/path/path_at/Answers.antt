@@ -1,4 +1,4 @@
-use Rattle.std.proofs.Common.{◌≡◌, ℕ, ◌==◌, ◌<◌, ◌++◌, true, false, map, reverse, length, sym, ap, ◌∙◌, arith}
+use Rattle.std.proofs.Common.{◌++◌, map, reverse, sym, ap, ◌∙◌, arith}
 use Rattle.std.specs.Prelude.{string_bytes}
 use Rattle.std.specs.List.{flat_map}
 use Rattle.xf_doc.specs.Path.{step_of, or_slash}

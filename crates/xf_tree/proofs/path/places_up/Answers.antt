@@ -1,5 +1,5 @@
-use Rattle.std.proofs.Common.{◌≡◌, ◌<◌, length, sym, ap, ◌∙◌, subst}
-use Rattle.xf_tree.specs.Siblings.{AllPlaces, rows_up}
+use Rattle.std.proofs.Common.{length, sym, subst}
+use Rattle.xf_tree.specs.Siblings.{AllPlaces}
 use Rattle.xf_tree.proofs.PathTextLemmas.{places-more, all-snoc, still-within, here-within}
 use Rattle.xf_tree.proofs.path.places_up.Goals as goal
 

@@ -1,13 +1,9 @@
-use Rattle.std.proofs.Common.{◌≡◌, ℕ, ◌+◌, List, [], ◌∷◌, ◌++◌, Option, Some, None, codes, length, get_or, suc, refl, sym, ap, ◌∙◌, arith, ◌<◌, add-one, append-nil}
+use Rattle.std.proofs.Common.{◌≡◌, ◌+◌, [], ◌∷◌, ◌++◌, codes, length, suc, sym, ap, ◌∙◌, arith, add-one, append-nil}
 use Rattle.std.specs.Prelude.{option_copied, string_bytes}
-use Rattle.slab.specs.Slab.{get}
-use Rattle.xf_doc.specs.declared.content.Content.{Content}
-use Rattle.xf_doc.specs.declared.content.Content.TheVariants.{Element, Text}
 use Rattle.xf_doc.specs.Forest.{written}
 use Rattle.xf_doc.specs.Path.{bracketed}
-use Rattle.xf_tree.specs.declared.slot.Slot.{Slot}
 use Rattle.xf_tree.specs.Rows.{parent_row_of}
-use Rattle.xf_tree.specs.Tree.{no_row, content_in}
+use Rattle.xf_tree.specs.Tree.{content_in}
 use Rattle.xf_tree.specs.Siblings.{index_text, index_among, like_before, like_after}
 use Rattle.xf_tree.proofs.PathLemmas.{root-step, attribute-step, text-step, element-step}
 use Rattle.xf_tree.proofs.PathTextLemmas.{joined, joined-two}

@@ -1,4 +1,4 @@
-use Rattle.std.proofs.Common.{◌≡◌, map, sym, subst}
+use Rattle.std.proofs.Common.{map, subst}
 use Rattle.xf_doc.specs.Path.{step_of}
 use Rattle.xf_doc.specs.Visit.{visits}
 use Rattle.xf_tree.specs.Siblings.{AllPlaces}

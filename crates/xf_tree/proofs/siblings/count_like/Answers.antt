@@ -1,4 +1,4 @@
-use Rattle.std.proofs.Common.{◌≡◌, ◌+◌, ◌<◌, ◌≤◌, false, true, length, sym, ap, ◌∙◌, arith}
+use Rattle.std.proofs.Common.{length, sym, ap, ◌∙◌, arith}
 use Rattle.xf_tree.specs.Siblings.{same_sort}
 use Rattle.xf_tree.proofs.WalkLemmas.{behind, kin-passed, kin-found}
 use Rattle.xf_tree.proofs.siblings.count_like.Goals as goal

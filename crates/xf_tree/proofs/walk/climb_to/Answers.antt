@@ -1,5 +1,4 @@
-use Rattle.std.proofs.Common.{◌≡◌, ◌+◌, ◌<◌, ◌≤◌, length, Some, arith}
-use Rattle.xf_tree.specs.Rows.{parent_row_of}
+use Rattle.std.proofs.Common.{◌<◌, length, arith}
 use Rattle.xf_tree.proofs.AboveLemmas.{above-is}
 use Rattle.xf_tree.proofs.WalkLemmas.{climb-on, climb-bounded}
 use Rattle.xf_tree.proofs.walk.climb_to.Goals as goal

@@ -1,4 +1,4 @@
-use Rattle.std.proofs.Common.{◌≡◌, ℕ, ◌+◌, ◌-◌, ◌<◌, ◌≤◌, length, false, true, sym, ap, ◌∙◌, subst, arith}
+use Rattle.std.proofs.Common.{◌≡◌, ℕ, ◌+◌, ◌-◌, ◌<◌, length, false, sym, ◌∙◌, subst, arith}
 use Rattle.xf_tree.specs.Rows.{AllDeep}
 use Rattle.xf_tree.specs.Tree.{same_kind}
 use Rattle.xf_tree.specs.Walks.{between}

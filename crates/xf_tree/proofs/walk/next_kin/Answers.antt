@@ -1,4 +1,4 @@
-use Rattle.std.proofs.Common.{◌≡◌, ◌+◌, ◌<◌, ◌≤◌, false, true, sym, ap, ◌∙◌, arith}
+use Rattle.std.proofs.Common.{false, sym, ◌∙◌}
 use Rattle.xf_tree.specs.Tree.{same_kind}
 use Rattle.xf_tree.proofs.WalkLemmas.{behind, kin-passed}
 use Rattle.xf_tree.proofs.walk.next_kin.Goals as goal

@@ -1,9 +1,5 @@
-use Rattle.std.proofs.Common.{◌≡◌, ◌+◌, ◌<◌, ◌≤◌, not, false, true, sym, ap, ◌∙◌, arith, length, get_or}
-use Rattle.std.proofs.lemmas.List.{get_or_default}
-use Rattle.slab.specs.Slab.{get}
-use Rattle.xf_doc.specs.Forest.{is_attribute}
-use Rattle.xf_tree.specs.declared.rows.Row.{Row}
-use Rattle.xf_tree.specs.Tree.{no_row, content_in, node_of}
+use Rattle.std.proofs.Common.{◌≡◌, ◌+◌, not, false, sym, ap, ◌∙◌, get_or}
+use Rattle.xf_tree.specs.Tree.{no_row, node_of}
 use Rattle.xf_tree.specs.Walks.{between, chosen, is_plain}
 use Rattle.xf_tree.proofs.WalkLemmas.{between-first, chosen-no}
 use Rattle.xf_tree.proofs.walk.next_plain.Goals as goal

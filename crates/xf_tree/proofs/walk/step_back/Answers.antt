@@ -1,4 +1,4 @@
-use Rattle.std.proofs.Common.{◌≡◌, ◌+◌, ◌<◌, ◌≤◌, length, false, reverse, sym, ap, ◌∙◌, arith}
+use Rattle.std.proofs.Common.{◌+◌, ◌<◌, length, false, reverse, sym, ap, ◌∙◌, arith}
 use Rattle.xf_tree.specs.Tree.{same_kind}
 use Rattle.xf_tree.proofs.WalkLemmas.{kin-back_found}
 use Rattle.xf_tree.proofs.walk.step_back.Goals as goal

@@ -1,4 +1,4 @@
-use Rattle.std.proofs.Common.{◌≡◌, ◌+◌, ◌<◌, ◌≤◌, length, get_or, sym, ap, ◌∙◌, arith}
+use Rattle.std.proofs.Common.{◌+◌, get_or, sym, ap, ◌∙◌, arith}
 use Rattle.xf_tree.specs.Tree.{no_row}
 use Rattle.xf_tree.specs.Walks.{between, chosen, is_plain}
 use Rattle.xf_tree.proofs.WalkLemmas.{between-first, chosen-yes}

@@ -1,4 +1,4 @@
-use Rattle.std.proofs.Common.{false, ◌≡◌, ◌+◌, ◌<◌, ◌≤◌, length, sym, ap, ◌∙◌, arith}
+use Rattle.std.proofs.Common.{false, sym, ◌∙◌, arith}
 use Rattle.xf_tree.specs.Tree.{same_kind}
 use Rattle.xf_tree.proofs.WalkLemmas.{behind, kin-found}
 use Rattle.xf_tree.proofs.walk.step_over_trees.Goals as goal
