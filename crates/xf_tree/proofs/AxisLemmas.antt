@@ -1,5 +1,5 @@
 -- What stands on each axis from the node at a place, by rows.
-use Rattle.std.proofs.Common.{◌≡◌, ℕ, zero, suc, ◌+◌, ◌-◌, ◌<◌, ◌≤◌, ◌==◌, ◌&&◌, ◌||◌, not, Bool, true, false, List, [], ◌∷◌, map, length, take, drop, get_or, reverse, Option, Some, None, refl, sym, ap, ◌∙◌, subst, arith}
+use Rattle.std.proofs.Common.{◌≡◌, ℕ, zero, suc, ◌+◌, ◌-◌, ◌<◌, ◌≤◌, ◌==◌, ◌&&◌, ◌||◌, not, Bool, true, false, List, [], ◌∷◌, map, length, take, drop, get_or, reverse, Option, Some, None, refl, sym, ap, ◌∙◌, subst, arith, add-one}
 use Rattle.std.specs.Prelude.{filter}
 use Rattle.std.proofs.lemmas.List.{drop-drop}
 use Rattle.slab.specs.Slab.{Slab, get}
@@ -16,7 +16,7 @@ use Rattle.xf_tree.specs.declared.slot.Slot.{Slot}
 use Rattle.xf_tree.specs.declared.walk.Left.TheVariants.{Nothing}
 use Rattle.xf_tree.specs.Rows.{AllDeep, deeper, tree_of, parent_row_of}
 use Rattle.xf_tree.specs.Tree.{node_of, content_in, no_row, is_kin, number_at, times, depths, AreSteps}
-use Rattle.xf_tree.specs.Walks.{between, chosen, is_plain, ancestor_rows, number_of_row, walk_of, AreNodes}
+use Rattle.xf_tree.specs.Walks.{between, attributes_ahead, chosen, is_plain, ancestor_rows, number_of_row, walk_of, AreNodes}
 use Rattle.xf_tree.proofs.SizedLemmas.{lt-true, lt-false}
 use Rattle.xf_tree.proofs.NodeLemmas.{eq-turned}
 use Rattle.xf_tree.proofs.StackLemmas.{stack, parted-visit, still-shut}
@@ -25,6 +25,7 @@ use Rattle.xf_tree.proofs.ParentLemmas.{opened, deep-prefix}
 use Rattle.xf_tree.proofs.KidLemmas.{kids, is_kid}
 use Rattle.xf_tree.proofs.WalkLemmas.{behind, deep-behind}
 use Rattle.xf_tree.proofs.FoundLemmas.{found, found-alike, found-none, by-number, one-equal, filter-alike, filter-none, open-found, parted-under, visits-before, visits-after}
+use Rattle.xf_tree.proofs.AheadLemmas.{later-first, ahead-all}
 use Rattle.xf_tree.proofs.SiblingLemmas.{visit_at, visits_behind, parted-here, stack-is, above-rows, first-is, first-test, no-first, same-first, same-none, tree-between, kids-below, Family, family, later-kids}
 
 abbrev pub no_attribute : Content → Bool
@@ -48,8 +49,14 @@ pub child-axis : (s : Slab Slot) (rows : List Row) (at : ℕ) → AreNodes s row
 child-axis s rows at nodes h = sym (at-visit axis.Child s rows at nodes h ∙ kids-below no_attribute s rows at nodes h)
 
 pub attribute-axis : (s : Slab Slot) (rows : List Row) (at : ℕ) → AreNodes s rows → at < length rows
-    → chosen s (is_kin ((get_or rows at no_row).depth + 1) true) (between (at + 1) (at + length (tree_of (drop at rows))) rows) ≡ axis_of axis.Attribute (number_of_row s rows at) (visits (map (node_of s) rows))
-attribute-axis s rows at nodes h = sym (at-visit axis.Attribute s rows at nodes h ∙ kids-below is_attribute s rows at nodes h)
+    → numbers (attributes_ahead ((get_or rows at no_row).depth + 1) (map (node_of s) (drop (at + 1) rows))) ≡ axis_of axis.Attribute (number_of_row s rows at) (visits (map (node_of s) rows))
+attribute-axis s rows at nodes h =
+    let d = (get_or rows at no_row).depth in
+    let later = drop (at + 1) rows in
+    let all = between (at + 1) (at + length (tree_of (drop at rows))) rows in
+    ap (λ e. numbers (attributes_ahead e (map (node_of s) later))) (add-one d) ∙ ap numbers (sym (ahead-all s d _ later (later-first s at rows h nodes.first)))
+    ∙ ap (chosen s (is_kin (suc d) true)) (tree-between at rows h) ∙ ap (λ e. chosen s (is_kin e true) all) (sym (add-one d))
+    ∙ sym (at-visit axis.Attribute s rows at nodes h ∙ kids-below is_attribute s rows at nodes h)
 
 below-rows : (s : Slab Slot) (rows : List Row) (at : ℕ) → at < length rows
     → numbers (filter is_plain (map (node_of s) (take (deeper (get_or rows at no_row).depth (drop (at + 1) rows)) (drop (at + 1) rows))))

@@ -57,7 +57,7 @@ all-behind_deep low d [] h deep = h
 all-behind_deep low d (x ∷ xs) h deep = all-behind_deep low (attribute_depth x.0 x.1) xs (behind-deep low x.0 x.1 deep.0) deep.1
 
 -- what is less deep than all these begins with no attribute but a top
-first-low : (low d : ℕ) (xs ys : List (ℕ × Content)) → (d ≡ 0) ⊎ (low ≤ d) → AllFrom low (fsts xs) → AreFirst (depth_behind d xs) ys → (q : ℕ) → q < low → NotDeeper q ys → AreFirst 0 ys
+pub first-low : (low d : ℕ) (xs ys : List (ℕ × Content)) → (d ≡ 0) ⊎ (low ≤ d) → AllFrom low (fsts xs) → AreFirst (depth_behind d xs) ys → (q : ℕ) → q < low → NotDeeper q ys → AreFirst 0 ys
 first-low low d xs [] h deep a q l less = tt
 first-low low d xs (y ∷ ys) h deep a q l less = (
   (λ is pos. absurd (let e = a.0 is pos in let w : ⊥ = elim (all-behind_deep low d xs h deep) [ inl z ↦ omega arith | inr m ↦ omega arith ] in w)),

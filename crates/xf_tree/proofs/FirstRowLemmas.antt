@@ -106,7 +106,7 @@ module _ (s : Slab Slot) where
         | inr b ↦ elim (cases_Bool (nat_lt d x.depth || is_attribute c)) [
           | inl o ↦ rw (b, o) (child-first d place (attribute_depth x.depth c) xs (behind-deep d x.depth c (le-from x.depth d b)) a.1)
           | inr o ↦ rw (b, o) (child place ((λ is pos. absurd (true≢false (sym is ∙ (or_parts (nat_lt d x.depth) (is_attribute c) o).1))), a.1)
-            (λ left. child-first d left (attribute_depth x.depth c) xs (behind-deep d x.depth c (le-from x.depth d b)) a.1))
+              (λ left. child-first d left (attribute_depth x.depth c) xs (behind-deep d x.depth c (le-from x.depth d b)) a.1))
         ]
       ]
     where

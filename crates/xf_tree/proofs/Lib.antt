@@ -14,6 +14,7 @@ pub mod StepLemmas
 pub mod LeafLemmas
 pub mod FirstLemmas
 pub mod FirstRowLemmas
+pub mod FirstBelowLemmas
 pub mod CountLemmas
 pub mod ForestLemmas
 pub mod StateLemmas
@@ -40,6 +41,7 @@ pub mod ChildLemmas
 pub mod WalkLemmas
 pub mod FoundLemmas
 pub mod SiblingLemmas
+pub mod AheadLemmas
 pub mod AxisLemmas
 pub mod BelowLemmas
 pub mod BehindLemmas

@@ -71,8 +71,8 @@ fn start(
 {
     match axis {
         Axis::Self_ => (Some(at), Left::Nothing),
-        Axis::Child => (None, right_below(rows, at, false)),
-        Axis::Attribute => (None, right_below(rows, at, true)),
+        Axis::Child => (None, right_below(rows, at)),
+        Axis::Attribute => (None, own_attributes(rows, at)),
         Axis::Parent => (parent_row(rows, hints, at), Left::Nothing),
         Axis::Ancestor => (None, Left::Up { at }),
         Axis::AncestorOrSelf => (Some(at), Left::Up { at }),
@@ -83,19 +83,31 @@ fn start(
     }
 }
 
-/// The children, or the attributes where these are wanted.
-fn right_below(rows: &[Row], at: usize, wanted: bool) -> Left
+/// The children.
+fn right_below(rows: &[Row], at: usize) -> Left
     requires within { at < length rows.now }
     requires sized { Sized rows.now }
     requires steps { AreSteps 0 (depths rows.now) }
     requires few { length rows.now < 2 ^ 31 }
-    ensures { result ≡ Left.Trees (at + 1) (at + length (tree_of (drop at rows.now))) ((slice_index_or rows.now at no_row).depth + 1) wanted }
+    ensures { result ≡ Left.Trees (at + 1) (at + length (tree_of (drop at rows.now))) ((slice_index_or rows.now at no_row).depth + 1) }
 {
     Left::Trees {
         at: at + 1,
         end: end_of(rows, at),
         depth: rows[at].depth + 1,
-        wanted,
+    }
+}
+
+/// The attributes: they stand right behind their element.
+fn own_attributes(rows: &[Row], at: usize) -> Left
+    requires within { at < length rows.now }
+    requires steps { AreSteps 0 (depths rows.now) }
+    requires few { length rows.now < 2 ^ 31 }
+    ensures { result ≡ Left.Attributes (at + 1) ((slice_index_or rows.now at no_row).depth + 1) }
+{
+    Left::Attributes {
+        at: at + 1,
+        depth: rows[at].depth + 1,
     }
 }
 
@@ -124,7 +136,6 @@ fn later_siblings(rows: &[Row], slots: &Slab<Slot>, hints: &[Hint], at: usize) -
         at: end_of(rows, at),
         end: end_of(rows, above),
         depth: rows[at].depth,
-        wanted: false,
     }
 }
 

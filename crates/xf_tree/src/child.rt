@@ -1,8 +1,11 @@
-//! What stands right below a row. Each walk goes from one row below to the next one by its size.
-ghost use Rattle.std.specs.Prelude.{◌≡◌, ◌<◌, ◌==◌, suc, nat_lt, nat_le, length, slice_index_or};
+//! What stands right below a row. A walk over children goes from one row below to the next one by its size; one over attributes
+//! ends with them, since they stand first.
+ghost use Rattle.std.specs.Prelude.{◌≡◌, ◌<◌, ◌==◌, suc, nat_lt, nat_le, length, map, slice_index_or};
 ghost use Rattle.slab.specs.Slab.{get};
-ghost use Rattle.xf_doc.specs.Forest.{is_element};
+ghost use Rattle.xf_doc.specs.Forest.{is_element, is_attribute};
 ghost use Rattle.xf_tree.specs.Rows.{Sized};
+ghost use Rattle.xf_tree.specs.First.{AreFirst};
+ghost use Rattle.xf_tree.specs.Leaves.{parts_in};
 ghost use Rattle.xf_tree.specs.Tree.{node_of, content_in, no_row};
 ghost use Rattle.xf_tree.specs.Kids.{is_kid, is_no_attribute, is_attribute_like, kids_at};
 
@@ -53,17 +56,16 @@ pub fn has_element(rows: &[Row], slots: &Slab<Slot>, above: usize) -> bool
 /// Whether the node at a place has an attribute of the name of the node under a key.
 pub fn has_attribute(rows: &[Row], slots: &Slab<Slot>, above: usize, like: usize) -> bool
     requires within { above < length rows.now }
-    requires sized { Sized rows.now }
+    requires first { AreFirst 0 (parts_in (map (node_of slots.now) rows.now)) }
     ensures { result ≡ nat_lt 0 (kids_at (is_attribute_like (content_in (get slots.now like))) slots.now rows.now above) }
 {
     let depth = rows[above].depth;
-    let end = end_of(rows, above);
     let mut next = above + 1;
-    while next < end {
-        if is_like_below(rows, slots, next, depth, like) {
+    while next < rows.len() && is_attribute_below(rows, slots, next, depth) {
+        if has_same_name(slots, rows[next].key, like) {
             return true;
         }
-        next = end_of(rows, next);
+        next += 1;
     }
     false
 }
@@ -90,11 +92,9 @@ fn is_element_below(rows: &[Row], slots: &Slab<Slot>, at: usize, depth: u32) -> 
     is_next(rows, at, depth) && is_element_at(slots, rows[at].key)
 }
 
-fn is_like_below(rows: &[Row], slots: &Slab<Slot>, at: usize, depth: u32, like: usize) -> bool
+fn is_attribute_below(rows: &[Row], slots: &Slab<Slot>, at: usize, depth: u32) -> bool
     requires { at < length rows.now }
-    ensures { result ≡ is_kid (is_attribute_like (content_in (get slots.now like))) (suc depth) (node_of slots.now (slice_index_or rows.now at no_row)) }
+    ensures { result ≡ is_kid is_attribute (suc depth) (node_of slots.now (slice_index_or rows.now at no_row)) }
 {
-    is_next(rows, at, depth)
-        && is_attribute_at(slots, rows[at].key)
-        && has_same_name(slots, rows[at].key, like)
+    is_next(rows, at, depth) && is_attribute_at(slots, rows[at].key)
 }

@@ -21,6 +21,9 @@ mod slot;
 mod tests;
 #[cfg(test)]
 mod tests_attach;
+#[cfg(test)]
+mod tests_axis;
+#[cfg(test)]
 mod tests_may;
 mod tests_axis;
 mod text;

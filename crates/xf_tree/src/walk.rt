@@ -16,29 +16,17 @@ use xf_doc::NodeId;
 #[derive(Clone, Copy, Debug)]
 pub enum Left {
     Nothing,
-    /// Of the trees from one place to before another the tops that have this depth, and are attributes where these are
-    /// wanted, and are none where not.
-    Trees {
-        at: usize,
-        end: usize,
-        depth: u32,
-        wanted: bool,
-    },
+    /// Of the trees from one place to before another the tops that have this depth, without the attributes.
+    Trees { at: usize, end: usize, depth: u32 },
+    /// The attributes of this depth from a place on, to before the first node that is none. No other of their element's
+    /// comes later.
+    Attributes { at: usize, depth: u32 },
     /// The nodes from one place to before another, without the attributes.
-    Rows {
-        at: usize,
-        end: usize,
-    },
+    Rows { at: usize, end: usize },
     /// The ancestors of the node at a place, the nearest first.
-    Up {
-        at: usize,
-    },
+    Up { at: usize },
     /// The nodes of this depth before one place, back to behind another, without the attributes.
-    Back {
-        above: usize,
-        at: usize,
-        depth: u32,
-    },
+    Back { above: usize, at: usize, depth: u32 },
 }
 
 /// The nodes on an axis, nearest first. It costs what it yields.
@@ -95,12 +83,8 @@ fn step(rows: &[Row], slots: &Slab<Slot>, hints: &[Hint], left: Left) -> Option<
 {
     match left {
         Left::Nothing => None,
-        Left::Trees {
-            at,
-            end,
-            depth,
-            wanted,
-        } => step_over_trees(rows, slots, at, end, depth, wanted),
+        Left::Trees { at, end, depth } => step_over_trees(rows, slots, at, end, depth),
+        Left::Attributes { at, depth } => step_over_attributes(rows, slots, at, depth),
         Left::Rows { at, end } => step_over_rows(rows, slots, at, end),
         Left::Up { at } => match parent_row(rows, hints, at) {
             Some(above) => Some((above, Left::Up { at: above })),
@@ -116,26 +100,34 @@ fn step_over_trees(
     at: usize,
     end: usize,
     depth: u32,
-    wanted: bool,
 ) -> Option<(usize, Left)>
     requires sized { Sized rows.now }
-    requires ready { IsReady rows.now (Left.Trees at end depth wanted) }
-    ensures { MatchOption result (left_of slots.now rows.now (Left.Trees at end depth wanted) ≡ []) (λ r. IsStep slots.now rows.now (Left.Trees at end depth wanted) r.0 r.1) }
+    requires ready { IsReady rows.now (Left.Trees at end depth) }
+    ensures { MatchOption result (left_of slots.now rows.now (Left.Trees at end depth) ≡ []) (λ r. IsStep slots.now rows.now (Left.Trees at end depth) r.0 r.1) }
 {
-    let next = next_kin(rows, slots, at, end, depth, wanted);
+    let next = next_kin(rows, slots, at, end, depth);
     if next >= end {
         return None;
     }
     let at = end_of(rows, next);
-    Some((
-        next,
-        Left::Trees {
-            at,
-            end,
-            depth,
-            wanted,
-        },
-    ))
+    Some((next, Left::Trees { at, end, depth }))
+}
+
+fn step_over_attributes(
+    rows: &[Row],
+    slots: &Slab<Slot>,
+    at: usize,
+    depth: u32,
+) -> Option<(usize, Left)>
+    ensures { MatchOption result (left_of slots.now rows.now (Left.Attributes at depth) ≡ []) (λ r. IsStep slots.now rows.now (Left.Attributes at depth) r.0 r.1) }
+{
+    if at >= rows.len() {
+        return None;
+    }
+    if !is_kin_at(rows, slots, at, depth, true) {
+        return None;
+    }
+    Some((at, Left::Attributes { at: at + 1, depth }))
 }
 
 fn step_over_rows(rows: &[Row], slots: &Slab<Slot>, at: usize, end: usize) -> Option<(usize, Left)>
@@ -175,24 +167,17 @@ fn step_back(
     ))
 }
 
-/// The place of the next top of a tree that has this depth and is of the wanted kind, or the end or past it where there is none.
-pub fn next_kin(
-    rows: &[Row],
-    slots: &Slab<Slot>,
-    at: usize,
-    end: usize,
-    depth: u32,
-    wanted: bool,
-) -> usize
+/// The place of the next top of a tree that has this depth and is no attribute, or the end or past it where there is none.
+fn next_kin(rows: &[Row], slots: &Slab<Slot>, at: usize, end: usize, depth: u32) -> usize
     requires sized { Sized rows.now }
     requires within { end ≤ length rows.now }
     requires deep { AllDeep depth (between at end rows.now) }
-    ensures found { result < end → is_kin depth wanted (node_of slots.now (slice_index_or rows.now result no_row)) ≡ true }
-    ensures same { chosen slots.now (is_kin depth wanted) (between result end rows.now) ≡ chosen slots.now (is_kin depth wanted) (between at end rows.now) }
+    ensures found { result < end → is_kin depth false (node_of slots.now (slice_index_or rows.now result no_row)) ≡ true }
+    ensures same { chosen slots.now (is_kin depth false) (between result end rows.now) ≡ chosen slots.now (is_kin depth false) (between at end rows.now) }
     ensures deep { AllDeep depth (between result end rows.now) }
 {
     let mut next = at;
-    while next < end && !is_kin_at(rows, slots, next, depth, wanted) {
+    while next < end && !is_kin_at(rows, slots, next, depth, false) {
         next = end_of(rows, next);
     }
     next

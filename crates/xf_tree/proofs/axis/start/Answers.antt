@@ -22,12 +22,12 @@ pub returns-in-Attribute-clause-walk : goal.returns-in-Attribute-clause-walk
 returns-in-Attribute-clause-walk c = record {
   sized = c.requires.nodes.sized;
   within = tt;
-  ready = subst (IsReady c.args.rows.now) (sym c.right_below-in-Attribute.ensures) (tree-within c.args.at c.args.rows.now c.requires.within, tree-deep c.args.rows.now c.args.at c.requires.within);
+  ready = subst (IsReady c.args.rows.now) (sym c.own_attributes.ensures) tt;
 }
 
 pub returns-in-Attribute-clause-answer : goal.returns-in-Attribute-clause-answer
 returns-in-Attribute-clause-answer c =
-    rw c.in-Attribute.is (ap (left_of c.args.slots.now c.args.rows.now) c.right_below-in-Attribute.ensures ∙ attribute-axis c.args.slots.now c.args.rows.now c.args.at c.requires.nodes c.requires.within)
+    rw c.in-Attribute.is (ap (left_of c.args.slots.now c.args.rows.now) c.own_attributes.ensures ∙ attribute-axis c.args.slots.now c.args.rows.now c.args.at c.requires.nodes c.requires.within)
 
 pub returns-in-Parent-clause-answer : goal.returns-in-Parent-clause-answer
 returns-in-Parent-clause-answer c =

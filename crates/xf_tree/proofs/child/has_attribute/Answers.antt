@@ -1,34 +1,11 @@
-use Rattle.std.proofs.Common.{ℕ, ◌+◌, ◌<◌, length, drop, cond, refl, sym, ap, ◌∙◌, arith}
+use Rattle.std.proofs.Common.{nat_lt, sym, ap, ◌∙◌}
 use Rattle.slab.specs.Slab.{get}
 use Rattle.xf_tree.specs.Tree.{content_in}
-use Rattle.xf_tree.specs.Rows.{tree_of}
-use Rattle.xf_tree.specs.Kids.{is_attribute_like, kids_at}
-use Rattle.xf_tree.proofs.ChildLemmas.{kid-step}
-use Rattle.xf_tree.proofs.SizedLemmas.{lt-true}
+use Rattle.xf_tree.proofs.AheadLemmas.{like-stop}
 use Rattle.xf_tree.proofs.child.has_attribute.Goals as goal
 
-pub returns-then-is_like_below : goal.returns-then-is_like_below
-returns-then-is_like_below c =
+pub returns-else-is_attribute_below : goal.returns-else-is_attribute_below
+returns-else-is_attribute_below c =
     let s = c.args.slots.now in
-    let rows = c.args.rows.now in
-    let next = c.loop-next.next in
-    let step = kid-step (is_attribute_like (content_in (get c.args.slots.now c.args.like))) s rows c.args.above next (next + length (tree_of (drop next rows))) c.end_of-end.result c.requires.within c.loop-next.invariant.first c.loop-next-test.true
-    c.end_of-end.ensures.answer refl in
-    let count = step.count in
-    let most = step.most in
-    let one = ap {B = ℕ} (λ b. cond b 1 0) (sym c.is_like_below.ensures ∙ c.if-is_like_below.true) in
-    let some : 0 < kids_at (is_attribute_like (content_in (get c.args.slots.now c.args.like))) s rows c.args.above = omega (arith, count, one, most) in
-    sym (lt-true 0 (kids_at (is_attribute_like (content_in (get c.args.slots.now c.args.like))) s rows c.args.above) some)
-
-pub loop-next-preserved : goal.loop-next-preserved
-loop-next-preserved c =
-    let step = kid-step (is_attribute_like (content_in (get c.args.slots.now c.args.like))) c.args.slots.now c.args.rows.now c.args.above c.loop-next.next c.end_of-next.result c.end_of-end.result c.requires.within c.loop-next.invariant.first c.loop-next-test.true
-    c.end_of-end.ensures.answer c.end_of-next.ensures.answer in
-    let count = step.count in
-    let first = c.loop-next.invariant.first in
-    let none = ap {B = ℕ} (λ b. cond b 1 0) (sym c.is_like_below.ensures ∙ c.if-is_like_below.false) in
-    record {
-      first = omega (arith, c.end_of-next.ensures.answer);
-      last = step.inside;
-      none = omega (arith, count, none, c.loop-next.invariant.none);
-    }
+    let none = like-stop s (content_in (get s c.args.like)) _ c.loop-next.next c.args.rows.now c.loop-next-test.true c.requires.first (sym c.is_attribute_below.ensures ∙ c.if-is_attribute_below.false) in
+    ap (nat_lt 0) (sym none ∙ c.loop-next.invariant)

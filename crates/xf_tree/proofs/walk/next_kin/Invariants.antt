@@ -1,4 +1,4 @@
-use Rattle.std.proofs.Common.{◌≡◌, ◌-◌}
+use Rattle.std.proofs.Common.{false, ◌≡◌, ◌-◌}
 use Rattle.xf_tree.specs.Rows.{AllDeep}
 use Rattle.xf_tree.specs.Tree.{is_kin}
 use Rattle.xf_tree.specs.Walks.{between, chosen}
@@ -6,7 +6,7 @@ use Rattle.xf_tree.proofs.walk.next_kin.Given as goal
 
 abbrev pub invariant-loop-next : goal.invariant-loop-next
 invariant-loop-next l = record {
-  same : chosen l.slots (is_kin l.depth l.wanted) (between l.next l.end l.rows) ≡ chosen l.slots (is_kin l.depth l.wanted) (between l.at l.end l.rows);
+  same : chosen l.slots (is_kin l.depth false) (between l.next l.end l.rows) ≡ chosen l.slots (is_kin l.depth false) (between l.at l.end l.rows);
   deep : AllDeep l.depth (between l.next l.end l.rows);
 }
 
