@@ -11,7 +11,7 @@ ghost use Rattle.xf_tree.specs.Tree.{node_of, kept_of, content_in, times, KeepsB
 ghost use Rattle.xf_tree.specs.Older.{is_older, is_newer, AreWhole};
 
 use crate::forest::Forest;
-use crate::lookup::{note_rows, tops_end};
+use crate::lookup::{Hint, note_rows, tops_end};
 use crate::rows::Row;
 use crate::slot::{Slot, free_kept, free_rows, number_of};
 use slab::Slab;
@@ -43,6 +43,7 @@ impl Forest {
         drop_newer(
             &mut self.rows,
             &mut self.slots,
+            &mut self.hints,
             from,
             number,
             &mut self.count,
@@ -50,7 +51,6 @@ impl Forest {
         );
         drop_kept(&mut self.slots, &mut self.kept);
         self.next = number;
-        note_rows(&mut self.hints, &self.rows, from, self.rows.len());
     }
 }
 
@@ -68,6 +68,7 @@ fn drop_kept(slots: &mut Slab<Slot>, kept: &mut Vec<usize>)
 fn drop_newer(
     rows: &mut Vec<Row>,
     slots: &mut Slab<Slot>,
+    hints: &mut Vec<Hint>,
     from: usize,
     number: u128,
     total: &mut usize,
@@ -86,7 +87,7 @@ fn drop_newer(
     ensures size { size.new ≡ size.old - all_size (map (node_of slots.old) (filter (is_newer slots.old number) rows.old.items)) }
     ensures room { vec_capacity rows.new ≡ vec_capacity rows.old }
 {
-    let end = move_older(rows, slots, from, number, total, size);
+    let end = move_older(rows, slots, hints, from, number, total, size);
     rows.truncate(end);
 }
 
@@ -95,6 +96,7 @@ fn drop_newer(
 fn move_older(
     rows: &mut [Row],
     slots: &mut Slab<Slot>,
+    hints: &mut [Hint],
     from: usize,
     number: u128,
     total: &mut usize,
@@ -117,7 +119,7 @@ fn move_older(
     while at < rows.len() {
         let end = at + rows[at].size;
         if number_of(slots, rows[at].key) < number {
-            move_rows(rows, at, end, to);
+            move_rows(rows, hints, at, end, to);
             to += end - at;
         } else {
             free_rows(slots, &rows[at..end], total, size);
@@ -127,8 +129,8 @@ fn move_older(
     to
 }
 
-/// Moves the rows from one place to before another forward.
-fn move_rows(rows: &mut [Row], at: usize, end: usize, to: usize)
+/// Moves the rows from one place to before another forward, and notes where they stand then.
+fn move_rows(rows: &mut [Row], hints: &mut [Hint], at: usize, end: usize, to: usize)
     requires order { to ≤ at }
     requires first { at ≤ end }
     requires second { end ≤ length rows.old }
@@ -136,5 +138,6 @@ fn move_rows(rows: &mut [Row], at: usize, end: usize, to: usize)
 {
     if to < at {
         rows.copy_within(at..end, to);
+        note_rows(hints, rows, to, to + (end - at));
     }
 }

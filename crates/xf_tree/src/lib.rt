@@ -25,6 +25,7 @@ mod tests_attach;
 mod tests_axis;
 #[cfg(test)]
 mod tests_may;
+mod tests_axis;
 mod text;
 mod tree;
 mod walk;
