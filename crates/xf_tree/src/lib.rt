@@ -1,8 +1,8 @@
 //! The forest of instance data: rows in document order over a slab of contents.
 #![tactic(auto)]
 
-mod axis;
 mod attach;
+mod axis;
 mod change;
 mod child;
 mod drop;
@@ -25,7 +25,6 @@ mod tests_attach;
 mod tests_axis;
 #[cfg(test)]
 mod tests_may;
-mod tests_axis;
 mod text;
 mod tree;
 mod walk;
