@@ -205,7 +205,7 @@ pub above-deep : (d : ℕ) (xs : List Row) → AllDeep d xs → AllAbove d (dept
 above-deep d [] h = tt
 above-deep d (x ∷ xs) h = (h.0, above-deep d xs h.1)
 
-first-low : (d most : ℕ) (ys : List Row) → deeper d ys ≡ 0 → d ≤ most → (more : ℕ) → AreSteps more (depths ys) → AreSteps most (depths ys)
+pub first-low : (d most : ℕ) (ys : List Row) → deeper d ys ≡ 0 → d ≤ most → (more : ℕ) → AreSteps more (depths ys) → AreSteps most (depths ys)
 first-low d most [] stops h more a = tt
 first-low d most (y ∷ ys) stops h more a = elim (cases_lt d y.depth) [
   | inl l ↦ absurd (let z : suc (deeper d ys) ≡ 0 = rw (lt-true d y.depth l) at stops in omega arith)

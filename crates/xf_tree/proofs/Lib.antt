@@ -27,3 +27,13 @@ pub mod ContentsLemmas
 pub mod FaultLemmas
 pub mod RootedLemmas
 pub mod OverLemmas
+pub mod ValueLemmas
+pub mod PackLemmas
+pub mod RunLemmas
+pub mod ChildlessLemmas
+pub mod PartLemmas
+pub mod SwapLemmas
+pub mod SetLemmas
+pub mod TakenLemmas
+pub mod KeptLemmas
+pub mod BackLemmas

@@ -3,3 +3,4 @@ pub mod Leaves
 pub mod Tree
 pub mod Calls
 pub mod Contents
+pub mod Texts

@@ -8,7 +8,7 @@ use xf_doc::{Kind, TreeFault};
 use xf_name::{Lit, LitElement, Pair, Prefixes, Word, collect};
 
 /// An element with attributes and children.
-fn element(
+pub fn element(
     alloc: Global,
     name: &str,
     attributes: &[(&str, &str)],
@@ -28,12 +28,12 @@ fn element(
     }))
 }
 
-fn text(alloc: Global, text: &str) -> Result<Lit, AllocError> {
+pub fn text(alloc: Global, text: &str) -> Result<Lit, AllocError> {
     Ok(Lit::Text(Word::from_str(alloc, text)?))
 }
 
 /// ["d",["row",{"no":"7","k":"x"},"1","2"],"t"]
-fn rows(alloc: Global) -> Result<Lit, AllocError> {
+pub fn rows(alloc: Global) -> Result<Lit, AllocError> {
     let mut texts = Vec::new(alloc);
     texts.push(text(alloc, "1")?)?;
     texts.push(text(alloc, "2")?)?;
@@ -43,7 +43,7 @@ fn rows(alloc: Global) -> Result<Lit, AllocError> {
     element(alloc, "d", &[], children)
 }
 
-fn no_prefixes(alloc: Global) -> Result<Prefixes, Fail> {
+pub fn no_prefixes(alloc: Global) -> Result<Prefixes, Fail> {
     Ok(collect(alloc, &element(alloc, "f", &[], Vec::new(alloc))?)?)
 }
 
