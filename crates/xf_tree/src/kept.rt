@@ -22,6 +22,9 @@ const TEXT_LIMIT: usize = 65536;
 
 const ALL_LIMIT: u128 = 4194304;
 
+// One more than a forest ever has rows and kept texts.
+const ROW_LIMIT: usize = 2147483648;
+
 /// The limit that is passed by so many nodes, a text of so many bytes, and so many bytes together.
 pub fn passed(count: usize, text: usize, bytes: u128) -> Option<TreeFault>
     ensures { result ≡ passed_by count text bytes }
@@ -269,7 +272,7 @@ pub fn make_room(
     kept: &mut Vec<usize>,
     taken: usize,
 ) -> Result<(), AllocError>
-    requires { vec_len kept.old + 1 < 2 ^ 64 }
+    requires { vec_len rows.old + vec_len kept.old < 2 ^ 63 }
     ensures rows { rows.new.items ≡ rows.old.items }
     ensures kept { kept.new.items ≡ kept.old.items }
     ensures same { (key : ℕ) → get slots.new key ≡ get slots.old key }
@@ -277,7 +280,11 @@ pub fn make_room(
     ensures slot { OnOk result (HasRoomFor slots.new 1) }
     ensures row { OnOk result (vec_len rows.old + (vec_len kept.old + 1) ≤ vec_capacity rows.new) }
     ensures more { OnOk result (vec_len kept.old + taken ≤ vec_capacity kept.new) }
+    ensures few { OnOk result (vec_len rows.old + vec_len kept.old + 1 < 2 ^ 31) }
 {
+    if rows.len() + kept.len() >= ROW_LIMIT - 1 {
+        return Err(AllocError);
+    }
     slots.reserve(1)?;
     rows.reserve(kept.len() + 1)?;
     kept.reserve(taken)

@@ -21,12 +21,8 @@ use crate::rows::end_of;
 use crate::run::change_texts;
 use crate::slot::own;
 use crate::tree::hint_at;
-use std::alloc::AllocError;
 use xf_doc::{Kind, NodeId, TreeFault};
 use xf_name::Word;
-
-// One more than a forest ever has rows and kept texts.
-const ROW_LIMIT: usize = 2147483648;
 
 impl Forest {
     /// Sets the text of an attribute, or of an element without element children. The texts that an element had are kept
@@ -54,10 +50,8 @@ impl Forest {
         };
         let key = self.rows[at].key;
         let had = own(&self.slots, key).len() as u128;
-        let bytes = self
-            .bytes
-            .saturating_sub(had)
-            .saturating_add(text.len() as u128);
+        let rest = self.bytes.saturating_sub(had);
+        let bytes = rest.saturating_add(text.len() as u128);
         if let Some(fault) = passed(self.count, text.len(), bytes) {
             return Err(fault);
         }
@@ -83,18 +77,13 @@ impl Forest {
         let (taken, size) = texts_in(&self.rows[at + 1..end], &self.slots);
         let more = text_count(text);
         let count = self.count.saturating_sub(taken).saturating_add(more);
-        let bytes = self
-            .bytes
-            .saturating_sub(size)
-            .saturating_add(text.len() as u128);
+        let rest = self.bytes.saturating_sub(size);
+        let bytes = rest.saturating_add(text.len() as u128);
         if let Some(fault) = passed(count, text.len(), bytes) {
             return Err(fault);
         }
         let word = Word::from_str(self.alloc, text)?;
         let mut had = Vec::with_capacity(self.alloc, taken)?;
-        if self.rows.len() + self.kept.len() >= ROW_LIMIT - 1 {
-            return Err(TreeFault::Memory);
-        }
         make_room(&mut self.rows, &mut self.slots, &mut self.kept, taken)?;
         let number = self.next;
         let place = add_text(&mut self.slots, number, word);

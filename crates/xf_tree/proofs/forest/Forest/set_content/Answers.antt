@@ -66,7 +66,7 @@ count-in c =
 bytes-in : (c : Passed) → c.saturating_add-bytes.result ≡ c.self.inside.bytes - all_size (map (node_of c.self.inside.slots) (children c.self.inside.slots (run_of c.in-Some.at c.self.inside.rows.items))) + length c.args.text.now
 bytes-in c =
     let b = bytes-most c.self.inside.slots c.self.inside.rows.items c.self.invariant.counted.small in
-    omega (arith, c.saturating_add-bytes.ensures, c.saturating_sub-2.ensures, size-in c, b, c.self.invariant.counted.bytes, c.self.invariant.sound.few)
+    omega (arith, c.saturating_add-bytes.ensures, c.saturating_sub-rest.ensures, size-in c, b, c.self.invariant.counted.bytes, c.self.invariant.sound.few)
 
 abbrev value-in : (c : Passed) → Before × Keeping
 value-in c = (
@@ -176,7 +176,7 @@ invariant_of-self-2 c =
     let here = stands-in p in
     let kind = kind-in p in
     let childless = childless-in p in
-    let few : length rows + length kept + 1 < 2 ^ 31 = omega (arith, c.if-len.false, c.len.ensures, c.len-2.ensures, c.self.inside.rows.ok.0, c.self.inside.kept.ok.0) in
+    let few : length rows + length kept + 1 < 2 ^ 31 = omega (arith, c.in_ok-make_room.ensures.few, c.self.inside.rows.ok.0, c.self.inside.kept.ok.0) in
     let spare : length rows + (length kept + 1) ≤ vec_capacity c.change_texts.new.rows =
     omega (arith, c.in_ok-make_room.ensures.row, c.change_texts.ensures.room, c.self.inside.rows.ok.0, c.self.inside.kept.ok.0) in
     let short = passed-short c.saturating_add-count.result (length text) c.saturating_add-bytes.result (sym c.passed.ensures ∙ c.in_default-passed.is) in

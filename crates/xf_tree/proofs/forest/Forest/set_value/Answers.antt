@@ -31,7 +31,7 @@ old-in c = c.own.ensures ∙ ap (λ (r : Row). own_text (content_in (get c.self.
 bytes-in : (c : Passed) → c.saturating_add-bytes.result ≡ c.self.inside.bytes - length (own_text (content_in (get c.self.inside.slots (get_or c.self.inside.rows.items c.in-Some.at no_row).key))) + length c.args.text.now
 bytes-in c =
     let b = bytes-most c.self.inside.slots c.self.inside.rows.items c.self.invariant.counted.small in
-    omega (arith, c.saturating_add-bytes.ensures, c.saturating_sub.ensures, ap length (old-in c), b, c.self.invariant.counted.bytes, c.self.invariant.sound.few)
+    omega (arith, c.saturating_add-bytes.ensures, c.saturating_sub-rest.ensures, ap length (old-in c), b, c.self.invariant.counted.bytes, c.self.invariant.sound.few)
 
 abbrev value-in : (c : Passed) → Before × Keeping
 value-in c = (
