@@ -56,3 +56,13 @@ pub mod ElementLemmas
 pub mod AlikeLemmas
 pub mod PathLemmas
 pub mod PathTextLemmas
+pub mod ValueLemmas
+pub mod PackLemmas
+pub mod RunLemmas
+pub mod ChildlessLemmas
+pub mod SwapLemmas
+pub mod SetLemmas
+pub mod TakenLemmas
+pub mod KeptLemmas
+pub mod BackLemmas
+pub mod UnsizedLemmas

@@ -9,3 +9,4 @@ pub mod Older
 pub mod Walks
 pub mod Below
 pub mod Siblings
+pub mod Texts

@@ -3,11 +3,13 @@
 
 mod attach;
 mod axis;
+mod before;
 mod change;
 mod child;
 mod drop;
 mod fault;
 mod forest;
+mod kept;
 mod lookup;
 mod may;
 mod name;
@@ -15,6 +17,8 @@ mod path;
 mod plant;
 mod root;
 mod rows;
+mod run;
+mod set;
 mod siblings;
 mod slot;
 #[cfg(test)]
@@ -25,9 +29,12 @@ mod tests_attach;
 mod tests_axis;
 #[cfg(test)]
 mod tests_may;
+#[cfg(test)]
+mod tests_texts;
 mod text;
 mod tree;
 mod walk;
 
+pub use before::Before;
 pub use forest::Forest;
 pub use walk::Walk;

@@ -172,7 +172,7 @@ pub fn size_in(content: &Content) -> u128
 }
 
 /// Empties the slot of a node, which counts no more.
-fn free_node(slots: &mut Slab<Slot>, key: usize, total: &mut usize, size: &mut u128)
+pub fn free_node(slots: &mut Slab<Slot>, key: usize, total: &mut usize, size: &mut u128)
     ensures gone { Updates slots.old slots.new key None }
     ensures total { total.new ≡ total.old - cond (not (is_root (content_in (get slots.old key)))) 1 0 }
     ensures size { size.new ≡ size.old - size_of (content_in (get slots.old key)) }

@@ -1,0 +1,12 @@
+use Rattle.std.proofs.Common.{◌≡◌, ◌≤◌, ◌-◌, ◌++◌, length, take, drop}
+use Rattle.xf_tree.specs.Texts.{attributes}
+use Rattle.xf_tree.proofs.run.pack.Given as goal
+
+abbrev pub invariant-loop-at : goal.invariant-loop-at
+invariant-loop-at l = record {
+  order : l.from ≤ l.to;
+  within : l.to ≤ l.at;
+  front : take l.to l.rows ≡ take l.from l.fn.rows ++ attributes l.slots (take (l.at - l.from) (drop l.from l.fn.rows));
+  rest : drop l.at l.rows ≡ drop l.at l.fn.rows;
+  same : length l.rows ≡ length l.fn.rows;
+}
