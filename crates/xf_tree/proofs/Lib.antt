@@ -24,3 +24,7 @@ pub mod ContentsLemmas
 pub mod FaultLemmas
 pub mod RootedLemmas
 pub mod OverLemmas
+pub mod PrintLemmas
+pub mod KeptLemmas
+pub mod PairLemmas
+pub mod PrintedLemmas

@@ -2,3 +2,4 @@ pub mod Rows
 pub mod Tree
 pub mod Calls
 pub mod Contents
+pub mod Print
