@@ -10,8 +10,10 @@ pub mod ParentLemmas
 pub mod TextLemmas
 pub mod KidLemmas
 pub mod StepLemmas
+pub mod LeafLemmas
 pub mod CountLemmas
 pub mod ForestLemmas
+pub mod StateLemmas
 pub mod RootLemmas
 pub mod AboveLemmas
 pub mod FreeLemmas
@@ -19,6 +21,7 @@ pub mod DropLemmas
 pub mod PushLemmas
 pub mod NumberLemmas
 pub mod AddLemmas
+pub mod CopyLemmas
 pub mod WrittenLemmas
 pub mod ContentsLemmas
 pub mod FaultLemmas

@@ -1,7 +1,7 @@
 -- A root over a tree: what the rows stand for.
 use Rattle.std.proofs.Common.{◌≡◌, ℕ, zero, suc, ◌+◌, ◌-◌, ◌<◌, ◌≤◌, ◌^◌, ◌==◌, Bool, true, false, if◌then◌else◌, List, [], ◌∷◌, ◌++◌, map, length, take, drop, get_or, Option, Some, None, IsSome, append_assoc, refl, sym, ap, ◌∙◌, subst, inl, inr, arith, length-append, length-take, length-drop, add-one}
 use Rattle.std.proofs.lemmas.List.{take-append-drop, map-append, length-map}
-use Rattle.std.proofs.lemmas.Bool.{cases_Bool, cases_lt, true≢false}
+use Rattle.std.proofs.lemmas.Bool.{cases_Bool, cases_lt, true≢false, false≢true}
 use Rattle.slab.specs.Slab.{Slab, get}
 use Rattle.xf_doc.specs.declared.content.Node.{Node}
 use Rattle.xf_doc.specs.declared.content.Content.{Content}
@@ -13,6 +13,7 @@ use Rattle.xf_doc.specs.Texts.{KeptText, Keeping}
 use Rattle.xf_tree.specs.declared.rows.Row.{Row}
 use Rattle.xf_tree.specs.declared.slot.Slot.{Slot}
 use Rattle.xf_tree.specs.Rows.{Sized, deeper, deepened, tree_of as row_tree, after_tree}
+use Rattle.xf_tree.specs.Leaves.{parts_in, AreLeaves}
 use Rattle.xf_tree.specs.Tree.{node_of, kept_of, number_in, content_in, times, kept_times, AllLive, AllTops, AreSteps, depths, KeepsLive, IsSound, IsCounted, IsState, StandsAt, keeping_of, no_row, IsOver}
 use Rattle.xf_tree.proofs.SizedLemmas.{lt-true, lt-false, AllDeep, sized-append, sized-front}
 use Rattle.xf_tree.proofs.CutLemmas.{all-deep-zero, tree-parts, stops-after, all-deeper}
@@ -21,7 +22,9 @@ use Rattle.xf_tree.proofs.NodeLemmas.{parted-without, parted-from, times-append,
 use Rattle.xf_tree.proofs.PlaceLemmas.{split-at, stands, below-is, past-is, one_of}
 use Rattle.xf_tree.proofs.CountLemmas.{nodes-append, sizes-append, nodes-cons, sizes-cons, count-alike, size-alike}
 use Rattle.xf_tree.proofs.StepLemmas.{most_after, steps-append, steps-parts, steps-more, steps-raised}
+use Rattle.xf_tree.proofs.LeafLemmas.{leaves-top, leaves-parts, leaves-shifted, parts-append, first-not_deeper}
 use Rattle.xf_tree.proofs.ForestLemmas.{live-append, live-parts, tops-append, tops-parts, whole-map}
+use Rattle.xf_tree.proofs.StateLemmas.{without-leaves}
 use Rattle.xf_tree.proofs.ParentLemmas.{deep-prefix}
 use Rattle.xf_tree.proofs.PushLemmas.{kept-nodes, kept-live, insert-keeps, small-insert}
 use Rattle.xf_tree.proofs.AddLemmas.{kept-same, kept-texts}
@@ -231,6 +234,25 @@ module _ (s s2 : Slab Slot) (n at key next total size spare : ℕ) (old new : Li
       let tree2 : AllTops (map (shifted 0 1) (map f T)) = subst (λ l. AllTops (map (shifted 0 1) (map f (row_tree l)))) (sym sp) tree in
       subst AllTops (sym over-nodes) (tops-append A ((root ∷ map (shifted 0 1) (map f T)) ++ B) ab.0 (tops-append (root ∷ map (shifted 0 1) (map f T)) B (λ e. refl, tree2) ab.1))
 
+  over-leaves : AreLeaves (parts_in (map (node_of s2) new))
+  over-leaves =
+      let f = node_of s in
+      let us = map f (take at old) in
+      let after = map f (after_tree (drop at old)) in
+      let T = map f (row_tree (drop at old)) in
+      let A = map f (take over.place (rest_of at old)) in
+      let B = map f (drop over.place (rest_of at old)) in
+      let root : Node = record { number = next; depth = 0; content = Root } in
+      let below = root ∷ map (shifted 0 1) T in
+      let w = without-leaves s at old here.within state.sound.leaves in
+      let both : us ++ after ≡ A ++ B = sym (map-append f (take at old) (after_tree (drop at old))) ∙ ap (map f) (sym (take-append-drop over.place (rest_of at old)))
+      ∙ map-append f (take over.place (rest_of at old)) (drop over.place (rest_of at old)) in
+      let ab = leaves-parts (parts_in A) (parts_in B) (subst AreLeaves (sym (parts-append us after) ∙ ap parts_in both ∙ parts-append A B) w.0) in
+      let back = leaves-top (parts_in below) (parts_in B) (first-not_deeper s 0 (drop over.place (rest_of at old)) over.stops) (λ e. absurd (false≢true e), leaves-shifted 0 1 T w.1) ab.1 in
+      let is : parts_in (map (node_of s2) new) ≡ parts_in A ++ (parts_in below ++ parts_in B) = ap parts_in over-nodes ∙ parts-append A (below ++ B) ∙ ap (λ l. parts_in A ++ l) (parts-append below B) in
+      let first : 0 ≤ 0 = omega arith in
+      subst AreLeaves (sym is) (leaves-top (parts_in A) (parts_in below ++ parts_in B) first ab.0 back)
+
   over-sound : is_root (content_in (get s (get_or old at no_row).key)) ≡ false → length old + 1 + length kept < 2 ^ 31 → IsSound s2 new kept (next + 1)
   over-sound plain few = record {
     sized = over-sized;
@@ -239,6 +261,7 @@ module _ (s s2 : Slab Slot) (n at key next total size spare : ℕ) (old new : Li
     live = over-live;
     kept_live = kept-texts s s2 kept state.sound.kept_live keeps;
     tops = over-tops plain;
+    leaves = over-leaves;
     apart = λ m.
         let t = more (times m) (times-append m) (times-shifted m) _ refl in
         let k = ap (kept_times m) (kept-same s s2 kept state.sound.kept_live keeps) in

@@ -1,4 +1,5 @@
 pub mod Rows
+pub mod Leaves
 pub mod Tree
 pub mod Calls
 pub mod Contents
