@@ -31,3 +31,5 @@ pub mod PrintLemmas
 pub mod KeptLemmas
 pub mod PairLemmas
 pub mod PrintedLemmas
+pub mod BareLemmas
+pub mod BareContents

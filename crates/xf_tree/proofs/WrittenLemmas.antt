@@ -169,7 +169,7 @@ place-rootless c (x ∷ xs) h all = elim (cases_Bool (is_less (written_of x) (wr
   | inr e ↦ rw e (h, all)
 ]
 
-order-rootless : (xs : List Content) → AllRootless xs → AllRootless (in_order xs)
+pub order-rootless : (xs : List Content) → AllRootless xs → AllRootless (in_order xs)
 order-rootless [] all = tt
 order-rootless (x ∷ xs) all = place-rootless x (in_order xs) all.0 (order-rootless xs all.1)
 

@@ -2,6 +2,7 @@
 #![tactic(auto)]
 
 mod bare;
+mod bare_fault;
 mod change;
 mod declare;
 mod fault;
@@ -11,6 +12,7 @@ mod kept;
 mod lookup;
 mod name;
 mod plant;
+mod plant_bare;
 mod print;
 mod root;
 mod rows;
@@ -18,6 +20,8 @@ mod slot;
 mod spaces;
 #[cfg(test)]
 mod tests;
+#[cfg(test)]
+mod tests_lit;
 mod text;
 mod tree;
 
