@@ -142,8 +142,7 @@ fn assert_written(
 fn what_is_not_kept_is_left_out(rt: HostRuntime) -> Result<(), Fail> {
     let alloc = rt.alloc();
     let prefixes = form(alloc)?;
-    let mut forest = Forest::new(alloc);
-    forest.plant(&rows(alloc)?, &prefixes, 0)?;
+    let forest = planted(alloc, &prefixes, &rows(alloc)?)?;
     // The numbers of what is kept, and how it is written.
     let cases: [(&[u128], &str); 4] = [
         (&[0, 1, 2, 3], r#"<d><row k="x" no="7">"1""2"</>"t"</>"#),
@@ -169,8 +168,7 @@ fn with_prefixes(alloc: Global) -> Result<Lit, AllocError> {
 fn the_top_declares_each_prefix_once(rt: HostRuntime) -> Result<(), Fail> {
     let alloc = rt.alloc();
     let prefixes = form(alloc)?;
-    let mut forest = Forest::new(alloc);
-    forest.plant(&with_prefixes(alloc)?, &prefixes, 0)?;
+    let forest = planted(alloc, &prefixes, &with_prefixes(alloc)?)?;
     let all = r#"<d xmlns:p="urn:p" z="2"><p:e a="1" p:k="x" xml:lang="en"></></>"#;
     assert_written(&rt, alloc, &forest, &prefixes, 0, &[1, 2, 3, 4, 5], all)?;
     let inner = r#"<p:e xml:lang="en" xmlns:p="urn:p"></>"#;
@@ -193,8 +191,7 @@ fn with_defaults(alloc: Global) -> Result<Lit, AllocError> {
 fn a_default_namespace_is_declared_where_it_changes(rt: HostRuntime) -> Result<(), Fail> {
     let alloc = rt.alloc();
     let prefixes = form(alloc)?;
-    let mut forest = Forest::new(alloc);
-    forest.plant(&with_defaults(alloc)?, &prefixes, 0)?;
+    let forest = planted(alloc, &prefixes, &with_defaults(alloc)?)?;
     let all = r#"<d xmlns="urn:d" xmlns:p="urn:p"><p:q><e></></><n xmlns=""></></>"#;
     assert_written(&rt, alloc, &forest, &prefixes, 0, &[1, 2, 3], all)?;
     let inner = r#"<p:q xmlns:p="urn:p"><e xmlns="urn:d"></></>"#;
@@ -202,43 +199,66 @@ fn a_default_namespace_is_declared_where_it_changes(rt: HostRuntime) -> Result<(
     assert_written(&rt, alloc, &forest, &prefixes, 3, &[], "<n></>")
 }
 
-/// Asserts that a tree of so many nodes is written in the same way as the one that was planted.
-fn assert_again(
-    rt: &impl Abort,
+/// A forest with a tree.
+fn planted(alloc: Global, prefixes: &Prefixes, tree: &Lit) -> Result<Forest, Fail> {
+    let mut forest = Forest::new(alloc);
+    forest.plant(tree, prefixes, 0)?;
+    Ok(forest)
+}
+
+fn planted_bare(alloc: Global, prefixes: &Prefixes, tree: &Bare) -> Result<Forest, Fail> {
+    let mut forest = Forest::new(alloc);
+    forest.plant_bare(tree, prefixes)?;
+    Ok(forest)
+}
+
+/// A forest with what a planted tree is printed as.
+fn planted_again(
     alloc: Global,
+    prefixes: &Prefixes,
     tree: &Lit,
     kept: &[u128],
-    want: &str,
-) -> Result<(), Fail> {
-    let prefixes = form(alloc)?;
-    let mut first = Forest::new(alloc);
-    first.plant(tree, &prefixes, 0)?;
-    let out = printed(alloc, &first, &prefixes, 0, kept)?;
-    let mut second = Forest::new(alloc);
-    second.plant(&out, &prefixes, 0)?;
-    assert_eq!(rt; first.next_number(), second.next_number());
-    assert_written(rt, alloc, &second, &prefixes, 0, kept, want)?;
-    let mut third = Forest::new(alloc);
-    third.plant_bare(&bare_of(&first, 0)?, &prefixes)?;
-    assert_eq!(rt; first.next_number(), third.next_number());
-    assert_written(rt, alloc, &third, &prefixes, 0, kept, want)
+) -> Result<Forest, Fail> {
+    let first = planted(alloc, prefixes, tree)?;
+    let out = printed(alloc, &first, prefixes, 0, kept)?;
+    planted(alloc, prefixes, &out)
+}
+
+/// A forest with the bare tree of a planted one.
+fn planted_from_bare(alloc: Global, prefixes: &Prefixes, tree: &Lit) -> Result<Forest, Fail> {
+    let first = planted(alloc, prefixes, tree)?;
+    let out = bare_of(&first, 0)?;
+    planted_bare(alloc, prefixes, &out)
 }
 
 #[test]
 fn a_tree_out_and_in_again_has_the_same_nodes(rt: HostRuntime) -> Result<(), Fail> {
     let alloc = rt.alloc();
-    let plain = r#"<d><row k="x" no="7">"1""2"</>"t"</>"#;
-    assert_again(&rt, alloc, &rows(alloc)?, &[1, 2, 3], plain)?;
-    let prefixed = r#"<d xmlns:p="urn:p" z="2"><p:e a="1" p:k="x" xml:lang="en"></></>"#;
-    assert_again(
-        &rt,
-        alloc,
-        &with_prefixes(alloc)?,
-        &[1, 2, 3, 4, 5],
-        prefixed,
-    )?;
-    let defaults = r#"<d xmlns="urn:d" xmlns:p="urn:p"><p:q><e></></><n xmlns=""></></>"#;
-    assert_again(&rt, alloc, &with_defaults(alloc)?, &[1, 2, 3], defaults)
+    let prefixes = form(alloc)?;
+    let forest = planted_again(alloc, &prefixes, &rows(alloc)?, &[1, 2, 3])?;
+    assert_eq!(rt; forest.next_number(), 7);
+    let want = r#"<d><row k="x" no="7">"1""2"</>"t"</>"#;
+    assert_written(&rt, alloc, &forest, &prefixes, 0, &[1, 2, 3], want)
+}
+
+#[test]
+fn declarations_are_no_nodes_where_a_tree_comes_in_again(rt: HostRuntime) -> Result<(), Fail> {
+    let alloc = rt.alloc();
+    let prefixes = form(alloc)?;
+    let forest = planted_again(alloc, &prefixes, &with_defaults(alloc)?, &[1, 2, 3])?;
+    assert_eq!(rt; forest.next_number(), 4);
+    let want = r#"<d xmlns="urn:d" xmlns:p="urn:p"><p:q><e></></><n xmlns=""></></>"#;
+    assert_written(&rt, alloc, &forest, &prefixes, 0, &[1, 2, 3], want)
+}
+
+#[test]
+fn a_bare_tree_out_and_in_again_has_the_same_nodes(rt: HostRuntime) -> Result<(), Fail> {
+    let alloc = rt.alloc();
+    let prefixes = form(alloc)?;
+    let forest = planted_from_bare(alloc, &prefixes, &with_prefixes(alloc)?)?;
+    assert_eq!(rt; forest.next_number(), 6);
+    let want = r#"<d xmlns:p="urn:p" z="2"><p:e a="1" p:k="x" xml:lang="en"></></>"#;
+    assert_written(&rt, alloc, &forest, &prefixes, 0, &[1, 2, 3, 4, 5], want)
 }
 
 /// A resolved name as numbers and text: its namespace, its prefix and its local part.
@@ -267,36 +287,57 @@ fn bare(alloc: Global, name: Told, attributes: &[Told]) -> Result<Bare, AllocErr
     }))
 }
 
+/// Why an element with these attributes is refused.
+fn fault_of(
+    alloc: Global,
+    prefixes: &Prefixes,
+    name: Told,
+    attributes: &[Told],
+) -> Result<Option<TreeFault>, Fail> {
+    let tree = bare(alloc, name, attributes)?;
+    let mut forest = Forest::new(alloc);
+    match forest.plant_bare(&tree, prefixes) {
+        Ok(_) => Ok(None),
+        Err(fault) => Ok(Some(fault)),
+    }
+}
+
+// Of the form `p` is 1 and `urn:p` is 1; `urn:d` is 2.
 #[test]
 fn a_bare_tree_has_names_of_the_form(rt: HostRuntime) -> Result<(), Fail> {
     let alloc = rt.alloc();
     let prefixes = form(alloc)?;
-    // An element, its attributes, and why they are refused. Of the form `p` is 1 and `urn:p` is 1, `urn:d` is 2.
-    let cases: [(Told, &[Told], Option<TreeFault>); 12] = [
-        ((1, 1, "e"), &[(1, 1, "k"), (0, 0, "k")], None),
-        ((2, 0, "e"), &[(65535, 65535, "lang")], None),
-        ((0, 0, "1e"), &[], Some(TreeFault::BadName)),
-        ((0, 0, "e"), &[(0, 0, "a b")], Some(TreeFault::BadName)),
-        ((0, 0, "e"), &[(0, 0, "xmlns")], Some(TreeFault::BadName)),
-        (
-            (0, 0, "e"),
-            &[(0, 0, "k"), (0, 0, "k")],
-            Some(TreeFault::BadName),
-        ),
-        ((3, 0, "e"), &[], Some(TreeFault::Prefix)),
-        ((2, 1, "e"), &[], Some(TreeFault::Prefix)),
-        ((1, 2, "e"), &[], Some(TreeFault::Prefix)),
-        ((0, 0, "e"), &[(2, 0, "k")], Some(TreeFault::Prefix)),
-        ((0, 0, "e"), &[(2, 1, "k")], Some(TreeFault::Prefix)),
-        ((3, 0, "e"), &[(0, 0, "a b")], Some(TreeFault::BadName)),
+    // An element and an attribute.
+    let cases = [
+        ((1, 1, "e"), (0, 0, "k"), None),
+        ((2, 0, "e"), (65535, 65535, "lang"), None),
+        ((3, 0, "e"), (0, 0, "k"), Some(TreeFault::Prefix)),
+        ((2, 1, "e"), (0, 0, "k"), Some(TreeFault::Prefix)),
+        ((0, 0, "e"), (2, 0, "k"), Some(TreeFault::Prefix)),
+        ((0, 0, "e"), (1, 2, "k"), Some(TreeFault::Prefix)),
     ];
-    for (name, attributes, want) in cases {
-        let mut forest = Forest::new(alloc);
-        let got = match forest.plant_bare(&bare(alloc, name, attributes)?, &prefixes) {
-            Ok(_) => None,
-            Err(fault) => Some(fault),
-        };
+    for (name, attribute, want) in cases {
+        let got = fault_of(alloc, &prefixes, name, &[attribute])?;
         assert!(rt; got == want);
     }
+    Ok(())
+}
+
+#[test]
+fn a_bad_name_is_told_before_a_prefix(rt: HostRuntime) -> Result<(), Fail> {
+    let alloc = rt.alloc();
+    let prefixes = form(alloc)?;
+    let cases = [
+        ((3, 0, "1e"), (0, 0, "k")),
+        ((3, 0, "e"), (0, 0, "a b")),
+        ((3, 0, "e"), (0, 0, "xmlns")),
+    ];
+    for (name, attribute) in cases {
+        let got = fault_of(alloc, &prefixes, name, &[attribute])?;
+        assert!(rt; got == Some(TreeFault::BadName));
+    }
+    let twice = [(1, 1, "k"), (1, 1, "k")];
+    let got = fault_of(alloc, &prefixes, (0, 0, "e"), &twice)?;
+    assert!(rt; got == Some(TreeFault::BadName));
     Ok(())
 }
