@@ -28,7 +28,7 @@ pub mod FaultLemmas
 pub mod RootedLemmas
 pub mod OverLemmas
 pub mod PrintLemmas
-pub mod KeptLemmas
+pub mod ShownLemmas
 pub mod PairLemmas
 pub mod PrintedLemmas
 pub mod BareLemmas

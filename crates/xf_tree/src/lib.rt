@@ -8,7 +8,7 @@ mod declare;
 mod fault;
 mod forest;
 mod gather;
-mod kept;
+mod shown;
 mod lookup;
 mod name;
 mod plant;

@@ -10,7 +10,7 @@ ghost use Rattle.xf_tree.specs.Tree.{node_of, content_in};
 use crate::declare::{declarations, element_pairs};
 use crate::forest::Forest;
 use crate::gather::{Below, take_inner};
-use crate::kept::{numbers_of, printed_rows};
+use crate::shown::{numbers_of, printed_rows};
 use crate::lookup::row_of;
 use crate::rows::{Row, end_of};
 use crate::slot::Slot;

@@ -6,7 +6,7 @@ use Rattle.xf_doc.specs.Literal.{gathered, first_tree_in, printed}
 use Rattle.xf_doc.specs.Printed.{printing, printed_as}
 use Rattle.xf_tree.specs.Print.{IsPrintable}
 use Rattle.xf_tree.specs.Tree.{node_of}
-use Rattle.xf_tree.proofs.KeptLemmas.{printed-same}
+use Rattle.xf_tree.proofs.ShownLemmas.{printed-same}
 use Rattle.xf_tree.proofs.PrintLemmas.{tree-here, printable-first, printable-printed, nothing-here}
 use Rattle.xf_tree.proofs.forest.Forest.to_lit.Goals as goal
 use Rattle.xf_tree.proofs.forest.Forest.to_lit.Goals.{After-deref-in-Some-3}

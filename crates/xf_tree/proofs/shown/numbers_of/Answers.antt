@@ -1,5 +1,5 @@
-use Rattle.xf_tree.proofs.KeptLemmas.{has-inserted}
-use Rattle.xf_tree.proofs.kept.numbers_of.Goals as goal
+use Rattle.xf_tree.proofs.ShownLemmas.{has-inserted}
+use Rattle.xf_tree.proofs.shown.numbers_of.Goals as goal
 
 pub loop-at-preserved : goal.loop-at-preserved
 loop-at-preserved c =

@@ -1,7 +1,7 @@
 use Rattle.std.proofs.Common.{◌≡◌, ◌++◌, None, map, drop}
 use Rattle.xf_doc.specs.Literal.{printed_from}
 use Rattle.xf_tree.specs.Tree.{node_of}
-use Rattle.xf_tree.proofs.kept.push_printed.Given as goal
+use Rattle.xf_tree.proofs.shown.push_printed.Given as goal
 
 abbrev pub invariant-loop-row : goal.invariant-loop-row
 invariant-loop-row l =
