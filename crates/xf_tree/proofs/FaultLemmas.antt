@@ -21,7 +21,7 @@ use Rattle.xf_doc.specs.Planted.{or_later, first_fault, written_fault, fault_by,
 use Rattle.xf_tree.specs.Contents.{is_long, is_deep}
 use Rattle.xf_tree.proofs.SizedLemmas.{lt-true, lt-false}
 
-first-append : (f : Written → Option TreeFault) (xs ys : List Written) → first_fault f (xs ++ ys) ≡ or_later (first_fault f xs) (first_fault f ys)
+pub first-append : {X : Type 0} (f : X → Option TreeFault) (xs ys : List X) → first_fault f (xs ++ ys) ≡ or_later (first_fault f xs) (first_fault f ys)
 first-append f [] ys = refl
 first-append f (x ∷ xs) ys = ap (or_later (f x)) (first-append f xs ys) ∙ or-twice (f x) (first_fault f xs) (first_fault f ys)
   where

@@ -66,3 +66,9 @@ pub mod TakenLemmas
 pub mod KeptLemmas
 pub mod BackLemmas
 pub mod UnsizedLemmas
+pub mod PrintLemmas
+pub mod ShownLemmas
+pub mod PairLemmas
+pub mod PrintedLemmas
+pub mod BareLemmas
+pub mod BareContents

@@ -166,7 +166,7 @@ place-attributes c (x ∷ xs) h all = elim (cases_Bool (is_less (written_of x) (
   | inr e ↦ rw e (h, all)
 ]
 
-order-attributes : (xs : List Content) → AllAttributes xs → AllAttributes (in_order xs)
+pub order-attributes : (xs : List Content) → AllAttributes xs → AllAttributes (in_order xs)
 order-attributes [] all = tt
 order-attributes (x ∷ xs) all = place-attributes x (in_order xs) all.0 (order-attributes xs all.1)
 

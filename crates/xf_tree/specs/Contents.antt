@@ -5,6 +5,9 @@ use Rattle.xf_name.specs.declared.lit.Lit.{Lit}
 use Rattle.xf_name.specs.declared.lit.LitElement.{LitElement, fold-LitElement}
 use Rattle.xf_doc.specs.declared.content.Content.{Content}
 use Rattle.xf_doc.specs.Plant.{Contents, lit_contents, element_contents, contents_of, is_less, written_of}
+use Rattle.xf_doc.specs.declared.bare.Bare.{Bare}
+use Rattle.xf_doc.specs.declared.bare.BareElement.{BareElement, fold-BareElement}
+use Rattle.xf_doc.specs.Planted.{Elements, contents_of_bare, bare_contents, bare_element_contents, elements_of_bare, bare_elements, bare_element_elements}
 use Rattle.xf_doc.specs.Limits.{Limits, size_of}
 use Rattle.xf_doc.specs.Forest.{own_text, is_element}
 use Rattle.xf_tree.specs.Leaves.{AreLeaves}
@@ -16,6 +19,18 @@ contents_of_element b = fold-LitElement Contents Contents lit_contents (element_
 
 abbrev pub contents_of_all : Bindings → List Lit → Contents
 contents_of_all b xs space depth = flat_map (λ x. contents_of b x space depth) xs
+
+abbrev pub bare_element_at : Bindings → BareElement → ℕ → List (ℕ × Content)
+bare_element_at b e depth = fold-BareElement Contents Contents bare_contents (bare_element_contents b) e 0 depth
+
+abbrev pub bare_all_at : Bindings → List Bare → ℕ → List (ℕ × Content)
+bare_all_at b xs depth = flat_map (λ x. contents_of_bare b x 0 depth) xs
+
+abbrev pub elements_of_element : BareElement → Elements
+elements_of_element = fold-BareElement Elements Elements bare_elements bare_element_elements
+
+abbrev pub elements_of_all : List Bare → Elements
+elements_of_all xs = flat_map elements_of_bare xs
 
 abbrev pub AllFrom : ℕ → List ℕ → Type 0
 AllFrom d [] = Unit {0}

@@ -10,3 +10,4 @@ pub mod Walks
 pub mod Below
 pub mod Siblings
 pub mod Texts
+pub mod Print

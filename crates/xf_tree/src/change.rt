@@ -87,7 +87,7 @@ impl Forest {
     }
 
     /// The limit that is passed with this tree as a detached one.
-    fn passed_by_tree(&self, tree: &[Part]) -> Option<TreeFault>
+    pub(crate) fn passed_by_tree(&self, tree: &[Part]) -> Option<TreeFault>
         requires { IsTree tree.now }
         ensures { result ≡ passed_by_tree limits (numbered_from self.now.forest.next tree.now) (self.now.forest.nodes ++ numbered_from self.now.forest.next tree.now) }
     {
@@ -141,7 +141,7 @@ impl Forest {
     }
 
     /// Puts a tree behind all others.
-    fn add(&mut self, tree: Vec<Part>) -> Result<NodeId, AllocError>
+    pub(crate) fn add(&mut self, tree: Vec<Part>) -> Result<NodeId, AllocError>
         requires tree { IsTree tree.items }
         requires number { self.old.forest.next < 2 ^ 126 }
         ensures ok { OnOk result (self.new ≡ with_contents tree.items self.old) }

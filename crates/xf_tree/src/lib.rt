@@ -3,30 +3,40 @@
 
 mod attach;
 mod axis;
+mod bare;
+mod bare_fault;
 mod before;
 mod change;
 mod child;
+mod declare;
 mod drop;
 mod fault;
 mod forest;
+mod gather;
 mod kept;
 mod lookup;
 mod may;
 mod name;
 mod path;
 mod plant;
+mod plant_bare;
+mod print;
 mod root;
 mod rows;
 mod run;
 mod set;
+mod shown;
 mod siblings;
 mod slot;
+mod spaces;
 #[cfg(test)]
 mod tests;
 #[cfg(test)]
 mod tests_attach;
 #[cfg(test)]
 mod tests_axis;
+#[cfg(test)]
+mod tests_lit;
 #[cfg(test)]
 mod tests_may;
 #[cfg(test)]

@@ -103,7 +103,8 @@ fn push_all(
     Ok(())
 }
 
-fn push_one(tree: &mut Vec<Part>, depth: u32, content: Content) -> Result<(), AllocError>
+/// Pushes a node of a tree.
+pub fn push_one(tree: &mut Vec<Part>, depth: u32, content: Content) -> Result<(), AllocError>
     ensures added { OnOk result (tree.new.items ≡ tree.old.items ++ (depth, content) ∷ []) }
     ensures small { size_of content ≤ 2 ^ 66 }
 {
@@ -185,7 +186,8 @@ fn sorted_attributes(
     Ok(sorted)
 }
 
-fn insert_sorted(sorted: &mut Vec<Content>, content: Content) -> Result<(), AllocError>
+/// Puts a content in its place among others, of which the greatest is first.
+pub fn insert_sorted(sorted: &mut Vec<Content>, content: Content) -> Result<(), AllocError>
     ensures { OnOk result (reverse sorted.new.items ≡ in_place content (reverse sorted.old.items)) }
 {
     let at = place_of(sorted, &content);
@@ -210,7 +212,7 @@ fn place_of(sorted: &[Content], content: &Content) -> usize
 }
 
 /// Pushes contents, of which the greatest is first, in their order.
-fn push_sorted(sorted: Vec<Content>, depth: u32, tree: &mut Vec<Part>) -> Result<(), AllocError>
+pub fn push_sorted(sorted: Vec<Content>, depth: u32, tree: &mut Vec<Part>) -> Result<(), AllocError>
     ensures added { OnOk result (tree.new.items ≡ tree.old.items ++ at_depth depth (reverse sorted.items)) }
     ensures small { OnOk result (AllSmall (reverse sorted.items)) }
 {

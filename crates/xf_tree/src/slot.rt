@@ -74,6 +74,20 @@ pub fn below(slots: &Slab<Slot>, key: usize) -> &str
     }
 }
 
+/// The name of an element or attribute, with its prefix as it is written.
+pub fn full_name(slots: &Slab<Slot>, key: usize) -> Option<&Name>
+    ensures { option_map (λ name. name.now) result ≡ name_in (content_in (get slots.now key)) }
+{
+    match slots.get(key) {
+        Some(slot) => match &slot.content {
+            Content::Element(name) => Some(name),
+            Content::Attribute(name, _) => Some(name),
+            _ => None,
+        },
+        None => None,
+    }
+}
+
 /// The name of an element or attribute.
 pub fn name(slots: &Slab<Slot>, key: usize) -> Option<&QName>
     ensures { option_map (λ name. name.now) result ≡ option_map (λ name. name.meaning) (name_in (content_in (get slots.now key))) }
@@ -237,14 +251,18 @@ pub fn duplicate(alloc: Global, content: &Content) -> Result<Content, AllocError
 fn duplicate_name(alloc: Global, name: &Name) -> Result<Name, AllocError>
     ensures { IfOk result (λ copy. copy ≡ name.now) }
 {
-    let local = Word::from_str(alloc, name.meaning.local.as_str())?;
+    let meaning = duplicate_meaning(alloc, &name.meaning)?;
     let prefix = Word::from_str(alloc, name.prefix.as_str())?;
-    Ok(Name {
-        meaning: QName {
-            space: name.meaning.space,
-            prefix: name.meaning.prefix,
-            local,
-        },
-        prefix,
+    Ok(Name { meaning, prefix })
+}
+
+/// A copy of a resolved name.
+pub fn duplicate_meaning(alloc: Global, meaning: &QName) -> Result<QName, AllocError>
+    ensures { IfOk result (λ copy. copy ≡ meaning.now) }
+{
+    Ok(QName {
+        space: meaning.space,
+        prefix: meaning.prefix,
+        local: Word::from_str(alloc, meaning.local.as_str())?,
     })
 }

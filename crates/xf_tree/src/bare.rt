@@ -1,0 +1,110 @@
+//! The literal tree of a node with resolved names.
+ghost use Rattle.std.specs.Prelude.{◌≡◌, Some, IfOk, map};
+ghost use Rattle.slab.specs.Slab.{get};
+ghost use Rattle.xf_doc.specs.Literal.{bare_of, bare_part, gathered, first_tree_in, attributes_in, trees_in, inner, outer};
+ghost use Rattle.xf_tree.specs.Print.{MayPrint, IsPrintable, shown, stacked, bare_with};
+ghost use Rattle.xf_tree.specs.Tree.{node_of, content_in};
+
+use crate::forest::Forest;
+use crate::gather::{Below, take_inner};
+use crate::lookup::row_of;
+use crate::rows::{Row, end_of};
+use crate::slot::{Slot, duplicate_meaning};
+use slab::Slab;
+use std::alloc::{AllocError, Global};
+use xf_base::Items;
+use xf_doc::{Bare, BareAttribute, BareElement, Content, NodeId};
+use xf_name::Word;
+
+type Parts = Vec<(u32, Below<BareAttribute, Bare>)>;
+
+impl Forest {
+    /// The tree of an element or text, with resolved names.
+    pub fn to_bare(&self, node: NodeId) -> Result<Bare, AllocError>
+        requires { MayPrint node.number self.now.forest }
+        ensures { IfOk result (λ tree. Some tree ≡ bare_of node.number self.now.forest.nodes) }
+    {
+        match row_of(&self.rows, &self.slots, &self.hints, node) {
+            Some(at) => {
+                let end = end_of(&self.rows, at);
+                bare_of_rows(self.alloc, &self.slots, &self.rows[at..end])
+            }
+            None => Ok(Bare::Text(Word::new(self.alloc))),
+        }
+    }
+}
+
+/// The tree that these rows are.
+fn bare_of_rows(alloc: Global, slots: &Slab<Slot>, rows: &[Row]) -> Result<Bare, AllocError>
+    requires { IsPrintable (map (node_of slots.now) rows.now) }
+    ensures { IfOk result (λ tree. Some tree ≡ first_tree_in (gathered bare_part (map (node_of slots.now) rows.now))) }
+{
+    let mut parts = bare_parts(alloc, slots, rows)?;
+    match parts.pop() {
+        Some((_, Below::Tree(tree))) => Ok(tree),
+        _ => Ok(Bare::Text(Word::new(alloc))),
+    }
+}
+
+fn bare_parts(alloc: Global, slots: &Slab<Slot>, rows: &[Row]) -> Result<Parts, AllocError>
+    ensures { IfOk result (λ parts. stacked parts.items ≡ gathered bare_part (map (node_of slots.now) rows.now)) }
+{
+    let mut parts = Vec::new(alloc);
+    let mut at = rows.len();
+    while at > 0 {
+        at -= 1;
+        let row = rows[at];
+        let part = bare_at(alloc, slots, row, &mut parts)?;
+        parts.push((row.depth, part))?;
+    }
+    Ok(parts)
+}
+
+/// The part of a node, with what is below it taken off the stack.
+fn bare_at(
+    alloc: Global,
+    slots: &Slab<Slot>,
+    row: Row,
+    parts: &mut Parts,
+) -> Result<Below<BareAttribute, Bare>, AllocError>
+    ensures part { IfOk result (λ part. shown part ≡ bare_part (content_in (get slots.now row.key)) (inner row.depth (stacked parts.old.items))) }
+    ensures left { IfOk result (λ part. stacked parts.new.items ≡ outer row.depth (stacked parts.old.items)) }
+{
+    let mut attributes = Vec::new(alloc);
+    let mut children = Vec::new(alloc);
+    take_inner(parts, row.depth, &mut attributes, &mut children)?;
+    match slots.get(row.key) {
+        Some(slot) => bare_part(alloc, &slot.content, attributes, children),
+        None => Ok(Below::Tree(Bare::Text(Word::new(alloc)))),
+    }
+}
+
+fn bare_part(
+    alloc: Global,
+    content: &Content,
+    attributes: Vec<BareAttribute>,
+    children: Vec<Bare>,
+) -> Result<Below<BareAttribute, Bare>, AllocError>
+    ensures { IfOk result (λ part. shown part ≡ bare_with content.now attributes.items children.items) }
+{
+    match content {
+        Content::Root => Ok(Below::Tree(Bare::Text(Word::new(alloc)))),
+        Content::Text(text) => {
+            let text = Word::from_str(alloc, text.as_str())?;
+            Ok(Below::Tree(Bare::Text(text)))
+        }
+        Content::Attribute(name, text) => {
+            let name = duplicate_meaning(alloc, &name.meaning)?;
+            let text = Word::from_str(alloc, text.as_str())?;
+            Ok(Below::Attribute(BareAttribute { name, text }))
+        }
+        Content::Element(name) => {
+            let name = duplicate_meaning(alloc, &name.meaning)?;
+            Ok(Below::Tree(Bare::Element(BareElement {
+                name,
+                attributes: Items::from_vec(attributes),
+                children: Items::from_vec(children),
+            })))
+        }
+    }
+}

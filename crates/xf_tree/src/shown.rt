@@ -1,0 +1,97 @@
+//! Which rows of a tree are printed.
+ghost use Rattle.std.specs.Prelude.{◌≡◌, ℕ, ◌||◌, ◌++◌, None, IfOk, OnOk, map};
+ghost use Rattle.slab.specs.Slab.{get};
+ghost use Rattle.xf_doc.specs.Forest.{is_text};
+ghost use Rattle.xf_doc.specs.Literal.{printed, printed_from};
+ghost use Rattle.xf_doc.specs.Visit.{has};
+ghost use Rattle.xf_tree.specs.Tree.{node_of, number_in, content_in};
+ghost use Rattle.xf_tree.specs.Print.{is_inside};
+
+use crate::rows::Row;
+use crate::slot::Slot;
+use indexmap::IndexSet;
+use slab::Slab;
+use std::alloc::{AllocError, Global};
+use xf_doc::{Content, NodeList};
+
+/// The numbers of nodes, to be looked up.
+pub fn numbers_of(alloc: Global, nodes: &NodeList) -> Result<IndexSet<u128>, AllocError>
+    ensures { IfOk result (λ numbers. (n : ℕ) → has n numbers.keys ≡ has n nodes.now) }
+{
+    let mut numbers = IndexSet::new(alloc);
+    for at in 0..nodes.len() {
+        numbers.insert(nodes.at(at).number)?;
+    }
+    Ok(numbers)
+}
+
+/// Of the rows of a tree, those that are printed.
+pub fn printed_rows(
+    alloc: Global,
+    slots: &Slab<Slot>,
+    rows: &[Row],
+    kept: &IndexSet<u128>,
+) -> Result<Vec<Row>, AllocError>
+    ensures { IfOk result (λ left. map (node_of slots.now) left.items ≡ printed kept.now.keys (map (node_of slots.now) rows.now)) }
+{
+    let mut left = Vec::new(alloc);
+    if rows.is_empty() {
+        return Ok(left);
+    }
+    left.push(rows[0])?;
+    push_printed(slots, &rows[1..], kept, &mut left)?;
+    Ok(left)
+}
+
+/// Pushes those that are printed of the rows after a top.
+fn push_printed(
+    slots: &Slab<Slot>,
+    rows: &[Row],
+    kept: &IndexSet<u128>,
+    left: &mut Vec<Row>,
+) -> Result<(), AllocError>
+    ensures { OnOk result (map (node_of slots.now) left.new.items ≡ map (node_of slots.now) left.old.items ++ printed_from kept.now.keys None (map (node_of slots.now) rows.now)) }
+{
+    // The depth of the node left out around the row, where there is one.
+    let mut out = None;
+    for row in rows {
+        if is_inside(out, row.depth) {
+            continue;
+        }
+        if is_kept(slots, row.key, kept) {
+            out = None;
+            left.push(*row)?;
+        } else {
+            out = Some(row.depth);
+        }
+    }
+    Ok(())
+}
+
+/// Whether a depth is below that of a node, where there is one.
+fn is_inside(out: Option<u32>, depth: u32) -> bool
+    ensures { result ≡ is_inside out depth }
+{
+    match out {
+        Some(above) => depth > above,
+        None => false,
+    }
+}
+
+fn is_kept(slots: &Slab<Slot>, key: usize, kept: &IndexSet<u128>) -> bool
+    ensures { result ≡ (is_text (content_in (get slots.now key)) || has (number_in (get slots.now key)) kept.now.keys) }
+{
+    match slots.get(key) {
+        Some(slot) => is_text(&slot.content) || kept.contains(&slot.number),
+        None => kept.contains(&0),
+    }
+}
+
+fn is_text(content: &Content) -> bool
+    ensures { result ≡ is_text content.now }
+{
+    match content {
+        Content::Text(_) => true,
+        _ => false,
+    }
+}
