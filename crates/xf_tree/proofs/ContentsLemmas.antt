@@ -145,7 +145,7 @@ lit_case (Lit-F.Element e) = inr (e.0, lit.rolls-Element e.0)
 lit_cases : (x : Lit) → LitCase x
 lit_cases = ind-Lit LitCase Any (λ x y is. subst (λ z. LitCase (roll-Lit z)) is (lit_case y)) (λ x y is. tt)
 
-text-plain : (text : List ℕ) (space depth : ℕ) (ys : List (ℕ × Content)) → BeginsPlain ys → BeginsPlain (text_contents text space depth ++ ys)
+pub text-plain : (text : List ℕ) (space depth : ℕ) (ys : List (ℕ × Content)) → BeginsPlain ys → BeginsPlain (text_contents text space depth ++ ys)
 text-plain [] space depth ys h = elim (cases_Bool (depth == 0)) [ inl e ↦ rw e refl | inr e ↦ rw e h ]
 text-plain (c ∷ cs) space depth ys h = refl
 

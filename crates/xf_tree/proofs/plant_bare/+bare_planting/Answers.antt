@@ -6,7 +6,7 @@ use Rattle.xf_doc.specs.declared.content.Content.TheVariants.{Element}
 use Rattle.xf_doc.specs.Plant.{at_depth, in_order, name_for}
 use Rattle.xf_doc.specs.Planted.{contents_of_bare, bare_attribute}
 use Rattle.xf_tree.specs.Contents.{bare_all_at, IsPart}
-use Rattle.xf_tree.proofs.BareContents.{bare-added, bare-part}
+use Rattle.xf_tree.proofs.BareContents.{bare-added, bare-part, trees-plain}
 use Rattle.xf_tree.proofs.ContentsLemmas.{part-append}
 use Rattle.xf_tree.proofs.plant_bare.+bare_planting.Goals as goal
 use Rattle.xf_tree.proofs.plant_bare.+bare_planting.Goals.{push_element-After-push_all}
@@ -23,7 +23,7 @@ push_all-loop-tree-preserved t c =
     let whole : bare_all_at b (drop i trees) c.args.depth ≡ here ++ rest = ap (λ l. bare_all_at b l c.args.depth) split in
     record {
       so_far = ap (λ l. l ++ rest) c.in_ok-push_bare.ensures.added ∙ append_assoc c.loop-tree.contents.items here rest ∙ ap (λ l. c.loop-tree.contents.items ++ l) (sym whole) ∙ c.loop-tree.invariant.so_far;
-      part = λ p. c.loop-tree.invariant.part (subst (IsPart c.args.depth) (sym whole) (part-append c.args.depth here rest c.in_ok-push_bare.ensures.part p));
+      part = λ p. c.loop-tree.invariant.part (subst (IsPart c.args.depth) (sym whole) (part-append c.args.depth here rest c.in_ok-push_bare.ensures.part p (trees-plain b (drop (i + 1) trees) c.args.depth)));
     }
 
 -- ---- an element
