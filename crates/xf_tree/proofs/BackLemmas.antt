@@ -18,6 +18,7 @@ use Rattle.xf_tree.specs.declared.rows.Row.{Row}
 use Rattle.xf_tree.specs.declared.slot.Slot.{Slot}
 use Rattle.xf_tree.specs.Rows.{Sized}
 use Rattle.xf_tree.specs.Leaves.{parts_in, AreLeaves}
+use Rattle.xf_tree.specs.First.{AreFirst}
 use Rattle.xf_tree.specs.Tree.{node_of, kept_of, number_in, content_in, times, kept_times, unsized, AllLive, AllKept, AllTops, StandsAt, IsSound, IsState, KeepsBut, KeepsButKept, keeping_of}
 use Rattle.xf_tree.specs.Texts.{attributes, children, text_row, depth_at, run_of, with_text_rows, places_of, is_wanted, is_left}
 use Rattle.xf_tree.proofs.NodeLemmas.{eq-true, times-append}
@@ -25,7 +26,7 @@ use Rattle.xf_tree.proofs.CountLemmas.{nodes-append, sizes-append, nodes-cons}
 use Rattle.xf_tree.proofs.DropLemmas.{SameAt, nodes-same, live-same, same-where, kept-where}
 use Rattle.xf_tree.proofs.ValueLemmas.{kept-live_where}
 use Rattle.xf_tree.proofs.UnsizedLemmas.{AreTextNodes}
-use Rattle.xf_tree.proofs.SwapLemmas.{stay, stay-parts, with-parts, swap-nodes, swap-length, swap-live, swap-tops, swap-steps, swap-leaves}
+use Rattle.xf_tree.proofs.SwapLemmas.{stay, stay-parts, with-parts, swap-nodes, swap-length, swap-live, swap-tops, swap-steps, swap-leaves, swap-first}
 use Rattle.xf_tree.proofs.SetLemmas.{times-flat, count-flat, size-flat}
 
 one-if : (a b : ℕ) → a ≡ b → (t : ℕ) → 1 ≤ (if a == b then 1 else 0) + t
@@ -90,6 +91,7 @@ module _ (s s2 : Slab Slot) (rows : List Row) (kept ns : List ℕ) (next total s
       kept_live = kept-live_where s s2 left left-at (kept-filter s (is_left s ns) kept state.sound.kept_live);
       tops = subst AllTops (sym nodes) state.sound.tops;
       leaves = subst (λ l. AreLeaves (parts_in l)) (sym nodes) state.sound.leaves;
+      first = subst (λ l. AreFirst 0 (parts_in l)) (sym nodes) state.sound.first;
       apart = λ m. omega (arith, state.sound.apart m, ap (times m) nodes, ap (kept_times m) texts, parts-times s ns m kept);
       fresh = λ m h. omega (arith, state.sound.fresh m h, ap (times m) nodes, ap (kept_times m) texts, parts-times s ns m kept);
     };
@@ -227,6 +229,7 @@ module _ (s t : Slab Slot) (n at : ℕ) (rows new : List Row) (kept ns : List �
     kept_live = kept-live_where s t others others-at (kept-filter s (is_left s ns) kept state.sound.kept_live);
     tops = swap-tops s n at rows kept next state.sound here kind childless t t texts backs new rows_are alike same news (back-texts (map (kept_of s) wanted)) news-live;
     leaves = swap-leaves s n at rows kept next state.sound here kind childless t t texts backs new rows_are alike same news (back-texts (map (kept_of s) wanted)) news-live;
+    first = swap-first s n at rows kept next state.sound here kind childless t t texts backs new rows_are alike same news (back-texts (map (kept_of s) wanted)) news-live;
     apart = λ m. omega (arith, times-back m, state.sound.apart m);
     fresh = λ m h. omega (arith, times-back m, state.sound.fresh m h);
   }

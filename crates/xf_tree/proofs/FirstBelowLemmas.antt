@@ -1,18 +1,22 @@
 -- Attributes stand first: a content for another, and what stands below a node for what stood there.
-use Rattle.std.proofs.Common.{◌≡◌, ℕ, suc, ◌<◌, ◌≤◌, ◌⊎◌, false, List, [], ◌∷◌, ◌++◌, map, refl, sym, ◌∙◌, subst, inl, inr, arith}
+use Rattle.std.proofs.Common.{◌≡◌, ℕ, suc, ◌+◌, ◌<◌, ◌≤◌, ◌⊎◌, true, false, List, [], ◌∷◌, ◌++◌, map, refl, sym, ◌∙◌, subst, inl, inr, arith}
 use Rattle.std.specs.Prelude.{filter}
-use Rattle.std.proofs.lemmas.Bool.{cases_Bool, true≢false}
+use Rattle.std.proofs.lemmas.Bool.{cases_Bool, true≢false, false≢true}
 use Rattle.slab.specs.Slab.{Slab, get}
+use Rattle.xf_doc.specs.declared.content.Node.{Node}
 use Rattle.xf_doc.specs.declared.content.Content.{Content}
 use Rattle.xf_doc.specs.declared.content.Content.TheVariants.{Root, Element, Attribute, Text}
-use Rattle.xf_doc.specs.Forest.{is_attribute}
+use Rattle.xf_doc.specs.Forest.{is_element, is_attribute, is_text}
+use Rattle.xf_doc.specs.Texts.{at_depth}
 use Rattle.xf_tree.specs.declared.rows.Row.{Row}
 use Rattle.xf_tree.specs.declared.slot.Slot.{Slot}
 use Rattle.xf_tree.specs.Leaves.{parts_in, NotDeeper}
 use Rattle.xf_tree.specs.First.{attribute_depth, AreFirst}
 use Rattle.xf_tree.specs.Tree.{node_of, content_in}
 use Rattle.xf_tree.specs.Contents.{AllFrom}
+use Rattle.xf_tree.specs.Texts.{AreAt}
 use Rattle.xf_tree.proofs.FirstLemmas.{depth_behind, first-append, first-parts, first-anywhere, first-low, attribute-behind}
+use Rattle.xf_tree.proofs.UnsizedLemmas.{AreTextNodes}
 
 -- a content for another, where both are attributes or neither is, and an attribute stands as deep behind both
 pub first-changed : (e : ℕ) (us : List (ℕ × Content)) (d : ℕ) (c c2 : Content) (xs : List (ℕ × Content)) → is_attribute c2 ≡ is_attribute c → attribute_depth d c2 ≡ attribute_depth d c
@@ -70,3 +74,35 @@ pub first-attributes_and : (s : Slab Slot) (d : ℕ) (rows : List Row) (ps : Lis
 first-attributes_and s d rows ps all none =
     let own = parts_in (map (node_of s) (filter (λ (r : Row). is_attribute (content_in (get s r.key))) rows)) in
     first-append d own ps (first-filtered s d rows all) (first-none (depth_behind d own) ps none)
+
+-- ---- what stands below an element
+
+pub element-behind : (d : ℕ) (c : Content) → is_element c ≡ true → attribute_depth d c ≡ suc d
+element-behind d Root is = absurd (false≢true is)
+element-behind d (Element name) is = refl
+element-behind d (Attribute name text) is = absurd (false≢true is)
+element-behind d (Text text) is = absurd (false≢true is)
+
+pub element-plain : (c : Content) → is_element c ≡ true → is_attribute c ≡ false
+element-plain Root is = absurd (false≢true is)
+element-plain (Element name) is = refl
+element-plain (Attribute name text) is = absurd (false≢true is)
+element-plain (Text text) is = absurd (false≢true is)
+
+pub text-plain : (c : Content) → is_text c ≡ true → is_attribute c ≡ false
+text-plain Root is = absurd (false≢true is)
+text-plain (Element name) is = absurd (false≢true is)
+text-plain (Attribute name text) is = absurd (false≢true is)
+text-plain (Text text) is = refl
+
+pub texts-plain : (d : ℕ) (ys : List Node) → AreTextNodes ys → NoneAttributes (parts_in (map (at_depth d) ys))
+texts-plain d [] texts = tt
+texts-plain d (y ∷ ys) texts = (text-plain y.content texts.0, texts-plain d ys texts.1)
+
+pub all-at : (d : ℕ) (rows : List Row) → AreAt (d + 1) rows → AllAt (suc d) (map (λ (r : Row). r.depth) rows)
+all-at d [] at = tt
+all-at d (r ∷ rs) at = (omega (arith, at.0), all-at d rs at.1)
+
+pub from-at : (s : Slab Slot) (d : ℕ) (rows : List Row) → AreAt (d + 1) rows → AllFrom (suc d) (map (λ (p : ℕ × Content). p.0) (parts_in (map (node_of s) rows)))
+from-at s d [] at = tt
+from-at s d (r ∷ rs) at = (omega (arith, at.0), from-at s d rs at.1)

@@ -6,6 +6,7 @@ use Rattle.std.proofs.lemmas.List.{map-append, take-append-drop, take_more, leng
 use Rattle.slab.specs.Slab.{Slab, get}
 use Rattle.xf_doc.specs.declared.node.NodeId.{NodeId}
 use Rattle.xf_doc.specs.declared.content.Node.{Node}
+use Rattle.xf_doc.specs.declared.content.Content.{Content}
 use Rattle.xf_doc.specs.declared.content.Kind.TheVariants as kind
 use Rattle.xf_doc.specs.Forest.{is_attribute, kind_at, past}
 use Rattle.xf_doc.specs.Visit.{visits}
@@ -15,11 +16,13 @@ use Rattle.xf_tree.specs.declared.rows.Row.{Row}
 use Rattle.xf_tree.specs.declared.slot.Slot.{Slot}
 use Rattle.xf_tree.specs.Rows.{deeper}
 use Rattle.xf_tree.specs.Leaves.{parts_in, AreLeaves}
+use Rattle.xf_tree.specs.First.{AreFirst}
 use Rattle.xf_tree.specs.Tree.{node_of, content_in, AllLive, AllTops, AreSteps, depths, unsized, StandsAt, no_row, IsSound}
 use Rattle.xf_tree.specs.Texts.{attributes, children, is_attribute_row, text_row, AreAt, depth_at, run_of, after_run, with_text_rows}
 use Rattle.xf_tree.proofs.CutLemmas.{stops-after}
 use Rattle.xf_tree.proofs.StepLemmas.{most_after, steps-append, steps-parts}
 use Rattle.xf_tree.proofs.LeafLemmas.{leaves-parts, leaves-other, parts-append, first-not_deeper}
+use Rattle.xf_tree.proofs.FirstBelowLemmas.{first-below, first-attributes_and, element-behind, element-plain, texts-plain, all-at, from-at}
 use Rattle.xf_tree.proofs.ForestLemmas.{live-append, live-parts, tops-append, tops-parts, first-low}
 use Rattle.xf_tree.proofs.PlaceLemmas.{below-is, past-is, split-at}
 use Rattle.xf_tree.proofs.DropLemmas.{SameAt, nodes-same, live-same}
@@ -217,3 +220,23 @@ module _ (s : Slab Slot) (n at : ℕ) (rows : List Row) (kept : List ℕ) (next 
         subst AreLeaves (sym whole) (leaves-other (parts_in (map o front)) (row.depth, content_in (get s row.key)) (parts_in (map o run) ++ parts_in (map o behind))
         ((row.depth, content_in (get s row.key)) ∷ (parts_in (map g (attributes s run ++ added)) ++ parts_in (map o behind))) leaves least
         (λ e. absurd (false≢true (sym no ∙ e)), rest))
+
+    pub swap-first : AreFirst 0 (parts_in (map (node_of s2) new))
+    swap-first =
+        let o = node_of s in
+        let p : ℕ × Content = (row.depth, content_in (get s row.key)) in
+        let fresh = map (at_depth (suc row.depth)) nodes in
+        let own = parts_in (map o (attributes s run)) in
+        let old : parts_in (map o rows) ≡ parts_in (map o front) ++ (p ∷ (parts_in (map o run) ++ parts_in (map o behind))) =
+        ap parts_in was ∙ parts-append (map o front) (o row ∷ (map o run ++ map o behind)) ∙ ap (λ l. parts_in (map o front) ++ (p ∷ l)) (parts-append (map o run) (map o behind)) in
+        let whole : parts_in (map (node_of s2) new) ≡ parts_in (map o front) ++ (p ∷ ((own ++ parts_in fresh) ++ parts_in (map o behind))) =
+        ap parts_in now ∙ parts-append (map o front) (o row ∷ (map o (attributes s run) ++ (fresh ++ map o behind)))
+        ∙ ap (λ l. parts_in (map o front) ++ (p ∷ l)) (parts-append (map o (attributes s run)) (fresh ++ map o behind))
+        ∙ ap (λ l. parts_in (map o front) ++ (p ∷ (own ++ l))) (parts-append fresh (map o behind))
+        ∙ ap (λ l. parts_in (map o front) ++ (p ∷ l)) (sym (append_assoc own (parts_in fresh) (parts_in (map o behind)))) in
+        let flat = run-flat s n at rows kept next sound here kind childless in
+        let element = is-element s n at rows kept next sound here kind childless in
+        let below = first-attributes_and s (suc row.depth) run (parts_in fresh) (all-at row.depth run flat) (texts-plain (suc row.depth) nodes are_texts) in
+        subst (AreFirst 0) (sym whole) (first-below 0 (parts_in (map o front)) p (parts_in (map o run)) (own ++ parts_in fresh) (parts_in (map o behind)) (element-plain p.1 element)
+        (from-at s row.depth run flat) (first-not_deeper s row.depth behind stops) (subst (AreFirst 0) old sound.first)
+        (subst (λ d. AreFirst d (own ++ parts_in fresh)) (sym (element-behind row.depth p.1 element)) below))

@@ -22,7 +22,7 @@ use Rattle.xf_tree.proofs.FreeLemmas.{same-key, kept_times-append}
 use Rattle.xf_tree.proofs.DropLemmas.{SameAt}
 use Rattle.xf_tree.proofs.PackLemmas.{owned-content, owned-number}
 use Rattle.xf_tree.proofs.ChildlessLemmas.{AllTexts, run-all_texts}
-use Rattle.xf_tree.proofs.SwapLemmas.{stay, live-stay, live-run, stay-parts, with-parts, swap-nodes, swap-length, swap-live, swap-tops, swap-steps, swap-leaves}
+use Rattle.xf_tree.proofs.SwapLemmas.{stay, live-stay, live-run, stay-parts, with-parts, swap-nodes, swap-length, swap-live, swap-tops, swap-steps, swap-leaves, swap-first}
 use Rattle.xf_tree.proofs.SetLemmas.{added-keeps, attributes-alike, children-alike, key-absent, key-there, times-flat, from-times, one-texts, one-other, one-most, one-fresh, count-most, gone, after-count, after-size}
 
 text-some : (o : Option Slot) → is_text (content_in o) ≡ true → IsSome o
@@ -202,6 +202,7 @@ module _ (s s1 s2 s3 : Slab Slot) (n at place : ℕ) (text : List ℕ) (rows new
         (taken-texts s s3 went went-live (run-all_texts s n at rows kept next state.sound here kind childless) content3);
     tops = swap-tops s n at rows kept next state.sound here kind childless s3 s3 texts (one_text next text) new rows_are alike same news (one-texts next text) news-live;
     leaves = swap-leaves s n at rows kept next state.sound here kind childless s3 s3 texts (one_text next text) new rows_are alike same news (one-texts next text) news-live;
+    first = swap-first s n at rows kept next state.sound here kind childless s3 s3 texts (one_text next text) new rows_are alike same news (one-texts next text) news-live;
     apart = λ m. elim (same-key next m) [
       | inl ne ↦ omega (arith, times-now m, state.sound.apart m, one-other m next text ne)
       | inr e ↦ omega (arith, times-now m, state.sound.fresh m (omega arith), one-most m next text)

@@ -15,12 +15,14 @@ use Rattle.xf_tree.specs.declared.rows.Row.{Row}
 use Rattle.xf_tree.specs.declared.slot.Slot.{Slot}
 use Rattle.xf_tree.specs.Tree.{node_of, kept_of, number_in, content_in, times, kept_times, AllLive, AllKept, AllTops, StandsAt, no_row, IsSound, IsState, keeping_of}
 use Rattle.xf_tree.specs.Leaves.{is_leaf, parts_in, AreLeaves}
+use Rattle.xf_tree.specs.First.{attribute_depth, AreFirst}
 use Rattle.xf_tree.specs.Texts.{valued_slot, passed_by}
 use Rattle.xf_tree.proofs.NodeLemmas.{Parted, parted-from, eq-true, times-append, times-here}
 use Rattle.xf_tree.proofs.PlaceLemmas.{stands, one_of, times-at, content-means, parted-at}
 use Rattle.xf_tree.proofs.FreeLemmas.{same-key}
 use Rattle.xf_tree.proofs.StackLemmas.{absent-parts}
 use Rattle.xf_tree.proofs.LeafLemmas.{parts-append}
+use Rattle.xf_tree.proofs.FirstBelowLemmas.{first-changed}
 use Rattle.xf_tree.proofs.CountLemmas.{nodes-append, sizes-append, nodes-cons, sizes-cons}
 use Rattle.xf_tree.proofs.ForestLemmas.{tops-append, tops-parts}
 use Rattle.xf_tree.proofs.DropLemmas.{kept-where}
@@ -90,6 +92,18 @@ value-leaf text Root = refl
 value-leaf text (Element name) = refl
 value-leaf text (Attribute name old) = refl
 value-leaf text (Text old) = refl
+
+value-attribute : (text : List ℕ) (c : Content) → is_attribute (with_value text c) ≡ is_attribute c
+value-attribute text Root = refl
+value-attribute text (Element name) = refl
+value-attribute text (Attribute name old) = refl
+value-attribute text (Text old) = refl
+
+value-behind : (text : List ℕ) (d : ℕ) (c : Content) → attribute_depth d (with_value text c) ≡ attribute_depth d c
+value-behind text d Root = refl
+value-behind text d (Element name) = refl
+value-behind text d (Attribute name old) = refl
+value-behind text d (Text old) = refl
 
 -- a content for another, where both are of leaves or neither is
 leaves-changed : (us : List (ℕ × Content)) (d : ℕ) (c c2 : Content) (xs : List (ℕ × Content)) → is_leaf c2 ≡ is_leaf c → AreLeaves (us ++ ((d, c) ∷ xs)) → AreLeaves (us ++ ((d, c2) ∷ xs))
@@ -262,6 +276,12 @@ module _ (s : Slab Slot) (n at : ℕ) (text : List ℕ) (rows : List Row) (kept 
         let was = subst AreLeaves (ap parts_in parted.whole ∙ parts-append us (x ∷ xs)) state.sound.leaves in
         subst AreLeaves (sym (ap parts_in value-parts ∙ parts-append us (y ∷ xs))) (leaves-changed (parts_in us) x.depth x.content y.content (parts_in xs) (value-leaf text x.content) was)
 
+    value-first : AreFirst 0 (parts_in (map (node_of s2) rows))
+    value-first =
+        let was = subst (AreFirst 0) (ap parts_in parted.whole ∙ parts-append us (x ∷ xs)) state.sound.first in
+        subst (AreFirst 0) (sym (ap parts_in value-parts ∙ parts-append us (y ∷ xs)))
+        (first-changed 0 (parts_in us) x.depth x.content y.content (parts_in xs) (value-attribute text x.content) (value-behind text x.depth x.content) was)
+
     value-sound : IsSound s2 rows kept next
     value-sound = record {
       sized = state.sound.sized;
@@ -271,6 +291,7 @@ module _ (s : Slab Slot) (n at : ℕ) (text : List ℕ) (rows : List Row) (kept 
       kept_live = kept-live_where s s2 kept kept-at state.sound.kept_live;
       tops = value-tops;
       leaves = value-leaves;
+      first = value-first;
       apart = λ m. omega (arith, state.sound.apart m, value-times m, ap (kept_times m) value-kept);
       fresh = λ m h. omega (arith, state.sound.fresh m h, value-times m, ap (kept_times m) value-kept);
     }
