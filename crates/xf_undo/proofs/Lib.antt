@@ -1,0 +1,4 @@
+pub mod Trees
+pub mod TreeTexts
+pub mod TreeVisits
+pub mod TreeShape

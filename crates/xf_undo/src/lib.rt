@@ -1,0 +1,2 @@
+//! The ledger of changes that gives a forest back.
+#![tactic(auto)]
