@@ -5,3 +5,5 @@ pub mod TreeShape
 pub mod TreeMoved
 pub mod TreeBlank
 pub mod TreeAgain
+pub mod TreeFacts
+pub mod TreeLeaves

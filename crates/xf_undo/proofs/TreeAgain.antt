@@ -12,7 +12,7 @@ use Rattle.xf_doc.proofs.BackLaws.{one_number, false-true}
 use Rattle.xf_undo.proofs.Trees.{Trees, none, tree, followed, times}
 use Rattle.xf_undo.proofs.TreeTexts.{attributes, retexted, revalued, retexted-absent, times-split}
 use Rattle.xf_undo.proofs.TreeShape.{is_leaf}
-use Rattle.xf_undo.proofs.TreeMoved.{Moved, moved-retexted, moved-revalued, value-over, value-other, value-attribute, value-text}
+use Rattle.xf_undo.proofs.TreeMoved.{Moved, moved-retexted, moved-revalued, value-over, value-other, value-attribute, value-text, element-no_attribute}
 use Rattle.xf_undo.proofs.TreeBlank.{textless, blank, AreTexts, AreLeaves, LeafAt, blank-followed, attributes-blank, attributes-textless, blank-absent, moved-more}
 
 same_has : (m n : ℕ) (ns : List ℕ) (b : Bool) → (m == n) ≡ true → has n ns ≡ b → has m ns ≡ b
@@ -86,7 +86,7 @@ again-blank n s ns (tree m c k r) out texts once leaf =
           (ap (λ x. tree m c x (blank ns (retexted n s r)))
             (blank-followed ns (attributes k) s ∙ ap (followed (blank ns (attributes k))) (blank-texts ns s texts)
             ∙ ap (λ x. followed x s) (sym (attributes-blank ns k) ∙ sym (attributes-textless (blank ns k)) ∙ ap (λ x. attributes (textless x)) (sym (blank-absent n ns k no))))
-          ∙ ap (λ x. tree m x (followed (attributes (textless (blank (n ∷ ns) k))) s) (blank ns (retexted n s r))) (sym (value-other [] c l.0))
+          ∙ ap (λ x. tree m x (followed (attributes (textless (blank (n ∷ ns) k))) s) (blank ns (retexted n s r))) (sym (value-other [] c (element-no_attribute c l.0)))
           ∙ ap (tree m (with_value [] c) (followed (attributes (textless (blank (n ∷ ns) k))) s)) (again-blank n s ns r out texts (omega (arith, (rw e at once))) leaf.2))
       | inr e ↦
           let in_k : times n k ≤ 1 = omega (arith, (rw e at once)) in

@@ -36,10 +36,10 @@ abbrev pub AreLeaves : Trees → Type 0
 AreLeaves none = ⊤
 AreLeaves (tree n c k r) = (is_leaf c ≡ true) × (k ≡ none) × AreLeaves r
 
--- below a node with this number, which is no attribute, stand such nodes
+-- a node with this number is an element, and below it stand such nodes
 abbrev pub LeafAt : ℕ → Trees → Type 0
 LeafAt n none = ⊤
-LeafAt n (tree m c k r) = ((m == n) ≡ true → (is_attribute c ≡ false) × AreLeaves k) × LeafAt n k × LeafAt n r
+LeafAt n (tree m c k r) = ((m == n) ≡ true → (is_element c ≡ true) × AreLeaves k) × LeafAt n k × LeafAt n r
 
 pub leaf-followed : (n : ℕ) (t s : Trees) → LeafAt n t → LeafAt n s → LeafAt n (followed t s)
 leaf-followed n none s h k = k

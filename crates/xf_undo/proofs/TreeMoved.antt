@@ -107,6 +107,12 @@ value-other text (Element name) e = refl
 value-other text (Attribute name old) e = cc e
 value-other text (Text old) e = refl
 
+pub element-no_attribute : (c : Content) → is_element c ≡ true → is_attribute c ≡ false
+element-no_attribute Root e = cc e
+element-no_attribute (Element name) e = refl
+element-no_attribute (Attribute name text) e = cc e
+element-no_attribute (Text text) e = cc e
+
 pub value-if-root : (b : Bool) (text : List ℕ) (c : Content) → is_root c ≡ false → is_root (cond b (with_value text c) c) ≡ false
 value-if-root true text c e = value-root text c ∙ e
 value-if-root false text c e = e
