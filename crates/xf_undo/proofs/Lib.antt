@@ -7,3 +7,6 @@ pub mod TreeBlank
 pub mod TreeAgain
 pub mod TreeFacts
 pub mod TreeLeaves
+pub mod KeepingTrees
+pub mod Alike
+pub mod TextSteps
