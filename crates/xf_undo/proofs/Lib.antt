@@ -10,3 +10,4 @@ pub mod TreeLeaves
 pub mod KeepingTrees
 pub mod Alike
 pub mod TextSteps
+pub mod GrowthSteps
