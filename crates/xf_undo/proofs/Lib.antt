@@ -11,3 +11,4 @@ pub mod KeepingTrees
 pub mod Alike
 pub mod TextSteps
 pub mod GrowthSteps
+pub mod Laws

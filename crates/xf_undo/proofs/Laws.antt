@@ -1,0 +1,201 @@
+-- The law of the ledger: rolling back gives the forest that was kept, and every step back may be made.
+use Rattle.std.proofs.Common.{◌≡◌, ℕ, ◌+◌, ◌==◌, Bool, true, false, not, cond, ◌&&◌, ◌||◌, List, [], ◌∷◌, refl, sym, ap, ◌∙◌, subst, inl, inr, arith}
+use Rattle.std.specs.Prelude.{⊤, ◌≤◌, Option, Some, None, Result, Ok, Err, if◌then◌else◌}
+use Rattle.std.proofs.lemmas.Bool.{cases_Bool}
+use Rattle.std.proofs.lemmas.Bool.Decides.{nat_tests}
+use Rattle.xf_doc.specs.declared.fault.TreeFault.{TreeFault}
+use Rattle.xf_doc.specs.Visit.{has, numbers}
+use Rattle.xf_doc.specs.Forest.{tree_of}
+use Rattle.xf_doc.specs.Limits.{Limits, unless}
+use Rattle.xf_doc.specs.Texts.{Keeping, Before, element_texts, attribute_text, texts_in, value_in, is_attribute_at, before_of, with_text, given_up, put_back, text_set}
+use Rattle.xf_doc.specs.Needs.{IsSettable}
+use Rattle.xf_doc.specs.WellFormed.{IsKeeping}
+use Rattle.xf_doc.specs.Undo.{Change, of_text, Entry, Ledger, with_note, with_set, is_known, text_filled, rolled_back}
+use Rattle.xf_doc.specs.Undo as undo
+use Rattle.xf_doc.proofs.BackLaws.{after_set, false-true}
+use Rattle.xf_undo.specs.Made.{Made, begun, noted, texts, joined, cut, grown}
+use Rattle.xf_undo.specs.Back.{CanRollBack}
+use Rattle.xf_undo.proofs.Trees.{Trees, none, tree, onto, followed, times}
+use Rattle.xf_undo.proofs.TreeShape.{Sound}
+use Rattle.xf_undo.proofs.TreeMoved.{Moved, same}
+use Rattle.xf_undo.proofs.TreeBlank.{blank}
+use Rattle.xf_undo.proofs.TreeFacts.{or-cases}
+use Rattle.xf_undo.proofs.KeepingTrees.{Stands, stands, kept_times}
+use Rattle.xf_undo.proofs.Alike.{Alike, Back}
+use Rattle.xf_undo.proofs.TextSteps.{element-known, element-may, element-alike, attribute-known, attribute-may, attribute-alike}
+use Rattle.xf_undo.proofs.GrowthSteps.{growth-alike, begun-back}
+
+unless-ok : {X : Type 0} (fault : Option TreeFault) (v w : X) → unless fault v ≡ Ok w → v ≡ w
+unless-ok None v w e = cc e
+unless-ok (Some fault) v w e = cc e
+
+-- ---- a text
+
+-- what is to be shown of a ledger and a forest
+abbrev Goal : Keeping → List ℕ → Ledger × Keeping → Type 0
+Goal start ns p = (t : Trees) → p.1.forest.nodes ≡ onto 0 t [] → Sound false t → ((n : ℕ) → times n t ≤ 1) → (k2 : Keeping) → Alike ns t p.1 k2 → Back start p.0 k2
+
+module _ (start : Keeping) (l : Ledger) (k : Keeping) (n : ℕ) (text : List ℕ) (sound : IsKeeping k) (able : IsSettable n k.forest) (ns : List ℕ)
+    (found : is_known n (after_set n text k) l.entries ≡ true → has n ns ≡ true) (s : Stands k) (back : (k2 : Keeping) → Alike ns s.trees k k2 → Back start l k2) where
+  abbrev after : Keeping
+  after = after_set n text k
+
+  element-case : is_attribute_at n k.forest.nodes ≡ false → Goal start (n ∷ ns) (with_set n (element_texts (numbers (texts_in (tree_of n k.forest.nodes)))) l.entries l.next after)
+  element-case other = by (is_known n after l.entries) found
+    where
+      by : (known : Bool) → (known ≡ true → has n ns ≡ true)
+          → Goal start (n ∷ ns) (cond known (record { entries = l.entries; next = l.next }, given_up (element_texts (numbers (texts_in (tree_of n k.forest.nodes)))) after)
+            (record { entries = undo.set n (element_texts (numbers (texts_in (tree_of n k.forest.nodes)))) ∷ l.entries; next = l.next }, after))
+      by true h t nodes whole once k2 a = back k2 (element-known n text k sound able s other t nodes whole (once n) ns (h refl) k2 a)
+      by false h t nodes whole once k2 a =
+          let r = back (put_back n (element_texts (numbers (texts_in (tree_of n k.forest.nodes)))) k2) (element-alike n text k sound able s other t nodes whole (once n) ns k2 a) in
+          record { changes = (element-may n text k sound able s other t nodes whole (once n) ns k2 a, r.changes); rest = r.rest; same = r.same }
+
+  attribute-case : is_attribute_at n k.forest.nodes ≡ true → Goal start (n ∷ ns) (with_set n (attribute_text (value_in (tree_of n k.forest.nodes))) l.entries l.next after)
+  attribute-case is = by (is_known n after l.entries) found
+    where
+      by : (known : Bool) → (known ≡ true → has n ns ≡ true)
+          → Goal start (n ∷ ns) (cond known (record { entries = l.entries; next = l.next }, given_up (attribute_text (value_in (tree_of n k.forest.nodes))) after)
+            (record { entries = undo.set n (attribute_text (value_in (tree_of n k.forest.nodes))) ∷ l.entries; next = l.next }, after))
+      by true h t nodes whole once k2 a = back k2 (attribute-known n text k sound able s is t nodes whole (once n) ns k2 a (h refl))
+      by false h t nodes whole once k2 a =
+          let r = back (put_back n (attribute_text (value_in (tree_of n k.forest.nodes))) k2) (attribute-alike n text k sound able s is t nodes whole (once n) ns k2 a) in
+          record { changes = (attribute-may n text k sound able s is t nodes whole (once n) ns k2 a, r.changes); rest = r.rest; same = r.same }
+
+  set-case : Goal start (n ∷ ns) (with_set n (before_of n k.forest.nodes) l.entries l.next after)
+  set-case =
+      elim (cases_Bool (is_attribute_at n k.forest.nodes)) [
+        | inl e ↦ subst (λ b. Goal start (n ∷ ns) (with_set n b l.entries l.next after)) (had_text e) (attribute-case e)
+        | inr e ↦ subst (λ b. Goal start (n ∷ ns) (with_set n b l.entries l.next after)) (had_texts e) (element-case e)
+      ]
+    where
+      had_text : is_attribute_at n k.forest.nodes ≡ true → attribute_text (value_in (tree_of n k.forest.nodes)) ≡ before_of n k.forest.nodes
+      had_text e = rw e refl
+
+      had_texts : is_attribute_at n k.forest.nodes ≡ false → element_texts (numbers (texts_in (tree_of n k.forest.nodes))) ≡ before_of n k.forest.nodes
+      had_texts e = rw e refl
+
+  pub text-case : (limits : Limits) (before : Before) (later : Keeping) → text_set limits n text k ≡ Ok (before, later)
+      → Goal start (n ∷ ns) (text_filled before (with_note (of_text n) l) later)
+  text-case limits before later e =
+      subst (λ (w : Before × Keeping). Goal start (n ∷ ns) (with_set n w.0 l.entries l.next w.1)) (unless-ok _ (before_of n k.forest.nodes, after) (before, later) e) set-case
+
+-- ---- the nodes whose texts do not count
+
+abbrev without_number : ℕ → List ℕ → List ℕ
+without_number n [] = []
+without_number n (m ∷ ms) = if n == m then without_number n ms else m ∷ without_number n ms
+
+abbrev pub known : {start : Keeping} {l : Ledger} {k : Keeping} → Made start l k → List ℕ
+known (begun sound empty alone) = []
+known (noted change m) = known m
+known (texts limits n text before later m sound able e) = n ∷ known m
+known (joined n parent place m sound may) = known m
+known (cut {k = k} n parent place m sound may stood) = if is_attribute_at n k.forest.nodes then known m else without_number parent (known m)
+known (grown contents m sound growth) = known m
+
+-- entries of texts alone
+abbrev pub AreOfTexts : List Entry → Type 0
+AreOfTexts [] = ⊤
+AreOfTexts (undo.noted change ∷ es) = AreOfTexts es
+AreOfTexts (undo.set n before ∷ es) = AreOfTexts es
+AreOfTexts (undo.joined n ∷ es) = ⊥
+AreOfTexts (undo.cut n parent place ∷ es) = ⊥
+
+turned : (m n : ℕ) → (m == n) ≡ (n == m)
+turned m n = grind (arith, nat_tests)
+
+has-first : (n m : ℕ) (ns : List ℕ) → (m == n) ≡ true → has n (m ∷ ns) ≡ true
+has-first n m ns e = rw (turned n m ∙ e) refl
+
+has-later : (n m : ℕ) (ns : List ℕ) → has n ns ≡ true → has n (m ∷ ns) ≡ true
+has-later n m ns h = ap (λ b. (n == m) || b) h ∙ or-true (n == m)
+  where
+    or-true : (b : Bool) → (b || true) ≡ true
+    or-true true = refl
+    or-true false = refl
+
+-- of the ledger and the forest after a filling, by whether the text was known
+set-texts : (n : ℕ) (before : Before) (es : List Entry) (next : ℕ) (k : Keeping) → AreOfTexts (with_set n before es next k).0.entries → AreOfTexts es
+set-texts n before es next k h = by (is_known n k es) h
+  where
+    by : (b : Bool) → AreOfTexts (cond {A = Ledger × Keeping} b (record { entries = es; next = next }, given_up before k) (record { entries = undo.set n before ∷ es; next = next }, k)).0.entries → AreOfTexts es
+    by true h = h
+    by false h = h
+
+set-known : (m n : ℕ) (before : Before) (es : List Entry) (next : ℕ) (k k2 : Keeping) (ns : List ℕ) → (is_known m k2 es ≡ true → has m ns ≡ true)
+    → is_known m k2 (with_set n before es next k).0.entries ≡ true → has m (n ∷ ns) ≡ true
+set-known m n before es next k k2 ns found h = by (is_known n k es) h
+  where
+    by : (b : Bool) → is_known m k2 (cond {A = Ledger × Keeping} b (record { entries = es; next = next }, given_up before k) (record { entries = undo.set n before ∷ es; next = next }, k)).0.entries ≡ true → has m (n ∷ ns) ≡ true
+    by true h = has-later m n ns (found h)
+    by false h = or-cases (n == m) (is_known m k2 es) h (has m (n ∷ ns) ≡ true) (λ e. has-first m n ns e) (λ e. has-later m n ns (found e))
+
+known-has : {start : Keeping} {l : Ledger} {k : Keeping} (made : Made start l k) (n : ℕ) (k2 : Keeping) → AreOfTexts l.entries → is_known n k2 l.entries ≡ true → has n (known made) ≡ true
+known-has (begun sound empty alone) n k2 only h = absurd (false-true h)
+known-has (noted change m) n k2 only h = known-has m n k2 only h
+known-has (texts {l = l} limits m text before later made sound able e) n k2 only h =
+    set-known n m before l.entries l.next later k2 (known made) (λ f. known-has made n k2 (set-texts m before l.entries l.next later only) f) h
+known-has (joined m parent place made sound may) n k2 only h = absurd only
+known-has (cut m parent place made sound may stood) n k2 only h = absurd only
+known-has (grown contents made sound growth) n k2 only h = known-has made n k2 only h
+
+-- ---- the law
+
+law : {start : Keeping} {l : Ledger} {k : Keeping} (made : Made start l k) → AreOfTexts l.entries → (t : Trees) → k.forest.nodes ≡ onto 0 t [] → Sound false t → ((n : ℕ) → times n t ≤ 1)
+    → (k2 : Keeping) → Alike (known made) t k k2 → Back start l k2
+law {start = start} (begun sound empty alone) only t nodes whole once k2 a = begun-back start sound empty alone t nodes k2 a
+law (noted change m) only t nodes whole once k2 a =
+    let r = law m only t nodes whole once k2 (record {
+      later = a.later;
+      extra = a.extra;
+      nodes = a.nodes;
+      kept = a.kept;
+      next = a.next;
+      fresh = a.fresh;
+      new_sound = a.new_sound;
+      sound = a.sound;
+      once = a.once;
+      like = a.like;
+    }) in
+    record { changes = (tt, r.changes); rest = r.rest; same = r.same }
+law {start = start} (texts {l = l} {k = k} limits n text before later m sound able e) only t nodes whole once k2 a =
+    let s = stands k sound in
+    let before_only = set-texts n before l.entries l.next later only in
+    text-case start l k n text sound able (known m) (λ f. known-has m n (after_set n text k) before_only f) s
+    (λ k3 b. law m before_only s.trees s.nodes s.sound (λ p. let o = s.once p in omega (arith, o)) k3 b)
+    limits before later e t nodes whole once k2 a
+law (joined n parent place m sound may) only t nodes whole once k2 a = absurd only
+law (cut n parent place m sound may stood) only t nodes whole once k2 a = absurd only
+law (grown {k = k} contents m sound growth) only t nodes whole once k2 a =
+    let s = stands k sound in
+    law m only s.trees s.nodes s.sound (λ p. let o = s.once p in omega (arith, o)) k2 (growth-alike contents k growth s t nodes (known m) k2 a)
+
+followed-none : (t : Trees) → followed t none ≡ t
+followed-none none = refl
+followed-none (tree n c k r) = ap (tree n c k) (followed-none r)
+
+alike-itself : (k : Keeping) (s : Stands k) (ns : List ℕ) → Alike ns s.trees k k
+alike-itself k s ns = record {
+  later = s.trees;
+  extra = none;
+  nodes = s.nodes;
+  kept = refl;
+  next = omega arith;
+  fresh = tt;
+  new_sound = tt;
+  sound = s.sound;
+  once = s.once;
+  like = subst (λ x. Moved (blank ns x) (blank ns s.trees)) (sym (followed-none s.trees)) (same (blank ns s.trees));
+}
+
+back-from : {start : Keeping} {l : Ledger} {k : Keeping} → Made start l k → IsKeeping k → AreOfTexts l.entries → Back start l k
+back-from {k = k} made sound only = let s = stands k sound in law made only s.trees s.nodes s.sound (λ p. let o = s.once p in omega (arith, o)) k (alike-itself k s (known made))
+
+-- texts were set, and trees came in: all can be undone
+pub can_roll_back : {start : Keeping} {l : Ledger} {k : Keeping} → Made start l k → IsKeeping k → AreOfTexts l.entries → CanRollBack l k
+can_roll_back made sound only = let r = back-from made sound only in record { changes = r.changes; rest = r.rest }
+
+-- and it gives the forest that was kept
+pub rolls_back : {start : Keeping} {l : Ledger} {k : Keeping} → Made start l k → IsKeeping k → AreOfTexts l.entries → rolled_back l k ≡ start
+rolls_back made sound only = (back-from made sound only).same
