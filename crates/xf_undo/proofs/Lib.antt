@@ -12,3 +12,5 @@ pub mod Alike
 pub mod TextSteps
 pub mod GrowthSteps
 pub mod Laws
+pub mod TreeMoves
+pub mod TreePlaces
