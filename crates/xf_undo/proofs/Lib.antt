@@ -14,3 +14,5 @@ pub mod GrowthSteps
 pub mod Laws
 pub mod TreeMoves
 pub mod TreePlaces
+pub mod MoveFacts
+pub mod MoveBlank
