@@ -119,7 +119,7 @@ abbrev pub kept_times : ℕ → List KeptText → ℕ
 kept_times n [] = 0
 kept_times n (t ∷ ts) = (if t.number == n then 1 else 0) + kept_times n ts
 
-absent-times : (n : ℕ) (xs : List Node) → has_number n xs ≡ false → node_times n xs ≡ 0
+pub absent-times : (n : ℕ) (xs : List Node) → has_number n xs ≡ false → node_times n xs ≡ 0
 absent-times n [] h = refl
 absent-times n (x ∷ xs) h = let parts = or-false (x.number == n) (has_number n xs) h in let rest = absent-times n xs parts.1 in rw parts.0 (omega (arith, rest))
 

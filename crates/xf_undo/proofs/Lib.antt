@@ -16,3 +16,4 @@ pub mod TreeMoves
 pub mod TreePlaces
 pub mod MoveFacts
 pub mod MoveBlank
+pub mod TreeTops
