@@ -17,3 +17,4 @@ pub mod TreePlaces
 pub mod MoveFacts
 pub mod MoveBlank
 pub mod TreeTops
+pub mod JoinSteps

@@ -143,6 +143,24 @@ blank-found n ns inside (tree m c k r) s h =
         inner true = sym (found-textless n true (blank ns k) (sound-blank true ns k s.2) (no_text-blank n ns k h.1))
         inner false = refl
 
+-- blank trees have no number more often
+textless-times : (n : ℕ) (t : Trees) → times n (textless t) ≤ times n t
+textless-times n none = omega arith
+textless-times n (tree m c k r) = by (is_text c) (textless-times n r)
+  where
+    by : (b : Bool) → times n (textless r) ≤ times n r → times n (cond b (textless r) (tree m c k (textless r))) ≤ (if m == n then 1 else 0) + (times n k + times n r)
+    by true h = omega (arith, h)
+    by false h = omega (arith, h)
+
+pub blank-times : (n : ℕ) (ns : List ℕ) (t : Trees) → times n (blank ns t) ≤ times n t
+blank-times n ns none = omega arith
+blank-times n ns (tree m c k r) = by (has m ns) (blank-times n ns k) (blank-times n ns r)
+  where
+    by : (b : Bool) → times n (blank ns k) ≤ times n k → times n (blank ns r) ≤ times n r
+        → (if m == n then 1 else 0) + (times n (cond b (textless (blank ns k)) (blank ns k)) + times n (blank ns r)) ≤ (if m == n then 1 else 0) + (times n k + times n r)
+    by true h g = let e = textless-times n (blank ns k) in omega (arith, h, g, e)
+    by false h g = omega (arith, h, g)
+
 -- ---- soundness
 
 sound-less : (inside : Bool) (t : Trees) → Sound inside t → Sound false t
