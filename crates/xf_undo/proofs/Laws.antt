@@ -1,14 +1,18 @@
 -- The law of the ledger: rolling back gives the forest that was kept, and every step back may be made.
 use Rattle.std.proofs.Common.{◌≡◌, ℕ, ◌+◌, ◌==◌, Bool, true, false, not, cond, ◌&&◌, ◌||◌, List, [], ◌∷◌, refl, sym, ap, ◌∙◌, subst, inl, inr, arith}
-use Rattle.std.specs.Prelude.{⊤, ◌≤◌, Option, Some, None, Result, Ok, Err, if◌then◌else◌}
+use Rattle.std.specs.Prelude.{⊤, ◌⊎◌, ◌≤◌, Option, Some, None, Result, Ok, Err, if◌then◌else◌}
 use Rattle.std.proofs.lemmas.Bool.{cases_Bool}
 use Rattle.std.proofs.lemmas.Bool.Decides.{nat_tests}
 use Rattle.xf_doc.specs.declared.fault.TreeFault.{TreeFault}
-use Rattle.xf_doc.specs.Visit.{has, numbers}
-use Rattle.xf_doc.specs.Forest.{tree_of}
+use Rattle.xf_doc.specs.declared.content.Content.{Content}
+use Rattle.xf_doc.specs.declared.content.Kind.{Kind}
+use Rattle.xf_doc.specs.declared.content.Kind.TheVariants as kind
+use Rattle.xf_doc.specs.Visit.{has, numbers, visits, children_of}
+use Rattle.xf_doc.specs.Forest.{is_element, is_attribute, kind_at, tree_of}
+use Rattle.xf_doc.specs.Changes.{placed, detached}
 use Rattle.xf_doc.specs.Limits.{Limits, unless}
 use Rattle.xf_doc.specs.Texts.{Keeping, Before, element_texts, attribute_text, texts_in, value_in, is_attribute_at, before_of, with_text, given_up, put_back, text_set}
-use Rattle.xf_doc.specs.Needs.{IsSettable}
+use Rattle.xf_doc.specs.Needs.{IsSettable, MayAttach, MayStand, in_element, in_root, as_attribute}
 use Rattle.xf_doc.specs.WellFormed.{IsKeeping}
 use Rattle.xf_doc.specs.Undo.{Change, of_text, Entry, Ledger, with_note, with_set, is_known, text_filled, rolled_back}
 use Rattle.xf_doc.specs.Undo as undo
@@ -23,6 +27,7 @@ use Rattle.xf_undo.proofs.TreeFacts.{or-cases}
 use Rattle.xf_undo.proofs.KeepingTrees.{Stands, stands, kept_times}
 use Rattle.xf_undo.proofs.Alike.{Alike, Back}
 use Rattle.xf_undo.proofs.TextSteps.{element-known, element-may, element-alike, attribute-known, attribute-may, attribute-alike}
+use Rattle.xf_undo.proofs.JoinSteps.{Moves, element-moves, attribute-moves, joined-below, joined-kind, joined-alike}
 use Rattle.xf_undo.proofs.GrowthSteps.{growth-alike, begun-back}
 
 unless-ok : {X : Type 0} (fault : Option TreeFault) (v w : X) → unless fault v ≡ Ok w → v ≡ w
@@ -80,6 +85,35 @@ module _ (start : Keeping) (l : Ledger) (k : Keeping) (n : ℕ) (text : List ℕ
   text-case limits before later e =
       subst (λ (w : Before × Keeping). Goal start (n ∷ ns) (with_set n w.0 l.entries l.next w.1)) (unless-ok _ (before_of n k.forest.nodes, after) (before, later) e) set-case
 
+-- ---- a tree that was attached
+
+join-case : (start : Keeping) (l : Ledger) (k : Keeping) (n parent place : ℕ) → IsKeeping k → MayAttach n parent place k.forest → (ns : List ℕ) (s : Stands k) → ((k2 : Keeping) → Alike ns s.trees k k2 → Back start l k2)
+    → (t : Trees) → (placed n parent place k.forest).nodes ≡ onto 0 t [] → Sound false t → times n t ≤ 1 → (k2 : Keeping) → Alike ns t (record k { forest = placed n parent place k.forest }) k2
+    → Back start (record l { entries = undo.joined n ∷ l.entries }) k2
+join-case start l k n parent place sound may ns s back t nodes whole once k2 a = by may.stands
+  where
+    step : (kn : Kind) (q : Content → Bool) → Moves kn q → kind_at n k.forest.nodes ≡ Some kn → (kp : Kind) → kind_at parent k.forest.nodes ≡ Some kp
+        → ((kind_at n k2.forest.nodes ≡ Some kn) → (kind_at n k2.forest.nodes ≡ Some kind.Element) ⊎ (kind_at n k2.forest.nodes ≡ Some kind.Attribute))
+        → Back start (record l { entries = undo.joined n ∷ l.entries }) k2
+    step kn q moves is kp above either =
+        let r = back (record k2 { forest = detached n k2.forest }) (joined-alike n parent place k sound may s kn q moves is kp above t nodes whole once ns k2 a) in
+        record {
+          changes = (
+            record {
+              below = joined-below n parent place k sound may s kn q moves is kp above t nodes whole once ns k2 a;
+              kind = either (joined-kind n parent place k sound may s kn q moves is kp above t nodes whole once ns k2 a);
+            },
+            r.changes,
+          );
+          rest = r.rest;
+          same = r.same;
+        }
+
+    by : MayStand n parent place k.forest → Back start (record l { entries = undo.joined n ∷ l.entries }) k2
+    by (in_element is above le) = step kind.Element is_element element-moves is kind.Element above inl
+    by (in_root is above none_ first) = step kind.Element is_element element-moves is kind.Root above inl
+    by (as_attribute is above lacks) = step kind.Attribute is_attribute attribute-moves is kind.Element above inr
+
 -- ---- the nodes whose texts do not count
 
 abbrev without_number : ℕ → List ℕ → List ℕ
@@ -94,13 +128,13 @@ known (joined n parent place m sound may) = known m
 known (cut {k = k} n parent place m sound may stood) = if is_attribute_at n k.forest.nodes then known m else without_number parent (known m)
 known (grown contents m sound growth) = known m
 
--- entries of texts alone
-abbrev pub AreOfTexts : List Entry → Type 0
-AreOfTexts [] = ⊤
-AreOfTexts (undo.noted change ∷ es) = AreOfTexts es
-AreOfTexts (undo.set n before ∷ es) = AreOfTexts es
-AreOfTexts (undo.joined n ∷ es) = ⊥
-AreOfTexts (undo.cut n parent place ∷ es) = ⊥
+-- no tree was cut off
+abbrev pub HasNoCut : List Entry → Type 0
+HasNoCut [] = ⊤
+HasNoCut (undo.noted change ∷ es) = HasNoCut es
+HasNoCut (undo.set n before ∷ es) = HasNoCut es
+HasNoCut (undo.joined n ∷ es) = HasNoCut es
+HasNoCut (undo.cut n parent place ∷ es) = ⊥
 
 turned : (m n : ℕ) → (m == n) ≡ (n == m)
 turned m n = grind (arith, nat_tests)
@@ -116,10 +150,10 @@ has-later n m ns h = ap (λ b. (n == m) || b) h ∙ or-true (n == m)
     or-true false = refl
 
 -- of the ledger and the forest after a filling, by whether the text was known
-set-texts : (n : ℕ) (before : Before) (es : List Entry) (next : ℕ) (k : Keeping) → AreOfTexts (with_set n before es next k).0.entries → AreOfTexts es
+set-texts : (n : ℕ) (before : Before) (es : List Entry) (next : ℕ) (k : Keeping) → HasNoCut (with_set n before es next k).0.entries → HasNoCut es
 set-texts n before es next k h = by (is_known n k es) h
   where
-    by : (b : Bool) → AreOfTexts (cond {A = Ledger × Keeping} b (record { entries = es; next = next }, given_up before k) (record { entries = undo.set n before ∷ es; next = next }, k)).0.entries → AreOfTexts es
+    by : (b : Bool) → HasNoCut (cond {A = Ledger × Keeping} b (record { entries = es; next = next }, given_up before k) (record { entries = undo.set n before ∷ es; next = next }, k)).0.entries → HasNoCut es
     by true h = h
     by false h = h
 
@@ -131,18 +165,22 @@ set-known m n before es next k k2 ns found h = by (is_known n k es) h
     by true h = has-later m n ns (found h)
     by false h = or-cases (n == m) (is_known m k2 es) h (has m (n ∷ ns) ≡ true) (λ e. has-first m n ns e) (λ e. has-later m n ns (found e))
 
-known-has : {start : Keeping} {l : Ledger} {k : Keeping} (made : Made start l k) (n : ℕ) (k2 : Keeping) → AreOfTexts l.entries → is_known n k2 l.entries ≡ true → has n (known made) ≡ true
+known-has : {start : Keeping} {l : Ledger} {k : Keeping} (made : Made start l k) (n : ℕ) (k2 : Keeping) → HasNoCut l.entries → is_known n k2 l.entries ≡ true → has n (known made) ≡ true
 known-has (begun sound empty alone) n k2 only h = absurd (false-true h)
 known-has (noted change m) n k2 only h = known-has m n k2 only h
 known-has (texts {l = l} limits m text before later made sound able e) n k2 only h =
     set-known n m before l.entries l.next later k2 (known made) (λ f. known-has made n k2 (set-texts m before l.entries l.next later only) f) h
-known-has (joined m parent place made sound may) n k2 only h = absurd only
+known-has (joined {l = l} m parent place made sound may) n k2 only h = by (has m (children_of n (visits k2.forest.nodes))) h (λ f. known-has made n k2 only f)
+  where
+    by : (b : Bool) → cond b false (is_known n k2 l.entries) ≡ true → (is_known n k2 l.entries ≡ true → has n (known made) ≡ true) → has n (known made) ≡ true
+    by true h next = absurd (false-true h)
+    by false h next = next h
 known-has (cut m parent place made sound may stood) n k2 only h = absurd only
 known-has (grown contents made sound growth) n k2 only h = known-has made n k2 only h
 
 -- ---- the law
 
-law : {start : Keeping} {l : Ledger} {k : Keeping} (made : Made start l k) → AreOfTexts l.entries → (t : Trees) → k.forest.nodes ≡ onto 0 t [] → Sound false t → ((n : ℕ) → times n t ≤ 1)
+law : {start : Keeping} {l : Ledger} {k : Keeping} (made : Made start l k) → HasNoCut l.entries → (t : Trees) → k.forest.nodes ≡ onto 0 t [] → Sound false t → ((n : ℕ) → times n t ≤ 1)
     → (k2 : Keeping) → Alike (known made) t k k2 → Back start l k2
 law {start = start} (begun sound empty alone) only t nodes whole once k2 a = begun-back start sound empty alone t nodes k2 a
 law (noted change m) only t nodes whole once k2 a =
@@ -165,7 +203,8 @@ law {start = start} (texts {l = l} {k = k} limits n text before later m sound ab
     text-case start l k n text sound able (known m) (λ f. known-has m n (after_set n text k) before_only f) s
     (λ k3 b. law m before_only s.trees s.nodes s.sound (λ p. let o = s.once p in omega (arith, o)) k3 b)
     limits before later e t nodes whole once k2 a
-law (joined n parent place m sound may) only t nodes whole once k2 a = absurd only
+law {start = start} (joined {l = l} {k = k} n parent place m sound may) only t nodes whole once k2 a =
+    join-case start l k n parent place sound may (known m) (stands k sound) (λ k3 b. let s = stands k sound in law m only s.trees s.nodes s.sound (λ p. let o = s.once p in omega (arith, o)) k3 b) t nodes whole (once n) k2 a
 law (cut n parent place m sound may stood) only t nodes whole once k2 a = absurd only
 law (grown {k = k} contents m sound growth) only t nodes whole once k2 a =
     let s = stands k sound in
@@ -189,13 +228,13 @@ alike-itself k s ns = record {
   like = subst (λ x. Moved (blank ns x) (blank ns s.trees)) (sym (followed-none s.trees)) (same (blank ns s.trees));
 }
 
-back-from : {start : Keeping} {l : Ledger} {k : Keeping} → Made start l k → IsKeeping k → AreOfTexts l.entries → Back start l k
+back-from : {start : Keeping} {l : Ledger} {k : Keeping} → Made start l k → IsKeeping k → HasNoCut l.entries → Back start l k
 back-from {k = k} made sound only = let s = stands k sound in law made only s.trees s.nodes s.sound (λ p. let o = s.once p in omega (arith, o)) k (alike-itself k s (known made))
 
--- texts were set, and trees came in: all can be undone
-pub can_roll_back : {start : Keeping} {l : Ledger} {k : Keeping} → Made start l k → IsKeeping k → AreOfTexts l.entries → CanRollBack l k
+-- texts were set, trees came in and were attached: all can be undone
+pub can_roll_back : {start : Keeping} {l : Ledger} {k : Keeping} → Made start l k → IsKeeping k → HasNoCut l.entries → CanRollBack l k
 can_roll_back made sound only = let r = back-from made sound only in record { changes = r.changes; rest = r.rest }
 
 -- and it gives the forest that was kept
-pub rolls_back : {start : Keeping} {l : Ledger} {k : Keeping} → Made start l k → IsKeeping k → AreOfTexts l.entries → rolled_back l k ≡ start
+pub rolls_back : {start : Keeping} {l : Ledger} {k : Keeping} → Made start l k → IsKeeping k → HasNoCut l.entries → rolled_back l k ≡ start
 rolls_back made sound only = (back-from made sound only).same
