@@ -18,3 +18,4 @@ pub mod MoveFacts
 pub mod MoveBlank
 pub mod TreeTops
 pub mod JoinSteps
+pub mod TreeOrder
