@@ -19,3 +19,4 @@ pub mod MoveBlank
 pub mod TreeTops
 pub mod JoinSteps
 pub mod TreeOrder
+pub mod TreeRanks
