@@ -20,3 +20,4 @@ pub mod TreeTops
 pub mod JoinSteps
 pub mod TreeOrder
 pub mod TreeRanks
+pub mod CutFacts
