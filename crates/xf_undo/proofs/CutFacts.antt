@@ -161,7 +161,7 @@ blank-named ns name s (tree m c k r) =
     by true h = ap (tree m (if has m ns then with_value [] c else c) (if has m ns then textless (blank ns k) else blank ns k)) h
     by false h = blank-followed ns s (tree m c k r)
 
-blank-with : (ns : List ℕ) (place : ℕ) (s k : Trees) → blank ns (with_tree place s k) ≡ with_tree place (blank ns s) (blank ns k)
+pub blank-with : (ns : List ℕ) (place : ℕ) (s k : Trees) → blank ns (with_tree place s k) ≡ with_tree place (blank ns s) (blank ns k)
 blank-with ns place none k = refl
 blank-with ns place (tree m c j r) k =
     elim (cases_Bool (is_attribute c)) [

@@ -21,3 +21,4 @@ pub mod JoinSteps
 pub mod TreeOrder
 pub mod TreeRanks
 pub mod CutFacts
+pub mod CutCounts

@@ -126,7 +126,7 @@ abbrev pub rank : ℕ → Trees → ℕ
 rank n none = 0
 rank n (tree m c k r) = if m == n then 0 else if is_attribute c then rank n r else suc (rank n r)
 
-not-at : (n m : ℕ) (c : Content) (k r : Trees) → is_at is_attribute n (tree m c k r) ≡ false → (((m == n) && is_attribute c) ≡ false) × (is_at is_attribute n k ≡ false) × (is_at is_attribute n r ≡ false)
+pub not-at : (n m : ℕ) (c : Content) (k r : Trees) → is_at is_attribute n (tree m c k r) ≡ false → (((m == n) && is_attribute c) ≡ false) × (is_at is_attribute n k ≡ false) × (is_at is_attribute n r ≡ false)
 not-at n m c k r h =
     let a = or-false ((m == n) && is_attribute c) (is_at is_attribute n k || is_at is_attribute n r) h in
     let b = or-false (is_at is_attribute n k) (is_at is_attribute n r) a.1 in (a.0, b.0, b.1)
@@ -223,7 +223,7 @@ inserted-again n (tree m c k r) top once plain order =
         by true q = rw q (ap (tree m c k) h)
         by false q = rw q (ap (tree m c k) h)
 
-under-times : (n p : ℕ) (t : Trees) → Under n p t → (1 ≤ times n t) × (1 ≤ times p t)
+pub under-times : (n p : ℕ) (t : Trees) → Under n p t → (1 ≤ times n t) × (1 ≤ times p t)
 under-times n p none u = absurd u
 under-times n p (tree m c k r) (inl u) = let a = tops-times n k u.1 in let e = u.0 in (omega (arith, a), rw e (omega arith))
 under-times n p (tree m c k r) (inr (inl u)) = let a = under-times n p k u in let b = a.0 in let d = a.1 in (omega (arith, b), omega (arith, d))
