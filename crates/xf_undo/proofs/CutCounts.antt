@@ -136,7 +136,7 @@ kids-blank u p inside ns (tree m c k r) out h =
 
 -- ---- without the node there is one less
 
-top-less : (n p : ℕ) (k : Trees) → tops n k ≡ true → times n k ≡ 1 → times p k ≡ 0 → is_at is_attribute n k ≡ false → (suc (kids true p (removed n k)) ≡ kids true p k) × (rank n k ≤ kids true p (removed n k))
+pub top-less : (n p : ℕ) (k : Trees) → tops n k ≡ true → times n k ≡ 1 → times p k ≡ 0 → is_at is_attribute n k ≡ false → (suc (kids true p (removed n k)) ≡ kids true p k) × (rank n k ≤ kids true p (removed n k))
 top-less n p none top once out plain = absurd (false-true top)
 top-less n p (tree m c k r) top once out plain =
     let parts = not-at n m c k r plain in

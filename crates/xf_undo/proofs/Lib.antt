@@ -22,3 +22,4 @@ pub mod TreeOrder
 pub mod TreeRanks
 pub mod CutFacts
 pub mod CutCounts
+pub mod CutStands
