@@ -23,3 +23,4 @@ pub mod TreeRanks
 pub mod CutFacts
 pub mod CutCounts
 pub mod CutStands
+pub mod CutSteps
