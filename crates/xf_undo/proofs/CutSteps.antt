@@ -11,7 +11,7 @@ use Rattle.xf_doc.specs.declared.content.Kind.{Kind}
 use Rattle.xf_doc.specs.declared.content.Kind.TheVariants as kind
 use Rattle.xf_doc.specs.Forest.{is_root, is_element, is_attribute, is_text, kind_of, kind_at, has_number, tree_of}
 use Rattle.xf_doc.specs.Visit.{visits, has, children_of}
-use Rattle.xf_doc.specs.Texts.{Keeping, with_value}
+use Rattle.xf_doc.specs.Texts.{Keeping, with_value, is_attribute_at}
 use Rattle.xf_doc.specs.Changes.{placed, detached, standing}
 use Rattle.xf_doc.specs.Needs.{is_top, MayAttach, MayStand, in_element, in_root}
 use Rattle.xf_doc.specs.WellFormed.{IsKeeping, has_document, are_in_order}
@@ -123,10 +123,10 @@ module _ (n parent place : ℕ) (k : Keeping) (sound : IsKeeping k) (is : kind_a
   cut-at : is_at is_element n s.trees ≡ true
   cut-at = sym (any-is is_element n s.trees) ∙ ap (list_any (λ (x : Node). (x.number == n) && is_element x.content)) (sym s.nodes) ∙ kind-any kind.Element is_element element-test n k.forest.nodes is
 
-  cut-once : times n s.trees ≡ 1
+  pub cut-once : times n s.trees ≡ 1
   cut-once = let a = at-times is_element n s.trees cut-at in let b = s.once n in omega (arith, a, b)
 
-  cut-old : n < k.forest.next
+  pub cut-old : n < k.forest.next
   cut-old = is-old n k s (at-times is_element n s.trees cut-at)
 
   cut-plain : is_at is_attribute n s.trees ≡ false
@@ -138,6 +138,9 @@ module _ (n parent place : ℕ) (k : Keeping) (sound : IsKeeping k) (is : kind_a
       no_attribute (Attribute name text) e = cc e
       no_attribute (Text text) e = cc e
 
+  pub cut-no_attribute : is_attribute_at n k.forest.nodes ≡ false
+  cut-no_attribute = ap (is_attribute_at n) s.nodes ∙ any-is is_attribute n s.trees ∙ cut-plain
+
   cut-place : Place n parent place s.trees
   cut-place = place-of n parent place s.trees cut-plain (subst (λ l. standing n l ≡ Some (parent, place)) s.nodes stands_)
 
@@ -147,7 +150,7 @@ module _ (n parent place : ℕ) (k : Keeping) (sound : IsKeeping k) (is : kind_a
   cut-parent : times parent s.trees ≡ 1
   cut-parent = let a = (under-times n parent s.trees cut-under).1 in let b = s.once parent in omega (arith, a, b)
 
-  cut-stood : Stood n parent s.trees []
+  pub cut-stood : Stood n parent s.trees []
   cut-stood = stood n parent s.trees [] cut-under cut-once cut-parent cut-plain
 
   -- put again where it stood
@@ -155,7 +158,7 @@ module _ (n parent place : ℕ) (k : Keeping) (sound : IsKeeping k) (is : kind_a
   cut-again = ap (λ i. changed parent (with_tree i (found n s.trees)) (removed n s.trees)) cut-place.at
       ∙ changed-again n parent s.trees [] cut-under cut-once cut-parent cut-plain (ordered-onto 0 s.trees [] (subst (λ l. are_in_order l ≡ true) s.nodes sound.forest.ordered))
 
-  cut-kind : (is_at is_element parent s.trees ≡ true) ⊎ (is_at is_root parent s.trees ≡ true)
+  pub cut-kind : (is_at is_element parent s.trees ≡ true) ⊎ (is_at is_root parent s.trees ≡ true)
   cut-kind = element-or-root parent s.trees (under-bears n parent false s.trees s.sound cut-under)
 
   module _ (kp : Kind) (q : Content → Bool) (bears : Bears kp q) (above : is_at q parent s.trees ≡ true)

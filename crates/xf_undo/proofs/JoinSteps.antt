@@ -122,7 +122,7 @@ module _ (n parent place : ℕ) (k : Keeping) (sound : IsKeeping k) (may : MayAt
   join-at : is_at q n s.trees ≡ true
   join-at = sym (any-is q n s.trees) ∙ ap (list_any (λ (x : Node). (x.number == n) && q x.content)) (sym s.nodes) ∙ kind-any kn q moves.test n k.forest.nodes is
 
-  join-once : times n s.trees ≡ 1
+  pub join-once : times n s.trees ≡ 1
   join-once = let a = at-times q n s.trees join-at in let b = s.once n in omega (arith, a, b)
 
   join-old : n < k.forest.next
@@ -138,7 +138,7 @@ module _ (n parent place : ℕ) (k : Keeping) (sound : IsKeeping k) (may : MayAt
       let at = tree-onto n 0 s.trees [] join-once tt in
       number-absent parent at.depth (found n s.trees) (subst (λ l. has_number parent l ≡ false) (ap (tree_of n) s.nodes ∙ at.is) may.outside)
 
-  parent-there : times parent (removed n s.trees) ≡ 1
+  pub parent-there : times parent (removed n s.trees) ≡ 1
   parent-there = let a = removed-times parent n s.trees in let b = parent-outside in let c = parent-live in let d = s.once parent in omega (arith, a, b, c, d)
 
   pub joined-nodes : (placed n parent place k.forest).nodes ≡ onto 0 (changed parent (with_tree place (found n s.trees)) (removed n s.trees)) []

@@ -24,3 +24,4 @@ pub mod CutFacts
 pub mod CutCounts
 pub mod CutStands
 pub mod CutSteps
+pub mod AttributeSteps

@@ -31,7 +31,7 @@ retexted-followed : (n : ℕ) (s a b : Trees) → retexted n s (followed a b) �
 retexted-followed n s none b = refl
 retexted-followed n s (tree m c k r) b = ap (tree m c (if m == n then followed (attributes k) s else retexted n s k)) (retexted-followed n s r b)
 
-one_text-texts : (n : ℕ) (text : List ℕ) → AreTexts (lone (one_text n text))
+pub one_text-texts : (n : ℕ) (text : List ℕ) → AreTexts (lone (one_text n text))
 one_text-texts n [] = tt
 one_text-texts n (c ∷ cs) = (refl, refl, tt)
 
@@ -103,7 +103,7 @@ module _ (n : ℕ) (text : List ℕ) (k : Keeping) (sound : IsKeeping k) (able :
   element-leaf : LeafAt n s.trees
   element-leaf = leaf-of n false false s.trees s.sound (let b = s.once n in omega (arith, b)) element-at element-none
 
-  after-nodes : (with_text n text k.forest).nodes ≡ onto 0 (retexted n (lone new) s.trees) []
+  pub after-nodes : (with_text n text k.forest).nodes ≡ onto 0 (retexted n (lone new) s.trees) []
   after-nodes = rw other (ap (with_texts n new) s.nodes ∙ texts-onto n new 0 s.trees [] element-once (bare-leaf n s.trees element-leaf) tt)
 
   before-is : before_of n k.forest.nodes ≡ element_texts (numbers texts)
@@ -266,7 +266,7 @@ module _ (n : ℕ) (text : List ℕ) (k : Keeping) (sound : IsKeeping k) (able :
   attribute-childless : elements false n s.trees ≡ false
   attribute-childless = sym (elements-are n s.trees) ∙ ap (λ l. has_elements (visits l) n) (sym s.nodes) ∙ able.childless
 
-  valued-nodes : (with_text n text k.forest).nodes ≡ onto 0 (revalued n text s.trees) []
+  pub valued-nodes : (with_text n text k.forest).nodes ≡ onto 0 (revalued n text s.trees) []
   valued-nodes = rw is (ap (with_attribute_text n text) s.nodes ∙ valued-onto n text 0 s.trees [])
 
   value-is : before_of n k.forest.nodes ≡ attribute_text value
