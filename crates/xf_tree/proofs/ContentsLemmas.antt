@@ -2,6 +2,7 @@
 use Rattle.std.proofs.Common.{◌≡◌, ℕ, zero, suc, ◌+◌, ◌<◌, ◌≤◌, ◌^◌, ◌==◌, Bool, true, false, List, [], ◌∷◌, ◌++◌, map, flat_map, length, refl, sym, ap, ◌∙◌, subst, inl, inr, arith, append_assoc, add-one}
 use Rattle.std.specs.Prelude.{◌⊎◌}
 use Rattle.std.specs.List.{filter_map}
+use Rattle.std.proofs.lemmas.Bool.{false≢true}
 use Rattle.std.proofs.lemmas.List.{map-append}
 use Rattle.xf_name.specs.Bindings.{Bindings, resolved}
 use Rattle.xf_name.specs.declared.lit.Lit.{Lit}
@@ -15,9 +16,11 @@ use Rattle.xf_doc.specs.Forest.{is_root}
 use Rattle.xf_doc.specs.Limits.{size_of}
 use Rattle.xf_doc.specs.Plant.{Contents, lit_contents, element_contents, contents_of, text_contents, at_depth, in_order, attribute_in, default_below, element_name}
 use Rattle.xf_tree.specs.Contents.{contents_of_element, contents_of_all, AllFrom, IsPart, AllSmall}
+use Rattle.xf_tree.specs.Leaves.{is_leaf, NotDeeper}
 use Rattle.xf_tree.specs.Tree.{AreSteps, AllPlain, IsTree}
 use Rattle.xf_tree.proofs.NodeLemmas.{eq-true, eq-false}
 use Rattle.xf_tree.proofs.StepLemmas.{most_after, steps-append}
+use Rattle.xf_tree.proofs.LeafLemmas.{leaves-append, steps-not_deeper}
 use Rattle.xf_tree.proofs.WrittenLemmas.{AllRootless}
 
 pub contents-Text : (b : Bindings) (text : List ℕ) → contents_of b (lit.Text text) ≡ text_contents text
@@ -54,7 +57,7 @@ abbrev fsts : List (ℕ × Content) → List ℕ
 fsts cs = map (λ p. p.0) cs
 
 pub part-none : (d : ℕ) → IsPart d []
-part-none d = record { steps = λ most h. tt; deep = tt; plain = tt }
+part-none d = record { steps = λ most h. tt; deep = tt; plain = tt; leaves = tt }
 
 from-append : (d : ℕ) (xs ys : List ℕ) → AllFrom d xs → AllFrom d ys → AllFrom d (xs ++ ys)
 from-append d [] ys p q = q
@@ -71,25 +74,29 @@ after-deep d most (x ∷ xs) p h = after-deep d (suc x) xs p.1 (omega (arith, p.
 pub part-append : (d : ℕ) (xs ys : List (ℕ × Content)) → IsPart d xs → IsPart d ys → IsPart d (xs ++ ys)
 part-append d xs ys p q =
     let e : fsts (xs ++ ys) ≡ fsts xs ++ fsts ys = map-append (λ (p : ℕ × Content). p.0) xs ys in
+    let same : d ≤ d = omega arith in
     record {
       steps = λ most h. subst (AreSteps most) (sym e) (steps-append most (fsts xs) (fsts ys) (p.steps most h) (q.steps (most_after most (fsts xs)) (after-deep d most (fsts xs) p.deep h)));
       deep = subst (AllFrom d) (sym e) (from-append d (fsts xs) (fsts ys) p.deep q.deep);
       plain = plain-append xs ys p.plain q.plain;
+      leaves = leaves-append d xs ys p.deep (steps-not_deeper d ys (q.steps d same)) p.leaves q.leaves;
     }
 
 from-less : (d e : ℕ) (xs : List ℕ) → d ≤ e → AllFrom e xs → AllFrom d xs
 from-less d e [] h p = tt
 from-less d e (x ∷ xs) h p = (omega (arith, p.0), from-less d e xs h p.1)
 
--- a node with what is below it
-pub part-below : (d e : ℕ) (content : Content) (xs : List (ℕ × Content)) → e ≡ d + 1 → is_root content ≡ false → size_of content ≤ 2 ^ 66 → IsPart e xs → IsPart d ((d, content) ∷ xs)
-part-below d e content xs same plain small p =
+-- a node with what is below it, where it is no leaf
+pub part-below : (d e : ℕ) (content : Content) (xs : List (ℕ × Content)) → e ≡ d + 1 → is_root content ≡ false → (is_leaf content ≡ true → NotDeeper d xs) → size_of content ≤ 2 ^ 66 → IsPart e xs
+    → IsPart d ((d, content) ∷ xs)
+part-below d e content xs same plain alone small p =
     let deep : d ≤ e = omega arith in
     let top : e ≤ suc d = omega arith in
     record {
       steps = λ most h. (h, p.steps (suc d) top);
       deep = (omega arith, from-less d e (fsts xs) deep p.deep);
       plain = (plain, small, p.plain);
+      leaves = (alone, p.leaves);
     }
 
 pub part-attributes : (d : ℕ) (cs : List Content) → AllRootless cs → AllSmall cs → IsPart d (at_depth d cs)
@@ -97,17 +104,19 @@ part-attributes d [] plain small = part-none d
 part-attributes d (c ∷ cs) plain small =
     let p = part-attributes d cs plain.1 small.1 in
     let next : d ≤ suc d = omega arith in
+    let same : d ≤ d = omega arith in
     record {
       steps = λ most h. (h, p.steps (suc d) next);
-      deep = (omega arith, p.deep);
+      deep = (same, p.deep);
       plain = (plain.0, small.0, p.plain);
+      leaves = (λ e. steps-not_deeper d (at_depth d cs) (p.steps d same), p.leaves);
     }
 
 pub part-one : (d : ℕ) (content : Content) → is_root content ≡ false → size_of content ≤ 2 ^ 66 → IsPart d ((d, content) ∷ [])
-part-one d content plain small = part-below d (d + 1) content [] refl plain small (part-none (d + 1))
+part-one d content plain small = part-below d (d + 1) content [] refl plain (λ e. tt) small (part-none (d + 1))
 
 pub tree-of_part : (cs : List (ℕ × Content)) → IsPart 0 cs → IsTree cs
-tree-of_part cs p = let h : 0 ≤ 0 = omega arith in record { steps = p.steps 0 h; plain = p.plain }
+tree-of_part cs p = let h : 0 ≤ 0 = omega arith in record { steps = p.steps 0 h; plain = p.plain; leaves = p.leaves }
 
 -- an element with its attributes and what is below it
 pub part-element : (b : Bindings) (e : LitElement) (space depth below : ℕ) (content : Content) → below ≡ depth + 1
@@ -119,7 +128,7 @@ part-element b e space depth below content same is small attributes children =
     let next : below ≡ suc depth = omega arith in
     let parts = part-append below (at_depth below (in_order (filter_map (attribute_in b) e.attributes))) (contents_of_all b e.children own below) attributes children in
     let root : is_root content ≡ false = ap is_root is in
-    let whole = part-below depth below content _ same root small parts in
+    let whole = part-below depth below content _ same root (λ leaf. absurd (false≢true (sym (ap is_leaf is) ∙ leaf))) small parts in
     let e1 : ((depth, content) ∷ at_depth below (in_order (filter_map (attribute_in b) e.attributes))) ++ contents_of_all b e.children own below ≡ contents_of_element b e space depth =
     ap (λ c. ((depth, c) ∷ at_depth below (in_order (filter_map (attribute_in b) e.attributes))) ++ contents_of_all b e.children own below) is
     ∙ ap (λ d. ((depth, Element (element_name b (resolved b e.name own))) ∷ at_depth d (in_order (filter_map (attribute_in b) e.attributes))) ++ contents_of_all b e.children own d) next

@@ -8,12 +8,14 @@ use Rattle.xf_doc.specs.Texts.{KeptText}
 use Rattle.xf_tree.specs.declared.rows.Row.{Row}
 use Rattle.xf_tree.specs.declared.slot.Slot.{Slot}
 use Rattle.xf_tree.specs.Rows.{deeper, Sized}
+use Rattle.xf_tree.specs.Leaves.{parts_in, AreLeaves}
 use Rattle.xf_tree.specs.Tree.{node_of, kept_of, number_in, content_in, times, kept_times, AllLive, AllTops, AreSteps, depths, KeepsBut, KeepsButKept, IsSound, IsCounted, IsState}
 use Rattle.xf_tree.proofs.NodeLemmas.{times-append, eq-true}
 use Rattle.xf_tree.proofs.SizedLemmas.{sized-front}
 use Rattle.xf_tree.proofs.CutLemmas.{all-deep-zero}
 use Rattle.xf_tree.proofs.CountLemmas.{nodes-append, sizes-append}
 use Rattle.xf_tree.proofs.StepLemmas.{steps-parts}
+use Rattle.xf_tree.proofs.LeafLemmas.{leaves-parts, parts-append}
 use Rattle.xf_tree.proofs.ForestLemmas.{live-parts, tops-parts}
 
 -- these rows' keys have in both slabs the same
@@ -93,6 +95,8 @@ module _ (s s1 s2 : Slab Slot) (rows : List Row) (kept : List ℕ) (next total s
         kept_live = tt;
         live = live-same s s2 (take end rows) front-same (live-parts s (take end rows) (drop end rows) (subst (AllLive s) (sym (take-append-drop end rows)) state.sound.live)).0;
         tops = subst AllTops (sym dropped-nodes) (tops-parts (map (node_of s) (take end rows)) (map (node_of s) (drop end rows)) (subst AllTops whole state.sound.tops)).0;
+        leaves = subst (λ l. AreLeaves (parts_in l)) (sym dropped-nodes) (leaves-parts (parts_in (map (node_of s) (take end rows))) (parts_in (map (node_of s) (drop end rows)))
+            (subst AreLeaves (ap parts_in whole ∙ parts-append (map (node_of s) (take end rows)) (map (node_of s) (drop end rows))) state.sound.leaves)).0;
         apart = λ n. let e = ap (times n) dropped-nodes in omega (arith, both n);
         fresh = λ n h. let e = ap (times n) dropped-nodes in let a = ap (times n) whole ∙ times-append n (map (node_of s) (take end rows)) (map (node_of s) (drop end rows)) in omega (arith, state.sound.fresh n h);
       }

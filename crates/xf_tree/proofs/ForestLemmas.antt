@@ -75,16 +75,16 @@ whole-map g at old =
     ap (map g) (sym (take-append-drop at old)) ∙ map-append g (take at old) here
     ∙ ap (λ l. map g (take at old) ++ l) (ap (map g) (sym (tree-parts here)) ∙ map-append g (tree_of here) (after_tree here))
 
-node-ignores : (s : Slab Slot) → IgnoresSize (node_of s)
+pub node-ignores : (s : Slab Slot) → IgnoresSize (node_of s)
 node-ignores s r size = refl
 
-depth-ignores : IgnoresSize (λ (r : Row). r.depth)
+pub depth-ignores : IgnoresSize (λ (r : Row). r.depth)
 depth-ignores r size = refl
 
 abbrev pub lifted : ℕ → Node → Node
 lifted by y = record { number = y.number; depth = 0 + (y.depth - by); content = y.content }
 
-map-lifted : (s : Slab Slot) (by : ℕ) (xs : List Row) → map (node_of s) (map (raised by) xs) ≡ map (lifted by) (map (node_of s) xs)
+pub map-lifted : (s : Slab Slot) (by : ℕ) (xs : List Row) → map (node_of s) (map (raised by) xs) ≡ map (lifted by) (map (node_of s) xs)
 map-lifted s by [] = refl
 map-lifted s by (x ∷ xs) =
     let z : x.depth - by ≡ 0 + (x.depth - by) = omega arith in
@@ -191,7 +191,7 @@ pub tops-parts : (xs ys : List Node) → AllTops (xs ++ ys) → AllTops xs × Al
 tops-parts [] ys p = (tt, p)
 tops-parts (x ∷ xs) ys p = let i = tops-parts xs ys p.1 in ((p.0, i.0), i.1)
 
-tops-lifted : (by : ℕ) (xs : List Node) → AllTops xs → AllTops (map (lifted by) xs)
+pub tops-lifted : (by : ℕ) (xs : List Node) → AllTops xs → AllTops (map (lifted by) xs)
 tops-lifted by [] p = tt
 tops-lifted by (x ∷ xs) p = (λ e. let z = p.0 e in omega (arith, z), tops-lifted by xs p.1)
 
@@ -205,7 +205,7 @@ pub above-deep : (d : ℕ) (xs : List Row) → AllDeep d xs → AllAbove d (dept
 above-deep d [] h = tt
 above-deep d (x ∷ xs) h = (h.0, above-deep d xs h.1)
 
-first-low : (d most : ℕ) (ys : List Row) → deeper d ys ≡ 0 → d ≤ most → (more : ℕ) → AreSteps more (depths ys) → AreSteps most (depths ys)
+pub first-low : (d most : ℕ) (ys : List Row) → deeper d ys ≡ 0 → d ≤ most → (more : ℕ) → AreSteps more (depths ys) → AreSteps most (depths ys)
 first-low d most [] stops h more a = tt
 first-low d most (y ∷ ys) stops h more a = elim (cases_lt d y.depth) [
   | inl l ↦ absurd (let z : suc (deeper d ys) ≡ 0 = rw (lt-true d y.depth l) at stops in omega arith)
@@ -240,57 +240,3 @@ cut-stepped at old new h is_cut steps =
     let is : depths new ≡ depths (take at old) ++ (depths (after_tree (x ∷ xs)) ++ depths (map (raised x.depth) (tree_of (x ∷ xs)))) =
     cut-map g depth-ignores at old new is_cut ∙ ap (λ l. depths (take at old) ++ (depths (after_tree l) ++ depths (map (raised (top_depth l)) (tree_of l)))) sp in
     subst (AreSteps 0) (sym is) (cut-steps-parts (depths (take at old)) x xs (subst (AreSteps 0) was steps))
-
-pub cut-length : (at : ℕ) (old new : List Row) → IsCut at old new → length new ≡ length old
-cut-length at old new is_cut =
-    let g : Row → ℕ = λ r. r.depth in
-    let here = drop at old in
-    let low = map (raised (top_depth here)) (tree_of here) in
-    let a = ap length (cut-map g depth-ignores at old new is_cut) in
-    let b = ap length (whole-map g at old) in
-    omega (
-      arith,
-      a,
-      b,
-      length-map new g,
-      length-map old g,
-      length-append (map g (take at old)) (map g (after_tree here) ++ map g low),
-      length-append (map g (after_tree here)) (map g low),
-      length-append (map g (take at old)) (map g (tree_of here) ++ map g (after_tree here)),
-      length-append (map g (tree_of here)) (map g (after_tree here)),
-      length-map low g,
-      length-map (tree_of here) (raised (top_depth here)),
-      length-map (tree_of here) g,
-    )
-
-pub cut-sound : (s : Slab Slot) (at next : ℕ) (kept : List ℕ) (old new : List Row) → IsSound s old kept next → at < length old → Sized new → IsCut at old new → IsSound s new kept next
-cut-sound s at next kept old new sound h is_sized is_cut =
-    let f = node_of s in
-    let here = drop at old in
-    let p = live-parts s (take at old) here (subst (AllLive s) (sym (take-append-drop at old)) sound.live) in
-    let q = live-parts s (tree_of here) (after_tree here) (subst (AllLive s) (sym (tree-parts here)) p.1) in
-    let us = map f (take at old) in
-    let tree = map f (tree_of here) in
-    let after = map f (after_tree here) in
-    let t1 = tops-parts us (tree ++ after) (subst AllTops (whole-map f at old) sound.tops) in
-    let t2 = tops-parts tree after t1.1 in
-    let low : AllTops (map f (map (raised (top_depth here)) (tree_of here))) = subst AllTops (sym (map-lifted s (top_depth here) (tree_of here))) (tops-lifted (top_depth here) tree t2.0) in
-    record {
-      sized = is_sized;
-      steps = cut-stepped at old new h is_cut sound.steps;
-      few = omega (arith, sound.few, cut-length at old new is_cut);
-      tops = subst AllTops (sym (cut-map f (node-ignores s) at old new is_cut)) (tops-append us _ t1.0 (tops-append after _ t2.1 low));
-      apart = λ n. let e = cut-times s n at old new is_cut in let l = sound.apart n in omega (arith, e, l);
-      fresh = λ n g. let e = cut-times s n at old new is_cut in let l = sound.fresh n g in omega (arith, e, l);
-      kept_live = sound.kept_live;
-      live = subst (AllLive s) (sym is_cut) (live-shrunk s (length (tree_of here)) (top_depth here) (reverse (take at old)) _ (live-reverse s (take at old) p.0)
-          (live-append s (after_tree here) _ q.1 (live-raised s (top_depth here) (tree_of here) q.0)));
-    }
-
-pub cut-state : (s : Slab Slot) (at next total size room room2 : ℕ) (kept : List ℕ) (old new : List Row) → IsState s old kept next total size room → at < length old → Sized new → IsCut at old new
-    → room2 ≡ room → IsState s new kept next total size room2
-cut-state s at next total size room room2 kept old new state h is_sized is_cut same = record {
-  sound = cut-sound s at next kept old new state.sound h is_sized is_cut;
-  counted = cut-counted s at total size old new is_cut state.counted;
-  room = omega (arith, state.room, cut-length at old new is_cut);
-}

@@ -1,7 +1,7 @@
 -- A root over a tree: what the rows stand for.
 use Rattle.std.proofs.Common.{◌≡◌, ℕ, zero, suc, ◌+◌, ◌-◌, ◌<◌, ◌≤◌, ◌^◌, ◌==◌, Bool, true, false, if◌then◌else◌, List, [], ◌∷◌, ◌++◌, map, length, take, drop, get_or, Option, Some, None, IsSome, append_assoc, refl, sym, ap, ◌∙◌, subst, inl, inr, arith, length-append, length-take, length-drop, add-one}
 use Rattle.std.proofs.lemmas.List.{take-append-drop, map-append, length-map}
-use Rattle.std.proofs.lemmas.Bool.{cases_Bool, cases_lt, true≢false}
+use Rattle.std.proofs.lemmas.Bool.{cases_Bool, cases_lt, true≢false, false≢true}
 use Rattle.slab.specs.Slab.{Slab, get}
 use Rattle.xf_doc.specs.declared.content.Node.{Node}
 use Rattle.xf_doc.specs.declared.content.Content.{Content}
@@ -12,16 +12,20 @@ use Rattle.xf_doc.specs.Limits.{node_count, all_size, size_of}
 use Rattle.xf_doc.specs.Texts.{KeptText, Keeping}
 use Rattle.xf_tree.specs.declared.rows.Row.{Row}
 use Rattle.xf_tree.specs.declared.slot.Slot.{Slot}
-use Rattle.xf_tree.specs.Rows.{Sized, deeper, deepened, tree_of as row_tree, after_tree}
+use Rattle.xf_tree.specs.Rows.{Sized, deeper, deepened, tree_of as row_tree, after_tree, rest_of}
+use Rattle.xf_tree.specs.Leaves.{parts_in, AreLeaves}
 use Rattle.xf_tree.specs.Tree.{node_of, kept_of, number_in, content_in, times, kept_times, AllLive, AllTops, AreSteps, depths, KeepsLive, IsSound, IsCounted, IsState, StandsAt, keeping_of, no_row, IsOver}
 use Rattle.xf_tree.proofs.SizedLemmas.{lt-true, lt-false, AllDeep, sized-append, sized-front}
 use Rattle.xf_tree.proofs.CutLemmas.{all-deep-zero, tree-parts, stops-after, all-deeper}
 use Rattle.xf_tree.proofs.PasteLemmas.{deepened-sized, deepened-deeper}
+use Rattle.xf_tree.proofs.DeepenLemmas.{lowered, live-deepened, times-shifted, depths-deepened, no-roots}
 use Rattle.xf_tree.proofs.NodeLemmas.{parted-without, parted-from, times-append, eq-false, eq-true}
 use Rattle.xf_tree.proofs.PlaceLemmas.{split-at, stands, below-is, past-is, one_of}
 use Rattle.xf_tree.proofs.CountLemmas.{nodes-append, sizes-append, nodes-cons, sizes-cons, count-alike, size-alike}
 use Rattle.xf_tree.proofs.StepLemmas.{most_after, steps-append, steps-parts, steps-more, steps-raised}
+use Rattle.xf_tree.proofs.LeafLemmas.{leaves-top, leaves-parts, leaves-shifted, parts-append, first-not_deeper}
 use Rattle.xf_tree.proofs.ForestLemmas.{live-append, live-parts, tops-append, tops-parts, whole-map}
+use Rattle.xf_tree.proofs.StateLemmas.{without-leaves}
 use Rattle.xf_tree.proofs.ParentLemmas.{deep-prefix}
 use Rattle.xf_tree.proofs.PushLemmas.{kept-nodes, kept-live, insert-keeps, small-insert}
 use Rattle.xf_tree.proofs.AddLemmas.{kept-same, kept-texts}
@@ -39,30 +43,7 @@ instances-rest nodes front rest e f = same_end front rest (in_detached nodes) (s
     same_end [] vs ws h = h
     same_end (u ∷ us) vs ws h = let t : us ++ vs ≡ us ++ ws = cc in same_end us vs ws t
 
-lowered : (s : Slab Slot) (rows : List Row) → map (node_of s) (map (deepened 1) rows) ≡ map (shifted 0 1) (map (node_of s) rows)
-lowered s [] = refl
-lowered s (r ∷ rs) =
-    let d : r.depth + 1 ≡ 1 + (r.depth - 0) = omega arith in
-    ap (λ n. record { number = number_in (get s r.key); depth = n; content = content_in (get s r.key) } ∷ map (node_of s) (map (deepened 1) rs)) d
-    ∙ ap (λ l. record { number = number_in (get s r.key); depth = 1 + (r.depth - 0); content = content_in (get s r.key) } ∷ l) (lowered s rs)
-
-live-deepened : (s : Slab Slot) (rows : List Row) → AllLive s rows → AllLive s (map (deepened 1) rows)
-live-deepened s [] h = tt
-live-deepened s (r ∷ rs) h = (h.0, live-deepened s rs h.1)
-
-times-shifted : (n : ℕ) (xs : List Node) → times n (map (shifted 0 1) xs) ≡ times n xs
-times-shifted n [] = refl
-times-shifted n (x ∷ xs) = ap (λ t. (if x.number == n then 1 else 0) + t) (times-shifted n xs)
-
-depths-deepened : (rows : List Row) → depths (map (deepened 1) rows) ≡ map (λ d. d + 1) (depths rows)
-depths-deepened [] = refl
-depths-deepened (r ∷ rs) = ap (λ l. (r.depth + 1) ∷ l) (depths-deepened rs)
-
-no-roots : (s : Slab Slot) (d : ℕ) (rows : List Row) → AllDeep (d + 1) rows → AllTops (map (node_of s) rows) → AllTops (map (shifted 0 1) (map (node_of s) rows))
-no-roots s d [] deep tops = tt
-no-roots s d (r ∷ rs) deep tops = (λ e. absurd (let z = tops.0 e in omega (arith, z, deep.0)), no-roots s d rs deep.1 tops.1)
-
-first-zero : (rows : List Row) (more : ℕ) → deeper 0 rows ≡ 0 → AreSteps more (depths rows) → (most : ℕ) → AreSteps most (depths rows)
+pub first-zero : (rows : List Row) (more : ℕ) → deeper 0 rows ≡ 0 → AreSteps more (depths rows) → (most : ℕ) → AreSteps most (depths rows)
 first-zero [] more stops a most = tt
 first-zero (r ∷ rs) more stops a most = elim (cases_lt 0 r.depth) [
   | inl l ↦ absurd (let z : suc (deeper 0 rs) ≡ 0 = rw (lt-true 0 r.depth l) at stops in omega arith)
@@ -72,9 +53,6 @@ first-zero (r ∷ rs) more stops a most = elim (cases_lt 0 r.depth) [
 all-one : (rows : List Row) → deeper 0 (map (deepened 1) rows) ≡ length rows
 all-one [] = refl
 all-one (r ∷ rs) = let l : 0 < r.depth + 1 = omega arith in rw (lt-true 0 (r.depth + 1) l) (ap suc (all-one rs))
-
-abbrev pub rest_of : ℕ → List Row → List Row
-rest_of at old = take at old ++ after_tree (drop at old)
 
 -- the rows but those of a top's tree
 pub rest-sized : (at : ℕ) (old : List Row) → at < length old → (get_or old at no_row).depth ≡ 0 → Sized old
@@ -129,7 +107,7 @@ module _ (s s2 : Slab Slot) (n at key next total size spare : ℕ) (old new : Li
       let root : f2 R ≡ record { number = next; depth = 0; content = Root } = ap (λ o. record { number = number_in o; depth = 0; content = content_in o }) over.slot.changed in
       let a = kept-nodes s s2 A live-old.0 keeps in
       let b = kept-nodes s s2 B live-old.1 keeps in
-      let t = lowered s2 T ∙ ap (map (shifted 0 1)) (kept-nodes s s2 T live-old.2 keeps) in
+      let t = lowered s2 1 T ∙ ap (map (shifted 0 1)) (kept-nodes s s2 T live-old.2 keeps) in
       ap (map f2) over.rows ∙ map-append f2 A ((R ∷ map (deepened 1) T) ++ B) ∙ ap (λ l. map f2 A ++ l) (map-append f2 (R ∷ map (deepened 1) T) B)
       ∙ ap (λ l. l ++ ((f2 R ∷ map f2 (map (deepened 1) T)) ++ map f2 B)) a
       ∙ ap (λ r. map (node_of s) A ++ ((r ∷ map f2 (map (deepened 1) T)) ++ map f2 B)) root
@@ -194,7 +172,7 @@ module _ (s s2 : Slab Slot) (n at key next total size spare : ℕ) (old new : Li
       let zero_first : deeper 0 T ≡ 0 = ap (λ l. deeper 0 (row_tree l)) (split-at at old no_row here.within) ∙ rw (lt-false 0 (get_or old at no_row).depth (omega arith)) refl in
       let t0 : AreSteps 0 (depths T) = first-zero T _ zero_first parts.0 0 in
       let one : 0 + 1 ≡ suc 0 = omega arith in
-      let t1 : AreSteps (suc 0) (depths (map (deepened 1) T)) = subst (AreSteps (suc 0)) (sym (depths-deepened T)) (subst (λ m. AreSteps m (map (λ d. d + 1) (depths T))) one (steps-raised 1 0 (depths T) t0)) in
+      let t1 : AreSteps (suc 0) (depths (map (deepened 1) T)) = subst (AreSteps (suc 0)) (sym (depths-deepened 1 T)) (subst (λ m. AreSteps m (map (λ d. d + 1) (depths T))) one (steps-raised 1 0 (depths T) t0)) in
       let least : 0 ≤ most_after 0 (depths A) = omega arith in
       let is : depths new ≡ depths A ++ ((0 ∷ depths (map (deepened 1) T)) ++ depths B) =
       ap depths over.rows ∙ map-append g A ((R ∷ map (deepened 1) T) ++ B) ∙ ap (λ l. depths A ++ l) (map-append g (R ∷ map (deepened 1) T) B) in
@@ -208,7 +186,7 @@ module _ (s s2 : Slab Slot) (n at key next total size spare : ℕ) (old new : Li
       let R : Row = record { key = key; size = length T + 1; depth = 0 } in
       let root : IsSome (get s2 key) = subst IsSome (sym over.slot.changed) refl in
       subst (AllLive s2) (sym over.rows) (live-append s2 A ((R ∷ map (deepened 1) T) ++ B) (kept-live s s2 A live-old.0 keeps)
-      (live-append s2 (R ∷ map (deepened 1) T) B (root, live-deepened s2 T (kept-live s s2 T live-old.2 keeps)) (kept-live s s2 B live-old.1 keeps)))
+      (live-append s2 (R ∷ map (deepened 1) T) B (root, live-deepened s2 1 T (kept-live s s2 T live-old.2 keeps)) (kept-live s s2 B live-old.1 keeps)))
 
   over-tops : is_root (content_in (get s (get_or old at no_row).key)) ≡ false → AllTops (map (node_of s2) new)
   over-tops plain =
@@ -227,9 +205,28 @@ module _ (s s2 : Slab Slot) (n at key next total size spare : ℕ) (old new : Li
       let deep = deep-prefix x.depth (deeper x.depth xs) xs few in
       let sp = split-at at old no_row here.within in
       let vt = subst (λ l. AllTops (map f (row_tree l))) sp v.0 in
-      let tree : AllTops (map (shifted 0 1) (map f (row_tree (x ∷ xs)))) = (λ e. absurd (true≢false (sym e ∙ plain)), no-roots s x.depth (take (deeper x.depth xs) xs) deep vt.1) in
+      let tree : AllTops (map (shifted 0 1) (map f (row_tree (x ∷ xs)))) = (λ e. absurd (true≢false (sym e ∙ plain)), no-roots s x.depth 1 (take (deeper x.depth xs) xs) deep vt.1) in
       let tree2 : AllTops (map (shifted 0 1) (map f T)) = subst (λ l. AllTops (map (shifted 0 1) (map f (row_tree l)))) (sym sp) tree in
       subst AllTops (sym over-nodes) (tops-append A ((root ∷ map (shifted 0 1) (map f T)) ++ B) ab.0 (tops-append (root ∷ map (shifted 0 1) (map f T)) B (λ e. refl, tree2) ab.1))
+
+  over-leaves : AreLeaves (parts_in (map (node_of s2) new))
+  over-leaves =
+      let f = node_of s in
+      let us = map f (take at old) in
+      let after = map f (after_tree (drop at old)) in
+      let T = map f (row_tree (drop at old)) in
+      let A = map f (take over.place (rest_of at old)) in
+      let B = map f (drop over.place (rest_of at old)) in
+      let root : Node = record { number = next; depth = 0; content = Root } in
+      let below = root ∷ map (shifted 0 1) T in
+      let w = without-leaves s at old here.within state.sound.leaves in
+      let both : us ++ after ≡ A ++ B = sym (map-append f (take at old) (after_tree (drop at old))) ∙ ap (map f) (sym (take-append-drop over.place (rest_of at old)))
+      ∙ map-append f (take over.place (rest_of at old)) (drop over.place (rest_of at old)) in
+      let ab = leaves-parts (parts_in A) (parts_in B) (subst AreLeaves (sym (parts-append us after) ∙ ap parts_in both ∙ parts-append A B) w.0) in
+      let back = leaves-top (parts_in below) (parts_in B) (first-not_deeper s 0 (drop over.place (rest_of at old)) over.stops) (λ e. absurd (false≢true e), leaves-shifted 0 1 T w.1) ab.1 in
+      let is : parts_in (map (node_of s2) new) ≡ parts_in A ++ (parts_in below ++ parts_in B) = ap parts_in over-nodes ∙ parts-append A (below ++ B) ∙ ap (λ l. parts_in A ++ l) (parts-append below B) in
+      let first : 0 ≤ 0 = omega arith in
+      subst AreLeaves (sym is) (leaves-top (parts_in A) (parts_in below ++ parts_in B) first ab.0 back)
 
   over-sound : is_root (content_in (get s (get_or old at no_row).key)) ≡ false → length old + 1 + length kept < 2 ^ 31 → IsSound s2 new kept (next + 1)
   over-sound plain few = record {
@@ -239,15 +236,16 @@ module _ (s s2 : Slab Slot) (n at key next total size spare : ℕ) (old new : Li
     live = over-live;
     kept_live = kept-texts s s2 kept state.sound.kept_live keeps;
     tops = over-tops plain;
+    leaves = over-leaves;
     apart = λ m.
-        let t = more (times m) (times-append m) (times-shifted m) _ refl in
+        let t = more (times m) (times-append m) (times-shifted m 1) _ refl in
         let k = ap (kept_times m) (kept-same s s2 kept state.sound.kept_live keeps) in
         elim (same-key next m) [
           | inl ne ↦ (let z = ap {B = ℕ} (λ b. if b then 1 else 0) (eq-false next m ne) in omega (arith, state.sound.apart m))
           | inr e ↦ (let z = ap {B = ℕ} (λ b. if b then 1 else 0) (eq-true next m e) in let h : next ≤ m = omega arith in omega (arith, state.sound.fresh m h))
         ];
     fresh = λ m h.
-        let t = more (times m) (times-append m) (times-shifted m) _ refl in
+        let t = more (times m) (times-append m) (times-shifted m 1) _ refl in
         let k = ap (kept_times m) (kept-same s s2 kept state.sound.kept_live keeps) in
         let z = ap {B = ℕ} (λ b. if b then 1 else 0) (eq-false next m (λ e. let w : ⊥ = omega arith in w)) in
         let g : next ≤ m = omega arith in

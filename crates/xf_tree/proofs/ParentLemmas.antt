@@ -18,11 +18,11 @@ use Rattle.xf_tree.proofs.NodeLemmas.{Parted}
 use Rattle.xf_tree.proofs.StackLemmas.{stack, still-shut, parted-ancestors}
 
 -- what is open after these nodes, which come from the nearest on
-abbrev opened : List Node → List Node
+abbrev pub opened : List Node → List Node
 opened [] = []
 opened (y ∷ ys) = y ∷ still_above y.depth (opened ys)
 
-stack-opened : (ys us : List Node) → stack (opened ys) us ≡ opened (reverse us ++ ys)
+pub stack-opened : (ys us : List Node) → stack (opened ys) us ≡ opened (reverse us ++ ys)
 stack-opened ys [] = refl
 stack-opened ys (u ∷ us) =
     let turn : reverse (u ∷ us) ++ ys ≡ reverse us ++ (u ∷ ys) = ap (λ l. l ++ ys) (reverse-append (u ∷ []) us) ∙ append_assoc (reverse us) (u ∷ []) ys in
@@ -84,7 +84,7 @@ deep-append : (d : ℕ) (xs ys : List Row) → AllDeep d xs → AllDeep d ys →
 deep-append d [] ys p q = q
 deep-append d (x ∷ xs) ys p q = (p.0, deep-append d xs ys p.1 q)
 
-deep-reverse : (d : ℕ) (xs : List Row) → AllDeep d xs → AllDeep d (reverse xs)
+pub deep-reverse : (d : ℕ) (xs : List Row) → AllDeep d xs → AllDeep d (reverse xs)
 deep-reverse d [] p = tt
 deep-reverse d (x ∷ xs) p = subst (AllDeep d) (sym (reverse-append (x ∷ []) xs)) (deep-append d (reverse xs) (x ∷ []) (deep-reverse d xs p.1) (p.0, tt))
 

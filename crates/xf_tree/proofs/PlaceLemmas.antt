@@ -57,7 +57,7 @@ absent-more s n i rows h none other =
     let e = eq-false (number_in (get s x.key)) n other in
     a ∙ b ∙ c ∙ rw (none, e) refl
 
-has-true : (n : ℕ) (xs : List Node) → 1 ≤ times n xs → has_number n xs ≡ true
+pub has-true : (n : ℕ) (xs : List Node) → 1 ≤ times n xs → has_number n xs ≡ true
 has-true n xs h = elim (cases_Bool (has_number n xs)) [ inl e ↦ e | inr e ↦ absurd (omega (arith, times-absent n xs e)) ]
 
 pub times-at : (s : Slab Slot) (n at : ℕ) (rows : List Row) → at < length rows → number_in (get s (get_or rows at no_row).key) ≡ n → 1 ≤ times n (map (node_of s) rows)

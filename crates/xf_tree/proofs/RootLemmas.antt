@@ -70,7 +70,7 @@ pub root-here : (s : Slab Slot) (at : ℕ) (rows : List Row) → at < length row
     → Some (number_in (get s (get_or rows at no_row).key)) ≡ root_of 0 (map (node_of s) (drop at rows))
 root-here s at rows h is = sym (ap (λ l. root_of 0 (map (node_of s) l)) (split-at at rows no_row h) ∙ rw is refl)
 
-past-end : (at : ℕ) (rows : List Row) → length rows ≤ at → drop at rows ≡ []
+pub past-end : (at : ℕ) (rows : List Row) → length rows ≤ at → drop at rows ≡ []
 past-end zero [] h = refl
 past-end zero (x ∷ xs) h = absurd (omega arith)
 past-end (suc at) [] h = refl

@@ -7,6 +7,7 @@ use Rattle.xf_doc.specs.declared.content.Content.{Content}
 use Rattle.xf_doc.specs.Plant.{Contents, lit_contents, element_contents, contents_of, is_less, written_of}
 use Rattle.xf_doc.specs.Limits.{Limits, size_of}
 use Rattle.xf_doc.specs.Forest.{own_text, is_element}
+use Rattle.xf_tree.specs.Leaves.{AreLeaves}
 use Rattle.xf_tree.specs.Tree.{AreSteps, AllPlain}
 
 abbrev pub contents_of_element : Bindings → LitElement → Contents
@@ -24,6 +25,7 @@ pub record IsPart (depth : ℕ) (contents : List (ℕ × Content)) : Type 0 wher
   pub steps : (most : ℕ) → depth ≤ most → AreSteps most (map (λ p. p.0) contents)
   pub deep : AllFrom depth (map (λ p. p.0) contents)
   pub plain : AllPlain contents
+  pub leaves : AreLeaves contents
 
 -- each of these comes before a content by the bytes of written names
 abbrev pub AllLess : Content → List Content → Type 0

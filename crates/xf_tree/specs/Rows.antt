@@ -26,10 +26,6 @@ shrunk by depth (y ∷ ys) tail =
     if nat_lt y.depth depth then shrunk by y.depth ys (record { key = y.key; size = y.size - by; depth = y.depth } ∷ tail)
     else shrunk by depth ys (y ∷ tail)
 
--- the part from one place to before another turned round
-abbrev pub flipped : {X : Type 0} → ℕ → ℕ → List X → List X
-flipped from to xs = take from xs ++ (reverse (take (to - from) (drop from xs)) ++ drop to xs)
-
 -- the part from the first place to before the second stands behind that to before the third
 abbrev pub rotated : {X : Type 0} → ℕ → ℕ → ℕ → List X → List X
 rotated at mid end xs = take at xs ++ ((take (end - mid) (drop mid xs) ++ take (mid - at) (drop at xs)) ++ drop end xs)
@@ -49,6 +45,10 @@ after_tree (x ∷ xs) = drop (deeper x.depth xs) xs
 abbrev pub top_depth : List Row → ℕ
 top_depth [] = 0
 top_depth (x ∷ xs) = x.depth
+
+-- the rows but those of the tree at a place
+abbrev pub rest_of : ℕ → List Row → List Row
+rest_of at rows = take at rows ++ after_tree (drop at rows)
 
 -- the new rows are the old ones with the tree at this place at the end
 abbrev pub IsCut : ℕ → List Row → List Row → Type 0

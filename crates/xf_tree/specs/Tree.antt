@@ -13,6 +13,7 @@ use Rattle.xf_doc.specs.Texts.{Keeping, KeptText}
 use Rattle.xf_tree.specs.declared.rows.Row.{Row}
 use Rattle.xf_tree.specs.declared.slot.Slot.{Slot}
 use Rattle.xf_tree.specs.Rows.{Sized, deeper, deepened, tree_of, after_tree}
+use Rattle.xf_tree.specs.Leaves.{AreLeaves, parts_in}
 
 -- ---- what a key stands for
 
@@ -78,6 +79,7 @@ pub record IsSound (slots : Slab Slot) (rows : List Row) (kept : List ℕ) (next
   pub live : AllLive slots rows
   pub kept_live : AllKept slots kept
   pub tops : AllTops (map (node_of slots) rows)
+  pub leaves : AreLeaves (parts_in (map (node_of slots) rows))
   pub apart : (n : ℕ) → times n (map (node_of slots) rows) + kept_times n (map (kept_of slots) kept) ≤ 1
   pub fresh : (n : ℕ) → next ≤ n → times n (map (node_of slots) rows) + kept_times n (map (kept_of slots) kept) ≡ 0
 
@@ -152,10 +154,11 @@ abbrev pub AllPlain : List (ℕ × Content) → Type 0
 AllPlain [] = Unit {0}
 AllPlain (p ∷ ps) = (is_root p.1 ≡ false) × (size_of p.1 ≤ 2 ^ 66) × AllPlain ps
 
--- the contents of a tree with their depths: no root is among them, and none is larger than memory allows
+-- the contents of a tree with their depths: no root is among them, no leaf has anything below it, and none is larger than memory allows
 pub record IsTree (contents : List (ℕ × Content)) : Type 0 where
   pub steps : AreSteps 0 (map (λ p. p.0) contents)
   pub plain : AllPlain contents
+  pub leaves : AreLeaves contents
 
 -- the sizes of all contents
 abbrev pub size_of_all : List (ℕ × Content) → ℕ

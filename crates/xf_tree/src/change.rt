@@ -49,7 +49,8 @@ impl Forest {
         let number = number_of(&self.slots, key);
         let place = place_of(&self.rows, &self.slots, above, at);
         cut_in(&mut self.rows, at);
-        note_rows(&mut self.hints, &self.rows, at);
+        // It went to the end, so all rows from its old place on have moved.
+        note_rows(&mut self.hints, &self.rows, at, self.rows.len());
         (NodeId { number, place: key }, place)
     }
 

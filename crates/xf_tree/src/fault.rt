@@ -16,7 +16,7 @@ use xf_name::{Lit, LitElement, NameFault, Pair, Prefixes};
 
 const TEXT_LIMIT: usize = 65536;
 
-const DEPTH_LIMIT: u32 = 100;
+pub const DEPTH_LIMIT: u32 = 100;
 
 /// The fault of the first element that has one.
 pub fn lit_fault(prefixes: &Prefixes, lit: &Lit) -> Result<Option<TreeFault>, AllocError>

@@ -1,6 +1,7 @@
 //! The forest of instance data: rows in document order over a slab of contents.
 #![tactic(auto)]
 
+mod attach;
 mod change;
 mod fault;
 mod forest;

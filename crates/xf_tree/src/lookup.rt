@@ -134,19 +134,26 @@ fn is_detached_at(rows: &[Row], slots: &Slab<Slot>, at: usize) -> bool
 }
 
 /// Whether the row at a place has this depth, and is of an attribute, where one is wanted, or of none, where none is.
-fn is_kin_at(rows: &[Row], slots: &Slab<Slot>, at: usize, depth: u32, wanted: bool) -> bool
+pub fn is_kin_at(rows: &[Row], slots: &Slab<Slot>, at: usize, depth: u32, wanted: bool) -> bool
     requires { at < length rows.now }
     ensures { result ≡ is_kin depth wanted (node_of slots.now (slice_index_or rows.now at no_row)) }
 {
     rows[at].depth == depth && is_of_kind(slots, rows[at].key, wanted)
 }
 
-/// Notes anew where the rows from a place on stand. What is noted is only a hint, so nothing is promised of it.
-pub fn note_rows(hints: &mut [Hint], rows: &[Row], from: usize) {
-    for at in from..rows.len() {
+/// Notes anew where the rows from one place to before another stand. What is noted is only a hint, so nothing is promised of it.
+pub fn note_rows(hints: &mut [Hint], rows: &[Row], from: usize, end: usize) {
+    for at in from..end.min(rows.len()) {
         let key = rows[at].key;
         if key < hints.len() {
             hints[key].row = at;
         }
+    }
+}
+
+/// Notes whose child the node under a key is.
+pub fn note_parent(hints: &mut [Hint], key: usize, parent: usize) {
+    if key < hints.len() {
+        hints[key].parent = parent;
     }
 }

@@ -5,7 +5,7 @@ ghost use Rattle.xf_doc.specs.Limits.{size_of};
 ghost use Rattle.xf_tree.specs.Rows.{Sized};
 ghost use Rattle.xf_tree.specs.Tree.{content_in, no_row, AllLive, AreSteps, depths, KeepsLive, IsOver};
 
-use crate::lookup::{Hint, note_rows, tops_end};
+use crate::lookup::{Hint, note_parent, note_rows, tops_end};
 use crate::rows::{Row, lift_root_in, put_last};
 use crate::slot::Slot;
 use crate::tree::{hint_at, push_node};
@@ -38,13 +38,6 @@ pub fn root_over(
     lift_root_in(rows, place, from);
     hint_at(hints, key);
     note_parent(hints, top, key);
-    note_rows(hints, rows, place);
+    note_rows(hints, rows, place, rows.len());
     key
-}
-
-/// Notes whose child the node under a key is.
-fn note_parent(hints: &mut [Hint], key: usize, parent: usize) {
-    if key < hints.len() {
-        hints[key].parent = parent;
-    }
 }

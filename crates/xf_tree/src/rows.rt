@@ -1,6 +1,6 @@
 ghost use Rattle.std.specs.Prelude.{◌≡◌, ℕ, ◌+◌, ◌-◌, ◌<◌, ◌≤◌, ◌^◌, length, take, drop, reverse, map, ◌++◌, vec_capacity};
 ghost use Rattle.std.specs.List.{All};
-ghost use Rattle.xf_tree.specs.Rows.{grown, shrunk, flipped, rotated, raised, Sized, IsCut, IsRooted, tree_of, after_tree, raised_part, deepened, deepened_part, deeper, top_depth, IsPaste};
+ghost use Rattle.xf_tree.specs.Rows.{grown, shrunk, rotated, raised, Sized, IsCut, IsRooted, tree_of, after_tree, raised_part, deepened, deepened_part, deeper, top_depth, IsPaste};
 
 /// A node's place in document order: where its slot is, how many nodes its tree has, its depth.
 #[derive(Clone, Copy, Debug)]
@@ -45,15 +45,6 @@ pub fn shrink(rows: &mut [Row], at: usize, depth: u32, by: usize)
     }
 }
 
-/// Turns the rows from one place to before another round.
-pub fn flip(rows: &mut [Row], from: usize, to: usize)
-    requires first { from ≤ to }
-    requires second { to ≤ length rows.old }
-    ensures { rows.new ≡ flipped from to rows.old }
-{
-    rows[from..to].reverse();
-}
-
 /// Moves the rows from `at` to before `mid` behind those to before `end`.
 pub fn rotate(rows: &mut [Row], at: usize, mid: usize, end: usize)
     requires first { at ≤ mid }
@@ -61,9 +52,7 @@ pub fn rotate(rows: &mut [Row], at: usize, mid: usize, end: usize)
     requires third { end ≤ length rows.old }
     ensures { rows.new ≡ rotated at mid end rows.old }
 {
-    flip(rows, at, mid);
-    flip(rows, mid, end);
-    flip(rows, at, end);
+    rows[at..end].rotate_left(mid - at);
 }
 
 /// Makes all rows less deep.
@@ -156,6 +145,22 @@ pub fn paste(rows: &mut [Row], from: usize, to: usize, depth: u32)
     deepen(rows, from, end, depth);
     rotate(rows, to, from, end);
     grow(rows, to, depth, end - from);
+}
+
+/// `paste` on a vector.
+pub fn paste_in(rows: &mut Vec<Row>, from: usize, to: usize, depth: u32)
+    requires order { to ≤ from }
+    requires within { from < length rows.old.items }
+    requires few { length rows.old.items < 2 ^ 32 }
+    requires sized { Sized rows.old.items }
+    requires alone { top_depth (drop from rows.old.items) ≡ 0 }
+    requires place { deeper depth (drop to rows.old.items) ≡ 0 }
+    requires fits { All (λ r. r.depth + depth < 2 ^ 32) rows.old.items }
+    ensures sized { Sized rows.new.items }
+    ensures answer { IsPaste from to depth rows.old.items rows.new.items }
+    ensures room { vec_capacity rows.new ≡ vec_capacity rows.old }
+{
+    paste(rows, from, to, depth);
 }
 
 /// Puts the last row before the rows from `from` on, which go one deeper below it, and all of these at an earlier place.

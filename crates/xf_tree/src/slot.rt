@@ -2,10 +2,12 @@
 ghost use Rattle.std.specs.Prelude.{◌≡◌, ◌-◌, ◌≤◌, ◌^◌, ℕ, not, cond, map, option_map, None, IfOk};
 ghost use Rattle.slab.specs.Slab.{get, Updates};
 ghost use Rattle.xf_doc.specs.Limits.{node_count, all_size, size_of};
-ghost use Rattle.xf_doc.specs.Forest.{is_root, is_attribute, kind_of, name_in, own_text};
+ghost use Rattle.xf_doc.specs.Forest.{is_root, is_element, is_attribute, kind_of, name_in, own_text};
+ghost use Rattle.xf_doc.specs.Plant.{is_less, written_of};
 ghost use Rattle.xf_doc.specs.StringValue.{characters};
 ghost use Rattle.xf_tree.specs.Tree.{number_in, content_in, same_kind, node_of, kept_of, times, KeepsBut, KeepsButKept};
 
+use crate::name::written_less;
 use crate::rows::Row;
 use slab::Slab;
 use std::alloc::{AllocError, Global};
@@ -106,6 +108,29 @@ pub fn is_attribute_at(slots: &Slab<Slot>, key: usize) -> bool
             _ => false,
         },
         None => false,
+    }
+}
+
+pub fn is_element_at(slots: &Slab<Slot>, key: usize) -> bool
+    ensures { result ≡ is_element (content_in (get slots.now key)) }
+{
+    match slots.get(key) {
+        Some(slot) => match &slot.content {
+            Content::Element(_) => true,
+            _ => false,
+        },
+        None => false,
+    }
+}
+
+/// Whether the first node's name, as it is written, comes before the second's, by bytes.
+pub fn is_less_at(slots: &Slab<Slot>, first: usize, second: usize) -> bool
+    ensures { result ≡ is_less (written_of (content_in (get slots.now first))) (written_of (content_in (get slots.now second))) }
+{
+    match (slots.get(first), slots.get(second)) {
+        (Some(one), Some(other)) => written_less(&one.content, &other.content),
+        (None, Some(other)) => written_less(&Content::Root, &other.content),
+        _ => false,
     }
 }
 

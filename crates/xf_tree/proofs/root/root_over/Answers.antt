@@ -3,10 +3,10 @@ use Rattle.std.specs.List.{All}
 use Rattle.std.proofs.lemmas.List.{get_or_default}
 use Rattle.xf_doc.specs.Changes.{in_instances}
 use Rattle.xf_tree.specs.declared.rows.Row.{Row}
-use Rattle.xf_tree.specs.Rows.{Sized, deeper, deepened, tree_of, after_tree}
+use Rattle.xf_tree.specs.Rows.{Sized, deeper, deepened, tree_of, after_tree, rest_of}
 use Rattle.xf_tree.specs.Tree.{node_of, no_row}
 use Rattle.xf_tree.proofs.CutLemmas.{size-at, tree-within}
-use Rattle.xf_tree.proofs.OverLemmas.{rest-sized, rest_of}
+use Rattle.xf_tree.proofs.OverLemmas.{rest-sized}
 use Rattle.xf_tree.proofs.RootedLemmas.{rooted-is, rest-front, depths-fit}
 use Rattle.xf_tree.proofs.root.root_over.Goals as goal
 

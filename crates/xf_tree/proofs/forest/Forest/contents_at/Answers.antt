@@ -12,7 +12,7 @@ use Rattle.xf_tree.specs.Rows.{tree_of as row_tree}
 use Rattle.xf_tree.specs.Tree.{StandsAt, IsTree, node_of, part_of, no_row}
 use Rattle.xf_tree.proofs.CutLemmas.{tree-is-front}
 use Rattle.xf_tree.proofs.PlaceLemmas.{stands, one_of}
-use Rattle.xf_tree.proofs.AddLemmas.{contents-mean, contents-tree, copied-stands, nothing-copied}
+use Rattle.xf_tree.proofs.CopyLemmas.{contents-mean, contents-tree, copied-stands, nothing-copied}
 use Rattle.xf_tree.proofs.forest.Forest.contents_at.Goals as goal
 use Rattle.xf_tree.proofs.forest.Forest.contents_at.Goals.{After-contents_of}
 

@@ -15,7 +15,8 @@ use Rattle.xf_tree.proofs.StackLemmas.{absent-parent}
 use Rattle.xf_tree.proofs.ParentLemmas.{parent-means}
 use Rattle.xf_tree.proofs.PlaceLemmas.{one_of}
 use Rattle.xf_tree.proofs.AboveLemmas.{above-is, above-inside, child-depth, standing-means}
-use Rattle.xf_tree.proofs.ForestLemmas.{cut-means, cut-state}
+use Rattle.xf_tree.proofs.ForestLemmas.{cut-means}
+use Rattle.xf_tree.proofs.StateLemmas.{cut-state}
 use Rattle.xf_tree.proofs.forest.Forest.detach.Goals as goal
 use Rattle.xf_tree.proofs.forest.Forest.detach.Goals.{In_default, In_default-parent_row, After-deref-5}
 

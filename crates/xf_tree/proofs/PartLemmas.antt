@@ -1,0 +1,203 @@
+-- Where a tree goes among the nodes after a parent: what stands before the place and after it.
+use Rattle.std.proofs.Common.{◌≡◌, ℕ, zero, suc, ◌<◌, ◌≤◌, ◌==◌, ◌&&◌, ◌||◌, Bool, true, false, List, [], ◌∷◌, ◌++◌, map, length, take, drop, nat_lt, if◌then◌else◌, append-nil, refl, sym, ap, subst, inl, inr, arith}
+use Rattle.std.proofs.lemmas.Bool.{cases_lt, cases_Bool, true≢false, or_parts}
+use Rattle.slab.specs.Slab.{Slab, get}
+use Rattle.xf_doc.specs.declared.content.Node.{Node}
+use Rattle.xf_doc.specs.declared.content.Content.{Content}
+use Rattle.xf_doc.specs.declared.content.Content.TheVariants.{Root, Element, Attribute, Text}
+use Rattle.xf_doc.specs.Changes.{at_place, moved_to, with_child, with_attribute, with_part}
+use Rattle.xf_doc.specs.Forest.{is_attribute}
+use Rattle.xf_doc.specs.Plant.{is_less, written_of}
+use Rattle.xf_tree.specs.declared.rows.Row.{Row}
+use Rattle.xf_tree.specs.declared.slot.Slot.{Slot}
+use Rattle.xf_tree.specs.Rows.{deeper}
+use Rattle.xf_tree.specs.Leaves.{is_leaf, parts_in, NotDeeper, AreLeaves}
+use Rattle.xf_tree.specs.Tree.{node_of, content_in}
+use Rattle.xf_tree.specs.Below.{child_at, attribute_at, part_at}
+use Rattle.xf_tree.proofs.SizedLemmas.{lt-true, lt-false, AllDeep}
+use Rattle.xf_tree.proofs.NodeLemmas.{eq-false}
+use Rattle.xf_tree.proofs.StackLemmas.{lt-from, le-from}
+use Rattle.xf_tree.proofs.BelowLemmas.{eq-is}
+
+-- what the test of an attribute says
+before-parts : (p q r : Bool) → (p && q && r) ≡ true → (p ≡ true) × (q ≡ true)
+before-parts true true r e = (refl, refl)
+before-parts true false r e = absurd (true≢false (sym e))
+before-parts false q r e = absurd (true≢false (sym e))
+
+lowest : (d e n : ℕ) → e ≤ d → (if nat_lt d e then suc n else 0) ≡ 0
+lowest d e n h = rw (lt-false d e h) refl
+
+-- ---- the place on a list of nodes
+
+child-is : (d place : ℕ) (tree ys : List Node) → with_child d place tree ys ≡ take (child_at d place ys) ys ++ (tree ++ drop (child_at d place ys) ys)
+child-is d place tree [] = sym (append-nil tree)
+child-is d place tree (y ∷ ys) = elim (cases_Bool (nat_lt y.depth d)) [
+  | inl a ↦ rw a refl
+  | inr a ↦ elim (cases_Bool (nat_lt d y.depth || is_attribute y.content)) [
+    | inl b ↦ rw (a, b) (ap (λ l. y ∷ l) (child-is d place tree ys))
+    | inr b ↦ rw (a, b) (child place (λ left. child-is d left tree ys))
+  ]
+]
+  where
+    child : (place : ℕ) → ((left : ℕ) → with_child d left tree ys ≡ take (child_at d left ys) ys ++ (tree ++ drop (child_at d left ys) ys)) → at_place place (tree ++ (y ∷ ys)) (λ left. y ∷ with_child d left tree ys)
+        ≡ take (at_place place 0 (λ left. suc (child_at d left ys))) (y ∷ ys) ++ (tree ++ drop (at_place place 0 (λ left. suc (child_at d left ys))) (y ∷ ys))
+    child zero later = refl
+    child (suc left) later = ap (λ l. y ∷ l) (later left)
+
+attribute-is : (d : ℕ) (name : List ℕ) (tree ys : List Node) → with_attribute d name tree ys ≡ take (attribute_at d name ys) ys ++ (tree ++ drop (attribute_at d name ys) ys)
+attribute-is d name tree [] = sym (append-nil tree)
+attribute-is d name tree (y ∷ ys) = elim (cases_Bool ((y.depth == d) && is_attribute y.content && is_less (written_of y.content) name)) [
+  | inl a ↦ rw a (ap (λ l. y ∷ l) (attribute-is d name tree ys))
+  | inr a ↦ rw a refl
+]
+
+pub part-is : (d place : ℕ) (x : Node) (xs ys : List Node)
+    → with_part d place (x ∷ xs) ys ≡ take (part_at d place x.content ys) ys ++ (moved_to d (x ∷ xs) ++ drop (part_at d place x.content ys) ys)
+part-is d place x xs ys = elim (cases_Bool (is_attribute x.content)) [
+  | inl a ↦ rw a (attribute-is d (written_of x.content) (moved_to d (x ∷ xs)) ys)
+  | inr a ↦ rw a (child-is d place (moved_to d (x ∷ xs)) ys)
+]
+
+-- ---- the place on rows
+
+module _ (s : Slab Slot) where
+  abbrev nodes : List Row → List Node
+  nodes rows = map (node_of s) rows
+
+  -- it is among them
+  child-within : (d place : ℕ) (ys : List Node) → child_at d place ys ≤ length ys
+  child-within d place [] = omega arith
+  child-within d place (y ∷ ys) = elim (cases_Bool (nat_lt y.depth d)) [
+    | inl a ↦ rw a (omega arith)
+    | inr a ↦ elim (cases_Bool (nat_lt d y.depth || is_attribute y.content)) [
+      | inl b ↦ rw (a, b) (omega (arith, child-within d place ys))
+      | inr b ↦ rw (a, b) (child place (λ left. child-within d left ys))
+    ]
+  ]
+    where
+      child : (place : ℕ) → ((left : ℕ) → child_at d left ys ≤ length ys) → at_place place 0 (λ left. suc (child_at d left ys)) ≤ suc (length ys)
+      child zero later = omega arith
+      child (suc left) later = omega (arith, later left)
+
+  attribute-within : (d : ℕ) (name : List ℕ) (ys : List Node) → attribute_at d name ys ≤ length ys
+  attribute-within d name [] = omega arith
+  attribute-within d name (y ∷ ys) = elim (cases_Bool ((y.depth == d) && is_attribute y.content && is_less (written_of y.content) name)) [
+    | inl a ↦ rw a (omega (arith, attribute-within d name ys))
+    | inr a ↦ rw a (omega arith)
+  ]
+
+  pub part-within : (d place : ℕ) (c : Content) (ys : List Node) → part_at d place c ys ≤ length ys
+  part-within d place c ys = elim (cases_Bool (is_attribute c)) [
+    | inl a ↦ rw a (attribute-within d (written_of c) ys)
+    | inr a ↦ rw a (child-within d place ys)
+  ]
+
+  -- tops that follow change nothing
+  child-front : (d place : ℕ) (xs ys : List Row) → 0 < d → deeper 0 ys ≡ 0 → child_at d place (nodes (xs ++ ys)) ≡ child_at d place (nodes xs)
+  child-front d place [] [] h stops = refl
+  child-front d place [] (y ∷ ys) h stops = elim (cases_lt 0 y.depth) [
+    | inl l ↦ absurd (let z : suc (deeper 0 ys) ≡ 0 = rw (lt-true 0 y.depth l) at stops in omega arith)
+    | inr l ↦ let m : y.depth < d = omega arith in rw (lt-true y.depth d m) refl
+  ]
+  child-front d place (x ∷ xs) ys h stops = elim (cases_Bool (nat_lt x.depth d)) [
+    | inl a ↦ rw a refl
+    | inr a ↦ elim (cases_Bool (nat_lt d x.depth || is_attribute (content_in (get s x.key)))) [
+      | inl b ↦ rw (a, b) (ap suc (child-front d place xs ys h stops))
+      | inr b ↦ rw (a, b) (child place (λ left. child-front d left xs ys h stops))
+    ]
+  ]
+    where
+      child : (place : ℕ) → ((left : ℕ) → child_at d left (nodes (xs ++ ys)) ≡ child_at d left (nodes xs))
+          → at_place place 0 (λ left. suc (child_at d left (nodes (xs ++ ys)))) ≡ at_place place 0 (λ left. suc (child_at d left (nodes xs)))
+      child zero later = refl
+      child (suc left) later = ap suc (later left)
+
+  attribute-front : (d : ℕ) (name : List ℕ) (xs ys : List Row) → 0 < d → deeper 0 ys ≡ 0 → attribute_at d name (nodes (xs ++ ys)) ≡ attribute_at d name (nodes xs)
+  attribute-front d name [] [] h stops = refl
+  attribute-front d name [] (y ∷ ys) h stops = elim (cases_lt 0 y.depth) [
+    | inl l ↦ absurd (let z : suc (deeper 0 ys) ≡ 0 = rw (lt-true 0 y.depth l) at stops in omega arith)
+    | inr l ↦ rw (eq-false y.depth d (λ e. let z : ⊥ = omega arith in z)) refl
+  ]
+  attribute-front d name (x ∷ xs) ys h stops =
+      let c = content_in (get s x.key) in
+      elim (cases_Bool ((x.depth == d) && is_attribute c && is_less (written_of c) name)) [
+        | inl a ↦ rw a (ap suc (attribute-front d name xs ys h stops))
+        | inr a ↦ rw a refl
+      ]
+
+  pub part-front : (d place : ℕ) (c : Content) (xs ys : List Row) → 0 < d → deeper 0 ys ≡ 0 → part_at d place c (nodes (xs ++ ys)) ≡ part_at d place c (nodes xs)
+  part-front d place c xs ys h stops = elim (cases_Bool (is_attribute c)) [
+    | inl a ↦ rw a (attribute-front d (written_of c) xs ys h stops)
+    | inr a ↦ rw a (child-front d place xs ys h stops)
+  ]
+
+  -- what is passed is below the parent
+  child-deep : (d place : ℕ) (xs : List Row) → AllDeep d (take (child_at d place (nodes xs)) xs)
+  child-deep d place [] = tt
+  child-deep d place (x ∷ xs) = elim (cases_Bool (nat_lt x.depth d)) [
+    | inl a ↦ rw a tt
+    | inr a ↦ elim (cases_Bool (nat_lt d x.depth || is_attribute (content_in (get s x.key)))) [
+      | inl b ↦ rw (a, b) (le-from x.depth d a, child-deep d place xs)
+      | inr b ↦ rw (a, b) (child place (le-from x.depth d a) (λ left. child-deep d left xs))
+    ]
+  ]
+    where
+      child : (place : ℕ) → d ≤ x.depth → ((left : ℕ) → AllDeep d (take (child_at d left (nodes xs)) xs))
+          → AllDeep d (take (at_place place 0 (λ left. suc (child_at d left (nodes xs)))) (x ∷ xs))
+      child zero h later = tt
+      child (suc left) h later = (h, later left)
+
+  attribute-deep : (d : ℕ) (name : List ℕ) (xs : List Row) → AllDeep d (take (attribute_at d name (nodes xs)) xs)
+  attribute-deep d name [] = tt
+  attribute-deep d name (x ∷ xs) =
+      let c = content_in (get s x.key) in
+      elim (cases_Bool ((x.depth == d) && is_attribute c && is_less (written_of c) name)) [
+        | inl a ↦ rw a (let e = eq-is x.depth d (before-parts (x.depth == d) (is_attribute c) (is_less (written_of c) name) a).0 in (omega arith, attribute-deep d name xs))
+        | inr a ↦ rw a tt
+      ]
+
+  pub part-deep : (d place : ℕ) (c : Content) (xs : List Row) → AllDeep d (take (part_at d place c (nodes xs)) xs)
+  part-deep d place c xs = elim (cases_Bool (is_attribute c)) [
+    | inl a ↦ rw a (attribute-deep d (written_of c) xs)
+    | inr a ↦ rw a (child-deep d place xs)
+  ]
+
+  -- what stands at the place is no deeper than what comes there
+  child-stops : (d place : ℕ) (xs : List Row) → deeper d (drop (child_at d place (nodes xs)) xs) ≡ 0
+  child-stops d place [] = refl
+  child-stops d place (x ∷ xs) = elim (cases_Bool (nat_lt x.depth d)) [
+    | inl a ↦ rw a (lowest d x.depth (deeper d xs) (let l = lt-from x.depth d a in omega arith))
+    | inr a ↦ elim (cases_Bool (nat_lt d x.depth || is_attribute (content_in (get s x.key)))) [
+      | inl b ↦ rw (a, b) (child-stops d place xs)
+      | inr b ↦ rw (a, b) (child place (le-from d x.depth (or_parts (nat_lt d x.depth) (is_attribute (content_in (get s x.key))) b).0) (λ left. child-stops d left xs))
+    ]
+  ]
+    where
+      child : (place : ℕ) → x.depth ≤ d → ((left : ℕ) → deeper d (drop (child_at d left (nodes xs)) xs) ≡ 0)
+          → deeper d (drop (at_place place 0 (λ left. suc (child_at d left (nodes xs)))) (x ∷ xs)) ≡ 0
+      child zero h later = lowest d x.depth (deeper d xs) h
+      child (suc left) h later = later left
+
+  attribute-stops : (d : ℕ) (name : List ℕ) (xs : List Row) → AreLeaves (parts_in (nodes xs)) → NotDeeper d (parts_in (nodes xs)) → deeper d (drop (attribute_at d name (nodes xs)) xs) ≡ 0
+  attribute-stops d name [] leaves first = refl
+  attribute-stops d name (x ∷ xs) leaves first =
+      let c = content_in (get s x.key) in
+      elim (cases_Bool ((x.depth == d) && is_attribute c && is_less (written_of c) name)) [
+        | inl a ↦
+            let p = before-parts (x.depth == d) (is_attribute c) (is_less (written_of c) name) a in
+            rw a (attribute-stops d name xs leaves.1 (subst (λ e. NotDeeper e (parts_in (nodes xs))) (eq-is x.depth d p.0) (leaves.0 (leaf c p.1))))
+        | inr a ↦ rw a (rw (lt-false d x.depth first) refl)
+      ]
+    where
+      leaf : (c : Content) → is_attribute c ≡ true → is_leaf c ≡ true
+      leaf Root e = absurd (true≢false (sym e))
+      leaf (Element name) e = absurd (true≢false (sym e))
+      leaf (Attribute name text) e = refl
+      leaf (Text text) e = refl
+
+  pub part-stops : (d place : ℕ) (c : Content) (xs : List Row) → AreLeaves (parts_in (nodes xs)) → NotDeeper d (parts_in (nodes xs)) → deeper d (drop (part_at d place c (nodes xs)) xs) ≡ 0
+  part-stops d place c xs leaves first = elim (cases_Bool (is_attribute c)) [
+    | inl a ↦ rw a (attribute-stops d (written_of c) xs leaves first)
+    | inr a ↦ rw a (child-stops d place xs)
+  ]

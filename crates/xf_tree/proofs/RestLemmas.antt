@@ -1,0 +1,72 @@
+-- The rows without a tree that stands by itself.
+use Rattle.std.proofs.Common.{◌≡◌, ℕ, suc, ◌+◌, ◌<◌, ◌≤◌, List, [], ◌∷◌, ◌++◌, map, length, take, drop, get_or, sym, ap, ◌∙◌, subst, arith}
+use Rattle.std.proofs.lemmas.List.{take-append-drop, map-append}
+use Rattle.slab.specs.Slab.{Slab}
+use Rattle.xf_tree.specs.declared.rows.Row.{Row}
+use Rattle.xf_tree.specs.declared.slot.Slot.{Slot}
+use Rattle.xf_tree.specs.Rows.{Sized, tree_of, after_tree, rest_of}
+use Rattle.xf_tree.specs.Leaves.{parts_in, NotDeeper, AreLeaves}
+use Rattle.xf_tree.specs.Tree.{node_of, no_row, AreSteps, depths}
+use Rattle.xf_tree.proofs.CutLemmas.{tree-parts}
+use Rattle.xf_tree.proofs.StepLemmas.{most_after, steps-append, steps-parts}
+use Rattle.xf_tree.proofs.LeafLemmas.{parts-append, leaves-parts}
+use Rattle.xf_tree.proofs.StateLemmas.{without-leaves}
+use Rattle.xf_tree.proofs.PlaceLemmas.{split-at}
+use Rattle.xf_tree.proofs.OverLemmas.{rest-sized, first-zero}
+use Rattle.xf_tree.proofs.RootedLemmas.{AllUnder, under-steps, under-append, under-parts}
+use Rattle.xf_tree.proofs.BehindLemmas.{top-stops}
+
+module _ (s : Slab Slot) (at : ℕ) (old : List Row) (h : at < length old) (top : (get_or old at no_row).depth ≡ 0) (sized : Sized old) where
+  abbrev T : List Row
+  T = tree_of (drop at old)
+
+  abbrev after : List Row
+  after = after_tree (drop at old)
+
+  -- the depths of the rows that stay, and of the tree
+  pub rest-steps : AreSteps 0 (depths old) → AreSteps 0 (depths (rest_of at old)) × AreSteps 0 (depths (tree_of (drop at old)))
+  rest-steps steps =
+      let g : Row → ℕ = λ r. r.depth in
+      let r = rest-sized at old h top sized in
+      let whole = steps-parts 0 (depths (take at old)) (depths (drop at old)) (subst (AreSteps 0) (ap depths (sym (take-append-drop at old)) ∙ map-append g (take at old) (drop at old)) steps) in
+      let most = most_after 0 (depths (take at old)) in
+      let parts = steps-parts most (depths T) (depths after) (subst (AreSteps most) (ap depths (sym (tree-parts (drop at old))) ∙ map-append g T after) whole.1) in (
+        subst (AreSteps 0) (sym (map-append g (take at old) after)) (steps-append 0 (depths (take at old)) (depths after) whole.0 (first-zero after _ r.1 parts.1 most)),
+        first-zero T _ (top-stops at old h top) parts.0 0,
+      )
+
+  -- and their leaves
+  pub rest-leaves : AreLeaves (parts_in (map (node_of s) old)) → AreLeaves (parts_in (map (node_of s) (rest_of at old))) × AreLeaves (parts_in (map (node_of s) (tree_of (drop at old))))
+  rest-leaves leaves =
+      let f = node_of s in
+      let w = without-leaves s at old h leaves in
+      let is : parts_in (map f (rest_of at old)) ≡ parts_in (map f (take at old)) ++ parts_in (map f after) =
+      ap parts_in (map-append f (take at old) after) ∙ parts-append (map f (take at old)) (map f after) in
+      (subst AreLeaves (sym is) w.0, w.1)
+
+  pub rest-under : (b : ℕ) → AreSteps 0 (depths old) → length old ≤ b → AllUnder b (rest_of at old) × AllUnder b (tree_of (drop at old))
+  rest-under b steps few =
+      let p = under-parts b (take at old) (drop at old) (subst (AllUnder b) (sym (take-append-drop at old)) (under-steps b 0 old steps (omega arith))) in
+      let q = under-parts b T after (subst (AllUnder b) (sym (tree-parts (drop at old))) p.1) in
+      (under-append b (take at old) after p.0 q.1, q.0)
+
+-- ---- after a row
+
+pub later-steps : (over : ℕ) (rows : List Row) → over < length rows → AreSteps 0 (depths rows) → AreSteps (suc (get_or rows over no_row).depth) (depths (drop (over + 1) rows))
+later-steps over rows h steps =
+    let g : Row → ℕ = λ r. r.depth in
+    let x = get_or rows over no_row in
+    let is : depths rows ≡ depths (take over rows) ++ depths (x ∷ drop (over + 1) rows) =
+    ap depths (sym (take-append-drop over rows)) ∙ map-append g (take over rows) (drop over rows) ∙ ap (λ l. depths (take over rows) ++ depths l) (split-at over rows no_row h) in
+    (steps-parts 0 (depths (take over rows)) (depths (x ∷ drop (over + 1) rows)) (subst (AreSteps 0) is steps)).1.1
+
+pub later-leaves : (s : Slab Slot) (n : ℕ) (rows : List Row) → AreLeaves (parts_in (map (node_of s) rows)) → AreLeaves (parts_in (map (node_of s) (drop n rows)))
+later-leaves s n rows leaves =
+    let f = node_of s in
+    let is : parts_in (map f rows) ≡ parts_in (map f (take n rows)) ++ parts_in (map f (drop n rows)) =
+    ap (λ l. parts_in (map f l)) (sym (take-append-drop n rows)) ∙ ap parts_in (map-append f (take n rows) (drop n rows)) ∙ parts-append (map f (take n rows)) (map f (drop n rows)) in
+    (leaves-parts (parts_in (map f (take n rows))) (parts_in (map f (drop n rows))) (subst AreLeaves is leaves)).1
+
+pub steps-first : (s : Slab Slot) (most : ℕ) (rows : List Row) → AreSteps most (depths rows) → NotDeeper most (parts_in (map (node_of s) rows))
+steps-first s most [] steps = tt
+steps-first s most (r ∷ rs) steps = steps.0

@@ -1,0 +1,13 @@
+use Rattle.std.proofs.Common.{◌≡◌, ◌+◌, ◌<◌, ◌≤◌, length}
+use Rattle.xf_tree.specs.Below.{elements_over}
+use Rattle.xf_tree.proofs.attach.elements_over.Given as goal
+
+abbrev pub invariant-loop-count : goal.invariant-loop-count
+invariant-loop-count l = record {
+  within : l.at < length l.rows;
+  few : l.count + l.at ≤ l.above;
+  so_far : l.count + elements_over l.slots l.rows l.at ≡ elements_over l.slots l.rows l.above;
+}
+
+abbrev pub decreases-loop-count : goal.decreases-loop-count
+decreases-loop-count l = l.at

@@ -1,0 +1,103 @@
+use Rattle.std.proofs.Common.{◌≡◌, ◌==◌, List, map, get_or, false, true, option_map, inl, inr, sym, ap, ◌∙◌, subst}
+use Rattle.slab.specs.Slab.{get}
+use Rattle.xf_doc.specs.declared.content.Node.{Node}
+use Rattle.xf_doc.specs.declared.content.Kind.TheVariants as kind
+use Rattle.xf_doc.specs.Forest.{has_number, kind_of, tree_of, is_root}
+use Rattle.xf_doc.specs.Changes.{placed}
+use Rattle.xf_doc.specs.Needs.{is_top, MayStand}
+use Rattle.xf_doc.specs.Texts.{Keeping}
+use Rattle.xf_tree.specs.Leaves.{is_leaf}
+use Rattle.xf_tree.specs.Tree.{StandsAt, node_of, kept_of, content_in, keeping_of, no_row}
+use Rattle.xf_tree.proofs.PlaceLemmas.{stands, one_of, content-means}
+use Rattle.xf_tree.proofs.AddLemmas.{named-meets, zero-depth}
+use Rattle.xf_tree.proofs.NeedLemmas.{none-named, none-kind, node-kind, parent-kind, no-root_content, no-leaf_content}
+use Rattle.xf_tree.proofs.AttachLemmas.{stands-outside, placed-means}
+use Rattle.xf_tree.proofs.AttachedLemmas.{placed-state}
+use Rattle.xf_tree.proofs.forest.Forest.place.Goals as goal
+use Rattle.xf_tree.proofs.forest.Forest.place.Goals.{After-deref_mut}
+
+pub returns-in_default : goal.returns-in_default
+returns-in_default c =
+    let n = c.args.node.number in
+    let s = c.self.inside.slots in
+    absurd (
+    let absent = subst (λ r. has_number n (map (node_of s) r) ≡ false) c.deref.ensures.value c.in_default.ensures in
+    none-named n (λ (x : Node). x.depth == 0) _ absent (subst (λ (k : Keeping). is_top n k.forest.nodes ≡ true) (sym c.self.view_is) c.requires.detached)
+    )
+
+pub returns-in_default-row_of : goal.returns-in_default-row_of
+returns-in_default-row_of c =
+    let n = c.args.node.number in
+    let m = c.args.parent.number in
+    let s = c.self.inside.slots in
+    absurd (
+    let absent = subst (λ r. has_number m (map (node_of s) r) ≡ false) c.deref-3.ensures.value c.in_default-row_of.ensures in
+    let may = subst (λ (k : Keeping). MayStand n m c.args.place k.forest) (sym c.self.view_is) c.requires.stands in
+    elim (parent-kind n m c.args.place _ may) [ inl e ↦ none-kind m kind.Element _ absent e | inr e ↦ none-kind m kind.Root _ absent e ]
+    )
+
+-- where the node's row stands, and the parent's
+node-here : (c : After-deref_mut) → StandsAt c.self.inside.slots c.self.inside.rows.items c.args.node.number c.in-Some.at
+node-here c = subst (λ r. StandsAt c.self.inside.slots r c.args.node.number c.in-Some.at) c.deref.ensures.value c.in-Some.ensures
+
+parent-here : (c : After-deref_mut) → StandsAt c.self.inside.slots c.self.inside.rows.items c.args.parent.number c.in-Some-row_of.above
+parent-here c = subst (λ r. StandsAt c.self.inside.slots r c.args.parent.number c.in-Some-row_of.above) c.deref-3.ensures.value c.in-Some-row_of.ensures
+
+may-stand : (c : After-deref_mut) → MayStand c.args.node.number c.args.parent.number c.args.place (keeping_of c.self.inside.slots c.self.inside.rows.items c.self.inside.kept.items c.self.inside.next).forest
+may-stand c = subst (λ (k : Keeping). MayStand c.args.node.number c.args.parent.number c.args.place k.forest) (sym c.self.view_is) c.requires.stands
+
+at-top : (c : After-deref_mut) → (get_or c.self.inside.rows.items c.in-Some.at no_row).depth ≡ 0
+at-top c =
+    let n = c.args.node.number in
+    let s = c.self.inside.slots in
+    let rows = c.self.inside.rows.items in
+    let may = subst (λ (k : Keeping). is_top n k.forest.nodes ≡ true) (sym c.self.view_is) c.requires.detached in
+    zero-depth (get_or rows c.in-Some.at no_row).depth
+    (named-meets n (λ (x : Node). x.depth == 0) _ _ _ _ (stands s n c.in-Some.at rows (node-here c) (one_of s rows c.self.inside.kept.items c.self.inside.next n c.self.invariant.sound)) may)
+
+pub place_tree-requires-clause-top : goal.place_tree-requires-clause-top
+place_tree-requires-clause-top c = at-top (goal.at.place_tree-requires-clause-top c).After-deref_mut
+
+pub place_tree-requires-clause-outside : goal.place_tree-requires-clause-outside
+place_tree-requires-clause-outside c =
+    let k = (goal.at.place_tree-requires-clause-outside c).After-deref_mut in
+    let n = c.args.node.number in
+    let m = c.args.parent.number in
+    let s = c.self.inside.slots in
+    let rows = c.self.inside.rows.items in
+    let outside = subst (λ (q : Keeping). has_number m (tree_of n q.forest.nodes) ≡ false) (sym c.self.view_is) c.requires.outside in
+    stands-outside s n m c.in-Some.at c.in-Some-row_of.above rows (node-here k) (parent-here k) (one_of s rows c.self.inside.kept.items c.self.inside.next n c.self.invariant.sound) outside
+
+no-root_there : (c : After-deref_mut) → is_root (content_in (get c.self.inside.slots (get_or c.self.inside.rows.items c.in-Some.at no_row).key)) ≡ false
+no-root_there c =
+    let s = c.self.inside.slots in
+    let rows = c.self.inside.rows.items in
+    let means = ap (option_map kind_of) (content-means s c.args.node.number c.in-Some.at rows c.self.inside.kept.items c.self.inside.next c.self.invariant.sound (node-here c)) in
+    no-root_content _ (elim (node-kind _ _ c.args.place _ (may-stand c)) [ inl e ↦ inl (sym means ∙ e) | inr e ↦ inr (sym means ∙ e) ])
+
+no-leaf_there : (c : After-deref_mut) → is_leaf (content_in (get c.self.inside.slots (get_or c.self.inside.rows.items c.in-Some-row_of.above no_row).key)) ≡ false
+no-leaf_there c =
+    let s = c.self.inside.slots in
+    let rows = c.self.inside.rows.items in
+    let means = ap (option_map kind_of) (content-means s c.args.parent.number c.in-Some-row_of.above rows c.self.inside.kept.items c.self.inside.next c.self.invariant.sound (parent-here c)) in
+    no-leaf_content _ (elim (parent-kind _ _ c.args.place _ (may-stand c)) [ inl e ↦ inl (sym means ∙ e) | inr e ↦ inr (sym means ∙ e) ])
+
+pub invariant_of-self : goal.invariant_of-self
+invariant_of-self c =
+    let k = (goal.at.invariant_of-self c).After-deref_mut in
+    placed-state c.self.inside.slots c.args.node.number c.args.parent.number c.in-Some.at c.in-Some-row_of.above c.args.place c.self.inside.next c.self.inside.count c.self.inside.bytes _
+    c.self.inside.kept.items c.self.inside.rows.items c.place_tree.new.rows.items c.self.invariant (node-here k) (parent-here k) (at-top k) c.place_tree.ensures.answer (no-root_there k) (no-leaf_there k)
+    c.place_tree.ensures.sized _ c.place_tree.ensures.room
+
+pub returns : goal.returns
+returns c =
+    let k = (goal.at.returns c).After-deref_mut in
+    let n = c.args.node.number in
+    let m = c.args.parent.number in
+    let s = c.self.inside.slots in
+    let kept = c.self.inside.kept.items in
+    let next = c.self.inside.next in
+    let e = placed-means s n m c.in-Some.at c.in-Some-row_of.above c.args.place next kept c.self.inside.rows.items c.place_tree.new.rows.items c.self.invariant.sound (node-here k) (parent-here k) (at-top k)
+    c.place_tree.ensures.answer in
+    let whole : List Node → Keeping = λ l. record { forest = record { nodes = l; next = next }; kept = map (kept_of s) kept } in
+    ap whole e ∙ ap (λ (q : Keeping). record q { forest = placed n m c.args.place q.forest }) c.self.view_is
