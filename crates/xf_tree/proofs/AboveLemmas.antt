@@ -213,6 +213,10 @@ kin-kid d e y same = ap (λ k. (y.depth == k) && is_attribute y.content) same
 abbrev no_attribute : Content → Bool
 no_attribute c = not (is_attribute c)
 
+pub depths-of : (s : Slab Slot) (rows : List Row) → node_depths (map (node_of s) rows) ≡ depths rows
+depths-of s [] = refl
+depths-of s (x ∷ xs) = ap (λ l. x.depth ∷ l) (depths-of s xs)
+
 pub place-means : (s : Slab Slot) (rows : List Row) (kept : List ℕ) (next n m above at : ℕ) → IsSound s rows kept next → StandsAt s rows n at → StandsAt s rows m above
     → Above rows above at → place_in (visits (map (node_of s) rows)) n m ≡ kin_before s rows above at
 place-means s rows kept next n m above at sound here there a =
@@ -243,7 +247,7 @@ place-means s rows kept next n m above at sound here there a =
     let low2 : map f (take wide later) ≡ bs ++ (f y ∷ cs) = sym (below-is s x.depth later) ∙ low in
     let p = part n (map f (take wide later)) bs (f y) cs low2 here.number (omega arith) in
     let up = stands s m above rows there (one_of s rows kept next m sound) in
-    let steps : AreSteps 0 (node_depths (map f rows)) = subst (AreSteps 0) (sym (depths-of rows)) sound.steps in
+    let steps : AreSteps 0 (node_depths (map f rows)) = subst (AreSteps 0) (sym (depths-of s rows)) sound.steps in
     let attributes = parted-kids is_attribute m 0 _ _ _ _ up steps ∙ ap (λ l. numbers (filter (is_kid is_attribute (suc x.depth)) l)) low in
     let children = parted-kids no_attribute m 0 _ _ _ _ up steps ∙ ap (λ l. numbers (filter (is_kid no_attribute (suc x.depth)) l)) low in
     let depth : y.depth ≡ suc x.depth = omega (arith, child-depth rows above at here.within sound.steps a) in
@@ -265,10 +269,6 @@ place-means s rows kept next n m above at sound here there a =
   where
     take-short : (i j : ℕ) (xs : List Row) → i ≤ j → take i (take j xs) ≡ take i xs
     take-short i j xs h = take-take i j xs h
-
-    depths-of : (xs : List Row) → node_depths (map (node_of s) xs) ≡ depths xs
-    depths-of [] = refl
-    depths-of (x ∷ xs) = ap (λ l. x.depth ∷ l) (depths-of xs)
 
 pub standing-means : (s : Slab Slot) (rows : List Row) (kept : List ℕ) (next n above at : ℕ) → IsSound s rows kept next → StandsAt s rows n at → Some above ≡ parent_row_of rows at
     → standing n (map (node_of s) rows) ≡ Some (number_in (get s (get_or rows above no_row).key), kin_before s rows above at)

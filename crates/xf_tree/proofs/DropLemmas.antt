@@ -1,6 +1,6 @@
--- The detached trees and the kept texts are dropped.
+-- Some rows and all kept texts are dropped.
 use Rattle.std.proofs.Common.{◌≡◌, ℕ, zero, suc, ◌+◌, ◌-◌, ◌<◌, ◌≤◌, ◌^◌, ◌==◌, Bool, true, false, cond, if◌then◌else◌, List, [], ◌∷◌, ◌++◌, map, length, take, drop, Option, Some, None, IsSome, refl, sym, ap, ◌∙◌, subst, inl, inr, arith, length-take, length-drop}
-use Rattle.std.proofs.lemmas.List.{take-append-drop, map-append}
+use Rattle.std.proofs.lemmas.List.{take-append-drop, map-append, take_rest}
 use Rattle.slab.specs.Slab.{Slab, get}
 use Rattle.xf_doc.specs.declared.content.Node.{Node}
 use Rattle.xf_doc.specs.Limits.{node_count, all_size, size_of}
@@ -46,31 +46,31 @@ kept-where s s2 (k ∷ ks) h =
     let rest = kept-where s s2 ks (λ key some. h key (omega arith)) in
     cc
 
-pub take-rest : {X : Type 0} (n : ℕ) (xs : List X) → length xs ≤ n → take n xs ≡ xs
-take-rest zero [] h = refl
-take-rest zero (x ∷ xs) h = absurd (omega arith)
-take-rest (suc n) [] h = refl
-take-rest (suc n) (x ∷ xs) h = ap (λ l. x ∷ l) (take-rest n xs (omega arith))
-
-pub take-all_rest : {X : Type 0} (at : ℕ) (xs : List X) → take (length xs - at) (drop at xs) ≡ drop at xs
-take-all_rest at xs = take-rest (length xs - at) (drop at xs) (omega (arith, length-drop at xs))
-
 pub rest-of : {X : Type 0} (at : ℕ) (xs ys : List X) → xs ≡ ys → take (length xs - at) (drop at xs) ≡ drop at ys
-rest-of at xs ys e = take-all_rest at xs ∙ ap (drop at) e
+rest-of at xs ys e = take_rest xs at ∙ ap (drop at) e
 
-module _ (s s1 s2 : Slab Slot) (rows : List Row) (kept : List ℕ) (next total size room end : ℕ) (state : IsState s rows kept next total size room)
-    (rows_rest : KeepsBut s s1 (map (node_of s) (drop end rows))) (kept_rest : KeepsButKept s1 s2 (map (kept_of s1) kept)) where
-  pub whole : map (node_of s) rows ≡ map (node_of s) (take end rows) ++ map (node_of s) (drop end rows)
-  whole = ap (map (node_of s)) (sym (take-append-drop end rows)) ∙ map-append (node_of s) (take end rows) (drop end rows)
+-- what the invariant says of rows, besides their numbers
+pub record IsShaped (s : Slab Slot) (rows : List Row) : Type 0 where
+  pub sized : Sized rows
+  pub steps : AreSteps 0 (depths rows)
+  pub live : AllLive s rows
+  pub tops : AllTops (map (node_of s) rows)
+  pub leaves : AreLeaves (parts_in (map (node_of s) rows))
 
-  both : (n : ℕ) → times n (map (node_of s) (take end rows)) + times n (map (node_of s) (drop end rows)) + kept_times n (map (kept_of s) kept) ≤ 1
-  both n = let a = ap (times n) whole ∙ times-append n (map (node_of s) (take end rows)) (map (node_of s) (drop end rows)) in omega (arith, state.sound.apart n)
+-- the nodes are those of the rows that stay and those of the others, whatever is counted
+abbrev pub ArePartedTo : Slab Slot → List Row → List Row → List Row → Type 0
+ArePartedTo s rows stay gone = (X : List Node → ℕ) → ((xs ys : List Node) → X (xs ++ ys) ≡ X xs + X ys) → X (map (node_of s) rows) ≡ X (map (node_of s) stay) + X (map (node_of s) gone)
+
+module _ (s s1 s2 : Slab Slot) (rows stay gone : List Row) (kept : List ℕ) (next total size room : ℕ) (state : IsState s rows kept next total size room) (parted : ArePartedTo s rows stay gone)
+    (rows_rest : KeepsBut s s1 (map (node_of s) gone)) (kept_rest : KeepsButKept s1 s2 (map (kept_of s1) kept)) where
+  both : (n : ℕ) → times n (map (node_of s) stay) + times n (map (node_of s) gone) + kept_times n (map (kept_of s) kept) ≤ 1
+  both n = omega (arith, state.sound.apart n, parted (times n) (times-append n))
 
   kept-same : map (kept_of s1) kept ≡ map (kept_of s) kept
   kept-same = kept-where s s1 kept (λ key some. rows_rest key (omega (arith, both (number_in (get s key)))))
 
-  front-key : (key : ℕ) → 1 ≤ times (number_in (get s key)) (map (node_of s) (take end rows)) → get s2 key ≡ get s key
-  front-key key some =
+  stay-key : (key : ℕ) → 1 ≤ times (number_in (get s key)) (map (node_of s) stay) → get s2 key ≡ get s key
+  stay-key key some =
       let n = number_in (get s key) in
       let b = both n in
       let one = rows_rest key (omega arith) in
@@ -78,41 +78,57 @@ module _ (s s1 s2 : Slab Slot) (rows : List Row) (kept : List ℕ) (next total s
       let none1 : kept_times (number_in (get s1 key)) (map (kept_of s1) kept) ≡ 0 = ap (λ o. kept_times (number_in o) (map (kept_of s1) kept)) one ∙ ap (kept_times n) kept-same ∙ none in
       kept_rest key none1 ∙ one
 
-  pub front-same : SameAt s s2 (take end rows)
-  front-same = same-where s s2 (take end rows) front-key
+  stay-same : SameAt s s2 stay
+  stay-same = same-where s s2 stay stay-key
 
-  pub dropped-nodes : map (node_of s2) (take end rows) ≡ map (node_of s) (take end rows)
-  dropped-nodes = nodes-same s s2 (take end rows) front-same
+  pub dropped-nodes : map (node_of s2) stay ≡ map (node_of s) stay
+  dropped-nodes = nodes-same s s2 stay stay-same
 
-  dropped-sound : deeper 0 (drop end rows) ≡ 0 → IsSound s2 (take end rows) [] next
-  dropped-sound stops =
-      let d : Row → ℕ = λ r. r.depth in
-      let split : depths rows ≡ depths (take end rows) ++ depths (drop end rows) = ap (map d) (sym (take-append-drop end rows)) ∙ map-append d (take end rows) (drop end rows) in
-      record {
-        sized = (sized-front 0 (take end rows) (drop end rows) (all-deep-zero (take end rows)) stops (subst (λ l. Sized l) (sym (take-append-drop end rows)) state.sound.sized)).0;
-        steps = (steps-parts 0 (depths (take end rows)) (depths (drop end rows)) (subst (AreSteps 0) split state.sound.steps)).0;
-        few = omega (arith, state.sound.few, length-take end rows);
-        kept_live = tt;
-        live = live-same s s2 (take end rows) front-same (live-parts s (take end rows) (drop end rows) (subst (AllLive s) (sym (take-append-drop end rows)) state.sound.live)).0;
-        tops = subst AllTops (sym dropped-nodes) (tops-parts (map (node_of s) (take end rows)) (map (node_of s) (drop end rows)) (subst AllTops whole state.sound.tops)).0;
-        leaves = subst (λ l. AreLeaves (parts_in l)) (sym dropped-nodes) (leaves-parts (parts_in (map (node_of s) (take end rows))) (parts_in (map (node_of s) (drop end rows)))
-            (subst AreLeaves (ap parts_in whole ∙ parts-append (map (node_of s) (take end rows)) (map (node_of s) (drop end rows))) state.sound.leaves)).0;
-        apart = λ n. let e = ap (times n) dropped-nodes in omega (arith, both n);
-        fresh = λ n h. let e = ap (times n) dropped-nodes in let a = ap (times n) whole ∙ times-append n (map (node_of s) (take end rows)) (map (node_of s) (drop end rows)) in omega (arith, state.sound.fresh n h);
-      }
+  dropped-sound : (next2 : ℕ) → IsShaped s stay → length stay ≤ length rows → ((n : ℕ) → next2 ≤ n → times n (map (node_of s) stay) ≡ 0) → IsSound s2 stay [] next2
+  dropped-sound next2 shape less fresh = record {
+    sized = shape.sized;
+    steps = shape.steps;
+    few = omega (arith, state.sound.few);
+    kept_live = tt;
+    live = live-same s s2 stay stay-same shape.live;
+    tops = subst AllTops (sym dropped-nodes) shape.tops;
+    leaves = subst (λ l. AreLeaves (parts_in l)) (sym dropped-nodes) shape.leaves;
+    apart = λ n. let e = ap (times n) dropped-nodes in omega (arith, both n);
+    fresh = λ n h. let e = ap (times n) dropped-nodes in omega (arith, fresh n h);
+  }
 
   pub dropped-state : (less1 : (key : ℕ) → size_of (content_in (get s1 key)) ≤ size_of (content_in (get s key))) (less2 : (key : ℕ) → size_of (content_in (get s2 key)) ≤ size_of (content_in (get s1 key)))
-      (total2 size2 room2 : ℕ) → room ≤ room2 → total2 ≡ total - node_count (map (node_of s) (drop end rows)) → size2 ≡ size - all_size (map (node_of s) (drop end rows)) → deeper 0 (drop end rows) ≡ 0
-      → IsState s2 (take end rows) [] next total2 size2 room2
-  dropped-state less1 less2 total2 size2 room2 most et es stops =
-      let a = ap node_count whole ∙ nodes-append (map (node_of s) (take end rows)) (map (node_of s) (drop end rows)) in
-      let b = ap all_size whole ∙ sizes-append (map (node_of s) (take end rows)) (map (node_of s) (drop end rows)) in
-      record {
-        sound = dropped-sound stops;
-        counted = record {
-          count = omega (arith, state.counted.count, et, a, ap node_count dropped-nodes);
-          bytes = omega (arith, state.counted.bytes, es, b, ap all_size dropped-nodes);
-          small = λ key. omega (arith, less1 key, less2 key, state.counted.small key);
-        };
-        room = omega (arith, state.room, length-take end rows);
-      }
+      (next2 total2 size2 room2 : ℕ) → room ≤ room2 → total2 ≡ total - node_count (map (node_of s) gone) → size2 ≡ size - all_size (map (node_of s) gone)
+      → IsShaped s stay → length stay ≤ length rows → ((n : ℕ) → next2 ≤ n → times n (map (node_of s) stay) ≡ 0) → IsState s2 stay [] next2 total2 size2 room2
+  dropped-state less1 less2 next2 total2 size2 room2 most et es shape less fresh = record {
+    sound = dropped-sound next2 shape less fresh;
+    counted = record {
+      count = omega (arith, state.counted.count, et, parted node_count nodes-append, ap node_count dropped-nodes);
+      bytes = omega (arith, state.counted.bytes, es, parted all_size sizes-append, ap all_size dropped-nodes);
+      small = λ key. omega (arith, less1 key, less2 key, state.counted.small key);
+    };
+    room = omega (arith, state.room);
+  }
+
+-- ---- the rows before a place stay
+
+pub front-parted : (s : Slab Slot) (end : ℕ) (rows : List Row) → ArePartedTo s rows (take end rows) (drop end rows)
+front-parted s end rows X add = ap X (front-whole s end rows) ∙ add (map (node_of s) (take end rows)) (map (node_of s) (drop end rows))
+  where
+    front-whole : (s : Slab Slot) (end : ℕ) (rows : List Row) → map (node_of s) rows ≡ map (node_of s) (take end rows) ++ map (node_of s) (drop end rows)
+    front-whole s end rows = ap (map (node_of s)) (sym (take-append-drop end rows)) ∙ map-append (node_of s) (take end rows) (drop end rows)
+
+pub front-shaped : (s : Slab Slot) (end next : ℕ) (rows : List Row) (kept : List ℕ) → IsSound s rows kept next → deeper 0 (drop end rows) ≡ 0 → IsShaped s (take end rows)
+front-shaped s end next rows kept sound stops =
+    let f = node_of s in
+    let d : Row → ℕ = λ r. r.depth in
+    let split : depths rows ≡ depths (take end rows) ++ depths (drop end rows) = ap (map d) (sym (take-append-drop end rows)) ∙ map-append d (take end rows) (drop end rows) in
+    let whole : map f rows ≡ map f (take end rows) ++ map f (drop end rows) = ap (map f) (sym (take-append-drop end rows)) ∙ map-append f (take end rows) (drop end rows) in
+    record {
+      sized = (sized-front 0 (take end rows) (drop end rows) (all-deep-zero (take end rows)) stops (subst (λ l. Sized l) (sym (take-append-drop end rows)) sound.sized)).0;
+      steps = (steps-parts 0 (depths (take end rows)) (depths (drop end rows)) (subst (AreSteps 0) split sound.steps)).0;
+      live = (live-parts s (take end rows) (drop end rows) (subst (AllLive s) (sym (take-append-drop end rows)) sound.live)).0;
+      tops = (tops-parts (map f (take end rows)) (map f (drop end rows)) (subst AllTops whole sound.tops)).0;
+      leaves = (leaves-parts (parts_in (map f (take end rows))) (parts_in (map f (drop end rows)))
+          (subst AreLeaves (ap parts_in whole ∙ parts-append (map f (take end rows)) (map f (drop end rows))) sound.leaves)).0;
+    }

@@ -25,6 +25,10 @@ pub mod CopyLemmas
 pub mod WrittenLemmas
 pub mod ContentsLemmas
 pub mod FaultLemmas
+pub mod OlderLemmas
+pub mod OldTreeLemmas
+pub mod MoveOlderLemmas
+pub mod WholeLemmas
 pub mod RootedLemmas
 pub mod DeepenLemmas
 pub mod OverLemmas

@@ -4,3 +4,4 @@ pub mod Tree
 pub mod Calls
 pub mod Contents
 pub mod Below
+pub mod Older

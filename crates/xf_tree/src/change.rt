@@ -1,4 +1,4 @@
-//! Changes of a forest: trees that come, move and go.
+//! Changes of a forest: trees that come and move.
 ghost use Rattle.std.specs.Prelude.{◌≡◌, ◌<◌, ◌^◌, ◌++◌, Some, IfOk, OnOk, OnErr};
 ghost use Rattle.xf_base.specs.Gives.{Gives};
 ghost use Rattle.xf_doc.specs.Forest.{tree_of};
@@ -7,15 +7,14 @@ ghost use Rattle.xf_doc.specs.Limits.{limits, passed_by_all, passed_by_tree};
 ghost use Rattle.xf_doc.specs.Needs.{MayCopy, MayDetach, MayRoot};
 ghost use Rattle.xf_doc.specs.Plant.{numbered_from};
 ghost use Rattle.xf_doc.specs.Planted.{planted};
-ghost use Rattle.xf_doc.specs.Texts.{without_detached};
 
 use crate::fault::{has_deep, has_long, lit_fault};
 use crate::forest::Forest;
-use crate::lookup::{note_rows, parent_row, place_of, row_of, tops_end};
+use crate::lookup::{note_rows, parent_row, place_of, row_of};
 use crate::plant::contents_of_lit;
 use crate::root::root_over;
 use crate::rows::{cut_in, end_of};
-use crate::slot::{free_kept, free_rows, number_of};
+use crate::slot::number_of;
 use crate::tree::{Part, contents_of, push_tree, size_of_tree};
 use std::alloc::{AllocError, Global};
 use xf_doc::{NodeId, TreeFault};
@@ -52,22 +51,6 @@ impl Forest {
         // It went to the end, so all rows from its old place on have moved.
         note_rows(&mut self.hints, &self.rows, at, self.rows.len());
         (NodeId { number, place: key }, place)
-    }
-
-    /// Drops all detached trees and all kept texts. Takes no memory.
-    pub fn drop_detached(&mut self)
-        ensures { self.new ≡ without_detached self.old }
-    {
-        let end = tops_end(&self.rows, &self.slots);
-        free_rows(
-            &mut self.slots,
-            &self.rows[end..],
-            &mut self.count,
-            &mut self.bytes,
-        );
-        free_kept(&mut self.slots, &self.kept);
-        self.rows.truncate(end);
-        self.kept.clear();
     }
 
     /// A copy of a node's tree, as a detached one. A refusal leaves the forest as it was.

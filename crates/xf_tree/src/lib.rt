@@ -3,6 +3,7 @@
 
 mod attach;
 mod change;
+mod drop;
 mod fault;
 mod forest;
 mod lookup;

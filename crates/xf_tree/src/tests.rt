@@ -111,3 +111,19 @@ fn a_bad_name_leaves_the_forest(rt: HostRuntime) -> Result<(), Fail> {
     assert_eq!(rt; forest.next_number(), 0);
     Ok(())
 }
+
+#[test]
+fn numbers_begin_again(rt: HostRuntime) -> Result<(), Fail> {
+    let alloc = rt.alloc();
+    let mut forest = Forest::new(alloc);
+    let prefixes = no_prefixes(alloc)?;
+    forest.plant(&text(alloc, "a")?, &prefixes, 0)?;
+    forest.plant(&rows(alloc)?, &prefixes, 0)?;
+    assert_eq!(rt; forest.next_number(), 8);
+    forest.drop_from(1);
+    assert!(rt; forest.find(1).is_none());
+    assert_eq!(rt; forest.next_number(), 1);
+    let top = forest.plant(&text(alloc, "b")?, &prefixes, 0)?;
+    assert_eq!(rt; top.number, 1);
+    Ok(())
+}

@@ -1,0 +1,140 @@
+//! Trees and kept texts that are dropped.
+ghost use Rattle.std.specs.Prelude.{◌≡◌, ◌+◌, ◌-◌, ◌≤◌, ◌<◌, ℕ, [], false, length, map, filter, take, drop, vec_capacity};
+ghost use Rattle.std.specs.List.{copy_within};
+ghost use Rattle.slab.specs.Slab.{get};
+ghost use Rattle.xf_doc.specs.Changes.{in_instances};
+ghost use Rattle.xf_doc.specs.Limits.{node_count, all_size, size_of};
+ghost use Rattle.xf_doc.specs.Needs.{MayDropFrom};
+ghost use Rattle.xf_doc.specs.Texts.{without_detached, without_from};
+ghost use Rattle.xf_tree.specs.Rows.{Sized, deeper};
+ghost use Rattle.xf_tree.specs.Tree.{node_of, kept_of, content_in, times, KeepsBut, KeepsButKept};
+ghost use Rattle.xf_tree.specs.Older.{is_older, is_newer, AreWhole};
+
+use crate::forest::Forest;
+use crate::lookup::{note_rows, tops_end};
+use crate::rows::Row;
+use crate::slot::{Slot, free_kept, free_rows, number_of};
+use slab::Slab;
+
+impl Forest {
+    /// Drops all detached trees and all kept texts. Takes no memory.
+    pub fn drop_detached(&mut self)
+        ensures { self.new ≡ without_detached self.old }
+    {
+        let end = tops_end(&self.rows, &self.slots);
+        free_rows(
+            &mut self.slots,
+            &self.rows[end..],
+            &mut self.count,
+            &mut self.bytes,
+        );
+        drop_kept(&mut self.slots, &mut self.kept);
+        self.rows.truncate(end);
+    }
+
+    /// Drops all nodes with this number or a later one, and all kept texts, and makes this the next number. Takes no
+    /// memory.
+    pub fn drop_from(&mut self, number: u128)
+        requires { MayDropFrom number self.old.forest }
+        ensures { self.new ≡ without_from number self.old }
+    {
+        // What is new stands in trees of its own, and none of these is an instance's.
+        let from = tops_end(&self.rows, &self.slots);
+        drop_newer(
+            &mut self.rows,
+            &mut self.slots,
+            from,
+            number,
+            &mut self.count,
+            &mut self.bytes,
+        );
+        drop_kept(&mut self.slots, &mut self.kept);
+        self.next = number;
+        note_rows(&mut self.hints, &self.rows, from, self.rows.len());
+    }
+}
+
+/// Drops all kept texts.
+fn drop_kept(slots: &mut Slab<Slot>, kept: &mut Vec<usize>)
+    ensures none { kept.new.items ≡ [] }
+    ensures rest { KeepsButKept slots.old slots.new (map (kept_of slots.old) kept.old.items) }
+    ensures less { (key : ℕ) → size_of (content_in (get slots.new key)) ≤ size_of (content_in (get slots.old key)) }
+{
+    free_kept(slots, kept);
+    kept.clear();
+}
+
+/// Drops the trees from a place on whose tops have this number or a later one.
+fn drop_newer(
+    rows: &mut Vec<Row>,
+    slots: &mut Slab<Slot>,
+    from: usize,
+    number: u128,
+    total: &mut usize,
+    size: &mut u128,
+)
+    requires within { from ≤ length rows.old.items }
+    requires sized { Sized rows.old.items }
+    requires stops { deeper 0 (drop from rows.old.items) ≡ 0 }
+    requires front { map (node_of slots.old) (take from rows.old.items) ≡ in_instances (map (node_of slots.old) rows.old.items) }
+    requires whole { AreWhole number false (map (node_of slots.old) rows.old.items) }
+    requires apart { (n : ℕ) → times n (map (node_of slots.old) rows.old.items) ≤ 1 }
+    ensures stay { rows.new.items ≡ filter (is_older slots.old number) rows.old.items }
+    ensures rest { KeepsBut slots.old slots.new (map (node_of slots.old) (filter (is_newer slots.old number) rows.old.items)) }
+    ensures less { (key : ℕ) → size_of (content_in (get slots.new key)) ≤ size_of (content_in (get slots.old key)) }
+    ensures total { total.new ≡ total.old - node_count (map (node_of slots.old) (filter (is_newer slots.old number) rows.old.items)) }
+    ensures size { size.new ≡ size.old - all_size (map (node_of slots.old) (filter (is_newer slots.old number) rows.old.items)) }
+    ensures room { vec_capacity rows.new ≡ vec_capacity rows.old }
+{
+    let end = move_older(rows, slots, from, number, total, size);
+    rows.truncate(end);
+}
+
+/// Moves the trees from a place on whose tops are older forward over the others, whose slots are emptied. The answer is
+/// where the rows that stay end.
+fn move_older(
+    rows: &mut [Row],
+    slots: &mut Slab<Slot>,
+    from: usize,
+    number: u128,
+    total: &mut usize,
+    size: &mut u128,
+) -> usize
+    requires within { from ≤ length rows.old }
+    requires sized { Sized rows.old }
+    requires stops { deeper 0 (drop from rows.old) ≡ 0 }
+    requires front { map (node_of slots.old) (take from rows.old) ≡ in_instances (map (node_of slots.old) rows.old) }
+    requires whole { AreWhole number false (map (node_of slots.old) rows.old) }
+    requires apart { (n : ℕ) → times n (map (node_of slots.old) rows.old) ≤ 1 }
+    ensures stay { take result rows.new ≡ filter (is_older slots.old number) rows.old }
+    ensures rest { KeepsBut slots.old slots.new (map (node_of slots.old) (filter (is_newer slots.old number) rows.old)) }
+    ensures less { (key : ℕ) → size_of (content_in (get slots.new key)) ≤ size_of (content_in (get slots.old key)) }
+    ensures total { total.new ≡ total.old - node_count (map (node_of slots.old) (filter (is_newer slots.old number) rows.old)) }
+    ensures size { size.new ≡ size.old - all_size (map (node_of slots.old) (filter (is_newer slots.old number) rows.old)) }
+{
+    let mut at = from;
+    let mut to = from;
+    while at < rows.len() {
+        let end = at + rows[at].size;
+        if number_of(slots, rows[at].key) < number {
+            move_rows(rows, at, end, to);
+            to += end - at;
+        } else {
+            free_rows(slots, &rows[at..end], total, size);
+        }
+        at = end;
+    }
+    to
+}
+
+/// Moves the rows from one place to before another forward.
+fn move_rows(rows: &mut [Row], at: usize, end: usize, to: usize)
+    requires order { to ≤ at }
+    requires first { at ≤ end }
+    requires second { end ≤ length rows.old }
+    ensures { rows.new ≡ copy_within rows.old at end to }
+{
+    if to < at {
+        rows.copy_within(at..end, to);
+    }
+}
