@@ -32,6 +32,7 @@ pub mod WholeLemmas
 pub mod RootedLemmas
 pub mod DeepenLemmas
 pub mod OverLemmas
+pub mod ApartLemmas
 pub mod BelowLemmas
 pub mod BehindLemmas
 pub mod PartLemmas

@@ -5,3 +5,4 @@ pub mod Calls
 pub mod Contents
 pub mod Below
 pub mod Older
+pub mod Texts

@@ -2,10 +2,12 @@
 #![tactic(auto)]
 
 mod attach;
+mod before;
 mod change;
 mod drop;
 mod fault;
 mod forest;
+mod law;
 mod lookup;
 mod name;
 mod plant;
@@ -17,4 +19,5 @@ mod tests;
 mod text;
 mod tree;
 
+pub use before::Before;
 pub use forest::Forest;

@@ -25,3 +25,4 @@ pub mod CutCounts
 pub mod CutStands
 pub mod CutSteps
 pub mod AttributeSteps
+pub mod ChildLemmas

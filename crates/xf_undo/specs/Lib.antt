@@ -1,2 +1,4 @@
 pub mod Made
 pub mod Back
+pub mod Entries
+pub mod Children

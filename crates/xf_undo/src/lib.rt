@@ -1,2 +1,9 @@
 //! The ledger of changes that gives a forest back.
 #![tactic(auto)]
+
+mod entry;
+mod ledger;
+mod scaffold;
+
+pub use entry::Change;
+pub use ledger::Ledger;

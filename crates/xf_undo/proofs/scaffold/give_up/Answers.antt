@@ -1,0 +1,4 @@
+use Rattle.xf_undo.proofs.scaffold.give_up.Goals as goal
+
+pub returns : goal.returns
+returns c = ?
