@@ -26,3 +26,4 @@ pub mod CutStands
 pub mod CutSteps
 pub mod AttributeSteps
 pub mod ChildLemmas
+pub mod IndexLemmas
