@@ -18,7 +18,7 @@ use Rattle.xf_doc.specs.WellFormed.{IsKeeping, has_document}
 use Rattle.xf_doc.specs.Undo.{Change, of_text, Entry, Ledger, with_note, with_set, is_known, text_filled, rolled_back}
 use Rattle.xf_doc.specs.Undo as undo
 use Rattle.xf_doc.proofs.BackLaws.{after_set, false-true}
-use Rattle.xf_undo.specs.Made.{Made, begun, noted, texts, joined, cut, grown}
+use Rattle.xf_undo.specs.Made.{Made, begun, noted, texts, joined, cut, grown, CutsElements}
 use Rattle.xf_undo.specs.Back.{CanRollBack}
 use Rattle.xf_undo.proofs.Trees.{Trees, none, tree, onto, followed, times}
 use Rattle.xf_undo.proofs.TreeShape.{Sound}
@@ -170,15 +170,6 @@ known (texts limits n text before later m sound able e) = n ∷ known m
 known (joined n parent place m sound may) = known m
 known (cut n parent place m sound may stood) = without_number parent (known m)
 known (grown contents m sound growth) = known m
-
--- the trees that were cut off are elements
-abbrev pub CutsElements : {start : Keeping} {l : Ledger} {k : Keeping} → Made start l k → Type 0
-CutsElements (begun sound empty alone) = ⊤
-CutsElements (noted change m) = CutsElements m
-CutsElements (texts limits n text before later m sound able e) = CutsElements m
-CutsElements (joined n parent place m sound may) = CutsElements m
-CutsElements (cut {k = k} n parent place m sound may stood) = (kind_at n k.forest.nodes ≡ Some kind.Element) × CutsElements m
-CutsElements (grown contents m sound growth) = CutsElements m
 
 turned : (m n : ℕ) → (m == n) ≡ (n == m)
 turned m n = grind (arith, nat_tests)

@@ -2,8 +2,9 @@
 use Rattle.std.specs.Prelude.{ℕ, ◌≡◌, ◌+◌, false, List, [], ◌++◌, length, Some, Result, Ok}
 use Rattle.std.specs.List.{list_any}
 use Rattle.xf_doc.specs.declared.content.Content.{Content}
+use Rattle.xf_doc.specs.declared.content.Kind.TheVariants as kind
 use Rattle.xf_doc.specs.declared.fault.TreeFault.{TreeFault}
-use Rattle.xf_doc.specs.Forest.{Forest, is_root}
+use Rattle.xf_doc.specs.Forest.{Forest, is_root, kind_at}
 use Rattle.xf_doc.specs.Limits.{Limits}
 use Rattle.xf_doc.specs.Plant.{numbered_from}
 use Rattle.xf_doc.specs.Changes.{placed, detached, standing, in_detached}
@@ -34,3 +35,12 @@ pub data Made (start : Keeping) : Ledger → Keeping → Type 0 where
   cut : {l : Ledger} {k : Keeping} → (n parent place : ℕ) → Made start l k → IsKeeping k → MayDetach n k.forest → standing n k.forest.nodes ≡ Some (parent, place)
       → Made start (place_filled parent place (with_note (of_detach n) l)) (record k { forest = detached n k.forest })
   grown : {l : Ledger} {k : Keeping} → (contents : List (ℕ × Content)) → Made start l k → IsKeeping k → IsGrowth k.forest.next contents → Made start l (with_growth contents k)
+
+-- the trees that were cut off are elements
+abbrev pub CutsElements : {start : Keeping} {l : Ledger} {k : Keeping} → Made start l k → Type 0
+CutsElements (begun sound empty alone) = Unit {0}
+CutsElements (noted change m) = CutsElements m
+CutsElements (texts limits n text before later m sound able e) = CutsElements m
+CutsElements (joined n parent place m sound may) = CutsElements m
+CutsElements (cut {k = k} n parent place m sound may stood) = (kind_at n k.forest.nodes ≡ Some kind.Element) × CutsElements m
+CutsElements (grown contents m sound growth) = CutsElements m

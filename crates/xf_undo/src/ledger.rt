@@ -1,10 +1,12 @@
 //! The ledger: what was changed since a forest was kept, and how it is undone.
 ghost use Rattle.std.specs.Prelude.{◌≡◌, ◌<◌, ◌∷◌, ◌++◌, [], true, drop, nat_eq, vec_len, vec_capacity, OnOk, OnErr};
 ghost use Rattle.xf_doc.specs.Needs.{MayGiveUp};
+ghost use Rattle.xf_doc.specs.Texts.{Keeping};
 ghost use Rattle.xf_doc.specs.Undo.{kept_at, with_note, text_filled, place_filled, attach_filled, rolled_back, is_known};
 ghost use Rattle.xf_doc.specs.WellFormed.{IsKeeping};
 ghost use Rattle.xf_undo.specs.Back.{CanRollBack};
 ghost use Rattle.xf_undo.specs.Entries.{change_of, entries_of};
+ghost use Rattle.xf_undo.specs.Made.{Made, CutsElements};
 ghost use Rattle.xf_undo.specs.Index.{IsListed, are_quiet};
 
 use crate::entry::{Change, Entry, is_known, is_set_of, text_noted, undo_all, with_attach, with_place};
@@ -30,12 +32,14 @@ pub struct Ledger {
 }
 
 impl Model for Ledger {
-    ghost use Rattle.xf_doc.specs.Undo.{Ledger as Known};
+    ghost use Rattle.xf_doc.specs.Texts.{Keeping};
+ghost use Rattle.xf_doc.specs.Undo.{Ledger as Known};
 
     ghost Value = { Known };
 
     ghost use Rattle.xf_undo.specs.Entries.{entries_of};
-    ghost use Rattle.xf_undo.specs.Index.{IsIndexed};
+    ghost use Rattle.xf_undo.specs.Made.{Made, CutsElements};
+ghost use Rattle.xf_undo.specs.Index.{IsIndexed};
 
     ghost view = { λ l. record { entries = entries_of l.entries.items; next = l.next } };
 
@@ -123,6 +127,7 @@ impl Ledger {
         requires { CanRollBack self.old forest.old }
         ensures back { forest.new ≡ rolled_back self.old forest.old }
         ensures none { self.new ≡ record { entries = []; next = self.old.next } }
+        ensures law { (start : Keeping) (made : Made start self.old forest.old) → CutsElements made → IsKeeping forest.old → forest.new ≡ start }
     {
         undo_all(&mut self.entries, forest);
         self.seats.clear();
