@@ -5,4 +5,3 @@ pub mod Calls
 pub mod Contents
 pub mod Below
 pub mod Older
-pub mod Texts

@@ -2,7 +2,6 @@
 #![tactic(auto)]
 
 mod attach;
-mod before;
 mod change;
 mod drop;
 mod fault;
@@ -19,5 +18,4 @@ mod tests;
 mod text;
 mod tree;
 
-pub use before::Before;
 pub use forest::Forest;

@@ -9,7 +9,6 @@ ghost use Rattle.xf_undo.specs.Children.{is_number, is_attribute_kind};
 ghost use Rattle.xf_undo.specs.Entries.{entry_of, entries_of, placed_entry, attached_entry, text_noted};
 
 use xf_doc::{Kind, NodeId};
-use crate::scaffold::put_back;
 use xf_tree::{Before, Forest};
 
 /// A change that is about to be made: a text set, a tree attached, a tree detached, each by its node.
@@ -189,7 +188,7 @@ fn undo(forest: &mut Forest, entry: Entry)
 {
     match entry {
         Entry::Noted(_) => {}
-        Entry::Set(node, before) => put_back(forest, node, before),
+        Entry::Set(node, before) => forest.put_back(node, before),
         Entry::Joined(node) => {
             let _ = forest.detach(node);
         }

@@ -10,7 +10,6 @@ ghost use Rattle.xf_undo.specs.Made.{Made, CutsElements};
 ghost use Rattle.xf_undo.specs.Index.{IsListed, are_quiet};
 
 use crate::entry::{Change, Entry, is_known, is_set_of, text_noted, undo_all, with_attach, with_place};
-use crate::scaffold::give_up;
 use indexmap::IndexMap;
 use std::alloc::{AllocError, Global};
 use std::marker::Model;
@@ -90,7 +89,7 @@ impl Ledger {
         match text_noted(&entry) {
             Some(node) => {
                 if is_known_by(node, forest, &self.entries, &self.seats, self.still) {
-                    give_up(forest, before);
+                    forest.give_up(before);
                 } else {
                     // There is room, so that this cannot fail.
                     let _ = self.seats.insert(node.number, self.entries.len());

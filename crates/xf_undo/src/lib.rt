@@ -3,7 +3,8 @@
 
 mod entry;
 mod ledger;
-mod scaffold;
+#[cfg(test)]
+mod tests;
 
 pub use entry::Change;
 pub use ledger::Ledger;

@@ -1,4 +1,0 @@
-use Rattle.xf_undo.proofs.scaffold.put_back.Goals as goal
-
-pub returns : goal.returns
-returns c = ?
