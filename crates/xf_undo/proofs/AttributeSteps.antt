@@ -22,7 +22,8 @@ use Rattle.xf_undo.proofs.TreeMoved.{some, value-attribute}
 use Rattle.xf_undo.proofs.TreeBlank.{AreTexts}
 use Rattle.xf_undo.proofs.TreeFacts.{is_at, or-cases, some-followed}
 use Rattle.xf_undo.proofs.KeepingTrees.{Stands, any-is}
-use Rattle.xf_undo.proofs.TextSteps.{after-nodes, valued-nodes, one_text-texts}
+use Rattle.xf_undo.proofs.TextSteps.{after-nodes, one_text-texts}
+use Rattle.xf_undo.proofs.ValueSteps.{valued-nodes}
 use Rattle.xf_undo.proofs.TreeMoves.{removed, found, removed-absent, found-absent, followed-none, removed-followed, found-followed, detached-onto}
 use Rattle.xf_undo.proofs.TreePlaces.{with_tree, changed}
 use Rattle.xf_undo.proofs.MoveFacts.{removed-none, removed-some}

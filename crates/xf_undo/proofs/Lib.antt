@@ -10,7 +10,10 @@ pub mod TreeLeaves
 pub mod KeepingTrees
 pub mod Alike
 pub mod TextSteps
+pub mod ValueSteps
 pub mod GrowthSteps
+pub mod StepCases
+pub mod KnownLemmas
 pub mod Laws
 pub mod TreeMoves
 pub mod TreePlaces
@@ -23,6 +26,7 @@ pub mod TreeRanks
 pub mod CutFacts
 pub mod CutCounts
 pub mod CutStands
+pub mod BearLemmas
 pub mod CutSteps
 pub mod AttributeSteps
 pub mod ChildLemmas
