@@ -94,8 +94,8 @@ module _ (n : ℕ) (ns : List ℕ) (t : Trees) (k k2 : Keeping) (sound : Sound f
   later-kind kind q test blind h =
       subst (λ l. kind_at n l ≡ Some kind) (sym a.nodes)
       (any-kind kind q test n (onto 0 a.later [])
-        (let e = times-onto n 0 a.later [] in let o = later-once in omega (arith, e, o))
-        (any-is q n a.later ∙ later-at q blind ∙ h))
+      (let e = times-onto n 0 a.later [] in let o = later-once in omega (arith, e, o))
+      (any-is q n a.later ∙ later-at q blind ∙ h))
 
   pub later-childless : elements false n t ≡ false → has_elements (visits k2.forest.nodes) n ≡ false
   later-childless h = ap (λ l. has_elements (visits l) n) a.nodes ∙ elements-are n a.later ∙ later-elements ∙ h

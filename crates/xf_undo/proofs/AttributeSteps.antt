@@ -70,7 +70,7 @@ attributes-less m (tree n c k r) h = by (is_attribute c) refl h (λ y. attribute
     by true e g next = or-cases ((n == m) && is_attribute c) (is_at is_attribute m k || is_at is_attribute m (attributes r)) g _
         (λ f. or-left ((n == m) && is_attribute c) (is_at is_attribute m k || is_at is_attribute m r) f)
         (λ f. or-right ((n == m) && is_attribute c) (is_at is_attribute m k || is_at is_attribute m r) (or-cases (is_at is_attribute m k) (is_at is_attribute m (attributes r)) f _
-          (λ x. or-left (is_at is_attribute m k) (is_at is_attribute m r) x) (λ x. or-right (is_at is_attribute m k) (is_at is_attribute m r) (next x))))
+        (λ x. or-left (is_at is_attribute m k) (is_at is_attribute m r) x) (λ x. or-right (is_at is_attribute m k) (is_at is_attribute m r) (next x))))
     by false e g next = or-right ((n == m) && is_attribute c) (is_at is_attribute m k || is_at is_attribute m r) (or-right (is_at is_attribute m k) (is_at is_attribute m r) (next g))
 
 retexted-less : (m n : ℕ) (s t : Trees) → AreTexts s → is_at is_attribute m (retexted n s t) ≡ true → is_at is_attribute m t ≡ true
@@ -79,8 +79,8 @@ retexted-less m n s (tree x c k r) texts h =
     or-cases ((x == m) && is_attribute c) (is_at is_attribute m (if x == n then followed (attributes k) s else retexted n s k) || is_at is_attribute m (retexted n s r)) h _
     (λ f. or-left ((x == m) && is_attribute c) (is_at is_attribute m k || is_at is_attribute m r) f)
     (λ f. or-right ((x == m) && is_attribute c) (is_at is_attribute m k || is_at is_attribute m r) (or-cases (is_at is_attribute m (if x == n then followed (attributes k) s else retexted n s k)) (is_at is_attribute m (retexted n s r)) f _
-      (λ g. or-left (is_at is_attribute m k) (is_at is_attribute m r) (by (x == n) g (λ y. retexted-less m n s k texts y)))
-      (λ g. or-right (is_at is_attribute m k) (is_at is_attribute m r) (retexted-less m n s r texts g))))
+    (λ g. or-left (is_at is_attribute m k) (is_at is_attribute m r) (by (x == n) g (λ y. retexted-less m n s k texts y)))
+    (λ g. or-right (is_at is_attribute m k) (is_at is_attribute m r) (retexted-less m n s r texts g))))
   where
     by : (b : Bool) → is_at is_attribute m (cond b (followed (attributes k) s) (retexted n s k)) ≡ true → (is_at is_attribute m (retexted n s k) ≡ true → is_at is_attribute m k ≡ true) → is_at is_attribute m k ≡ true
     by true g next = attributes-less m k (or-cases (is_at is_attribute m (attributes k)) (is_at is_attribute m s) (sym (some-followed (λ n c. (n == m) && is_attribute c) (attributes k) s) ∙ g) _ (λ y. y) (λ y. absurd (false-true (sym (texts-none m s texts) ∙ y))))
@@ -120,8 +120,8 @@ join-stay n parent place k sound may s = by may.stands
         let t = changed parent (with_tree place (found n s.trees)) (removed n s.trees) in
         from-trees k s (placed n parent place k.forest).nodes t (joined-nodes n parent place k sound may s kn q moves is kp above)
         (λ m h. sym (same-some (λ x c. (x == m) && is_attribute c) n t s.trees
-          (removed-changed n parent place (found n s.trees) (removed n s.trees) (removed-found n s.trees) (removed-none n s.trees))
-          (found-changed n parent place (found n s.trees) (removed n s.trees) (found-found n s.trees) (removed-none n s.trees) there)) ∙ h)
+        (removed-changed n parent place (found n s.trees) (removed n s.trees) (removed-found n s.trees) (removed-none n s.trees))
+        (found-changed n parent place (found n s.trees) (removed n s.trees) (found-found n s.trees) (removed-none n s.trees) there)) ∙ h)
 
     by : MayStand n parent place k.forest → AttributesStay k.forest.nodes (placed n parent place k.forest).nodes
     by (in_element is above le) = step kind.Element is_element element-moves is kind.Element above

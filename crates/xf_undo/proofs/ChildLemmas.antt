@@ -66,7 +66,7 @@ none-child m n above (x ∷ xs) h =
   where
     by : (b : Bool) → (m == x.number) ≡ false → has m (children_of n (visits_from (x ∷ still_above x.depth above) xs)) ≡ false
         → has m (map (λ (v : Visit). v.number) (cond b (record { number = x.number; above = map (λ (y : Node). y.number) (still_above x.depth above); content = x.content } ∷ filter (λ (v : Visit). is_first n v.above && not (is_attribute v.content)) (visits_from (x ∷ still_above x.depth above) xs))
-          (filter (λ (v : Visit). is_first n v.above && not (is_attribute v.content)) (visits_from (x ∷ still_above x.depth above) xs)))) ≡ false
+        (filter (λ (v : Visit). is_first n v.above && not (is_attribute v.content)) (visits_from (x ∷ still_above x.depth above) xs)))) ≡ false
     by true e h = rw (e, h) refl
     by false e h = h
 
@@ -85,14 +85,14 @@ child-from m n above (x ∷ xs) apart =
   where
     here : (f a : Bool) → (m == x.number) ≡ true → has m (children_of n (visits_from (x ∷ still_above x.depth above) xs)) ≡ false
         → has m (map (λ (v : Visit). v.number) (cond (f && not a) (record { number = x.number; above = map (λ (y : Node). y.number) (still_above x.depth above); content = x.content } ∷ filter (λ (v : Visit). is_first n v.above && not (is_attribute v.content)) (visits_from (x ∷ still_above x.depth above) xs))
-          (filter (λ (v : Visit). is_first n v.above && not (is_attribute v.content)) (visits_from (x ∷ still_above x.depth above) xs)))) ≡ (f && not a)
+        (filter (λ (v : Visit). is_first n v.above && not (is_attribute v.content)) (visits_from (x ∷ still_above x.depth above) xs)))) ≡ (f && not a)
     here true true e h = h
     here true false e h = rw e refl
     here false a e h = h
 
     there : (b : Bool) → (m == x.number) ≡ false → has m (children_of n (visits_from (x ∷ still_above x.depth above) xs)) ≡ (is_number (parent_of m (visits_from (x ∷ still_above x.depth above) xs)) n && not (is_attribute_at m xs))
         → has m (map (λ (v : Visit). v.number) (cond b (record { number = x.number; above = map (λ (y : Node). y.number) (still_above x.depth above); content = x.content } ∷ filter (λ (v : Visit). is_first n v.above && not (is_attribute v.content)) (visits_from (x ∷ still_above x.depth above) xs))
-          (filter (λ (v : Visit). is_first n v.above && not (is_attribute v.content)) (visits_from (x ∷ still_above x.depth above) xs))))
+        (filter (λ (v : Visit). is_first n v.above && not (is_attribute v.content)) (visits_from (x ∷ still_above x.depth above) xs))))
         ≡ (is_number (parent_of m (visits_from (x ∷ still_above x.depth above) xs)) n && not (is_attribute_at m xs))
     there true e h = rw e h
     there false e h = h

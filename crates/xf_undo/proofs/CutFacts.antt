@@ -51,10 +51,11 @@ never-of w q other n (tree m c k r) once at_ =
           let in_r : times n r ≡ 0 = omega (arith, (rw e at once)) in
           (λ f. other c (first (rw e at at_) in_k in_r), never-absent w n k in_k, never-absent w n r in_r)
       | inr e ↦
-          let whole : times n k + times n r ≤ 1 = omega (arith, (rw e at once)) in
-          (λ f. absurd (false-true (sym e ∙ f)),
-          or-cases (is_at q n k) (is_at q n r) (rw e at at_) (Never w n k) (λ g. never-of w q other n k (omega (arith, whole)) g) (λ g. let z = at-times q n r g in never-absent w n k (omega (arith, whole, z))),
-          or-cases (is_at q n k) (is_at q n r) (rw e at at_) (Never w n r) (λ g. let z = at-times q n k g in never-absent w n r (omega (arith, whole, z))) (λ g. never-of w q other n r (omega (arith, whole)) g))
+          let whole : times n k + times n r ≤ 1 = omega (arith, (rw e at once)) in (
+            λ f. absurd (false-true (sym e ∙ f)),
+            or-cases (is_at q n k) (is_at q n r) (rw e at at_) (Never w n k) (λ g. never-of w q other n k (omega (arith, whole)) g) (λ g. let z = at-times q n r g in never-absent w n k (omega (arith, whole, z))),
+            or-cases (is_at q n k) (is_at q n r) (rw e at at_) (Never w n r) (λ g. let z = at-times q n k g in never-absent w n r (omega (arith, whole, z))) (λ g. never-of w q other n r (omega (arith, whole)) g),
+          )
     ]
   where
     first : (q c || (is_at q n k || is_at q n r)) ≡ true → times n k ≡ 0 → times n r ≡ 0 → q c ≡ true
@@ -94,11 +95,11 @@ sound-with place (tree m c j r) k a b = by (is_attribute c)
 pub sound-changed : (p place : ℕ) (s : Trees) (u : Bool) (t : Trees) → Sound true s → Never is_leaf p t → Sound u t → Sound u (changed p (with_tree place s) t)
 sound-changed p place s u none a never h = tt
 sound-changed p place s u (tree m c k r) a never h = (
-    λ e. bare e (m == p) refl (h.0 e),
-    h.1,
-    by (m == p) (sound-changed p place s true k a never.1 h.2),
-    sound-changed p place s u r a never.2 h.3,
-  )
+  λ e. bare e (m == p) refl (h.0 e),
+  h.1,
+  by (m == p) (sound-changed p place s true k a never.1 h.2),
+  sound-changed p place s u r a never.2 h.3,
+)
   where
     bare : is_leaf c ≡ true → (b : Bool) → (m == p) ≡ b → k ≡ none → cond b (with_tree place s k) (changed p (with_tree place s) k) ≡ none
     bare e true f g = absurd (false-true (sym (never.0 f) ∙ e))

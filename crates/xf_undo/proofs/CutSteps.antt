@@ -229,7 +229,7 @@ module _ (n parent place : ℕ) (k : Keeping) (sound : IsKeeping k) (is : kind_a
         (subst (λ x. Moved x (blank ns (again a.later))) (sym (again-blank whole whole-sound (no_text-of is_element element-moves.no_text n whole whole-once whole-at)))
         (subst (Moved (changed parent (with_tree place (found n (blank ns whole))) (removed n (blank ns whole)))) (sym (again-blank a.later a.sound (no_text-of is_element element-moves.no_text n a.later (let o = later-one in omega (arith, o)) cut-later)))
         (subst (λ x. Moved (changed parent (with_tree place (found n (blank ns whole))) (removed n (blank ns whole))) (changed parent (with_tree place x) (removed n (blank ns a.later))))
-          (moved-found n a.like (let x = blank-times n ns whole in let y = whole-once in omega (arith, x, y)))
+        (moved-found n a.like (let x = blank-times n ns whole in let y = whole-once in omega (arith, x, y)))
         (moved-changed parent (with_tree place (found n (blank ns whole))) (moved-removed n a.like)))))
 
     pub cut-alike : (ms : List ℕ) → ((m : ℕ) → has m ns ≡ true → has m ms ≡ true) → Alike ms s.trees k (record k2 { forest = placed n parent place k2.forest })

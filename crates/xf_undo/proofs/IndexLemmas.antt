@@ -126,7 +126,7 @@ quiet-further (suc still) (suc at) (x ∷ xs) le h = quiet-further still at xs (
 known-from : (n : ℕ) (k : Keeping) (bs later : List Entry) (e : Entry) → are_quiet later ≡ true → is_set_of n (entry_of e) ≡ true → is_known n k (entries_of (bs ++ e ∷ later)) ≡ true
 known-from n k bs later e h s =
     subst (λ l. is_known n k l ≡ true)
-      (sym (ap reverse (map-append entry_of bs (e ∷ later)) ∙ reverse-append (map entry_of bs) (map entry_of (e ∷ later)) ∙ ap (λ l. l ++ entries_of bs) (reverse-cons (entry_of e) (map entry_of later)) ∙ append_assoc (entries_of later) (entry_of e ∷ []) (entries_of bs)))
+    (sym (ap reverse (map-append entry_of bs (e ∷ later)) ∙ reverse-append (map entry_of bs) (map entry_of (e ∷ later)) ∙ ap (λ l. l ++ entries_of bs) (reverse-cons (entry_of e) (map entry_of later)) ∙ append_assoc (entries_of later) (entry_of e ∷ []) (entries_of bs)))
     (known-behind n k (entries_of later) (entry_of e) (entries_of bs) (quiet-reversed later h) s)
 
 parted : (at : ℕ) (es : List Entry) (e : Entry) → at < length es → e ≡ get_or es at e → es ≡ take at es ++ e ∷ drop (suc at) es

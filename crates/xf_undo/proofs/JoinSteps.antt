@@ -207,7 +207,7 @@ module _ (n parent place : ℕ) (k : Keeping) (sound : IsKeeping k) (may : MayAt
     moved-back : Moved (followed s.trees a.extra) (followed (removed n whole) (found n whole))
     moved-back = subst (Moved (followed s.trees a.extra)) (sym before-last)
         (top-last n (followed s.trees a.extra) (top-followed n s.trees a.extra was-top (fresh-no_roots k.forest.next a.extra a.fresh))
-          (let x = times-followed n s.trees a.extra in let y = joined-absent in let z = join-once in omega (arith, x, y, z)))
+        (let x = times-followed n s.trees a.extra in let y = joined-absent in let z = join-once in omega (arith, x, y, z)))
 
     -- what cutting off leaves of both
     cut-alike : Moved (blank ns (followed (removed n whole) (found n whole))) (blank ns (followed (removed n a.later) (found n a.later)))

@@ -41,9 +41,9 @@ blank-removed n ns (tree m c k r) =
     elim (cases_Bool (m == n)) [
       | inl e ↦ rw e (blank-removed n ns r)
       | inr e ↦ rw e (
-        ap (tree m (if has m ns then with_value [] c else c) (if has m ns then textless (blank ns (removed n k)) else blank ns (removed n k))) (blank-removed n ns r)
-        ∙ ap (λ x. tree m (if has m ns then with_value [] c else c) x (removed n (blank ns r))) (by (has m ns) (blank-removed n ns k))
-      )
+          ap (tree m (if has m ns then with_value [] c else c) (if has m ns then textless (blank ns (removed n k)) else blank ns (removed n k))) (blank-removed n ns r)
+          ∙ ap (λ x. tree m (if has m ns then with_value [] c else c) x (removed n (blank ns r))) (by (has m ns) (blank-removed n ns k))
+          )
     ]
   where
     by : (b : Bool) → blank ns (removed n k) ≡ removed n (blank ns k) → cond b (textless (blank ns (removed n k))) (blank ns (removed n k)) ≡ removed n (cond b (textless (blank ns k)) (blank ns k))
@@ -78,10 +78,11 @@ no_text-of q other n (tree m c k r) once at_ =
           let in_r : times n r ≡ 0 = omega (arith, (rw e at once)) in
           (λ f. other c (first (rw e at at_) in_k in_r), no_text-absent n k in_k, no_text-absent n r in_r)
       | inr e ↦
-          let whole : times n k + times n r ≤ 1 = omega (arith, (rw e at once)) in
-          (λ f. absurd (false-true (sym e ∙ f)),
-          or-cases (is_at q n k) (is_at q n r) (rw e at at_) (NoText n k) (λ g. no_text-of q other n k (omega (arith, whole)) g) (λ g. let z = at-times q n r g in no_text-absent n k (omega (arith, whole, z))),
-          or-cases (is_at q n k) (is_at q n r) (rw e at at_) (NoText n r) (λ g. let z = at-times q n k g in no_text-absent n r (omega (arith, whole, z))) (λ g. no_text-of q other n r (omega (arith, whole)) g))
+          let whole : times n k + times n r ≤ 1 = omega (arith, (rw e at once)) in (
+            λ f. absurd (false-true (sym e ∙ f)),
+            or-cases (is_at q n k) (is_at q n r) (rw e at at_) (NoText n k) (λ g. no_text-of q other n k (omega (arith, whole)) g) (λ g. let z = at-times q n r g in no_text-absent n k (omega (arith, whole, z))),
+            or-cases (is_at q n k) (is_at q n r) (rw e at at_) (NoText n r) (λ g. let z = at-times q n k g in no_text-absent n r (omega (arith, whole, z))) (λ g. no_text-of q other n r (omega (arith, whole)) g),
+          )
     ]
   where
     first : (q c || (is_at q n k || is_at q n r)) ≡ true → times n k ≡ 0 → times n r ≡ 0 → q c ≡ true

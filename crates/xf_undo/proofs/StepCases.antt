@@ -57,7 +57,7 @@ module _ (start : Keeping) (l : Ledger) (k : Keeping) (n : ℕ) (text : List ℕ
     where
       by : (known : Bool) → (known ≡ true → has n ns ≡ true)
           → Goal start (n ∷ ns) (cond known (record { entries = l.entries; next = l.next }, given_up (element_texts (numbers (texts_in (tree_of n k.forest.nodes)))) after)
-            (record { entries = undo.set n (element_texts (numbers (texts_in (tree_of n k.forest.nodes)))) ∷ l.entries; next = l.next }, after))
+          (record { entries = undo.set n (element_texts (numbers (texts_in (tree_of n k.forest.nodes)))) ∷ l.entries; next = l.next }, after))
       by true h t nodes whole once k2 a = back k2 (element-known n text k sound able s other t nodes whole (once n) ns (h refl) k2 a)
       by false h t nodes whole once k2 a =
           let r = back (put_back n (element_texts (numbers (texts_in (tree_of n k.forest.nodes)))) k2) (element-alike n text k sound able s other t nodes whole (once n) ns k2 a) in
@@ -68,7 +68,7 @@ module _ (start : Keeping) (l : Ledger) (k : Keeping) (n : ℕ) (text : List ℕ
     where
       by : (known : Bool) → (known ≡ true → has n ns ≡ true)
           → Goal start (n ∷ ns) (cond known (record { entries = l.entries; next = l.next }, given_up (attribute_text (value_in (tree_of n k.forest.nodes))) after)
-            (record { entries = undo.set n (attribute_text (value_in (tree_of n k.forest.nodes))) ∷ l.entries; next = l.next }, after))
+          (record { entries = undo.set n (attribute_text (value_in (tree_of n k.forest.nodes))) ∷ l.entries; next = l.next }, after))
       by true h t nodes whole once k2 a = back k2 (attribute-known n text k sound able s is t nodes whole (once n) ns k2 a (h refl))
       by false h t nodes whole once k2 a =
           let r = back (put_back n (attribute_text (value_in (tree_of n k.forest.nodes))) k2) (attribute-alike n text k sound able s is t nodes whole (once n) ns k2 a) in
@@ -147,14 +147,14 @@ cut-case start l k n parent place sound is stood_ ns ms out more s back t nodes 
         let count = later-children n parent place k sound is stood_ s kind.Element is_element element-bears above t nodes whole once ns out k2 a in
         let fits = place-fits n parent place k sound is stood_ s kind.Element is_element element-bears above t nodes whole once ns out k2 a in
         end (in_element (cut-element n parent place k sound is stood_ s kind.Element is_element element-bears above t nodes whole once ns out k2 a)
-          (cut-parent-kind n parent place k sound is stood_ s kind.Element is_element element-bears above t nodes whole once ns out k2 a)
-          (grind (arith, nat_tests, count, fits))) kind.Element is_element element-bears above
+        (cut-parent-kind n parent place k sound is stood_ s kind.Element is_element element-bears above t nodes whole once ns out k2 a)
+        (grind (arith, nat_tests, count, fits))) kind.Element is_element element-bears above
     by (inr above) =
         let count = later-children n parent place k sound is stood_ s kind.Root is_root root-bears above t nodes whole once ns out k2 a in
         let fits = place-fits n parent place k sound is stood_ s kind.Root is_root root-bears above t nodes whole once ns out k2 a in
         let fewer = (cut-stood n parent place k sound is stood_ s).fewer in
         let one = root-kids parent s.trees (subst (λ l. list_all (has_document (visits l)) (visits l) ≡ true) s.nodes sound.forest.documents) above in
         end (in_root (cut-element n parent place k sound is stood_ s kind.Root is_root root-bears above t nodes whole once ns out k2 a)
-          (cut-parent-kind n parent place k sound is stood_ s kind.Root is_root root-bears above t nodes whole once ns out k2 a)
-          (no-items (children_of parent (visits k2.forest.nodes)) (omega (arith, count, fewer, one)))
-          (omega (arith, fits, fewer, one))) kind.Root is_root root-bears above
+        (cut-parent-kind n parent place k sound is stood_ s kind.Root is_root root-bears above t nodes whole once ns out k2 a)
+        (no-items (children_of parent (visits k2.forest.nodes)) (omega (arith, count, fewer, one)))
+        (omega (arith, fits, fewer, one))) kind.Root is_root root-bears above

@@ -204,7 +204,7 @@ module _ (n : ℕ) (text : List ℕ) (k : Keeping) (sound : IsKeeping k) (able :
             ap (λ l. with_texts n (back (filter (is_of (numbers texts)) l)) k2.forest.nodes) a.kept
             ∙ ap (with_texts n (back (filter (is_of (numbers texts)) (after_set n text k).kept))) a.nodes
             ∙ texts-onto n (back (filter (is_of (numbers texts)) (after_set n text k).kept)) 0 a.later []
-              (let x = at-times is_element n a.later again-at in let y = again-once in omega (arith, x, y)) (bare-leaf n a.later again-leaf) tt;
+            (let x = at-times is_element n a.later again-at in let y = again-once in omega (arith, x, y)) (bare-leaf n a.later again-leaf) tt;
         kept = ap (without (numbers texts)) a.kept ∙ ap (λ x. x.kept) undone-is;
         next = let h = a.next in omega (arith, h);
         fresh = fresh-less k.forest.next (with_text n text k.forest).next a.extra (omega arith) a.fresh;
@@ -213,8 +213,8 @@ module _ (n : ℕ) (text : List ℕ) (k : Keeping) (sound : IsKeeping k) (able :
         once = back-once;
         like =
             subst (λ x. Moved (blank ns x) (blank ns (retexted n came a.later)))
-              (retexted-followed n came t a.extra ∙ ap (λ x. followed x (retexted n came a.extra)) came-is ∙ ap (followed s.trees) (retexted-absent n came a.extra came-absent))
+            (retexted-followed n came t a.extra ∙ ap (λ x. followed x (retexted n came a.extra)) came-is ∙ ap (followed s.trees) (retexted-absent n came a.extra came-absent))
             (retexted-alike n came ns (followed t a.extra) a.later (back-texts (filter (is_of (numbers texts)) (after_set n text k).kept))
-              (let x = times-followed n t a.extra in let y = came-absent in omega (arith, x, y, once_after)) again-once
-              (leaf-followed n t a.extra after-leaf (leaf-absent n a.extra came-absent)) again-leaf a.like);
+            (let x = times-followed n t a.extra in let y = came-absent in omega (arith, x, y, once_after)) again-once
+            (leaf-followed n t a.extra after-leaf (leaf-absent n a.extra came-absent)) again-leaf a.like);
       }

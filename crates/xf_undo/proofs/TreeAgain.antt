@@ -84,8 +84,8 @@ again-blank n s ns (tree m c k r) out texts once leaf =
           let l = leaf.0 e in
           rw (e, same_has m n ns false e out)
           (ap (λ x. tree m c x (blank ns (retexted n s r)))
-            (blank-followed ns (attributes k) s ∙ ap (followed (blank ns (attributes k))) (blank-texts ns s texts)
-            ∙ ap (λ x. followed x s) (sym (attributes-blank ns k) ∙ sym (attributes-textless (blank ns k)) ∙ ap (λ x. attributes (textless x)) (sym (blank-absent n ns k no))))
+          (blank-followed ns (attributes k) s ∙ ap (followed (blank ns (attributes k))) (blank-texts ns s texts)
+          ∙ ap (λ x. followed x s) (sym (attributes-blank ns k) ∙ sym (attributes-textless (blank ns k)) ∙ ap (λ x. attributes (textless x)) (sym (blank-absent n ns k no))))
           ∙ ap (λ x. tree m x (followed (attributes (textless (blank (n ∷ ns) k))) s) (blank ns (retexted n s r))) (sym (value-other [] c (element-no_attribute c l.0)))
           ∙ ap (tree m (with_value [] c) (followed (attributes (textless (blank (n ∷ ns) k))) s)) (again-blank n s ns r out texts (omega (arith, (rw e at once))) leaf.2))
       | inr e ↦
@@ -109,8 +109,8 @@ no-difference n s ns (tree m c k r) within texts leaf =
           let l = leaf.0 e in
           rw (e, same_has m n ns true e within)
           (ap (λ x. tree m (with_value [] c) x (blank ns (retexted n s r)))
-            (ap textless (blank-followed ns (attributes k) s ∙ ap (followed (blank ns (attributes k))) (blank-texts ns s texts) ∙ ap (λ x. followed x s) (sym (attributes-blank ns k)))
-            ∙ textless-texts (blank ns k) s texts ∙ sym (textless-leaves (blank ns k) (blank-leaves ns k l.1)))
+          (ap textless (blank-followed ns (attributes k) s ∙ ap (followed (blank ns (attributes k))) (blank-texts ns s texts) ∙ ap (λ x. followed x s) (sym (attributes-blank ns k)))
+          ∙ textless-texts (blank ns k) s texts ∙ sym (textless-leaves (blank ns k) (blank-leaves ns k l.1)))
           ∙ ap (tree m (with_value [] c) (textless (blank ns k))) (no-difference n s ns r within texts leaf.2))
       | inr e ↦
           rw e (ap (tree m (if has m ns then with_value [] c else c) (if has m ns then textless (blank ns (retexted n s k)) else blank ns (retexted n s k))) (no-difference n s ns r within texts leaf.2)
@@ -177,7 +177,7 @@ pub revalued-within : (n : ℕ) (text : List ℕ) (ns : List ℕ) (t : Trees) �
 revalued-within n text ns none within = refl
 revalued-within n text ns (tree m c k r) within =
     ap (tree m (if has m ns then with_value [] (if m == n then with_value text c else c) else (if m == n then with_value text c else c))
-      (if has m ns then textless (blank ns (revalued n text k)) else blank ns (revalued n text k))) (revalued-within n text ns r within)
+    (if has m ns then textless (blank ns (revalued n text k)) else blank ns (revalued n text k))) (revalued-within n text ns r within)
     ∙ ap (λ x. tree m (if has m ns then with_value [] (if m == n then with_value text c else c) else (if m == n then with_value text c else c)) (if has m ns then textless x else x) (blank ns r)) (revalued-within n text ns k within)
     ∙ ap (λ x. tree m x (if has m ns then textless (blank ns k) else blank ns k) (blank ns r)) (by (m == n) refl)
   where

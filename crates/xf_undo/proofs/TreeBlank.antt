@@ -102,12 +102,12 @@ pub blank-more : (ns ms : List ℕ) → ((n : ℕ) → has n ns ≡ true → has
 blank-more ns ms more none = refl
 blank-more ns ms more (tree n c k r) =
     ap (tree n (if has n ms then with_value [] (if has n ns then with_value [] c else c) else (if has n ns then with_value [] c else c))
-      (if has n ms then textless (blank ms (if has n ns then textless (blank ns k) else blank ns k)) else blank ms (if has n ns then textless (blank ns k) else blank ns k))) (blank-more ns ms more r)
+    (if has n ms then textless (blank ms (if has n ns then textless (blank ns k) else blank ns k)) else blank ms (if has n ns then textless (blank ns k) else blank ns k))) (blank-more ns ms more r)
     ∙ by (has n ms) (has n ns) (more n) (blank-more ns ms more k)
   where
     by : (b a : Bool) → (a ≡ true → b ≡ true) → blank ms (blank ns k) ≡ blank ms k
         → tree n (cond b (with_value [] (cond a (with_value [] c) c)) (cond a (with_value [] c) c))
-          (cond b (textless (blank ms (cond a (textless (blank ns k)) (blank ns k)))) (blank ms (cond a (textless (blank ns k)) (blank ns k)))) (blank ms r)
+        (cond b (textless (blank ms (cond a (textless (blank ns k)) (blank ns k)))) (blank ms (cond a (textless (blank ns k)) (blank ns k)))) (blank ms r)
         ≡ tree n (cond b (with_value [] c) c) (cond b (textless (blank ms k)) (blank ms k)) (blank ms r)
     by true true m h = ap (λ x. tree n x (textless (blank ms (textless (blank ns k)))) (blank ms r)) (value-over [] [] c)
         ∙ ap (λ x. tree n (with_value [] c) x (blank ms r)) (textless-blank ms (blank ns k) ∙ ap textless h)

@@ -39,11 +39,11 @@ sound-textless inside (tree n c k r) h = by (is_text c) (sound-textless inside r
 pub sound-blank : (inside : Bool) (ns : List ℕ) (t : Trees) → Sound inside t → Sound inside (blank ns t)
 sound-blank inside ns none h = tt
 sound-blank inside ns (tree n c k r) h = (
-    λ e. bare (h.0 (sym (leaf-value (has n ns) [] c) ∙ e)),
-    ap (λ b. b && inside) (root-value (has n ns) [] c) ∙ h.1,
-    by (has n ns) (sound-blank true ns k h.2),
-    sound-blank inside ns r h.3,
-  )
+  λ e. bare (h.0 (sym (leaf-value (has n ns) [] c) ∙ e)),
+  ap (λ b. b && inside) (root-value (has n ns) [] c) ∙ h.1,
+  by (has n ns) (sound-blank true ns k h.2),
+  sound-blank inside ns r h.3,
+)
   where
     bare : k ≡ none → (if has n ns then textless (blank ns k) else blank ns k) ≡ none
     bare e = subst (λ j. (if has n ns then textless (blank ns j) else blank ns j) ≡ none) (sym e) (both (has n ns))
@@ -96,11 +96,11 @@ sound-retexted inside n s (tree m c k r) texts leaf h =
 pub sound-revalued : (inside : Bool) (n : ℕ) (text : List ℕ) (t : Trees) → Sound inside t → Sound inside (revalued n text t)
 sound-revalued inside n text none h = tt
 sound-revalued inside n text (tree m c k r) h = (
-    λ f. subst (λ j. revalued n text j ≡ none) (sym (h.0 (sym (leaf-value (m == n) text c) ∙ f))) refl,
-    ap (λ b. b && inside) (root-value (m == n) text c) ∙ h.1,
-    sound-revalued true n text k h.2,
-    sound-revalued inside n text r h.3,
-  )
+  λ f. subst (λ j. revalued n text j ≡ none) (sym (h.0 (sym (leaf-value (m == n) text c) ∙ f))) refl,
+  ap (λ b. b && inside) (root-value (m == n) text c) ∙ h.1,
+  sound-revalued true n text k h.2,
+  sound-revalued inside n text r h.3,
+)
 
 -- ---- tests of nodes, for which texts do not count
 

@@ -111,10 +111,11 @@ leaf-of n inside u (tree m c k r) s once at_ h =
           let is : is_element c ≡ true = first (rw e at at_) in_k in_r in
           (λ f. (is, leaves-of n k s.2 (subst (λ b. elements b n k ≡ false) (turned m n e) inner.0)), leaf-absent n k in_k, leaf-absent n r in_r)
       | inr e ↦
-          let whole : times n k + times n r ≤ 1 = omega (arith, (rw e at once)) in
-          (λ f. absurd (false-true (sym e ∙ f)),
-          or-cases (is_at is_element n k) (is_at is_element n r) (rw e at at_) (LeafAt n k) (λ g. leaf-of n true (n == m) k s.2 (omega (arith, whole)) g inner.0) (λ g. let z = at-times is_element n r g in leaf-absent n k (omega (arith, whole, z))),
-          or-cases (is_at is_element n k) (is_at is_element n r) (rw e at at_) (LeafAt n r) (λ g. let z = at-times is_element n k g in leaf-absent n r (omega (arith, whole, z))) (λ g. leaf-of n inside u r s.3 (omega (arith, whole)) g inner.1))
+          let whole : times n k + times n r ≤ 1 = omega (arith, (rw e at once)) in (
+            λ f. absurd (false-true (sym e ∙ f)),
+            or-cases (is_at is_element n k) (is_at is_element n r) (rw e at at_) (LeafAt n k) (λ g. leaf-of n true (n == m) k s.2 (omega (arith, whole)) g inner.0) (λ g. let z = at-times is_element n r g in leaf-absent n k (omega (arith, whole, z))),
+            or-cases (is_at is_element n k) (is_at is_element n r) (rw e at at_) (LeafAt n r) (λ g. let z = at-times is_element n k g in leaf-absent n r (omega (arith, whole, z))) (λ g. leaf-of n inside u r s.3 (omega (arith, whole)) g inner.1),
+          )
     ]
   where
     first : (is_element c || (is_at is_element n k || is_at is_element n r)) ≡ true → times n k ≡ 0 → times n r ≡ 0 → is_element c ≡ true
@@ -145,10 +146,11 @@ attribute-of n inside (tree m c k r) s once at_ =
           let is : is_attribute c ≡ true = first (rw e at at_) in_k in_r in
           (λ f. (is, s.0 (ap (λ b. b || is_text c) is)), attribute-absent n k in_k, attribute-absent n r in_r)
       | inr e ↦
-          let whole : times n k + times n r ≤ 1 = omega (arith, (rw e at once)) in
-          (λ f. absurd (false-true (sym e ∙ f)),
-          or-cases (is_at is_attribute n k) (is_at is_attribute n r) (rw e at at_) (AttributeAt n k) (λ g. attribute-of n true k s.2 (omega (arith, whole)) g) (λ g. let z = at-times is_attribute n r g in attribute-absent n k (omega (arith, whole, z))),
-          or-cases (is_at is_attribute n k) (is_at is_attribute n r) (rw e at at_) (AttributeAt n r) (λ g. let z = at-times is_attribute n k g in attribute-absent n r (omega (arith, whole, z))) (λ g. attribute-of n inside r s.3 (omega (arith, whole)) g))
+          let whole : times n k + times n r ≤ 1 = omega (arith, (rw e at once)) in (
+            λ f. absurd (false-true (sym e ∙ f)),
+            or-cases (is_at is_attribute n k) (is_at is_attribute n r) (rw e at at_) (AttributeAt n k) (λ g. attribute-of n true k s.2 (omega (arith, whole)) g) (λ g. let z = at-times is_attribute n r g in attribute-absent n k (omega (arith, whole, z))),
+            or-cases (is_at is_attribute n k) (is_at is_attribute n r) (rw e at at_) (AttributeAt n r) (λ g. let z = at-times is_attribute n k g in attribute-absent n r (omega (arith, whole, z))) (λ g. attribute-of n inside r s.3 (omega (arith, whole)) g),
+          )
     ]
   where
     first : (is_attribute c || (is_at is_attribute n k || is_at is_attribute n r)) ≡ true → times n k ≡ 0 → times n r ≡ 0 → is_attribute c ≡ true
@@ -202,8 +204,8 @@ at-retexted n s (tree m c k r) leaf h =
     elim (cases_Bool (m == n)) [
       | inl e ↦ rw e (rw (leaf.0 e).0 refl)
       | inr e ↦ rw e (or-cases (is_at is_element n k) (is_at is_element n r) (rw e at h) ((is_at is_element n (retexted n s k) || is_at is_element n (retexted n s r)) ≡ true)
-        (λ g. ap (λ b. b || is_at is_element n (retexted n s r)) (at-retexted n s k leaf.1 g))
-        (λ g. ap (λ b. is_at is_element n (retexted n s k) || b) (at-retexted n s r leaf.2 g) ∙ or-true (is_at is_element n (retexted n s k))))
+          (λ g. ap (λ b. b || is_at is_element n (retexted n s r)) (at-retexted n s k leaf.1 g))
+          (λ g. ap (λ b. is_at is_element n (retexted n s k) || b) (at-retexted n s r leaf.2 g) ∙ or-true (is_at is_element n (retexted n s k))))
     ]
   where
     or-true : (b : Bool) → (b || true) ≡ true

@@ -32,7 +32,7 @@ children-seen p up (tree m c k r) vs = by (is_first p up && not (is_attribute c)
   where
     by : (b : Bool) → children_of p (seen (m ∷ up) k (seen up r vs)) ≡ childs (p == m) p k (childs (is_first p up) p r (children_of p vs))
         → map (λ (x : Visit). x.number) (cond b (record { number = m; above = up; content = c } ∷ filter (λ (x : Visit). is_first p x.above && not (is_attribute x.content)) (seen (m ∷ up) k (seen up r vs)))
-          (filter (λ (x : Visit). is_first p x.above && not (is_attribute x.content)) (seen (m ∷ up) k (seen up r vs))))
+        (filter (λ (x : Visit). is_first p x.above && not (is_attribute x.content)) (seen (m ∷ up) k (seen up r vs))))
         ≡ cond b (m ∷ childs (p == m) p k (childs (is_first p up) p r (children_of p vs))) (childs (p == m) p k (childs (is_first p up) p r (children_of p vs)))
     by true e = ap (λ l. m ∷ l) e
     by false e = e
@@ -252,7 +252,7 @@ changed-again n p (tree m c k r) ns (inl u) once one plain order =
     ap (λ x. changed p (with_tree (position_or_len (λ m. m == n) (childs false p (tree m c k r) ns)) x) (removed n (tree m c k r))) tree_is
     ∙ ap (λ i. changed p (with_tree i (found n k)) (removed n (tree m c k r))) place_is
     ∙ rw other (rw e (ap (λ x. tree m c x (changed p (with_tree (rank n k) (found n k)) (removed n r))) kids
-      ∙ ap (λ x. tree m c k (changed p (with_tree (rank n k) (found n k)) x)) (removed-absent n r n_r) ∙ ap (tree m c k) (changed-absent p (with_tree (rank n k) (found n k)) r p_r)))
+    ∙ ap (λ x. tree m c k (changed p (with_tree (rank n k) (found n k)) x)) (removed-absent n r n_r) ∙ ap (tree m c k) (changed-absent p (with_tree (rank n k) (found n k)) r p_r)))
   where
     plainly : (d : Content) (j : Trees) → is_attribute d ≡ false → with_tree (rank n k) (tree n d j none) (removed n k) ≡ inserted (rank n k) (tree n d j none) (removed n k)
     plainly d j q = rw q refl
@@ -273,7 +273,7 @@ changed-again n p (tree m c k r) ns (inr (inl u)) once one plain order =
     ap (λ x. changed p (with_tree (position_or_len (λ m. m == n) (childs false p (tree m c k r) ns)) x) (removed n (tree m c k r))) tree_is
     ∙ ap (λ l. changed p (with_tree (position_or_len (λ m. m == n) l) (found n k)) (removed n (tree m c k r))) list_is
     ∙ rw other (rw other_p (ap (λ x. tree m c x (changed p (with_tree place (found n k)) (removed n r))) (changed-again n p k (childs false p r ns) u n_k p_k parts.1 order.1)
-      ∙ ap (λ x. tree m c k (changed p (with_tree place (found n k)) x)) (removed-absent n r n_r) ∙ ap (tree m c k) (changed-absent p (with_tree place (found n k)) r p_r)))
+    ∙ ap (λ x. tree m c k (changed p (with_tree place (found n k)) x)) (removed-absent n r n_r) ∙ ap (tree m c k) (changed-absent p (with_tree place (found n k)) r p_r)))
 changed-again n p (tree m c k r) ns (inr (inr u)) once one plain order =
     let parts = not-at n m c k r plain in
     let a = (under-times n p r u).0 in
@@ -291,4 +291,4 @@ changed-again n p (tree m c k r) ns (inr (inr u)) once one plain order =
     ap (λ x. changed p (with_tree (position_or_len (λ m. m == n) (childs false p (tree m c k r) ns)) x) (removed n (tree m c k r))) tree_is
     ∙ ap (λ l. changed p (with_tree (position_or_len (λ m. m == n) l) (found n r)) (removed n (tree m c k r))) list_is
     ∙ rw other (rw other_p (ap (λ x. tree m c (changed p (with_tree place (found n r)) x) (changed p (with_tree place (found n r)) (removed n r))) (removed-absent n k n_k)
-      ∙ ap (λ x. tree m c x (changed p (with_tree place (found n r)) (removed n r))) (changed-absent p (with_tree place (found n r)) k p_k) ∙ ap (tree m c k) (changed-again n p r ns u n_r p_r parts.2 order.2)))
+    ∙ ap (λ x. tree m c x (changed p (with_tree place (found n r)) (removed n r))) (changed-absent p (with_tree place (found n r)) k p_k) ∙ ap (tree m c k) (changed-again n p r ns u n_r p_r parts.2 order.2)))

@@ -210,13 +210,13 @@ found-below n a up (tree m c k r) vs h =
     elim (cases_Bool (m == n)) [
       | inl e ↦ rw e refl
       | inr e ↦ rw e (
-        elim (cases_Bool (times n k == 0)) [
-          | inl z ↦
-              let none_ : times n k ≡ 0 = grind (arith, nat_tests, z) in
-              subst (λ o. is_some (first_of (above_in o)) ≡ true) (sym (find-absent n (m ∷ a ∷ up) k (seen (a ∷ up) r vs) none_)) (found-below n a up r vs (let g : 1 ≤ 0 + (times n k + times n r) = rw e at h in omega (arith, g, none_)))
-          | inr z ↦ found-below n m (a ∷ up) k (seen (a ∷ up) r vs) (grind (arith, nat_tests, z))
-        ]
-      )
+          elim (cases_Bool (times n k == 0)) [
+            | inl z ↦
+                let none_ : times n k ≡ 0 = grind (arith, nat_tests, z) in
+                subst (λ o. is_some (first_of (above_in o)) ≡ true) (sym (find-absent n (m ∷ a ∷ up) k (seen (a ∷ up) r vs) none_)) (found-below n a up r vs (let g : 1 ≤ 0 + (times n k + times n r) = rw e at h in omega (arith, g, none_)))
+            | inr z ↦ found-below n m (a ∷ up) k (seen (a ∷ up) r vs) (grind (arith, nat_tests, z))
+          ]
+          )
     ]
 
 pub hangs : (n : ℕ) (t : Trees) → tops n t ≡ false → 1 ≤ times n t → Hangs n (seen [] t [])
@@ -225,12 +225,12 @@ hangs n (tree m c k r) top h =
     let parts = or-false (m == n) (tops n r) top in
     let some_ : 1 ≤ 0 + (times n k + times n r) = rw parts.0 at h in
     rw parts.0 (
-      elim (cases_Bool (times n k == 0)) [
-        | inl z ↦
-            let none_ : times n k ≡ 0 = grind (arith, nat_tests, z) in
-            subst (λ o. is_some (first_of (above_in o)) ≡ true) (sym (find-absent n (m ∷ []) k (seen [] r []) none_)) (hangs n r parts.1 (omega (arith, some_, none_)))
-        | inr z ↦ found-below n m [] k (seen [] r []) (grind (arith, nat_tests, z))
-      ]
+    elim (cases_Bool (times n k == 0)) [
+      | inl z ↦
+          let none_ : times n k ≡ 0 = grind (arith, nat_tests, z) in
+          subst (λ o. is_some (first_of (above_in o)) ≡ true) (sym (find-absent n (m ∷ []) k (seen [] r []) none_)) (hangs n r parts.1 (omega (arith, some_, none_)))
+      | inr z ↦ found-below n m [] k (seen [] r []) (grind (arith, nat_tests, z))
+    ]
     )
 
 pub has-parent : (n : ℕ) (t : Trees) → tops n t ≡ false → 1 ≤ times n t → is_some (parent_of n (visits (onto 0 t []))) ≡ true

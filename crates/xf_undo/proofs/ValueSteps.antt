@@ -160,6 +160,6 @@ module _ (n : ℕ) (text : List ℕ) (k : Keeping) (sound : IsKeeping k) (able :
       once = λ p. let x = revalued-times p n value a.later in let y : times p a.later + kept_times p k.kept ≤ 1 = subst (λ l. times p a.later + kept_times p l ≤ 1) kept-same (a.once p) in omega (arith, x, y);
       like =
           subst (λ x. Moved (blank ns x) (blank ns (revalued n value a.later)))
-            (revalued-followed n value t a.extra ∙ ap (λ x. followed x (revalued n value a.extra)) value-back ∙ ap (followed s.trees) (revalued-absent n value a.extra value-absent))
+          (revalued-followed n value t a.extra ∙ ap (λ x. followed x (revalued n value a.extra)) value-back ∙ ap (followed s.trees) (revalued-absent n value a.extra value-absent))
           (revalued-alike n value ns (followed t a.extra) a.later attribute-there (attribute-of n false a.later a.sound value-once later-attribute) a.like);
     }

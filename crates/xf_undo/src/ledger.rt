@@ -9,7 +9,9 @@ ghost use Rattle.xf_undo.specs.Entries.{change_of, entries_of};
 ghost use Rattle.xf_undo.specs.Made.{Made, CutsElements};
 ghost use Rattle.xf_undo.specs.Index.{IsListed, are_quiet};
 
-use crate::entry::{Change, Entry, is_known, is_set_of, text_noted, undo_all, with_attach, with_place};
+use crate::entry::{
+    Change, Entry, is_known, is_set_of, text_noted, undo_all, with_attach, with_place,
+};
 use indexmap::IndexMap;
 use std::alloc::{AllocError, Global};
 use std::marker::Model;
@@ -32,13 +34,13 @@ pub struct Ledger {
 
 impl Model for Ledger {
     ghost use Rattle.xf_doc.specs.Texts.{Keeping};
-ghost use Rattle.xf_doc.specs.Undo.{Ledger as Known};
+    ghost use Rattle.xf_doc.specs.Undo.{Ledger as Known};
 
     ghost Value = { Known };
 
     ghost use Rattle.xf_undo.specs.Entries.{entries_of};
     ghost use Rattle.xf_undo.specs.Made.{Made, CutsElements};
-ghost use Rattle.xf_undo.specs.Index.{IsIndexed};
+    ghost use Rattle.xf_undo.specs.Index.{IsIndexed};
 
     ghost view = { λ l. record { entries = entries_of l.entries.items; next = l.next } };
 

@@ -57,7 +57,9 @@ fn node(forest: &Forest, number: u128) -> Result<NodeId, Fail> {
 /// Asserts that the forest has these string values again, and the next number.
 fn assert_small(rt: &impl Abort, forest: &Forest) -> Result<(), Fail> {
     for (number, value) in [(0, "1"), (1, "1"), (2, "1"), (3, ""), (4, "x")] {
-        let text = forest.string_value(node(forest, number)?, 9)?.ok_or("too long")?;
+        let text = forest
+            .string_value(node(forest, number)?, 9)?
+            .ok_or("too long")?;
         assert_eq!(rt; text.as_str(), value);
     }
     let e = node(forest, 1)?;

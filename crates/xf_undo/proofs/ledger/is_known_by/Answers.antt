@@ -9,4 +9,4 @@ returns-in_default c =
 pub returns-then-is_set_of : goal.returns-then-is_set_of
 returns-then-is_set_of c =
     sym (known-at c.args.node.number c.args.forest.now c.args.still c.in-Some.seat.now c.args.entries.now c.index-entries-at.result c.if-at-still.true c.if-at-entries.true c.requires.quiet c.index-entries-at.is
-      (sym c.is_set_of.ensures ∙ c.if-is_set_of.true))
+    (sym c.is_set_of.ensures ∙ c.if-is_set_of.true))
