@@ -43,6 +43,7 @@ pub mod FoundLemmas
 pub mod SiblingLemmas
 pub mod AheadLemmas
 pub mod AxisLemmas
+pub mod ApartLemmas
 pub mod BelowLemmas
 pub mod BehindLemmas
 pub mod PartLemmas

@@ -11,3 +11,5 @@ pub mod Below
 pub mod Siblings
 pub mod Texts
 pub mod Print
+pub mod Below
+pub mod Older

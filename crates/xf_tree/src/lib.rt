@@ -14,6 +14,7 @@ mod fault;
 mod forest;
 mod gather;
 mod kept;
+mod law;
 mod lookup;
 mod may;
 mod name;

@@ -1,0 +1,34 @@
+use Rattle.std.proofs.Common.{◌≡◌, ℕ, Bool, true, false, not, ◌&&◌, Option, refl, sym, ap, ◌∙◌}
+use Rattle.xf_doc.specs.Texts.{is_attribute_at}
+use Rattle.xf_doc.specs.Visit.{visits, parent_of}
+use Rattle.xf_undo.specs.Children.{is_number}
+use Rattle.xf_undo.proofs.ChildLemmas.{child-test, child-none}
+use Rattle.xf_undo.proofs.entry.is_child.Goals as goal
+
+and-false : (b : Bool) → (b && false) ≡ false
+and-false true = refl
+and-false false = refl
+
+and-true : (b : Bool) → (b && true) ≡ b
+and-true true = refl
+and-true false = refl
+
+pub returns-then-is_attribute : goal.returns-then-is_attribute
+returns-then-is_attribute c =
+    let nodes = c.args.forest.now.forest.nodes in
+    let m = c.args.child.number in
+    let n = c.args.node.number in
+    let is : is_attribute_at m nodes ≡ true = sym c.is_attribute.ensures ∙ c.if-is_attribute.true in
+    sym (child-test m n nodes c.requires ∙ ap (λ b. is_number (parent_of m (visits nodes)) n && not b) is ∙ and-false (is_number (parent_of m (visits nodes)) n))
+
+pub returns-in-Some : goal.returns-in-Some
+returns-in-Some c =
+    let nodes = c.args.forest.now.forest.nodes in
+    let m = c.args.child.number in
+    let n = c.args.node.number in
+    let other : is_attribute_at m nodes ≡ false = sym c.is_attribute.ensures ∙ c.if-is_attribute.false in
+    c.is_below.ensures ∙ ap (λ o. is_number o n) (c.parent.ensures ∙ ap (λ i. parent_of i (visits nodes)) c.in-Some.ensures.number)
+    ∙ sym (child-test m n nodes c.requires ∙ ap (λ b. is_number (parent_of m (visits nodes)) n && not b) other ∙ and-true (is_number (parent_of m (visits nodes)) n))
+
+pub returns-in-None : goal.returns-in-None
+returns-in-None c = sym (child-none c.args.child.number c.args.node.number c.args.forest.now.forest.nodes c.in-None.ensures.live)

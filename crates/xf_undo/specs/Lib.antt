@@ -1,0 +1,5 @@
+pub mod Made
+pub mod Back
+pub mod Entries
+pub mod Children
+pub mod Index

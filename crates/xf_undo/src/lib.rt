@@ -1,0 +1,10 @@
+//! The ledger of changes that gives a forest back.
+#![tactic(auto)]
+
+mod entry;
+mod ledger;
+#[cfg(test)]
+mod tests;
+
+pub use entry::Change;
+pub use ledger::Ledger;
