@@ -11,5 +11,3 @@ pub mod Below
 pub mod Siblings
 pub mod Texts
 pub mod Print
-pub mod Below
-pub mod Older

@@ -52,27 +52,21 @@ fn no_prefixes(alloc: Global) -> Result<Prefixes, Fail> {
 }
 
 /// Asserts what the string value of a node is.
-fn assert_value(
-    rt: &impl Abort,
-    forest: &Forest,
-    node: NodeId,
-    value: &str,
-) -> Result<(), Fail> {
+fn assert_value(rt: &impl Abort, forest: &Forest, node: NodeId, value: &str) -> Result<(), Fail> {
     let text = forest.string_value(node, 9)?.ok_or("too long")?;
     assert_eq!(rt; text.as_str(), value);
     Ok(())
 }
 
 /// Asserts the text of an element of two texts after another one came to this place.
-fn assert_attached(
-    rt: &impl Abort,
-    alloc: Global,
-    place: u32,
-    value: &str,
-) -> Result<(), Fail> {
+fn assert_attached(rt: &impl Abort, alloc: Global, place: u32, value: &str) -> Result<(), Fail> {
     let prefixes = no_prefixes(alloc)?;
     let mut forest = Forest::new(alloc);
-    let parent = forest.plant(&element(alloc, "d", &[("a", "y")], &["1", "2"])?, &prefixes, 0)?;
+    let parent = forest.plant(
+        &element(alloc, "d", &[("a", "y")], &["1", "2"])?,
+        &prefixes,
+        0,
+    )?;
     let node = forest.plant(&element(alloc, "e", &[], &["x"])?, &prefixes, 0)?;
     forest.attach(node, parent, place)?;
     assert!(rt; forest.parent(node).is_some());
@@ -100,7 +94,11 @@ fn an_attribute_comes_by_its_name(rt: HostRuntime) -> Result<(), Fail> {
     let prefixes = no_prefixes(alloc)?;
     let mut forest = Forest::new(alloc);
     let other = forest.plant(&element(alloc, "d", &[("b", "y")], &[])?, &prefixes, 0)?;
-    let parent = forest.plant(&element(alloc, "d", &[("c", "z"), ("a", "x")], &["1"])?, &prefixes, 0)?;
+    let parent = forest.plant(
+        &element(alloc, "d", &[("c", "z"), ("a", "x")], &["1"])?,
+        &prefixes,
+        0,
+    )?;
     let node = forest.find(1).ok_or("no attribute")?;
     let first = forest.find(3).ok_or("no attribute")?;
     let last = forest.find(4).ok_or("no attribute")?;
@@ -142,12 +140,7 @@ fn a_tree_comes_below_one_behind_it(rt: HostRuntime) -> Result<(), Fail> {
 }
 
 /// Whether a tree so deep is attached below the deepest element of another.
-fn is_attached(
-    rt: &impl Abort,
-    alloc: Global,
-    above: u32,
-    below: u32,
-) -> Result<bool, Fail> {
+fn is_attached(rt: &impl Abort, alloc: Global, above: u32, below: u32) -> Result<bool, Fail> {
     let prefixes = no_prefixes(alloc)?;
     let mut forest = Forest::new(alloc);
     forest.plant(&nested(alloc, above)?, &prefixes, 0)?;
