@@ -10,9 +10,9 @@ use Rattle.xf_tree.specs.declared.rows.Row.{Row}
 use Rattle.xf_tree.specs.declared.slot.Slot.{Slot}
 use Rattle.xf_tree.specs.Rows.{deeper, Sized, tree_of, grown, shrunk, rotated}
 use Rattle.xf_tree.specs.Tree.{unsized}
-use Rattle.xf_tree.specs.Texts.{attributes, is_attribute_row, text_row, AreAt, depth_at, run_of, after_run, with_text_rows, settled}
+use Rattle.xf_tree.specs.Texts.{attributes, children, is_attribute_row, text_row, AreAt, depth_at, run_of, after_run, with_text_rows, settled}
 use Rattle.xf_tree.proofs.SizedLemmas.{lt-true, lt-false, grown-sized, shrunk-sized}
-use Rattle.xf_tree.proofs.CutLemmas.{size-at, tree-within, sized-take, sized-drop, stops-after, deeper-length}
+use Rattle.xf_tree.proofs.CutLemmas.{size-at, tree-within, sized-take, sized-drop, stops-after}
 use Rattle.xf_tree.proofs.PlaceLemmas.{tree-size}
 use Rattle.xf_tree.proofs.MoveLemmas.{rotated-parts}
 use Rattle.xf_tree.proofs.ForestLemmas.{IgnoresSize, map-shrunk, map-grown}
@@ -53,6 +53,40 @@ map-settled g same had now d us tail =
       | inl h ↦ ap (map g) (settled-more had now d (reverse us) tail h) ∙ map-grown g same (now - had) d (reverse us) tail ∙ turned
       | inr h ↦ ap (map g) (settled-less had now d (reverse us) tail h) ∙ map-shrunk g same (had - now) d (reverse us) tail ∙ turned
     ]
+
+-- ---- what stands behind is left as it is
+
+grown-apart : (by d : ℕ) (ys xs zs : List Row) → grown by d ys (xs ++ zs) ≡ grown by d ys xs ++ zs
+grown-apart by d [] xs zs = refl
+grown-apart by d (y ∷ ys) xs zs =
+    elim (cases_lt y.depth d) [
+      | inl h ↦ rw (lt-true y.depth d h) (grown-apart by y.depth ys (record { key = y.key; size = y.size + by; depth = y.depth } ∷ xs) zs)
+      | inr h ↦ rw (lt-false y.depth d h) (grown-apart by d ys (y ∷ xs) zs)
+    ]
+
+shrunk-apart : (by d : ℕ) (ys xs zs : List Row) → shrunk by d ys (xs ++ zs) ≡ shrunk by d ys xs ++ zs
+shrunk-apart by d [] xs zs = refl
+shrunk-apart by d (y ∷ ys) xs zs =
+    elim (cases_lt y.depth d) [
+      | inl h ↦ rw (lt-true y.depth d h) (shrunk-apart by y.depth ys (record { key = y.key; size = y.size - by; depth = y.depth } ∷ xs) zs)
+      | inr h ↦ rw (lt-false y.depth d h) (shrunk-apart by d ys (y ∷ xs) zs)
+    ]
+
+settled-apart : (had now d : ℕ) (ys tail : List Row) → settled had now d ys tail ≡ settled had now d ys [] ++ tail
+settled-apart had now d ys tail =
+    elim (cases_lt had now) [
+      | inl h ↦ settled-more had now d ys tail h ∙ grown-apart (now - had) d ys [] tail ∙ ap (λ l. l ++ tail) (sym (settled-more had now d ys [] h))
+      | inr h ↦ settled-less had now d ys tail h ∙ shrunk-apart (had - now) d ys [] tail ∙ ap (λ l. l ++ tail) (sym (settled-less had now d ys [] h))
+    ]
+
+settled-long : (had now d : ℕ) (us tail : List Row) → length (settled had now d (reverse us) tail) ≡ length (us ++ tail)
+settled-long had now d us tail =
+    sym (length-map (settled had now d (reverse us) tail) unsized)
+    ∙ ap length (map-settled unsized (λ r size. refl) had now d us tail)
+    ∙ length-map (us ++ tail) unsized
+
+pub settled-length : (had now d at : ℕ) (rows : List Row) → length (settled had now d (reverse (take at rows)) (drop at rows)) ≡ length rows
+settled-length had now d at rows = settled-long had now d (take at rows) (drop at rows) ∙ ap length (take-append-drop at rows)
 
 -- ---- rows of one depth with nothing below them
 
@@ -105,9 +139,9 @@ at-flat d (x ∷ xs) ds a stops sized =
 drop-run : (d : ℕ) (xs : List Row) → Sized xs → Sized (drop (deeper d xs) xs)
 drop-run d xs s = sized-drop (deeper d xs) xs s
 
-attributes-fewer : (s : Slab Slot) (xs : List Row) → length (attributes s xs) ≤ length xs
-attributes-fewer s [] = omega arith
-attributes-fewer s (x ∷ xs) = let i = attributes-fewer s xs in elim (cases_Bool (is_attribute_row s x)) [ inl e ↦ rw e (omega (arith, i)) | inr e ↦ rw e (omega (arith, i)) ]
+both-counted : (s : Slab Slot) (xs : List Row) → length (attributes s xs) + length (children s xs) ≡ length xs
+both-counted s [] = refl
+both-counted s (x ∷ xs) = let i = both-counted s xs in elim (cases_Bool (is_attribute_row s x)) [ inl e ↦ rw e (omega (arith, i)) | inr e ↦ rw e (omega (arith, i)) ]
 
 module _ (s : Slab Slot) (at : ℕ) (texts : List NodeId) (rows : List Row) (within : at < length rows) (sized : Sized rows) (flat : AreAt (depth_at at rows + 1) (run_of at rows)) where
   abbrev d : ℕ
@@ -183,63 +217,64 @@ module _ (s : Slab Slot) (at : ℕ) (texts : List NodeId) (rows : List Row) (wit
             }) before sized-now)
       ]
 
-  -- ---- the steps of the change, with where the attributes end, and where the run did
+  -- ---- the steps of the change, with where the attributes end, where the run did, and how many of it are no attributes
 
-  module _ (from end : ℕ) (packed gapped full : List Row) (is_end : end ≡ at + length (tree_of (drop at rows))) (within_packed : from ≤ length packed)
-      (front : take from packed ≡ take (at + 1) rows ++ attributes s (take (end - (at + 1)) (drop (at + 1) rows))) (rest : drop end packed ≡ drop end rows)
+  module _ (from end had : ℕ) (now packed gapped full : List Row) (is_end : end ≡ at + length (tree_of (drop at rows)))
+      (is_had : had ≡ length (children s (take (end - (at + 1)) (drop (at + 1) rows))))
+      (is_now : now ≡ settled had (length texts) (d + 1) (reverse (take (at + 1) rows)) (drop (at + 1) rows))
+      (front : take from packed ≡ take (at + 1) now ++ attributes s (take (end - (at + 1)) (drop (at + 1) now))) (rest : drop end packed ≡ drop end now)
       (gap_front : take from gapped ≡ take from packed) (gap_rest : drop (from + length texts) gapped ≡ drop end packed)
       (is_full : full ≡ take from gapped ++ (news ++ drop (from + length texts) gapped)) where
-    long : end ≡ at + 1 + deeper d (drop (at + 1) rows)
+    abbrev count : ℕ
+    count = deeper d (drop (at + 1) rows)
+
+    abbrev us : List Row
+    us = take (at + 1) rows
+
+    -- the rows before the run, with their sizes settled
+    abbrev top : List Row
+    top = settled had (length texts) (d + 1) (reverse us) []
+
+    long : end ≡ at + 1 + count
     long = omega (arith, is_end, tree-size at rows within)
 
     run-is : take (end - (at + 1)) (drop (at + 1) rows) ≡ run
-    run-is = let e : end - (at + 1) ≡ deeper d (drop (at + 1) rows) = omega (arith, long) in ap (λ n. take n (drop (at + 1) rows)) e
+    run-is = let e : end - (at + 1) ≡ count = omega (arith, long) in ap (λ n. take n (drop (at + 1) rows)) e
 
-    rest-is : drop end rows ≡ ds
-    rest-is = ap (λ n. drop n rows) long ∙ sym (drop-drop (deeper d (drop (at + 1) rows)) (at + 1) rows)
+    top-long : length top ≡ at + 1
+    top-long = settled-long had (length texts) (d + 1) us [] ∙ ap length (append-nil us) ∙ omega (arith, length-take (at + 1) rows)
 
-    front-is : take from packed ≡ take (at + 1) rows ++ attributes s run
-    front-is = front ∙ ap (λ l. take (at + 1) rows ++ attributes s l) run-is
+    now-is : now ≡ top ++ drop (at + 1) rows
+    now-is = is_now ∙ settled-apart had (length texts) (d + 1) (reverse us) (drop (at + 1) rows)
 
-    full-is : full ≡ take (at + 1) rows ++ (attributes s run ++ (news ++ ds))
+    now-front : take (at + 1) now ≡ top
+    now-front = ap (take (at + 1)) now-is ∙ take_at top (drop (at + 1) rows) (at + 1) top-long
+
+    now-rest : drop (at + 1) now ≡ drop (at + 1) rows
+    now-rest = ap (drop (at + 1)) now-is ∙ drop_at top (drop (at + 1) rows) (at + 1) top-long
+
+    now-end : drop end now ≡ ds
+    now-end = ap (λ n. drop n now) long ∙ sym (drop-drop count (at + 1) now) ∙ ap (drop count) now-rest
+
+    front-is : take from packed ≡ top ++ attributes s run
+    front-is =
+        front ∙ ap (λ l. l ++ attributes s (take (end - (at + 1)) (drop (at + 1) now))) now-front
+        ∙ ap (λ l. top ++ attributes s (take (end - (at + 1)) l)) now-rest ∙ ap (λ l. top ++ attributes s l) run-is
+
+    full-is : full ≡ settled had (length texts) (d + 1) (reverse us) (attributes s run ++ (news ++ ds))
     full-is =
-        is_full ∙ ap (λ l. l ++ (news ++ drop (from + length texts) gapped)) (gap_front ∙ front-is) ∙ ap (λ l. (take (at + 1) rows ++ attributes s run) ++ (news ++ l)) (gap_rest ∙ rest ∙ rest-is)
-        ∙ append_assoc (take (at + 1) rows) (attributes s run) (news ++ ds)
+        is_full ∙ ap (λ l. l ++ (news ++ drop (from + length texts) gapped)) (gap_front ∙ front-is) ∙ ap (λ l. (top ++ attributes s run) ++ (news ++ l)) (gap_rest ∙ rest ∙ now-end)
+        ∙ append_assoc top (attributes s run) (news ++ ds)
+        ∙ sym (settled-apart had (length texts) (d + 1) (reverse us) (attributes s run ++ (news ++ ds)))
 
-    before-long : length (take (at + 1) rows) ≡ at + 1
-    before-long = omega (arith, length-take (at + 1) rows)
+    had-is : length (attributes s run) + had ≡ length run
+    had-is = omega (arith, is_had, ap (λ l. length (children s l)) run-is, both-counted s run)
 
-    pub full-front : take (at + 1) full ≡ take (at + 1) rows
-    full-front = ap (take (at + 1)) full-is ∙ take_at (take (at + 1) rows) (attributes s run ++ (news ++ ds)) (at + 1) before-long
+    pub change-sized : Sized full
+    change-sized = subst Sized (sym full-is) (texts-sized had had-is)
 
-    full-rest : drop (at + 1) full ≡ attributes s run ++ (news ++ ds)
-    full-rest = ap (drop (at + 1)) full-is ∙ drop_at (take (at + 1) rows) (attributes s run ++ (news ++ ds)) (at + 1) before-long
-
-    had-is : length (attributes s run) + (end - from) ≡ length run
-    had-is =
-        let a = ap length front-is in
-        omega (
-          arith,
-          a,
-          length-append (take (at + 1) rows) (attributes s run),
-          before-long,
-          length-take from packed,
-          long,
-          length-take (deeper d (drop (at + 1) rows)) (drop (at + 1) rows),
-          deeper-length d (drop (at + 1) rows),
-          attributes-fewer s run,
-        )
-
-    pub change-sized : (new : List Row) → new ≡ settled (end - from) (length texts) (d + 1) (reverse (take (at + 1) full)) (drop (at + 1) full) → Sized new
-    change-sized new e =
-        subst Sized (sym (e ∙ ap (λ l. settled (end - from) (length texts) (d + 1) (reverse l) (drop (at + 1) full)) full-front
-        ∙ ap (settled (end - from) (length texts) (d + 1) (reverse (take (at + 1) rows))) full-rest)) (texts-sized (end - from) had-is)
-
-    pub change-rows : (new : List Row) → new ≡ settled (end - from) (length texts) (d + 1) (reverse (take (at + 1) full)) (drop (at + 1) full)
-        → map unsized new ≡ map unsized (with_text_rows s at texts rows)
-    change-rows new e =
-        ap (map unsized) e ∙ map-settled unsized (λ r size. refl) (end - from) (length texts) (d + 1) (take (at + 1) full) (drop (at + 1) full)
-        ∙ ap (map unsized) (take-append-drop (at + 1) full ∙ full-is)
+    pub change-rows : map unsized full ≡ map unsized (with_text_rows s at texts rows)
+    change-rows = ap (map unsized) full-is ∙ map-settled unsized (λ r size. refl) had (length texts) (d + 1) us (attributes s run ++ (news ++ ds))
 
 pub room-more : (to n : ℕ) (rows : List Row) → Sized rows → length rows + n < 2 ^ 32 → All (λ (r : Row). r.size + n < 2 ^ 64) (take to rows)
 room-more to n rows sized few = λ k d h.

@@ -46,6 +46,7 @@ pub fn change_texts(
 
 /// How many of these rows are of no attribute.
 fn text_rows(rows: &[Row], slots: &Slab<Slot>) -> usize
+    requires { length rows.now < 2 ^ 32 }
     ensures { result ≡ length (children slots.now rows.now) }
 {
     let mut count = 0;
