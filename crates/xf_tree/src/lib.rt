@@ -33,15 +33,7 @@ mod spaces;
 #[cfg(test)]
 mod tests;
 #[cfg(test)]
-mod tests_attach;
-#[cfg(test)]
-mod tests_axis;
-#[cfg(test)]
-mod tests_lit;
-#[cfg(test)]
 mod tests_may;
-#[cfg(test)]
-mod tests_texts;
 mod text;
 mod tree;
 mod walk;

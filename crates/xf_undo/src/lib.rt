@@ -3,8 +3,6 @@
 
 mod entry;
 mod ledger;
-#[cfg(test)]
-mod tests;
 
 pub use entry::Change;
 pub use ledger::Ledger;
