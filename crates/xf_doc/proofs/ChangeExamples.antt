@@ -2,13 +2,14 @@
 use Rattle.std.proofs.Common.{◌≡◌, false, [], ◌∷◌, ◌++◌, map, take, Some, None, Ok, Err, inr, refl}
 use Rattle.std.specs.Prelude.{ℕ, List, codes}
 use Rattle.xf_doc.specs.declared.content.Content.TheVariants.{Root, Element, Attribute}
+use Rattle.xf_doc.specs.declared.content.Kind.TheVariants as kind
 use Rattle.xf_doc.specs.declared.fault.TreeFault.TheVariants.{Nodes, AllText, Depth}
 use Rattle.xf_doc.specs.Forest.{Forest}
-use Rattle.xf_doc.specs.Visit.{visits, children_of}
+use Rattle.xf_doc.specs.Visit.{visits, children_of, attributes_of}
 use Rattle.xf_doc.specs.Limits.{Limits, node_count, all_size}
 use Rattle.xf_doc.specs.Changes.{with_root, root_of, copied, standing, detached, placed, attached, in_instances}
-use Rattle.xf_doc.specs.Needs.{MayCopy, MayRoot, MayDetach, MayAttach, in_element, in_root, as_attribute, lacks_name, MayDropFrom}
-use Rattle.xf_doc.specs.WellFormed.{IsForest}
+use Rattle.xf_doc.specs.Needs.{MayCopy, MayRoot, MayDetach, MayAttach, in_element, in_root, as_attribute, lacks_name, MayPlace, goes_below, MayDropFrom}
+use Rattle.xf_doc.specs.WellFormed.{IsForest, AreTrees, are_first}
 use Rattle.xf_doc.specs.Examples.{rows, pair_of_instances, just, wide, node, element, attribute, text, of_p, qname}
 
 -- the depths beside the numbers
@@ -108,6 +109,19 @@ an_element_is_attached_to_its_root : attached (record wide { depth = 1 }) 5 0 0 
 })
 an_element_is_attached_to_its_root = refl
 
+-- the element 2 has the attributes k 3 and no 4: what is placed goes by its place, what is attached by its name
+an_attribute_is_placed_by_its_place : attributes_of 2 (visits (placed 3 2 1 (detached 3 rows)).nodes) ≡ 4 ∷ 3 ∷ []
+an_attribute_is_placed_by_its_place = refl
+
+an_attribute_is_placed_before_the_children : attributes_of 2 (visits (placed 3 2 7 (detached 3 rows)).nodes) ≡ 4 ∷ 3 ∷ []
+an_attribute_is_placed_before_the_children = refl
+
+an_attribute_cut_off_is_placed_again : placed 3 2 0 (detached 3 rows) ≡ rows
+an_attribute_cut_off_is_placed_again = refl
+
+an_attribute_is_attached_by_its_name : attached wide 3 2 7 (detached 3 rows) ≡ Ok rows
+an_attribute_is_attached_by_its_name = refl
+
 -- ---- copies
 
 a_copy_has_new_numbers : copied wide 6 (record rows { next = 20 }) ≡ Ok (
@@ -176,6 +190,18 @@ an_attribute_written_alike_may_be_attached = record { detached = refl; outside =
 
 what_may_be_attached_leaves_a_forest : IsForest (placed 2 0 0 alike)
 what_may_be_attached_leaves_a_forest = record { apart = refl; below = refl; depths = refl; ordered = refl; single = refl; roots = refl; documents = refl }
+
+what_was_cut_off_may_be_placed_again : MayPlace 3 2 (detached 3 rows)
+what_was_cut_off_may_be_placed_again = record { detached = refl; outside = refl; kinds = refl }
+
+a_text_is_placed_nowhere : goes_below (Some kind.Text) (Some kind.Element) ≡ false
+a_text_is_placed_nowhere = refl
+
+all_are_trees : AreTrees (record { forest = rows; kept = [] })
+all_are_trees = record { apart = refl; below = refl; depths = refl; tops = refl; first = refl; kept_apart = refl; kept_outside = refl; kept_below = refl }
+
+an_attribute_behind_a_child_does_not_stand_first : are_first (element 0 0 (codes "e") ∷ element 1 1 (codes "a") ∷ attribute 2 1 (codes "b") [] ∷ []) ≡ false
+an_attribute_behind_a_child_does_not_stand_first = refl
 
 an_attribute_of_a_name_that_stands_may_not : lacks_name 4 0 (in_line (codes "b")) ≡ false
 an_attribute_of_a_name_that_stands_may_not = refl

@@ -4,15 +4,16 @@ use Rattle.std.specs.Prelude.{count_by}
 use Rattle.std.specs.List.{prefix_len, fold}
 use Rattle.std.proofs.lemmas.List.{map-append}
 use Rattle.xf_doc.specs.declared.content.Node.{Node}
+use Rattle.xf_doc.specs.declared.content.Content.{Content}
 use Rattle.xf_doc.specs.declared.fault.TreeFault.{TreeFault}
 use Rattle.xf_doc.specs.declared.fault.TreeFault.TheVariants.{Depth}
-use Rattle.xf_doc.specs.Forest.{Forest, is_attribute, is_element, is_root, from_node, below, past, first_tree, tree_of}
+use Rattle.xf_doc.specs.Forest.{Forest, is_attribute, is_element, is_root, content_at, node_at, from_node, below, past, first_tree, tree_of}
 use Rattle.xf_doc.specs.Visit.{Visit, visits, has, ancestors_of, parent_of, children_of, attributes_of}
 use Rattle.xf_doc.specs.Limits.{Limits, node_count, size_of, all_size, is_too_deep, unless}
 use Rattle.xf_doc.specs.Plant.{is_less, written_of}
-use Rattle.xf_doc.specs.Changes.{shifted, moved_to, without_tree, is_detached_top, in_instances, in_detached, root_of, place_among, place_in, with_place, standing, detached, with_child, with_attribute, with_part, with_below, elements_above, placed, attached}
+use Rattle.xf_doc.specs.Changes.{shifted, moved_to, without_tree, is_detached_top, in_instances, in_detached, root_of, place_among, place_in, with_place, standing, detached, with_child, with_attribute, with_part, with_below, elements_above, placed, is_lesser, place_of, attached}
 use Rattle.xf_doc.specs.Same.{IsRenumbering, renumbered, renumbered_visit}
-use Rattle.xf_doc.proofs.RenumberLaws.{map-cond, any-through, visits-renumbered, ancestors-renumbered, parent_of-renumbered, children_of-renumbered, attributes_of-renumbered, has-renumbered}
+use Rattle.xf_doc.proofs.RenumberLaws.{map-cond, first-renumbered, any-through, visits-renumbered, ancestors-renumbered, parent_of-renumbered, children_of-renumbered, attributes_of-renumbered, has-renumbered}
 
 -- the forest with other numbers
 abbrev pub renumbered_forest : (ℕ → ℕ) → ℕ → Forest → Forest
@@ -136,21 +137,24 @@ module _ (f : ℕ → ℕ) (same : IsRenumbering f) where
       ∙ ap (cond (nat_lt y.depth d) (map (renumbered f) (tree ++ y ∷ ys))) (sym (map-cond (map (renumbered f)) (nat_lt d y.depth || is_attribute y.content) (y ∷ with_child d (suc place) tree ys) (y ∷ with_child d place tree ys)))
       ∙ sym (map-cond (map (renumbered f)) (nat_lt y.depth d) (tree ++ y ∷ ys) (cond (nat_lt d y.depth || is_attribute y.content) (y ∷ with_child d (suc place) tree ys) (y ∷ with_child d place tree ys)))
 
-  with_attribute-renumbered : (d : ℕ) (name : List ℕ) (tree xs : List Node) → with_attribute d name (map (renumbered f) tree) (map (renumbered f) xs) ≡ map (renumbered f) (with_attribute d name tree xs)
-  with_attribute-renumbered d name tree [] = refl
-  with_attribute-renumbered d name tree (y ∷ ys) =
-      let first = (y.depth == d) && is_attribute y.content && is_less (written_of y.content) name in
-      ap (λ l. cond first (renumbered f y ∷ l) (map (renumbered f) tree ++ map (renumbered f) (y ∷ ys))) (with_attribute-renumbered d name tree ys)
-      ∙ ap (cond first (map (renumbered f) (y ∷ with_attribute d name tree ys))) (sym (map-append (renumbered f) tree (y ∷ ys)))
-      ∙ sym (map-cond (map (renumbered f)) first (y ∷ with_attribute d name tree ys) (tree ++ y ∷ ys))
+  with_attribute-renumbered : (d place : ℕ) (tree xs : List Node) → with_attribute d place (map (renumbered f) tree) (map (renumbered f) xs) ≡ map (renumbered f) (with_attribute d place tree xs)
+  with_attribute-renumbered d place tree [] = refl
+  with_attribute-renumbered d zero tree (y ∷ ys) =
+      let first = (y.depth == d) && is_attribute y.content in
+      ap (λ l. cond first l l) (sym (map-append (renumbered f) tree (y ∷ ys))) ∙ sym (map-cond (map (renumbered f)) first (tree ++ y ∷ ys) (tree ++ y ∷ ys))
+  with_attribute-renumbered d (suc place) tree (y ∷ ys) =
+      let first = (y.depth == d) && is_attribute y.content in
+      ap (λ l. cond first (renumbered f y ∷ l) (map (renumbered f) tree ++ map (renumbered f) (y ∷ ys))) (with_attribute-renumbered d place tree ys)
+      ∙ ap (cond first (map (renumbered f) (y ∷ with_attribute d place tree ys))) (sym (map-append (renumbered f) tree (y ∷ ys)))
+      ∙ sym (map-cond (map (renumbered f)) first (y ∷ with_attribute d place tree ys) (tree ++ y ∷ ys))
 
   with_part-renumbered : (d place : ℕ) (tree xs : List Node) → with_part d place (map (renumbered f) tree) (map (renumbered f) xs) ≡ map (renumbered f) (with_part d place tree xs)
   with_part-renumbered d place [] xs = refl
   with_part-renumbered d place (t ∷ ts) xs =
-      ap (λ l. cond (is_attribute t.content) (with_attribute d (written_of t.content) l (map (renumbered f) xs)) (with_child d place l (map (renumbered f) xs))) (moved_to-renumbered d (t ∷ ts))
-      ∙ ap (λ l. cond (is_attribute t.content) l (with_child d place (map (renumbered f) (moved_to d (t ∷ ts))) (map (renumbered f) xs))) (with_attribute-renumbered d (written_of t.content) (moved_to d (t ∷ ts)) xs)
-      ∙ ap (cond (is_attribute t.content) (map (renumbered f) (with_attribute d (written_of t.content) (moved_to d (t ∷ ts)) xs))) (with_child-renumbered d place (moved_to d (t ∷ ts)) xs)
-      ∙ sym (map-cond (map (renumbered f)) (is_attribute t.content) (with_attribute d (written_of t.content) (moved_to d (t ∷ ts)) xs) (with_child d place (moved_to d (t ∷ ts)) xs))
+      ap (λ l. cond (is_attribute t.content) (with_attribute d place l (map (renumbered f) xs)) (with_child d place l (map (renumbered f) xs))) (moved_to-renumbered d (t ∷ ts))
+      ∙ ap (λ l. cond (is_attribute t.content) l (with_child d place (map (renumbered f) (moved_to d (t ∷ ts))) (map (renumbered f) xs))) (with_attribute-renumbered d place (moved_to d (t ∷ ts)) xs)
+      ∙ ap (cond (is_attribute t.content) (map (renumbered f) (with_attribute d place (moved_to d (t ∷ ts)) xs))) (with_child-renumbered d place (moved_to d (t ∷ ts)) xs)
+      ∙ sym (map-cond (map (renumbered f)) (is_attribute t.content) (with_attribute d place (moved_to d (t ∷ ts)) xs) (with_child d place (moved_to d (t ∷ ts)) xs))
 
   with_below-renumbered : (p place : ℕ) (tree xs : List Node) → with_below (f p) place (map (renumbered f) tree) (map (renumbered f) xs) ≡ map (renumbered f) (with_below p place tree xs)
   with_below-renumbered p place tree [] = refl
@@ -188,16 +192,39 @@ module _ (f : ℕ → ℕ) (same : IsRenumbering f) where
       ∙ counted (renumbered_visit f) (λ x. cond (is_element x.content && has x.number (map f (p ∷ ancestors_of p all))) 1 0) (λ x. cond (is_element x.content && has x.number (p ∷ ancestors_of p all)) 1 0)
       (λ x. ap (λ b. cond (is_element x.content && b) 1 0) (has-renumbered f same x.number (p ∷ ancestors_of p all))) 0 all
 
+  content_at-renumbered : (n : ℕ) (nodes : List Node) → content_at (f n) (map (renumbered f) nodes) ≡ content_at n nodes
+  content_at-renumbered n [] = refl
+  content_at-renumbered n (x ∷ xs) =
+      ap (λ b. option_map (λ (y : Node). y.content) (cond b (Some (renumbered f x)) (node_at (f n) (map (renumbered f) xs)))) (same x.number n) ∙ by (x.number == n) (content_at-renumbered n xs)
+    where
+      by : (b : Bool) → content_at (f n) (map (renumbered f) xs) ≡ content_at n xs
+          → option_map (λ (y : Node). y.content) (cond b (Some (renumbered f x)) (node_at (f n) (map (renumbered f) xs))) ≡ option_map (λ (y : Node). y.content) (cond b (Some x) (node_at n xs))
+      by true later = refl
+      by false later = later
+
+  place_of-renumbered : (p place : ℕ) (all : List Visit) (content : Option Content) → place_of (f p) place (map (renumbered_visit f) all) content ≡ place_of p place all content
+  place_of-renumbered p place all None = refl
+  place_of-renumbered p place all (Some c) =
+      ap (λ k. cond (is_attribute c) k place)
+      (counted (renumbered_visit f) (λ x. cond (is_lesser (f p) c x) 1 0) (λ x. cond (is_lesser p c x) 1 0)
+      (λ x. ap (λ b. cond (b && is_attribute x.content && is_less (written_of x.content) (written_of c)) 1 0) (first-renumbered f same p x.above)) 0 all)
+
   pub attached-renumbered : (l : Limits) (n p place next : ℕ) (forest : Forest)
       → attached l (f n) (f p) place (renumbered_forest f next forest) ≡ result_map (renumbered_forest f next) (attached l n p place forest)
   attached-renumbered l n p place next forest =
-      ap (λ k. unless (if is_too_deep l.depth k (tree_of (f n) (map (renumbered f) forest.nodes)) then Some Depth else None) (placed (f n) (f p) place (renumbered_forest f next forest)))
-      (ap (elements_above (f p)) (visits-renumbered f same forest.nodes) ∙ elements_above-renumbered p (visits forest.nodes))
-      ∙ ap (λ b. unless (if b then Some Depth else None) (placed (f n) (f p) place (renumbered_forest f next forest)))
-      (ap (is_too_deep l.depth (elements_above p (visits forest.nodes))) (tree_of-renumbered n forest.nodes) ∙ too_deep-renumbered l.depth (elements_above p (visits forest.nodes)) (tree_of n forest.nodes))
-      ∙ ap (unless (if is_too_deep l.depth (elements_above p (visits forest.nodes)) (tree_of n forest.nodes) then Some Depth else None)) (placed-renumbered n p place next forest)
-      ∙ by (is_too_deep l.depth (elements_above p (visits forest.nodes)) (tree_of n forest.nodes))
+      let all = visits forest.nodes in
+      let deep = is_too_deep l.depth (elements_above p all) (tree_of n forest.nodes) in
+      let at = place_of p place all (content_at n forest.nodes) in
+      let there = place_of (f p) place (visits (map (renumbered f) forest.nodes)) (content_at (f n) (map (renumbered f) forest.nodes)) in
+      ap (λ k. unless (if is_too_deep l.depth k (tree_of (f n) (map (renumbered f) forest.nodes)) then Some Depth else None) (placed (f n) (f p) there (renumbered_forest f next forest)))
+      (ap (elements_above (f p)) (visits-renumbered f same forest.nodes) ∙ elements_above-renumbered p all)
+      ∙ ap (λ b. unless (if b then Some Depth else None) (placed (f n) (f p) there (renumbered_forest f next forest)))
+      (ap (is_too_deep l.depth (elements_above p all)) (tree_of-renumbered n forest.nodes) ∙ too_deep-renumbered l.depth (elements_above p all) (tree_of n forest.nodes))
+      ∙ ap (λ k. unless (if deep then Some Depth else None) (placed (f n) (f p) k (renumbered_forest f next forest)))
+      (ap (λ v. place_of (f p) place v (content_at (f n) (map (renumbered f) forest.nodes))) (visits-renumbered f same forest.nodes)
+      ∙ ap (place_of (f p) place (map (renumbered_visit f) all)) (content_at-renumbered n forest.nodes) ∙ place_of-renumbered p place all (content_at n forest.nodes))
+      ∙ ap (unless (if deep then Some Depth else None)) (placed-renumbered n p at next forest) ∙ by deep at
     where
-      by : (b : Bool) → unless (if b then Some Depth else None) (renumbered_forest f next (placed n p place forest)) ≡ result_map (renumbered_forest f next) (unless (if b then Some Depth else None) (placed n p place forest))
-      by true = refl
-      by false = refl
+      by : (b : Bool) (at : ℕ) → unless (if b then Some Depth else None) (renumbered_forest f next (placed n p at forest)) ≡ result_map (renumbered_forest f next) (unless (if b then Some Depth else None) (placed n p at forest))
+      by true at = refl
+      by false at = refl

@@ -6,8 +6,8 @@ use Rattle.xf_doc.specs.declared.content.Content.{Content}
 use Rattle.xf_doc.specs.declared.content.Content.TheVariants.{Root}
 use Rattle.xf_doc.specs.declared.fault.TreeFault.{TreeFault}
 use Rattle.xf_doc.specs.declared.fault.TreeFault.TheVariants.{Depth}
-use Rattle.xf_doc.specs.Forest.{Forest, is_root, is_element, is_attribute, past, tree_of}
-use Rattle.xf_doc.specs.Visit.{Visit, visits, has, parent_of, ancestors_of, children_of, attributes_of}
+use Rattle.xf_doc.specs.Forest.{Forest, is_root, is_element, is_attribute, content_at, past, tree_of}
+use Rattle.xf_doc.specs.Visit.{Visit, visits, has, is_first, parent_of, ancestors_of, children_of, attributes_of}
 use Rattle.xf_doc.specs.Limits.{Limits, passed_by_all, is_too_deep, unless}
 use Rattle.xf_doc.specs.Plant.{is_less, written_of, numbered_from}
 
@@ -103,17 +103,17 @@ with_child depth place tree (y ∷ ys) =
     else if nat_lt depth y.depth || is_attribute y.content then y ∷ with_child depth place tree ys
     else at_place place (tree ++ y ∷ ys) (λ left. y ∷ with_child depth left tree ys)
 
--- among the nodes after an element, whose attributes have this depth, an attribute at its place by the bytes of written names
-abbrev pub with_attribute : ℕ → List ℕ → List Node → List Node → List Node
-with_attribute depth name tree [] = tree
-with_attribute depth name tree (y ∷ ys) =
-    if (y.depth == depth) && is_attribute y.content && is_less (written_of y.content) name then y ∷ with_attribute depth name tree ys
+-- among the nodes after an element, whose attributes have this depth, an attribute before the one with a place, or behind them all
+abbrev pub with_attribute : ℕ → ℕ → List Node → List Node → List Node
+with_attribute depth place tree [] = tree
+with_attribute depth place tree (y ∷ ys) =
+    if (y.depth == depth) && is_attribute y.content then at_place place (tree ++ y ∷ ys) (λ left. y ∷ with_attribute depth left tree ys)
     else tree ++ y ∷ ys
 
 abbrev pub with_part : ℕ → ℕ → List Node → List Node → List Node
 with_part depth place [] nodes = nodes
 with_part depth place (x ∷ xs) nodes =
-    if is_attribute x.content then with_attribute depth (written_of x.content) (moved_to depth (x ∷ xs)) nodes
+    if is_attribute x.content then with_attribute depth place (moved_to depth (x ∷ xs)) nodes
     else with_child depth place (moved_to depth (x ∷ xs)) nodes
 
 -- the nodes with a tree below this parent
@@ -126,12 +126,21 @@ with_below parent place tree (x ∷ xs) =
 abbrev pub elements_above : ℕ → List Visit → ℕ
 elements_above parent all = count_by (λ x. is_element x.content && has x.number (parent ∷ ancestors_of parent all)) all
 
--- the tree of a node stands below a parent, before the child with a place, or for an attribute where its name has it
+-- the tree of a node stands below a parent, before the child or for an attribute before the attribute with a place
 abbrev pub placed : ℕ → ℕ → ℕ → Forest → Forest
 placed n parent place forest = record forest { nodes = with_below parent place (tree_of n forest.nodes) (without_tree n forest.nodes) }
 
--- the same for the tree of a detached node, unless an element would be too deep
+-- an attribute of this element, with a written name that is less than that of a content
+abbrev pub is_lesser : ℕ → Content → Visit → Bool
+is_lesser parent content x = is_first parent x.above && is_attribute x.content && is_less (written_of x.content) (written_of content)
+
+-- where a node with this content comes below a parent: at a place that is given, or as an attribute by the bytes of its written name
+abbrev pub place_of : ℕ → ℕ → List Visit → Option Content → ℕ
+place_of parent place all None = place
+place_of parent place all (Some content) = if is_attribute content then count_by (is_lesser parent content) all else place
+
+-- the tree of a detached node comes below a parent, unless an element would be too deep
 abbrev pub attached : Limits → ℕ → ℕ → ℕ → Forest → Result Forest TreeFault
 attached l n parent place forest =
     unless (if is_too_deep l.depth (elements_above parent (visits forest.nodes)) (tree_of n forest.nodes) then Some Depth else None)
-    (placed n parent place forest)
+    (placed n parent (place_of parent place (visits forest.nodes) (content_at n forest.nodes)) forest)

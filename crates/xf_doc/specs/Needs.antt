@@ -1,7 +1,8 @@
 -- What each change needs of the forest, besides that the nodes named stand in it.
-use Rattle.std.specs.Prelude.{ℕ, ◌≡◌, ◌⊎◌, Bool, true, false, not, ◌&&◌, List, [], length, nat_lt, nat_le, ◌==◌, Some, is_some, option_and_then, if◌then◌else◌}
+use Rattle.std.specs.Prelude.{ℕ, ◌≡◌, ◌⊎◌, Bool, true, false, not, ◌&&◌, List, [], length, nat_lt, nat_le, ◌==◌, Option, Some, is_some, option_and_then, if◌then◌else◌}
 use Rattle.std.specs.List.{list_any, list_all}
 use Rattle.xf_doc.specs.declared.content.Node.{Node}
+use Rattle.xf_doc.specs.declared.content.Kind.{Kind}
 use Rattle.xf_doc.specs.declared.content.Kind.TheVariants.{Root, Element, Attribute}
 use Rattle.xf_doc.specs.Forest.{Forest, is_root, is_attribute, name_in, content_at, kind_at, has_number, tree_of}
 use Rattle.xf_doc.specs.Visit.{Visit, visits, is_first, parent_of, children_of}
@@ -49,6 +50,19 @@ pub record MayAttach (n parent place : ℕ) (forest : Forest) : Type 0 where
 pub record IsSettable (n : ℕ) (forest : Forest) : Type 0 where
   pub kind : (kind_at n forest.nodes ≡ Some Attribute) ⊎ (kind_at n forest.nodes ≡ Some Element)
   pub childless : has_elements (visits forest.nodes) n ≡ false
+
+-- an element goes below an element or a root, and an attribute below an element
+abbrev pub goes_below : Option Kind → Option Kind → Bool
+goes_below (Some Element) (Some Element) = true
+goes_below (Some Element) (Some Root) = true
+goes_below (Some Attribute) (Some Element) = true
+goes_below node parent = false
+
+-- a tree comes back to where it was cut off
+pub record MayPlace (n parent : ℕ) (forest : Forest) : Type 0 where
+  pub detached : is_top n forest.nodes ≡ true
+  pub outside : has_number parent (tree_of n forest.nodes) ≡ false
+  pub kinds : goes_below (kind_at n forest.nodes) (kind_at parent forest.nodes) ≡ true
 
 -- all these are numbers of kept texts
 abbrev pub are_kept : List ℕ → List KeptText → Bool

@@ -41,6 +41,15 @@ abbrev pub comes_after : Node → Node → Bool
 comes_after x y =
     (is_element x.content && (suc x.depth == y.depth)) || (is_attribute x.content && (x.depth == y.depth) && not (is_less (written_of y.content) (written_of x.content)))
 
+-- an attribute stands right after its element or after another attribute of it; a detached one is a top
+abbrev pub stands_first : Node → Node → Bool
+stands_first x y = not (is_attribute y.content) || (y.depth == 0) || (is_element x.content && (suc x.depth == y.depth)) || (is_attribute x.content && (x.depth == y.depth))
+
+abbrev pub are_first : List Node → Bool
+are_first [] = true
+are_first (x ∷ []) = true
+are_first (x ∷ y ∷ ys) = stands_first x y && are_first (y ∷ ys)
+
 -- an attribute stands right after its element or after an attribute whose written name is not greater; a detached one is a top
 abbrev pub may_follow : Node → Node → Bool
 may_follow x y = not (is_attribute y.content) || (y.depth == 0) || comes_after x y
@@ -63,6 +72,10 @@ are_single [] = true
 are_single (x ∷ xs) = not (list_any (is_double_of x) xs) && are_single xs
 
 -- ---- roots
+
+-- a root has nothing above it
+abbrev pub are_tops : List Node → Bool
+are_tops nodes = list_all (λ x. not (is_root x.content) || (x.depth == 0)) nodes
 
 -- the roots stand before the detached trees, and nowhere else
 abbrev pub are_roots_first : Bool → List Node → Bool
@@ -94,6 +107,17 @@ pub record IsForest (forest : Forest) : Type 0 where
 abbrev pub are_kept_apart : List KeptText → Bool
 are_kept_apart [] = true
 are_kept_apart (t ∷ ts) = not (list_any (λ u. u.number == t.number) ts) && are_kept_apart ts
+
+-- what the list needs to be that of trees, whatever the names of the nodes
+pub record AreTrees (k : Keeping) : Type 0 where
+  pub apart : are_apart k.forest.nodes ≡ true
+  pub below : are_below k.forest.next k.forest.nodes ≡ true
+  pub depths : are_depths k.forest.nodes ≡ true
+  pub tops : are_tops k.forest.nodes ≡ true
+  pub first : are_first k.forest.nodes ≡ true
+  pub kept_apart : are_kept_apart k.kept ≡ true
+  pub kept_outside : list_any (λ t. has_number t.number k.forest.nodes) k.kept ≡ false
+  pub kept_below : list_all (λ t. nat_lt t.number k.forest.next) k.kept ≡ true
 
 pub record IsKeeping (k : Keeping) : Type 0 where
   pub forest : IsForest k.forest

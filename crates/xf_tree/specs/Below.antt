@@ -5,7 +5,6 @@ use Rattle.xf_doc.specs.declared.content.Node.{Node}
 use Rattle.xf_doc.specs.declared.content.Content.{Content}
 use Rattle.xf_doc.specs.Changes.{at_place}
 use Rattle.xf_doc.specs.Forest.{is_attribute, is_element}
-use Rattle.xf_doc.specs.Plant.{is_less, written_of}
 use Rattle.xf_tree.specs.declared.rows.Row.{Row}
 use Rattle.xf_tree.specs.declared.slot.Slot.{Slot}
 use Rattle.xf_tree.specs.Rows.{tree_of, rest_of, deepened, grown}
@@ -19,14 +18,14 @@ child_at depth place (y ∷ ys) =
     else if nat_lt depth y.depth || is_attribute y.content then suc (child_at depth place ys)
     else at_place place 0 (λ left. suc (child_at depth left ys))
 
--- among the nodes after an element, whose attributes have this depth, where one with this written name goes
-abbrev pub attribute_at : ℕ → List ℕ → List Node → ℕ
-attribute_at depth name [] = 0
-attribute_at depth name (y ∷ ys) = if (y.depth == depth) && is_attribute y.content && is_less (written_of y.content) name then suc (attribute_at depth name ys) else 0
+-- among the nodes after an element, whose attributes have this depth, where the attribute with a place stands, or where they end
+abbrev pub attribute_at : ℕ → ℕ → List Node → ℕ
+attribute_at depth place [] = 0
+attribute_at depth place (y ∷ ys) = if (y.depth == depth) && is_attribute y.content then at_place place 0 (λ left. suc (attribute_at depth left ys)) else 0
 
 -- where a node with this content goes
 abbrev pub part_at : ℕ → ℕ → Content → List Node → ℕ
-part_at depth place content nodes = if is_attribute content then attribute_at depth (written_of content) nodes else child_at depth place nodes
+part_at depth place content nodes = if is_attribute content then attribute_at depth place nodes else child_at depth place nodes
 
 -- the row where a node with this content goes below the node at a place
 abbrev pub row_below : Slab Slot → List Row → ℕ → Content → ℕ → ℕ

@@ -4,6 +4,7 @@ use Rattle.slab.specs.Slab.{Slab}
 use Rattle.xf_doc.specs.declared.content.Node.{Node}
 use Rattle.xf_doc.specs.declared.content.Content.{Content}
 use Rattle.xf_doc.specs.Forest.{is_attribute, name_in}
+use Rattle.xf_doc.specs.Plant.{is_less, written_of}
 use Rattle.xf_doc.specs.WellFormed.{have_same_name}
 use Rattle.xf_tree.specs.declared.rows.Row.{Row}
 use Rattle.xf_tree.specs.declared.slot.Slot.{Slot}
@@ -17,6 +18,10 @@ is_no_attribute c = not (is_attribute c)
 -- an attribute with the name of this content
 abbrev pub is_attribute_like : Content → Content → Bool
 is_attribute_like like c = is_attribute c && have_same_name (name_in c) (name_in like)
+
+-- an attribute with a written name that is less than that of this content
+abbrev pub is_lesser_attribute : Content → Content → Bool
+is_lesser_attribute content c = is_attribute c && is_less (written_of c) (written_of content)
 
 -- a node of this depth whose content meets a test
 abbrev pub is_kid : (Content → Bool) → ℕ → Node → Bool

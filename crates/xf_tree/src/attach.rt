@@ -2,30 +2,30 @@
 ghost use Rattle.std.specs.Prelude.{◌≡◌, ◌+◌, ◌≤◌, ◌<◌, ◌^◌, ◌⊎◌, map, drop, length, slice_index_or, vec_capacity, OnErr};
 ghost use Rattle.std.specs.Result.{result_map_both};
 ghost use Rattle.slab.specs.Slab.{get};
-ghost use Rattle.xf_doc.specs.Forest.{IsLive, tree_of};
-ghost use Rattle.xf_doc.specs.Changes.{placed, attached, elements_above};
+ghost use Rattle.xf_doc.specs.Forest.{IsLive, content_at, tree_of};
+ghost use Rattle.xf_doc.specs.Changes.{placed, place_of, attached, elements_above};
 ghost use Rattle.xf_doc.specs.Limits.{limits, is_too_deep};
-ghost use Rattle.xf_doc.specs.Needs.{MayAttach};
-ghost use Rattle.xf_doc.specs.Plant.{written_of};
+ghost use Rattle.xf_doc.specs.Needs.{MayAttach, MayPlace};
 ghost use Rattle.xf_doc.specs.Visit.{visits};
 ghost use Rattle.xf_tree.specs.Rows.{Sized, tree_of as rows_of_tree};
 ghost use Rattle.xf_tree.specs.Leaves.{AreLeaves, parts_in};
 ghost use Rattle.xf_tree.specs.Tree.{node_of, content_in, no_row, AreSteps, depths};
 ghost use Rattle.xf_tree.specs.Below.{attribute_at, child_at, row_below, elements_over, IsBehind, IsPlaced};
 
+use crate::child::count_lesser;
 use crate::fault::DEPTH_LIMIT;
 use crate::forest::Forest;
 use crate::lookup::{Hint, is_kin_at, note_parent, note_rows, parent_row, row_of};
 use crate::rows::{Row, end_of, paste_in, put_last};
-use crate::slot::{Slot, is_attribute_at, is_element_at, is_less_at};
+use crate::slot::{Slot, is_attribute_at, is_element_at};
 use slab::Slab;
 use xf_doc::{NodeId, TreeFault};
 
 impl Forest {
-    /// Puts a detached tree below a parent: before the child with this place, or behind them all; an attribute goes to its
-    /// place by name. Takes no memory.
+    /// Puts a detached tree below a parent: before the child with this place, or behind them all, and an attribute so among the
+    /// attributes. Takes no memory.
     pub fn place(&mut self, node: NodeId, parent: NodeId, place: u32)
-        requires { MayAttach node.number parent.number place self.old.forest }
+        requires { MayPlace node.number parent.number self.old.forest }
         ensures { self.new ≡ record self.old { forest = placed node.number parent.number place self.old.forest } }
     {
         let Some(at) = row_of(&self.rows, &self.slots, &self.hints, node) else {
@@ -44,7 +44,8 @@ impl Forest {
         );
     }
 
-    /// The same, unless an element would stand too deep. Takes no memory.
+    /// Puts a detached tree below a parent, unless an element would stand too deep: an element before the child with this
+    /// place, or behind them all, and an attribute by its written name. Takes no memory.
     pub fn attach(&mut self, node: NodeId, parent: NodeId, place: u32) -> Result<(), TreeFault>
         requires { MayAttach node.number parent.number place self.old.forest }
         ensures answer { result_map_both (λ u. self.new.forest) (λ e. e) result ≡ attached limits node.number parent.number place self.old.forest }
@@ -54,8 +55,31 @@ impl Forest {
         if self.is_too_deep(node, parent) {
             return Err(TreeFault::Depth);
         }
+        let place = self.place_of(node, parent, place);
         self.place(node, parent, place);
         Ok(())
+    }
+
+    /// Where a node comes below a parent: at a place that is given, or as an attribute by its written name.
+    fn place_of(&self, node: NodeId, parent: NodeId, place: u32) -> u32
+        requires node { IsLive node.number self.now.forest }
+        requires parent { IsLive parent.number self.now.forest }
+        ensures { result ≡ place_of parent.number place (visits self.now.forest.nodes) (content_at node.number self.now.forest.nodes) }
+    {
+        match (
+            row_of(&self.rows, &self.slots, &self.hints, node),
+            row_of(&self.rows, &self.slots, &self.hints, parent),
+        ) {
+            (Some(at), Some(above)) => {
+                let key = self.rows[at].key;
+                if is_attribute_at(&self.slots, key) {
+                    count_lesser(&self.rows, &self.slots, above, key)
+                } else {
+                    place
+                }
+            }
+            _ => place,
+        }
     }
 
     /// Whether an element of a detached tree would stand too deep below a parent.
@@ -170,7 +194,7 @@ fn place_below(rows: &[Row], slots: &Slab<Slot>, above: usize, key: usize, place
     ensures { result ≡ row_below slots.now rows.now above (content_in (get slots.now key)) place }
 {
     if is_attribute_at(slots, key) {
-        attribute_place(rows, slots, above, key)
+        attribute_place(rows, slots, above, place)
     } else {
         child_place(rows, slots, above, place)
     }
@@ -199,18 +223,17 @@ fn child_place(rows: &[Row], slots: &Slab<Slot>, above: usize, place: u32) -> us
     end
 }
 
-/// The row before which the attribute under a key comes, among those of the element at a place.
-fn attribute_place(rows: &[Row], slots: &Slab<Slot>, above: usize, key: usize) -> usize
+/// The row before which an attribute with this place comes, below the element at a place, or behind all attributes.
+fn attribute_place(rows: &[Row], slots: &Slab<Slot>, above: usize, place: u32) -> usize
     requires within { above < length rows.now }
     requires fits { (slice_index_or rows.now above no_row).depth + 1 < 2 ^ 32 }
-    ensures { result ≡ above + 1 + attribute_at ((slice_index_or rows.now above no_row).depth + 1) (written_of (content_in (get slots.now key))) (map (node_of slots.now) (drop (above + 1) rows.now)) }
+    ensures { result ≡ above + 1 + attribute_at ((slice_index_or rows.now above no_row).depth + 1) place (map (node_of slots.now) (drop (above + 1) rows.now)) }
 {
     let depth = rows[above].depth + 1;
+    let mut ahead = place;
     let mut next = above + 1;
-    while next < rows.len()
-        && is_kin_at(rows, slots, next, depth, true)
-        && is_less_at(slots, rows[next].key, key)
-    {
+    while ahead > 0 && next < rows.len() && is_kin_at(rows, slots, next, depth, true) {
+        ahead -= 1;
         next += 1;
     }
     next

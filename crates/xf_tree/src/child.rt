@@ -1,16 +1,16 @@
 //! What stands right below a row. A walk over children goes from one row below to the next one by its size; one over attributes
 //! ends with them, since they stand first.
-ghost use Rattle.std.specs.Prelude.{◌≡◌, ◌<◌, ◌==◌, suc, nat_lt, nat_le, length, map, slice_index_or};
+ghost use Rattle.std.specs.Prelude.{◌≡◌, ◌<◌, ◌^◌, ◌==◌, suc, nat_lt, nat_le, length, map, slice_index_or};
 ghost use Rattle.slab.specs.Slab.{get};
 ghost use Rattle.xf_doc.specs.Forest.{is_element, is_attribute};
 ghost use Rattle.xf_tree.specs.Rows.{Sized};
 ghost use Rattle.xf_tree.specs.First.{AreFirst};
 ghost use Rattle.xf_tree.specs.Leaves.{parts_in};
 ghost use Rattle.xf_tree.specs.Tree.{node_of, content_in, no_row};
-ghost use Rattle.xf_tree.specs.Kids.{is_kid, is_no_attribute, is_attribute_like, kids_at};
+ghost use Rattle.xf_tree.specs.Kids.{is_kid, is_no_attribute, is_attribute_like, is_lesser_attribute, kids_at};
 
 use crate::rows::{Row, end_of};
-use crate::slot::{Slot, has_same_name, is_attribute_at, is_element_at};
+use crate::slot::{Slot, has_same_name, is_attribute_at, is_element_at, is_less_at};
 use slab::Slab;
 
 /// Whether the node at a place has so many children at least.
@@ -68,6 +68,25 @@ pub fn has_attribute(rows: &[Row], slots: &Slab<Slot>, above: usize, like: usize
         next += 1;
     }
     false
+}
+
+/// How many attributes of the node at a place have a written name that is less than that of the node under a key.
+pub fn count_lesser(rows: &[Row], slots: &Slab<Slot>, above: usize, key: usize) -> u32
+    requires within { above < length rows.now }
+    requires few { length rows.now < 2 ^ 31 }
+    requires first { AreFirst 0 (parts_in (map (node_of slots.now) rows.now)) }
+    ensures { result ≡ kids_at (is_lesser_attribute (content_in (get slots.now key))) slots.now rows.now above }
+{
+    let depth = rows[above].depth;
+    let mut count = 0;
+    let mut next = above + 1;
+    while next < rows.len() && is_attribute_below(rows, slots, next, depth) {
+        if is_less_at(slots, rows[next].key, key) {
+            count += 1;
+        }
+        next += 1;
+    }
+    count
 }
 
 /// Whether the row at a place is one deeper than this.

@@ -1,13 +1,12 @@
 //! What holds of every forest.
-ghost use Rattle.std.specs.Prelude.{◌≡◌, true};
-ghost use Rattle.xf_doc.specs.WellFormed.{are_apart};
+ghost use Rattle.xf_doc.specs.WellFormed.{AreTrees};
 
 use crate::forest::Forest;
 
 impl Forest {
-    /// No number comes twice. This tells contracts so, and does nothing.
-    pub fn numbers_differ(&self)
-        ensures { are_apart self.now.forest.nodes ≡ true }
+    /// The nodes are those of trees, and no number comes twice. This tells contracts so, and does nothing.
+    pub fn are_trees(&self)
+        ensures { AreTrees self.now }
     {
         let _ = &self.rows;
     }

@@ -1,5 +1,3 @@
-pub mod Made
-pub mod Back
 pub mod Entries
 pub mod Children
 pub mod Index

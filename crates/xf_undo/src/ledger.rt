@@ -3,10 +3,10 @@ ghost use Rattle.std.specs.Prelude.{◌≡◌, ◌<◌, ◌∷◌, ◌++◌, [],
 ghost use Rattle.xf_doc.specs.Needs.{MayGiveUp};
 ghost use Rattle.xf_doc.specs.Texts.{Keeping};
 ghost use Rattle.xf_doc.specs.Undo.{kept_at, with_note, text_filled, place_filled, attach_filled, rolled_back, is_known};
-ghost use Rattle.xf_doc.specs.WellFormed.{IsKeeping};
-ghost use Rattle.xf_undo.specs.Back.{CanRollBack};
+ghost use Rattle.xf_doc.specs.WellFormed.{AreTrees};
+ghost use Rattle.xf_rollback.specs.Back.{CanRollBack};
 ghost use Rattle.xf_undo.specs.Entries.{change_of, entries_of};
-ghost use Rattle.xf_undo.specs.Made.{Made, CutsElements};
+ghost use Rattle.xf_rollback.specs.Made.{Made};
 ghost use Rattle.xf_undo.specs.Index.{IsListed, are_quiet};
 
 use crate::entry::{
@@ -39,7 +39,6 @@ impl Model for Ledger {
     ghost Value = { Known };
 
     ghost use Rattle.xf_undo.specs.Entries.{entries_of};
-    ghost use Rattle.xf_undo.specs.Made.{Made, CutsElements};
     ghost use Rattle.xf_undo.specs.Index.{IsIndexed};
 
     ghost view = { λ l. record { entries = entries_of l.entries.items; next = l.next } };
@@ -128,7 +127,7 @@ impl Ledger {
         requires { CanRollBack self.old forest.old }
         ensures back { forest.new ≡ rolled_back self.old forest.old }
         ensures none { self.new ≡ record { entries = []; next = self.old.next } }
-        ensures law { (start : Keeping) (made : Made start self.old forest.old) → CutsElements made → IsKeeping forest.old → forest.new ≡ start }
+        ensures law { (start : Keeping) → Made start self.old forest.old → AreTrees forest.old → forest.new ≡ start }
     {
         undo_all(&mut self.entries, forest);
         self.seats.clear();

@@ -1,0 +1,160 @@
+-- Each change, from what rolling back gives before it to what it gives after it.
+use Rattle.std.proofs.Common.{◌≡◌, ℕ, ◌+◌, ◌==◌, Bool, true, false, not, cond, ◌&&◌, ◌||◌, List, [], ◌∷◌, length, refl, sym, ap, ◌∙◌, subst, inl, inr, arith}
+use Rattle.std.specs.Prelude.{⊤, ◌⊎◌, ◌≤◌, ◌<◌, Option, Some, None, Result, Ok, Err, if◌then◌else◌}
+use Rattle.std.specs.List.{list_all}
+use Rattle.std.proofs.lemmas.Bool.{cases_Bool}
+use Rattle.std.proofs.lemmas.Bool.Decides.{nat_tests}
+use Rattle.xf_doc.specs.declared.fault.TreeFault.{TreeFault}
+use Rattle.xf_doc.specs.declared.content.Content.{Content}
+use Rattle.xf_doc.specs.declared.content.Kind.{Kind}
+use Rattle.xf_doc.specs.declared.content.Kind.TheVariants as kind
+use Rattle.xf_doc.specs.Visit.{has, numbers, visits, children_of}
+use Rattle.xf_doc.specs.Forest.{is_root, is_element, is_attribute, kind_at, tree_of}
+use Rattle.xf_doc.specs.Changes.{placed, detached, standing}
+use Rattle.xf_doc.specs.Limits.{Limits, unless}
+use Rattle.xf_doc.specs.Texts.{Keeping, Before, element_texts, attribute_text, texts_in, value_in, is_attribute_at, before_of, with_text, given_up, put_back, text_set}
+use Rattle.xf_doc.specs.Needs.{IsSettable, MayAttach, MayStand, in_element, in_root, as_attribute}
+use Rattle.xf_doc.specs.WellFormed.{IsKeeping, has_document}
+use Rattle.xf_doc.specs.Undo.{Change, of_text, Entry, Ledger, with_note, with_set, is_known, text_filled, rolled_back}
+use Rattle.xf_doc.specs.Undo as undo
+use Rattle.xf_doc.proofs.BackLaws.{after_set, false-true}
+use Rattle.xf_rollback.specs.Made.{Made, begun, noted, texts, joined, cut, grown, CutsElements}
+use Rattle.xf_rollback.specs.Back.{CanRollBack}
+use Rattle.xf_rollback.proofs.Trees.{Trees, none, tree, onto, followed, times}
+use Rattle.xf_rollback.proofs.TreeShape.{Sound}
+use Rattle.xf_rollback.proofs.TreeMoved.{Moved, same}
+use Rattle.xf_rollback.proofs.TreeBlank.{blank}
+use Rattle.xf_rollback.proofs.TreeFacts.{is_at, or-cases}
+use Rattle.xf_rollback.proofs.KeepingTrees.{Stands, stands, kept_times}
+use Rattle.xf_rollback.proofs.Alike.{Alike, Back}
+use Rattle.xf_rollback.proofs.TextSteps.{element-known, element-may, element-alike}
+use Rattle.xf_rollback.proofs.ValueSteps.{attribute-known, attribute-may, attribute-alike}
+use Rattle.xf_rollback.proofs.JoinSteps.{Moves, element-moves, attribute-moves, joined-below, joined-kind, joined-alike}
+use Rattle.xf_rollback.proofs.BearLemmas.{Bears, element-bears, root-bears}
+use Rattle.xf_rollback.proofs.CutSteps.{cut-old, cut-no_attribute, cut-kind, cut-stood, later-children, place-fits, cut-parent-kind, cut-may, cut-element, cut-alike}
+use Rattle.xf_rollback.proofs.CutStands.{root-kids}
+use Rattle.xf_rollback.proofs.AttributeSteps.{text-stay, join-stay, cut-stay, growth-stay}
+use Rattle.xf_rollback.proofs.TreeMoves.{followed-none}
+use Rattle.xf_rollback.proofs.GrowthSteps.{growth-alike, begun-back}
+
+pub unless-ok : {X : Type 0} (fault : Option TreeFault) (v w : X) → unless fault v ≡ Ok w → v ≡ w
+unless-ok None v w e = cc e
+unless-ok (Some fault) v w e = cc e
+
+-- ---- a text
+
+-- what is to be shown of a ledger and a forest
+abbrev pub Goal : Keeping → List ℕ → Ledger × Keeping → Type 0
+Goal start ns p = (t : Trees) → p.1.forest.nodes ≡ onto 0 t [] → Sound false t → ((n : ℕ) → times n t ≤ 1) → (k2 : Keeping) → Alike ns t p.1 k2 → Back start p.0 k2
+
+module _ (start : Keeping) (l : Ledger) (k : Keeping) (n : ℕ) (text : List ℕ) (sound : IsKeeping k) (able : IsSettable n k.forest) (ns : List ℕ)
+    (found : is_known n (after_set n text k) l.entries ≡ true → has n ns ≡ true) (s : Stands k) (back : (k2 : Keeping) → Alike ns s.trees k k2 → Back start l k2) where
+  abbrev after : Keeping
+  after = after_set n text k
+
+  element-case : is_attribute_at n k.forest.nodes ≡ false → Goal start (n ∷ ns) (with_set n (element_texts (numbers (texts_in (tree_of n k.forest.nodes)))) l.entries l.next after)
+  element-case other = by (is_known n after l.entries) found
+    where
+      by : (known : Bool) → (known ≡ true → has n ns ≡ true)
+          → Goal start (n ∷ ns) (cond known (record { entries = l.entries; next = l.next }, given_up (element_texts (numbers (texts_in (tree_of n k.forest.nodes)))) after)
+          (record { entries = undo.set n (element_texts (numbers (texts_in (tree_of n k.forest.nodes)))) ∷ l.entries; next = l.next }, after))
+      by true h t nodes whole once k2 a = back k2 (element-known n text k sound able s other t nodes whole (once n) ns (h refl) k2 a)
+      by false h t nodes whole once k2 a =
+          let r = back (put_back n (element_texts (numbers (texts_in (tree_of n k.forest.nodes)))) k2) (element-alike n text k sound able s other t nodes whole (once n) ns k2 a) in
+          record { changes = (element-may n text k sound able s other t nodes whole (once n) ns k2 a, r.changes); rest = r.rest; same = r.same }
+
+  attribute-case : is_attribute_at n k.forest.nodes ≡ true → Goal start (n ∷ ns) (with_set n (attribute_text (value_in (tree_of n k.forest.nodes))) l.entries l.next after)
+  attribute-case is = by (is_known n after l.entries) found
+    where
+      by : (known : Bool) → (known ≡ true → has n ns ≡ true)
+          → Goal start (n ∷ ns) (cond known (record { entries = l.entries; next = l.next }, given_up (attribute_text (value_in (tree_of n k.forest.nodes))) after)
+          (record { entries = undo.set n (attribute_text (value_in (tree_of n k.forest.nodes))) ∷ l.entries; next = l.next }, after))
+      by true h t nodes whole once k2 a = back k2 (attribute-known n text k sound able s is t nodes whole (once n) ns k2 a (h refl))
+      by false h t nodes whole once k2 a =
+          let r = back (put_back n (attribute_text (value_in (tree_of n k.forest.nodes))) k2) (attribute-alike n text k sound able s is t nodes whole (once n) ns k2 a) in
+          record { changes = (attribute-may n text k sound able s is t nodes whole (once n) ns k2 a, r.changes); rest = r.rest; same = r.same }
+
+  set-case : Goal start (n ∷ ns) (with_set n (before_of n k.forest.nodes) l.entries l.next after)
+  set-case =
+      elim (cases_Bool (is_attribute_at n k.forest.nodes)) [
+        | inl e ↦ subst (λ b. Goal start (n ∷ ns) (with_set n b l.entries l.next after)) (had_text e) (attribute-case e)
+        | inr e ↦ subst (λ b. Goal start (n ∷ ns) (with_set n b l.entries l.next after)) (had_texts e) (element-case e)
+      ]
+    where
+      had_text : is_attribute_at n k.forest.nodes ≡ true → attribute_text (value_in (tree_of n k.forest.nodes)) ≡ before_of n k.forest.nodes
+      had_text e = rw e refl
+
+      had_texts : is_attribute_at n k.forest.nodes ≡ false → element_texts (numbers (texts_in (tree_of n k.forest.nodes))) ≡ before_of n k.forest.nodes
+      had_texts e = rw e refl
+
+  pub text-case : (limits : Limits) (before : Before) (later : Keeping) → text_set limits n text k ≡ Ok (before, later)
+      → Goal start (n ∷ ns) (text_filled before (with_note (of_text n) l) later)
+  text-case limits before later e =
+      subst (λ (w : Before × Keeping). Goal start (n ∷ ns) (with_set n w.0 l.entries l.next w.1)) (unless-ok _ (before_of n k.forest.nodes, after) (before, later) e) set-case
+
+-- ---- a tree that was attached
+
+pub join-case : (start : Keeping) (l : Ledger) (k : Keeping) (n parent place : ℕ) → IsKeeping k → MayAttach n parent place k.forest → (ns : List ℕ) (s : Stands k) → ((k2 : Keeping) → Alike ns s.trees k k2 → Back start l k2)
+    → (t : Trees) → (placed n parent place k.forest).nodes ≡ onto 0 t [] → Sound false t → times n t ≤ 1 → (k2 : Keeping) → Alike ns t (record k { forest = placed n parent place k.forest }) k2
+    → Back start (record l { entries = undo.joined n ∷ l.entries }) k2
+join-case start l k n parent place sound may ns s back t nodes whole once k2 a = by may.stands
+  where
+    step : (kn : Kind) (q : Content → Bool) → Moves kn q → kind_at n k.forest.nodes ≡ Some kn → (kp : Kind) → kind_at parent k.forest.nodes ≡ Some kp
+        → ((kind_at n k2.forest.nodes ≡ Some kn) → (kind_at n k2.forest.nodes ≡ Some kind.Element) ⊎ (kind_at n k2.forest.nodes ≡ Some kind.Attribute))
+        → Back start (record l { entries = undo.joined n ∷ l.entries }) k2
+    step kn q moves is kp above either =
+        let r = back (record k2 { forest = detached n k2.forest }) (joined-alike n parent place k sound may s kn q moves is kp above t nodes whole once ns k2 a) in
+        record {
+          changes = (
+            record {
+              below = joined-below n parent place k sound may s kn q moves is kp above t nodes whole once ns k2 a;
+              kind = either (joined-kind n parent place k sound may s kn q moves is kp above t nodes whole once ns k2 a);
+            },
+            r.changes,
+          );
+          rest = r.rest;
+          same = r.same;
+        }
+
+    by : MayStand n parent place k.forest → Back start (record l { entries = undo.joined n ∷ l.entries }) k2
+    by (in_element is above le) = step kind.Element is_element element-moves is kind.Element above inl
+    by (in_root is above none_ first) = step kind.Element is_element element-moves is kind.Root above inl
+    by (as_attribute is above lacks) = step kind.Attribute is_attribute attribute-moves is kind.Element above inr
+
+-- ---- a tree that was cut off
+
+pub cut-case : (start : Keeping) (l : Ledger) (k : Keeping) (n parent place : ℕ) → IsKeeping k → kind_at n k.forest.nodes ≡ Some kind.Element → standing n k.forest.nodes ≡ Some (parent, place) → (ns ms : List ℕ)
+    → has parent ns ≡ false → ((m : ℕ) → has m ns ≡ true → has m ms ≡ true) → (s : Stands k) → ((k2 : Keeping) → Alike ms s.trees k k2 → Back start l k2)
+    → (t : Trees) → (detached n k.forest).nodes ≡ onto 0 t [] → Sound false t → times n t ≤ 1 → (k2 : Keeping) → Alike ns t (record k { forest = detached n k.forest }) k2
+    → Back start (record l { entries = undo.cut n parent place ∷ l.entries }) k2
+cut-case start l k n parent place sound is stood_ ns ms out more s back t nodes whole once k2 a = by (cut-kind n parent place k sound is stood_ s)
+  where
+    end : MayStand n parent place k2.forest → (kp : Kind) (q : Content → Bool) (bears : Bears kp q) (above : is_at q parent s.trees ≡ true) → Back start (record l { entries = undo.cut n parent place ∷ l.entries }) k2
+    end stand kp q bears above =
+        let r = back (record k2 { forest = placed n parent place k2.forest }) (cut-alike n parent place k sound is stood_ s kp q bears above t nodes whole once ns out k2 a ms more) in
+        record {
+          changes = (cut-may n parent place k sound is stood_ s kp q bears above t nodes whole once ns out k2 a stand, r.changes);
+          rest = r.rest;
+          same = r.same;
+        }
+
+    no-items : (ns : List ℕ) → length ns ≡ 0 → ns ≡ []
+    no-items [] e = refl
+    no-items (n ∷ ns) e = absurd (omega (arith, e))
+
+    by : (is_at is_element parent s.trees ≡ true) ⊎ (is_at is_root parent s.trees ≡ true) → Back start (record l { entries = undo.cut n parent place ∷ l.entries }) k2
+    by (inl above) =
+        let count = later-children n parent place k sound is stood_ s kind.Element is_element element-bears above t nodes whole once ns out k2 a in
+        let fits = place-fits n parent place k sound is stood_ s kind.Element is_element element-bears above t nodes whole once ns out k2 a in
+        end (in_element (cut-element n parent place k sound is stood_ s kind.Element is_element element-bears above t nodes whole once ns out k2 a)
+        (cut-parent-kind n parent place k sound is stood_ s kind.Element is_element element-bears above t nodes whole once ns out k2 a)
+        (grind (arith, nat_tests, count, fits))) kind.Element is_element element-bears above
+    by (inr above) =
+        let count = later-children n parent place k sound is stood_ s kind.Root is_root root-bears above t nodes whole once ns out k2 a in
+        let fits = place-fits n parent place k sound is stood_ s kind.Root is_root root-bears above t nodes whole once ns out k2 a in
+        let fewer = (cut-stood n parent place k sound is stood_ s).fewer in
+        let one = root-kids parent s.trees (subst (λ l. list_all (has_document (visits l)) (visits l) ≡ true) s.nodes sound.forest.documents) above in
+        end (in_root (cut-element n parent place k sound is stood_ s kind.Root is_root root-bears above t nodes whole once ns out k2 a)
+        (cut-parent-kind n parent place k sound is stood_ s kind.Root is_root root-bears above t nodes whole once ns out k2 a)
+        (no-items (children_of parent (visits k2.forest.nodes)) (omega (arith, count, fewer, one)))
+        (omega (arith, fits, fewer, one))) kind.Root is_root root-bears above

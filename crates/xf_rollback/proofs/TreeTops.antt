@@ -1,0 +1,237 @@
+-- The tops of trees: detached trees stand after the roots, and can be put last.
+use Rattle.std.proofs.Common.{◌≡◌, ℕ, zero, suc, ◌+◌, ◌==◌, Bool, true, false, not, cond, ◌&&◌, ◌||◌, List, [], ◌∷◌, refl, sym, ap, ◌∙◌, subst, inl, inr, arith}
+use Rattle.std.specs.Prelude.{⊤, ◌≤◌, ◌<◌, is_some, find, Option, if◌then◌else◌}
+use Rattle.std.specs.List.{list_any}
+use Rattle.std.proofs.lemmas.Bool.{cases_Bool}
+use Rattle.std.proofs.lemmas.Bool.Decides.{nat_tests}
+use Rattle.xf_doc.specs.declared.content.Node.{Node}
+use Rattle.xf_doc.specs.declared.content.Content.{Content}
+use Rattle.xf_doc.specs.Forest.{is_root}
+use Rattle.xf_doc.specs.Visit.{Visit, visits, above_in, first_of, parent_of}
+use Rattle.xf_doc.specs.Needs.{is_top}
+use Rattle.xf_doc.specs.WellFormed.{are_roots_first}
+use Rattle.xf_doc.proofs.BackLaws.{and-true, or-false, false-true}
+use Rattle.xf_rollback.proofs.Trees.{Trees, none, tree, onto, followed, times, times-followed}
+use Rattle.xf_rollback.proofs.TreeTexts.{times-split}
+use Rattle.xf_rollback.proofs.TreeVisits.{seen, visits-seen}
+use Rattle.xf_rollback.proofs.TreeMoved.{Moved, same, swap, under, through}
+use Rattle.xf_rollback.proofs.TreeBlank.{blank}
+use Rattle.xf_rollback.proofs.TreeFacts.{is_at}
+use Rattle.xf_rollback.proofs.TreeMoves.{removed, found, removed-absent, found-absent, followed-none}
+use Rattle.xf_rollback.proofs.TreePlaces.{changed}
+use Rattle.xf_rollback.proofs.Alike.{Fresh}
+
+-- the node is a top
+abbrev pub tops : ℕ → Trees → Bool
+tops n none = false
+tops n (tree m c k r) = (m == n) || tops n r
+
+or-turned : (a b c : Bool) → (a || (b || c)) ≡ (b || (a || c))
+or-turned true true c = refl
+or-turned true false c = refl
+or-turned false b c = refl
+
+pub moved-tops : (n : ℕ) {a b : Trees} → Moved a b → tops n a ≡ tops n b
+moved-tops n (same t) = refl
+moved-tops n (swap {n = x} {m = y} {r = r} e f) = or-turned (x == n) (y == n) (tops n r)
+moved-tops n (under m c k h) = ap (λ b. (m == n) || b) (moved-tops n h)
+moved-tops n (through g h) = moved-tops n g ∙ moved-tops n h
+
+pub blank-tops : (n : ℕ) (ns : List ℕ) (t : Trees) → tops n (blank ns t) ≡ tops n t
+blank-tops n ns none = refl
+blank-tops n ns (tree m c k r) = ap (λ b. (m == n) || b) (blank-tops n ns r)
+
+pub changed-tops : (n p : ℕ) (f : Trees → Trees) (t : Trees) → tops n (changed p f t) ≡ tops n t
+changed-tops n p f none = refl
+changed-tops n p f (tree m c k r) = ap (λ b. (m == n) || b) (changed-tops n p f r)
+
+pub absent-tops : (n : ℕ) (t : Trees) → times n t ≡ 0 → tops n t ≡ false
+absent-tops n none h = refl
+absent-tops n (tree m c k r) h = let parts = times-split n m c k r h in rw (parts.0, absent-tops n r parts.2) refl
+
+pub tops-followed : (n : ℕ) (t s : Trees) → tops n (followed t s) ≡ (tops n t || tops n s)
+tops-followed n none s = refl
+tops-followed n (tree m c k r) s = ap (λ b. (m == n) || b) (tops-followed n r s) ∙ assoc (m == n) (tops n r) (tops n s)
+  where
+    assoc : (a b c : Bool) → (a || (b || c)) ≡ ((a || b) || c)
+    assoc true b c = refl
+    assoc false b c = refl
+
+-- ---- in the list
+
+tops-deep : (n d : ℕ) (t : Trees) (ys : List Node) → list_any (λ (x : Node). (x.number == n) && (x.depth == 0)) (onto (suc d) t ys) ≡ list_any (λ (x : Node). (x.number == n) && (x.depth == 0)) ys
+tops-deep n d none ys = refl
+tops-deep n d (tree m c k r) ys =
+    let deep : (suc d == 0) ≡ false = grind (arith, nat_tests) in
+    rw (deep, and-false (m == n)) (tops-deep n (suc d) k (onto (suc d) r ys) ∙ tops-deep n d r ys)
+  where
+    and-false : (b : Bool) → (b && false) ≡ false
+    and-false true = refl
+    and-false false = refl
+
+pub tops-onto : (n : ℕ) (t : Trees) → is_top n (onto 0 t []) ≡ tops n t
+tops-onto n none = refl
+tops-onto n (tree m c k r) =
+    ap (λ b. ((m == n) && true) || b) (tops-deep n 0 k (onto 0 r []) ∙ tops-onto n r) ∙ ap (λ b. b || tops n r) (and-true_ (m == n))
+  where
+    and-true_ : (b : Bool) → (b && true) ≡ b
+    and-true_ true = refl
+    and-true_ false = refl
+
+-- ---- a detached tree is put last
+
+abbrev pub NoRoots : Trees → Type 0
+NoRoots none = ⊤
+NoRoots (tree n c k r) = (is_root c ≡ false) × NoRoots r
+
+-- the node is a top that is no root, and none comes after it
+abbrev pub TopAt : ℕ → Trees → Type 0
+TopAt n none = ⊥
+TopAt n (tree m c k r) = cond (m == n) ((is_root c ≡ false) × NoRoots r) (TopAt n r)
+
+skip-roots : (past : Bool) (d : ℕ) (t : Trees) (ys : List Node) → are_roots_first past (onto (suc d) t ys) ≡ true → are_roots_first past ys ≡ true
+skip-roots past d none ys h = h
+skip-roots past d (tree m c k r) ys h = skip-roots past d r ys (skip-roots past (suc d) k (onto (suc d) r ys) (by (is_root c) h))
+  where
+    deep : (suc d == 0) ≡ false
+    deep = grind (arith, nat_tests)
+
+    or-none : (b : Bool) → (b || false) ≡ b
+    or-none true = refl
+    or-none false = refl
+
+    by : (b : Bool) → cond b ((suc d == 0) && not past && are_roots_first past (onto (suc (suc d)) k (onto (suc d) r ys))) (are_roots_first (past || (suc d == 0)) (onto (suc (suc d)) k (onto (suc d) r ys))) ≡ true
+        → are_roots_first past (onto (suc (suc d)) k (onto (suc d) r ys)) ≡ true
+    by true h = (and-true ((suc d == 0) && not past) (are_roots_first past (onto (suc (suc d)) k (onto (suc d) r ys))) h).1
+    by false h = subst (λ b. are_roots_first b (onto (suc (suc d)) k (onto (suc d) r ys)) ≡ true) (ap (λ b. past || b) deep ∙ or-none past) h
+
+abbrev FirstAt : Bool → Bool → List Node → Type 0
+FirstAt b past ys = cond b ((0 == 0) && not past && are_roots_first past ys) (are_roots_first (past || (0 == 0)) ys) ≡ true
+
+no-roots-after : (t : Trees) → are_roots_first true (onto 0 t []) ≡ true → NoRoots t
+no-roots-after none h = tt
+no-roots-after (tree m c k r) h = by (is_root c) h (λ g. no-roots-after r (skip-roots true 0 k (onto 0 r []) g))
+  where
+    by : (b : Bool) → FirstAt b true (onto 1 k (onto 0 r [])) → (are_roots_first true (onto 1 k (onto 0 r [])) ≡ true → NoRoots r) → (b ≡ false) × NoRoots r
+    by true h next = absurd (false-true h)
+    by false h next = (refl, next h)
+
+at-first : (n m : ℕ) (c : Content) (k r : Trees) → (m == n) ≡ true → is_at is_root n (tree m c k r) ≡ false → is_root c ≡ false
+at-first n m c k r e h = (or-false (is_root c) (is_at is_root n k || is_at is_root n r) (rw e at h)).0
+
+pub top-at : (n : ℕ) (past : Bool) (t : Trees) → are_roots_first past (onto 0 t []) ≡ true → tops n t ≡ true → is_at is_root n t ≡ false → TopAt n t
+top-at n past none h top other = false-true top
+top-at n past (tree m c k r) h top other =
+    elim (cases_Bool (m == n)) [
+      | inl e ↦
+          let plain = at-first n m c k r e other in
+          rw e (plain, no-roots-after r (skip-roots true 0 k (onto 0 r []) (first past (subst (λ b. FirstAt b past (onto 1 k (onto 0 r []))) plain h))))
+      | inr e ↦
+          let rest = next past (is_root c) h in
+          rw e (top-at n rest.0 r (skip-roots rest.0 0 k (onto 0 r []) rest.1) (rw e at top) (or-false (is_at is_root n k) (is_at is_root n r) (rw e at other)).1)
+    ]
+  where
+    first : (past : Bool) → FirstAt false past (onto 1 k (onto 0 r [])) → are_roots_first true (onto 1 k (onto 0 r [])) ≡ true
+    first true h = h
+    first false h = h
+
+    next : (past b : Bool) → FirstAt b past (onto 1 k (onto 0 r [])) → (later : Bool) × (are_roots_first later (onto 1 k (onto 0 r [])) ≡ true)
+    next past true h = (past, (and-true ((0 == 0) && not past) (are_roots_first past (onto 1 k (onto 0 r []))) h).1)
+    next past false h = (past || (0 == 0), h)
+
+pub fresh-no_roots : (number : ℕ) (t : Trees) → Fresh number t → NoRoots t
+fresh-no_roots number none h = tt
+fresh-no_roots number (tree n c k r) h = (h.1, fresh-no_roots number r h.3)
+
+no-roots-followed : (t s : Trees) → NoRoots t → NoRoots s → NoRoots (followed t s)
+no-roots-followed none s h k = k
+no-roots-followed (tree n c j r) s h k = (h.0, no-roots-followed r s h.1 k)
+
+pub top-followed : (n : ℕ) (t s : Trees) → TopAt n t → NoRoots s → TopAt n (followed t s)
+top-followed n none s h k = absurd h
+top-followed n (tree m c j r) s h k =
+    elim (cases_Bool (m == n)) [
+      | inl e ↦ rw e (here (rw e at h))
+      | inr e ↦ rw e (top-followed n r s (rw e at h) k)
+    ]
+  where
+    here : (is_root c ≡ false) × NoRoots r → (is_root c ≡ false) × NoRoots (followed r s)
+    here g = (g.0, no-roots-followed r s g.1 k)
+
+to-last : (n : ℕ) (c : Content) (k r : Trees) → is_root c ≡ false → NoRoots r → Moved (tree n c k r) (followed r (tree n c k none))
+to-last n c k none e h = same (tree n c k none)
+to-last n c k (tree m d j r) e h = through (swap e h.0) (under m d j (to-last n c k r e h.1))
+
+top-times : (n : ℕ) (t : Trees) → TopAt n t → 1 ≤ times n t
+top-times n none h = absurd h
+top-times n (tree m c k r) h =
+    elim (cases_Bool (m == n)) [
+      | inl e ↦ rw e (omega arith)
+      | inr e ↦ let z : 1 ≤ times n r = top-times n r (rw e at h) in rw e (omega (arith, z))
+    ]
+
+pub top-last : (n : ℕ) (t : Trees) → TopAt n t → times n t ≤ 1 → Moved t (followed (removed n t) (found n t))
+top-last n none h once = absurd h
+top-last n (tree m c k r) h once =
+    elim (cases_Bool (m == n)) [
+      | inl e ↦
+          let in_r : times n r ≡ 0 = omega (arith, (rw e at once)) in
+          here e in_r (rw e at h)
+      | inr e ↦
+          let z : 1 ≤ times n r = top-times n r (rw e at h) in
+          let in_k : times n k ≡ 0 = omega (arith, z, (rw e at once)) in
+          there e in_k (top-last n r (rw e at h) (omega (arith, (rw e at once))))
+    ]
+  where
+    here : (m == n) ≡ true → times n r ≡ 0 → (is_root c ≡ false) × NoRoots r → Moved (tree m c k r) (followed (removed n (tree m c k r)) (found n (tree m c k r)))
+    here e in_r g =
+        rw e (subst (λ x. Moved (tree m c k r) (followed x (tree m c k (found n r)))) (sym (removed-absent n r in_r))
+        (subst (λ x. Moved (tree m c k r) (followed r (tree m c k x))) (sym (found-absent n r in_r)) (to-last m c k r g.0 g.1)))
+
+    there : (m == n) ≡ false → times n k ≡ 0 → Moved r (followed (removed n r) (found n r)) → Moved (tree m c k r) (followed (removed n (tree m c k r)) (found n (tree m c k r)))
+    there e in_k h =
+        rw e (subst (λ x. Moved (tree m c k r) (tree m c x (followed (removed n r) (followed (found n k) (found n r))))) (sym (removed-absent n k in_k))
+        (subst (λ x. Moved (tree m c k r) (tree m c k (followed (removed n r) (followed x (found n r))))) (sym (found-absent n k in_k)) (under m c k h)))
+
+-- ---- a node that is no top has a parent
+
+find-absent : (n : ℕ) (up : List ℕ) (t : Trees) (vs : List Visit) → times n t ≡ 0 → find (λ (x : Visit). x.number == n) (seen up t vs) ≡ find (λ (x : Visit). x.number == n) vs
+find-absent n up none vs h = refl
+find-absent n up (tree m c k r) vs h =
+    let parts = times-split n m c k r h in
+    rw parts.0 (find-absent n (m ∷ up) k (seen up r vs) parts.1 ∙ find-absent n up r vs parts.2)
+
+abbrev Hangs : ℕ → List Visit → Type 0
+Hangs n vs = is_some (first_of (above_in (find (λ (x : Visit). x.number == n) vs))) ≡ true
+
+found-below : (n a : ℕ) (up : List ℕ) (t : Trees) (vs : List Visit) → 1 ≤ times n t → Hangs n (seen (a ∷ up) t vs)
+found-below n a up none vs h = absurd (omega (arith, h))
+found-below n a up (tree m c k r) vs h =
+    elim (cases_Bool (m == n)) [
+      | inl e ↦ rw e refl
+      | inr e ↦ rw e (
+          elim (cases_Bool (times n k == 0)) [
+            | inl z ↦
+                let none_ : times n k ≡ 0 = grind (arith, nat_tests, z) in
+                subst (λ o. is_some (first_of (above_in o)) ≡ true) (sym (find-absent n (m ∷ a ∷ up) k (seen (a ∷ up) r vs) none_)) (found-below n a up r vs (let g : 1 ≤ 0 + (times n k + times n r) = rw e at h in omega (arith, g, none_)))
+            | inr z ↦ found-below n m (a ∷ up) k (seen (a ∷ up) r vs) (grind (arith, nat_tests, z))
+          ]
+          )
+    ]
+
+pub hangs : (n : ℕ) (t : Trees) → tops n t ≡ false → 1 ≤ times n t → Hangs n (seen [] t [])
+hangs n none top h = absurd (omega (arith, h))
+hangs n (tree m c k r) top h =
+    let parts = or-false (m == n) (tops n r) top in
+    let some_ : 1 ≤ 0 + (times n k + times n r) = rw parts.0 at h in
+    rw parts.0 (
+    elim (cases_Bool (times n k == 0)) [
+      | inl z ↦
+          let none_ : times n k ≡ 0 = grind (arith, nat_tests, z) in
+          subst (λ o. is_some (first_of (above_in o)) ≡ true) (sym (find-absent n (m ∷ []) k (seen [] r []) none_)) (hangs n r parts.1 (omega (arith, some_, none_)))
+      | inr z ↦ found-below n m [] k (seen [] r []) (grind (arith, nat_tests, z))
+    ]
+    )
+
+pub has-parent : (n : ℕ) (t : Trees) → tops n t ≡ false → 1 ≤ times n t → is_some (parent_of n (visits (onto 0 t []))) ≡ true
+has-parent n t top h = subst (Hangs n) (sym (visits-seen t)) (hangs n t top h)
