@@ -21,6 +21,8 @@ mod name;
 mod path;
 mod plant;
 mod plant_bare;
+#[cfg(test)]
+mod played;
 mod print;
 mod root;
 mod rows;
@@ -33,10 +35,12 @@ mod spaces;
 #[cfg(test)]
 mod tests;
 #[cfg(test)]
-mod tests_may;
+mod tests_texts;
 mod text;
 mod tree;
 mod walk;
+#[cfg(test)]
+mod written;
 
 pub use before::Before;
 pub use forest::Forest;

@@ -1,140 +1,303 @@
 //! Worked forests.
-ghost use Rattle.std.specs.Prelude.{◌≡◌, IfOk};
-ghost use Rattle.xf_doc.specs.Needs.{MayDropFrom};
-ghost use Rattle.xf_name.specs.declared.lit.Lit.TheVariants.{Text};
-
-use crate::Forest;
-use std::alloc::{AllocError, Global};
+use crate::played::{Step, play};
+use crate::written::Part;
+use std::alloc::AllocGlobal;
 use std::process::Abort;
 use std::test::Fail;
-use xf_base::Items;
-use xf_doc::{Kind, TreeFault};
-use xf_name::{Lit, LitElement, Pair, Prefixes, Word, collect};
+use xf_name::Axis;
 
-/// An element with attributes and children.
-pub fn element(
-    alloc: Global,
-    name: &str,
-    attributes: &[(&str, &str)],
-    children: Vec<Lit>,
-) -> Result<Lit, AllocError> {
-    let mut pairs = Vec::new(alloc);
-    for (name, text) in attributes {
-        pairs.push(Pair {
-            name: Word::from_str(alloc, name)?,
-            text: Word::from_str(alloc, text)?,
-        })?;
-    }
-    Ok(Lit::Element(LitElement {
-        name: Word::from_str(alloc, name)?,
-        attributes: Items::from_vec(pairs),
-        children: Items::from_vec(children),
-    }))
-}
+// A form without prefixes, and one that declares `p` for `urn:p`, and `urn:d` as a default namespace.
+pub const PLAIN: [Part<'static>; 2] = [Part::Open("f"), Part::Close];
 
-pub fn text(alloc: Global, text: &str) -> Result<Lit, AllocError>
-    ensures { IfOk result (λ lit. lit ≡ Text text.now) }
-{
-    Ok(Lit::Text(Word::from_str(alloc, text)?))
-}
+pub const FORM: [Part<'static>; 4] = [
+    Part::Open("f"),
+    Part::With("xmlns:p", "urn:p"),
+    Part::With("xmlns", "urn:d"),
+    Part::Close,
+];
 
-/// ["d",["row",{"no":"7","k":"x"},"1","2"],"t"]
-pub fn rows(alloc: Global) -> Result<Lit, AllocError> {
-    let mut texts = Vec::new(alloc);
-    texts.push(text(alloc, "1")?)?;
-    texts.push(text(alloc, "2")?)?;
-    let mut children = Vec::new(alloc);
-    children.push(element(alloc, "row", &[("no", "7"), ("k", "x")], texts)?)?;
-    children.push(text(alloc, "t")?)?;
-    element(alloc, "d", &[], children)
-}
+// ["d",["row",{"no":"7","k":"x"},"1","2"],"t"]: 0 is d, 1 row, 2 @k, 3 @no, 4 "1", 5 "2", 6 "t".
+pub const ROWS: [Part<'static>; 9] = [
+    Part::Open("d"),
+    Part::Open("row"),
+    Part::With("no", "7"),
+    Part::With("k", "x"),
+    Part::Text("1"),
+    Part::Text("2"),
+    Part::Close,
+    Part::Text("t"),
+    Part::Close,
+];
 
-pub fn no_prefixes(alloc: Global) -> Result<Prefixes, Fail> {
-    Ok(collect(alloc, &element(alloc, "f", &[], Vec::new(alloc))?)?)
+// ["e",{"k":"y"}]
+pub const ONE: [Part<'static>; 3] = [Part::Open("e"), Part::With("k", "y"), Part::Close];
+
+/// Asserts what steps write on an empty forest.
+pub fn assert_play(
+    rt: &(impl Abort + AllocGlobal),
+    form: &[Part],
+    steps: &[Step],
+    want: &str,
+) -> Result<(), Fail> {
+    let words = play(rt.alloc(), form, steps)?;
+    assert_eq!(rt; words.as_str(), want);
+    Ok(())
 }
 
 #[test]
 fn an_empty_forest_has_no_root(rt: HostRuntime) -> Result<(), Fail> {
-    let mut forest = Forest::new(rt.alloc());
-    assert!(rt; forest.root(0).is_none());
-    assert_eq!(rt; forest.next_number(), 0);
-    forest.drop_detached();
-    assert!(rt; forest.root(7).is_none());
-    Ok(())
-}
-
-/// Asserts what a node is, whose its parent is, and its string value.
-fn assert_node(
-    rt: &impl Abort,
-    forest: &Forest,
-    number: u128,
-    kind: Kind,
-    parent: u128,
-    value: &str,
-) -> Result<(), Fail> {
-    let node = forest.find(number).ok_or("no such node")?;
-    assert!(rt; forest.kind(node) == kind);
-    if let Some(above) = forest.parent(node) {
-        assert_eq!(rt; above.number, parent);
-    }
-    let text = forest.string_value(node, 3)?.ok_or("too long")?;
-    assert_eq!(rt; text.as_str(), value);
-    assert!(rt; !forest.before(node, node));
-    Ok(())
+    let steps = [
+        Step::Root0,
+        Step::Next,
+        Step::Drop,
+        Step::Root0,
+        Step::Value(0),
+    ];
+    assert_play(&rt, &PLAIN, &steps, "none 0 dropped none none ")
 }
 
 #[test]
 fn a_tree_is_planted_in_document_order(rt: HostRuntime) -> Result<(), Fail> {
-    let alloc = rt.alloc();
-    let mut forest = Forest::new(alloc);
-    let prefixes = no_prefixes(alloc)?;
-    let top = forest.plant(&rows(alloc)?, &prefixes, 0)?;
-    assert_eq!(rt; top.number, 0);
-    assert_eq!(rt; forest.next_number(), 7);
-    assert_node(&rt, &forest, 0, Kind::Element, 0, "12t")?;
-    assert_node(&rt, &forest, 1, Kind::Element, 0, "12")?;
-    assert_node(&rt, &forest, 2, Kind::Attribute, 1, "x")?;
-    assert_node(&rt, &forest, 3, Kind::Attribute, 1, "7")?;
-    assert_node(&rt, &forest, 4, Kind::Text, 1, "1")?;
-    assert_node(&rt, &forest, 5, Kind::Text, 1, "2")?;
-    assert_node(&rt, &forest, 6, Kind::Text, 0, "t")?;
-    forest.drop_detached();
-    assert!(rt; forest.find(0).is_none());
-    assert_eq!(rt; forest.next_number(), 7);
-    Ok(())
+    let steps = [
+        Step::Plant(&ROWS),
+        Step::Next,
+        Step::Walk(0, Axis::DescendantOrSelf),
+        Step::Walk(1, Axis::Attribute),
+        Step::Value(0),
+        Step::Value(1),
+        Step::Value(2),
+        Step::Value(3),
+        Step::Value(6),
+        Step::Order(1, 2),
+        Step::Order(3, 2),
+        Step::Order(6, 6),
+        Step::Drop,
+        Step::Value(0),
+        Step::Next,
+    ];
+    let want = "0 7 0,1,4,5,6, 2,3, '12t' '12' 'x' '7' 't' before behind behind dropped none 7 ";
+    assert_play(&rt, &PLAIN, &steps, want)
 }
 
 #[test]
-fn a_bad_name_leaves_the_forest(rt: HostRuntime) -> Result<(), Fail> {
-    let alloc = rt.alloc();
-    let prefixes = no_prefixes(alloc)?;
-    let mut forest = Forest::new(alloc);
-    let lit = element(alloc, "1x", &[], Vec::new(alloc))?;
-    match forest.plant(&lit, &prefixes, 0) {
-        Ok(_) => assert!(rt; false),
-        Err(fault) => assert!(rt; fault == TreeFault::BadName),
-    }
-    assert_eq!(rt; forest.next_number(), 0);
-    Ok(())
-}
-
-/// Two texts, each a tree of its own.
-fn two_texts(alloc: Global) -> Result<Forest, Fail>
-    ensures { IfOk result (λ k. MayDropFrom 1 k.forest) }
-{
-    let prefixes = no_prefixes(alloc)?;
-    let mut forest = Forest::new(alloc);
-    forest.plant(&text(alloc, "a")?, &prefixes, 0)?;
-    forest.plant(&text(alloc, "b")?, &prefixes, 0)?;
-    Ok(forest)
+fn a_bad_name_is_told_before_a_prefix(rt: HostRuntime) -> Result<(), Fail> {
+    let bad = [Part::Open("d"), Part::Open("1x"), Part::Close, Part::Close];
+    let unknown = [Part::Open("q:d"), Part::Close];
+    let both = [
+        Part::Open("d"),
+        Part::Open("q:d"),
+        Part::With("a b", ""),
+        Part::Close,
+        Part::Close,
+    ];
+    let twice = [
+        Part::Open("d"),
+        Part::With("k", "1"),
+        Part::With("k", "2"),
+        Part::Close,
+    ];
+    let rebound = [Part::Open("d"), Part::With("xmlns:p", "urn:q"), Part::Close];
+    let steps = [
+        Step::Plant(&bad),
+        Step::Plant(&unknown),
+        Step::Plant(&both),
+        Step::Plant(&twice),
+        Step::Plant(&rebound),
+        Step::Next,
+        Step::Plant(&ONE),
+    ];
+    let want = "BadName Prefix BadName BadName Prefix 0 0 ";
+    assert_play(&rt, &FORM, &steps, want)
 }
 
 #[test]
-fn numbers_begin_again(rt: HostRuntime) -> Result<(), Fail> {
-    let mut forest = two_texts(rt.alloc())?;
-    forest.drop_from(1);
-    assert!(rt; forest.find(0).is_some());
-    assert!(rt; forest.find(1).is_none());
-    assert_eq!(rt; forest.next_number(), 1);
-    Ok(())
+fn a_root_comes_over_a_detached_element(rt: HostRuntime) -> Result<(), Fail> {
+    let steps = [
+        Step::Plant(&ROWS),
+        Step::Plant(&ONE),
+        Step::Root(1),
+        Step::Root(9),
+        Step::Root(7),
+        Step::Root0,
+        Step::Root(7),
+        Step::Copy(9),
+        Step::Order(9, 0),
+        Step::Attach(0, 9, 0),
+        Step::Cut(7),
+        Step::Attach(0, 9, 1),
+        Step::Attach(0, 9, 0),
+        Step::Value(9),
+        Step::Drop,
+        Step::Value(7),
+        Step::Next,
+    ];
+    let want = "0 7 no no 9 9 no no before no 9.0 no attached '12t' dropped none 10 ";
+    assert_play(&rt, &PLAIN, &steps, want)
+}
+
+#[test]
+fn what_has_a_parent_is_cut_off(rt: HostRuntime) -> Result<(), Fail> {
+    let steps = [
+        Step::Plant(&ROWS),
+        Step::Cut(0),
+        Step::Cut(4),
+        Step::Cut(7),
+        Step::Cut(3),
+        Step::Cut(1),
+        Step::Cut(1),
+        Step::Value(0),
+        Step::Value(1),
+        Step::Walk(1, Axis::DescendantOrSelf),
+        Step::Walk(3, Axis::Parent),
+        Step::Order(0, 3),
+        Step::Order(3, 1),
+    ];
+    let want = "0 no no no 1.1 0.0 no 't' '12' 1,4,5,  before before ";
+    assert_play(&rt, &PLAIN, &steps, want)
+}
+
+#[test]
+fn two_texts_meet_where_an_element_is_cut_off(rt: HostRuntime) -> Result<(), Fail> {
+    let tree = [
+        Part::Open("d"),
+        Part::Text("x"),
+        Part::Open("a"),
+        Part::Close,
+        Part::Text("y"),
+        Part::Close,
+    ];
+    let steps = [
+        Step::Plant(&tree),
+        Step::Cut(2),
+        Step::Walk(0, Axis::Child),
+        Step::Value(0),
+        Step::Path(1),
+        Step::Path(3),
+        Step::Print(0, &[]),
+    ];
+    let want = r#"0 0.1 1,3, 'xy' /d/text()[1] /d/text()[2] <d>"x""y"</> "#;
+    assert_play(&rt, &PLAIN, &steps, want)
+}
+
+#[test]
+fn a_tree_comes_to_its_place(rt: HostRuntime) -> Result<(), Fail> {
+    let steps = [
+        Step::Plant(&ROWS),
+        Step::Plant(&ONE),
+        Step::Attach(7, 0, 3),
+        Step::Attach(7, 1, 3),
+        Step::Attach(7, 1, 1),
+        Step::Walk(1, Axis::Child),
+        Step::Cut(7),
+        Step::Attach(7, 0, 0),
+        Step::Walk(0, Axis::Child),
+        Step::Cut(7),
+        Step::Attach(7, 0, 2),
+        Step::Walk(0, Axis::Descendant),
+        Step::Attach(7, 0, 0),
+    ];
+    let want = "0 7 no no attached 4,7,5, 1.1 attached 7,1,6, 0.0 attached 1,4,5,6,7, no ";
+    assert_play(&rt, &PLAIN, &steps, want)
+}
+
+#[test]
+fn a_tree_comes_to_a_parent_outside_it(rt: HostRuntime) -> Result<(), Fail> {
+    let steps = [
+        Step::Plant(&ROWS),
+        Step::Plant(&ONE),
+        Step::Attach(0, 0, 0),
+        Step::Attach(0, 1, 0),
+        Step::Attach(1, 7, 0),
+        Step::Attach(7, 6, 0),
+        Step::Attach(7, 2, 0),
+        Step::Attach(7, 9, 0),
+        Step::Attach(9, 7, 0),
+        Step::Attach(0, 7, 0),
+        Step::Walk(7, Axis::DescendantOrSelf),
+        Step::Walk(1, Axis::Ancestor),
+        Step::Order(8, 0),
+    ];
+    let want = "0 7 no no no no no no no attached 7,0,1,4,5,6, 0,7, before ";
+    assert_play(&rt, &PLAIN, &steps, want)
+}
+
+#[test]
+fn an_attribute_comes_by_its_name(rt: HostRuntime) -> Result<(), Fail> {
+    let steps = [
+        Step::Plant(&ROWS),
+        Step::Plant(&ONE),
+        Step::Cut(2),
+        Step::Attach(2, 7, 0),
+        Step::Attach(2, 4, 0),
+        Step::Cut(3),
+        Step::Attach(3, 1, 9),
+        Step::Attach(2, 1, 9),
+        Step::Walk(1, Axis::Attribute),
+        Step::Cut(2),
+        Step::Cut(3),
+        Step::Attach(3, 7, 0),
+        Step::Walk(7, Axis::Attribute),
+        Step::Value(3),
+        Step::Walk(1, Axis::DescendantOrSelf),
+    ];
+    let want = "0 7 1.0 no no 1.0 attached attached 2,3, 1.0 1.0 attached 8,3, '7' 1,4,5, ";
+    assert_play(&rt, &PLAIN, &steps, want)
+}
+
+#[test]
+fn axes_go_in_proximity_order(rt: HostRuntime) -> Result<(), Fail> {
+    let steps = [
+        Step::Plant(&ROWS),
+        Step::Plant(&ONE),
+        Step::Attach(7, 1, 1),
+        Step::Walk(7, Axis::Self_),
+        Step::Walk(7, Axis::Parent),
+        Step::Walk(0, Axis::Parent),
+        Step::Walk(7, Axis::Ancestor),
+        Step::Walk(8, Axis::AncestorOrSelf),
+        Step::Walk(0, Axis::Ancestor),
+        Step::Walk(1, Axis::FollowingSibling),
+        Step::Walk(6, Axis::PrecedingSibling),
+        Step::Walk(5, Axis::PrecedingSibling),
+        Step::Walk(4, Axis::FollowingSibling),
+        Step::Walk(2, Axis::FollowingSibling),
+        Step::Walk(0, Axis::FollowingSibling),
+        Step::Walk(8, Axis::DescendantOrSelf),
+        Step::Walk(4, Axis::Child),
+    ];
+    let want = "0 7 attached 7, 1,  1,0, 8,7,1,0,  6, 1, 7,4, 7,5,   8,  ";
+    assert_play(&rt, &PLAIN, &steps, want)
+}
+
+#[test]
+fn paths_count_siblings_of_one_written_name(rt: HostRuntime) -> Result<(), Fail> {
+    let tree = [
+        Part::Open("d"),
+        Part::Open("a"),
+        Part::With("k", "x"),
+        Part::Text("1"),
+        Part::Open("p:b"),
+        Part::Close,
+        Part::Close,
+        Part::Text("t"),
+        Part::Open("a"),
+        Part::With("xmlns", "urn:d"),
+        Part::Close,
+        Part::Open("c"),
+        Part::Close,
+        Part::Close,
+    ];
+    let steps = [
+        Step::Plant(&tree),
+        Step::Path(0),
+        Step::Path(1),
+        Step::Path(2),
+        Step::Path(3),
+        Step::Path(4),
+        Step::Path(5),
+        Step::Path(6),
+        Step::Path(7),
+    ];
+    let want = "0 /d /d/a[1] /d/a[1]/@k /d/a[1]/text()[1] /d/a[1]/p:b /d/text()[1] /d/a[2] /d/c ";
+    assert_play(&rt, &FORM, &steps, want)
 }

@@ -1,3 +1,4 @@
 pub mod Entries
 pub mod Children
 pub mod Index
+pub mod Draft

@@ -1,8 +1,14 @@
-//! The ledger of changes that gives a forest back.
+//! The ledger of changes that gives a forest back, and a forest that is kept with one.
 #![tactic(auto)]
 
+mod draft;
 mod entry;
 mod ledger;
+#[cfg(test)]
+mod played;
+#[cfg(test)]
+mod tests;
 
+pub use draft::Draft;
 pub use entry::Change;
 pub use ledger::Ledger;

@@ -1,0 +1,192 @@
+//! Worked texts, limits and printed trees.
+use crate::played::{Step, play};
+use crate::tests::{FORM, ONE, PLAIN, ROWS, assert_play};
+use crate::written::Part;
+use std::process::Abort;
+use std::test::Fail;
+use xf_name::Axis;
+
+#[test]
+fn a_text_is_set_where_no_element_is(rt: HostRuntime) -> Result<(), Fail> {
+    let steps = [
+        Step::Plant(&ROWS),
+        Step::Set(0, "a"),
+        Step::Set(4, "a"),
+        Step::Set(7, "a"),
+        Step::Set(1, "new"),
+        Step::Walk(1, Axis::Child),
+        Step::Value(0),
+        Step::Set(1, ""),
+        Step::Walk(1, Axis::Child),
+        Step::Set(2, ""),
+        Step::Value(2),
+        Step::Next,
+        Step::Order(3, 6),
+    ];
+    let want = "0 no no no set 7, 'newt' set  set '' 8 before ";
+    assert_play(&rt, &PLAIN, &steps, want)
+}
+
+#[test]
+fn a_text_is_put_back(rt: HostRuntime) -> Result<(), Fail> {
+    let steps = [
+        Step::Plant(&ROWS),
+        Step::SetAndBack(1, "new"),
+        Step::Walk(1, Axis::Child),
+        Step::Value(0),
+        Step::SetAndBack(2, "new"),
+        Step::Value(2),
+        Step::SetAndBack(1, ""),
+        Step::Walk(0, Axis::Descendant),
+        Step::Next,
+    ];
+    let want = "0 back 4,5, '12t' back 'x' back 1,4,5,6, 8 ";
+    assert_play(&rt, &PLAIN, &steps, want)
+}
+
+#[test]
+fn numbers_begin_again(rt: HostRuntime) -> Result<(), Fail> {
+    let steps = [
+        Step::Plant(&ROWS),
+        Step::Plant(&ONE),
+        Step::DropFrom(8),
+        Step::DropFrom(1),
+        Step::DropFrom(10),
+        Step::DropFrom(9),
+        Step::DropFrom(7),
+        Step::Next,
+        Step::Plant(&ONE),
+        Step::Root(7),
+        Step::DropFrom(7),
+        Step::Value(8),
+        Step::DropFrom(0),
+    ];
+    let want = "0 7 no no no dropped dropped 7 7 9 no 'y' no ";
+    assert_play(&rt, &PLAIN, &steps, want)
+}
+
+#[test]
+fn nodes_double_to_their_limit(rt: HostRuntime) -> Result<(), Fail> {
+    let leaf = [Part::Open("e"), Part::Close];
+    let steps = [
+        Step::Plant(&leaf),
+        Step::Double(0, 16),
+        Step::Copy(0),
+        Step::Plant(&leaf),
+        Step::Set(65535, "x"),
+        Step::Next,
+        Step::Cut(65535),
+        Step::Drop,
+        Step::Plant(&leaf),
+        Step::Next,
+    ];
+    let want = "0 65536 Nodes Nodes Nodes 65536 32768.14 dropped 65536 65537 ";
+    assert_play(&rt, &PLAIN, &steps, want)
+}
+
+#[test]
+fn an_element_may_be_the_hundredth(rt: HostRuntime) -> Result<(), Fail> {
+    let leaf = [Part::Open("e"), Part::Close];
+    // Each copy is attached below the one before.
+    let mut steps = Vec::new(rt.alloc());
+    steps.push(Step::Plant(&leaf))?;
+    for number in 1..100u32 {
+        steps.push(Step::Copy(u128::from(number) - 1))?;
+        steps.push(Step::Attach(u128::from(number), u128::from(number) - 1, 0))?;
+    }
+    steps.push(Step::Copy(99))?;
+    steps.push(Step::Attach(100, 99, 0))?;
+    steps.push(Step::Attach(100, 98, 0))?;
+    let words = play(rt.alloc(), &PLAIN, steps.as_slice())?;
+    assert!(rt; words.as_str().ends_with(" 99 attached 100 Depth attached "));
+    Ok(())
+}
+
+#[test]
+fn a_text_has_65536_bytes_at_most(rt: HostRuntime) -> Result<(), Fail> {
+    let mut text = String::new(rt.alloc());
+    for _ in 0..4096 {
+        text.push_str("0123456789abcdef")?;
+    }
+    let steps = [
+        Step::Plant(&ONE),
+        Step::Set(0, text.as_str()),
+        Step::Set(1, text.as_str()),
+        Step::Value(1),
+    ];
+    assert_play(&rt, &PLAIN, &steps, "0 set set long ")?;
+    text.push_str("x")?;
+    let steps = [
+        Step::Plant(&ONE),
+        Step::Set(0, text.as_str()),
+        Step::Set(1, text.as_str()),
+        Step::Value(1),
+        Step::Next,
+    ];
+    assert_play(&rt, &PLAIN, &steps, "0 NodeText NodeText 'y' 2 ")
+}
+
+#[test]
+fn what_is_not_kept_is_left_out(rt: HostRuntime) -> Result<(), Fail> {
+    let steps = [
+        Step::Plant(&ROWS),
+        Step::Print(0, &[0, 1, 2, 3]),
+        Step::Print(0, &[1, 3]),
+        Step::Print(0, &[2, 3]),
+        Step::Print(4, &[]),
+        Step::Print(2, &[]),
+    ];
+    let want =
+        r#"0 <d><row k="x" no="7">"1""2"</>"t"</> <d><row no="7">"1""2"</>"t"</> <d>"t"</> "1" no "#;
+    assert_play(&rt, &PLAIN, &steps, want)
+}
+
+#[test]
+fn the_top_declares_each_prefix_once(rt: HostRuntime) -> Result<(), Fail> {
+    let tree = [
+        Part::Open("d"),
+        Part::With("z", "2"),
+        Part::Open("p:e"),
+        Part::With("xml:lang", "en"),
+        Part::With("p:k", "x"),
+        Part::With("a", "1"),
+        Part::Close,
+        Part::Close,
+    ];
+    let steps = [
+        Step::Plant(&tree),
+        Step::Print(0, &[1, 2, 3, 4, 5]),
+        Step::Print(2, &[5]),
+        Step::Print(0, &[1]),
+        Step::Bare(0),
+    ];
+    let want =
+        r#"0 <d xmlns:p="urn:p" z="2"><p:e a="1" p:k="x" xml:lang="en"></></> <p:e xml:lang="en" xmlns:p="urn:p"></> <d z="2"></> 0.6 "#;
+    assert_play(&rt, &FORM, &steps, want)
+}
+
+#[test]
+fn a_default_namespace_is_declared_where_it_changes(rt: HostRuntime) -> Result<(), Fail> {
+    let tree = [
+        Part::Open("d"),
+        Part::With("xmlns", "urn:d"),
+        Part::Open("p:q"),
+        Part::Open("e"),
+        Part::Close,
+        Part::Close,
+        Part::Open("n"),
+        Part::With("xmlns", ""),
+        Part::Close,
+        Part::Close,
+    ];
+    let steps = [
+        Step::Plant(&tree),
+        Step::Print(0, &[1, 2, 3]),
+        Step::Print(1, &[2]),
+        Step::Print(3, &[]),
+        Step::Bare(0),
+    ];
+    let want =
+        r#"0 <d xmlns="urn:d" xmlns:p="urn:p"><p:q><e></></><n xmlns=""></></> <p:q xmlns:p="urn:p"><e xmlns="urn:d"></></> <n></> 0.4 "#;
+    assert_play(&rt, &FORM, &steps, want)
+}

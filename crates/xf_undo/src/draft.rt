@@ -1,0 +1,156 @@
+//! A forest that can be given back: it and the ledger of its changes.
+ghost use Rattle.std.specs.Prelude.{◌≡◌, ◌<◌, ◌^◌, OnOk, OnErr};
+ghost use Rattle.xf_base.specs.Gives.{Gives};
+ghost use Rattle.xf_doc.specs.Changes.{attached, copied, detached};
+ghost use Rattle.xf_doc.specs.Limits.{limits};
+ghost use Rattle.xf_doc.specs.Needs.{IsSettable, MayAttach, MayCopy, MayDetach};
+ghost use Rattle.xf_doc.specs.Planted.{planted, planted_bare};
+ghost use Rattle.xf_doc.specs.Texts.{text_set, without_detached};
+ghost use Rattle.xf_undo.specs.Draft.{kept_as, alone, with_text, with_forest, with_tree};
+
+use crate::entry::Change;
+use crate::ledger::Ledger;
+use std::alloc::{AllocError, Global};
+use std::marker::Model;
+use xf_doc::{Bare, NodeId, TreeFault};
+use xf_name::{Lit, Prefixes};
+use xf_tree::Forest;
+
+/// A forest with the ledger of its changes. Contracts see the forest as it was kept, and as it stands.
+#[derive(Drop)]
+pub struct Draft {
+    forest: Forest,
+    ledger: Ledger,
+}
+
+impl Model for Draft {
+    ghost use Rattle.xf_undo.specs.Draft.{Draft as Value};
+
+    ghost Value = { Value };
+
+    ghost use Rattle.xf_undo.specs.Draft.{draft_of, IsDraft};
+
+    ghost view = { λ d. draft_of d.ledger d.forest };
+
+    ghost invariant = { λ d. IsDraft d.ledger d.forest };
+}
+
+impl Draft {
+    /// Keeps a forest as its instances stand: detached trees are dropped. Takes no memory.
+    pub fn new(alloc: Global, forest: Forest) -> Self
+        ensures { result ≡ kept_as (without_detached forest).forest }
+    {
+        let mut forest = forest;
+        forest.drop_detached();
+        forest.are_trees();
+        let ledger = Ledger::new(alloc, &forest);
+        Draft { forest, ledger }
+    }
+
+    /// The forest as it stands.
+    pub fn forest(&self) -> &Forest
+        ensures { result.now.forest ≡ self.now.now }
+    {
+        &self.forest
+    }
+
+    /// Sets the text of an attribute, or of an element without element children.
+    pub fn set_text(&mut self, node: NodeId, text: &str) -> Result<(), TreeFault>
+        requires may { IsSettable node.number self.old.now }
+        requires number { self.old.now.next < 2 ^ 126 }
+        ensures answer { Gives TreeFault.Memory (λ u. self.new) result (with_text self.old (text_set limits node.number text.now (alone self.old.now))) }
+        ensures err { OnErr result (self.new ≡ self.old) }
+    {
+        self.forest.are_trees();
+        self.ledger.note(Change::Text(node))?;
+        let before = self.forest.set_text(node, text)?;
+        self.ledger.fill_text(&mut self.forest, before);
+        self.forest.are_trees();
+        Ok(())
+    }
+
+    /// Puts a detached tree below a parent: an element before the child with this place, or behind them all, and an attribute
+    /// by its written name.
+    pub fn attach(&mut self, node: NodeId, parent: NodeId, place: u32) -> Result<(), TreeFault>
+        requires { MayAttach node.number parent.number place self.old.now }
+        ensures answer { Gives TreeFault.Memory (λ u. self.new) result (with_forest self.old (attached limits node.number parent.number place self.old.now)) }
+        ensures err { OnErr result (self.new ≡ self.old) }
+    {
+        self.forest.are_trees();
+        self.ledger.note(Change::Attach(node))?;
+        self.forest.attach(node, parent, place)?;
+        self.ledger.fill_attach();
+        self.forest.are_trees();
+        Ok(())
+    }
+
+    /// Cuts off a tree that has a parent: it stands last then.
+    pub fn detach(&mut self, node: NodeId) -> Result<(), AllocError>
+        requires { MayDetach node.number self.old.now }
+        ensures ok { OnOk result (self.new ≡ record self.old { now = detached node.number self.old.now }) }
+        ensures err { OnErr result (self.new ≡ self.old) }
+    {
+        self.forest.are_trees();
+        self.ledger.note(Change::Detach(node))?;
+        let (parent, place) = self.forest.detach(node);
+        self.ledger.fill_place(parent, place);
+        self.forest.are_trees();
+        Ok(())
+    }
+
+    /// Makes a detached copy of a tree. The answer is its top.
+    pub fn copy(&mut self, node: NodeId) -> Result<NodeId, TreeFault>
+        requires may { MayCopy node.number self.old.now }
+        requires number { self.old.now.next < 2 ^ 126 }
+        ensures answer { Gives TreeFault.Memory (λ n. (n.number, self.new)) result (with_tree self.old (copied limits node.number self.old.now)) }
+        ensures err { OnErr result (self.new ≡ self.old) }
+    {
+        self.forest.are_trees();
+        let copied = self.forest.copy(node)?;
+        self.forest.are_trees();
+        Ok(copied)
+    }
+
+    /// Plants a literal tree as a detached one. The answer is its top.
+    pub fn plant(&mut self, lit: &Lit, prefixes: &Prefixes, space: u16) -> Result<NodeId, TreeFault>
+        requires { self.old.now.next < 2 ^ 126 }
+        ensures answer { Gives TreeFault.Memory (λ n. (n.number, self.new)) result (with_tree self.old (planted limits prefixes.now space lit.now self.old.now)) }
+        ensures err { OnErr result (self.new ≡ self.old) }
+    {
+        self.forest.are_trees();
+        let top = self.forest.plant(lit, prefixes, space)?;
+        self.forest.are_trees();
+        Ok(top)
+    }
+
+    /// Plants a tree with resolved names as a detached one. The answer is its top.
+    pub fn plant_bare(&mut self, tree: &Bare, prefixes: &Prefixes) -> Result<NodeId, TreeFault>
+        requires { self.old.now.next < 2 ^ 126 }
+        ensures answer { Gives TreeFault.Memory (λ n. (n.number, self.new)) result (with_tree self.old (planted_bare limits prefixes.now tree.now self.old.now)) }
+        ensures err { OnErr result (self.new ≡ self.old) }
+    {
+        self.forest.are_trees();
+        let top = self.forest.plant_bare(tree, prefixes)?;
+        self.forest.are_trees();
+        Ok(top)
+    }
+
+    /// Keeps the forest as its instances stand now, in place of the one that was kept: detached trees are dropped. Takes no
+    /// memory.
+    pub fn commit(&mut self)
+        ensures { self.new ≡ kept_as (without_detached (alone self.old.now)).forest }
+    {
+        self.forest.drop_detached();
+        self.forest.are_trees();
+        self.ledger.commit(&self.forest);
+    }
+
+    /// Gives the forest back that was kept, with the number that was next. Takes no memory.
+    pub fn roll_back(&mut self)
+        ensures { self.new ≡ kept_as self.old.kept }
+    {
+        self.forest.are_trees();
+        self.ledger.roll_back(&mut self.forest);
+        self.forest.are_trees();
+    }
+}
