@@ -16,6 +16,7 @@ pub mod StepCases
 pub mod KnownLemmas
 pub mod Laws
 pub mod TreeMoves
+pub mod NodeKinds
 pub mod TreePlaces
 pub mod MoveFacts
 pub mod MoveBlank
