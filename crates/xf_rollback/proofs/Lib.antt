@@ -23,9 +23,9 @@ pub mod MoveBlank
 pub mod TreeTops
 pub mod JoinSteps
 pub mod TreeOrder
+pub mod FirstLemmas
 pub mod TreeRanks
 pub mod CutFacts
-pub mod CutCounts
 pub mod CutStands
 pub mod BearLemmas
 pub mod CutSteps
