@@ -7,6 +7,7 @@ pub mod TreeBlank
 pub mod TreeAgain
 pub mod TreeFacts
 pub mod TreeLeaves
+pub mod TreeRuns
 pub mod KeepingTrees
 pub mod Alike
 pub mod TextSteps
