@@ -116,21 +116,21 @@ number-absent p d t h = let a = absent-times p (onto d t []) h in let b = times-
 
 -- a node that goes below another: the kinds of both
 pub record Joins (n parent : ℕ) (nodes : List Node) : Type 0 where
-  pub kind : Kind
+  pub own : Kind
   pub test : Content → Bool
-  pub moves : Moves kind test
-  pub is : kind_at n nodes ≡ Some kind
+  pub moves : Moves own test
+  pub is : kind_at n nodes ≡ Some own
   pub above : Kind
   pub has_parent : kind_at parent nodes ≡ Some above
-  pub either : (later : List Node) → kind_at n later ≡ Some kind → (kind_at n later ≡ Some kind.Element) ⊎ (kind_at n later ≡ Some kind.Attribute)
+  pub either : (later : List Node) → kind_at n later ≡ Some own → (kind_at n later ≡ Some kind.Element) ⊎ (kind_at n later ≡ Some kind.Attribute)
 
 pub joins : (n parent place : ℕ) (forest : Forest) → MayStand n parent place forest → Joins n parent forest.nodes
 joins n parent place forest (in_element is above le) =
-    record { kind = kind.Element; test = is_element; moves = element-moves; is = is; above = kind.Element; has_parent = above; either = λ later e. inl e }
+    record { own = kind.Element; test = is_element; moves = element-moves; is = is; above = kind.Element; has_parent = above; either = λ later e. inl e }
 joins n parent place forest (in_root is above none_ first) =
-    record { kind = kind.Element; test = is_element; moves = element-moves; is = is; above = kind.Root; has_parent = above; either = λ later e. inl e }
+    record { own = kind.Element; test = is_element; moves = element-moves; is = is; above = kind.Root; has_parent = above; either = λ later e. inl e }
 joins n parent place forest (as_attribute is above lacks) =
-    record { kind = kind.Attribute; test = is_attribute; moves = attribute-moves; is = is; above = kind.Element; has_parent = above; either = λ later e. inr e }
+    record { own = kind.Attribute; test = is_attribute; moves = attribute-moves; is = is; above = kind.Element; has_parent = above; either = λ later e. inr e }
 
 -- a node of a kind that moves stands once in the trees
 module _ (n : ℕ) (k : Keeping) (s : Stands k) (kn : Kind) (q : Content → Bool) (moves : Moves kn q) (is : kind_at n k.forest.nodes ≡ Some kn) where
@@ -150,13 +150,13 @@ module _ (n : ℕ) (k : Keeping) (s : Stands k) (kn : Kind) (q : Content → Boo
 
 module _ (n parent given place : ℕ) (k : Keeping) (may : MayAttach n parent given k.forest) (s : Stands k) (j : Joins n parent k.forest.nodes) where
   join-at : is_at j.test n s.trees ≡ true
-  join-at = moves-at n k s j.kind j.test j.moves j.is
+  join-at = moves-at n k s j.own j.test j.moves j.is
 
   pub join-once : times n s.trees ≡ 1
-  join-once = moves-once n k s j.kind j.test j.moves j.is
+  join-once = moves-once n k s j.own j.test j.moves j.is
 
   join-old : n < k.forest.next
-  join-old = moves-old n k s j.kind j.test j.moves j.is
+  join-old = moves-old n k s j.own j.test j.moves j.is
 
   parent-live : 1 ≤ times parent s.trees
   parent-live =
@@ -177,7 +177,7 @@ module _ (n parent given place : ℕ) (k : Keeping) (may : MayAttach n parent gi
   module _ (rooted : RootsFirst s.trees) (t : Trees) (nodes : (placed n parent place k.forest).nodes ≡ onto 0 t []) (sound_after : Sound false t) (once_after : times n t ≤ 1) (ns : List ℕ)
       (k2 : Keeping) (a : Alike ns t (record k { forest = placed n parent place k.forest }) k2) where
     was-top : TopAt n s.trees
-    was-top = top-at n s.trees rooted (sym (tops-onto n s.trees) ∙ ap (is_top n) (sym s.nodes) ∙ may.detached) (moves-no_root n k s j.kind j.test j.moves j.is)
+    was-top = top-at n s.trees rooted (sym (tops-onto n s.trees) ∙ ap (is_top n) (sym s.nodes) ∙ may.detached) (moves-no_root n k s j.own j.test j.moves j.is)
 
     abbrev joint : Keeping
     joint = record k { forest = placed n parent place k.forest }
@@ -212,8 +212,8 @@ module _ (n parent given place : ℕ) (k : Keeping) (may : MayAttach n parent gi
     pub joined-below : is_some (parent_of n (visits k2.forest.nodes)) ≡ true
     joined-below = subst (λ l. is_some (parent_of n (visits l)) ≡ true) (sym a.nodes) (has-parent n a.later joined-top (let x = joined-once in omega (arith, x)))
 
-    pub joined-kind : kind_at n k2.forest.nodes ≡ Some j.kind
-    joined-kind = later-kind n ns t joint k2 sound_after a join-old j.kind j.test j.moves.test (j.moves.blind n) joined-at
+    pub joined-kind : kind_at n k2.forest.nodes ≡ Some j.own
+    joined-kind = later-kind n ns t joint k2 sound_after a join-old j.own j.test j.moves.test (j.moves.blind n) joined-at
 
     abbrev whole : Trees
     whole = followed t a.extra
