@@ -146,6 +146,25 @@ module _ (n : ℕ) (k : Keeping) (s : Stands k) (kn : Kind) (q : Content → Boo
   pub moves-no_root : is_at is_root n s.trees ≡ false
   moves-no_root = no-other is_root q moves.no_root n s.trees (let b = s.once n in omega (arith, b)) moves-at
 
+-- so does one that may be cut off
+module _ (n : ℕ) (k : Keeping) (s : Stands k) (may : MayDetach n k.forest) where
+  pub detach-once : times n s.trees ≡ 1
+  detach-once = by may.kind
+    where
+      by : (kind_at n k.forest.nodes ≡ Some kind.Element) ⊎ (kind_at n k.forest.nodes ≡ Some kind.Attribute) → times n s.trees ≡ 1
+      by (inl is) = moves-once n k s kind.Element is_element element-moves is
+      by (inr is) = moves-once n k s kind.Attribute is_attribute attribute-moves is
+
+  pub detach-old : n < k.forest.next
+  detach-old = is-old n k s (let h = detach-once in omega (arith, h))
+
+  pub detach-no_root : is_at is_root n s.trees ≡ false
+  detach-no_root = by may.kind
+    where
+      by : (kind_at n k.forest.nodes ≡ Some kind.Element) ⊎ (kind_at n k.forest.nodes ≡ Some kind.Attribute) → is_at is_root n s.trees ≡ false
+      by (inl is) = moves-no_root n k s kind.Element is_element element-moves is
+      by (inr is) = moves-no_root n k s kind.Attribute is_attribute attribute-moves is
+
 -- ---- the step, at the place where the tree came
 
 module _ (n parent given place : ℕ) (k : Keeping) (may : MayAttach n parent given k.forest) (s : Stands k) (j : Joins n parent k.forest.nodes) where

@@ -30,3 +30,4 @@ pub mod CutStands
 pub mod BearLemmas
 pub mod CutSteps
 pub mod AttributeSteps
+pub mod RootsFirst
