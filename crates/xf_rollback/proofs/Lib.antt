@@ -31,3 +31,4 @@ pub mod BearLemmas
 pub mod CutSteps
 pub mod AttributeSteps
 pub mod RootsFirst
+pub mod GrowthLaws
