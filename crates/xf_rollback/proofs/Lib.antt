@@ -17,15 +17,16 @@ pub mod StepCases
 pub mod KnownLemmas
 pub mod Laws
 pub mod TreeMoves
+pub mod NodeKinds
 pub mod TreePlaces
 pub mod MoveFacts
 pub mod MoveBlank
 pub mod TreeTops
 pub mod JoinSteps
 pub mod TreeOrder
+pub mod FirstLemmas
 pub mod TreeRanks
 pub mod CutFacts
-pub mod CutCounts
 pub mod CutStands
 pub mod BearLemmas
 pub mod CutSteps
