@@ -7,6 +7,7 @@ pub mod TreeBlank
 pub mod TreeAgain
 pub mod TreeFacts
 pub mod TreeLeaves
+pub mod TreeRuns
 pub mod KeepingTrees
 pub mod Alike
 pub mod TextSteps
@@ -31,3 +32,5 @@ pub mod AttributePlaces
 pub mod BearLemmas
 pub mod CutSteps
 pub mod AttributeSteps
+pub mod RootsFirst
+pub mod GrowthLaws

@@ -9,16 +9,15 @@ use Rattle.xf_doc.specs.declared.content.Content.{Content}
 use Rattle.xf_doc.specs.declared.content.Kind.{Kind}
 use Rattle.xf_doc.specs.declared.content.Kind.TheVariants as kind
 use Rattle.xf_doc.specs.Visit.{has, numbers, visits, children_of}
-use Rattle.xf_doc.specs.Forest.{is_root, is_element, is_attribute, kind_at, tree_of}
-use Rattle.xf_doc.specs.Changes.{placed, detached, standing}
+use Rattle.xf_doc.specs.Forest.{Forest, is_root, is_element, is_attribute, content_at, kind_at, tree_of}
+use Rattle.xf_doc.specs.Changes.{placed, place_of, attached, detached, standing}
 use Rattle.xf_doc.specs.Limits.{Limits, unless}
 use Rattle.xf_doc.specs.Texts.{Keeping, Before, element_texts, attribute_text, texts_in, value_in, is_attribute_at, before_of, with_text, given_up, put_back, text_set}
 use Rattle.xf_doc.specs.Needs.{IsSettable, MayAttach, MayStand, in_element, in_root, as_attribute}
-use Rattle.xf_doc.specs.WellFormed.{IsKeeping, has_document}
+use Rattle.xf_doc.specs.WellFormed.{IsKeeping, AreTrees, has_document}
 use Rattle.xf_doc.specs.Undo.{Change, of_text, Entry, Ledger, with_note, with_set, is_known, text_filled, rolled_back}
 use Rattle.xf_doc.specs.Undo as undo
 use Rattle.xf_doc.proofs.BackLaws.{after_set, false-true}
-use Rattle.xf_rollback.specs.Made.{Made, begun, noted, texts, joined, cut, grown, CutsElements}
 use Rattle.xf_rollback.specs.Back.{CanRollBack}
 use Rattle.xf_rollback.proofs.Trees.{Trees, none, tree, onto, followed, times}
 use Rattle.xf_rollback.proofs.TreeShape.{Sound}
@@ -26,10 +25,11 @@ use Rattle.xf_rollback.proofs.TreeMoved.{Moved, same}
 use Rattle.xf_rollback.proofs.TreeBlank.{blank}
 use Rattle.xf_rollback.proofs.TreeFacts.{is_at, or-cases}
 use Rattle.xf_rollback.proofs.KeepingTrees.{Stands, stands, kept_times}
+use Rattle.xf_rollback.proofs.TreeTops.{RootsFirst}
 use Rattle.xf_rollback.proofs.Alike.{Alike, Back}
 use Rattle.xf_rollback.proofs.TextSteps.{element-known, element-may, element-alike}
 use Rattle.xf_rollback.proofs.ValueSteps.{attribute-known, attribute-may, attribute-alike}
-use Rattle.xf_rollback.proofs.JoinSteps.{Moves, element-moves, attribute-moves, joined-below, joined-kind, joined-alike}
+use Rattle.xf_rollback.proofs.JoinSteps.{joins, joined-below, joined-kind, joined-alike}
 use Rattle.xf_rollback.proofs.BearLemmas.{Bears, element-bears, root-bears}
 use Rattle.xf_rollback.proofs.CutSteps.{cut-old, cut-no_attribute, cut-kind, cut-stood, later-children, place-fits, cut-parent-kind, cut-may, cut-element, cut-alike}
 use Rattle.xf_rollback.proofs.CutStands.{root-kids}
@@ -47,7 +47,7 @@ unless-ok (Some fault) v w e = cc e
 abbrev pub Goal : Keeping → List ℕ → Ledger × Keeping → Type 0
 Goal start ns p = (t : Trees) → p.1.forest.nodes ≡ onto 0 t [] → Sound false t → ((n : ℕ) → times n t ≤ 1) → (k2 : Keeping) → Alike ns t p.1 k2 → Back start p.0 k2
 
-module _ (start : Keeping) (l : Ledger) (k : Keeping) (n : ℕ) (text : List ℕ) (sound : IsKeeping k) (able : IsSettable n k.forest) (ns : List ℕ)
+module _ (start : Keeping) (l : Ledger) (k : Keeping) (n : ℕ) (text : List ℕ) (sound : AreTrees k) (able : IsSettable n k.forest) (ns : List ℕ)
     (found : is_known n (after_set n text k) l.entries ≡ true → has n ns ≡ true) (s : Stands k) (back : (k2 : Keeping) → Alike ns s.trees k k2 → Back start l k2) where
   abbrev after : Keeping
   after = after_set n text k
@@ -92,34 +92,53 @@ module _ (start : Keeping) (l : Ledger) (k : Keeping) (n : ℕ) (text : List ℕ
   text-case limits before later e =
       subst (λ (w : Before × Keeping). Goal start (n ∷ ns) (with_set n w.0 l.entries l.next w.1)) (unless-ok _ (before_of n k.forest.nodes, after) (before, later) e) set-case
 
+-- ---- the forest after a text
+
+set-forest : (n : ℕ) (before : Before) (es : List Entry) (next : ℕ) (k : Keeping) → (with_set n before es next k).1.forest ≡ k.forest
+set-forest n before es next k = by (is_known n k es)
+  where
+    given : (before : Before) → (given_up before k).forest ≡ k.forest
+    given (attribute_text text) = refl
+    given (element_texts ns) = refl
+
+    by : (b : Bool) → (cond {A = Ledger × Keeping} b (record { entries = es; next = next }, given_up before k) (record { entries = undo.set n before ∷ es; next = next }, k)).1.forest ≡ k.forest
+    by true = given before
+    by false = refl
+
+set-after : (limits : Limits) (n : ℕ) (text : List ℕ) (k : Keeping) (before : Before) (later : Keeping) → text_set limits n text k ≡ Ok (before, later) → later.forest ≡ with_text n text k.forest
+set-after limits n text k before later e = sym (ap (λ w. w.1.forest) (unless-ok {X = Before × Keeping} _ (before_of n k.forest.nodes, after_set n text k) (before, later) e))
+
+-- the ledger does not change what a setting leaves
+pub filled-forest : (limits : Limits) (n : ℕ) (text : List ℕ) (k : Keeping) (before : Before) (later : Keeping) (es : List Entry) (next : ℕ) → text_set limits n text k ≡ Ok (before, later)
+    → (with_set n before es next later).1.forest ≡ with_text n text k.forest
+filled-forest limits n text k before later es next e = set-forest n before es next later ∙ set-after limits n text k before later e
+
 -- ---- a tree that was attached
 
-pub join-case : (start : Keeping) (l : Ledger) (k : Keeping) (n parent place : ℕ) → IsKeeping k → MayAttach n parent place k.forest → (ns : List ℕ) (s : Stands k) → ((k2 : Keeping) → Alike ns s.trees k k2 → Back start l k2)
+-- it stands at this place, which an attribute has by its name
+pub join-case : (start : Keeping) (l : Ledger) (k : Keeping) (n parent given place : ℕ) → MayAttach n parent given k.forest → (ns : List ℕ) (s : Stands k) → RootsFirst s.trees
+    → ((k2 : Keeping) → Alike ns s.trees k k2 → Back start l k2)
     → (t : Trees) → (placed n parent place k.forest).nodes ≡ onto 0 t [] → Sound false t → times n t ≤ 1 → (k2 : Keeping) → Alike ns t (record k { forest = placed n parent place k.forest }) k2
     → Back start (record l { entries = undo.joined n ∷ l.entries }) k2
-join-case start l k n parent place sound may ns s back t nodes whole once k2 a = by may.stands
-  where
-    step : (kn : Kind) (q : Content → Bool) → Moves kn q → kind_at n k.forest.nodes ≡ Some kn → (kp : Kind) → kind_at parent k.forest.nodes ≡ Some kp
-        → ((kind_at n k2.forest.nodes ≡ Some kn) → (kind_at n k2.forest.nodes ≡ Some kind.Element) ⊎ (kind_at n k2.forest.nodes ≡ Some kind.Attribute))
-        → Back start (record l { entries = undo.joined n ∷ l.entries }) k2
-    step kn q moves is kp above either =
-        let r = back (record k2 { forest = detached n k2.forest }) (joined-alike n parent place k sound may s kn q moves is kp above t nodes whole once ns k2 a) in
+join-case start l k n parent given place may ns s rooted back t nodes whole once k2 a =
+    let j = joins n parent given k.forest may.stands in
+    let r = back (record k2 { forest = detached n k2.forest }) (joined-alike n parent given place k may s j rooted t nodes whole once ns k2 a) in
+    record {
+      changes = (
         record {
-          changes = (
-            record {
-              below = joined-below n parent place k sound may s kn q moves is kp above t nodes whole once ns k2 a;
-              kind = either (joined-kind n parent place k sound may s kn q moves is kp above t nodes whole once ns k2 a);
-            },
-            r.changes,
-          );
-          rest = r.rest;
-          same = r.same;
-        }
+          below = joined-below n parent given place k may s j rooted t nodes whole once ns k2 a;
+          kind = j.either k2.forest.nodes (joined-kind n parent given place k may s j rooted t nodes whole once ns k2 a);
+        },
+        r.changes,
+      );
+      rest = r.rest;
+      same = r.same;
+    }
 
-    by : MayStand n parent place k.forest → Back start (record l { entries = undo.joined n ∷ l.entries }) k2
-    by (in_element is above le) = step kind.Element is_element element-moves is kind.Element above inl
-    by (in_root is above none_ first) = step kind.Element is_element element-moves is kind.Root above inl
-    by (as_attribute is above lacks) = step kind.Attribute is_attribute attribute-moves is kind.Element above inr
+-- what was attached is placed
+pub attached-placed : (limits : Limits) (n parent place : ℕ) (forest after : Forest) → attached limits n parent place forest ≡ Ok after
+    → placed n parent (place_of parent place (visits forest.nodes) (content_at n forest.nodes)) forest ≡ after
+attached-placed limits n parent place forest after e = unless-ok _ (placed n parent (place_of parent place (visits forest.nodes) (content_at n forest.nodes)) forest) after e
 
 -- ---- a tree that was cut off
 

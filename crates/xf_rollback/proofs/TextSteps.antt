@@ -12,9 +12,9 @@ use Rattle.xf_doc.specs.Visit.{has, numbers, visits}
 use Rattle.xf_doc.specs.Shape.{has_elements}
 use Rattle.xf_doc.specs.Texts.{Keeping, KeptText, Before, attribute_text, element_texts, one_text, with_texts, with_value, with_attribute_text, is_attribute_at, texts_in, value_in, kept_from, before_of, taken_from, with_text, put_back, given_up, is_of, without, back}
 use Rattle.xf_doc.specs.Needs.{IsSettable, MayPutBack, are_kept_of}
-use Rattle.xf_doc.specs.WellFormed.{IsKeeping}
+use Rattle.xf_doc.specs.WellFormed.{AreTrees, are_first}
+use Rattle.xf_doc.proofs.RunLemmas.{IsLeafAt}
 use Rattle.xf_doc.proofs.BackLaws.{HasText, after_set, put_back-after_set, outside-all, false-true, and-true, one_number}
-use Rattle.xf_doc.proofs.TextLaws.{has_text}
 use Rattle.xf_rollback.proofs.Trees.{Trees, none, tree, onto, followed, times, times-followed, onto-inj}
 use Rattle.xf_rollback.proofs.TreeTexts.{lone, attributes, retexted, revalued, valued-onto, texts-onto, retexted-absent, times-split}
 use Rattle.xf_rollback.proofs.TreeVisits.{elements, elements-are}
@@ -24,6 +24,7 @@ use Rattle.xf_rollback.proofs.TreeBlank.{blank, AreTexts, LeafAt, leaf-followed,
 use Rattle.xf_rollback.proofs.TreeAgain.{retexted-alike, retexted-within, AttributeAt, revalued-within, revalued-alike}
 use Rattle.xf_rollback.proofs.TreeFacts.{is_at, at-times, at-absent, some-followed, sound-retexted, sound-revalued, blind-element, blind-attribute}
 use Rattle.xf_rollback.proofs.TreeLeaves.{leaf-of, bare-leaf, attribute-of, elements-retexted, at-retexted, retexted-times, revalued-times}
+use Rattle.xf_rollback.proofs.TreeRuns.{leaf-onto}
 use Rattle.xf_rollback.proofs.KeepingTrees.{Stands, kept_times, any-is, any-kind, kind-any, element-test, attribute-test, back-texts, back-times}
 use Rattle.xf_rollback.proofs.Alike.{Fresh, fresh-less, fresh-absent, Alike, extra-absent, later-at, later-elements, later-once, later-kind, later-childless}
 
@@ -74,7 +75,7 @@ is-old n k s h =
       | inr e ↦ let ge : k.forest.next ≤ n = grind (arith, nat_tests, e) in let z = s.old n ge in let no : ⊥ = omega (arith, z, h) in absurd no
     ]
 
-module _ (n : ℕ) (text : List ℕ) (k : Keeping) (sound : IsKeeping k) (able : IsSettable n k.forest) (s : Stands k) (other : is_attribute_at n k.forest.nodes ≡ false) where
+module _ (n : ℕ) (text : List ℕ) (k : Keeping) (sound : AreTrees k) (able : IsSettable n k.forest) (s : Stands k) (other : is_attribute_at n k.forest.nodes ≡ false) where
   abbrev texts : List Node
   texts = texts_in (tree_of n k.forest.nodes)
 
@@ -112,9 +113,12 @@ module _ (n : ℕ) (text : List ℕ) (k : Keeping) (sound : IsKeeping k) (able :
   taken-is : taken_from n k.forest.nodes ≡ kept_from n texts
   taken-is = rw other refl
 
+  has_texts : HasText n k.forest.nodes
+  has_texts = inr (other, subst (IsLeafAt n) (sym s.nodes) (leaf-onto n 0 s.trees [] element-leaf (subst (λ l. are_first l ≡ true) s.nodes sound.first) tt tt))
+
   undone-is : put_back n (element_texts (numbers texts)) (after_set n text k) ≡ record k { forest = record k.forest { next = (with_text n text k.forest).next } }
   undone-is = subst (λ b. put_back n b (after_set n text k) ≡ record k { forest = record k.forest { next = (with_text n text k.forest).next } }) before-is
-      (put_back-after_set n text k sound.forest.apart (outside-all k.forest.nodes k.kept sound.outside) (has_text n k.forest sound.forest able))
+      (put_back-after_set n text k sound.apart (outside-all k.forest.nodes k.kept sound.kept_outside) has_texts)
 
   module _ (t : Trees) (nodes : (with_text n text k.forest).nodes ≡ onto 0 t []) (sound_after : Sound false t) (once_after : times n t ≤ 1) (ns : List ℕ) where
     after-is : t ≡ retexted n (lone new) s.trees

@@ -12,9 +12,8 @@ use Rattle.xf_doc.specs.Visit.{has, numbers, visits}
 use Rattle.xf_doc.specs.Shape.{has_elements}
 use Rattle.xf_doc.specs.Texts.{Keeping, KeptText, Before, attribute_text, element_texts, one_text, with_texts, with_value, with_attribute_text, is_attribute_at, texts_in, value_in, kept_from, before_of, taken_from, with_text, put_back, given_up, is_of, without, back}
 use Rattle.xf_doc.specs.Needs.{IsSettable, MayPutBack, are_kept_of}
-use Rattle.xf_doc.specs.WellFormed.{IsKeeping}
+use Rattle.xf_doc.specs.WellFormed.{AreTrees}
 use Rattle.xf_doc.proofs.BackLaws.{HasText, after_set, put_back-after_set, outside-all, false-true, and-true, one_number}
-use Rattle.xf_doc.proofs.TextLaws.{has_text}
 use Rattle.xf_rollback.proofs.Trees.{Trees, none, tree, onto, followed, times, times-followed, onto-inj}
 use Rattle.xf_rollback.proofs.TreeTexts.{lone, attributes, retexted, revalued, valued-onto, texts-onto, retexted-absent, times-split}
 use Rattle.xf_rollback.proofs.TreeVisits.{elements, elements-are}
@@ -60,7 +59,7 @@ elements-revalued u n text (tree m c k r) =
     by true = value-element text c
     by false = refl
 
-module _ (n : ℕ) (text : List ℕ) (k : Keeping) (sound : IsKeeping k) (able : IsSettable n k.forest) (s : Stands k) (is : is_attribute_at n k.forest.nodes ≡ true) where
+module _ (n : ℕ) (text : List ℕ) (k : Keeping) (sound : AreTrees k) (able : IsSettable n k.forest) (s : Stands k) (is : is_attribute_at n k.forest.nodes ≡ true) where
   abbrev value : List ℕ
   value = value_in (tree_of n k.forest.nodes)
 
@@ -87,7 +86,7 @@ module _ (n : ℕ) (text : List ℕ) (k : Keeping) (sound : IsKeeping k) (able :
 
   unvalued-is : put_back n (attribute_text value) (after_set n text k) ≡ record k { forest = record k.forest { next = (with_text n text k.forest).next } }
   unvalued-is = subst (λ b. put_back n b (after_set n text k) ≡ record k { forest = record k.forest { next = (with_text n text k.forest).next } }) value-is
-      (put_back-after_set n text k sound.forest.apart (outside-all k.forest.nodes k.kept sound.outside) (has_text n k.forest sound.forest able))
+      (put_back-after_set n text k sound.apart (outside-all k.forest.nodes k.kept sound.kept_outside) (inl is))
 
   module _ (t : Trees) (nodes : (with_text n text k.forest).nodes ≡ onto 0 t []) (sound_after : Sound false t) (once_after : times n t ≤ 1) (ns : List ℕ)
       (k2 : Keeping) (a : Alike (n ∷ ns) t (after_set n text k) k2) where
