@@ -29,6 +29,7 @@ pub mod FirstLemmas
 pub mod TreeRanks
 pub mod CutFacts
 pub mod CutStands
+pub mod AttributePlaces
 pub mod BearLemmas
 pub mod CutSteps
 pub mod AttributeSteps

@@ -81,11 +81,11 @@ none-after d z (tree n c k r) ys b h =
     no_attribute true e f = absurd (no-follow d z (record { number = n; depth = suc d; content = c }) b refl e f)
     no_attribute false e f = e
 
-order-tail : (x : Node) (xs : List Node) → are_first (x ∷ xs) ≡ true → are_first xs ≡ true
+pub order-tail : (x : Node) (xs : List Node) → are_first (x ∷ xs) ≡ true → are_first xs ≡ true
 order-tail x [] h = refl
 order-tail x (y ∷ ys) h = (and-true (stands_first x y) (are_first (y ∷ ys)) h).1
 
-order-behind : (d : ℕ) (t : Trees) (ys : List Node) → are_first (onto d t ys) ≡ true → are_first ys ≡ true
+pub order-behind : (d : ℕ) (t : Trees) (ys : List Node) → are_first (onto d t ys) ≡ true → are_first ys ≡ true
 order-behind d none ys h = h
 order-behind d (tree n c k r) ys h = order-behind d r ys (order-behind (suc d) k (onto d r ys) (order-tail (record { number = n; depth = d; content = c }) (onto (suc d) k (onto d r ys)) h))
 

@@ -8,11 +8,10 @@ use Rattle.xf_doc.specs.declared.content.Node.{Node}
 use Rattle.xf_doc.specs.declared.content.Content.{Content}
 use Rattle.xf_doc.specs.Forest.{is_attribute}
 use Rattle.xf_doc.specs.Visit.{Visit, visits, is_first, first_of, above_in, parent_of, has, children_of, attributes_of}
-use Rattle.xf_doc.proofs.BackLaws.{and-true, or-false, false-true, one_number}
+use Rattle.xf_doc.proofs.BackLaws.{false-true, one_number}
 use Rattle.xf_rollback.proofs.Trees.{Trees, none, tree, onto, followed, times}
 use Rattle.xf_rollback.proofs.TreeTexts.{times-split, Where, here, inside as deeper, later, where_is}
 use Rattle.xf_rollback.proofs.TreeVisits.{seen, visits-seen}
-use Rattle.xf_rollback.proofs.TreeFacts.{is_at, or-cases}
 use Rattle.xf_rollback.proofs.TreeMoves.{removed, found, removed-absent, found-absent, followed-none}
 use Rattle.xf_rollback.proofs.NodeKinds.{Each, FoundTree, found-tree}
 use Rattle.xf_rollback.proofs.TreePlaces.{inserted, beside, with_tree, changed, changed-absent}
@@ -22,7 +21,7 @@ use Rattle.xf_rollback.proofs.TreeOrder.{NoAttributes, AttributesFirst, Ordered}
 abbrev pub is_child : Content → Bool
 is_child c = not (is_attribute c)
 
-child-plain : (c : Content) → is_child c ≡ true → is_attribute c ≡ false
+pub child-plain : (c : Content) → is_child c ≡ true → is_attribute c ≡ false
 child-plain c h = by (is_attribute c) h
   where
     by : (b : Bool) → not b ≡ true → b ≡ false
@@ -217,7 +216,7 @@ beside-first s (tree m c k r) = by (is_attribute c)
     by true = refl
     by false = refl
 
-none-top : (n : ℕ) (r : Trees) → NoAttributes r → tops n r ≡ true → Each (λ c. is_attribute c ≡ true) n r → ⊥
+pub none-top : (n : ℕ) (r : Trees) → NoAttributes r → tops n r ≡ true → Each (λ c. is_attribute c ≡ true) n r → ⊥
 none-top n none h top each = false-true top
 none-top n (tree m c k r) h top each =
     elim (cases_Bool (m == n)) [
