@@ -1,22 +1,20 @@
 -- No change makes an attribute of a node that stands.
-use Rattle.std.proofs.Common.{◌≡◌, ℕ, suc, ◌+◌, ◌==◌, Bool, true, false, not, cond, ◌&&◌, ◌||◌, List, [], ◌∷◌, ◌++◌, Some, refl, sym, ap, ◌∙◌, subst, inl, inr, arith}
-use Rattle.std.specs.Prelude.{⊤, ◌⊎◌, ◌≤◌, ◌<◌, if◌then◌else◌}
+use Rattle.std.proofs.Common.{◌≡◌, ℕ, suc, ◌==◌, Bool, true, false, cond, ◌&&◌, ◌||◌, List, [], ◌∷◌, ◌++◌, refl, sym, ap, ◌∙◌, subst, inl, inr, arith}
+use Rattle.std.specs.Prelude.{◌<◌, if◌then◌else◌}
 use Rattle.std.specs.List.{list_any}
 use Rattle.std.proofs.lemmas.Bool.{cases_Bool}
 use Rattle.std.proofs.lemmas.Bool.Decides.{nat_tests}
 use Rattle.xf_doc.specs.declared.content.Node.{Node}
 use Rattle.xf_doc.specs.declared.content.Content.{Content}
-use Rattle.xf_doc.specs.declared.content.Kind.{Kind}
-use Rattle.xf_doc.specs.declared.content.Kind.TheVariants as kind
-use Rattle.xf_doc.specs.Forest.{is_element, is_attribute, is_text, kind_at}
+use Rattle.xf_doc.specs.Forest.{is_attribute}
 use Rattle.xf_doc.specs.Changes.{placed, detached}
 use Rattle.xf_doc.specs.Texts.{Keeping, is_attribute_at, one_text, with_text, with_value}
 use Rattle.xf_doc.specs.Needs.{IsSettable, MayAttach, MayDetach}
 use Rattle.xf_doc.specs.WellFormed.{AreTrees}
 use Rattle.xf_doc.specs.Plant.{numbered_from}
 use Rattle.xf_doc.proofs.RunLemmas.{text-no_attribute}
-use Rattle.xf_rollback.specs.Made.{IsGrowth, with_growth}
-use Rattle.xf_rollback.proofs.Trees.{Trees, none, tree, onto, followed, times}
+use Rattle.xf_rollback.specs.Made.{with_growth}
+use Rattle.xf_rollback.proofs.Trees.{Trees, none, tree, onto, followed}
 use Rattle.xf_rollback.proofs.TreeTexts.{lone, attributes, retexted, revalued}
 use Rattle.xf_rollback.proofs.TreeMoved.{some, value-attribute}
 use Rattle.xf_rollback.proofs.TreeBlank.{AreTexts}
@@ -24,7 +22,7 @@ use Rattle.xf_rollback.proofs.TreeFacts.{is_at, or-cases, some-followed}
 use Rattle.xf_rollback.proofs.KeepingTrees.{Stands, any-is}
 use Rattle.xf_rollback.proofs.TextSteps.{after-nodes, one_text-texts}
 use Rattle.xf_rollback.proofs.ValueSteps.{valued-nodes}
-use Rattle.xf_rollback.proofs.TreeMoves.{removed, found, removed-absent, found-absent, followed-none, removed-followed, found-followed, detached-onto}
+use Rattle.xf_rollback.proofs.TreeMoves.{removed, found, detached-onto}
 use Rattle.xf_rollback.proofs.TreePlaces.{with_tree, changed}
 use Rattle.xf_rollback.proofs.MoveFacts.{removed-none, removed-some}
 use Rattle.xf_rollback.proofs.MoveBlank.{removed-changed, removed-found, found-found, found-changed}

@@ -1,8 +1,7 @@
 -- New trees for callers: a literal tree that is planted, with names resolved or not, and a copy are growth of what was made.
-use Rattle.std.proofs.Common.{◌≡◌, ℕ, suc, ◌+◌, ◌-◌, ◌==◌, Bool, true, false, not, cond, ◌&&◌, ◌||◌, List, [], ◌∷◌, ◌++◌, map, flat_map, length, Option, Some, None, Ok, Err, refl, sym, ap, ◌∙◌, subst, inl, inr, arith}
-use Rattle.std.specs.Prelude.{⊤, ◌≤◌, Result, if◌then◌else◌}
+use Rattle.std.proofs.Common.{◌≡◌, ℕ, suc, ◌+◌, ◌-◌, ◌==◌, Bool, true, false, not, cond, ◌&&◌, ◌||◌, List, [], ◌∷◌, ◌++◌, map, flat_map, length, Option, Some, None, Ok, Err, refl, sym, ap, ◌∙◌, subst, arith}
+use Rattle.std.specs.Prelude.{Result, if◌then◌else◌}
 use Rattle.std.specs.List.{list_any, filter_map, cons_option}
-use Rattle.std.proofs.lemmas.Bool.{cases_Bool}
 use Rattle.std.proofs.lemmas.Bool.Decides.{nat_tests}
 use Rattle.xf_name.specs.Part.{Kind, no_declaration, kind_of}
 use Rattle.xf_name.specs.Bindings.{Bindings, resolved}
@@ -28,14 +27,14 @@ use Rattle.xf_doc.specs.Forest.{Forest, is_root, tree_of}
 use Rattle.xf_doc.specs.Limits.{Limits}
 use Rattle.xf_doc.specs.Plant.{Contents, text_contents, lit_contents, element_contents, contents_of, attribute_by, attribute_in, is_less, written_of, in_place, in_order, at_depth, numbered_from}
 use Rattle.xf_doc.specs.Planted.{bare_attribute, bare_contents, bare_element_contents, contents_of_bare, with_tree, unless_fault, planted, planted_bare}
-use Rattle.xf_doc.specs.Changes.{shifted, moved_to, contents_in, copied}
+use Rattle.xf_doc.specs.Changes.{shifted, contents_in, copied}
 use Rattle.xf_doc.specs.Texts.{Keeping}
 use Rattle.xf_doc.specs.Needs.{MayCopy}
 use Rattle.xf_doc.specs.WellFormed.{AreTrees}
 use Rattle.xf_doc.specs.Undo.{Ledger}
 use Rattle.xf_doc.proofs.BackLaws.{or-false, not-true}
 use Rattle.xf_rollback.specs.Made.{Made, grown, begins_at_top, IsGrowth, with_growth}
-use Rattle.xf_rollback.proofs.Trees.{Trees, none, tree, onto, followed, times}
+use Rattle.xf_rollback.proofs.Trees.{Trees, none, tree, times}
 use Rattle.xf_rollback.proofs.TreeShape.{Sound}
 use Rattle.xf_rollback.proofs.TreeMoved.{some}
 use Rattle.xf_rollback.proofs.TreeFacts.{is_at, at-times, some-followed}
@@ -43,7 +42,7 @@ use Rattle.xf_rollback.proofs.KeepingTrees.{Stands, stands, any-onto, any-is}
 use Rattle.xf_rollback.proofs.TreeMoves.{found, tree-onto}
 use Rattle.xf_rollback.proofs.TreeTops.{at-first}
 use Rattle.xf_rollback.proofs.JoinSteps.{no-other}
-use Rattle.xf_rollback.proofs.StepCases.{unless-ok}
+use Rattle.xf_rollback.proofs.Outcomes.{unless-ok}
 
 -- ---- contents without a root
 

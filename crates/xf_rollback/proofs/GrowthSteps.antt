@@ -1,5 +1,5 @@
 -- New trees that came in, and what is left when they are dropped.
-use Rattle.std.proofs.Common.{◌≡◌, ℕ, suc, ◌+◌, ◌==◌, Bool, true, false, not, cond, ◌&&◌, ◌||◌, List, [], ◌∷◌, ◌++◌, length, nat_lt, refl, sym, ap, ◌∙◌, subst, inl, inr, arith}
+use Rattle.std.proofs.Common.{◌≡◌, ℕ, suc, ◌+◌, ◌==◌, Bool, true, false, not, cond, ◌||◌, List, [], ◌∷◌, ◌++◌, length, nat_lt, refl, sym, ap, ◌∙◌, subst, inl, inr, arith}
 use Rattle.std.specs.Prelude.{⊤, ◌≤◌, ◌<◌, nat_le, filter, if◌then◌else◌}
 use Rattle.std.specs.List.{list_any, list_all}
 use Rattle.std.proofs.lemmas.Bool.{cases_Bool}
@@ -9,19 +9,19 @@ use Rattle.xf_doc.specs.declared.content.Content.{Content}
 use Rattle.xf_doc.specs.Forest.{is_root}
 use Rattle.xf_doc.specs.Visit.{Visit, visits}
 use Rattle.xf_doc.specs.Plant.{numbered_from}
-use Rattle.xf_doc.specs.Changes.{in_detached, is_detached_top}
-use Rattle.xf_doc.specs.Texts.{Keeping, without_from}
-use Rattle.xf_doc.specs.Needs.{MayDropFrom, goes_or_stays, is_new}
+use Rattle.xf_doc.specs.Changes.{in_detached}
+use Rattle.xf_doc.specs.Texts.{Keeping}
+use Rattle.xf_doc.specs.Needs.{goes_or_stays, is_new}
 use Rattle.xf_doc.specs.WellFormed.{AreTrees, reach, are_depths_from, are_depths, are_tops}
 use Rattle.xf_doc.specs.Undo.{kept_at}
-use Rattle.xf_doc.proofs.BackLaws.{or-false, and-true, false-true}
+use Rattle.xf_doc.proofs.BackLaws.{or-false, and-true}
 use Rattle.xf_rollback.specs.Made.{begins_at_top, IsGrowth, with_growth}
 use Rattle.xf_rollback.proofs.Trees.{Trees, none, tree, onto, followed, times, reading, onto-inj, onto-append, onto-followed}
 use Rattle.xf_rollback.proofs.TreeVisits.{seen, visits-seen}
 use Rattle.xf_rollback.proofs.TreeShape.{Sound, sound-trees, sound-followed}
 use Rattle.xf_rollback.proofs.TreeMoved.{Moved, same, swap, under, through}
 use Rattle.xf_rollback.proofs.TreeBlank.{blank, blank-nothing}
-use Rattle.xf_rollback.proofs.KeepingTrees.{Stands, stands, kept_times}
+use Rattle.xf_rollback.proofs.KeepingTrees.{Stands, stands}
 use Rattle.xf_rollback.proofs.TreeMoves.{followed-again}
 use Rattle.xf_rollback.proofs.Alike.{Fresh, fresh-less, fresh-followed, Alike, Back}
 

@@ -1,9 +1,8 @@
 -- A tree that was attached is cut off in a forest that is alike: it is alike to the forest before.
-use Rattle.std.proofs.Common.{◌≡◌, ℕ, ◌+◌, ◌==◌, Bool, true, false, not, cond, ◌&&◌, ◌||◌, List, [], ◌∷◌, ◌++◌, Option, Some, None, refl, sym, ap, ◌∙◌, subst, inl, inr, arith}
-use Rattle.std.specs.Prelude.{⊤, ◌⊎◌, ◌≤◌, ◌<◌, is_some, if◌then◌else◌}
+use Rattle.std.proofs.Common.{◌≡◌, ℕ, ◌+◌, ◌==◌, Bool, true, false, ◌&&◌, ◌||◌, List, [], ◌∷◌, Option, Some, None, refl, sym, ap, ◌∙◌, subst, inl, inr, arith}
+use Rattle.std.specs.Prelude.{◌⊎◌, ◌≤◌, ◌<◌, is_some}
 use Rattle.std.specs.List.{list_any}
 use Rattle.std.proofs.lemmas.Bool.{cases_Bool}
-use Rattle.std.proofs.lemmas.Bool.Decides.{nat_tests}
 use Rattle.xf_doc.specs.declared.content.Node.{Node}
 use Rattle.xf_doc.specs.declared.content.Content.{Content}
 use Rattle.xf_doc.specs.declared.content.Content.TheVariants.{Root, Element, Attribute, Text}
@@ -14,19 +13,18 @@ use Rattle.xf_doc.specs.Visit.{visits, parent_of}
 use Rattle.xf_doc.specs.Changes.{placed, detached}
 use Rattle.xf_doc.specs.Texts.{Keeping}
 use Rattle.xf_doc.specs.Needs.{is_top, MayAttach, MayDetach, MayStand, in_element, in_root, as_attribute}
-use Rattle.xf_doc.proofs.BackLaws.{false-true, or-false}
 use Rattle.xf_rollback.proofs.Trees.{Trees, none, tree, onto, followed, times, times-followed, onto-inj}
 use Rattle.xf_rollback.proofs.TreeShape.{Sound, sound-followed, node_times, times-onto}
-use Rattle.xf_rollback.proofs.TreeMoved.{Moved, same, through, some, moved-followed}
+use Rattle.xf_rollback.proofs.TreeMoved.{Moved, through, moved-followed}
 use Rattle.xf_rollback.proofs.TreeBlank.{blank, blank-followed, moved-blank}
 use Rattle.xf_rollback.proofs.TreeFacts.{Blind, is_at, at-times, at-absent, or-cases, some-followed, blind-element, blind-attribute}
-use Rattle.xf_rollback.proofs.KeepingTrees.{Stands, kept_times, KindTest, any-is, any-kind, kind-any, element-test, attribute-test, absent-times}
-use Rattle.xf_rollback.proofs.Alike.{Fresh, fresh-absent, Alike, extra-absent, later-at, later-once, later-kind}
+use Rattle.xf_rollback.proofs.KeepingTrees.{Stands, KindTest, any-is, kind-any, element-test, attribute-test, absent-times}
+use Rattle.xf_rollback.proofs.Alike.{Alike, extra-absent, later-at, later-once, later-kind}
 use Rattle.xf_rollback.proofs.TextSteps.{is-old}
-use Rattle.xf_rollback.proofs.TreeMoves.{removed, found, removed-absent, found-absent, followed-none, followed-again, removed-followed, found-followed, tree-onto, detached-onto}
+use Rattle.xf_rollback.proofs.TreeMoves.{removed, found, removed-followed, found-followed, tree-onto, detached-onto}
 use Rattle.xf_rollback.proofs.TreePlaces.{with_tree, changed, AllBare, placed-onto}
 use Rattle.xf_rollback.proofs.MoveFacts.{moved-removed, moved-found, removed-times, removed-none, removed-some}
-use Rattle.xf_rollback.proofs.MoveBlank.{NoText, no_text-of, blank-removed, blank-found, blank-times, sound-removed, sound-found, removed-changed, removed-found, found-found, found-changed}
+use Rattle.xf_rollback.proofs.MoveBlank.{no_text-of, blank-removed, blank-found, blank-times, sound-removed, sound-found, removed-changed, removed-found, found-found, found-changed}
 use Rattle.xf_rollback.proofs.TreeTops.{RootsFirst, tops, moved-tops, blank-tops, changed-tops, absent-tops, tops-followed, tops-onto, TopAt, top-at, top-followed, top-last, fresh-no_roots, has-parent}
 
 -- ---- kinds

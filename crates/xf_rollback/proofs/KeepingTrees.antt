@@ -1,7 +1,7 @@
 -- The trees of a forest with kept texts: what they have of its lists.
-use Rattle.std.proofs.Common.{◌≡◌, ℕ, zero, suc, ◌+◌, ◌==◌, Bool, true, false, not, cond, ◌&&◌, ◌||◌, List, [], ◌∷◌, ◌++◌, map, nat_lt, Option, Some, None, refl, sym, ap, ◌∙◌, subst, inl, inr, arith}
-use Rattle.std.specs.Prelude.{⊤, ◌≤◌, ◌<◌, filter, if◌then◌else◌}
-use Rattle.std.specs.List.{list_any, list_all}
+use Rattle.std.proofs.Common.{◌≡◌, ℕ, suc, ◌+◌, ◌==◌, Bool, true, false, not, cond, ◌&&◌, ◌||◌, List, [], ◌∷◌, nat_lt, Option, Some, None, refl, sym, ap, ◌∙◌, subst, inl, inr, arith}
+use Rattle.std.specs.Prelude.{◌≤◌, filter, if◌then◌else◌}
+use Rattle.std.specs.List.{list_any}
 use Rattle.std.proofs.lemmas.Bool.{cases_Bool}
 use Rattle.std.proofs.lemmas.Bool.Decides.{nat_tests}
 use Rattle.xf_doc.specs.declared.content.Node.{Node}
@@ -9,11 +9,11 @@ use Rattle.xf_doc.specs.declared.content.Content.{Content}
 use Rattle.xf_doc.specs.declared.content.Content.TheVariants.{Root, Element, Attribute, Text}
 use Rattle.xf_doc.specs.declared.content.Kind.{Kind}
 use Rattle.xf_doc.specs.declared.content.Kind.TheVariants as kind
-use Rattle.xf_doc.specs.Forest.{Forest, is_root, is_element, is_attribute, is_text, kind_of, kind_at, has_number}
+use Rattle.xf_doc.specs.Forest.{is_element, is_attribute, kind_of, kind_at, has_number}
 use Rattle.xf_doc.specs.Texts.{Keeping, KeptText, is_of, back, without}
 use Rattle.xf_doc.specs.WellFormed.{AreTrees, are_apart, are_below, are_depths, are_tops, are_kept_apart}
 use Rattle.xf_doc.proofs.BackLaws.{and-true, or-false, not-true, false-true, one_number}
-use Rattle.xf_rollback.proofs.Trees.{Trees, none, tree, onto, times, Reads, reading}
+use Rattle.xf_rollback.proofs.Trees.{Trees, none, tree, onto, times, reading}
 use Rattle.xf_rollback.proofs.TreeTexts.{lone}
 use Rattle.xf_rollback.proofs.TreeShape.{Sound, sound-trees, node_times, times-onto}
 use Rattle.xf_rollback.proofs.TreeMoved.{some}

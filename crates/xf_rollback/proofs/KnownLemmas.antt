@@ -18,7 +18,7 @@ use Rattle.xf_rollback.proofs.TreeFacts.{or-cases}
 use Rattle.xf_rollback.proofs.KeepingTrees.{stands}
 use Rattle.xf_rollback.proofs.JoinSteps.{detach-old}
 use Rattle.xf_rollback.proofs.AttributeSteps.{text-stay, join-stay, cut-stay, growth-stay}
-use Rattle.xf_rollback.proofs.StepCases.{attached-placed, filled-forest}
+use Rattle.xf_rollback.proofs.Outcomes.{attached-placed, filled-forest}
 
 abbrev pub without_number : ℕ → List ℕ → List ℕ
 without_number n [] = []

@@ -13,6 +13,7 @@ pub mod Alike
 pub mod TextSteps
 pub mod ValueSteps
 pub mod GrowthSteps
+pub mod Outcomes
 pub mod StepCases
 pub mod KnownLemmas
 pub mod Laws

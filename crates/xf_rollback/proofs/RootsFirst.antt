@@ -1,6 +1,6 @@
 -- In what was made of a forest the roots stand before the other trees: it begins with roots alone, and no change brings one behind.
-use Rattle.std.proofs.Common.{◌≡◌, ℕ, ◌+◌, ◌==◌, Bool, true, false, cond, ◌&&◌, ◌||◌, List, [], ◌∷◌, ◌++◌, Ok, refl, sym, ap, ◌∙◌, subst, inl, inr}
-use Rattle.std.specs.Prelude.{⊤, if◌then◌else◌}
+use Rattle.std.proofs.Common.{◌≡◌, ℕ, ◌==◌, Bool, true, false, cond, ◌&&◌, ◌||◌, List, [], refl, sym, ap, ◌∙◌, subst, inl, inr}
+use Rattle.std.specs.Prelude.{if◌then◌else◌}
 use Rattle.std.proofs.lemmas.Bool.{cases_Bool}
 use Rattle.xf_doc.specs.declared.content.Node.{Node}
 use Rattle.xf_doc.specs.declared.content.Content.{Content}
@@ -14,7 +14,7 @@ use Rattle.xf_doc.specs.Undo.{Ledger}
 use Rattle.xf_doc.proofs.BackLaws.{or-false}
 use Rattle.xf_rollback.specs.Made.{Made, begun, noted, texts, joined, cut, grown, IsGrowth, with_growth}
 use Rattle.xf_rollback.proofs.Trees.{Trees, none, tree, onto, followed, onto-inj}
-use Rattle.xf_rollback.proofs.TreeTexts.{lone, attributes, retexted, revalued}
+use Rattle.xf_rollback.proofs.TreeTexts.{lone, retexted, revalued}
 use Rattle.xf_rollback.proofs.TreeMoved.{value-root}
 use Rattle.xf_rollback.proofs.TreeFacts.{is_at}
 use Rattle.xf_rollback.proofs.KeepingTrees.{Stands, stands}
@@ -25,7 +25,7 @@ use Rattle.xf_rollback.proofs.TextSteps.{after-nodes}
 use Rattle.xf_rollback.proofs.ValueSteps.{valued-nodes}
 use Rattle.xf_rollback.proofs.JoinSteps.{joins, joined-nodes, detach-once, detach-no_root}
 use Rattle.xf_rollback.proofs.GrowthSteps.{AllRoots, roots-all, new-trees}
-use Rattle.xf_rollback.proofs.StepCases.{attached-placed, filled-forest}
+use Rattle.xf_rollback.proofs.Outcomes.{attached-placed, filled-forest}
 
 -- ---- in trees
 

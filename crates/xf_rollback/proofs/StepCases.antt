@@ -1,45 +1,36 @@
 -- Each change, from what rolling back gives before it to what it gives after it.
-use Rattle.std.proofs.Common.{◌≡◌, ℕ, ◌+◌, ◌==◌, Bool, true, false, not, cond, ◌&&◌, ◌||◌, List, [], ◌∷◌, length, refl, sym, ap, ◌∙◌, subst, inl, inr, arith}
-use Rattle.std.specs.Prelude.{⊤, ◌⊎◌, ◌≤◌, ◌<◌, Option, Some, None, Result, Ok, Err, if◌then◌else◌}
+use Rattle.std.proofs.Common.{◌≡◌, ℕ, Bool, true, false, cond, List, [], ◌∷◌, length, refl, subst, inl, inr, arith}
+use Rattle.std.specs.Prelude.{◌⊎◌, ◌≤◌, Some, Ok}
 use Rattle.std.specs.List.{list_all}
 use Rattle.std.proofs.lemmas.Bool.{cases_Bool}
 use Rattle.std.proofs.lemmas.Bool.Decides.{nat_tests}
-use Rattle.xf_doc.specs.declared.fault.TreeFault.{TreeFault}
 use Rattle.xf_doc.specs.declared.content.Content.{Content}
 use Rattle.xf_doc.specs.declared.content.Kind.{Kind}
 use Rattle.xf_doc.specs.declared.content.Kind.TheVariants as kind
 use Rattle.xf_doc.specs.Visit.{has, numbers, visits, children_of}
-use Rattle.xf_doc.specs.Forest.{Forest, is_root, is_element, is_attribute, content_at, kind_at, tree_of}
-use Rattle.xf_doc.specs.Changes.{placed, place_of, attached, detached, standing}
-use Rattle.xf_doc.specs.Limits.{Limits, unless}
-use Rattle.xf_doc.specs.Texts.{Keeping, Before, element_texts, attribute_text, texts_in, value_in, is_attribute_at, before_of, with_text, given_up, put_back, text_set}
-use Rattle.xf_doc.specs.Needs.{IsSettable, MayAttach, MayStand, in_element, in_root, as_attribute}
+use Rattle.xf_doc.specs.Forest.{is_root, is_element, kind_at, tree_of}
+use Rattle.xf_doc.specs.Changes.{placed, detached, standing}
+use Rattle.xf_doc.specs.Limits.{Limits}
+use Rattle.xf_doc.specs.Texts.{Keeping, Before, element_texts, attribute_text, texts_in, value_in, is_attribute_at, before_of, given_up, put_back, text_set}
+use Rattle.xf_doc.specs.Needs.{IsSettable, MayAttach, MayStand, in_element, in_root}
 use Rattle.xf_doc.specs.WellFormed.{IsKeeping, AreTrees, has_document}
-use Rattle.xf_doc.specs.Undo.{Change, of_text, Entry, Ledger, with_note, with_set, is_known, text_filled, rolled_back}
+use Rattle.xf_doc.specs.Undo.{of_text, Ledger, with_note, with_set, is_known, text_filled}
 use Rattle.xf_doc.specs.Undo as undo
-use Rattle.xf_doc.proofs.BackLaws.{after_set, false-true}
-use Rattle.xf_rollback.specs.Back.{CanRollBack}
-use Rattle.xf_rollback.proofs.Trees.{Trees, none, tree, onto, followed, times}
+use Rattle.xf_doc.proofs.BackLaws.{after_set}
+use Rattle.xf_rollback.proofs.Trees.{Trees, onto, times}
 use Rattle.xf_rollback.proofs.TreeShape.{Sound}
-use Rattle.xf_rollback.proofs.TreeMoved.{Moved, same}
-use Rattle.xf_rollback.proofs.TreeBlank.{blank}
-use Rattle.xf_rollback.proofs.TreeFacts.{is_at, or-cases}
-use Rattle.xf_rollback.proofs.KeepingTrees.{Stands, stands, kept_times}
+use Rattle.xf_rollback.proofs.TreeMoved.{same}
+use Rattle.xf_rollback.proofs.TreeFacts.{is_at}
+use Rattle.xf_rollback.proofs.KeepingTrees.{Stands}
 use Rattle.xf_rollback.proofs.TreeTops.{RootsFirst}
 use Rattle.xf_rollback.proofs.Alike.{Alike, Back}
+use Rattle.xf_rollback.proofs.Outcomes.{unless-ok}
 use Rattle.xf_rollback.proofs.TextSteps.{element-known, element-may, element-alike}
 use Rattle.xf_rollback.proofs.ValueSteps.{attribute-known, attribute-may, attribute-alike}
 use Rattle.xf_rollback.proofs.JoinSteps.{joins, joined-below, joined-kind, joined-alike}
 use Rattle.xf_rollback.proofs.BearLemmas.{Bears, element-bears, root-bears}
-use Rattle.xf_rollback.proofs.CutSteps.{cut-old, cut-no_attribute, cut-kind, cut-stood, later-children, place-fits, cut-parent-kind, cut-may, cut-element, cut-alike}
+use Rattle.xf_rollback.proofs.CutSteps.{cut-kind, cut-stood, later-children, place-fits, cut-parent-kind, cut-may, cut-element, cut-alike}
 use Rattle.xf_rollback.proofs.CutStands.{root-kids}
-use Rattle.xf_rollback.proofs.AttributeSteps.{text-stay, join-stay, cut-stay, growth-stay}
-use Rattle.xf_rollback.proofs.TreeMoves.{followed-none}
-use Rattle.xf_rollback.proofs.GrowthSteps.{growth-alike, begun-back}
-
-pub unless-ok : {X : Type 0} (fault : Option TreeFault) (v w : X) → unless fault v ≡ Ok w → v ≡ w
-unless-ok None v w e = cc e
-unless-ok (Some fault) v w e = cc e
 
 -- ---- a text
 
@@ -92,27 +83,6 @@ module _ (start : Keeping) (l : Ledger) (k : Keeping) (n : ℕ) (text : List ℕ
   text-case limits before later e =
       subst (λ (w : Before × Keeping). Goal start (n ∷ ns) (with_set n w.0 l.entries l.next w.1)) (unless-ok _ (before_of n k.forest.nodes, after) (before, later) e) set-case
 
--- ---- the forest after a text
-
-set-forest : (n : ℕ) (before : Before) (es : List Entry) (next : ℕ) (k : Keeping) → (with_set n before es next k).1.forest ≡ k.forest
-set-forest n before es next k = by (is_known n k es)
-  where
-    given : (before : Before) → (given_up before k).forest ≡ k.forest
-    given (attribute_text text) = refl
-    given (element_texts ns) = refl
-
-    by : (b : Bool) → (cond {A = Ledger × Keeping} b (record { entries = es; next = next }, given_up before k) (record { entries = undo.set n before ∷ es; next = next }, k)).1.forest ≡ k.forest
-    by true = given before
-    by false = refl
-
-set-after : (limits : Limits) (n : ℕ) (text : List ℕ) (k : Keeping) (before : Before) (later : Keeping) → text_set limits n text k ≡ Ok (before, later) → later.forest ≡ with_text n text k.forest
-set-after limits n text k before later e = sym (ap (λ w. w.1.forest) (unless-ok {X = Before × Keeping} _ (before_of n k.forest.nodes, after_set n text k) (before, later) e))
-
--- the ledger does not change what a setting leaves
-pub filled-forest : (limits : Limits) (n : ℕ) (text : List ℕ) (k : Keeping) (before : Before) (later : Keeping) (es : List Entry) (next : ℕ) → text_set limits n text k ≡ Ok (before, later)
-    → (with_set n before es next later).1.forest ≡ with_text n text k.forest
-filled-forest limits n text k before later es next e = set-forest n before es next later ∙ set-after limits n text k before later e
-
 -- ---- a tree that was attached
 
 -- it stands at this place, which an attribute has by its name
@@ -134,11 +104,6 @@ join-case start l k n parent given place may ns s rooted back t nodes whole once
       rest = r.rest;
       same = r.same;
     }
-
--- what was attached is placed
-pub attached-placed : (limits : Limits) (n parent place : ℕ) (forest after : Forest) → attached limits n parent place forest ≡ Ok after
-    → placed n parent (place_of parent place (visits forest.nodes) (content_at n forest.nodes)) forest ≡ after
-attached-placed limits n parent place forest after e = unless-ok _ (placed n parent (place_of parent place (visits forest.nodes) (content_at n forest.nodes)) forest) after e
 
 -- ---- a tree that was cut off
 

@@ -1,15 +1,12 @@
 -- What the trees of a forest keep: attributes and texts have nothing below them, and a root has nothing above.
-use Rattle.std.proofs.Common.{◌≡◌, ℕ, zero, suc, ◌+◌, ◌==◌, Bool, true, false, not, cond, ◌&&◌, ◌||◌, List, [], ◌∷◌, ◌++◌, map, nat_lt, refl, sym, ap, ◌∙◌, subst, inl, inr, arith}
-use Rattle.std.specs.Prelude.{⊤, nat_le, ◌≤◌, if◌then◌else◌}
-use Rattle.std.specs.List.{list_any, list_all}
-use Rattle.std.proofs.lemmas.Bool.{cases_Bool}
+use Rattle.std.proofs.Common.{◌≡◌, ℕ, suc, ◌+◌, ◌==◌, Bool, true, false, not, cond, ◌&&◌, ◌||◌, List, [], ◌∷◌, refl, subst, arith}
+use Rattle.std.specs.Prelude.{⊤, nat_le, if◌then◌else◌}
 use Rattle.std.proofs.lemmas.Bool.Decides.{nat_tests}
 use Rattle.xf_doc.specs.declared.content.Node.{Node}
 use Rattle.xf_doc.specs.declared.content.Content.{Content}
-use Rattle.xf_doc.specs.declared.content.Content.TheVariants.{Root, Element, Attribute, Text}
-use Rattle.xf_doc.specs.Forest.{is_root, is_element, is_attribute, is_text, has_number}
+use Rattle.xf_doc.specs.Forest.{is_root, is_attribute, is_text}
 use Rattle.xf_doc.specs.WellFormed.{reach, are_depths_from, are_depths, are_tops}
-use Rattle.xf_doc.proofs.BackLaws.{and-true, or-false, not-true, false-true}
+use Rattle.xf_doc.proofs.BackLaws.{and-true, false-true}
 use Rattle.xf_rollback.proofs.Trees.{Trees, none, tree, onto, times, followed}
 
 -- what has nothing below it

@@ -1,6 +1,6 @@
 -- The tops of trees: detached trees stand after the roots, and can be put last.
-use Rattle.std.proofs.Common.{◌≡◌, ℕ, zero, suc, ◌+◌, ◌==◌, Bool, true, false, not, cond, ◌&&◌, ◌||◌, List, [], ◌∷◌, refl, sym, ap, ◌∙◌, subst, inl, inr, arith}
-use Rattle.std.specs.Prelude.{⊤, ◌≤◌, ◌<◌, is_some, find, Option, if◌then◌else◌}
+use Rattle.std.proofs.Common.{◌≡◌, ℕ, suc, ◌+◌, ◌==◌, Bool, true, false, cond, ◌&&◌, ◌||◌, List, [], ◌∷◌, refl, sym, ap, ◌∙◌, subst, inl, inr, arith}
+use Rattle.std.specs.Prelude.{⊤, ◌≤◌, is_some, find}
 use Rattle.std.specs.List.{list_any}
 use Rattle.std.proofs.lemmas.Bool.{cases_Bool}
 use Rattle.std.proofs.lemmas.Bool.Decides.{nat_tests}
@@ -10,13 +10,13 @@ use Rattle.xf_doc.specs.Forest.{is_root}
 use Rattle.xf_doc.specs.Visit.{Visit, visits, above_in, first_of, parent_of}
 use Rattle.xf_doc.specs.Needs.{is_top}
 use Rattle.xf_doc.proofs.BackLaws.{or-false, false-true}
-use Rattle.xf_rollback.proofs.Trees.{Trees, none, tree, onto, followed, times, times-followed}
+use Rattle.xf_rollback.proofs.Trees.{Trees, none, tree, onto, followed, times}
 use Rattle.xf_rollback.proofs.TreeTexts.{times-split}
 use Rattle.xf_rollback.proofs.TreeVisits.{seen, visits-seen}
 use Rattle.xf_rollback.proofs.TreeMoved.{Moved, same, swap, under, through}
 use Rattle.xf_rollback.proofs.TreeBlank.{blank}
 use Rattle.xf_rollback.proofs.TreeFacts.{is_at}
-use Rattle.xf_rollback.proofs.TreeMoves.{removed, found, removed-absent, found-absent, followed-none}
+use Rattle.xf_rollback.proofs.TreeMoves.{removed, found, removed-absent, found-absent}
 use Rattle.xf_rollback.proofs.TreePlaces.{changed}
 use Rattle.xf_rollback.proofs.Alike.{Fresh}
 

@@ -1,30 +1,26 @@
 -- An attribute's text that was set is put back in a forest that is alike: it is alike to the forest before.
-use Rattle.std.proofs.Common.{◌≡◌, ℕ, ◌+◌, ◌==◌, Bool, true, false, not, cond, ◌&&◌, ◌||◌, List, [], ◌∷◌, ◌++◌, map, length, nat_lt, Option, Some, None, refl, sym, ap, ◌∙◌, subst, inl, inr, append-nil, arith}
-use Rattle.std.specs.Prelude.{⊤, ◌⊎◌, ◌≤◌, ◌<◌, filter, if◌then◌else◌}
-use Rattle.std.specs.List.{list_any, list_all}
+use Rattle.std.proofs.Common.{◌≡◌, ℕ, ◌+◌, ◌==◌, Bool, true, false, cond, ◌&&◌, ◌||◌, List, [], ◌∷◌, ◌++◌, refl, sym, ap, ◌∙◌, subst, inl, inr, append-nil, arith}
+use Rattle.std.specs.Prelude.{◌≤◌, ◌<◌, if◌then◌else◌}
 use Rattle.std.proofs.lemmas.Bool.{cases_Bool}
-use Rattle.std.proofs.lemmas.Bool.Decides.{nat_tests}
-use Rattle.xf_doc.specs.declared.content.Node.{Node}
-use Rattle.xf_doc.specs.declared.content.Content.{Content}
 use Rattle.xf_doc.specs.declared.content.Kind.TheVariants as kind
-use Rattle.xf_doc.specs.Forest.{is_element, is_attribute, is_text, own_text, kind_at, tree_of}
-use Rattle.xf_doc.specs.Visit.{has, numbers, visits}
+use Rattle.xf_doc.specs.Forest.{is_element, is_attribute, tree_of}
+use Rattle.xf_doc.specs.Visit.{has, visits}
 use Rattle.xf_doc.specs.Shape.{has_elements}
-use Rattle.xf_doc.specs.Texts.{Keeping, KeptText, Before, attribute_text, element_texts, one_text, with_texts, with_value, with_attribute_text, is_attribute_at, texts_in, value_in, kept_from, before_of, taken_from, with_text, put_back, given_up, is_of, without, back}
-use Rattle.xf_doc.specs.Needs.{IsSettable, MayPutBack, are_kept_of}
+use Rattle.xf_doc.specs.Texts.{Keeping, attribute_text, with_value, with_attribute_text, is_attribute_at, value_in, before_of, taken_from, with_text, put_back}
+use Rattle.xf_doc.specs.Needs.{IsSettable, MayPutBack}
 use Rattle.xf_doc.specs.WellFormed.{AreTrees}
-use Rattle.xf_doc.proofs.BackLaws.{HasText, after_set, put_back-after_set, outside-all, false-true, and-true, one_number}
+use Rattle.xf_doc.proofs.BackLaws.{after_set, put_back-after_set, outside-all, one_number}
 use Rattle.xf_rollback.proofs.Trees.{Trees, none, tree, onto, followed, times, times-followed, onto-inj}
-use Rattle.xf_rollback.proofs.TreeTexts.{lone, attributes, retexted, revalued, valued-onto, texts-onto, retexted-absent, times-split}
+use Rattle.xf_rollback.proofs.TreeTexts.{revalued, valued-onto, times-split}
 use Rattle.xf_rollback.proofs.TreeVisits.{elements, elements-are}
 use Rattle.xf_rollback.proofs.TreeShape.{Sound, sound-followed}
 use Rattle.xf_rollback.proofs.TreeMoved.{Moved, value-attribute, value-element}
-use Rattle.xf_rollback.proofs.TreeBlank.{blank, AreTexts, LeafAt, leaf-followed, leaf-absent, moved-more, blank-followed}
-use Rattle.xf_rollback.proofs.TreeAgain.{retexted-alike, retexted-within, AttributeAt, revalued-within, revalued-alike}
-use Rattle.xf_rollback.proofs.TreeFacts.{is_at, at-times, at-absent, some-followed, sound-retexted, sound-revalued, blind-element, blind-attribute}
-use Rattle.xf_rollback.proofs.TreeLeaves.{leaf-of, bare-leaf, attribute-of, elements-retexted, at-retexted, retexted-times, revalued-times}
-use Rattle.xf_rollback.proofs.KeepingTrees.{Stands, kept_times, any-is, any-kind, kind-any, element-test, attribute-test, back-texts, back-times}
-use Rattle.xf_rollback.proofs.Alike.{Fresh, fresh-less, fresh-absent, Alike, extra-absent, later-at, later-elements, later-once, later-kind, later-childless}
+use Rattle.xf_rollback.proofs.TreeBlank.{blank, moved-more, blank-followed}
+use Rattle.xf_rollback.proofs.TreeAgain.{AttributeAt, revalued-within, revalued-alike}
+use Rattle.xf_rollback.proofs.TreeFacts.{is_at, at-times, some-followed, sound-revalued, blind-attribute}
+use Rattle.xf_rollback.proofs.TreeLeaves.{attribute-of, revalued-times}
+use Rattle.xf_rollback.proofs.KeepingTrees.{Stands, kept_times, any-is, attribute-test}
+use Rattle.xf_rollback.proofs.Alike.{fresh-less, Alike, extra-absent, later-at, later-once, later-kind, later-childless}
 use Rattle.xf_rollback.proofs.TextSteps.{is-old}
 
 revalued-followed : (n : ℕ) (text : List ℕ) (a b : Trees) → revalued n text (followed a b) ≡ followed (revalued n text a) (revalued n text b)
