@@ -19,6 +19,7 @@ use Rattle.xf_rollback.proofs.TreeMoved.{Moved, some, moved-some, moved-elements
 use Rattle.xf_rollback.proofs.TreeBlank.{blank}
 use Rattle.xf_rollback.proofs.TreeFacts.{Blind, some-blank, is_at, at-absent, some-followed}
 use Rattle.xf_rollback.proofs.TreeLeaves.{elements-blank, elements-absent, elements-followed}
+use Rattle.xf_rollback.proofs.TreeOrder.{Ordered}
 use Rattle.xf_rollback.proofs.KeepingTrees.{kept_times, KindTest, any-is, any-kind}
 
 -- all numbers are new, and no root is there
@@ -53,6 +54,7 @@ pub record Alike (ns : List ℕ) (t : Trees) (k k2 : Keeping) : Type 0 where
   pub fresh : Fresh k.forest.next extra
   pub new_sound : Sound false extra
   pub sound : Sound false later
+  pub first : Ordered later
   pub once : (n : ℕ) → times n later + kept_times n k.kept ≤ 1
   pub like : Moved (blank ns (followed t extra)) (blank ns later)
 

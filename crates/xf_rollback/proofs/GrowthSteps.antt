@@ -98,6 +98,7 @@ growth-alike contents k growth after s t nodes ns k2 a =
       fresh = fresh-followed k.forest.next e.new a.extra e.fresh (fresh-less k.forest.next (k.forest.next + length contents) a.extra (omega arith) a.fresh);
       new_sound = sound-followed false e.new a.extra e.sound a.new_sound;
       sound = a.sound;
+      first = a.first;
       once = a.once;
       like = subst (λ x. Moved (blank ns x) (blank ns a.later)) (ap (λ x. followed x a.extra) e.is ∙ followed-again s.trees e.new a.extra) a.like;
     }

@@ -19,6 +19,7 @@ use Rattle.xf_rollback.proofs.TreeMoved.{Moved, through, moved-followed}
 use Rattle.xf_rollback.proofs.TreeBlank.{blank, blank-followed, moved-blank}
 use Rattle.xf_rollback.proofs.TreeFacts.{Blind, is_at, at-times, at-absent, or-cases, some-followed, blind-element, blind-attribute}
 use Rattle.xf_rollback.proofs.KeepingTrees.{Stands, KindTest, any-is, kind-any, element-test, attribute-test, absent-times}
+use Rattle.xf_rollback.proofs.FirstLemmas.{ordered-removed, ordered-found, ordered-followed}
 use Rattle.xf_rollback.proofs.Alike.{Alike, extra-absent, later-at, later-once, later-kind}
 use Rattle.xf_rollback.proofs.TextSteps.{is-old}
 use Rattle.xf_rollback.proofs.TreeMoves.{removed, found, removed-followed, found-followed, tree-onto, detached-onto}
@@ -279,6 +280,7 @@ module _ (n parent given place : ℕ) (k : Keeping) (may : MayAttach n parent gi
       fresh = a.fresh;
       new_sound = a.new_sound;
       sound = sound-followed false (removed n a.later) (found n a.later) (sound-removed n false a.later a.sound) (sound-found n false a.later a.sound);
+      first = ordered-followed (removed n a.later) (found n a.later) (ordered-removed n a.later a.first) (ordered-found n a.later a.first);
       once = λ p. let x = removed-times p n a.later in let y = times-followed p (removed n a.later) (found n a.later) in let z = a.once p in omega (arith, x, y, z);
       like = through (moved-blank ns moved-back) cut-alike;
     }

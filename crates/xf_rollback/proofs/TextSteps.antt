@@ -25,6 +25,7 @@ use Rattle.xf_rollback.proofs.TreeFacts.{is_at, at-times, sound-retexted, blind-
 use Rattle.xf_rollback.proofs.TreeLeaves.{leaf-of, bare-leaf, elements-retexted, at-retexted, retexted-times}
 use Rattle.xf_rollback.proofs.TreeRuns.{leaf-onto}
 use Rattle.xf_rollback.proofs.KeepingTrees.{Stands, kept_times, any-is, kind-any, element-test, attribute-test, back-texts, back-times}
+use Rattle.xf_rollback.proofs.FirstLemmas.{ordered-retexted}
 use Rattle.xf_rollback.proofs.Alike.{fresh-less, Alike, extra-absent, later-at, later-elements, later-once, later-kind, later-childless}
 
 retexted-followed : (n : ℕ) (s a b : Trees) → retexted n s (followed a b) ≡ followed (retexted n s a) (retexted n s b)
@@ -143,6 +144,7 @@ module _ (n : ℕ) (text : List ℕ) (k : Keeping) (sound : AreTrees k) (able : 
       fresh = fresh-less k.forest.next (with_text n text k.forest).next a.extra (omega arith) a.fresh;
       new_sound = a.new_sound;
       sound = a.sound;
+      first = a.first;
       once = λ p. subst (λ l. times p a.later + kept_times p l ≤ 1) kept-is (a.once p);
       like =
           subst (λ x. Moved x (blank ns a.later)) (blank-followed ns t a.extra ∙ ap (λ x. followed x (blank ns a.extra)) (ap (blank ns) after-is ∙ retexted-within n (lone new) ns s.trees within (one_text-texts k.forest.next text) element-leaf) ∙ sym (blank-followed ns s.trees a.extra))
@@ -213,6 +215,7 @@ module _ (n : ℕ) (text : List ℕ) (k : Keeping) (sound : AreTrees k) (able : 
         fresh = fresh-less k.forest.next (with_text n text k.forest).next a.extra (omega arith) a.fresh;
         new_sound = a.new_sound;
         sound = sound-retexted false n came a.later (back-texts (filter (is_of (numbers texts)) (after_set n text k).kept)) again-leaf a.sound;
+        first = ordered-retexted n came a.later (back-texts (filter (is_of (numbers texts)) (after_set n text k).kept)) a.first;
         once = back-once;
         like =
             subst (λ x. Moved (blank ns x) (blank ns (retexted n came a.later)))

@@ -20,6 +20,7 @@ use Rattle.xf_rollback.proofs.TreeAgain.{AttributeAt, revalued-within, revalued-
 use Rattle.xf_rollback.proofs.TreeFacts.{is_at, at-times, some-followed, sound-revalued, blind-attribute}
 use Rattle.xf_rollback.proofs.TreeLeaves.{attribute-of, revalued-times}
 use Rattle.xf_rollback.proofs.KeepingTrees.{Stands, kept_times, any-is, attribute-test}
+use Rattle.xf_rollback.proofs.FirstLemmas.{ordered-revalued}
 use Rattle.xf_rollback.proofs.Alike.{fresh-less, Alike, extra-absent, later-at, later-once, later-kind, later-childless}
 use Rattle.xf_rollback.proofs.TextSteps.{is-old}
 
@@ -127,6 +128,7 @@ module _ (n : ℕ) (text : List ℕ) (k : Keeping) (sound : AreTrees k) (able : 
       fresh = fresh-less k.forest.next (with_text n text k.forest).next a.extra (omega arith) a.fresh;
       new_sound = a.new_sound;
       sound = a.sound;
+      first = a.first;
       once = λ p. subst (λ l. times p a.later + kept_times p l ≤ 1) kept-same (a.once p);
       like =
           subst (λ x. Moved x (blank ns a.later)) (blank-followed ns t a.extra ∙ ap (λ x. followed x (blank ns a.extra)) (ap (blank ns) valued-is ∙ revalued-within n text ns s.trees within) ∙ sym (blank-followed ns s.trees a.extra))
@@ -152,6 +154,7 @@ module _ (n : ℕ) (text : List ℕ) (k : Keeping) (sound : AreTrees k) (able : 
       fresh = fresh-less k.forest.next (with_text n text k.forest).next a.extra (omega arith) a.fresh;
       new_sound = a.new_sound;
       sound = sound-revalued false n value a.later a.sound;
+      first = ordered-revalued n value a.later a.first;
       once = λ p. let x = revalued-times p n value a.later in let y : times p a.later + kept_times p k.kept ≤ 1 = subst (λ l. times p a.later + kept_times p l ≤ 1) kept-same (a.once p) in omega (arith, x, y);
       like =
           subst (λ x. Moved (blank ns x) (blank ns (revalued n value a.later)))
