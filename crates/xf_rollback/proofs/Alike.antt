@@ -1,25 +1,25 @@
 -- A forest in which later changes were undone, beside the forest as it stood: the same but for new trees, the order of detached trees,
 -- and texts that do not count.
-use Rattle.std.proofs.Common.{◌≡◌, ℕ, ◌+◌, ◌==◌, Bool, true, false, ◌&&◌, ◌||◌, List, [], ◌∷◌, nat_lt, Some, refl, sym, ap, ◌∙◌, subst, inl, inr, arith}
-use Rattle.std.specs.Prelude.{⊤, ◌≤◌, ◌<◌, if◌then◌else◌}
-use Rattle.std.proofs.lemmas.Bool.{cases_Bool}
+use Rattle.std.proofs.Common.{◌≡◌, ℕ, ◌+◌, ◌==◌, Bool, true, false, ◌&&◌, ◌||◌, List, [], Some, refl, sym, ap, ◌∙◌, subst, arith}
+use Rattle.std.specs.Prelude.{⊤, ◌≤◌, ◌<◌}
 use Rattle.std.proofs.lemmas.Bool.Decides.{nat_tests}
 use Rattle.xf_doc.specs.declared.content.Content.{Content}
 use Rattle.xf_doc.specs.declared.content.Kind.{Kind}
-use Rattle.xf_doc.specs.Forest.{is_root, is_element, is_attribute, kind_at}
+use Rattle.xf_doc.specs.Forest.{is_root, kind_at}
 use Rattle.xf_doc.specs.Visit.{visits}
 use Rattle.xf_doc.specs.Shape.{has_elements}
 use Rattle.xf_doc.specs.Texts.{Keeping, without_from}
 use Rattle.xf_doc.specs.Needs.{MayDropFrom}
 use Rattle.xf_doc.specs.Undo.{Ledger, undone_all}
 use Rattle.xf_rollback.specs.Back.{CanUndoAll}
-use Rattle.xf_rollback.proofs.Trees.{Trees, none, tree, onto, followed, times, times-followed}
+use Rattle.xf_rollback.proofs.Trees.{Trees, none, tree, onto, followed, times}
 use Rattle.xf_rollback.proofs.TreeVisits.{elements, elements-are}
-use Rattle.xf_rollback.proofs.TreeShape.{Sound, sound-followed, node_times, times-onto}
+use Rattle.xf_rollback.proofs.TreeShape.{Sound, sound-followed, times-onto}
 use Rattle.xf_rollback.proofs.TreeMoved.{Moved, some, moved-some, moved-elements}
 use Rattle.xf_rollback.proofs.TreeBlank.{blank}
-use Rattle.xf_rollback.proofs.TreeFacts.{Blind, some-blank, is_at, at-times, at-absent, some-followed, blind-element, blind-attribute}
+use Rattle.xf_rollback.proofs.TreeFacts.{Blind, some-blank, is_at, at-absent, some-followed}
 use Rattle.xf_rollback.proofs.TreeLeaves.{elements-blank, elements-absent, elements-followed}
+use Rattle.xf_rollback.proofs.TreeOrder.{Ordered}
 use Rattle.xf_rollback.proofs.KeepingTrees.{kept_times, KindTest, any-is, any-kind}
 
 -- all numbers are new, and no root is there
@@ -54,6 +54,7 @@ pub record Alike (ns : List ℕ) (t : Trees) (k k2 : Keeping) : Type 0 where
   pub fresh : Fresh k.forest.next extra
   pub new_sound : Sound false extra
   pub sound : Sound false later
+  pub first : Ordered later
   pub once : (n : ℕ) → times n later + kept_times n k.kept ≤ 1
   pub like : Moved (blank ns (followed t extra)) (blank ns later)
 

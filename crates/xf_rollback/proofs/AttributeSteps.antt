@@ -1,22 +1,20 @@
 -- No change makes an attribute of a node that stands.
-use Rattle.std.proofs.Common.{◌≡◌, ℕ, suc, ◌+◌, ◌==◌, Bool, true, false, not, cond, ◌&&◌, ◌||◌, List, [], ◌∷◌, ◌++◌, Some, refl, sym, ap, ◌∙◌, subst, inl, inr, arith}
-use Rattle.std.specs.Prelude.{⊤, ◌⊎◌, ◌≤◌, ◌<◌, if◌then◌else◌}
+use Rattle.std.proofs.Common.{◌≡◌, ℕ, suc, ◌==◌, Bool, true, false, cond, ◌&&◌, ◌||◌, List, [], ◌∷◌, ◌++◌, refl, sym, ap, ◌∙◌, subst, inl, inr, arith}
+use Rattle.std.specs.Prelude.{◌<◌, if◌then◌else◌}
 use Rattle.std.specs.List.{list_any}
 use Rattle.std.proofs.lemmas.Bool.{cases_Bool}
 use Rattle.std.proofs.lemmas.Bool.Decides.{nat_tests}
 use Rattle.xf_doc.specs.declared.content.Node.{Node}
 use Rattle.xf_doc.specs.declared.content.Content.{Content}
-use Rattle.xf_doc.specs.declared.content.Kind.{Kind}
-use Rattle.xf_doc.specs.declared.content.Kind.TheVariants as kind
-use Rattle.xf_doc.specs.Forest.{is_element, is_attribute, is_text, kind_at}
-use Rattle.xf_doc.specs.Changes.{placed, detached, standing}
+use Rattle.xf_doc.specs.Forest.{is_attribute}
+use Rattle.xf_doc.specs.Changes.{placed, detached}
 use Rattle.xf_doc.specs.Texts.{Keeping, is_attribute_at, one_text, with_text, with_value}
-use Rattle.xf_doc.specs.Needs.{IsSettable, MayAttach, MayStand, in_element, in_root, as_attribute}
-use Rattle.xf_doc.specs.WellFormed.{IsKeeping, IsForest}
+use Rattle.xf_doc.specs.Needs.{IsSettable, MayAttach, MayDetach}
+use Rattle.xf_doc.specs.WellFormed.{AreTrees}
 use Rattle.xf_doc.specs.Plant.{numbered_from}
 use Rattle.xf_doc.proofs.RunLemmas.{text-no_attribute}
-use Rattle.xf_rollback.specs.Made.{IsGrowth, with_growth}
-use Rattle.xf_rollback.proofs.Trees.{Trees, none, tree, onto, followed, times}
+use Rattle.xf_rollback.specs.Made.{with_growth}
+use Rattle.xf_rollback.proofs.Trees.{Trees, none, tree, onto, followed}
 use Rattle.xf_rollback.proofs.TreeTexts.{lone, attributes, retexted, revalued}
 use Rattle.xf_rollback.proofs.TreeMoved.{some, value-attribute}
 use Rattle.xf_rollback.proofs.TreeBlank.{AreTexts}
@@ -24,12 +22,11 @@ use Rattle.xf_rollback.proofs.TreeFacts.{is_at, or-cases, some-followed}
 use Rattle.xf_rollback.proofs.KeepingTrees.{Stands, any-is}
 use Rattle.xf_rollback.proofs.TextSteps.{after-nodes, one_text-texts}
 use Rattle.xf_rollback.proofs.ValueSteps.{valued-nodes}
-use Rattle.xf_rollback.proofs.TreeMoves.{removed, found, removed-absent, found-absent, followed-none, removed-followed, found-followed, detached-onto}
+use Rattle.xf_rollback.proofs.TreeMoves.{removed, found, detached-onto}
 use Rattle.xf_rollback.proofs.TreePlaces.{with_tree, changed}
 use Rattle.xf_rollback.proofs.MoveFacts.{removed-none, removed-some}
 use Rattle.xf_rollback.proofs.MoveBlank.{removed-changed, removed-found, found-found, found-changed}
-use Rattle.xf_rollback.proofs.JoinSteps.{Moves, element-moves, attribute-moves, joined-nodes, parent-there}
-use Rattle.xf_rollback.proofs.CutSteps.{cut-once}
+use Rattle.xf_rollback.proofs.JoinSteps.{joins, joined-nodes, parent-there, detach-once}
 
 -- a node that is an attribute in the second list is one in the first
 abbrev pub AttributesStay : List Node → List Node → Type 0
@@ -97,7 +94,7 @@ revalued-same m n text (tree x c k r) =
     by true = value-attribute text c
     by false = refl
 
-pub text-stay : (n : ℕ) (text : List ℕ) (k : Keeping) → IsKeeping k → IsSettable n k.forest → (s : Stands k) → AttributesStay k.forest.nodes (with_text n text k.forest).nodes
+pub text-stay : (n : ℕ) (text : List ℕ) (k : Keeping) → AreTrees k → IsSettable n k.forest → (s : Stands k) → AttributesStay k.forest.nodes (with_text n text k.forest).nodes
 text-stay n text k sound able s =
     elim (cases_Bool (is_attribute_at n k.forest.nodes)) [
       | inl e ↦ from-trees k s (with_text n text k.forest).nodes (revalued n text s.trees) (valued-nodes n text k sound able s e) (λ m h. sym (revalued-same m n text s.trees) ∙ h)
@@ -111,27 +108,20 @@ text-stay n text k sound able s =
 same-some : (q : ℕ → Content → Bool) (n : ℕ) (t s : Trees) → removed n t ≡ removed n s → found n t ≡ found n s → some q t ≡ some q s
 same-some q n t s a b = sym (removed-some q n t) ∙ ap (λ x. some q x || some q (found n t)) a ∙ ap (λ x. some q (removed n s) || some q x) b ∙ removed-some q n s
 
-pub join-stay : (n parent place : ℕ) (k : Keeping) → IsKeeping k → MayAttach n parent place k.forest → (s : Stands k) → AttributesStay k.forest.nodes (placed n parent place k.forest).nodes
-join-stay n parent place k sound may s = by may.stands
-  where
-    step : (kn : Kind) (q : Content → Bool) → Moves kn q → kind_at n k.forest.nodes ≡ Some kn → (kp : Kind) → kind_at parent k.forest.nodes ≡ Some kp → AttributesStay k.forest.nodes (placed n parent place k.forest).nodes
-    step kn q moves is kp above =
-        let there = parent-there n parent place k sound may s kn q moves is kp above in
-        let t = changed parent (with_tree place (found n s.trees)) (removed n s.trees) in
-        from-trees k s (placed n parent place k.forest).nodes t (joined-nodes n parent place k sound may s kn q moves is kp above)
-        (λ m h. sym (same-some (λ x c. (x == m) && is_attribute c) n t s.trees
-        (removed-changed n parent place (found n s.trees) (removed n s.trees) (removed-found n s.trees) (removed-none n s.trees))
-        (found-changed n parent place (found n s.trees) (removed n s.trees) (found-found n s.trees) (removed-none n s.trees) there)) ∙ h)
+pub join-stay : (n parent given place : ℕ) (k : Keeping) → MayAttach n parent given k.forest → (s : Stands k) → AttributesStay k.forest.nodes (placed n parent place k.forest).nodes
+join-stay n parent given place k may s =
+    let j = joins n parent given k.forest may.stands in
+    let there = parent-there n parent given place k may s j in
+    let t = changed parent (with_tree place (found n s.trees)) (removed n s.trees) in
+    from-trees k s (placed n parent place k.forest).nodes t (joined-nodes n parent given place k may s j)
+    (λ m h. sym (same-some (λ x c. (x == m) && is_attribute c) n t s.trees
+    (removed-changed n parent place (found n s.trees) (removed n s.trees) (removed-found n s.trees) (removed-none n s.trees))
+    (found-changed n parent place (found n s.trees) (removed n s.trees) (found-found n s.trees) (removed-none n s.trees) there)) ∙ h)
 
-    by : MayStand n parent place k.forest → AttributesStay k.forest.nodes (placed n parent place k.forest).nodes
-    by (in_element is above le) = step kind.Element is_element element-moves is kind.Element above
-    by (in_root is above none_ first) = step kind.Element is_element element-moves is kind.Root above
-    by (as_attribute is above lacks) = step kind.Attribute is_attribute attribute-moves is kind.Element above
-
-pub cut-stay : (n parent place : ℕ) (k : Keeping) → IsKeeping k → kind_at n k.forest.nodes ≡ Some kind.Element → standing n k.forest.nodes ≡ Some (parent, place) → (s : Stands k) → AttributesStay k.forest.nodes (detached n k.forest).nodes
-cut-stay n parent place k sound is stood s =
+pub cut-stay : (n : ℕ) (k : Keeping) → MayDetach n k.forest → (s : Stands k) → AttributesStay k.forest.nodes (detached n k.forest).nodes
+cut-stay n k may s =
     let t = followed (removed n s.trees) (found n s.trees) in
-    from-trees k s (detached n k.forest).nodes t (detached-onto n s.trees k.forest s.nodes (cut-once n parent place k sound is stood s))
+    from-trees k s (detached n k.forest).nodes t (detached-onto n s.trees k.forest s.nodes (detach-once n k s may))
     (λ m h. or-some m (sym (some-followed (λ x c. (x == m) && is_attribute c) (removed n s.trees) (found n s.trees)) ∙ h))
   where
     or-some : (m : ℕ) → (is_at is_attribute m (removed n s.trees) || is_at is_attribute m (found n s.trees)) ≡ true → is_at is_attribute m s.trees ≡ true

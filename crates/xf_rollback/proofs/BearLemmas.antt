@@ -1,41 +1,21 @@
 -- What can have children, and the numbers of trees that were cut off.
-use Rattle.std.proofs.Common.{◌≡◌, ℕ, suc, ◌+◌, ◌==◌, Bool, true, false, not, cond, ◌&&◌, ◌||◌, List, [], ◌∷◌, ◌++◌, length, nat_lt, Option, Some, None, refl, sym, ap, ◌∙◌, subst, inl, inr, arith}
-use Rattle.std.specs.Prelude.{⊤, ◌⊎◌, ◌≤◌, ◌<◌, nat_le, if◌then◌else◌}
-use Rattle.std.specs.List.{list_any, list_all, position_or_len}
+use Rattle.std.proofs.Common.{◌≡◌, ℕ, ◌+◌, ◌==◌, Bool, true, false, cond, ◌&&◌, ◌||◌, List, [], refl, sym, ap, ◌∙◌, inl, inr, arith}
+use Rattle.std.specs.Prelude.{◌≤◌, if◌then◌else◌}
 use Rattle.std.proofs.lemmas.Bool.{cases_Bool}
 use Rattle.std.proofs.lemmas.Bool.Decides.{nat_tests}
-use Rattle.xf_doc.specs.declared.content.Node.{Node}
 use Rattle.xf_doc.specs.declared.content.Content.{Content}
 use Rattle.xf_doc.specs.declared.content.Content.TheVariants.{Root, Element, Attribute, Text}
 use Rattle.xf_doc.specs.declared.content.Kind.{Kind}
 use Rattle.xf_doc.specs.declared.content.Kind.TheVariants as kind
-use Rattle.xf_doc.specs.Forest.{is_root, is_element, is_attribute, is_text, kind_of, kind_at, has_number, tree_of}
-use Rattle.xf_doc.specs.Visit.{visits, has, children_of}
-use Rattle.xf_doc.specs.Texts.{Keeping, with_value, is_attribute_at}
-use Rattle.xf_doc.specs.Changes.{placed, detached, standing}
-use Rattle.xf_doc.specs.Needs.{is_top, MayAttach, MayStand, in_element, in_root}
-use Rattle.xf_doc.specs.WellFormed.{IsKeeping, has_document, are_in_order}
-use Rattle.xf_doc.proofs.BackLaws.{false-true, or-false}
-use Rattle.xf_rollback.proofs.Trees.{Trees, none, tree, onto, followed, times, times-followed, onto-inj}
-use Rattle.xf_rollback.proofs.TreeShape.{Sound, is_leaf, sound-followed, node_times, times-onto}
+use Rattle.xf_doc.specs.Forest.{is_root, is_element, is_text, kind_of, has_number}
+use Rattle.xf_rollback.proofs.Trees.{Trees, none, tree, onto, followed, times}
 use Rattle.xf_rollback.proofs.TreeTexts.{times-split}
-use Rattle.xf_rollback.proofs.TreeMoved.{Moved, same, through, some, moved-some, value-root}
-use Rattle.xf_rollback.proofs.TreeBlank.{blank, blank-followed, moved-more}
-use Rattle.xf_rollback.proofs.TreeFacts.{Blind, some-blank, is_at, at-times, at-absent, some-followed, or-cases, blind-element}
-use Rattle.xf_rollback.proofs.KeepingTrees.{Stands, kept_times, KindTest, any-is, any-kind, kind-any, element-test, any-onto}
-use Rattle.xf_rollback.proofs.Alike.{Fresh, fresh-absent, Alike, extra-absent, later-at, later-once, later-kind}
-use Rattle.xf_rollback.proofs.TextSteps.{is-old}
-use Rattle.xf_rollback.proofs.TreeMoves.{removed, found, removed-absent, found-absent, followed-none, removed-followed, found-followed, tree-onto, detached-onto}
-use Rattle.xf_rollback.proofs.TreePlaces.{with_tree, changed, changed-absent, placed-onto}
-use Rattle.xf_rollback.proofs.MoveFacts.{moved-removed, moved-found, moved-changed, removed-times, removed-none, removed-some, changed-times}
-use Rattle.xf_rollback.proofs.MoveBlank.{NoText, no_text-of, blank-removed, blank-found, blank-times, sound-removed, sound-found, removed-found, found-found}
-use Rattle.xf_rollback.proofs.TreeTops.{tops, moved-tops, blank-tops, tops-followed, tops-onto}
-use Rattle.xf_rollback.proofs.JoinSteps.{element-moves, no-other, bare-sound, at-found}
-use Rattle.xf_rollback.proofs.TreeOrder.{ordered-onto}
-use Rattle.xf_rollback.proofs.TreeRanks.{childs, children-are, Under, under-times, under-parent, changed-again}
-use Rattle.xf_rollback.proofs.CutFacts.{Never, never-of, sound-changed, sound-found-inside}
-use Rattle.xf_rollback.proofs.CutCounts.{blank-changed, changed-followed, kids, childs-length, moved-kids, kids-followed, kids-absent, kids-blank}
-use Rattle.xf_rollback.proofs.CutStands.{Stood, stood, under-bears, element-or-root, Place, place-of, root-kids}
+use Rattle.xf_rollback.proofs.TreeShape.{is_leaf}
+use Rattle.xf_rollback.proofs.TreeMoved.{some, value-root}
+use Rattle.xf_rollback.proofs.TreeFacts.{Blind, blind-element}
+use Rattle.xf_rollback.proofs.KeepingTrees.{KindTest, element-test, any-onto}
+use Rattle.xf_rollback.proofs.TreeMoves.{found}
+use Rattle.xf_rollback.proofs.TreeTops.{tops, tops-followed}
 
 -- ---- what can have children
 

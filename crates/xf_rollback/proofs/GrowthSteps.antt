@@ -1,5 +1,5 @@
 -- New trees that came in, and what is left when they are dropped.
-use Rattle.std.proofs.Common.{◌≡◌, ℕ, suc, ◌+◌, ◌==◌, Bool, true, false, not, cond, ◌&&◌, ◌||◌, List, [], ◌∷◌, ◌++◌, length, nat_lt, refl, sym, ap, ◌∙◌, subst, inl, inr, arith}
+use Rattle.std.proofs.Common.{◌≡◌, ℕ, suc, ◌+◌, ◌==◌, Bool, true, false, not, cond, ◌||◌, List, [], ◌∷◌, ◌++◌, length, nat_lt, refl, sym, ap, ◌∙◌, subst, inl, inr, arith}
 use Rattle.std.specs.Prelude.{⊤, ◌≤◌, ◌<◌, nat_le, filter, if◌then◌else◌}
 use Rattle.std.specs.List.{list_any, list_all}
 use Rattle.std.proofs.lemmas.Bool.{cases_Bool}
@@ -9,19 +9,20 @@ use Rattle.xf_doc.specs.declared.content.Content.{Content}
 use Rattle.xf_doc.specs.Forest.{is_root}
 use Rattle.xf_doc.specs.Visit.{Visit, visits}
 use Rattle.xf_doc.specs.Plant.{numbered_from}
-use Rattle.xf_doc.specs.Changes.{in_detached, is_detached_top}
-use Rattle.xf_doc.specs.Texts.{Keeping, without_from}
-use Rattle.xf_doc.specs.Needs.{MayDropFrom, goes_or_stays, is_new}
-use Rattle.xf_doc.specs.WellFormed.{IsForest, IsKeeping}
+use Rattle.xf_doc.specs.Changes.{in_detached}
+use Rattle.xf_doc.specs.Texts.{Keeping}
+use Rattle.xf_doc.specs.Needs.{goes_or_stays, is_new}
+use Rattle.xf_doc.specs.WellFormed.{AreTrees, reach, are_depths_from, are_depths, are_tops}
 use Rattle.xf_doc.specs.Undo.{kept_at}
-use Rattle.xf_doc.proofs.BackLaws.{or-false, and-true, false-true}
-use Rattle.xf_rollback.specs.Made.{IsGrowth, with_growth}
+use Rattle.xf_doc.proofs.BackLaws.{or-false, and-true}
+use Rattle.xf_rollback.specs.Made.{begins_at_top, IsGrowth, with_growth}
 use Rattle.xf_rollback.proofs.Trees.{Trees, none, tree, onto, followed, times, reading, onto-inj, onto-append, onto-followed}
 use Rattle.xf_rollback.proofs.TreeVisits.{seen, visits-seen}
-use Rattle.xf_rollback.proofs.TreeShape.{Sound, sound-forest, sound-followed}
+use Rattle.xf_rollback.proofs.TreeShape.{Sound, sound-trees, sound-followed}
 use Rattle.xf_rollback.proofs.TreeMoved.{Moved, same, swap, under, through}
 use Rattle.xf_rollback.proofs.TreeBlank.{blank, blank-nothing}
-use Rattle.xf_rollback.proofs.KeepingTrees.{Stands, stands, kept_times}
+use Rattle.xf_rollback.proofs.KeepingTrees.{Stands, stands}
+use Rattle.xf_rollback.proofs.TreeMoves.{followed-again}
 use Rattle.xf_rollback.proofs.Alike.{Fresh, fresh-less, fresh-followed, Alike, Back}
 
 -- ---- trees that came in
@@ -43,31 +44,63 @@ new-onto number d (tree n c k r) ys h =
     let two = new-onto number d r ys one.1 in
     ((h.0, h.1, one.0, two.0), two.1)
 
-followed-again : (a b c : Trees) → followed (followed a b) c ≡ followed a (followed b c)
-followed-again none b c = refl
-followed-again (tree n x k r) b c = ap (tree n x k) (followed-again r b c)
+-- a later part of the list
+depths-append : (most : ℕ) (xs ys : List Node) → are_depths_from most (xs ++ ys) ≡ true → (later : ℕ) × (are_depths_from later ys ≡ true)
+depths-append most [] ys h = (most, h)
+depths-append most (x ∷ xs) ys h = depths-append (reach x) xs ys (and-true (nat_le x.depth most) (are_depths_from (reach x) (xs ++ ys)) h).1
 
-pub growth-alike : (contents : List (ℕ × Content)) (k : Keeping) → IsGrowth k.forest.next contents → (s : Stands k) (t : Trees) → (with_growth contents k).forest.nodes ≡ onto 0 t []
+tops-append : (xs ys : List Node) → are_tops (xs ++ ys) ≡ true → are_tops ys ≡ true
+tops-append [] ys h = h
+tops-append (x ∷ xs) ys h = tops-append xs ys (and-true (not (is_root x.content) || (x.depth == 0)) (are_tops (xs ++ ys)) h).1
+
+-- what begins at a top is that of trees alone
+depths-alone : (most next : ℕ) (contents : List (ℕ × Content)) → begins_at_top contents ≡ true → are_depths_from most (numbered_from next contents) ≡ true → are_depths (numbered_from next contents) ≡ true
+depths-alone most next [] top h = refl
+depths-alone most next (c ∷ cs) top h =
+    let x : Node = record { number = next; depth = c.0; content = c.1 } in
+    let parts = and-true (nat_le c.0 most) (are_depths_from (reach x) (numbered_from (suc next) cs)) h in
+    let low : nat_le c.0 0 ≡ true = grind (arith, nat_tests, top) in
+    rw low parts.1
+
+-- the trees that came in stand behind the others
+pub record NewTrees (k : Keeping) (s t : Trees) : Type 0 where
+  pub new : Trees
+  pub is : t ≡ followed s new
+  pub fresh : Fresh k.forest.next new
+  pub sound : Sound false new
+
+pub new-trees : (contents : List (ℕ × Content)) (k : Keeping) → IsGrowth contents → AreTrees (with_growth contents k) → (s : Stands k) (t : Trees) → (with_growth contents k).forest.nodes ≡ onto 0 t []
+    → NewTrees k s.trees t
+new-trees contents k growth after s t nodes =
+    let list = numbered_from k.forest.next contents in
+    let part = depths-append 0 k.forest.nodes list after.depths in
+    let depths : are_depths list ≡ true = depths-alone part.0 k.forest.next contents growth.top part.1 in
+    let e = reading list depths in
+    let whole : k.forest.nodes ++ list ≡ onto 0 (followed s.trees e.trees) []
+    = ap (λ l. l ++ list) s.nodes ∙ onto-append 0 s.trees [] list ∙ ap (onto 0 s.trees) e.whole ∙ sym (onto-followed 0 s.trees e.trees []) in
+    record {
+      new = e.trees;
+      is = (onto-inj 0 t (followed s.trees e.trees) [] [] tt tt (sym nodes ∙ whole)).0;
+      fresh = (new-onto k.forest.next 0 e.trees [] (subst (AreNew k.forest.next) e.whole (numbered-new k.forest.next k.forest.next contents (omega arith) growth.rootless))).0;
+      sound = sound-trees e.trees (subst (λ l. are_depths l ≡ true) e.whole depths) (subst (λ l. are_tops l ≡ true) e.whole (tops-append k.forest.nodes list after.tops));
+    }
+
+pub growth-alike : (contents : List (ℕ × Content)) (k : Keeping) → IsGrowth contents → AreTrees (with_growth contents k) → (s : Stands k) (t : Trees) → (with_growth contents k).forest.nodes ≡ onto 0 t []
     → (ns : List ℕ) (k2 : Keeping) → Alike ns t (with_growth contents k) k2 → Alike ns s.trees k k2
-growth-alike contents k growth s t nodes ns k2 a =
-    let new = numbered_from k.forest.next contents in
-    let e = reading new growth.forest.depths in
-    let fresh = (new-onto k.forest.next 0 e.trees [] (subst (AreNew k.forest.next) e.whole (numbered-new k.forest.next k.forest.next contents (omega arith) growth.rootless))).0 in
-    let sound = sound-forest e.trees (k.forest.next + length contents) (subst (λ l. IsForest (record { nodes = l; next = k.forest.next + length contents })) e.whole growth.forest) in
-    let whole : k.forest.nodes ++ new ≡ onto 0 (followed s.trees e.trees) []
-    = ap (λ l. l ++ new) s.nodes ∙ onto-append 0 s.trees [] new ∙ ap (onto 0 s.trees) e.whole ∙ sym (onto-followed 0 s.trees e.trees []) in
-    let is : t ≡ followed s.trees e.trees = (onto-inj 0 t (followed s.trees e.trees) [] [] tt tt (sym nodes ∙ whole)).0 in
+growth-alike contents k growth after s t nodes ns k2 a =
+    let e = new-trees contents k growth after s t nodes in
     record {
       later = a.later;
-      extra = followed e.trees a.extra;
+      extra = followed e.new a.extra;
       nodes = a.nodes;
       kept = a.kept;
       next = let h = a.next in omega (arith, h);
-      fresh = fresh-followed k.forest.next e.trees a.extra fresh (fresh-less k.forest.next (k.forest.next + length contents) a.extra (omega arith) a.fresh);
-      new_sound = sound-followed false e.trees a.extra sound a.new_sound;
+      fresh = fresh-followed k.forest.next e.new a.extra e.fresh (fresh-less k.forest.next (k.forest.next + length contents) a.extra (omega arith) a.fresh);
+      new_sound = sound-followed false e.new a.extra e.sound a.new_sound;
       sound = a.sound;
+      first = a.first;
       once = a.once;
-      like = subst (λ x. Moved (blank ns x) (blank ns a.later)) (ap (λ x. followed x a.extra) is ∙ followed-again s.trees e.trees a.extra) a.like;
+      like = subst (λ x. Moved (blank ns x) (blank ns a.later)) (ap (λ x. followed x a.extra) e.is ∙ followed-again s.trees e.new a.extra) a.like;
     }
 
 -- ---- what is left when they are dropped
@@ -76,7 +109,7 @@ abbrev Old : ℕ → Trees → Type 0
 Old number none = ⊤
 Old number (tree n c k r) = (n < number) × Old number k × Old number r
 
-abbrev AllRoots : Trees → Type 0
+abbrev pub AllRoots : Trees → Type 0
 AllRoots none = ⊤
 AllRoots (tree n c k r) = (is_root c ≡ true) × AllRoots r
 
@@ -218,7 +251,7 @@ deep-skip d (tree n c k r) ys =
 cons-no : (x : Node) (xs : List Node) → ◌≡◌ {A = List Node} (x ∷ xs) [] → ⊥
 cons-no x xs e = cc e
 
-roots-all : (t : Trees) → in_detached (onto 0 t []) ≡ [] → AllRoots t
+pub roots-all : (t : Trees) → in_detached (onto 0 t []) ≡ [] → AllRoots t
 roots-all none h = tt
 roots-all (tree n c k r) h =
     elim (cases_Bool (is_root c)) [
@@ -226,7 +259,7 @@ roots-all (tree n c k r) h =
       | inr e ↦ absurd (cons-no (record { number = n; depth = 0; content = c }) (onto 1 k (onto 0 r [])) (rw e at h))
     ]
 
-pub begun-back : (start : Keeping) → IsKeeping start → start.kept ≡ [] → in_detached start.forest.nodes ≡ [] → (t : Trees) → start.forest.nodes ≡ onto 0 t [] → (k2 : Keeping) → Alike [] t start k2 → Back start (kept_at start.forest) k2
+pub begun-back : (start : Keeping) → AreTrees start → start.kept ≡ [] → in_detached start.forest.nodes ≡ [] → (t : Trees) → start.forest.nodes ≡ onto 0 t [] → (k2 : Keeping) → Alike [] t start k2 → Back start (kept_at start.forest) k2
 begun-back start sound empty alone t nodes k2 a =
     let number = start.forest.next in
     let s = stands start sound in

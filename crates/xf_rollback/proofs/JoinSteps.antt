@@ -1,34 +1,32 @@
 -- A tree that was attached is cut off in a forest that is alike: it is alike to the forest before.
-use Rattle.std.proofs.Common.{◌≡◌, ℕ, ◌+◌, ◌==◌, Bool, true, false, not, cond, ◌&&◌, ◌||◌, List, [], ◌∷◌, ◌++◌, Option, Some, None, refl, sym, ap, ◌∙◌, subst, inl, inr, arith}
-use Rattle.std.specs.Prelude.{⊤, ◌⊎◌, ◌≤◌, ◌<◌, is_some, if◌then◌else◌}
+use Rattle.std.proofs.Common.{◌≡◌, ℕ, ◌+◌, ◌==◌, Bool, true, false, ◌&&◌, ◌||◌, List, [], ◌∷◌, Option, Some, None, refl, sym, ap, ◌∙◌, subst, inl, inr, arith}
+use Rattle.std.specs.Prelude.{◌⊎◌, ◌≤◌, ◌<◌, is_some}
 use Rattle.std.specs.List.{list_any}
 use Rattle.std.proofs.lemmas.Bool.{cases_Bool}
-use Rattle.std.proofs.lemmas.Bool.Decides.{nat_tests}
 use Rattle.xf_doc.specs.declared.content.Node.{Node}
 use Rattle.xf_doc.specs.declared.content.Content.{Content}
 use Rattle.xf_doc.specs.declared.content.Content.TheVariants.{Root, Element, Attribute, Text}
 use Rattle.xf_doc.specs.declared.content.Kind.{Kind}
 use Rattle.xf_doc.specs.declared.content.Kind.TheVariants as kind
-use Rattle.xf_doc.specs.Forest.{is_root, is_element, is_attribute, is_text, kind_at, has_number, tree_of}
+use Rattle.xf_doc.specs.Forest.{Forest, is_root, is_element, is_attribute, is_text, kind_at, has_number, tree_of}
 use Rattle.xf_doc.specs.Visit.{visits, parent_of}
 use Rattle.xf_doc.specs.Changes.{placed, detached}
 use Rattle.xf_doc.specs.Texts.{Keeping}
 use Rattle.xf_doc.specs.Needs.{is_top, MayAttach, MayDetach, MayStand, in_element, in_root, as_attribute}
-use Rattle.xf_doc.specs.WellFormed.{IsKeeping, are_roots_first}
-use Rattle.xf_doc.proofs.BackLaws.{false-true, or-false}
 use Rattle.xf_rollback.proofs.Trees.{Trees, none, tree, onto, followed, times, times-followed, onto-inj}
 use Rattle.xf_rollback.proofs.TreeShape.{Sound, sound-followed, node_times, times-onto}
-use Rattle.xf_rollback.proofs.TreeMoved.{Moved, same, through, some, moved-followed}
+use Rattle.xf_rollback.proofs.TreeMoved.{Moved, through, moved-followed}
 use Rattle.xf_rollback.proofs.TreeBlank.{blank, blank-followed, moved-blank}
 use Rattle.xf_rollback.proofs.TreeFacts.{Blind, is_at, at-times, at-absent, or-cases, some-followed, blind-element, blind-attribute}
-use Rattle.xf_rollback.proofs.KeepingTrees.{Stands, kept_times, KindTest, any-is, any-kind, kind-any, element-test, attribute-test, absent-times}
-use Rattle.xf_rollback.proofs.Alike.{Fresh, fresh-absent, Alike, extra-absent, later-at, later-once, later-kind}
+use Rattle.xf_rollback.proofs.KeepingTrees.{Stands, KindTest, any-is, kind-any, element-test, attribute-test, absent-times}
+use Rattle.xf_rollback.proofs.FirstLemmas.{ordered-removed, ordered-found, ordered-followed}
+use Rattle.xf_rollback.proofs.Alike.{Alike, extra-absent, later-at, later-once, later-kind}
 use Rattle.xf_rollback.proofs.TextSteps.{is-old}
-use Rattle.xf_rollback.proofs.TreeMoves.{removed, found, removed-absent, found-absent, followed-none, followed-again, removed-followed, found-followed, tree-onto, detached-onto}
+use Rattle.xf_rollback.proofs.TreeMoves.{removed, found, removed-followed, found-followed, tree-onto, detached-onto}
 use Rattle.xf_rollback.proofs.TreePlaces.{with_tree, changed, AllBare, placed-onto}
 use Rattle.xf_rollback.proofs.MoveFacts.{moved-removed, moved-found, removed-times, removed-none, removed-some}
-use Rattle.xf_rollback.proofs.MoveBlank.{NoText, no_text-of, blank-removed, blank-found, blank-times, sound-removed, sound-found, removed-changed, removed-found, found-found, found-changed}
-use Rattle.xf_rollback.proofs.TreeTops.{tops, moved-tops, blank-tops, changed-tops, absent-tops, tops-followed, tops-onto, TopAt, top-at, top-followed, top-last, fresh-no_roots, has-parent}
+use Rattle.xf_rollback.proofs.MoveBlank.{no_text-of, blank-removed, blank-found, blank-times, sound-removed, sound-found, removed-changed, removed-found, found-found, found-changed}
+use Rattle.xf_rollback.proofs.TreeTops.{RootsFirst, tops, moved-tops, blank-tops, changed-tops, absent-tops, tops-followed, tops-onto, TopAt, top-at, top-followed, top-last, fresh-no_roots, has-parent}
 
 -- ---- kinds
 
@@ -115,22 +113,72 @@ at-found q n t = ap (λ b. b || is_at q n (found n t)) (sym (at-absent q n (remo
 number-absent : (p d : ℕ) (t : Trees) → has_number p (onto d t []) ≡ false → times p t ≡ 0
 number-absent p d t h = let a = absent-times p (onto d t []) h in let b = times-onto p d t [] in omega (arith, a, b)
 
--- ---- the step
+-- a node that goes below another: the kinds of both
+pub record Joins (n parent : ℕ) (nodes : List Node) : Type 0 where
+  pub own : Kind
+  pub test : Content → Bool
+  pub moves : Moves own test
+  pub is : kind_at n nodes ≡ Some own
+  pub above : Kind
+  pub has_parent : kind_at parent nodes ≡ Some above
+  pub either : (later : List Node) → kind_at n later ≡ Some own → (kind_at n later ≡ Some kind.Element) ⊎ (kind_at n later ≡ Some kind.Attribute)
 
-module _ (n parent place : ℕ) (k : Keeping) (sound : IsKeeping k) (may : MayAttach n parent place k.forest) (s : Stands k)
-    (kn : Kind) (q : Content → Bool) (moves : Moves kn q) (is : kind_at n k.forest.nodes ≡ Some kn) (kp : Kind) (above : kind_at parent k.forest.nodes ≡ Some kp) where
-  join-at : is_at q n s.trees ≡ true
-  join-at = sym (any-is q n s.trees) ∙ ap (list_any (λ (x : Node). (x.number == n) && q x.content)) (sym s.nodes) ∙ kind-any kn q moves.test n k.forest.nodes is
+pub joins : (n parent place : ℕ) (forest : Forest) → MayStand n parent place forest → Joins n parent forest.nodes
+joins n parent place forest (in_element is above le) =
+    record { own = kind.Element; test = is_element; moves = element-moves; is = is; above = kind.Element; has_parent = above; either = λ later e. inl e }
+joins n parent place forest (in_root is above none_ first) =
+    record { own = kind.Element; test = is_element; moves = element-moves; is = is; above = kind.Root; has_parent = above; either = λ later e. inl e }
+joins n parent place forest (as_attribute is above lacks) =
+    record { own = kind.Attribute; test = is_attribute; moves = attribute-moves; is = is; above = kind.Element; has_parent = above; either = λ later e. inr e }
+
+-- a node of a kind that moves stands once in the trees
+module _ (n : ℕ) (k : Keeping) (s : Stands k) (kn : Kind) (q : Content → Bool) (moves : Moves kn q) (is : kind_at n k.forest.nodes ≡ Some kn) where
+  pub moves-at : is_at q n s.trees ≡ true
+  moves-at = sym (any-is q n s.trees) ∙ ap (list_any (λ (x : Node). (x.number == n) && q x.content)) (sym s.nodes) ∙ kind-any kn q moves.test n k.forest.nodes is
+
+  pub moves-once : times n s.trees ≡ 1
+  moves-once = let a = at-times q n s.trees moves-at in let b = s.once n in omega (arith, a, b)
+
+  pub moves-old : n < k.forest.next
+  moves-old = is-old n k s (at-times q n s.trees moves-at)
+
+  pub moves-no_root : is_at is_root n s.trees ≡ false
+  moves-no_root = no-other is_root q moves.no_root n s.trees (let b = s.once n in omega (arith, b)) moves-at
+
+-- so does one that may be cut off
+module _ (n : ℕ) (k : Keeping) (s : Stands k) (may : MayDetach n k.forest) where
+  pub detach-once : times n s.trees ≡ 1
+  detach-once = by may.kind
+    where
+      by : (kind_at n k.forest.nodes ≡ Some kind.Element) ⊎ (kind_at n k.forest.nodes ≡ Some kind.Attribute) → times n s.trees ≡ 1
+      by (inl is) = moves-once n k s kind.Element is_element element-moves is
+      by (inr is) = moves-once n k s kind.Attribute is_attribute attribute-moves is
+
+  pub detach-old : n < k.forest.next
+  detach-old = is-old n k s (let h = detach-once in omega (arith, h))
+
+  pub detach-no_root : is_at is_root n s.trees ≡ false
+  detach-no_root = by may.kind
+    where
+      by : (kind_at n k.forest.nodes ≡ Some kind.Element) ⊎ (kind_at n k.forest.nodes ≡ Some kind.Attribute) → is_at is_root n s.trees ≡ false
+      by (inl is) = moves-no_root n k s kind.Element is_element element-moves is
+      by (inr is) = moves-no_root n k s kind.Attribute is_attribute attribute-moves is
+
+-- ---- the step, at the place where the tree came
+
+module _ (n parent given place : ℕ) (k : Keeping) (may : MayAttach n parent given k.forest) (s : Stands k) (j : Joins n parent k.forest.nodes) where
+  join-at : is_at j.test n s.trees ≡ true
+  join-at = moves-at n k s j.own j.test j.moves j.is
 
   pub join-once : times n s.trees ≡ 1
-  join-once = let a = at-times q n s.trees join-at in let b = s.once n in omega (arith, a, b)
+  join-once = moves-once n k s j.own j.test j.moves j.is
 
   join-old : n < k.forest.next
-  join-old = is-old n k s (at-times q n s.trees join-at)
+  join-old = moves-old n k s j.own j.test j.moves j.is
 
   parent-live : 1 ≤ times parent s.trees
   parent-live =
-      let a : 1 ≤ node_times parent (onto 0 s.trees []) = subst (λ l. 1 ≤ node_times parent l) s.nodes (kind-times kp parent k.forest.nodes above) in
+      let a : 1 ≤ node_times parent (onto 0 s.trees []) = subst (λ l. 1 ≤ node_times parent l) s.nodes (kind-times j.above parent k.forest.nodes j.has_parent) in
       let b = times-onto parent 0 s.trees [] in omega (arith, a, b)
 
   parent-outside : times parent (found n s.trees) ≡ 0
@@ -144,12 +192,11 @@ module _ (n parent place : ℕ) (k : Keeping) (sound : IsKeeping k) (may : MayAt
   pub joined-nodes : (placed n parent place k.forest).nodes ≡ onto 0 (changed parent (with_tree place (found n s.trees)) (removed n s.trees)) []
   joined-nodes = placed-onto n parent place s.trees k.forest s.nodes join-once parent-there (bare-sound false (removed n s.trees) (sound-removed n false s.trees s.sound))
 
-  was-top : TopAt n s.trees
-  was-top = top-at n false s.trees (subst (λ l. are_roots_first false l ≡ true) s.nodes sound.forest.roots) (sym (tops-onto n s.trees) ∙ ap (is_top n) (sym s.nodes) ∙ may.detached)
-      (no-other is_root q moves.no_root n s.trees (let b = s.once n in omega (arith, b)) join-at)
-
-  module _ (t : Trees) (nodes : (placed n parent place k.forest).nodes ≡ onto 0 t []) (sound_after : Sound false t) (once_after : times n t ≤ 1) (ns : List ℕ)
+  module _ (rooted : RootsFirst s.trees) (t : Trees) (nodes : (placed n parent place k.forest).nodes ≡ onto 0 t []) (sound_after : Sound false t) (once_after : times n t ≤ 1) (ns : List ℕ)
       (k2 : Keeping) (a : Alike ns t (record k { forest = placed n parent place k.forest }) k2) where
+    was-top : TopAt n s.trees
+    was-top = top-at n s.trees rooted (sym (tops-onto n s.trees) ∙ ap (is_top n) (sym s.nodes) ∙ may.detached) (moves-no_root n k s j.own j.test j.moves j.is)
+
     abbrev joint : Keeping
     joint = record k { forest = placed n parent place k.forest }
 
@@ -162,14 +209,14 @@ module _ (n parent place : ℕ) (k : Keeping) (sound : IsKeeping k) (may : MayAt
     joined-tree : found n t ≡ found n s.trees
     joined-tree = ap (found n) joined-is ∙ found-changed n parent place (found n s.trees) (removed n s.trees) (found-found n s.trees) (removed-none n s.trees) parent-there
 
-    joined-at : is_at q n t ≡ true
-    joined-at = sym (at-found q n t) ∙ ap (is_at q n) joined-tree ∙ at-found q n s.trees ∙ join-at
+    joined-at : is_at j.test n t ≡ true
+    joined-at = sym (at-found j.test n t) ∙ ap (is_at j.test n) joined-tree ∙ at-found j.test n s.trees ∙ join-at
 
-    joined-later : is_at q n a.later ≡ true
-    joined-later = later-at n ns t joint k2 sound_after a join-old q (moves.blind n) ∙ joined-at
+    joined-later : is_at j.test n a.later ≡ true
+    joined-later = later-at n ns t joint k2 sound_after a join-old j.test (j.moves.blind n) ∙ joined-at
 
     joined-once : times n a.later ≡ 1
-    joined-once = let x = at-times q n a.later joined-later in let y = later-once n ns t joint k2 sound_after a join-old in omega (arith, x, y)
+    joined-once = let x = at-times j.test n a.later joined-later in let y = later-once n ns t joint k2 sound_after a join-old in omega (arith, x, y)
 
     joined-absent : times n a.extra ≡ 0
     joined-absent = extra-absent n ns t joint k2 sound_after a join-old
@@ -183,8 +230,8 @@ module _ (n parent place : ℕ) (k : Keeping) (sound : IsKeeping k) (may : MayAt
     pub joined-below : is_some (parent_of n (visits k2.forest.nodes)) ≡ true
     joined-below = subst (λ l. is_some (parent_of n (visits l)) ≡ true) (sym a.nodes) (has-parent n a.later joined-top (let x = joined-once in omega (arith, x)))
 
-    pub joined-kind : kind_at n k2.forest.nodes ≡ Some kn
-    joined-kind = later-kind n ns t joint k2 sound_after a join-old kn q moves.test (moves.blind n) joined-at
+    pub joined-kind : kind_at n k2.forest.nodes ≡ Some j.own
+    joined-kind = later-kind n ns t joint k2 sound_after a join-old j.own j.test j.moves.test (j.moves.blind n) joined-at
 
     abbrev whole : Trees
     whole = followed t a.extra
@@ -195,8 +242,8 @@ module _ (n parent place : ℕ) (k : Keeping) (sound : IsKeeping k) (may : MayAt
     whole-sound : Sound false whole
     whole-sound = sound-followed false t a.extra sound_after a.new_sound
 
-    whole-at : is_at q n whole ≡ true
-    whole-at = some-followed (λ m c. (m == n) && q c) t a.extra ∙ ap (λ b. b || is_at q n a.extra) joined-at
+    whole-at : is_at j.test n whole ≡ true
+    whole-at = some-followed (λ m c. (m == n) && j.test c) t a.extra ∙ ap (λ b. b || is_at j.test n a.extra) joined-at
 
     -- in the forest before, the tree put last
     before-last : followed (removed n whole) (found n whole) ≡ followed (removed n (followed s.trees a.extra)) (found n (followed s.trees a.extra))
@@ -212,8 +259,8 @@ module _ (n parent place : ℕ) (k : Keeping) (sound : IsKeeping k) (may : MayAt
     -- what cutting off leaves of both
     cut-alike : Moved (blank ns (followed (removed n whole) (found n whole))) (blank ns (followed (removed n a.later) (found n a.later)))
     cut-alike =
-        let one = no_text-of q moves.no_text n whole whole-once whole-at in
-        let two = no_text-of q moves.no_text n a.later (let x = joined-once in omega (arith, x)) joined-later in
+        let one = no_text-of j.test j.moves.no_text n whole whole-once whole-at in
+        let two = no_text-of j.test j.moves.no_text n a.later (let x = joined-once in omega (arith, x)) joined-later in
         let left : blank ns (followed (removed n whole) (found n whole)) ≡ followed (removed n (blank ns whole)) (found n (blank ns whole))
         = blank-followed ns (removed n whole) (found n whole) ∙ ap (λ x. followed x (blank ns (found n whole))) (blank-removed n ns whole) ∙ ap (followed (removed n (blank ns whole))) (blank-found n ns false whole whole-sound one) in
         let right : blank ns (followed (removed n a.later) (found n a.later)) ≡ followed (removed n (blank ns a.later)) (found n (blank ns a.later))
@@ -233,6 +280,7 @@ module _ (n parent place : ℕ) (k : Keeping) (sound : IsKeeping k) (may : MayAt
       fresh = a.fresh;
       new_sound = a.new_sound;
       sound = sound-followed false (removed n a.later) (found n a.later) (sound-removed n false a.later a.sound) (sound-found n false a.later a.sound);
+      first = ordered-followed (removed n a.later) (found n a.later) (ordered-removed n a.later a.first) (ordered-found n a.later a.first);
       once = λ p. let x = removed-times p n a.later in let y = times-followed p (removed n a.later) (found n a.later) in let z = a.once p in omega (arith, x, y, z);
       like = through (moved-blank ns moved-back) cut-alike;
     }

@@ -1,7 +1,7 @@
 -- The trees of a forest with kept texts: what they have of its lists.
-use Rattle.std.proofs.Common.{◌≡◌, ℕ, zero, suc, ◌+◌, ◌==◌, Bool, true, false, not, cond, ◌&&◌, ◌||◌, List, [], ◌∷◌, ◌++◌, map, nat_lt, Option, Some, None, refl, sym, ap, ◌∙◌, subst, inl, inr, arith}
-use Rattle.std.specs.Prelude.{⊤, ◌≤◌, ◌<◌, filter, if◌then◌else◌}
-use Rattle.std.specs.List.{list_any, list_all}
+use Rattle.std.proofs.Common.{◌≡◌, ℕ, suc, ◌+◌, ◌==◌, Bool, true, false, not, cond, ◌&&◌, ◌||◌, List, [], ◌∷◌, nat_lt, Option, Some, None, refl, sym, ap, ◌∙◌, subst, inl, inr, arith}
+use Rattle.std.specs.Prelude.{◌≤◌, filter, if◌then◌else◌}
+use Rattle.std.specs.List.{list_any}
 use Rattle.std.proofs.lemmas.Bool.{cases_Bool}
 use Rattle.std.proofs.lemmas.Bool.Decides.{nat_tests}
 use Rattle.xf_doc.specs.declared.content.Node.{Node}
@@ -9,13 +9,13 @@ use Rattle.xf_doc.specs.declared.content.Content.{Content}
 use Rattle.xf_doc.specs.declared.content.Content.TheVariants.{Root, Element, Attribute, Text}
 use Rattle.xf_doc.specs.declared.content.Kind.{Kind}
 use Rattle.xf_doc.specs.declared.content.Kind.TheVariants as kind
-use Rattle.xf_doc.specs.Forest.{Forest, is_root, is_element, is_attribute, is_text, kind_of, kind_at, has_number}
+use Rattle.xf_doc.specs.Forest.{is_element, is_attribute, kind_of, kind_at, has_number}
 use Rattle.xf_doc.specs.Texts.{Keeping, KeptText, is_of, back, without}
-use Rattle.xf_doc.specs.WellFormed.{IsForest, IsKeeping, are_apart, are_below, are_kept_apart}
+use Rattle.xf_doc.specs.WellFormed.{AreTrees, are_apart, are_below, are_depths, are_tops, are_kept_apart}
 use Rattle.xf_doc.proofs.BackLaws.{and-true, or-false, not-true, false-true, one_number}
-use Rattle.xf_rollback.proofs.Trees.{Trees, none, tree, onto, times, Reads, reading}
+use Rattle.xf_rollback.proofs.Trees.{Trees, none, tree, onto, times, reading}
 use Rattle.xf_rollback.proofs.TreeTexts.{lone}
-use Rattle.xf_rollback.proofs.TreeShape.{Sound, sound-forest, node_times, times-onto}
+use Rattle.xf_rollback.proofs.TreeShape.{Sound, sound-trees, node_times, times-onto}
 use Rattle.xf_rollback.proofs.TreeMoved.{some}
 use Rattle.xf_rollback.proofs.TreeBlank.{AreTexts}
 use Rattle.xf_rollback.proofs.TreeFacts.{is_at}
@@ -161,12 +161,12 @@ kept-outside n nodes (t ∷ ts) live h =
       | inr e ↦ rw e (omega (arith, rest))
     ]
 
-keeping-once : (n : ℕ) (k : Keeping) → IsKeeping k → node_times n k.forest.nodes + kept_times n k.kept ≤ 1
+keeping-once : (n : ℕ) (k : Keeping) → AreTrees k → node_times n k.forest.nodes + kept_times n k.kept ≤ 1
 keeping-once n k sound =
-    let a = apart-once n k.forest.nodes sound.forest.apart in
-    let b = kept-once n k.kept sound.apart in
+    let a = apart-once n k.forest.nodes sound.apart in
+    let b = kept-once n k.kept sound.kept_apart in
     elim (cases_Bool (has_number n k.forest.nodes)) [
-      | inl e ↦ let c = kept-outside n k.forest.nodes k.kept e sound.outside in omega (arith, a, c)
+      | inl e ↦ let c = kept-outside n k.forest.nodes k.kept e sound.kept_outside in omega (arith, a, c)
       | inr e ↦ let c = absent-times n k.forest.nodes e in omega (arith, b, c)
     ]
 
@@ -188,16 +188,16 @@ pub record Stands (k : Keeping) : Type 0 where
   pub once : (n : ℕ) → times n trees + kept_times n k.kept ≤ 1
   pub old : (n : ℕ) → k.forest.next ≤ n → times n trees ≡ 0
 
-pub stands : (k : Keeping) → IsKeeping k → Stands k
+pub stands : (k : Keeping) → AreTrees k → Stands k
 stands k sound =
-    let r = reading k.forest.nodes sound.forest.depths in
+    let r = reading k.forest.nodes sound.depths in
     let count : (n : ℕ) → node_times n k.forest.nodes ≡ times n r.trees = λ n. ap (node_times n) r.whole ∙ times-onto n 0 r.trees [] ∙ plain (times n r.trees) in
     record {
       trees = r.trees;
       nodes = r.whole;
-      sound = sound-forest r.trees k.forest.next (subst (λ l. IsForest (record { nodes = l; next = k.forest.next })) r.whole sound.forest);
+      sound = sound-trees r.trees (subst (λ l. are_depths l ≡ true) r.whole sound.depths) (subst (λ l. are_tops l ≡ true) r.whole sound.tops);
       once = λ n. subst (λ i. i + kept_times n k.kept ≤ 1) (count n) (keeping-once n k sound);
-      old = λ n h. sym (count n) ∙ below-old n k.forest.next k.forest.nodes h sound.forest.below;
+      old = λ n h. sym (count n) ∙ below-old n k.forest.next k.forest.nodes h sound.below;
     }
   where
     plain : (a : ℕ) → a + 0 ≡ a

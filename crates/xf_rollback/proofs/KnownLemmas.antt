@@ -1,54 +1,40 @@
 -- The nodes whose texts do not count, since what they had first is noted.
-use Rattle.std.proofs.Common.{◌≡◌, ℕ, ◌+◌, ◌==◌, Bool, true, false, not, cond, ◌&&◌, ◌||◌, List, [], ◌∷◌, length, refl, sym, ap, ◌∙◌, subst, inl, inr, arith}
-use Rattle.std.specs.Prelude.{⊤, ◌⊎◌, ◌≤◌, ◌<◌, Option, Some, None, Result, Ok, Err, if◌then◌else◌}
-use Rattle.std.specs.List.{list_all}
+use Rattle.std.proofs.Common.{◌≡◌, ℕ, ◌==◌, Bool, true, false, not, cond, ◌&&◌, ◌||◌, List, [], ◌∷◌, refl, sym, ap, ◌∙◌, subst, inl, inr, arith}
+use Rattle.std.specs.Prelude.{◌<◌, Ok, if◌then◌else◌}
 use Rattle.std.proofs.lemmas.Bool.{cases_Bool}
 use Rattle.std.proofs.lemmas.Bool.Decides.{nat_tests}
-use Rattle.xf_doc.specs.declared.fault.TreeFault.{TreeFault}
-use Rattle.xf_doc.specs.declared.content.Content.{Content}
-use Rattle.xf_doc.specs.declared.content.Kind.{Kind}
-use Rattle.xf_doc.specs.declared.content.Kind.TheVariants as kind
-use Rattle.xf_doc.specs.Visit.{has, numbers, visits, children_of}
-use Rattle.xf_doc.specs.Forest.{is_root, is_element, is_attribute, kind_at, tree_of}
-use Rattle.xf_doc.specs.Changes.{placed, detached, standing}
-use Rattle.xf_doc.specs.Limits.{Limits, unless}
-use Rattle.xf_doc.specs.Texts.{Keeping, Before, element_texts, attribute_text, texts_in, value_in, is_attribute_at, before_of, with_text, given_up, put_back, text_set}
-use Rattle.xf_doc.specs.Needs.{IsSettable, MayAttach, MayStand, in_element, in_root, as_attribute}
-use Rattle.xf_doc.specs.WellFormed.{IsKeeping, has_document}
-use Rattle.xf_doc.specs.Undo.{Change, of_text, Entry, Ledger, with_note, with_set, is_known, text_filled, rolled_back}
+use Rattle.xf_doc.specs.Forest.{Forest, content_at}
+use Rattle.xf_doc.specs.Visit.{has, visits, children_of}
+use Rattle.xf_doc.specs.Changes.{placed, place_of, attached, detached}
+use Rattle.xf_doc.specs.Limits.{Limits}
+use Rattle.xf_doc.specs.Texts.{Keeping, Before, is_attribute_at, with_text, given_up, text_set}
+use Rattle.xf_doc.specs.Needs.{IsSettable, MayAttach, MayDetach}
+use Rattle.xf_doc.specs.WellFormed.{AreTrees}
+use Rattle.xf_doc.specs.Undo.{Entry, Ledger, with_set, is_known}
 use Rattle.xf_doc.specs.Undo as undo
-use Rattle.xf_doc.proofs.BackLaws.{after_set, false-true}
-use Rattle.xf_rollback.specs.Made.{Made, begun, noted, texts, joined, cut, grown, CutsElements}
-use Rattle.xf_rollback.specs.Back.{CanRollBack}
-use Rattle.xf_rollback.proofs.Trees.{Trees, none, tree, onto, followed, times}
-use Rattle.xf_rollback.proofs.TreeShape.{Sound}
-use Rattle.xf_rollback.proofs.TreeMoved.{Moved, same}
-use Rattle.xf_rollback.proofs.TreeBlank.{blank}
-use Rattle.xf_rollback.proofs.TreeFacts.{is_at, or-cases}
-use Rattle.xf_rollback.proofs.KeepingTrees.{Stands, stands, kept_times}
-use Rattle.xf_rollback.proofs.Alike.{Alike, Back}
-use Rattle.xf_rollback.proofs.TextSteps.{element-known, element-may, element-alike}
-use Rattle.xf_rollback.proofs.ValueSteps.{attribute-known, attribute-may, attribute-alike}
-use Rattle.xf_rollback.proofs.JoinSteps.{Moves, element-moves, attribute-moves, joined-below, joined-kind, joined-alike}
-use Rattle.xf_rollback.proofs.BearLemmas.{Bears, element-bears, root-bears}
-use Rattle.xf_rollback.proofs.CutSteps.{cut-old, cut-no_attribute, cut-kind, cut-stood, later-children, place-fits, cut-parent-kind, cut-may, cut-element, cut-alike}
-use Rattle.xf_rollback.proofs.CutStands.{root-kids}
+use Rattle.xf_doc.proofs.BackLaws.{false-true}
+use Rattle.xf_rollback.specs.Made.{Made, begun, noted, texts, joined, cut, grown}
+use Rattle.xf_rollback.proofs.TreeFacts.{or-cases}
+use Rattle.xf_rollback.proofs.KeepingTrees.{stands}
+use Rattle.xf_rollback.proofs.JoinSteps.{detach-old}
 use Rattle.xf_rollback.proofs.AttributeSteps.{text-stay, join-stay, cut-stay, growth-stay}
-use Rattle.xf_rollback.proofs.TreeMoves.{followed-none}
-use Rattle.xf_rollback.proofs.GrowthSteps.{growth-alike, begun-back}
-use Rattle.xf_rollback.proofs.StepCases.{unless-ok}
+use Rattle.xf_rollback.proofs.Outcomes.{attached-placed, filled-forest}
 
 abbrev pub without_number : ℕ → List ℕ → List ℕ
 without_number n [] = []
 without_number n (m ∷ ms) = if n == m then without_number n ms else m ∷ without_number n ms
 
+-- a node from which a child was cut off is known no more; an attribute is no child
+abbrev pub cut_known : Bool → ℕ → List ℕ → List ℕ
+cut_known attribute parent ns = if attribute then ns else without_number parent ns
+
 abbrev pub known : {start : Keeping} {l : Ledger} {k : Keeping} → Made start l k → List ℕ
 known (begun sound empty alone) = []
 known (noted change m) = known m
 known (texts limits n text before later m sound able e) = n ∷ known m
-known (joined n parent place m sound may) = known m
-known (cut n parent place m sound may stood) = without_number parent (known m)
-known (grown contents m sound growth) = known m
+known (joined limits n parent place after m sound may e) = known m
+known (cut {k = k} n parent place m sound may stood) = cut_known (is_attribute_at n k.forest.nodes) parent (known m)
+known (grown contents m sound growth after) = known m
 
 turned : (m n : ℕ) → (m == n) ≡ (n == m)
 turned m n = grind (arith, nat_tests)
@@ -105,49 +91,55 @@ Stay k k2 = (m : ℕ) → m < k.forest.next → is_attribute_at m k2.forest.node
 next-more : (k : Keeping) (n : ℕ) (text : List ℕ) (m : ℕ) → m < k.forest.next → m < (with_text n text k.forest).next
 next-more k n text m h = omega (arith, h)
 
-set-forest : (n : ℕ) (before : Before) (es : List Entry) (next : ℕ) (k : Keeping) → (with_set n before es next k).1.forest ≡ k.forest
-set-forest n before es next k = by (is_known n k es)
-  where
-    given : (before : Before) → (given_up before k).forest ≡ k.forest
-    given (attribute_text text) = refl
-    given (element_texts ns) = refl
-
-    by : (b : Bool) → (cond {A = Ledger × Keeping} b (record { entries = es; next = next }, given_up before k) (record { entries = undo.set n before ∷ es; next = next }, k)).1.forest ≡ k.forest
-    by true = given before
-    by false = refl
-
-set-after : (limits : Limits) (n : ℕ) (text : List ℕ) (k : Keeping) (before : Before) (later : Keeping) → text_set limits n text k ≡ Ok (before, later) → later.forest ≡ with_text n text k.forest
-set-after limits n text k before later e = sym (ap (λ w. w.1.forest) (unless-ok {X = Before × Keeping} _ (before_of n k.forest.nodes, after_set n text k) (before, later) e))
-
-stay-text : (limits : Limits) (n : ℕ) (text : List ℕ) (k : Keeping) (before : Before) (later : Keeping) (es : List Entry) (next : ℕ) (k2 : Keeping) → IsKeeping k → IsSettable n k.forest → text_set limits n text k ≡ Ok (before, later)
+stay-text : (limits : Limits) (n : ℕ) (text : List ℕ) (k : Keeping) (before : Before) (later : Keeping) (es : List Entry) (next : ℕ) (k2 : Keeping) → AreTrees k → IsSettable n k.forest → text_set limits n text k ≡ Ok (before, later)
     → Stay (with_set n before es next later).1 k2 → Stay k k2
 stay-text limits n text k before later es next k2 sound able e stay m less h =
-    let same_forest : (with_set n before es next later).1.forest ≡ with_text n text k.forest = set-forest n before es next later ∙ set-after limits n text k before later e in
+    let same_forest = filled-forest limits n text k before later es next e in
     let further : m < (with_set n before es next later).1.forest.next = subst (λ f. m < f.next) (sym same_forest) (next-more k n text m less) in
     text-stay n text k sound able (stands k sound) m (subst (λ f. is_attribute_at m f.nodes ≡ true) same_forest (stay m further h))
 
-pub known-has : {start : Keeping} {l : Ledger} {k : Keeping} (made : Made start l k) → CutsElements made → (n : ℕ) (k2 : Keeping) → Stay k k2 → is_known n k2 l.entries ≡ true → has n (known made) ≡ true
-known-has (begun sound empty alone) only n k2 stay h = absurd (false-true h)
-known-has (noted change m) only n k2 stay h = known-has m only n k2 stay h
-known-has (texts {l = l} {k = k} limits m text before later made sound able e) only n k2 stay h =
-    set-known n m before l.entries l.next later k2 (known made) (λ f. known-has made only n k2 (stay-text limits m text k before later l.entries l.next k2 sound able e stay) f) h
-known-has (joined {l = l} {k = k} m parent place made sound may) only n k2 stay h =
-    by (has m (children_of n (visits k2.forest.nodes))) h (λ f. known-has made only n k2 (λ x less g. join-stay m parent place k sound may (stands k sound) x (stay x less g)) f)
+stay-join : (limits : Limits) (n parent place : ℕ) (k : Keeping) (after : Forest) (k2 : Keeping) → AreTrees k → MayAttach n parent place k.forest → attached limits n parent place k.forest ≡ Ok after
+    → Stay (record k { forest = after }) k2 → Stay k k2
+stay-join limits n parent place k after k2 sound may e stay m less h =
+    let at = place_of parent place (visits k.forest.nodes) (content_at n k.forest.nodes) in
+    let before : Stay (record k { forest = placed n parent at k.forest }) k2 = subst (λ f. Stay (record k { forest = f }) k2) (sym (attached-placed limits n parent place k.forest after e)) stay in
+    join-stay n parent place at k may (stands k sound) m (before m less h)
+
+stay-cut : (n : ℕ) (k k2 : Keeping) → AreTrees k → MayDetach n k.forest → Stay (record k { forest = detached n k.forest }) k2 → Stay k k2
+stay-cut n k k2 sound may stay m less h = cut-stay n k may (stands k sound) m (stay m less h)
+
+cut-has : (n m : ℕ) (k k2 : Keeping) (es : List Entry) (ns : List ℕ) → (is_attribute_at n k2.forest.nodes ≡ true → is_attribute_at n k.forest.nodes ≡ true)
+    → (parent place : ℕ) → (is_known m k2 es ≡ true → has m ns ≡ true) → is_known m k2 (undo.cut n parent place ∷ es) ≡ true → has m (cut_known (is_attribute_at n k.forest.nodes) parent ns) ≡ true
+cut-has n m k k2 es ns stay parent place next h = by (is_attribute_at n k.forest.nodes) stay
+  where
+    any : (b : Bool) → cond b false (is_known m k2 es) ≡ true → has m ns ≡ true
+    any true g = absurd (false-true g)
+    any false g = next g
+
+    child : (b : Bool) → (parent == m) ≡ b → is_attribute_at n k2.forest.nodes ≡ false → cond (b && not (is_attribute_at n k2.forest.nodes)) false (is_known m k2 es) ≡ true → has m (without_number parent ns) ≡ true
+    child true e plain g = absurd (false-true (rw plain at g))
+    child false e plain g = has-other m parent ns e (next g)
+
+    plain : (is_attribute_at n k2.forest.nodes ≡ true → false ≡ true) → is_attribute_at n k2.forest.nodes ≡ false
+    plain stay = elim (cases_Bool (is_attribute_at n k2.forest.nodes)) [ inl e ↦ absurd (false-true (stay e)) | inr e ↦ e ]
+
+    by : (b : Bool) → (is_attribute_at n k2.forest.nodes ≡ true → b ≡ true) → has m (cut_known b parent ns) ≡ true
+    by true stay = any ((parent == m) && not (is_attribute_at n k2.forest.nodes)) h
+    by false stay = child (parent == m) refl (plain stay) h
+
+pub known-has : {start : Keeping} {l : Ledger} {k : Keeping} (made : Made start l k) → (n : ℕ) (k2 : Keeping) → Stay k k2 → is_known n k2 l.entries ≡ true → has n (known made) ≡ true
+known-has (begun sound empty alone) n k2 stay h = absurd (false-true h)
+known-has (noted change m) n k2 stay h = known-has m n k2 stay h
+known-has (texts {l = l} {k = k} limits m text before later made sound able e) n k2 stay h =
+    set-known n m before l.entries l.next later k2 (known made) (λ f. known-has made n k2 (stay-text limits m text k before later l.entries l.next k2 sound able e stay) f) h
+known-has (joined {l = l} {k = k} limits m parent place after made sound may e) n k2 stay h =
+    by (has m (children_of n (visits k2.forest.nodes))) h (λ f. known-has made n k2 (stay-join limits m parent place k after k2 sound may e stay) f)
   where
     by : (b : Bool) → cond b false (is_known n k2 l.entries) ≡ true → (is_known n k2 l.entries ≡ true → has n (known made) ≡ true) → has n (known made) ≡ true
     by true h next = absurd (false-true h)
     by false h next = next h
-known-has (cut {l = l} {k = k} m parent place made sound may stood_) only n k2 stay h =
-    by (parent == n) refl h (λ f. known-has made only.1 n k2 (λ x less g. cut-stay m parent place k sound only.0 stood_ (stands k sound) x (stay x less g)) f)
-  where
-    plain : is_attribute_at m k2.forest.nodes ≡ false
-    plain = elim (cases_Bool (is_attribute_at m k2.forest.nodes)) [
-      | inl e ↦ absurd (false-true (sym (cut-no_attribute m parent place k sound only.0 stood_ (stands k sound)) ∙ cut-stay m parent place k sound only.0 stood_ (stands k sound) m (stay m (cut-old m parent place k sound only.0 stood_ (stands k sound)) e)))
-      | inr e ↦ e
-    ]
-
-    by : (b : Bool) → (parent == n) ≡ b → cond (b && not (is_attribute_at m k2.forest.nodes)) false (is_known n k2 l.entries) ≡ true → (is_known n k2 l.entries ≡ true → has n (known made) ≡ true) → has n (without_number parent (known made)) ≡ true
-    by true e h next = absurd (false-true (rw plain at h))
-    by false e h next = has-other n parent (known made) e (next h)
-known-has (grown {k = k} contents made sound growth) only n k2 stay h =
-    known-has made only n k2 (λ x less g. growth-stay contents k x less (stay x (omega (arith, less)) g)) h
+known-has (cut {l = l} {k = k} m parent place made sound may stood_) n k2 stay h =
+    let before = stay-cut m k k2 sound may stay in
+    cut-has m n k k2 l.entries (known made) (λ g. before m (detach-old m k (stands k sound) may) g) parent place (λ f. known-has made n k2 before f) h
+known-has (grown {k = k} contents made sound growth after) n k2 stay h =
+    known-has made n k2 (λ x less g. growth-stay contents k x less (stay x (omega (arith, less)) g)) h

@@ -54,6 +54,7 @@ law (noted change m) only t nodes whole once k2 a =
       fresh = a.fresh;
       new_sound = a.new_sound;
       sound = a.sound;
+      first = a.first;
       once = a.once;
       like = a.like;
     }) in

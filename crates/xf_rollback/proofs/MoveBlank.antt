@@ -7,7 +7,6 @@ use Rattle.xf_doc.specs.declared.content.Content.{Content}
 use Rattle.xf_doc.specs.Forest.{is_root, is_attribute, is_text}
 use Rattle.xf_doc.specs.Visit.{has}
 use Rattle.xf_doc.specs.Texts.{with_value}
-use Rattle.xf_doc.specs.Plant.{is_less, written_of}
 use Rattle.xf_doc.specs.Changes.{at_place}
 use Rattle.xf_doc.proofs.BackLaws.{false-true}
 use Rattle.xf_rollback.proofs.Trees.{Trees, none, tree, followed, times, times-followed}
@@ -17,7 +16,7 @@ use Rattle.xf_rollback.proofs.TreeMoved.{Moved, same, swap, under, through, valu
 use Rattle.xf_rollback.proofs.TreeBlank.{textless, blank, blank-followed}
 use Rattle.xf_rollback.proofs.TreeFacts.{is_at, at-times, or-cases, sound-blank}
 use Rattle.xf_rollback.proofs.TreeMoves.{removed, found, removed-absent, found-absent, followed-none, followed-again, removed-followed, found-followed}
-use Rattle.xf_rollback.proofs.TreePlaces.{inserted, by_name, with_tree, changed, changed-absent}
+use Rattle.xf_rollback.proofs.TreePlaces.{inserted, beside, with_tree, changed, changed-absent}
 
 -- ---- without texts that do not count
 
@@ -208,20 +207,28 @@ removed-inserted n place s (tree m c j r) gone h =
     at zero e f g = removed-followed n s (tree m c j r) ∙ ap (λ x. followed x (removed n (tree m c j r))) gone ∙ removed-absent n (tree m c j r) h
     at (suc left) e f g = rw e (ap (λ x. tree m c x (removed n (inserted left s r))) f ∙ ap (tree m c j) (g left))
 
-removed-named : (n : ℕ) (name : List ℕ) (s k : Trees) → removed n s ≡ none → times n k ≡ 0 → removed n (by_name name s k) ≡ k
-removed-named n name s none gone h = gone
-removed-named n name s (tree m c j r) gone h = by (is_attribute c && is_less (written_of c) name) (removed-named n name s r gone (times-split n m c j r h).2)
+removed-beside : (n place : ℕ) (s k : Trees) → removed n s ≡ none → times n k ≡ 0 → removed n (beside place s k) ≡ k
+removed-beside n place s none gone h = gone
+removed-beside n place s (tree m c j r) gone h = by (is_attribute c) (at place (λ left. removed-beside n left s r gone (times-split n m c j r h).2))
   where
-    by : (b : Bool) → removed n (by_name name s r) ≡ r → removed n (cond b (tree m c j (by_name name s r)) (followed s (tree m c j r))) ≡ tree m c j r
-    by true e = let parts = times-split n m c j r h in rw parts.0 (ap (λ x. tree m c x (removed n (by_name name s r))) (removed-absent n j parts.1) ∙ ap (tree m c j) e)
-    by false e = removed-followed n s (tree m c j r) ∙ ap (λ x. followed x (removed n (tree m c j r))) gone ∙ removed-absent n (tree m c j r) h
+    before : removed n (followed s (tree m c j r)) ≡ tree m c j r
+    before = removed-followed n s (tree m c j r) ∙ ap (λ x. followed x (removed n (tree m c j r))) gone ∙ removed-absent n (tree m c j r) h
+
+    at : (place : ℕ) → ((left : ℕ) → removed n (beside left s r) ≡ r) → removed n (at_place place (followed s (tree m c j r)) (λ left. tree m c j (beside left s r))) ≡ tree m c j r
+    at zero e = before
+    at (suc left) e = let parts = times-split n m c j r h in rw parts.0 (ap (λ x. tree m c x (removed n (beside left s r))) (removed-absent n j parts.1) ∙ ap (tree m c j) (e left))
+
+    by : (b : Bool) → removed n (at_place place (followed s (tree m c j r)) (λ left. tree m c j (beside left s r))) ≡ tree m c j r
+        → removed n (cond b (at_place place (followed s (tree m c j r)) (λ left. tree m c j (beside left s r))) (followed s (tree m c j r))) ≡ tree m c j r
+    by true e = e
+    by false e = before
 
 removed-with : (n place : ℕ) (s k : Trees) → removed n s ≡ none → times n k ≡ 0 → removed n (with_tree place s k) ≡ k
 removed-with n place none k gone h = removed-absent n k h
 removed-with n place (tree m c j r) k gone h = by (is_attribute c)
   where
-    by : (b : Bool) → removed n (cond b (by_name (written_of c) (tree m c j r) k) (inserted place (tree m c j r) k)) ≡ k
-    by true = removed-named n (written_of c) (tree m c j r) k gone h
+    by : (b : Bool) → removed n (cond b (beside place (tree m c j r) k) (inserted place (tree m c j r) k)) ≡ k
+    by true = removed-beside n place (tree m c j r) k gone h
     by false = removed-inserted n place (tree m c j r) k gone h
 
 pub removed-changed : (n p place : ℕ) (s t : Trees) → removed n s ≡ none → times n t ≡ 0 → removed n (changed p (with_tree place s) t) ≡ t
@@ -269,20 +276,28 @@ found-inserted n place s (tree m c j r) own h =
     at zero e f g = found-followed n s (tree m c j r) ∙ ap (followed (found n s)) (found-absent n (tree m c j r) h) ∙ followed-none (found n s) ∙ own
     at (suc left) e f g = rw e (ap (λ x. followed x (found n (inserted left s r))) f ∙ g left)
 
-found-named : (n : ℕ) (name : List ℕ) (s k : Trees) → found n s ≡ s → times n k ≡ 0 → found n (by_name name s k) ≡ s
-found-named n name s none own h = own
-found-named n name s (tree m c j r) own h = by (is_attribute c && is_less (written_of c) name) (found-named n name s r own (times-split n m c j r h).2)
+found-beside : (n place : ℕ) (s k : Trees) → found n s ≡ s → times n k ≡ 0 → found n (beside place s k) ≡ s
+found-beside n place s none own h = own
+found-beside n place s (tree m c j r) own h = by (is_attribute c) (at place (λ left. found-beside n left s r own (times-split n m c j r h).2))
   where
-    by : (b : Bool) → found n (by_name name s r) ≡ s → found n (cond b (tree m c j (by_name name s r)) (followed s (tree m c j r))) ≡ s
-    by true e = let parts = times-split n m c j r h in rw parts.0 (ap (λ x. followed x (found n (by_name name s r))) (found-absent n j parts.1) ∙ e)
-    by false e = found-followed n s (tree m c j r) ∙ ap (followed (found n s)) (found-absent n (tree m c j r) h) ∙ followed-none (found n s) ∙ own
+    before : found n (followed s (tree m c j r)) ≡ s
+    before = found-followed n s (tree m c j r) ∙ ap (followed (found n s)) (found-absent n (tree m c j r) h) ∙ followed-none (found n s) ∙ own
+
+    at : (place : ℕ) → ((left : ℕ) → found n (beside left s r) ≡ s) → found n (at_place place (followed s (tree m c j r)) (λ left. tree m c j (beside left s r))) ≡ s
+    at zero e = before
+    at (suc left) e = let parts = times-split n m c j r h in rw parts.0 (ap (λ x. followed x (found n (beside left s r))) (found-absent n j parts.1) ∙ e left)
+
+    by : (b : Bool) → found n (at_place place (followed s (tree m c j r)) (λ left. tree m c j (beside left s r))) ≡ s
+        → found n (cond b (at_place place (followed s (tree m c j r)) (λ left. tree m c j (beside left s r))) (followed s (tree m c j r))) ≡ s
+    by true e = e
+    by false e = before
 
 found-with : (n place : ℕ) (s k : Trees) → found n s ≡ s → times n k ≡ 0 → found n (with_tree place s k) ≡ s
 found-with n place none k own h = found-absent n k h
 found-with n place (tree m c j r) k own h = by (is_attribute c)
   where
-    by : (b : Bool) → found n (cond b (by_name (written_of c) (tree m c j r) k) (inserted place (tree m c j r) k)) ≡ tree m c j r
-    by true = found-named n (written_of c) (tree m c j r) k own h
+    by : (b : Bool) → found n (cond b (beside place (tree m c j r) k) (inserted place (tree m c j r) k)) ≡ tree m c j r
+    by true = found-beside n place (tree m c j r) k own h
     by false = found-inserted n place (tree m c j r) k own h
 
 pub found-changed : (n p place : ℕ) (s t : Trees) → found n s ≡ s → times n t ≡ 0 → times p t ≡ 1 → found n (changed p (with_tree place s) t) ≡ s

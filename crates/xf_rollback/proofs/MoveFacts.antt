@@ -7,7 +7,6 @@ use Rattle.xf_doc.specs.declared.content.Content.{Content}
 use Rattle.xf_doc.specs.Forest.{is_root, is_attribute, is_text}
 use Rattle.xf_doc.specs.Visit.{has}
 use Rattle.xf_doc.specs.Texts.{with_value}
-use Rattle.xf_doc.specs.Plant.{is_less, written_of}
 use Rattle.xf_doc.specs.Changes.{at_place}
 use Rattle.xf_doc.proofs.BackLaws.{false-true}
 use Rattle.xf_rollback.proofs.Trees.{Trees, none, tree, followed, times, times-followed}
@@ -17,7 +16,7 @@ use Rattle.xf_rollback.proofs.TreeMoved.{Moved, same, swap, under, through, some
 use Rattle.xf_rollback.proofs.TreeBlank.{textless, blank, blank-followed}
 use Rattle.xf_rollback.proofs.TreeFacts.{some-followed}
 use Rattle.xf_rollback.proofs.TreeMoves.{removed, found, removed-absent, found-absent, followed-none, followed-again, removed-followed, found-followed}
-use Rattle.xf_rollback.proofs.TreePlaces.{inserted, by_name, with_tree, changed, changed-absent}
+use Rattle.xf_rollback.proofs.TreePlaces.{inserted, beside, with_tree, changed, changed-absent}
 
 -- ---- in another order
 
@@ -134,21 +133,30 @@ inserted-times p place s (tree m c k r) =
     at zero h = let e : times p (followed s (tree m c k r)) ≡ times p s + times p (tree m c k r) = times-followed p s (tree m c k r) in omega (arith, e)
     at (suc left) h = let e = h left in omega (arith, e)
 
-named-times : (p : ℕ) (name : List ℕ) (s k : Trees) → times p (by_name name s k) ≡ times p k + times p s
-named-times p name s none = omega arith
-named-times p name s (tree m c k r) = by (is_attribute c && is_less (written_of c) name) (named-times p name s r)
+beside-times : (p place : ℕ) (s k : Trees) → times p (beside place s k) ≡ times p k + times p s
+beside-times p place s none = omega arith
+beside-times p place s (tree m c k r) = by (is_attribute c) (at place (λ left. beside-times p left s r)) before
   where
-    by : (b : Bool) → times p (by_name name s r) ≡ times p r + times p s
-        → times p (cond b (tree m c k (by_name name s r)) (followed s (tree m c k r))) ≡ ((if m == p then 1 else 0) + (times p k + times p r)) + times p s
-    by true h = omega (arith, h)
-    by false h = let e : times p (followed s (tree m c k r)) ≡ times p s + times p (tree m c k r) = times-followed p s (tree m c k r) in omega (arith, e)
+    before : times p (followed s (tree m c k r)) ≡ ((if m == p then 1 else 0) + (times p k + times p r)) + times p s
+    before = let e : times p (followed s (tree m c k r)) ≡ times p s + times p (tree m c k r) = times-followed p s (tree m c k r) in omega (arith, e)
+
+    at : (place : ℕ) → ((left : ℕ) → times p (beside left s r) ≡ times p r + times p s)
+        → times p (at_place place (followed s (tree m c k r)) (λ left. tree m c k (beside left s r))) ≡ ((if m == p then 1 else 0) + (times p k + times p r)) + times p s
+    at zero h = before
+    at (suc left) h = let e = h left in omega (arith, e)
+
+    by : (b : Bool) → times p (at_place place (followed s (tree m c k r)) (λ left. tree m c k (beside left s r))) ≡ ((if m == p then 1 else 0) + (times p k + times p r)) + times p s
+        → times p (followed s (tree m c k r)) ≡ ((if m == p then 1 else 0) + (times p k + times p r)) + times p s
+        → times p (cond b (at_place place (followed s (tree m c k r)) (λ left. tree m c k (beside left s r))) (followed s (tree m c k r))) ≡ ((if m == p then 1 else 0) + (times p k + times p r)) + times p s
+    by true one two = one
+    by false one two = two
 
 with-times : (p place : ℕ) (s k : Trees) → times p (with_tree place s k) ≡ times p k + times p s
 with-times p place none k = omega arith
 with-times p place (tree n c j r) k = by (is_attribute c)
   where
-    by : (b : Bool) → times p (cond b (by_name (written_of c) (tree n c j r) k) (inserted place (tree n c j r) k)) ≡ times p k + times p (tree n c j r)
-    by true = named-times p (written_of c) (tree n c j r) k
+    by : (b : Bool) → times p (cond b (beside place (tree n c j r) k) (inserted place (tree n c j r) k)) ≡ times p k + times p (tree n c j r)
+    by true = beside-times p place (tree n c j r) k
     by false = inserted-times p place (tree n c j r) k
 
 pub changed-times : (p n place : ℕ) (s t : Trees) → times n t ≡ 1 → times p (changed n (with_tree place s) t) ≡ times p t + times p s

@@ -1,45 +1,36 @@
 -- Each change, from what rolling back gives before it to what it gives after it.
-use Rattle.std.proofs.Common.{◌≡◌, ℕ, ◌+◌, ◌==◌, Bool, true, false, not, cond, ◌&&◌, ◌||◌, List, [], ◌∷◌, length, refl, sym, ap, ◌∙◌, subst, inl, inr, arith}
-use Rattle.std.specs.Prelude.{⊤, ◌⊎◌, ◌≤◌, ◌<◌, Option, Some, None, Result, Ok, Err, if◌then◌else◌}
+use Rattle.std.proofs.Common.{◌≡◌, ℕ, Bool, true, false, cond, List, [], ◌∷◌, length, refl, subst, inl, inr, arith}
+use Rattle.std.specs.Prelude.{◌⊎◌, ◌≤◌, Some, Ok}
 use Rattle.std.specs.List.{list_all}
 use Rattle.std.proofs.lemmas.Bool.{cases_Bool}
 use Rattle.std.proofs.lemmas.Bool.Decides.{nat_tests}
-use Rattle.xf_doc.specs.declared.fault.TreeFault.{TreeFault}
 use Rattle.xf_doc.specs.declared.content.Content.{Content}
 use Rattle.xf_doc.specs.declared.content.Kind.{Kind}
 use Rattle.xf_doc.specs.declared.content.Kind.TheVariants as kind
 use Rattle.xf_doc.specs.Visit.{has, numbers, visits, children_of}
-use Rattle.xf_doc.specs.Forest.{is_root, is_element, is_attribute, kind_at, tree_of}
+use Rattle.xf_doc.specs.Forest.{is_root, is_element, kind_at, tree_of}
 use Rattle.xf_doc.specs.Changes.{placed, detached, standing}
-use Rattle.xf_doc.specs.Limits.{Limits, unless}
-use Rattle.xf_doc.specs.Texts.{Keeping, Before, element_texts, attribute_text, texts_in, value_in, is_attribute_at, before_of, with_text, given_up, put_back, text_set}
-use Rattle.xf_doc.specs.Needs.{IsSettable, MayAttach, MayStand, in_element, in_root, as_attribute}
-use Rattle.xf_doc.specs.WellFormed.{IsKeeping, has_document}
-use Rattle.xf_doc.specs.Undo.{Change, of_text, Entry, Ledger, with_note, with_set, is_known, text_filled, rolled_back}
+use Rattle.xf_doc.specs.Limits.{Limits}
+use Rattle.xf_doc.specs.Texts.{Keeping, Before, element_texts, attribute_text, texts_in, value_in, is_attribute_at, before_of, given_up, put_back, text_set}
+use Rattle.xf_doc.specs.Needs.{IsSettable, MayAttach, MayStand, in_element, in_root}
+use Rattle.xf_doc.specs.WellFormed.{IsKeeping, AreTrees, has_document}
+use Rattle.xf_doc.specs.Undo.{of_text, Ledger, with_note, with_set, is_known, text_filled}
 use Rattle.xf_doc.specs.Undo as undo
-use Rattle.xf_doc.proofs.BackLaws.{after_set, false-true}
-use Rattle.xf_rollback.specs.Made.{Made, begun, noted, texts, joined, cut, grown, CutsElements}
-use Rattle.xf_rollback.specs.Back.{CanRollBack}
-use Rattle.xf_rollback.proofs.Trees.{Trees, none, tree, onto, followed, times}
+use Rattle.xf_doc.proofs.BackLaws.{after_set}
+use Rattle.xf_rollback.proofs.Trees.{Trees, onto, times}
 use Rattle.xf_rollback.proofs.TreeShape.{Sound}
-use Rattle.xf_rollback.proofs.TreeMoved.{Moved, same}
-use Rattle.xf_rollback.proofs.TreeBlank.{blank}
-use Rattle.xf_rollback.proofs.TreeFacts.{is_at, or-cases}
-use Rattle.xf_rollback.proofs.KeepingTrees.{Stands, stands, kept_times}
+use Rattle.xf_rollback.proofs.TreeMoved.{same}
+use Rattle.xf_rollback.proofs.TreeFacts.{is_at}
+use Rattle.xf_rollback.proofs.KeepingTrees.{Stands}
+use Rattle.xf_rollback.proofs.TreeTops.{RootsFirst}
 use Rattle.xf_rollback.proofs.Alike.{Alike, Back}
+use Rattle.xf_rollback.proofs.Outcomes.{unless-ok}
 use Rattle.xf_rollback.proofs.TextSteps.{element-known, element-may, element-alike}
 use Rattle.xf_rollback.proofs.ValueSteps.{attribute-known, attribute-may, attribute-alike}
-use Rattle.xf_rollback.proofs.JoinSteps.{Moves, element-moves, attribute-moves, joined-below, joined-kind, joined-alike}
+use Rattle.xf_rollback.proofs.JoinSteps.{joins, joined-below, joined-kind, joined-alike}
 use Rattle.xf_rollback.proofs.BearLemmas.{Bears, element-bears, root-bears}
-use Rattle.xf_rollback.proofs.CutSteps.{cut-old, cut-no_attribute, cut-kind, cut-stood, later-children, place-fits, cut-parent-kind, cut-may, cut-element, cut-alike}
+use Rattle.xf_rollback.proofs.CutSteps.{cut-kind, cut-stood, later-children, place-fits, cut-parent-kind, cut-may, cut-element, cut-alike}
 use Rattle.xf_rollback.proofs.CutStands.{root-kids}
-use Rattle.xf_rollback.proofs.AttributeSteps.{text-stay, join-stay, cut-stay, growth-stay}
-use Rattle.xf_rollback.proofs.TreeMoves.{followed-none}
-use Rattle.xf_rollback.proofs.GrowthSteps.{growth-alike, begun-back}
-
-pub unless-ok : {X : Type 0} (fault : Option TreeFault) (v w : X) → unless fault v ≡ Ok w → v ≡ w
-unless-ok None v w e = cc e
-unless-ok (Some fault) v w e = cc e
 
 -- ---- a text
 
@@ -47,7 +38,7 @@ unless-ok (Some fault) v w e = cc e
 abbrev pub Goal : Keeping → List ℕ → Ledger × Keeping → Type 0
 Goal start ns p = (t : Trees) → p.1.forest.nodes ≡ onto 0 t [] → Sound false t → ((n : ℕ) → times n t ≤ 1) → (k2 : Keeping) → Alike ns t p.1 k2 → Back start p.0 k2
 
-module _ (start : Keeping) (l : Ledger) (k : Keeping) (n : ℕ) (text : List ℕ) (sound : IsKeeping k) (able : IsSettable n k.forest) (ns : List ℕ)
+module _ (start : Keeping) (l : Ledger) (k : Keeping) (n : ℕ) (text : List ℕ) (sound : AreTrees k) (able : IsSettable n k.forest) (ns : List ℕ)
     (found : is_known n (after_set n text k) l.entries ≡ true → has n ns ≡ true) (s : Stands k) (back : (k2 : Keeping) → Alike ns s.trees k k2 → Back start l k2) where
   abbrev after : Keeping
   after = after_set n text k
@@ -94,32 +85,25 @@ module _ (start : Keeping) (l : Ledger) (k : Keeping) (n : ℕ) (text : List ℕ
 
 -- ---- a tree that was attached
 
-pub join-case : (start : Keeping) (l : Ledger) (k : Keeping) (n parent place : ℕ) → IsKeeping k → MayAttach n parent place k.forest → (ns : List ℕ) (s : Stands k) → ((k2 : Keeping) → Alike ns s.trees k k2 → Back start l k2)
+-- it stands at this place, which an attribute has by its name
+pub join-case : (start : Keeping) (l : Ledger) (k : Keeping) (n parent given place : ℕ) → MayAttach n parent given k.forest → (ns : List ℕ) (s : Stands k) → RootsFirst s.trees
+    → ((k2 : Keeping) → Alike ns s.trees k k2 → Back start l k2)
     → (t : Trees) → (placed n parent place k.forest).nodes ≡ onto 0 t [] → Sound false t → times n t ≤ 1 → (k2 : Keeping) → Alike ns t (record k { forest = placed n parent place k.forest }) k2
     → Back start (record l { entries = undo.joined n ∷ l.entries }) k2
-join-case start l k n parent place sound may ns s back t nodes whole once k2 a = by may.stands
-  where
-    step : (kn : Kind) (q : Content → Bool) → Moves kn q → kind_at n k.forest.nodes ≡ Some kn → (kp : Kind) → kind_at parent k.forest.nodes ≡ Some kp
-        → ((kind_at n k2.forest.nodes ≡ Some kn) → (kind_at n k2.forest.nodes ≡ Some kind.Element) ⊎ (kind_at n k2.forest.nodes ≡ Some kind.Attribute))
-        → Back start (record l { entries = undo.joined n ∷ l.entries }) k2
-    step kn q moves is kp above either =
-        let r = back (record k2 { forest = detached n k2.forest }) (joined-alike n parent place k sound may s kn q moves is kp above t nodes whole once ns k2 a) in
+join-case start l k n parent given place may ns s rooted back t nodes whole once k2 a =
+    let j = joins n parent given k.forest may.stands in
+    let r = back (record k2 { forest = detached n k2.forest }) (joined-alike n parent given place k may s j rooted t nodes whole once ns k2 a) in
+    record {
+      changes = (
         record {
-          changes = (
-            record {
-              below = joined-below n parent place k sound may s kn q moves is kp above t nodes whole once ns k2 a;
-              kind = either (joined-kind n parent place k sound may s kn q moves is kp above t nodes whole once ns k2 a);
-            },
-            r.changes,
-          );
-          rest = r.rest;
-          same = r.same;
-        }
-
-    by : MayStand n parent place k.forest → Back start (record l { entries = undo.joined n ∷ l.entries }) k2
-    by (in_element is above le) = step kind.Element is_element element-moves is kind.Element above inl
-    by (in_root is above none_ first) = step kind.Element is_element element-moves is kind.Root above inl
-    by (as_attribute is above lacks) = step kind.Attribute is_attribute attribute-moves is kind.Element above inr
+          below = joined-below n parent given place k may s j rooted t nodes whole once ns k2 a;
+          kind = j.either k2.forest.nodes (joined-kind n parent given place k may s j rooted t nodes whole once ns k2 a);
+        },
+        r.changes,
+      );
+      rest = r.rest;
+      same = r.same;
+    }
 
 -- ---- a tree that was cut off
 

@@ -1,31 +1,32 @@
 -- A text that was set is put back in a forest that is alike: it is alike to the forest before.
-use Rattle.std.proofs.Common.{◌≡◌, ℕ, ◌+◌, ◌==◌, Bool, true, false, not, cond, ◌&&◌, ◌||◌, List, [], ◌∷◌, ◌++◌, map, length, nat_lt, Option, Some, None, refl, sym, ap, ◌∙◌, subst, inl, inr, append-nil, arith}
-use Rattle.std.specs.Prelude.{⊤, ◌⊎◌, ◌≤◌, ◌<◌, filter, if◌then◌else◌}
-use Rattle.std.specs.List.{list_any, list_all}
+use Rattle.std.proofs.Common.{◌≡◌, ℕ, ◌+◌, ◌==◌, Bool, true, false, ◌&&◌, ◌||◌, List, [], ◌∷◌, ◌++◌, nat_lt, Some, refl, sym, ap, ◌∙◌, subst, inl, inr, arith}
+use Rattle.std.specs.Prelude.{◌⊎◌, ◌≤◌, ◌<◌, filter, if◌then◌else◌}
+use Rattle.std.specs.List.{list_any}
 use Rattle.std.proofs.lemmas.Bool.{cases_Bool}
 use Rattle.std.proofs.lemmas.Bool.Decides.{nat_tests}
 use Rattle.xf_doc.specs.declared.content.Node.{Node}
-use Rattle.xf_doc.specs.declared.content.Content.{Content}
 use Rattle.xf_doc.specs.declared.content.Kind.TheVariants as kind
-use Rattle.xf_doc.specs.Forest.{is_element, is_attribute, is_text, own_text, kind_at, tree_of}
+use Rattle.xf_doc.specs.Forest.{is_element, is_attribute, own_text, kind_at, tree_of}
 use Rattle.xf_doc.specs.Visit.{has, numbers, visits}
 use Rattle.xf_doc.specs.Shape.{has_elements}
-use Rattle.xf_doc.specs.Texts.{Keeping, KeptText, Before, attribute_text, element_texts, one_text, with_texts, with_value, with_attribute_text, is_attribute_at, texts_in, value_in, kept_from, before_of, taken_from, with_text, put_back, given_up, is_of, without, back}
+use Rattle.xf_doc.specs.Texts.{Keeping, KeptText, element_texts, one_text, with_texts, is_attribute_at, texts_in, kept_from, before_of, taken_from, with_text, put_back, given_up, is_of, without, back}
 use Rattle.xf_doc.specs.Needs.{IsSettable, MayPutBack, are_kept_of}
-use Rattle.xf_doc.specs.WellFormed.{IsKeeping}
+use Rattle.xf_doc.specs.WellFormed.{AreTrees, are_first}
+use Rattle.xf_doc.proofs.RunLemmas.{IsLeafAt}
 use Rattle.xf_doc.proofs.BackLaws.{HasText, after_set, put_back-after_set, outside-all, false-true, and-true, one_number}
-use Rattle.xf_doc.proofs.TextLaws.{has_text}
 use Rattle.xf_rollback.proofs.Trees.{Trees, none, tree, onto, followed, times, times-followed, onto-inj}
-use Rattle.xf_rollback.proofs.TreeTexts.{lone, attributes, retexted, revalued, valued-onto, texts-onto, retexted-absent, times-split}
+use Rattle.xf_rollback.proofs.TreeTexts.{lone, attributes, retexted, texts-onto, retexted-absent}
 use Rattle.xf_rollback.proofs.TreeVisits.{elements, elements-are}
-use Rattle.xf_rollback.proofs.TreeShape.{Sound, sound-followed}
-use Rattle.xf_rollback.proofs.TreeMoved.{Moved, value-attribute, value-element}
+use Rattle.xf_rollback.proofs.TreeShape.{Sound}
+use Rattle.xf_rollback.proofs.TreeMoved.{Moved}
 use Rattle.xf_rollback.proofs.TreeBlank.{blank, AreTexts, LeafAt, leaf-followed, leaf-absent, moved-more, blank-followed}
-use Rattle.xf_rollback.proofs.TreeAgain.{retexted-alike, retexted-within, AttributeAt, revalued-within, revalued-alike}
-use Rattle.xf_rollback.proofs.TreeFacts.{is_at, at-times, at-absent, some-followed, sound-retexted, sound-revalued, blind-element, blind-attribute}
-use Rattle.xf_rollback.proofs.TreeLeaves.{leaf-of, bare-leaf, attribute-of, elements-retexted, at-retexted, retexted-times, revalued-times}
-use Rattle.xf_rollback.proofs.KeepingTrees.{Stands, kept_times, any-is, any-kind, kind-any, element-test, attribute-test, back-texts, back-times}
-use Rattle.xf_rollback.proofs.Alike.{Fresh, fresh-less, fresh-absent, Alike, extra-absent, later-at, later-elements, later-once, later-kind, later-childless}
+use Rattle.xf_rollback.proofs.TreeAgain.{retexted-alike, retexted-within}
+use Rattle.xf_rollback.proofs.TreeFacts.{is_at, at-times, sound-retexted, blind-element}
+use Rattle.xf_rollback.proofs.TreeLeaves.{leaf-of, bare-leaf, elements-retexted, at-retexted, retexted-times}
+use Rattle.xf_rollback.proofs.TreeRuns.{leaf-onto}
+use Rattle.xf_rollback.proofs.KeepingTrees.{Stands, kept_times, any-is, kind-any, element-test, attribute-test, back-texts, back-times}
+use Rattle.xf_rollback.proofs.FirstLemmas.{ordered-retexted}
+use Rattle.xf_rollback.proofs.Alike.{fresh-less, Alike, extra-absent, later-at, later-elements, later-once, later-kind, later-childless}
 
 retexted-followed : (n : ℕ) (s a b : Trees) → retexted n s (followed a b) ≡ followed (retexted n s a) (retexted n s b)
 retexted-followed n s none b = refl
@@ -74,7 +75,7 @@ is-old n k s h =
       | inr e ↦ let ge : k.forest.next ≤ n = grind (arith, nat_tests, e) in let z = s.old n ge in let no : ⊥ = omega (arith, z, h) in absurd no
     ]
 
-module _ (n : ℕ) (text : List ℕ) (k : Keeping) (sound : IsKeeping k) (able : IsSettable n k.forest) (s : Stands k) (other : is_attribute_at n k.forest.nodes ≡ false) where
+module _ (n : ℕ) (text : List ℕ) (k : Keeping) (sound : AreTrees k) (able : IsSettable n k.forest) (s : Stands k) (other : is_attribute_at n k.forest.nodes ≡ false) where
   abbrev texts : List Node
   texts = texts_in (tree_of n k.forest.nodes)
 
@@ -112,9 +113,12 @@ module _ (n : ℕ) (text : List ℕ) (k : Keeping) (sound : IsKeeping k) (able :
   taken-is : taken_from n k.forest.nodes ≡ kept_from n texts
   taken-is = rw other refl
 
+  has_texts : HasText n k.forest.nodes
+  has_texts = inr (other, subst (IsLeafAt n) (sym s.nodes) (leaf-onto n 0 s.trees [] element-leaf (subst (λ l. are_first l ≡ true) s.nodes sound.first) tt tt))
+
   undone-is : put_back n (element_texts (numbers texts)) (after_set n text k) ≡ record k { forest = record k.forest { next = (with_text n text k.forest).next } }
   undone-is = subst (λ b. put_back n b (after_set n text k) ≡ record k { forest = record k.forest { next = (with_text n text k.forest).next } }) before-is
-      (put_back-after_set n text k sound.forest.apart (outside-all k.forest.nodes k.kept sound.outside) (has_text n k.forest sound.forest able))
+      (put_back-after_set n text k sound.apart (outside-all k.forest.nodes k.kept sound.kept_outside) has_texts)
 
   module _ (t : Trees) (nodes : (with_text n text k.forest).nodes ≡ onto 0 t []) (sound_after : Sound false t) (once_after : times n t ≤ 1) (ns : List ℕ) where
     after-is : t ≡ retexted n (lone new) s.trees
@@ -140,6 +144,7 @@ module _ (n : ℕ) (text : List ℕ) (k : Keeping) (sound : IsKeeping k) (able :
       fresh = fresh-less k.forest.next (with_text n text k.forest).next a.extra (omega arith) a.fresh;
       new_sound = a.new_sound;
       sound = a.sound;
+      first = a.first;
       once = λ p. subst (λ l. times p a.later + kept_times p l ≤ 1) kept-is (a.once p);
       like =
           subst (λ x. Moved x (blank ns a.later)) (blank-followed ns t a.extra ∙ ap (λ x. followed x (blank ns a.extra)) (ap (blank ns) after-is ∙ retexted-within n (lone new) ns s.trees within (one_text-texts k.forest.next text) element-leaf) ∙ sym (blank-followed ns s.trees a.extra))
@@ -210,6 +215,7 @@ module _ (n : ℕ) (text : List ℕ) (k : Keeping) (sound : IsKeeping k) (able :
         fresh = fresh-less k.forest.next (with_text n text k.forest).next a.extra (omega arith) a.fresh;
         new_sound = a.new_sound;
         sound = sound-retexted false n came a.later (back-texts (filter (is_of (numbers texts)) (after_set n text k).kept)) again-leaf a.sound;
+        first = ordered-retexted n came a.later (back-texts (filter (is_of (numbers texts)) (after_set n text k).kept)) a.first;
         once = back-once;
         like =
             subst (λ x. Moved (blank ns x) (blank ns (retexted n came a.later)))

@@ -1,4 +1,4 @@
--- A tree put below a node, at a place among its children or by its name among its attributes, as in the list.
+-- A tree put below a node, at a place among its children or among its attributes, as in the list.
 use Rattle.std.proofs.Common.{◌≡◌, ℕ, zero, suc, ◌+◌, ◌-◌, ◌==◌, Bool, true, false, not, cond, ◌&&◌, ◌||◌, List, [], ◌∷◌, ◌++◌, map, nat_lt, refl, sym, ap, ◌∙◌, subst, inl, inr, append_assoc, arith}
 use Rattle.std.specs.Prelude.{⊤, ◌≤◌, ◌<◌, if◌then◌else◌}
 use Rattle.std.proofs.lemmas.Bool.{cases_Bool}
@@ -6,7 +6,6 @@ use Rattle.std.proofs.lemmas.Bool.Decides.{nat_tests}
 use Rattle.xf_doc.specs.declared.content.Node.{Node}
 use Rattle.xf_doc.specs.declared.content.Content.{Content}
 use Rattle.xf_doc.specs.Forest.{Forest, is_attribute, tree_of}
-use Rattle.xf_doc.specs.Plant.{is_less, written_of}
 use Rattle.xf_doc.specs.Changes.{moved_to, without_tree, at_place, with_child, with_attribute, with_part, with_below, placed}
 use Rattle.xf_rollback.proofs.Trees.{Trees, none, tree, onto, followed, times, StopsAt, stops-onto, stops-more, onto-followed, onto-append}
 use Rattle.xf_rollback.proofs.TreeTexts.{times-split, Where, here, inside, later, where_is}
@@ -19,14 +18,16 @@ inserted place s (tree n c k r) =
     if is_attribute c then tree n c k (inserted place s r)
     else at_place place (followed s (tree n c k r)) (λ left. tree n c k (inserted left s r))
 
--- among the attributes where its name has it
-abbrev pub by_name : List ℕ → Trees → Trees → Trees
-by_name name s none = s
-by_name name s (tree n c k r) = if is_attribute c && is_less (written_of c) name then tree n c k (by_name name s r) else followed s (tree n c k r)
+-- before the attribute with a place, or behind them all
+abbrev pub beside : ℕ → Trees → Trees → Trees
+beside place s none = s
+beside place s (tree n c k r) =
+    if is_attribute c then at_place place (followed s (tree n c k r)) (λ left. tree n c k (beside left s r))
+    else followed s (tree n c k r)
 
 abbrev pub with_tree : ℕ → Trees → Trees → Trees
 with_tree place none k = k
-with_tree place (tree n c j r) k = if is_attribute c then by_name (written_of c) (tree n c j r) k else inserted place (tree n c j r) k
+with_tree place (tree n c j r) k = if is_attribute c then beside place (tree n c j r) k else inserted place (tree n c j r) k
 
 -- each node with this number has another content below it
 abbrev pub changed : ℕ → (Trees → Trees) → Trees → Trees
@@ -86,35 +87,38 @@ child-onto d place s (tree n c k r) ys stops =
 
 -- ---- among attributes
 
-name-stops : (d : ℕ) (name : List ℕ) (new ys : List Node) → StopsAt d ys → with_attribute d name new ys ≡ new ++ ys
-name-stops d name new [] h = sym (append_nil_ new)
+attribute-stops : (d place : ℕ) (new ys : List Node) → StopsAt d ys → with_attribute d place new ys ≡ new ++ ys
+attribute-stops d place new [] h = sym (append_nil_ new)
   where
     append_nil_ : (l : List Node) → l ++ [] ≡ l
     append_nil_ [] = refl
     append_nil_ (x ∷ xs) = ap (λ l. x ∷ l) (append_nil_ xs)
-name-stops d name new (y ∷ ys) h = let e : (y.depth == d) ≡ false = grind (arith, nat_tests, h) in rw e refl
+attribute-stops d place new (y ∷ ys) h = let e : (y.depth == d) ≡ false = grind (arith, nat_tests, h) in rw e refl
 
 equal_depth : (d : ℕ) → (d == d) ≡ true
 equal_depth d = grind (arith, nat_tests)
 
-name-onto : (d : ℕ) (name : List ℕ) (s k : Trees) (ys : List Node) → AreBare k → StopsAt d ys → with_attribute d name (onto d s []) (onto d k ys) ≡ onto d (by_name name s k) ys
-name-onto d name s none ys bare stops = name-stops d name (onto d s []) ys stops ∙ onto-append d s [] ys
-name-onto d name s (tree n c k r) ys bare stops = rw (equal_depth d) (by (is_attribute c) refl (is_less (written_of c) name) (name-onto d name s r ys bare.1 stops))
+attribute-onto : (d place : ℕ) (s k : Trees) (ys : List Node) → AreBare k → StopsAt d ys → with_attribute d place (onto d s []) (onto d k ys) ≡ onto d (beside place s k) ys
+attribute-onto d place s none ys bare stops = attribute-stops d place (onto d s []) ys stops ∙ onto-append d s [] ys
+attribute-onto d place s (tree n c k r) ys bare stops =
+    elim (cases_Bool (is_attribute c)) [
+      | inl e ↦ rw (equal_depth d, e) (at place (bare.0 e) (λ left. attribute-onto d left s r ys bare.1 stops))
+      | inr e ↦ rw (equal_depth d, e) stay
+    ]
   where
-    pass : k ≡ none → with_attribute d name (onto d s []) (onto d r ys) ≡ onto d (by_name name s r) ys
-        → record { number = n; depth = d; content = c } ∷ with_attribute d name (onto d s []) (onto (suc d) k (onto d r ys)) ≡ onto d (tree n c k (by_name name s r)) ys
-    pass e h = subst (λ j. record { number = n; depth = d; content = c } ∷ with_attribute d name (onto d s []) (onto (suc d) j (onto d r ys)) ≡ onto d (tree n c j (by_name name s r)) ys) (sym e)
-        (ap (λ l. record { number = n; depth = d; content = c } ∷ l) h)
-
     stay : onto d s [] ++ onto d (tree n c k r) ys ≡ onto d (followed s (tree n c k r)) ys
     stay = onto-append d s [] (onto d (tree n c k r) ys) ∙ sym (onto-followed d s (tree n c k r) ys)
 
-    by : (a : Bool) → is_attribute c ≡ a → (b : Bool) → with_attribute d name (onto d s []) (onto d r ys) ≡ onto d (by_name name s r) ys
-        → cond (a && b) (record { number = n; depth = d; content = c } ∷ with_attribute d name (onto d s []) (onto (suc d) k (onto d r ys))) (onto d s [] ++ onto d (tree n c k r) ys)
-        ≡ onto d (cond (a && b) (tree n c k (by_name name s r)) (followed s (tree n c k r))) ys
-    by true e true h = pass (bare.0 e) h
-    by true e false h = stay
-    by false e b h = stay
+    pass : (left : ℕ) → k ≡ none → with_attribute d left (onto d s []) (onto d r ys) ≡ onto d (beside left s r) ys
+        → record { number = n; depth = d; content = c } ∷ with_attribute d left (onto d s []) (onto (suc d) k (onto d r ys)) ≡ onto d (tree n c k (beside left s r)) ys
+    pass left e h = subst (λ j. record { number = n; depth = d; content = c } ∷ with_attribute d left (onto d s []) (onto (suc d) j (onto d r ys)) ≡ onto d (tree n c j (beside left s r)) ys) (sym e)
+        (ap (λ l. record { number = n; depth = d; content = c } ∷ l) h)
+
+    at : (place : ℕ) → k ≡ none → ((left : ℕ) → with_attribute d left (onto d s []) (onto d r ys) ≡ onto d (beside left s r) ys)
+        → at_place place (onto d s [] ++ onto d (tree n c k r) ys) (λ left. record { number = n; depth = d; content = c } ∷ with_attribute d left (onto d s []) (onto (suc d) k (onto d r ys)))
+        ≡ onto d (at_place place (followed s (tree n c k r)) (λ left. tree n c k (beside left s r))) ys
+    at zero e h = stay
+    at (suc left) e h = pass left e (h left)
 
 -- ---- below a node
 
@@ -122,7 +126,7 @@ part-onto : (e d place : ℕ) (s k : Trees) (ys : List Node) → AreBare k → S
 part-onto e d place none k ys bare stops = refl
 part-onto e d place (tree n c j r) k ys bare stops =
     elim (cases_Bool (is_attribute c)) [
-      | inl a ↦ rw a (ap (λ l. with_attribute d (written_of c) l (onto d k ys)) (moved-onto d e (tree n c j r)) ∙ name-onto d (written_of c) (tree n c j r) k ys bare stops)
+      | inl a ↦ rw a (ap (λ l. with_attribute d place l (onto d k ys)) (moved-onto d e (tree n c j r)) ∙ attribute-onto d place (tree n c j r) k ys bare stops)
       | inr a ↦ rw a (ap (λ l. with_child d place l (onto d k ys)) (moved-onto d e (tree n c j r)) ∙ child-onto d place (tree n c j r) k ys stops)
     ]
 

@@ -1,4 +1,4 @@
--- Where a node stands among the children of its parent, in trees.
+-- Where a node stands among the children or the attributes of its parent, in trees.
 use Rattle.std.proofs.Common.{◌≡◌, ℕ, zero, suc, ◌+◌, ◌==◌, Bool, true, false, not, cond, ◌&&◌, ◌||◌, List, [], ◌∷◌, ◌++◌, map, length, nat_lt, Option, Some, None, refl, sym, ap, ◌∙◌, subst, inl, inr, arith}
 use Rattle.std.specs.Prelude.{⊤, ◌⊎◌, ◌≤◌, ◌<◌, filter, find, option_map, if◌then◌else◌}
 use Rattle.std.specs.List.{list_any, position_or_len}
@@ -8,62 +8,91 @@ use Rattle.xf_doc.specs.declared.content.Node.{Node}
 use Rattle.xf_doc.specs.declared.content.Content.{Content}
 use Rattle.xf_doc.specs.Forest.{is_attribute}
 use Rattle.xf_doc.specs.Visit.{Visit, visits, is_first, first_of, above_in, parent_of, has, children_of, attributes_of}
-use Rattle.xf_doc.specs.Changes.{at_place, place_among, place_in, with_place, standing}
-use Rattle.xf_doc.proofs.BackLaws.{and-true, or-false, false-true, one_number}
+use Rattle.xf_doc.proofs.BackLaws.{false-true, one_number}
 use Rattle.xf_rollback.proofs.Trees.{Trees, none, tree, onto, followed, times}
 use Rattle.xf_rollback.proofs.TreeTexts.{times-split, Where, here, inside as deeper, later, where_is}
 use Rattle.xf_rollback.proofs.TreeVisits.{seen, visits-seen}
-use Rattle.xf_rollback.proofs.TreeFacts.{is_at, or-cases}
 use Rattle.xf_rollback.proofs.TreeMoves.{removed, found, removed-absent, found-absent, followed-none}
-use Rattle.xf_rollback.proofs.TreePlaces.{inserted, with_tree, changed, changed-absent}
+use Rattle.xf_rollback.proofs.NodeKinds.{Each, FoundTree, found-tree}
+use Rattle.xf_rollback.proofs.TreePlaces.{inserted, beside, with_tree, changed, changed-absent}
 use Rattle.xf_rollback.proofs.TreeTops.{tops}
 use Rattle.xf_rollback.proofs.TreeOrder.{NoAttributes, AttributesFirst, Ordered}
 
--- ---- the children in the list
+abbrev pub is_child : Content → Bool
+is_child c = not (is_attribute c)
 
--- the children of a node among trees, before other numbers: true where the node is above them
-abbrev pub childs : Bool → ℕ → Trees → List ℕ → List ℕ
-childs u p none ns = ns
-childs u p (tree m c k r) ns = if u && not (is_attribute c) then m ∷ childs (p == m) p k (childs u p r ns) else childs (p == m) p k (childs u p r ns)
-
-children-seen : (p : ℕ) (up : List ℕ) (t : Trees) (vs : List Visit) → children_of p (seen up t vs) ≡ childs (is_first p up) p t (children_of p vs)
-children-seen p up none vs = refl
-children-seen p up (tree m c k r) vs = by (is_first p up && not (is_attribute c)) (children-seen p (m ∷ up) k (seen up r vs) ∙ ap (childs (p == m) p k) (children-seen p up r vs))
+pub child-plain : (c : Content) → is_child c ≡ true → is_attribute c ≡ false
+child-plain c h = by (is_attribute c) h
   where
-    by : (b : Bool) → children_of p (seen (m ∷ up) k (seen up r vs)) ≡ childs (p == m) p k (childs (is_first p up) p r (children_of p vs))
-        → map (λ (x : Visit). x.number) (cond b (record { number = m; above = up; content = c } ∷ filter (λ (x : Visit). is_first p x.above && not (is_attribute x.content)) (seen (m ∷ up) k (seen up r vs)))
-        (filter (λ (x : Visit). is_first p x.above && not (is_attribute x.content)) (seen (m ∷ up) k (seen up r vs))))
-        ≡ cond b (m ∷ childs (p == m) p k (childs (is_first p up) p r (children_of p vs))) (childs (p == m) p k (childs (is_first p up) p r (children_of p vs)))
+    by : (b : Bool) → not b ≡ true → b ≡ false
+    by true e = cc e
+    by false e = refl
+
+-- ---- those below a node, of a kind
+
+-- the numbers of the nodes of a kind that stand right below a node
+abbrev pub parts_of : (Content → Bool) → ℕ → List Visit → List ℕ
+parts_of w p all = map (λ x. x.number) (filter (λ x. is_first p x.above && w x.content) all)
+
+-- the same in trees, before other numbers: true where the node is above them
+abbrev pub parts : (Content → Bool) → Bool → ℕ → Trees → List ℕ → List ℕ
+parts w u p none ns = ns
+parts w u p (tree m c k r) ns = if u && w c then m ∷ parts w (p == m) p k (parts w u p r ns) else parts w (p == m) p k (parts w u p r ns)
+
+parts-seen : (w : Content → Bool) (p : ℕ) (up : List ℕ) (t : Trees) (vs : List Visit) → parts_of w p (seen up t vs) ≡ parts w (is_first p up) p t (parts_of w p vs)
+parts-seen w p up none vs = refl
+parts-seen w p up (tree m c k r) vs = by (is_first p up && w c) (parts-seen w p (m ∷ up) k (seen up r vs) ∙ ap (parts w (p == m) p k) (parts-seen w p up r vs))
+  where
+    by : (b : Bool) → parts_of w p (seen (m ∷ up) k (seen up r vs)) ≡ parts w (p == m) p k (parts w (is_first p up) p r (parts_of w p vs))
+        → map (λ (x : Visit). x.number) (cond b (record { number = m; above = up; content = c } ∷ filter (λ (x : Visit). is_first p x.above && w x.content) (seen (m ∷ up) k (seen up r vs)))
+        (filter (λ (x : Visit). is_first p x.above && w x.content) (seen (m ∷ up) k (seen up r vs))))
+        ≡ cond b (m ∷ parts w (p == m) p k (parts w (is_first p up) p r (parts_of w p vs))) (parts w (p == m) p k (parts w (is_first p up) p r (parts_of w p vs)))
     by true e = ap (λ l. m ∷ l) e
     by false e = e
 
-pub children-are : (p : ℕ) (t : Trees) → children_of p (visits (onto 0 t [])) ≡ childs false p t []
-children-are p t = ap (children_of p) (visits-seen t) ∙ children-seen p [] t []
+pub parts-are : (w : Content → Bool) (p : ℕ) (t : Trees) → parts_of w p (visits (onto 0 t [])) ≡ parts w false p t []
+parts-are w p t = ap (parts_of w p) (visits-seen t) ∙ parts-seen w p [] t []
 
--- the numbers of tops that are no attributes, before others
-abbrev pub names : Trees → List ℕ → List ℕ
-names none ns = ns
-names (tree m c k r) ns = if is_attribute c then names r ns else m ∷ names r ns
+-- the numbers of tops of a kind, before others
+abbrev pub names : (Content → Bool) → Trees → List ℕ → List ℕ
+names w none ns = ns
+names w (tree m c k r) ns = if w c then m ∷ names w r ns else names w r ns
 
-pub childs-absent : (p : ℕ) (t : Trees) (ns : List ℕ) → times p t ≡ 0 → childs false p t ns ≡ ns
-childs-absent p none ns h = refl
-childs-absent p (tree m c k r) ns h =
-    let parts = times-split p m c k r h in
-    let other : (p == m) ≡ false = let e = parts.0 in grind (arith, nat_tests, e) in
-    ap (λ b. childs b p k (childs false p r ns)) other ∙ childs-absent p k (childs false p r ns) parts.1 ∙ childs-absent p r ns parts.2
+pub parts-absent : (w : Content → Bool) (p : ℕ) (t : Trees) (ns : List ℕ) → times p t ≡ 0 → parts w false p t ns ≡ ns
+parts-absent w p none ns h = refl
+parts-absent w p (tree m c k r) ns h =
+    let split = times-split p m c k r h in
+    let other : (p == m) ≡ false = let e = split.0 in grind (arith, nat_tests, e) in
+    ap (λ b. parts w b p k (parts w false p r ns)) other ∙ parts-absent w p k (parts w false p r ns) split.1 ∙ parts-absent w p r ns split.2
 
-pub childs-names : (p : ℕ) (t : Trees) (ns : List ℕ) → times p t ≡ 0 → childs true p t ns ≡ names t ns
-childs-names p none ns h = refl
-childs-names p (tree m c k r) ns h =
-    let parts = times-split p m c k r h in
-    let other : (p == m) ≡ false = let e = parts.0 in grind (arith, nat_tests, e) in
-    let inner : childs (p == m) p k (childs true p r ns) ≡ names r ns
-    = ap (λ b. childs b p k (childs true p r ns)) other ∙ childs-absent p k (childs true p r ns) parts.1 ∙ childs-names p r ns parts.2 in
-    by (is_attribute c) inner
+pub parts-names : (w : Content → Bool) (p : ℕ) (t : Trees) (ns : List ℕ) → times p t ≡ 0 → parts w true p t ns ≡ names w t ns
+parts-names w p none ns h = refl
+parts-names w p (tree m c k r) ns h =
+    let split = times-split p m c k r h in
+    let other : (p == m) ≡ false = let e = split.0 in grind (arith, nat_tests, e) in
+    let inner : parts w (p == m) p k (parts w true p r ns) ≡ names w r ns
+    = ap (λ b. parts w b p k (parts w true p r ns)) other ∙ parts-absent w p k (parts w true p r ns) split.1 ∙ parts-names w p r ns split.2 in
+    by (w c) inner
   where
-    by : (b : Bool) → childs (p == m) p k (childs true p r ns) ≡ names r ns → cond (true && not b) (m ∷ childs (p == m) p k (childs true p r ns)) (childs (p == m) p k (childs true p r ns)) ≡ cond b (names r ns) (m ∷ names r ns)
-    by true e = e
-    by false e = ap (λ l. m ∷ l) e
+    by : (b : Bool) → parts w (p == m) p k (parts w true p r ns) ≡ names w r ns → cond (true && b) (m ∷ parts w (p == m) p k (parts w true p r ns)) (parts w (p == m) p k (parts w true p r ns)) ≡ cond b (m ∷ names w r ns) (names w r ns)
+    by true e = ap (λ l. m ∷ l) e
+    by false e = e
+
+-- a node of the other kind is none of them
+pub parts-other : (w : Content → Bool) (n : ℕ) (u : Bool) (p : ℕ) (t : Trees) (ns : List ℕ) → Each (λ c. w c ≡ false) n t → has n (parts w u p t ns) ≡ has n ns
+parts-other w n u p none ns h = refl
+parts-other w n u p (tree m c k r) ns h =
+    by (m == n) refl u (w c) refl (parts-other w n (p == m) p k (parts w u p r ns) h.1 ∙ parts-other w n u p r ns h.2)
+  where
+    turned : (m == n) ≡ false → (n == m) ≡ false
+    turned e = grind (arith, nat_tests, e)
+
+    by : (x : Bool) → (m == n) ≡ x → (u b : Bool) → w c ≡ b → has n (parts w (p == m) p k (parts w u p r ns)) ≡ has n ns
+        → has n (cond (u && b) (m ∷ parts w (p == m) p k (parts w u p r ns)) (parts w (p == m) p k (parts w u p r ns))) ≡ has n ns
+    by true e true true f g = absurd (false-true (sym (h.0 e) ∙ f))
+    by false e true true f g = rw (turned e) g
+    by x e true false f g = g
+    by x e false b f g = g
 
 -- ---- the parent
 
@@ -121,26 +150,21 @@ under-parent n p t once h = by (parent-found n p [] t [] once (subst (λ l. pare
 
 -- ---- its place
 
--- how many tops that are no attributes stand before the node
-abbrev pub rank : ℕ → Trees → ℕ
-rank n none = 0
-rank n (tree m c k r) = if m == n then 0 else if is_attribute c then rank n r else suc (rank n r)
+-- how many tops of a kind stand before the node
+abbrev pub rank : (Content → Bool) → ℕ → Trees → ℕ
+rank w n none = 0
+rank w n (tree m c k r) = if m == n then 0 else if w c then suc (rank w n r) else rank w n r
 
-pub not-at : (n m : ℕ) (c : Content) (k r : Trees) → is_at is_attribute n (tree m c k r) ≡ false → (((m == n) && is_attribute c) ≡ false) × (is_at is_attribute n k ≡ false) × (is_at is_attribute n r ≡ false)
-not-at n m c k r h =
-    let a = or-false ((m == n) && is_attribute c) (is_at is_attribute n k || is_at is_attribute n r) h in
-    let b = or-false (is_at is_attribute n k) (is_at is_attribute n r) a.1 in (a.0, b.0, b.1)
-
-pub rank-names : (n : ℕ) (k : Trees) (ns : List ℕ) → tops n k ≡ true → is_at is_attribute n k ≡ false → position_or_len (λ m. m == n) (names k ns) ≡ rank n k
-rank-names n none ns top plain = absurd (false-true top)
-rank-names n (tree m c k r) ns top plain =
-    let parts = not-at n m c k r plain in
+pub rank-names : (w : Content → Bool) (n : ℕ) (k : Trees) (ns : List ℕ) → tops n k ≡ true → Each (λ c. w c ≡ true) n k → position_or_len (λ m. m == n) (names w k ns) ≡ rank w n k
+rank-names w n none ns top each = absurd (false-true top)
+rank-names w n (tree m c k r) ns top each =
     elim (cases_Bool (m == n)) [
-      | inl e ↦ let q : is_attribute c ≡ false = rw e at parts.0 in rw q (rw e refl)
-      | inr e ↦ elim (cases_Bool (is_attribute c)) [
-        | inl q ↦ rw (q, e) (rank-names n r ns (rw e at top) parts.2)
-        | inr q ↦ let h : position_or_len (λ m. m == n) (names r ns) ≡ rank n r = rank-names n r ns (rw e at top) parts.2 in rw (q, e) (omega (arith, h))
-      ]
+      | inl e ↦ rw (each.0 e) (rw e refl)
+      | inr e ↦ let h : position_or_len (λ m. m == n) (names w r ns) ≡ rank w n r = rank-names w n r ns (rw e at top) each.2 in
+          elim (cases_Bool (w c)) [
+            | inl q ↦ rw (q, e) (omega (arith, h))
+            | inr q ↦ rw (q, e) h
+          ]
     ]
 
 pub tops-times : (n : ℕ) (t : Trees) → tops n t ≡ true → 1 ≤ times n t
@@ -151,77 +175,77 @@ tops-times n (tree m c k r) h =
       | inr e ↦ let z : 1 ≤ times n r = tops-times n r (rw e at h) in rw e (omega (arith, z))
     ]
 
--- the tree of a top
-pub record TopTree (n : ℕ) (k : Trees) : Type 0 where
-  pub content : Content
-  pub below : Trees
-  pub is : found n k ≡ tree n content below none
-  pub plain : is_attribute content ≡ false
-
-pub top-tree : (n : ℕ) (k : Trees) → tops n k ≡ true → times n k ≡ 1 → is_at is_attribute n k ≡ false → TopTree n k
-top-tree n none top once plain = absurd (false-true top)
-top-tree n (tree m c k r) top once plain =
-    let parts = not-at n m c k r plain in
-    elim (cases_Bool (m == n)) [
-      | inl e ↦
-          let in_r : times n r ≡ 0 = omega (arith, (rw e at once)) in
-          first e in_r (rw e at parts.0)
-      | inr e ↦
-          let t = rest e (rw e at top) in
-          next e t.0 (top-tree n r (rw e at top) t.1 parts.2)
-    ]
-  where
-    first : (m == n) ≡ true → times n r ≡ 0 → is_attribute c ≡ false → TopTree n (tree m c k r)
-    first e in_r q = record {
-      content = c;
-      below = k;
-      is = rw e (ap (λ x. tree m c k x) (found-absent n r in_r) ∙ ap (λ x. tree x c k none) (one_number m n e));
-      plain = q;
-    }
-
-    rest : (m == n) ≡ false → tops n r ≡ true → (times n k ≡ 0) × (times n r ≡ 1)
-    rest e t = let z = tops-times n r t in (omega (arith, z, (rw e at once)), omega (arith, z, (rw e at once)))
-
-    next : (m == n) ≡ false → times n k ≡ 0 → TopTree n r → TopTree n (tree m c k r)
-    next e in_k t = record {
-      content = t.content;
-      below = t.below;
-      is = rw e (ap (λ x. followed x (found n r)) (found-absent n k in_k) ∙ t.is);
-      plain = t.plain;
-    }
+-- ---- a top is put again where it stood
 
 inserted-first : (s r : Trees) → NoAttributes r → inserted zero s r ≡ followed s r
 inserted-first s none h = sym (followed-none s)
 inserted-first s (tree m c k r) h = rw h.0 refl
 
--- a top is put again where it stood
-pub inserted-again : (n : ℕ) (k : Trees) → tops n k ≡ true → times n k ≡ 1 → is_at is_attribute n k ≡ false → AttributesFirst k → inserted (rank n k) (found n k) (removed n k) ≡ k
-inserted-again n none top once plain order = absurd (false-true top)
-inserted-again n (tree m c k r) top once plain order =
-    let parts = not-at n m c k r plain in
+pub inserted-again : (n : ℕ) (k : Trees) → tops n k ≡ true → times n k ≡ 1 → Each (λ c. is_child c ≡ true) n k → AttributesFirst k → inserted (rank is_child n k) (found n k) (removed n k) ≡ k
+inserted-again n none top once each order = absurd (false-true top)
+inserted-again n (tree m c k r) top once each order =
     elim (cases_Bool (m == n)) [
       | inl e ↦
           let in_r : times n r ≡ 0 = omega (arith, (rw e at once)) in
-          first e in_r (order.0 (rw e at parts.0))
+          first e in_r (order.0 (child-plain c (each.0 e)))
       | inr e ↦
           let z = tops-times n r (rw e at top) in
           let in_k : times n k ≡ 0 = omega (arith, z, (rw e at once)) in
           let in_r : times n r ≡ 1 = omega (arith, z, (rw e at once)) in
-          rest e in_k (inserted-again n r (rw e at top) in_r parts.2 order.1)
+          rest e in_k (inserted-again n r (rw e at top) in_r each.2 order.1)
     ]
   where
-    first : (m == n) ≡ true → times n r ≡ 0 → NoAttributes r → inserted (rank n (tree m c k r)) (found n (tree m c k r)) (removed n (tree m c k r)) ≡ tree m c k r
+    first : (m == n) ≡ true → times n r ≡ 0 → NoAttributes r → inserted (rank is_child n (tree m c k r)) (found n (tree m c k r)) (removed n (tree m c k r)) ≡ tree m c k r
     first e in_r plain_after =
         rw e (ap (inserted 0 (tree m c k (found n r))) (removed-absent n r in_r) ∙ ap (λ x. inserted 0 (tree m c k x) r) (found-absent n r in_r)
         ∙ inserted-first (tree m c k none) r plain_after)
 
-    rest : (m == n) ≡ false → times n k ≡ 0 → inserted (rank n r) (found n r) (removed n r) ≡ r → inserted (rank n (tree m c k r)) (found n (tree m c k r)) (removed n (tree m c k r)) ≡ tree m c k r
-    rest e in_k h = rw e (ap (λ x. inserted (if is_attribute c then rank n r else suc (rank n r)) (followed x (found n r)) (tree m c (removed n k) (removed n r))) (found-absent n k in_k)
-        ∙ ap (λ x. inserted (if is_attribute c then rank n r else suc (rank n r)) (found n r) (tree m c x (removed n r))) (removed-absent n k in_k) ∙ by (is_attribute c) refl)
+    rest : (m == n) ≡ false → times n k ≡ 0 → inserted (rank is_child n r) (found n r) (removed n r) ≡ r → inserted (rank is_child n (tree m c k r)) (found n (tree m c k r)) (removed n (tree m c k r)) ≡ tree m c k r
+    rest e in_k h = rw e (ap (λ x. inserted (if is_child c then suc (rank is_child n r) else rank is_child n r) (followed x (found n r)) (tree m c (removed n k) (removed n r))) (found-absent n k in_k)
+        ∙ ap (λ x. inserted (if is_child c then suc (rank is_child n r) else rank is_child n r) (found n r) (tree m c x (removed n r))) (removed-absent n k in_k) ∙ by (is_attribute c) refl)
       where
-        by : (b : Bool) → is_attribute c ≡ b → inserted (cond b (rank n r) (suc (rank n r))) (found n r) (tree m c k (removed n r)) ≡ tree m c k r
+        by : (b : Bool) → is_attribute c ≡ b → inserted (cond (not b) (suc (rank is_child n r)) (rank is_child n r)) (found n r) (tree m c k (removed n r)) ≡ tree m c k r
         by true q = rw q (ap (tree m c k) h)
         by false q = rw q (ap (tree m c k) h)
+
+beside-first : (s r : Trees) → beside zero s r ≡ followed s r
+beside-first s none = sym (followed-none s)
+beside-first s (tree m c k r) = by (is_attribute c)
+  where
+    by : (b : Bool) → cond b (followed s (tree m c k r)) (followed s (tree m c k r)) ≡ followed s (tree m c k r)
+    by true = refl
+    by false = refl
+
+pub none-top : (n : ℕ) (r : Trees) → NoAttributes r → tops n r ≡ true → Each (λ c. is_attribute c ≡ true) n r → ⊥
+none-top n none h top each = false-true top
+none-top n (tree m c k r) h top each =
+    elim (cases_Bool (m == n)) [
+      | inl e ↦ false-true (sym h.0 ∙ each.0 e)
+      | inr e ↦ none-top n r h.1 (rw e at top) each.2
+    ]
+
+pub beside-again : (n : ℕ) (k : Trees) → tops n k ≡ true → times n k ≡ 1 → Each (λ c. is_attribute c ≡ true) n k → AttributesFirst k → beside (rank is_attribute n k) (found n k) (removed n k) ≡ k
+beside-again n none top once each order = absurd (false-true top)
+beside-again n (tree m c k r) top once each order =
+    elim (cases_Bool (m == n)) [
+      | inl e ↦
+          let in_r : times n r ≡ 0 = omega (arith, (rw e at once)) in
+          rw e (ap (beside 0 (tree m c k (found n r))) (removed-absent n r in_r) ∙ ap (λ x. beside 0 (tree m c k x) r) (found-absent n r in_r) ∙ beside-first (tree m c k none) r)
+      | inr e ↦
+          let z = tops-times n r (rw e at top) in
+          let in_k : times n k ≡ 0 = omega (arith, z, (rw e at once)) in
+          let in_r : times n r ≡ 1 = omega (arith, z, (rw e at once)) in
+          rest e in_k (is_one (is_attribute c) refl (rw e at top)) (beside-again n r (rw e at top) in_r each.2 order.1)
+    ]
+  where
+    is_one : (b : Bool) → is_attribute c ≡ b → tops n r ≡ true → is_attribute c ≡ true
+    is_one true q h = q
+    is_one false q h = absurd (none-top n r (order.0 q) h each.2)
+
+    rest : (m == n) ≡ false → times n k ≡ 0 → is_attribute c ≡ true → beside (rank is_attribute n r) (found n r) (removed n r) ≡ r
+        → beside (rank is_attribute n (tree m c k r)) (found n (tree m c k r)) (removed n (tree m c k r)) ≡ tree m c k r
+    rest e in_k q h = rw (e, q) (ap (λ x. tree m c (removed n k) (beside (rank is_attribute n r) (followed x (found n r)) (removed n r))) (found-absent n k in_k)
+        ∙ ap (λ x. tree m c x (beside (rank is_attribute n r) (found n r) (removed n r))) (removed-absent n k in_k) ∙ ap (tree m c k) h)
 
 pub under-times : (n p : ℕ) (t : Trees) → Under n p t → (1 ≤ times n t) × (1 ≤ times p t)
 under-times n p none u = absurd u
@@ -229,12 +253,15 @@ under-times n p (tree m c k r) (inl u) = let a = tops-times n k u.1 in let e = u
 under-times n p (tree m c k r) (inr (inl u)) = let a = under-times n p k u in let b = a.0 in let d = a.1 in (omega (arith, b), omega (arith, d))
 under-times n p (tree m c k r) (inr (inr u)) = let a = under-times n p r u in let b = a.0 in let d = a.1 in (omega (arith, b), omega (arith, d))
 
+-- tops of a kind are put again where they stood
+abbrev pub Again : (Content → Bool) → ℕ → Type 0
+Again w n = (k : Trees) → tops n k ≡ true → times n k ≡ 1 → Each (λ c. w c ≡ true) n k → AttributesFirst k → with_tree (rank w n k) (found n k) (removed n k) ≡ k
+
 -- so is a node below its parent
-pub changed-again : (n p : ℕ) (t : Trees) (ns : List ℕ) → Under n p t → times n t ≡ 1 → times p t ≡ 1 → is_at is_attribute n t ≡ false → Ordered t
-    → changed p (with_tree (position_or_len (λ m. m == n) (childs false p t ns)) (found n t)) (removed n t) ≡ t
-changed-again n p none ns under once one plain order = absurd under
-changed-again n p (tree m c k r) ns (inl u) once one plain order =
-    let parts = not-at n m c k r plain in
+pub changed-again : (w : Content → Bool) (n : ℕ) → Again w n → (p : ℕ) (t : Trees) (ns : List ℕ) → Under n p t → times n t ≡ 1 → times p t ≡ 1 → Each (λ c. w c ≡ true) n t → Ordered t
+    → changed p (with_tree (position_or_len (λ m. m == n) (parts w false p t ns)) (found n t)) (removed n t) ≡ t
+changed-again w n again p none ns under once one each order = absurd under
+changed-again w n again p (tree m c k r) ns (inl u) once one each order =
     let e = u.0 in
     let a = tops-times n k u.1 in
     let p_k : times p k ≡ 0 = omega (arith, (rw e at one)) in
@@ -244,20 +271,14 @@ changed-again n p (tree m c k r) ns (inl u) once one plain order =
     let n_r : times n r ≡ 0 = omega (arith, a, (rw other at once)) in
     let turned : (p == m) ≡ true = grind (arith, nat_tests, e) in
     let tree_is : found n (tree m c k r) ≡ found n k = rw other (ap (followed (found n k)) (found-absent n r n_r) ∙ followed-none (found n k)) in
-    let place_is : position_or_len (λ m. m == n) (childs false p (tree m c k r) ns) ≡ rank n k
-    = ap (position_or_len (λ m. m == n)) (ap (λ b. childs b p k (childs false p r ns)) turned ∙ childs-names p k (childs false p r ns) p_k) ∙ rank-names n k (childs false p r ns) u.1 parts.1 in
-    let top = top-tree n k u.1 n_k parts.1 in
-    let kids : with_tree (rank n k) (found n k) (removed n k) ≡ k
-    = ap (λ x. with_tree (rank n k) x (removed n k)) top.is ∙ plainly top.content top.below top.plain ∙ ap (λ x. inserted (rank n k) x (removed n k)) (sym top.is) ∙ inserted-again n k u.1 n_k parts.1 order.0 in
-    ap (λ x. changed p (with_tree (position_or_len (λ m. m == n) (childs false p (tree m c k r) ns)) x) (removed n (tree m c k r))) tree_is
+    let place_is : position_or_len (λ m. m == n) (parts w false p (tree m c k r) ns) ≡ rank w n k
+    = ap (position_or_len (λ m. m == n)) (ap (λ b. parts w b p k (parts w false p r ns)) turned ∙ parts-names w p k (parts w false p r ns) p_k) ∙ rank-names w n k (parts w false p r ns) u.1 each.1 in
+    let kids : with_tree (rank w n k) (found n k) (removed n k) ≡ k = again k u.1 n_k each.1 order.0 in
+    ap (λ x. changed p (with_tree (position_or_len (λ m. m == n) (parts w false p (tree m c k r) ns)) x) (removed n (tree m c k r))) tree_is
     ∙ ap (λ i. changed p (with_tree i (found n k)) (removed n (tree m c k r))) place_is
-    ∙ rw other (rw e (ap (λ x. tree m c x (changed p (with_tree (rank n k) (found n k)) (removed n r))) kids
-    ∙ ap (λ x. tree m c k (changed p (with_tree (rank n k) (found n k)) x)) (removed-absent n r n_r) ∙ ap (tree m c k) (changed-absent p (with_tree (rank n k) (found n k)) r p_r)))
-  where
-    plainly : (d : Content) (j : Trees) → is_attribute d ≡ false → with_tree (rank n k) (tree n d j none) (removed n k) ≡ inserted (rank n k) (tree n d j none) (removed n k)
-    plainly d j q = rw q refl
-changed-again n p (tree m c k r) ns (inr (inl u)) once one plain order =
-    let parts = not-at n m c k r plain in
+    ∙ rw other (rw e (ap (λ x. tree m c x (changed p (with_tree (rank w n k) (found n k)) (removed n r))) kids
+    ∙ ap (λ x. tree m c k (changed p (with_tree (rank w n k) (found n k)) x)) (removed-absent n r n_r) ∙ ap (tree m c k) (changed-absent p (with_tree (rank w n k) (found n k)) r p_r)))
+changed-again w n again p (tree m c k r) ns (inr (inl u)) once one each order =
     let a = (under-times n p k u).0 in
     let b = (under-times n p k u).1 in
     let other_p : (m == p) ≡ false = elim (cases_Bool (m == p)) [ inl f ↦ absurd (omega (arith, b, (rw f at one))) | inr f ↦ f ] in
@@ -268,14 +289,13 @@ changed-again n p (tree m c k r) ns (inr (inl u)) once one plain order =
     let p_r : times p r ≡ 0 = omega (arith, b, (rw other_p at one)) in
     let turned : (p == m) ≡ false = grind (arith, nat_tests, other_p) in
     let tree_is : found n (tree m c k r) ≡ found n k = rw other (ap (followed (found n k)) (found-absent n r n_r) ∙ followed-none (found n k)) in
-    let list_is : childs false p (tree m c k r) ns ≡ childs false p k (childs false p r ns) = ap (λ b. childs b p k (childs false p r ns)) turned in
-    let place = position_or_len (λ m. m == n) (childs false p k (childs false p r ns)) in
-    ap (λ x. changed p (with_tree (position_or_len (λ m. m == n) (childs false p (tree m c k r) ns)) x) (removed n (tree m c k r))) tree_is
+    let list_is : parts w false p (tree m c k r) ns ≡ parts w false p k (parts w false p r ns) = ap (λ b. parts w b p k (parts w false p r ns)) turned in
+    let place = position_or_len (λ m. m == n) (parts w false p k (parts w false p r ns)) in
+    ap (λ x. changed p (with_tree (position_or_len (λ m. m == n) (parts w false p (tree m c k r) ns)) x) (removed n (tree m c k r))) tree_is
     ∙ ap (λ l. changed p (with_tree (position_or_len (λ m. m == n) l) (found n k)) (removed n (tree m c k r))) list_is
-    ∙ rw other (rw other_p (ap (λ x. tree m c x (changed p (with_tree place (found n k)) (removed n r))) (changed-again n p k (childs false p r ns) u n_k p_k parts.1 order.1)
+    ∙ rw other (rw other_p (ap (λ x. tree m c x (changed p (with_tree place (found n k)) (removed n r))) (changed-again w n again p k (parts w false p r ns) u n_k p_k each.1 order.1)
     ∙ ap (λ x. tree m c k (changed p (with_tree place (found n k)) x)) (removed-absent n r n_r) ∙ ap (tree m c k) (changed-absent p (with_tree place (found n k)) r p_r)))
-changed-again n p (tree m c k r) ns (inr (inr u)) once one plain order =
-    let parts = not-at n m c k r plain in
+changed-again w n again p (tree m c k r) ns (inr (inr u)) once one each order =
     let a = (under-times n p r u).0 in
     let b = (under-times n p r u).1 in
     let other_p : (m == p) ≡ false = elim (cases_Bool (m == p)) [ inl f ↦ absurd (omega (arith, b, (rw f at one))) | inr f ↦ f ] in
@@ -286,9 +306,26 @@ changed-again n p (tree m c k r) ns (inr (inr u)) once one plain order =
     let p_k : times p k ≡ 0 = omega (arith, b, (rw other_p at one)) in
     let turned : (p == m) ≡ false = grind (arith, nat_tests, other_p) in
     let tree_is : found n (tree m c k r) ≡ found n r = rw other (ap (λ x. followed x (found n r)) (found-absent n k n_k)) in
-    let list_is : childs false p (tree m c k r) ns ≡ childs false p r ns = ap (λ b. childs b p k (childs false p r ns)) turned ∙ childs-absent p k (childs false p r ns) p_k in
-    let place = position_or_len (λ m. m == n) (childs false p r ns) in
-    ap (λ x. changed p (with_tree (position_or_len (λ m. m == n) (childs false p (tree m c k r) ns)) x) (removed n (tree m c k r))) tree_is
+    let list_is : parts w false p (tree m c k r) ns ≡ parts w false p r ns = ap (λ b. parts w b p k (parts w false p r ns)) turned ∙ parts-absent w p k (parts w false p r ns) p_k in
+    let place = position_or_len (λ m. m == n) (parts w false p r ns) in
+    ap (λ x. changed p (with_tree (position_or_len (λ m. m == n) (parts w false p (tree m c k r) ns)) x) (removed n (tree m c k r))) tree_is
     ∙ ap (λ l. changed p (with_tree (position_or_len (λ m. m == n) l) (found n r)) (removed n (tree m c k r))) list_is
     ∙ rw other (rw other_p (ap (λ x. tree m c (changed p (with_tree place (found n r)) x) (changed p (with_tree place (found n r)) (removed n r))) (removed-absent n k n_k)
-    ∙ ap (λ x. tree m c x (changed p (with_tree place (found n r)) (removed n r))) (changed-absent p (with_tree place (found n r)) k p_k) ∙ ap (tree m c k) (changed-again n p r ns u n_r p_r parts.2 order.2)))
+    ∙ ap (λ x. tree m c x (changed p (with_tree place (found n r)) (removed n r))) (changed-absent p (with_tree place (found n r)) k p_k) ∙ ap (tree m c k) (changed-again w n again p r ns u n_r p_r each.2 order.2)))
+
+-- a child is put among children, and an attribute among attributes
+pub child-again : (n : ℕ) → Again is_child n
+child-again n k top once each order =
+    let t = found-tree (λ c. is_child c ≡ true) n k once each in
+    ap (λ x. with_tree (rank is_child n k) x (removed n k)) t.is ∙ plainly t.content t.below (child-plain t.content t.kind) ∙ ap (λ x. inserted (rank is_child n k) x (removed n k)) (sym t.is) ∙ inserted-again n k top once each order
+  where
+    plainly : (d : Content) (j : Trees) → is_attribute d ≡ false → with_tree (rank is_child n k) (tree n d j none) (removed n k) ≡ inserted (rank is_child n k) (tree n d j none) (removed n k)
+    plainly d j q = rw q refl
+
+pub attribute-again : (n : ℕ) → Again is_attribute n
+attribute-again n k top once each order =
+    let t = found-tree (λ c. is_attribute c ≡ true) n k once each in
+    ap (λ x. with_tree (rank is_attribute n k) x (removed n k)) t.is ∙ plainly t.content t.below t.kind ∙ ap (λ x. beside (rank is_attribute n k) x (removed n k)) (sym t.is) ∙ beside-again n k top once each order
+  where
+    plainly : (d : Content) (j : Trees) → is_attribute d ≡ true → with_tree (rank is_attribute n k) (tree n d j none) (removed n k) ≡ beside (rank is_attribute n k) (tree n d j none) (removed n k)
+    plainly d j q = rw q refl

@@ -1,15 +1,12 @@
 -- What the trees of a forest keep: attributes and texts have nothing below them, and a root has nothing above.
-use Rattle.std.proofs.Common.{◌≡◌, ℕ, zero, suc, ◌+◌, ◌==◌, Bool, true, false, not, cond, ◌&&◌, ◌||◌, List, [], ◌∷◌, ◌++◌, map, nat_lt, refl, sym, ap, ◌∙◌, subst, inl, inr, arith}
-use Rattle.std.specs.Prelude.{⊤, nat_le, ◌≤◌, if◌then◌else◌}
-use Rattle.std.specs.List.{list_any, list_all}
-use Rattle.std.proofs.lemmas.Bool.{cases_Bool}
+use Rattle.std.proofs.Common.{◌≡◌, ℕ, suc, ◌+◌, ◌==◌, Bool, true, false, not, cond, ◌&&◌, ◌||◌, List, [], ◌∷◌, refl, subst, arith}
+use Rattle.std.specs.Prelude.{⊤, nat_le, if◌then◌else◌}
 use Rattle.std.proofs.lemmas.Bool.Decides.{nat_tests}
 use Rattle.xf_doc.specs.declared.content.Node.{Node}
 use Rattle.xf_doc.specs.declared.content.Content.{Content}
-use Rattle.xf_doc.specs.declared.content.Content.TheVariants.{Root, Element, Attribute, Text}
-use Rattle.xf_doc.specs.Forest.{is_root, is_element, is_attribute, is_text, has_number}
-use Rattle.xf_doc.specs.WellFormed.{IsForest, reach, are_depths_from, are_roots_first, are_apart}
-use Rattle.xf_doc.proofs.BackLaws.{and-true, or-false, not-true, false-true}
+use Rattle.xf_doc.specs.Forest.{is_root, is_attribute, is_text}
+use Rattle.xf_doc.specs.WellFormed.{reach, are_depths_from, are_depths, are_tops}
+use Rattle.xf_doc.proofs.BackLaws.{and-true, false-true}
 use Rattle.xf_rollback.proofs.Trees.{Trees, none, tree, onto, times, followed}
 
 -- what has nothing below it
@@ -63,35 +60,32 @@ flat-onto d most (tree n c k r) ys h =
       rest = two.rest;
     }
 
-record Roots (inside : Bool) (t : Trees) (ys : List Node) : Type 0 where
-  inner : Inner inside t
-  past : Bool
-  rest : are_roots_first past ys ≡ true
-
+-- what stands at this depth is below a node, or is a top
 abbrev is_inside : ℕ → Bool
 is_inside d = not (d == 0)
 
-roots-onto : (d : ℕ) (past : Bool) (t : Trees) (ys : List Node) → are_roots_first past (onto d t ys) ≡ true → Roots (is_inside d) t ys
-roots-onto d past none ys h = record { inner = tt; past = past; rest = h }
-roots-onto d past (tree n c k r) ys h =
-    let head = by (is_root c) h in
-    let one = roots-onto (suc d) head.1 k (onto d r ys) head.2 in
-    let two = roots-onto d one.past r ys one.rest in
-    let deep : is_inside (suc d) ≡ true = grind (arith, nat_tests) in
-    record { inner = (head.0, subst (λ b. Inner b k) deep one.inner, two.inner); past = two.past; rest = two.rest }
-  where
-    by : (b : Bool) → cond b ((d == 0) && not past && are_roots_first past (onto (suc d) k (onto d r ys))) (are_roots_first (past || (d == 0)) (onto (suc d) k (onto d r ys))) ≡ true
-        → ((b && is_inside d) ≡ false) × (later : Bool) × (are_roots_first later (onto (suc d) k (onto d r ys)) ≡ true)
-    by true h =
-        let parts = and-true ((d == 0) && not past) (are_roots_first past (onto (suc d) k (onto d r ys))) h in
-        let top = (and-true (d == 0) (not past) parts.0).0 in
-        (ap not top, past, parts.1)
-    by false h = (refl, past || (d == 0), h)
+record Tops (inside : Bool) (t : Trees) (ys : List Node) : Type 0 where
+  inner : Inner inside t
+  rest : are_tops ys ≡ true
 
-pub sound-forest : (t : Trees) (next : ℕ) → IsForest (record { nodes = onto 0 t []; next = next }) → Sound false t
-sound-forest t next forest =
+tops-onto : (d : ℕ) (t : Trees) (ys : List Node) → are_tops (onto d t ys) ≡ true → Tops (is_inside d) t ys
+tops-onto d none ys h = record { inner = tt; rest = h }
+tops-onto d (tree n c k r) ys h =
+    let head = and-true (not (is_root c) || (d == 0)) (are_tops (onto (suc d) k (onto d r ys))) h in
+    let one = tops-onto (suc d) k (onto d r ys) head.1 in
+    let two = tops-onto d r ys one.rest in
+    let deep : is_inside (suc d) ≡ true = grind (arith, nat_tests) in
+    record { inner = (by (is_root c) (d == 0) head.0, subst (λ b. Inner b k) deep one.inner, two.inner); rest = two.rest }
+  where
+    by : (a b : Bool) → (not a || b) ≡ true → (a && not b) ≡ false
+    by true true h = refl
+    by true false h = absurd (false-true h)
+    by false b h = refl
+
+pub sound-trees : (t : Trees) → are_depths (onto 0 t []) ≡ true → are_tops (onto 0 t []) ≡ true → Sound false t
+sound-trees t depths tops =
     let zero_ : is_inside 0 ≡ false = grind (arith, nat_tests) in
-    sound-of false t (flat-onto 0 0 t [] forest.depths).flat (subst (λ b. Inner b t) zero_ (roots-onto 0 false t [] forest.roots).inner)
+    sound-of false t (flat-onto 0 0 t [] depths).flat (subst (λ b. Inner b t) zero_ (tops-onto 0 t [] tops).inner)
 
 -- ---- numbers
 

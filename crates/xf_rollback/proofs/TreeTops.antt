@@ -1,6 +1,6 @@
 -- The tops of trees: detached trees stand after the roots, and can be put last.
-use Rattle.std.proofs.Common.{◌≡◌, ℕ, zero, suc, ◌+◌, ◌==◌, Bool, true, false, not, cond, ◌&&◌, ◌||◌, List, [], ◌∷◌, refl, sym, ap, ◌∙◌, subst, inl, inr, arith}
-use Rattle.std.specs.Prelude.{⊤, ◌≤◌, ◌<◌, is_some, find, Option, if◌then◌else◌}
+use Rattle.std.proofs.Common.{◌≡◌, ℕ, suc, ◌+◌, ◌==◌, Bool, true, false, cond, ◌&&◌, ◌||◌, List, [], ◌∷◌, refl, sym, ap, ◌∙◌, subst, inl, inr, arith}
+use Rattle.std.specs.Prelude.{⊤, ◌≤◌, is_some, find}
 use Rattle.std.specs.List.{list_any}
 use Rattle.std.proofs.lemmas.Bool.{cases_Bool}
 use Rattle.std.proofs.lemmas.Bool.Decides.{nat_tests}
@@ -9,15 +9,14 @@ use Rattle.xf_doc.specs.declared.content.Content.{Content}
 use Rattle.xf_doc.specs.Forest.{is_root}
 use Rattle.xf_doc.specs.Visit.{Visit, visits, above_in, first_of, parent_of}
 use Rattle.xf_doc.specs.Needs.{is_top}
-use Rattle.xf_doc.specs.WellFormed.{are_roots_first}
-use Rattle.xf_doc.proofs.BackLaws.{and-true, or-false, false-true}
-use Rattle.xf_rollback.proofs.Trees.{Trees, none, tree, onto, followed, times, times-followed}
+use Rattle.xf_doc.proofs.BackLaws.{or-false, false-true}
+use Rattle.xf_rollback.proofs.Trees.{Trees, none, tree, onto, followed, times}
 use Rattle.xf_rollback.proofs.TreeTexts.{times-split}
 use Rattle.xf_rollback.proofs.TreeVisits.{seen, visits-seen}
 use Rattle.xf_rollback.proofs.TreeMoved.{Moved, same, swap, under, through}
 use Rattle.xf_rollback.proofs.TreeBlank.{blank}
 use Rattle.xf_rollback.proofs.TreeFacts.{is_at}
-use Rattle.xf_rollback.proofs.TreeMoves.{removed, found, removed-absent, found-absent, followed-none}
+use Rattle.xf_rollback.proofs.TreeMoves.{removed, found, removed-absent, found-absent}
 use Rattle.xf_rollback.proofs.TreePlaces.{changed}
 use Rattle.xf_rollback.proofs.Alike.{Fresh}
 
@@ -89,61 +88,35 @@ abbrev pub TopAt : ℕ → Trees → Type 0
 TopAt n none = ⊥
 TopAt n (tree m c k r) = cond (m == n) ((is_root c ≡ false) × NoRoots r) (TopAt n r)
 
-skip-roots : (past : Bool) (d : ℕ) (t : Trees) (ys : List Node) → are_roots_first past (onto (suc d) t ys) ≡ true → are_roots_first past ys ≡ true
-skip-roots past d none ys h = h
-skip-roots past d (tree m c k r) ys h = skip-roots past d r ys (skip-roots past (suc d) k (onto (suc d) r ys) (by (is_root c) h))
-  where
-    deep : (suc d == 0) ≡ false
-    deep = grind (arith, nat_tests)
+-- the roots stand before the other trees
+abbrev pub RootsFirst : Trees → Type 0
+RootsFirst none = ⊤
+RootsFirst (tree n c k r) = cond (is_root c) (RootsFirst r) (NoRoots r)
 
-    or-none : (b : Bool) → (b || false) ≡ b
-    or-none true = refl
-    or-none false = refl
+pub none-first : (t : Trees) → NoRoots t → RootsFirst t
+none-first none h = tt
+none-first (tree n c k r) h = rw h.0 h.1
 
-    by : (b : Bool) → cond b ((suc d == 0) && not past && are_roots_first past (onto (suc (suc d)) k (onto (suc d) r ys))) (are_roots_first (past || (suc d == 0)) (onto (suc (suc d)) k (onto (suc d) r ys))) ≡ true
-        → are_roots_first past (onto (suc (suc d)) k (onto (suc d) r ys)) ≡ true
-    by true h = (and-true ((suc d == 0) && not past) (are_roots_first past (onto (suc (suc d)) k (onto (suc d) r ys))) h).1
-    by false h = subst (λ b. are_roots_first b (onto (suc (suc d)) k (onto (suc d) r ys)) ≡ true) (ap (λ b. past || b) deep ∙ or-none past) h
+pub rest-first : (b : Bool) (t : Trees) → cond b (RootsFirst t) (NoRoots t) → RootsFirst t
+rest-first true t h = h
+rest-first false t h = none-first t h
 
-abbrev FirstAt : Bool → Bool → List Node → Type 0
-FirstAt b past ys = cond b ((0 == 0) && not past && are_roots_first past ys) (are_roots_first (past || (0 == 0)) ys) ≡ true
-
-no-roots-after : (t : Trees) → are_roots_first true (onto 0 t []) ≡ true → NoRoots t
-no-roots-after none h = tt
-no-roots-after (tree m c k r) h = by (is_root c) h (λ g. no-roots-after r (skip-roots true 0 k (onto 0 r []) g))
-  where
-    by : (b : Bool) → FirstAt b true (onto 1 k (onto 0 r [])) → (are_roots_first true (onto 1 k (onto 0 r [])) ≡ true → NoRoots r) → (b ≡ false) × NoRoots r
-    by true h next = absurd (false-true h)
-    by false h next = (refl, next h)
-
-at-first : (n m : ℕ) (c : Content) (k r : Trees) → (m == n) ≡ true → is_at is_root n (tree m c k r) ≡ false → is_root c ≡ false
+pub at-first : (n m : ℕ) (c : Content) (k r : Trees) → (m == n) ≡ true → is_at is_root n (tree m c k r) ≡ false → is_root c ≡ false
 at-first n m c k r e h = (or-false (is_root c) (is_at is_root n k || is_at is_root n r) (rw e at h)).0
 
-pub top-at : (n : ℕ) (past : Bool) (t : Trees) → are_roots_first past (onto 0 t []) ≡ true → tops n t ≡ true → is_at is_root n t ≡ false → TopAt n t
-top-at n past none h top other = false-true top
-top-at n past (tree m c k r) h top other =
+pub top-at : (n : ℕ) (t : Trees) → RootsFirst t → tops n t ≡ true → is_at is_root n t ≡ false → TopAt n t
+top-at n none h top other = false-true top
+top-at n (tree m c k r) h top other =
     elim (cases_Bool (m == n)) [
-      | inl e ↦
-          let plain = at-first n m c k r e other in
-          rw e (plain, no-roots-after r (skip-roots true 0 k (onto 0 r []) (first past (subst (λ b. FirstAt b past (onto 1 k (onto 0 r []))) plain h))))
-      | inr e ↦
-          let rest = next past (is_root c) h in
-          rw e (top-at n rest.0 r (skip-roots rest.0 0 k (onto 0 r []) rest.1) (rw e at top) (or-false (is_at is_root n k) (is_at is_root n r) (rw e at other)).1)
+      | inl e ↦ let plain = at-first n m c k r e other in rw e (plain, (rw plain at h))
+      | inr e ↦ rw e (top-at n r (rest-first (is_root c) r h) (rw e at top) (or-false (is_at is_root n k) (is_at is_root n r) (rw e at other)).1)
     ]
-  where
-    first : (past : Bool) → FirstAt false past (onto 1 k (onto 0 r [])) → are_roots_first true (onto 1 k (onto 0 r [])) ≡ true
-    first true h = h
-    first false h = h
-
-    next : (past b : Bool) → FirstAt b past (onto 1 k (onto 0 r [])) → (later : Bool) × (are_roots_first later (onto 1 k (onto 0 r [])) ≡ true)
-    next past true h = (past, (and-true ((0 == 0) && not past) (are_roots_first past (onto 1 k (onto 0 r []))) h).1)
-    next past false h = (past || (0 == 0), h)
 
 pub fresh-no_roots : (number : ℕ) (t : Trees) → Fresh number t → NoRoots t
 fresh-no_roots number none h = tt
 fresh-no_roots number (tree n c k r) h = (h.1, fresh-no_roots number r h.3)
 
-no-roots-followed : (t s : Trees) → NoRoots t → NoRoots s → NoRoots (followed t s)
+pub no-roots-followed : (t s : Trees) → NoRoots t → NoRoots s → NoRoots (followed t s)
 no-roots-followed none s h k = k
 no-roots-followed (tree n c j r) s h k = (h.0, no-roots-followed r s h.1 k)
 

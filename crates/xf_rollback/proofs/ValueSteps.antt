@@ -1,31 +1,27 @@
 -- An attribute's text that was set is put back in a forest that is alike: it is alike to the forest before.
-use Rattle.std.proofs.Common.{◌≡◌, ℕ, ◌+◌, ◌==◌, Bool, true, false, not, cond, ◌&&◌, ◌||◌, List, [], ◌∷◌, ◌++◌, map, length, nat_lt, Option, Some, None, refl, sym, ap, ◌∙◌, subst, inl, inr, append-nil, arith}
-use Rattle.std.specs.Prelude.{⊤, ◌⊎◌, ◌≤◌, ◌<◌, filter, if◌then◌else◌}
-use Rattle.std.specs.List.{list_any, list_all}
+use Rattle.std.proofs.Common.{◌≡◌, ℕ, ◌+◌, ◌==◌, Bool, true, false, cond, ◌&&◌, ◌||◌, List, [], ◌∷◌, ◌++◌, refl, sym, ap, ◌∙◌, subst, inl, inr, append-nil, arith}
+use Rattle.std.specs.Prelude.{◌≤◌, ◌<◌, if◌then◌else◌}
 use Rattle.std.proofs.lemmas.Bool.{cases_Bool}
-use Rattle.std.proofs.lemmas.Bool.Decides.{nat_tests}
-use Rattle.xf_doc.specs.declared.content.Node.{Node}
-use Rattle.xf_doc.specs.declared.content.Content.{Content}
 use Rattle.xf_doc.specs.declared.content.Kind.TheVariants as kind
-use Rattle.xf_doc.specs.Forest.{is_element, is_attribute, is_text, own_text, kind_at, tree_of}
-use Rattle.xf_doc.specs.Visit.{has, numbers, visits}
+use Rattle.xf_doc.specs.Forest.{is_element, is_attribute, tree_of}
+use Rattle.xf_doc.specs.Visit.{has, visits}
 use Rattle.xf_doc.specs.Shape.{has_elements}
-use Rattle.xf_doc.specs.Texts.{Keeping, KeptText, Before, attribute_text, element_texts, one_text, with_texts, with_value, with_attribute_text, is_attribute_at, texts_in, value_in, kept_from, before_of, taken_from, with_text, put_back, given_up, is_of, without, back}
-use Rattle.xf_doc.specs.Needs.{IsSettable, MayPutBack, are_kept_of}
-use Rattle.xf_doc.specs.WellFormed.{IsKeeping}
-use Rattle.xf_doc.proofs.BackLaws.{HasText, after_set, put_back-after_set, outside-all, false-true, and-true, one_number}
-use Rattle.xf_doc.proofs.TextLaws.{has_text}
+use Rattle.xf_doc.specs.Texts.{Keeping, attribute_text, with_value, with_attribute_text, is_attribute_at, value_in, before_of, taken_from, with_text, put_back}
+use Rattle.xf_doc.specs.Needs.{IsSettable, MayPutBack}
+use Rattle.xf_doc.specs.WellFormed.{AreTrees}
+use Rattle.xf_doc.proofs.BackLaws.{after_set, put_back-after_set, outside-all, one_number}
 use Rattle.xf_rollback.proofs.Trees.{Trees, none, tree, onto, followed, times, times-followed, onto-inj}
-use Rattle.xf_rollback.proofs.TreeTexts.{lone, attributes, retexted, revalued, valued-onto, texts-onto, retexted-absent, times-split}
+use Rattle.xf_rollback.proofs.TreeTexts.{revalued, valued-onto, times-split}
 use Rattle.xf_rollback.proofs.TreeVisits.{elements, elements-are}
 use Rattle.xf_rollback.proofs.TreeShape.{Sound, sound-followed}
 use Rattle.xf_rollback.proofs.TreeMoved.{Moved, value-attribute, value-element}
-use Rattle.xf_rollback.proofs.TreeBlank.{blank, AreTexts, LeafAt, leaf-followed, leaf-absent, moved-more, blank-followed}
-use Rattle.xf_rollback.proofs.TreeAgain.{retexted-alike, retexted-within, AttributeAt, revalued-within, revalued-alike}
-use Rattle.xf_rollback.proofs.TreeFacts.{is_at, at-times, at-absent, some-followed, sound-retexted, sound-revalued, blind-element, blind-attribute}
-use Rattle.xf_rollback.proofs.TreeLeaves.{leaf-of, bare-leaf, attribute-of, elements-retexted, at-retexted, retexted-times, revalued-times}
-use Rattle.xf_rollback.proofs.KeepingTrees.{Stands, kept_times, any-is, any-kind, kind-any, element-test, attribute-test, back-texts, back-times}
-use Rattle.xf_rollback.proofs.Alike.{Fresh, fresh-less, fresh-absent, Alike, extra-absent, later-at, later-elements, later-once, later-kind, later-childless}
+use Rattle.xf_rollback.proofs.TreeBlank.{blank, moved-more, blank-followed}
+use Rattle.xf_rollback.proofs.TreeAgain.{AttributeAt, revalued-within, revalued-alike}
+use Rattle.xf_rollback.proofs.TreeFacts.{is_at, at-times, some-followed, sound-revalued, blind-attribute}
+use Rattle.xf_rollback.proofs.TreeLeaves.{attribute-of, revalued-times}
+use Rattle.xf_rollback.proofs.KeepingTrees.{Stands, kept_times, any-is, attribute-test}
+use Rattle.xf_rollback.proofs.FirstLemmas.{ordered-revalued}
+use Rattle.xf_rollback.proofs.Alike.{fresh-less, Alike, extra-absent, later-at, later-once, later-kind, later-childless}
 use Rattle.xf_rollback.proofs.TextSteps.{is-old}
 
 revalued-followed : (n : ℕ) (text : List ℕ) (a b : Trees) → revalued n text (followed a b) ≡ followed (revalued n text a) (revalued n text b)
@@ -60,7 +56,7 @@ elements-revalued u n text (tree m c k r) =
     by true = value-element text c
     by false = refl
 
-module _ (n : ℕ) (text : List ℕ) (k : Keeping) (sound : IsKeeping k) (able : IsSettable n k.forest) (s : Stands k) (is : is_attribute_at n k.forest.nodes ≡ true) where
+module _ (n : ℕ) (text : List ℕ) (k : Keeping) (sound : AreTrees k) (able : IsSettable n k.forest) (s : Stands k) (is : is_attribute_at n k.forest.nodes ≡ true) where
   abbrev value : List ℕ
   value = value_in (tree_of n k.forest.nodes)
 
@@ -87,7 +83,7 @@ module _ (n : ℕ) (text : List ℕ) (k : Keeping) (sound : IsKeeping k) (able :
 
   unvalued-is : put_back n (attribute_text value) (after_set n text k) ≡ record k { forest = record k.forest { next = (with_text n text k.forest).next } }
   unvalued-is = subst (λ b. put_back n b (after_set n text k) ≡ record k { forest = record k.forest { next = (with_text n text k.forest).next } }) value-is
-      (put_back-after_set n text k sound.forest.apart (outside-all k.forest.nodes k.kept sound.outside) (has_text n k.forest sound.forest able))
+      (put_back-after_set n text k sound.apart (outside-all k.forest.nodes k.kept sound.kept_outside) (inl is))
 
   module _ (t : Trees) (nodes : (with_text n text k.forest).nodes ≡ onto 0 t []) (sound_after : Sound false t) (once_after : times n t ≤ 1) (ns : List ℕ)
       (k2 : Keeping) (a : Alike (n ∷ ns) t (after_set n text k) k2) where
@@ -132,6 +128,7 @@ module _ (n : ℕ) (text : List ℕ) (k : Keeping) (sound : IsKeeping k) (able :
       fresh = fresh-less k.forest.next (with_text n text k.forest).next a.extra (omega arith) a.fresh;
       new_sound = a.new_sound;
       sound = a.sound;
+      first = a.first;
       once = λ p. subst (λ l. times p a.later + kept_times p l ≤ 1) kept-same (a.once p);
       like =
           subst (λ x. Moved x (blank ns a.later)) (blank-followed ns t a.extra ∙ ap (λ x. followed x (blank ns a.extra)) (ap (blank ns) valued-is ∙ revalued-within n text ns s.trees within) ∙ sym (blank-followed ns s.trees a.extra))
@@ -157,6 +154,7 @@ module _ (n : ℕ) (text : List ℕ) (k : Keeping) (sound : IsKeeping k) (able :
       fresh = fresh-less k.forest.next (with_text n text k.forest).next a.extra (omega arith) a.fresh;
       new_sound = a.new_sound;
       sound = sound-revalued false n value a.later a.sound;
+      first = ordered-revalued n value a.later a.first;
       once = λ p. let x = revalued-times p n value a.later in let y : times p a.later + kept_times p k.kept ≤ 1 = subst (λ l. times p a.later + kept_times p l ≤ 1) kept-same (a.once p) in omega (arith, x, y);
       like =
           subst (λ x. Moved (blank ns x) (blank ns (revalued n value a.later)))
