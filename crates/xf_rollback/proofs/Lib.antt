@@ -35,3 +35,4 @@ pub mod CutSteps
 pub mod AttributeSteps
 pub mod RootsFirst
 pub mod GrowthLaws
+pub mod MadeLemmas
