@@ -7,7 +7,7 @@ use Rattle.xf_doc.specs.declared.content.Content.{Content}
 use Rattle.xf_doc.specs.declared.content.Kind.{Kind}
 use Rattle.xf_doc.specs.Forest.{is_root, is_element, is_attribute, kind_at, has_number, tree_of}
 use Rattle.xf_doc.specs.Visit.{has}
-use Rattle.xf_doc.specs.Texts.{Keeping}
+use Rattle.xf_doc.specs.Texts.{Keeping, is_attribute_at}
 use Rattle.xf_doc.specs.Changes.{placed, detached, standing}
 use Rattle.xf_doc.specs.Needs.{is_top, goes_below, MayPlace}
 use Rattle.xf_doc.specs.WellFormed.{AreTrees, are_first}
@@ -24,11 +24,11 @@ use Rattle.xf_rollback.proofs.TreePlaces.{with_tree, changed, changed-absent, pl
 use Rattle.xf_rollback.proofs.MoveFacts.{moved-removed, moved-found, moved-changed, removed-times, removed-none, removed-some, changed-times}
 use Rattle.xf_rollback.proofs.MoveBlank.{NoText, no_text-of, blank-removed, blank-found, blank-times, sound-removed, removed-found, found-found}
 use Rattle.xf_rollback.proofs.TreeTops.{tops, moved-tops, blank-tops, tops-followed, tops-onto}
-use Rattle.xf_rollback.proofs.JoinSteps.{Moves, bare-sound, at-found}
+use Rattle.xf_rollback.proofs.JoinSteps.{Moves, no-other, bare-sound, at-found}
 use Rattle.xf_rollback.proofs.NodeKinds.{Each, each-of, FoundTree, found-tree}
 use Rattle.xf_rollback.proofs.TreeOrder.{Ordered, ordered-onto}
 use Rattle.xf_rollback.proofs.FirstLemmas.{ordered-removed, ordered-found, ordered-changed}
-use Rattle.xf_rollback.proofs.TreeRanks.{is_child, Under, under-times, under-parent, changed-again, child-again, attribute-again}
+use Rattle.xf_rollback.proofs.TreeRanks.{is_child, child-plain, Under, under-times, under-parent, changed-again, child-again, attribute-again}
 use Rattle.xf_rollback.proofs.CutFacts.{sound-changed, sound-found-inside, changed-followed, FirstAt, first_at-ordered, first_at-absent, first_at-followed, Passes, as_child, as_attribute, blank-put}
 use Rattle.xf_rollback.proofs.CutStands.{under-outside, under-bears, element-or-root, Place, place-child, place-attribute}
 use Rattle.xf_rollback.proofs.AttributePlaces.{below-elements, above-attribute}
@@ -61,6 +61,10 @@ module _ (n parent place : ℕ) (k : Keeping) (sound : AreTrees k) (kn : Kind) (
 
   child-place : ((c : Content) → qn c ≡ true → is_child c ≡ true) → Place is_child n parent place s.trees
   child-place plain = place-child n parent place s.trees cut-once (cut-each (λ c. is_child c ≡ true) plain) cut-stands
+
+  pub is-plain : ((c : Content) → qn c ≡ true → is_child c ≡ true) → is_attribute_at n k.forest.nodes ≡ false
+  is-plain plain =
+      ap (is_attribute_at n) s.nodes ∙ any-is is_attribute n s.trees ∙ no-other is_attribute qn (λ c e. child-plain c (plain c e)) n s.trees (let o = cut-once in omega (arith, o)) cut-at
 
   attribute-place : ((c : Content) → qn c ≡ true → is_attribute c ≡ true) → Place is_attribute n parent place s.trees
   attribute-place one = place-attribute n parent place s.trees cut-once (cut-each (λ c. is_attribute c ≡ true) one) cut-stands

@@ -1,36 +1,36 @@
 -- Each change, from what rolling back gives before it to what it gives after it.
-use Rattle.std.proofs.Common.{◌≡◌, ℕ, Bool, true, false, cond, List, [], ◌∷◌, length, refl, subst, inl, inr, arith}
+use Rattle.std.proofs.Common.{◌≡◌, ℕ, Bool, true, false, cond, not, List, [], ◌∷◌, refl, ap, subst, inl, inr}
 use Rattle.std.specs.Prelude.{◌⊎◌, ◌≤◌, Some, Ok}
-use Rattle.std.specs.List.{list_all}
 use Rattle.std.proofs.lemmas.Bool.{cases_Bool}
-use Rattle.std.proofs.lemmas.Bool.Decides.{nat_tests}
 use Rattle.xf_doc.specs.declared.content.Content.{Content}
 use Rattle.xf_doc.specs.declared.content.Kind.{Kind}
 use Rattle.xf_doc.specs.declared.content.Kind.TheVariants as kind
-use Rattle.xf_doc.specs.Visit.{has, numbers, visits, children_of}
-use Rattle.xf_doc.specs.Forest.{is_root, is_element, kind_at, tree_of}
+use Rattle.xf_doc.specs.Visit.{has, numbers}
+use Rattle.xf_doc.specs.Forest.{is_root, is_element, is_attribute, kind_at, tree_of}
 use Rattle.xf_doc.specs.Changes.{placed, detached, standing}
 use Rattle.xf_doc.specs.Limits.{Limits}
 use Rattle.xf_doc.specs.Texts.{Keeping, Before, element_texts, attribute_text, texts_in, value_in, is_attribute_at, before_of, given_up, put_back, text_set}
-use Rattle.xf_doc.specs.Needs.{IsSettable, MayAttach, MayStand, in_element, in_root}
-use Rattle.xf_doc.specs.WellFormed.{IsKeeping, AreTrees, has_document}
+use Rattle.xf_doc.specs.Needs.{IsSettable, MayAttach, MayDetach, goes_below}
+use Rattle.xf_doc.specs.WellFormed.{AreTrees}
 use Rattle.xf_doc.specs.Undo.{of_text, Ledger, with_note, with_set, is_known, text_filled}
 use Rattle.xf_doc.specs.Undo as undo
 use Rattle.xf_doc.proofs.BackLaws.{after_set}
 use Rattle.xf_rollback.proofs.Trees.{Trees, onto, times}
 use Rattle.xf_rollback.proofs.TreeShape.{Sound}
-use Rattle.xf_rollback.proofs.TreeMoved.{same}
+use Rattle.xf_rollback.proofs.TreeMoved.{element-no_attribute}
 use Rattle.xf_rollback.proofs.TreeFacts.{is_at}
-use Rattle.xf_rollback.proofs.KeepingTrees.{Stands}
+use Rattle.xf_rollback.proofs.KeepingTrees.{Stands, kind-any, attribute-test}
 use Rattle.xf_rollback.proofs.TreeTops.{RootsFirst}
 use Rattle.xf_rollback.proofs.Alike.{Alike, Back}
 use Rattle.xf_rollback.proofs.Outcomes.{unless-ok}
 use Rattle.xf_rollback.proofs.TextSteps.{element-known, element-may, element-alike}
 use Rattle.xf_rollback.proofs.ValueSteps.{attribute-known, attribute-may, attribute-alike}
-use Rattle.xf_rollback.proofs.JoinSteps.{joins, joined-below, joined-kind, joined-alike}
+use Rattle.xf_rollback.proofs.JoinSteps.{Moves, element-moves, attribute-moves, joins, joined-below, joined-kind, joined-alike}
 use Rattle.xf_rollback.proofs.BearLemmas.{Bears, element-bears, root-bears}
-use Rattle.xf_rollback.proofs.CutSteps.{cut-kind, cut-stood, later-children, place-fits, cut-parent-kind, cut-may, cut-element, cut-alike}
-use Rattle.xf_rollback.proofs.CutStands.{root-kids}
+use Rattle.xf_rollback.proofs.TreeRanks.{is_child}
+use Rattle.xf_rollback.proofs.CutFacts.{Passes, as_child, as_attribute}
+use Rattle.xf_rollback.proofs.CutSteps.{child-parent, attribute-parent, is-plain, cut-may, cut-alike}
+use Rattle.xf_rollback.proofs.KnownLemmas.{without_number, cut_known, has-not, has-less}
 
 -- ---- a text
 
@@ -107,38 +107,43 @@ join-case start l k n parent given place may ns s rooted back t nodes whole once
 
 -- ---- a tree that was cut off
 
-pub cut-case : (start : Keeping) (l : Ledger) (k : Keeping) (n parent place : ℕ) → IsKeeping k → kind_at n k.forest.nodes ≡ Some kind.Element → standing n k.forest.nodes ≡ Some (parent, place) → (ns ms : List ℕ)
-    → has parent ns ≡ false → ((m : ℕ) → has m ns ≡ true → has m ms ≡ true) → (s : Stands k) → ((k2 : Keeping) → Alike ms s.trees k k2 → Back start l k2)
-    → (t : Trees) → (detached n k.forest).nodes ≡ onto 0 t [] → Sound false t → times n t ≤ 1 → (k2 : Keeping) → Alike ns t (record k { forest = detached n k.forest }) k2
+-- after an attribute the same texts count as before, and after an element those of its parent do too
+pub cut-case : (start : Keeping) (l : Ledger) (k : Keeping) (n parent place : ℕ) → AreTrees k → MayDetach n k.forest → standing n k.forest.nodes ≡ Some (parent, place) → (ms : List ℕ)
+    → (s : Stands k) → ((k2 : Keeping) → Alike ms s.trees k k2 → Back start l k2)
+    → (t : Trees) → (detached n k.forest).nodes ≡ onto 0 t [] → Sound false t → times n t ≤ 1
+    → (k2 : Keeping) → Alike (cut_known (is_attribute_at n k.forest.nodes) parent ms) t (record k { forest = detached n k.forest }) k2
     → Back start (record l { entries = undo.cut n parent place ∷ l.entries }) k2
-cut-case start l k n parent place sound is stood_ ns ms out more s back t nodes whole once k2 a = by (cut-kind n parent place k sound is stood_ s)
+cut-case start l k n parent place sound may stood ms s back t nodes whole once k2 = by may.kind
   where
-    end : MayStand n parent place k2.forest → (kp : Kind) (q : Content → Bool) (bears : Bears kp q) (above : is_at q parent s.trees ≡ true) → Back start (record l { entries = undo.cut n parent place ∷ l.entries }) k2
-    end stand kp q bears above =
-        let r = back (record k2 { forest = placed n parent place k2.forest }) (cut-alike n parent place k sound is stood_ s kp q bears above t nodes whole once ns out k2 a ms more) in
+    step : (kn : Kind) (qn : Content → Bool) (moves : Moves kn qn) → kind_at n k.forest.nodes ≡ Some kn → (ns : List ℕ) → Passes ns parent qn → ((m : ℕ) → has m ns ≡ true → has m ms ≡ true)
+        → (kp : Kind) (q : Content → Bool) → Bears kp q → is_at q parent s.trees ≡ true → goes_below (Some kn) (Some kp) ≡ true
+        → Alike ns t (record k { forest = detached n k.forest }) k2 → Back start (record l { entries = undo.cut n parent place ∷ l.entries }) k2
+    step kn qn moves is ns passes more kp q bears above goes a =
+        let r = back (record k2 { forest = placed n parent place k2.forest }) (cut-alike n parent place k sound kn qn moves is stood s ns passes kp q bears above goes t nodes whole once k2 a ms more) in
         record {
-          changes = (cut-may n parent place k sound is stood_ s kp q bears above t nodes whole once ns out k2 a stand, r.changes);
+          changes = (cut-may n parent place k sound kn qn moves is stood s ns passes kp q bears above goes t nodes whole once k2 a, r.changes);
           rest = r.rest;
           same = r.same;
         }
 
-    no-items : (ns : List ℕ) → length ns ≡ 0 → ns ≡ []
-    no-items [] e = refl
-    no-items (n ∷ ns) e = absurd (omega (arith, e))
+    plain : (c : Content) → is_element c ≡ true → is_child c ≡ true
+    plain c e = ap not (element-no_attribute c e)
 
-    by : (is_at is_element parent s.trees ≡ true) ⊎ (is_at is_root parent s.trees ≡ true) → Back start (record l { entries = undo.cut n parent place ∷ l.entries }) k2
-    by (inl above) =
-        let count = later-children n parent place k sound is stood_ s kind.Element is_element element-bears above t nodes whole once ns out k2 a in
-        let fits = place-fits n parent place k sound is stood_ s kind.Element is_element element-bears above t nodes whole once ns out k2 a in
-        end (in_element (cut-element n parent place k sound is stood_ s kind.Element is_element element-bears above t nodes whole once ns out k2 a)
-        (cut-parent-kind n parent place k sound is stood_ s kind.Element is_element element-bears above t nodes whole once ns out k2 a)
-        (grind (arith, nat_tests, count, fits))) kind.Element is_element element-bears above
-    by (inr above) =
-        let count = later-children n parent place k sound is stood_ s kind.Root is_root root-bears above t nodes whole once ns out k2 a in
-        let fits = place-fits n parent place k sound is stood_ s kind.Root is_root root-bears above t nodes whole once ns out k2 a in
-        let fewer = (cut-stood n parent place k sound is stood_ s).fewer in
-        let one = root-kids parent s.trees (subst (λ l. list_all (has_document (visits l)) (visits l) ≡ true) s.nodes sound.forest.documents) above in
-        end (in_root (cut-element n parent place k sound is stood_ s kind.Root is_root root-bears above t nodes whole once ns out k2 a)
-        (cut-parent-kind n parent place k sound is stood_ s kind.Root is_root root-bears above t nodes whole once ns out k2 a)
-        (no-items (children_of parent (visits k2.forest.nodes)) (omega (arith, count, fewer, one)))
-        (omega (arith, fits, fewer, one))) kind.Root is_root root-bears above
+    as_element : kind_at n k.forest.nodes ≡ Some kind.Element → Alike (without_number parent ms) t (record k { forest = detached n k.forest }) k2 → Back start (record l { entries = undo.cut n parent place ∷ l.entries }) k2
+    as_element is a =
+        let move = step kind.Element is_element element-moves is (without_number parent ms) (as_child (has-not parent ms) plain) (λ m h. has-less m parent ms h) in
+        end move (child-parent n parent place k sound kind.Element is_element element-moves is stood s plain)
+      where
+        end : ((kp : Kind) (q : Content → Bool) → Bears kp q → is_at q parent s.trees ≡ true → goes_below (Some kind.Element) (Some kp) ≡ true
+            → Alike (without_number parent ms) t (record k { forest = detached n k.forest }) k2 → Back start (record l { entries = undo.cut n parent place ∷ l.entries }) k2)
+            → (is_at is_element parent s.trees ≡ true) ⊎ (is_at is_root parent s.trees ≡ true) → Back start (record l { entries = undo.cut n parent place ∷ l.entries }) k2
+        end move (inl above) = move kind.Element is_element element-bears above refl a
+        end move (inr above) = move kind.Root is_root root-bears above refl a
+
+    by : (kind_at n k.forest.nodes ≡ Some kind.Element) ⊎ (kind_at n k.forest.nodes ≡ Some kind.Attribute)
+        → Alike (cut_known (is_attribute_at n k.forest.nodes) parent ms) t (record k { forest = detached n k.forest }) k2 → Back start (record l { entries = undo.cut n parent place ∷ l.entries }) k2
+    by (inl is) a = as_element is (subst (λ b. Alike (cut_known b parent ms) t (record k { forest = detached n k.forest }) k2) (is-plain n parent place k sound kind.Element is_element element-moves is stood s plain) a)
+    by (inr is) a =
+        step kind.Attribute is_attribute attribute-moves is ms (as_attribute (λ c e. e)) (λ m h. h) kind.Element is_element element-bears
+        (attribute-parent n parent place k sound kind.Attribute is_attribute attribute-moves is stood s (λ c e. e)) refl
+        (subst (λ b. Alike (cut_known b parent ms) t (record k { forest = detached n k.forest }) k2) (kind-any kind.Attribute is_attribute attribute-test n k.forest.nodes is) a)
