@@ -128,9 +128,9 @@ lit-grows b = ind-Lit (λ x. Grows (contents_of b x)) (λ e. Grows (element_of b
 
 -- ---- a tree with resolved names
 
-bare-attributes : (b : Bindings) (as_ : List BareAttribute) → list_any is_root (map (bare_attribute b) as_) ≡ false
+bare-attributes : (b : Bindings) (attributes : List BareAttribute) → list_any is_root (map (bare_attribute b) attributes) ≡ false
 bare-attributes b [] = refl
-bare-attributes b (a ∷ as_) = bare-attributes b as_
+bare-attributes b (a ∷ more) = bare-attributes b more
 
 bare-element : (b : Bindings) (e : BareElement-F Contents Contents) → ((space depth : ℕ) → Rootless (flat_map (λ child. child space depth) e.children)) → Grows (bare_element_contents b e)
 bare-element b e below = (
@@ -252,9 +252,9 @@ planted_bare-made {k = k} limits b bare n f made sound e after =
 pub copied-made : {start : Keeping} {l : Ledger} {k : Keeping} (limits : Limits) (n m : ℕ) (f : Forest) → Made start l k → AreTrees k → MayCopy n k.forest
     → copied limits n k.forest ≡ Ok (m, f) → AreTrees (record k { forest = f }) → Made start l (record k { forest = f })
 copied-made {k = k} limits n m f made sound may e after =
-    let tree_ = tree_of n k.forest.nodes in
-    let contents = contents_in tree_ in
+    let copy = tree_of n k.forest.nodes in
+    let contents = contents_in copy in
     let nodes = k.forest.nodes ++ numbered_from k.forest.next contents in
     let is : (with_growth contents k).forest ≡ f
-    = ap (λ (i : ℕ). record { nodes = nodes; next = k.forest.next + i }) (contents-length tree_) ∙ ap (λ w. w.1) (unless-ok _ (k.forest.next, record { nodes = nodes; next = k.forest.next + length tree_ }) (m, f) e) in
-    grown-made contents f made sound (record { top = contents-top tree_; rootless = copy-rootless n k may (stands k sound) }) is after
+    = ap (λ (i : ℕ). record { nodes = nodes; next = k.forest.next + i }) (contents-length copy) ∙ ap (λ w. w.1) (unless-ok _ (k.forest.next, record { nodes = nodes; next = k.forest.next + length copy }) (m, f) e) in
+    grown-made contents f made sound (record { top = contents-top copy; rootless = copy-rootless n k may (stands k sound) }) is after

@@ -23,6 +23,7 @@ use Rattle.xf_rollback.proofs.TreeBlank.{blank, AreTexts, LeafAt, leaf-followed,
 use Rattle.xf_rollback.proofs.TreeAgain.{retexted-alike, retexted-within}
 use Rattle.xf_rollback.proofs.TreeFacts.{is_at, at-times, sound-retexted, blind-element}
 use Rattle.xf_rollback.proofs.TreeLeaves.{leaf-of, bare-leaf, elements-retexted, at-retexted, retexted-times}
+use Rattle.xf_rollback.proofs.TreeOrder.{ordered-onto}
 use Rattle.xf_rollback.proofs.TreeRuns.{leaf-onto}
 use Rattle.xf_rollback.proofs.KeepingTrees.{Stands, kept_times, any-is, kind-any, element-test, attribute-test, back-texts, back-times}
 use Rattle.xf_rollback.proofs.FirstLemmas.{ordered-retexted}
@@ -114,7 +115,7 @@ module _ (n : ℕ) (text : List ℕ) (k : Keeping) (sound : AreTrees k) (able : 
   taken-is = rw other refl
 
   has_texts : HasText n k.forest.nodes
-  has_texts = inr (other, subst (IsLeafAt n) (sym s.nodes) (leaf-onto n 0 s.trees [] element-leaf (subst (λ l. are_first l ≡ true) s.nodes sound.first) tt tt))
+  has_texts = inr (other, subst (IsLeafAt n) (sym s.nodes) (leaf-onto n 0 s.trees [] element-leaf (ordered-onto 0 s.trees [] (subst (λ l. are_first l ≡ true) s.nodes sound.first)) tt tt))
 
   undone-is : put_back n (element_texts (numbers texts)) (after_set n text k) ≡ record k { forest = record k.forest { next = (with_text n text k.forest).next } }
   undone-is = subst (λ b. put_back n b (after_set n text k) ≡ record k { forest = record k.forest { next = (with_text n text k.forest).next } }) before-is

@@ -1,16 +1,14 @@
 -- Texts put back at a node whose texts do not count: the trees are alike again, and count there.
-use Rattle.std.proofs.Common.{◌≡◌, ℕ, ◌+◌, ◌==◌, Bool, true, false, not, cond, ◌&&◌, ◌||◌, List, [], ◌∷◌, refl, sym, ap, ◌∙◌, subst, inl, inr, arith}
+use Rattle.std.proofs.Common.{◌≡◌, ℕ, ◌==◌, Bool, true, false, cond, ◌||◌, List, [], ◌∷◌, refl, sym, ap, ◌∙◌, subst, inl, inr, arith}
 use Rattle.std.specs.Prelude.{⊤, ◌≤◌, if◌then◌else◌}
 use Rattle.std.proofs.lemmas.Bool.{cases_Bool}
-use Rattle.std.proofs.lemmas.Bool.Decides.{nat_tests}
-use Rattle.xf_doc.specs.declared.content.Content.{Content}
 use Rattle.xf_doc.specs.Forest.{is_attribute, is_text}
 use Rattle.xf_doc.specs.Visit.{has}
 use Rattle.xf_doc.specs.Texts.{with_value}
 use Rattle.xf_doc.proofs.RunLemmas.{text-no_attribute, attribute-no_text}
-use Rattle.xf_doc.proofs.BackLaws.{one_number, false-true}
+use Rattle.xf_doc.proofs.BackLaws.{one_number}
 use Rattle.xf_rollback.proofs.Trees.{Trees, none, tree, followed, times}
-use Rattle.xf_rollback.proofs.TreeTexts.{attributes, retexted, revalued, retexted-absent, times-split}
+use Rattle.xf_rollback.proofs.TreeTexts.{attributes, retexted, revalued}
 use Rattle.xf_rollback.proofs.TreeShape.{is_leaf}
 use Rattle.xf_rollback.proofs.TreeMoved.{Moved, moved-retexted, moved-revalued, value-over, value-other, value-attribute, value-text, element-no_attribute}
 use Rattle.xf_rollback.proofs.TreeBlank.{textless, blank, AreTexts, AreLeaves, LeafAt, blank-followed, attributes-blank, attributes-textless, blank-absent, moved-more}

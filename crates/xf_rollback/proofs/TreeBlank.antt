@@ -1,21 +1,17 @@
 -- Trees without the texts of some nodes: what stays where those texts do not count.
-use Rattle.std.proofs.Common.{◌≡◌, ℕ, ◌+◌, ◌==◌, Bool, true, false, not, cond, ◌&&◌, ◌||◌, List, [], ◌∷◌, refl, sym, ap, ◌∙◌, subst, inl, inr, arith}
+use Rattle.std.proofs.Common.{◌≡◌, ℕ, ◌==◌, Bool, true, false, cond, List, [], ◌∷◌, refl, sym, ap, ◌∙◌, subst, inl, inr}
 use Rattle.std.specs.Prelude.{⊤, if◌then◌else◌}
 use Rattle.std.proofs.lemmas.Bool.{cases_Bool}
-use Rattle.std.proofs.lemmas.Bool.Decides.{nat_tests}
-use Rattle.xf_doc.specs.declared.content.Node.{Node}
 use Rattle.xf_doc.specs.declared.content.Content.{Content}
-use Rattle.xf_doc.specs.declared.content.Content.TheVariants.{Root, Element, Attribute, Text}
-use Rattle.xf_doc.specs.Forest.{is_root, is_element, is_attribute, is_text}
+use Rattle.xf_doc.specs.Forest.{is_element, is_attribute, is_text}
 use Rattle.xf_doc.specs.Visit.{has}
 use Rattle.xf_doc.specs.Texts.{with_value}
-use Rattle.xf_doc.proofs.RunLemmas.{text-no_attribute, attribute-no_text}
-use Rattle.xf_doc.proofs.BackLaws.{one_number, or-false, false-true}
+use Rattle.xf_doc.proofs.RunLemmas.{text-no_attribute}
+use Rattle.xf_doc.proofs.BackLaws.{false-true}
 use Rattle.xf_rollback.proofs.Trees.{Trees, none, tree, followed, times}
-use Rattle.xf_rollback.proofs.TreeTexts.{attributes, retexted, revalued, lone, times-split, Where, here, inside, later, where_is}
-use Rattle.xf_rollback.proofs.TreeVisits.{elements}
-use Rattle.xf_rollback.proofs.TreeShape.{Sound, is_leaf}
-use Rattle.xf_rollback.proofs.TreeMoved.{Moved, same, swap, under, through, some, value-root, value-element, value-attribute, value-text, value-over, value-other, value-if-root}
+use Rattle.xf_rollback.proofs.TreeTexts.{attributes, times-split}
+use Rattle.xf_rollback.proofs.TreeShape.{is_leaf}
+use Rattle.xf_rollback.proofs.TreeMoved.{Moved, same, swap, under, through, value-element, value-attribute, value-text, value-over, value-if-root}
 
 -- without the texts at the top
 abbrev pub textless : Trees → Trees

@@ -1,22 +1,19 @@
 -- What nodes of trees are: facts that stay where texts do not count.
-use Rattle.std.proofs.Common.{◌≡◌, ℕ, ◌+◌, ◌==◌, Bool, true, false, not, cond, ◌&&◌, ◌||◌, List, [], ◌∷◌, nat_lt, refl, sym, ap, ◌∙◌, subst, inl, inr, arith}
-use Rattle.std.specs.Prelude.{⊤, ◌≤◌, if◌then◌else◌}
+use Rattle.std.proofs.Common.{◌≡◌, ℕ, ◌+◌, ◌==◌, Bool, true, false, cond, ◌&&◌, ◌||◌, List, [], refl, sym, ap, ◌∙◌, subst, inl, inr, arith}
+use Rattle.std.specs.Prelude.{◌≤◌, if◌then◌else◌}
 use Rattle.std.proofs.lemmas.Bool.{cases_Bool}
-use Rattle.std.proofs.lemmas.Bool.Decides.{nat_tests}
 use Rattle.xf_doc.specs.declared.content.Content.{Content}
 use Rattle.xf_doc.specs.declared.content.Content.TheVariants.{Root, Element, Attribute, Text}
 use Rattle.xf_doc.specs.Forest.{is_root, is_element, is_attribute, is_text}
 use Rattle.xf_doc.specs.Visit.{has}
 use Rattle.xf_doc.specs.Texts.{with_value}
-use Rattle.xf_doc.proofs.RunLemmas.{text-no_attribute, attribute-no_text, element-no_text}
-use Rattle.xf_doc.proofs.BackLaws.{one_number, or-false, and-true, false-true}
-use Rattle.xf_rollback.proofs.Trees.{Trees, none, tree, followed, times, times-followed}
+use Rattle.xf_doc.proofs.RunLemmas.{text-no_attribute}
+use Rattle.xf_doc.proofs.BackLaws.{false-true}
+use Rattle.xf_rollback.proofs.Trees.{Trees, none, tree, followed, times}
 use Rattle.xf_rollback.proofs.TreeTexts.{attributes, retexted, revalued, times-split}
-use Rattle.xf_rollback.proofs.TreeVisits.{elements}
 use Rattle.xf_rollback.proofs.TreeShape.{Sound, is_leaf, sound-followed}
-use Rattle.xf_rollback.proofs.TreeMoved.{some, value-root, value-element, value-attribute, value-text, element-no_attribute}
-use Rattle.xf_rollback.proofs.TreeBlank.{textless, blank, AreTexts, AreLeaves, LeafAt}
-use Rattle.xf_rollback.proofs.TreeAgain.{AttributeAt}
+use Rattle.xf_rollback.proofs.TreeMoved.{some, value-root, value-element, value-attribute, value-text}
+use Rattle.xf_rollback.proofs.TreeBlank.{textless, blank, AreTexts, LeafAt}
 
 -- ---- soundness
 

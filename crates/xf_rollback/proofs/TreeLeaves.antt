@@ -1,6 +1,6 @@
 -- An element without element children, or an attribute, in trees: where a text can be set.
-use Rattle.std.proofs.Common.{◌≡◌, ℕ, ◌+◌, ◌==◌, Bool, true, false, not, cond, ◌&&◌, ◌||◌, List, [], ◌∷◌, nat_lt, refl, sym, ap, ◌∙◌, subst, inl, inr, arith}
-use Rattle.std.specs.Prelude.{⊤, ◌≤◌, if◌then◌else◌}
+use Rattle.std.proofs.Common.{◌≡◌, ℕ, ◌+◌, ◌==◌, Bool, true, false, cond, ◌&&◌, ◌||◌, List, [], refl, sym, ap, ◌∙◌, subst, inl, inr, arith}
+use Rattle.std.specs.Prelude.{◌≤◌, if◌then◌else◌}
 use Rattle.std.proofs.lemmas.Bool.{cases_Bool}
 use Rattle.std.proofs.lemmas.Bool.Decides.{nat_tests}
 use Rattle.xf_doc.specs.declared.content.Content.{Content}
@@ -8,13 +8,12 @@ use Rattle.xf_doc.specs.declared.content.Content.TheVariants.{Root, Element, Att
 use Rattle.xf_doc.specs.Forest.{is_root, is_element, is_attribute, is_text}
 use Rattle.xf_doc.specs.Visit.{has}
 use Rattle.xf_doc.specs.Texts.{with_value}
-use Rattle.xf_doc.proofs.RunLemmas.{text-no_attribute, attribute-no_text}
-use Rattle.xf_doc.proofs.BackLaws.{one_number, or-false, and-true, false-true}
+use Rattle.xf_doc.proofs.BackLaws.{or-false, false-true}
 use Rattle.xf_rollback.proofs.Trees.{Trees, none, tree, followed, times, times-followed}
 use Rattle.xf_rollback.proofs.TreeTexts.{attributes, retexted, revalued, retexted-absent, times-split, Bare, BareAt}
 use Rattle.xf_rollback.proofs.TreeVisits.{elements}
-use Rattle.xf_rollback.proofs.TreeShape.{Sound, is_leaf, sound-followed}
-use Rattle.xf_rollback.proofs.TreeMoved.{some, value-root, value-element, value-attribute, value-text, element-no_attribute}
+use Rattle.xf_rollback.proofs.TreeShape.{Sound, is_leaf}
+use Rattle.xf_rollback.proofs.TreeMoved.{value-element}
 use Rattle.xf_rollback.proofs.TreeBlank.{textless, blank, AreTexts, AreLeaves, LeafAt, leaf-absent}
 use Rattle.xf_rollback.proofs.TreeAgain.{AttributeAt}
 use Rattle.xf_rollback.proofs.TreeFacts.{sound-blank, is_at, at-times, or-cases}

@@ -1,16 +1,14 @@
 -- The visits of trees, and the elements directly below a node.
-use Rattle.std.proofs.Common.{◌≡◌, ℕ, zero, suc, ◌+◌, ◌==◌, Bool, true, false, not, cond, ◌&&◌, ◌||◌, List, [], ◌∷◌, ◌++◌, map, nat_lt, refl, sym, ap, ◌∙◌, subst, inl, inr, arith}
-use Rattle.std.specs.Prelude.{⊤, nat_le, if◌then◌else◌}
-use Rattle.std.specs.List.{list_any, list_all}
+use Rattle.std.proofs.Common.{◌≡◌, ℕ, suc, ◌==◌, Bool, true, false, ◌&&◌, ◌||◌, List, [], ◌∷◌, nat_lt, refl, ap, ◌∙◌, inl, inr, arith}
+use Rattle.std.specs.Prelude.{⊤}
 use Rattle.std.proofs.lemmas.Bool.{cases_Bool}
 use Rattle.std.proofs.lemmas.Bool.Decides.{nat_tests}
 use Rattle.xf_doc.specs.declared.content.Node.{Node}
-use Rattle.xf_doc.specs.declared.content.Content.{Content}
 use Rattle.xf_doc.specs.Forest.{is_element}
 use Rattle.xf_doc.specs.Visit.{Visit, still_above, numbers, visit, visits_from, visits, is_first}
 use Rattle.xf_doc.specs.Shape.{has_elements}
 use Rattle.xf_doc.proofs.VisitLemmas.{BeginsWithin, closed, deeper-by_one}
-use Rattle.xf_rollback.proofs.Trees.{Trees, none, tree, onto, StopsAt}
+use Rattle.xf_rollback.proofs.Trees.{Trees, none, tree, onto}
 
 -- the visits of trees below these ancestors, before others
 abbrev pub seen : List ℕ → Trees → List Visit → List Visit
