@@ -65,10 +65,6 @@ content-text : (b : Bool) (c : Content) → is_text (cond b (with_value [] c) c)
 content-text true c = value-text [] c
 content-text false c = refl
 
-content-element : (b : Bool) (c : Content) → is_element (cond b (with_value [] c) c) ≡ is_element c
-content-element true c = value-element [] c
-content-element false c = refl
-
 pub attributes-blank : (ns : List ℕ) (t : Trees) → attributes (blank ns t) ≡ blank ns (attributes t)
 attributes-blank ns none = refl
 attributes-blank ns (tree n c k r) =

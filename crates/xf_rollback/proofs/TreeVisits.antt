@@ -19,9 +19,6 @@ above-again : (d : ℕ) (stack : List Node) → still_above d (still_above d sta
 above-again d [] = refl
 above-again d (y ∷ ys) = elim (cases_Bool (nat_lt y.depth d)) [ inl e ↦ rw e (rw e refl) | inr e ↦ rw e (above-again d ys) ]
 
-above-less : (d e : ℕ) (stack : List Node) → nat_lt e d ≡ false → still_above d (still_above e stack) ≡ still_above d stack → ⊤
-above-less d e stack h k = tt
-
 -- a node that is no deeper leaves less open
 shut : (e d : ℕ) (stack : List Node) → nat_lt d e ≡ false → still_above e (still_above d stack) ≡ still_above e stack
 shut e d [] h = refl
