@@ -1,8 +1,6 @@
 -- A tree that was cut off is put where it stood in a forest that is alike: it is alike to the forest before.
-use Rattle.std.proofs.Common.{◌≡◌, ℕ, ◌+◌, ◌==◌, Bool, true, false, not, cond, ◌&&◌, ◌||◌, List, [], Some, refl, sym, ap, ◌∙◌, subst, inl, inr, arith}
+use Rattle.std.proofs.Common.{◌≡◌, ℕ, ◌+◌, ◌==◌, Bool, true, false, ◌&&◌, ◌||◌, List, [], Some, refl, sym, ap, ◌∙◌, subst, arith}
 use Rattle.std.specs.Prelude.{◌⊎◌, ◌≤◌, ◌<◌}
-use Rattle.std.specs.List.{list_any}
-use Rattle.xf_doc.specs.declared.content.Node.{Node}
 use Rattle.xf_doc.specs.declared.content.Content.{Content}
 use Rattle.xf_doc.specs.declared.content.Kind.{Kind}
 use Rattle.xf_doc.specs.Forest.{is_root, is_element, is_attribute, is_text, kind_at, has_number, tree_of}
@@ -13,10 +11,10 @@ use Rattle.xf_doc.specs.Needs.{is_top, goes_below, MayPlace}
 use Rattle.xf_doc.specs.WellFormed.{AreTrees, are_first}
 use Rattle.xf_rollback.proofs.Trees.{Trees, onto, followed, times, times-followed, onto-inj}
 use Rattle.xf_rollback.proofs.TreeShape.{Sound, is_leaf, sound-followed}
-use Rattle.xf_rollback.proofs.TreeMoved.{Moved, some, moved-some}
+use Rattle.xf_rollback.proofs.TreeMoved.{Moved, moved-some}
 use Rattle.xf_rollback.proofs.TreeBlank.{blank, moved-more}
 use Rattle.xf_rollback.proofs.TreeFacts.{some-blank, is_at, at-times, at-absent, some-followed}
-use Rattle.xf_rollback.proofs.KeepingTrees.{Stands, kept_times, any-is, kind-any}
+use Rattle.xf_rollback.proofs.KeepingTrees.{Stands, any-is}
 use Rattle.xf_rollback.proofs.Alike.{Alike, extra-absent, later-at, later-once, later-kind}
 use Rattle.xf_rollback.proofs.TextSteps.{is-old}
 use Rattle.xf_rollback.proofs.TreeMoves.{removed, found, removed-absent, found-absent, followed-none, removed-followed, found-followed, tree-onto, detached-onto}
@@ -25,10 +23,10 @@ use Rattle.xf_rollback.proofs.MoveFacts.{moved-removed, moved-found, moved-chang
 use Rattle.xf_rollback.proofs.MoveBlank.{blank-removed, blank-found, blank-times, sound-removed, removed-found, found-found}
 use Rattle.xf_rollback.proofs.TreeTops.{tops, moved-tops, blank-tops, tops-followed, tops-onto}
 use Rattle.xf_rollback.proofs.JoinSteps.{Moves, moves-at, moves-once, moves-old, no-other, bare-sound, at-found}
-use Rattle.xf_rollback.proofs.NodeKinds.{Each, each-of, FoundTree, found-tree}
+use Rattle.xf_rollback.proofs.NodeKinds.{Each, each-of, found-tree}
 use Rattle.xf_rollback.proofs.TreeOrder.{Ordered, ordered-onto}
 use Rattle.xf_rollback.proofs.FirstLemmas.{ordered-removed, ordered-found, ordered-changed}
-use Rattle.xf_rollback.proofs.TreeRanks.{is_child, child-plain, Under, under-times, under-parent, changed-again, child-again, attribute-again}
+use Rattle.xf_rollback.proofs.TreeRanks.{is_child, child-plain, Under, under-times, changed-again, child-again, attribute-again}
 use Rattle.xf_rollback.proofs.CutFacts.{sound-changed, sound-found-inside, changed-followed, FirstAt, first_at-ordered, first_at-absent, first_at-followed, Passes, as_child, as_attribute, blank-put}
 use Rattle.xf_rollback.proofs.CutStands.{under-outside, under-bears, element-or-root, Place, place-child, place-attribute}
 use Rattle.xf_rollback.proofs.AttributePlaces.{below-elements, above-attribute}

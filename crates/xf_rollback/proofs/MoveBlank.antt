@@ -1,21 +1,19 @@
 -- Trees cut off where some texts do not count, and what was put below a node cut off again.
-use Rattle.std.proofs.Common.{◌≡◌, ℕ, zero, suc, ◌+◌, ◌==◌, Bool, true, false, not, cond, ◌&&◌, ◌||◌, List, [], ◌∷◌, refl, sym, ap, ◌∙◌, subst, inl, inr, arith}
-use Rattle.std.specs.Prelude.{⊤, ◌≤◌, ◌<◌, if◌then◌else◌}
+use Rattle.std.proofs.Common.{◌≡◌, ℕ, zero, suc, ◌+◌, ◌==◌, Bool, true, false, cond, ◌&&◌, ◌||◌, List, [], refl, sym, ap, ◌∙◌, subst, inl, inr, arith}
+use Rattle.std.specs.Prelude.{◌≤◌, if◌then◌else◌}
 use Rattle.std.proofs.lemmas.Bool.{cases_Bool}
-use Rattle.std.proofs.lemmas.Bool.Decides.{nat_tests}
-use Rattle.xf_doc.specs.declared.content.Content.{Content}
 use Rattle.xf_doc.specs.Forest.{is_root, is_attribute, is_text}
 use Rattle.xf_doc.specs.Visit.{has}
 use Rattle.xf_doc.specs.Texts.{with_value}
 use Rattle.xf_doc.specs.Changes.{at_place}
 use Rattle.xf_doc.proofs.BackLaws.{false-true}
-use Rattle.xf_rollback.proofs.Trees.{Trees, none, tree, followed, times, times-followed}
+use Rattle.xf_rollback.proofs.Trees.{Trees, none, tree, followed, times}
 use Rattle.xf_rollback.proofs.TreeTexts.{times-split, Where, here, inside as deeper, later, where_is}
-use Rattle.xf_rollback.proofs.TreeShape.{Sound, is_leaf, sound-followed}
-use Rattle.xf_rollback.proofs.TreeMoved.{Moved, same, swap, under, through, value-text}
+use Rattle.xf_rollback.proofs.TreeShape.{Sound, sound-followed}
+use Rattle.xf_rollback.proofs.TreeMoved.{value-text}
 use Rattle.xf_rollback.proofs.TreeBlank.{textless, blank, blank-followed}
-use Rattle.xf_rollback.proofs.TreeFacts.{is_at, at-times, or-cases, sound-blank}
-use Rattle.xf_rollback.proofs.TreeMoves.{removed, found, removed-absent, found-absent, followed-none, followed-again, removed-followed, found-followed}
+use Rattle.xf_rollback.proofs.TreeFacts.{sound-blank}
+use Rattle.xf_rollback.proofs.TreeMoves.{removed, found, removed-absent, found-absent, followed-none, removed-followed, found-followed}
 use Rattle.xf_rollback.proofs.NodeKinds.{Each}
 use Rattle.xf_rollback.proofs.TreePlaces.{inserted, beside, with_tree, changed, changed-absent}
 

@@ -11,7 +11,7 @@ use Rattle.xf_doc.proofs.BackLaws.{false-true}
 use Rattle.xf_rollback.proofs.Trees.{Trees, none, tree, followed, times}
 use Rattle.xf_rollback.proofs.TreeTexts.{attributes, times-split}
 use Rattle.xf_rollback.proofs.TreeShape.{is_leaf}
-use Rattle.xf_rollback.proofs.TreeMoved.{Moved, same, swap, under, through, value-element, value-attribute, value-text, value-over, value-if-root}
+use Rattle.xf_rollback.proofs.TreeMoved.{Moved, same, swap, under, through, value-attribute, value-text, value-over, value-if-root}
 
 -- without the texts at the top
 abbrev pub textless : Trees → Trees

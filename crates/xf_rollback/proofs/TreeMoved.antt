@@ -8,7 +8,6 @@ use Rattle.xf_doc.specs.Texts.{with_value}
 use Rattle.xf_rollback.proofs.Trees.{Trees, none, tree, followed, times}
 use Rattle.xf_rollback.proofs.TreeTexts.{attributes, retexted, revalued}
 use Rattle.xf_rollback.proofs.TreeVisits.{elements}
-use Rattle.xf_rollback.proofs.TreeShape.{Sound}
 
 pub data Moved : Trees → Trees → Type 0 where
   same : (t : Trees) → Moved t t
