@@ -1,7 +1,6 @@
 -- An attribute stands below an element.
-use Rattle.std.proofs.Common.{◌≡◌, ℕ, suc, ◌+◌, ◌==◌, Bool, true, false, not, cond, ◌&&◌, ◌||◌, List, [], ◌∷◌, refl, sym, ap, ◌∙◌, subst, inl, inr, arith}
-use Rattle.std.specs.Prelude.{⊤, ◌⊎◌, if◌then◌else◌}
-use Rattle.std.proofs.lemmas.Bool.{cases_Bool}
+use Rattle.std.proofs.Common.{◌≡◌, ℕ, suc, ◌==◌, Bool, true, false, ◌&&◌, ◌||◌, List, ◌∷◌, refl, sym, ap, ◌∙◌, inl, inr, arith}
+use Rattle.std.specs.Prelude.{⊤}
 use Rattle.std.proofs.lemmas.Bool.Decides.{nat_tests}
 use Rattle.xf_doc.specs.declared.content.Node.{Node}
 use Rattle.xf_doc.specs.declared.content.Content.{Content}
@@ -12,7 +11,7 @@ use Rattle.xf_rollback.proofs.Trees.{Trees, none, tree, onto}
 use Rattle.xf_rollback.proofs.TreeFacts.{is_at, or-cases}
 use Rattle.xf_rollback.proofs.NodeKinds.{Each}
 use Rattle.xf_rollback.proofs.TreeTops.{tops}
-use Rattle.xf_rollback.proofs.TreeOrder.{NoAttributes, AttributesFirst, Ordered, order-tail, order-behind}
+use Rattle.xf_rollback.proofs.TreeOrder.{AttributesFirst, Ordered, order-tail, order-behind}
 use Rattle.xf_rollback.proofs.TreeRanks.{Under, none-top}
 use Rattle.xf_rollback.proofs.CutStands.{or-right}
 

@@ -1,5 +1,5 @@
 -- What can have children, and the numbers of trees that were cut off.
-use Rattle.std.proofs.Common.{◌≡◌, ℕ, ◌+◌, ◌==◌, Bool, true, false, cond, ◌&&◌, ◌||◌, List, [], refl, sym, ap, ◌∙◌, inl, inr, arith}
+use Rattle.std.proofs.Common.{◌≡◌, ℕ, ◌==◌, Bool, true, false, ◌&&◌, ◌||◌, [], refl, ap, ◌∙◌, inl, inr, arith}
 use Rattle.std.specs.Prelude.{◌≤◌, if◌then◌else◌}
 use Rattle.std.proofs.lemmas.Bool.{cases_Bool}
 use Rattle.std.proofs.lemmas.Bool.Decides.{nat_tests}
@@ -8,7 +8,7 @@ use Rattle.xf_doc.specs.declared.content.Content.TheVariants.{Root, Element, Att
 use Rattle.xf_doc.specs.declared.content.Kind.{Kind}
 use Rattle.xf_doc.specs.declared.content.Kind.TheVariants as kind
 use Rattle.xf_doc.specs.Forest.{is_root, is_element, is_text, kind_of, has_number}
-use Rattle.xf_rollback.proofs.Trees.{Trees, none, tree, onto, followed, times}
+use Rattle.xf_rollback.proofs.Trees.{Trees, none, tree, onto, times}
 use Rattle.xf_rollback.proofs.TreeTexts.{times-split}
 use Rattle.xf_rollback.proofs.TreeShape.{is_leaf}
 use Rattle.xf_rollback.proofs.TreeMoved.{some, value-root}

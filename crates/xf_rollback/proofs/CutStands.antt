@@ -1,19 +1,19 @@
 -- Where a node stood says where it can stand again.
-use Rattle.std.proofs.Common.{◌≡◌, ℕ, ◌+◌, ◌==◌, Bool, true, false, not, cond, ◌&&◌, ◌||◌, List, [], ◌∷◌, nat_lt, Option, Some, None, refl, sym, ap, ◌∙◌, subst, inl, inr, arith}
-use Rattle.std.specs.Prelude.{⊤, ◌⊎◌, ◌≤◌, ◌<◌, if◌then◌else◌}
+use Rattle.std.proofs.Common.{◌≡◌, ℕ, ◌==◌, Bool, true, false, cond, ◌&&◌, ◌||◌, List, [], ◌∷◌, Option, Some, None, refl, sym, ap, ◌∙◌, subst, inl, inr, arith}
+use Rattle.std.specs.Prelude.{◌⊎◌}
 use Rattle.std.specs.List.{position_or_len}
 use Rattle.std.proofs.lemmas.Bool.{cases_Bool}
 use Rattle.std.proofs.lemmas.Bool.Decides.{nat_tests}
 use Rattle.xf_doc.specs.declared.content.Content.{Content}
 use Rattle.xf_doc.specs.declared.content.Content.TheVariants.{Root, Element, Attribute, Text}
-use Rattle.xf_doc.specs.Forest.{is_root, is_element, is_attribute, is_text}
-use Rattle.xf_doc.specs.Visit.{Visit, visits, parent_of, has, children_of, attributes_of}
+use Rattle.xf_doc.specs.Forest.{is_root, is_element, is_attribute}
+use Rattle.xf_doc.specs.Visit.{Visit, visits, parent_of, has, attributes_of}
 use Rattle.xf_doc.specs.Changes.{place_in, with_place, standing}
 use Rattle.xf_doc.proofs.BackLaws.{and-true, false-true}
-use Rattle.xf_rollback.proofs.Trees.{Trees, none, tree, onto, followed, times, times-followed}
+use Rattle.xf_rollback.proofs.Trees.{Trees, none, tree, onto, times, times-followed}
 use Rattle.xf_rollback.proofs.TreeShape.{Sound, is_leaf}
 use Rattle.xf_rollback.proofs.TreeFacts.{is_at, or-cases}
-use Rattle.xf_rollback.proofs.TreeMoves.{removed, found, found-absent}
+use Rattle.xf_rollback.proofs.TreeMoves.{found, found-absent}
 use Rattle.xf_rollback.proofs.MoveFacts.{removed-times}
 use Rattle.xf_rollback.proofs.NodeKinds.{Each}
 use Rattle.xf_rollback.proofs.TreeTops.{tops}

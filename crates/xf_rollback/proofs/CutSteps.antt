@@ -1,11 +1,9 @@
 -- A tree that was cut off is put where it stood in a forest that is alike: it is alike to the forest before.
-use Rattle.std.proofs.Common.{◌≡◌, ℕ, ◌+◌, ◌==◌, Bool, true, false, not, cond, ◌&&◌, ◌||◌, List, [], Some, refl, sym, ap, ◌∙◌, subst, inl, inr, arith}
+use Rattle.std.proofs.Common.{◌≡◌, ℕ, ◌+◌, ◌==◌, Bool, true, false, ◌&&◌, ◌||◌, List, [], Some, refl, sym, ap, ◌∙◌, subst, arith}
 use Rattle.std.specs.Prelude.{◌⊎◌, ◌≤◌, ◌<◌}
-use Rattle.std.specs.List.{list_any}
-use Rattle.xf_doc.specs.declared.content.Node.{Node}
 use Rattle.xf_doc.specs.declared.content.Content.{Content}
 use Rattle.xf_doc.specs.declared.content.Kind.{Kind}
-use Rattle.xf_doc.specs.Forest.{is_root, is_element, is_attribute, kind_at, has_number, tree_of}
+use Rattle.xf_doc.specs.Forest.{is_root, is_element, is_attribute, is_text, kind_at, has_number, tree_of}
 use Rattle.xf_doc.specs.Visit.{has}
 use Rattle.xf_doc.specs.Texts.{Keeping, is_attribute_at}
 use Rattle.xf_doc.specs.Changes.{placed, detached, standing}
@@ -13,22 +11,22 @@ use Rattle.xf_doc.specs.Needs.{is_top, goes_below, MayPlace}
 use Rattle.xf_doc.specs.WellFormed.{AreTrees, are_first}
 use Rattle.xf_rollback.proofs.Trees.{Trees, onto, followed, times, times-followed, onto-inj}
 use Rattle.xf_rollback.proofs.TreeShape.{Sound, is_leaf, sound-followed}
-use Rattle.xf_rollback.proofs.TreeMoved.{Moved, some, moved-some}
+use Rattle.xf_rollback.proofs.TreeMoved.{Moved, moved-some}
 use Rattle.xf_rollback.proofs.TreeBlank.{blank, moved-more}
 use Rattle.xf_rollback.proofs.TreeFacts.{some-blank, is_at, at-times, at-absent, some-followed}
-use Rattle.xf_rollback.proofs.KeepingTrees.{Stands, kept_times, any-is, kind-any}
+use Rattle.xf_rollback.proofs.KeepingTrees.{Stands, any-is}
 use Rattle.xf_rollback.proofs.Alike.{Alike, extra-absent, later-at, later-once, later-kind}
 use Rattle.xf_rollback.proofs.TextSteps.{is-old}
 use Rattle.xf_rollback.proofs.TreeMoves.{removed, found, removed-absent, found-absent, followed-none, removed-followed, found-followed, tree-onto, detached-onto}
 use Rattle.xf_rollback.proofs.TreePlaces.{with_tree, changed, changed-absent, placed-onto}
 use Rattle.xf_rollback.proofs.MoveFacts.{moved-removed, moved-found, moved-changed, removed-times, removed-none, removed-some, changed-times}
-use Rattle.xf_rollback.proofs.MoveBlank.{NoText, no_text-of, blank-removed, blank-found, blank-times, sound-removed, removed-found, found-found}
+use Rattle.xf_rollback.proofs.MoveBlank.{blank-removed, blank-found, blank-times, sound-removed, removed-found, found-found}
 use Rattle.xf_rollback.proofs.TreeTops.{tops, moved-tops, blank-tops, tops-followed, tops-onto}
-use Rattle.xf_rollback.proofs.JoinSteps.{Moves, no-other, bare-sound, at-found}
-use Rattle.xf_rollback.proofs.NodeKinds.{Each, each-of, FoundTree, found-tree}
+use Rattle.xf_rollback.proofs.JoinSteps.{Moves, moves-at, moves-once, moves-old, no-other, bare-sound, at-found}
+use Rattle.xf_rollback.proofs.NodeKinds.{Each, each-of, found-tree}
 use Rattle.xf_rollback.proofs.TreeOrder.{Ordered, ordered-onto}
 use Rattle.xf_rollback.proofs.FirstLemmas.{ordered-removed, ordered-found, ordered-changed}
-use Rattle.xf_rollback.proofs.TreeRanks.{is_child, child-plain, Under, under-times, under-parent, changed-again, child-again, attribute-again}
+use Rattle.xf_rollback.proofs.TreeRanks.{is_child, child-plain, Under, under-times, changed-again, child-again, attribute-again}
 use Rattle.xf_rollback.proofs.CutFacts.{sound-changed, sound-found-inside, changed-followed, FirstAt, first_at-ordered, first_at-absent, first_at-followed, Passes, as_child, as_attribute, blank-put}
 use Rattle.xf_rollback.proofs.CutStands.{under-outside, under-bears, element-or-root, Place, place-child, place-attribute}
 use Rattle.xf_rollback.proofs.AttributePlaces.{below-elements, above-attribute}
@@ -39,13 +37,13 @@ use Rattle.xf_rollback.proofs.BearLemmas.{Bears, number-none, found-top}
 module _ (n parent place : ℕ) (k : Keeping) (sound : AreTrees k) (kn : Kind) (qn : Content → Bool) (moves : Moves kn qn) (is : kind_at n k.forest.nodes ≡ Some kn)
     (stands_ : standing n k.forest.nodes ≡ Some (parent, place)) (s : Stands k) where
   cut-at : is_at qn n s.trees ≡ true
-  cut-at = sym (any-is qn n s.trees) ∙ ap (list_any (λ (x : Node). (x.number == n) && qn x.content)) (sym s.nodes) ∙ kind-any kn qn moves.test n k.forest.nodes is
+  cut-at = moves-at n k s kn qn moves is
 
   cut-once : times n s.trees ≡ 1
-  cut-once = let a = at-times qn n s.trees cut-at in let b = s.once n in omega (arith, a, b)
+  cut-once = moves-once n k s kn qn moves is
 
   cut-old : n < k.forest.next
-  cut-old = is-old n k s (at-times qn n s.trees cut-at)
+  cut-old = moves-old n k s kn qn moves is
 
   cut-stands : standing n (onto 0 s.trees []) ≡ Some (parent, place)
   cut-stands = subst (λ l. standing n l ≡ Some (parent, place)) s.nodes stands_
@@ -217,7 +215,7 @@ module _ (n parent place : ℕ) (k : Keeping) (sound : AreTrees k) (kn : Kind) (
       again-blank x sound_x one at_ first =
           let most : times n x ≤ 1 = omega (arith, one) in
           blank-put ns parent place qn passes n x (removed n x) (found-tree (λ c. qn c ≡ true) n x one (each-of (λ c. qn c ≡ true) qn (λ c e. e) n x most at_)) first
-          ∙ ap (λ y. changed parent (with_tree place y) (blank ns (removed n x))) (blank-found n ns false x sound_x (no_text-of qn moves.no_text n x most at_))
+          ∙ ap (λ y. changed parent (with_tree place y) (blank ns (removed n x))) (blank-found n ns false x sound_x (each-of (λ c. is_text c ≡ false) qn moves.no_text n x most at_))
           ∙ ap (changed parent (with_tree place (found n (blank ns x)))) (blank-removed n ns x)
 
       again-whole : again whole ≡ followed s.trees a.extra

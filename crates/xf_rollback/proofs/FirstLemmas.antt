@@ -1,9 +1,9 @@
 -- Attributes stay first in trees that are cut off, put below a node, or get other texts.
-use Rattle.std.proofs.Common.{◌≡◌, ℕ, zero, suc, ◌+◌, ◌==◌, Bool, true, false, cond, List, [], refl, sym, ap, ◌∙◌, subst, inl, inr}
+use Rattle.std.proofs.Common.{◌≡◌, ℕ, zero, suc, ◌==◌, Bool, true, false, cond, List, [], refl, sym, ◌∙◌, subst, inl, inr}
 use Rattle.std.specs.Prelude.{⊤, if◌then◌else◌}
 use Rattle.std.proofs.lemmas.Bool.{cases_Bool}
 use Rattle.xf_doc.specs.declared.content.Content.{Content}
-use Rattle.xf_doc.specs.Forest.{is_attribute, is_text}
+use Rattle.xf_doc.specs.Forest.{is_attribute}
 use Rattle.xf_doc.specs.Visit.{has}
 use Rattle.xf_doc.specs.Texts.{with_value}
 use Rattle.xf_doc.specs.Changes.{at_place}
@@ -12,7 +12,7 @@ use Rattle.xf_doc.proofs.RunLemmas.{text-no_attribute}
 use Rattle.xf_rollback.proofs.Trees.{Trees, none, tree, followed}
 use Rattle.xf_rollback.proofs.TreeTexts.{attributes, retexted, revalued}
 use Rattle.xf_rollback.proofs.TreeMoved.{value-attribute}
-use Rattle.xf_rollback.proofs.TreeBlank.{textless, blank, AreTexts}
+use Rattle.xf_rollback.proofs.TreeBlank.{blank, AreTexts}
 use Rattle.xf_rollback.proofs.TreeMoves.{removed, found}
 use Rattle.xf_rollback.proofs.TreePlaces.{inserted, beside, with_tree, changed}
 use Rattle.xf_rollback.proofs.TreeOrder.{NoAttributes, AttributesFirst, Ordered}

@@ -23,9 +23,10 @@ use Rattle.xf_rollback.proofs.FirstLemmas.{ordered-removed, ordered-found, order
 use Rattle.xf_rollback.proofs.Alike.{Alike, extra-absent, later-at, later-once, later-kind}
 use Rattle.xf_rollback.proofs.TextSteps.{is-old}
 use Rattle.xf_rollback.proofs.TreeMoves.{removed, found, removed-followed, found-followed, tree-onto, detached-onto}
+use Rattle.xf_rollback.proofs.NodeKinds.{first-at, each-of}
 use Rattle.xf_rollback.proofs.TreePlaces.{with_tree, changed, AllBare, placed-onto}
 use Rattle.xf_rollback.proofs.MoveFacts.{moved-removed, moved-found, removed-times, removed-none, removed-some}
-use Rattle.xf_rollback.proofs.MoveBlank.{no_text-of, blank-removed, blank-found, blank-times, sound-removed, sound-found, removed-changed, removed-found, found-found, found-changed}
+use Rattle.xf_rollback.proofs.MoveBlank.{blank-removed, blank-found, blank-times, sound-removed, sound-found, removed-changed, removed-found, found-found, found-changed}
 use Rattle.xf_rollback.proofs.TreeTops.{RootsFirst, tops, moved-tops, blank-tops, changed-tops, absent-tops, tops-followed, tops-onto, TopAt, top-at, top-followed, top-last, fresh-no_roots, has-parent}
 
 -- ---- kinds
@@ -86,7 +87,7 @@ no-other p q other n (tree m c k r) once at_ =
       | inl e ↦
           let in_k : times n k ≡ 0 = omega (arith, (rw e at once)) in
           let in_r : times n r ≡ 0 = omega (arith, (rw e at once)) in
-          let here : q c ≡ true = first (rw e at at_) in_k in_r in
+          let here : q c ≡ true = first-at q n c k r (rw e at at_) in_k in_r in
           rw (e, other c here, at-absent p n k in_k, at-absent p n r in_r) refl
       | inr e ↦
           let whole : times n k + times n r ≤ 1 = omega (arith, (rw e at once)) in
@@ -94,13 +95,6 @@ no-other p q other n (tree m c k r) once at_ =
           (λ g. let z = at-times q n k g in rw (no-other p q other n k (omega (arith, whole)) g, at-absent p n r (omega (arith, whole, z))) refl)
           (λ g. let z = at-times q n r g in rw (at-absent p n k (omega (arith, whole, z)), no-other p q other n r (omega (arith, whole)) g) refl))
     ]
-  where
-    no-at : (t : Trees) → times n t ≡ 0 → is_at q n t ≡ true → ⊥
-    no-at t none_ h = let k = at-times q n t h in let no : ⊥ = omega (arith, k, none_) in no
-
-    first : (q c || (is_at q n k || is_at q n r)) ≡ true → times n k ≡ 0 → times n r ≡ 0 → q c ≡ true
-    first g a b = or-cases (q c) (is_at q n k || is_at q n r) g (q c ≡ true) (λ x. x)
-        (λ x. or-cases (is_at q n k) (is_at q n r) x (q c ≡ true) (λ y. absurd (no-at k a y)) (λ y. absurd (no-at r b y)))
 
 pub bare-sound : (u : Bool) (t : Trees) → Sound u t → AllBare t
 bare-sound u none h = tt
@@ -259,8 +253,8 @@ module _ (n parent given place : ℕ) (k : Keeping) (may : MayAttach n parent gi
     -- what cutting off leaves of both
     cut-alike : Moved (blank ns (followed (removed n whole) (found n whole))) (blank ns (followed (removed n a.later) (found n a.later)))
     cut-alike =
-        let one = no_text-of j.test j.moves.no_text n whole whole-once whole-at in
-        let two = no_text-of j.test j.moves.no_text n a.later (let x = joined-once in omega (arith, x)) joined-later in
+        let one = each-of (λ c. is_text c ≡ false) j.test j.moves.no_text n whole whole-once whole-at in
+        let two = each-of (λ c. is_text c ≡ false) j.test j.moves.no_text n a.later (let x = joined-once in omega (arith, x)) joined-later in
         let left : blank ns (followed (removed n whole) (found n whole)) ≡ followed (removed n (blank ns whole)) (found n (blank ns whole))
         = blank-followed ns (removed n whole) (found n whole) ∙ ap (λ x. followed x (blank ns (found n whole))) (blank-removed n ns whole) ∙ ap (followed (removed n (blank ns whole))) (blank-found n ns false whole whole-sound one) in
         let right : blank ns (followed (removed n a.later) (found n a.later)) ≡ followed (removed n (blank ns a.later)) (found n (blank ns a.later))

@@ -1,5 +1,5 @@
 -- The law of the ledger: rolling back gives the forest that was kept, and every step back may be made.
-use Rattle.std.proofs.Common.{◌≡◌, ℕ, true, false, List, [], ◌∷◌, refl, sym, ap, ◌∙◌, subst, arith}
+use Rattle.std.proofs.Common.{◌≡◌, ℕ, true, false, List, [], refl, sym, ap, ◌∙◌, subst, arith}
 use Rattle.std.specs.Prelude.{◌≤◌}
 use Rattle.xf_doc.specs.Forest.{content_at}
 use Rattle.xf_doc.specs.Visit.{visits}
@@ -10,7 +10,7 @@ use Rattle.xf_doc.specs.Undo.{Ledger, rolled_back}
 use Rattle.xf_doc.proofs.BackLaws.{after_set}
 use Rattle.xf_rollback.specs.Made.{Made, begun, noted, texts, joined, cut, grown}
 use Rattle.xf_rollback.specs.Back.{CanRollBack}
-use Rattle.xf_rollback.proofs.Trees.{Trees, none, onto, followed, times}
+use Rattle.xf_rollback.proofs.Trees.{Trees, none, onto, times}
 use Rattle.xf_rollback.proofs.TreeShape.{Sound}
 use Rattle.xf_rollback.proofs.TreeMoved.{Moved, same}
 use Rattle.xf_rollback.proofs.TreeBlank.{blank}

@@ -17,6 +17,7 @@ pub mod Outcomes
 pub mod StepCases
 pub mod KnownLemmas
 pub mod Laws
+pub mod Examples
 pub mod TreeMoves
 pub mod NodeKinds
 pub mod TreePlaces

@@ -1,21 +1,20 @@
 -- Trees cut off where some texts do not count, and what was put below a node cut off again.
-use Rattle.std.proofs.Common.{◌≡◌, ℕ, zero, suc, ◌+◌, ◌==◌, Bool, true, false, not, cond, ◌&&◌, ◌||◌, List, [], ◌∷◌, refl, sym, ap, ◌∙◌, subst, inl, inr, arith}
-use Rattle.std.specs.Prelude.{⊤, ◌≤◌, ◌<◌, if◌then◌else◌}
+use Rattle.std.proofs.Common.{◌≡◌, ℕ, zero, suc, ◌+◌, ◌==◌, Bool, true, false, cond, ◌&&◌, ◌||◌, List, [], refl, sym, ap, ◌∙◌, subst, inl, inr, arith}
+use Rattle.std.specs.Prelude.{◌≤◌, if◌then◌else◌}
 use Rattle.std.proofs.lemmas.Bool.{cases_Bool}
-use Rattle.std.proofs.lemmas.Bool.Decides.{nat_tests}
-use Rattle.xf_doc.specs.declared.content.Content.{Content}
 use Rattle.xf_doc.specs.Forest.{is_root, is_attribute, is_text}
 use Rattle.xf_doc.specs.Visit.{has}
 use Rattle.xf_doc.specs.Texts.{with_value}
 use Rattle.xf_doc.specs.Changes.{at_place}
 use Rattle.xf_doc.proofs.BackLaws.{false-true}
-use Rattle.xf_rollback.proofs.Trees.{Trees, none, tree, followed, times, times-followed}
+use Rattle.xf_rollback.proofs.Trees.{Trees, none, tree, followed, times}
 use Rattle.xf_rollback.proofs.TreeTexts.{times-split, Where, here, inside as deeper, later, where_is}
-use Rattle.xf_rollback.proofs.TreeShape.{Sound, is_leaf, sound-followed}
-use Rattle.xf_rollback.proofs.TreeMoved.{Moved, same, swap, under, through, value-text}
+use Rattle.xf_rollback.proofs.TreeShape.{Sound, sound-followed}
+use Rattle.xf_rollback.proofs.TreeMoved.{value-text}
 use Rattle.xf_rollback.proofs.TreeBlank.{textless, blank, blank-followed}
-use Rattle.xf_rollback.proofs.TreeFacts.{is_at, at-times, or-cases, sound-blank}
-use Rattle.xf_rollback.proofs.TreeMoves.{removed, found, removed-absent, found-absent, followed-none, followed-again, removed-followed, found-followed}
+use Rattle.xf_rollback.proofs.TreeFacts.{sound-blank}
+use Rattle.xf_rollback.proofs.TreeMoves.{removed, found, removed-absent, found-absent, followed-none, removed-followed, found-followed}
+use Rattle.xf_rollback.proofs.NodeKinds.{Each}
 use Rattle.xf_rollback.proofs.TreePlaces.{inserted, beside, with_tree, changed, changed-absent}
 
 -- ---- without texts that do not count
@@ -49,66 +48,27 @@ blank-removed n ns (tree m c k r) =
     by true h = ap textless h ∙ textless-removed n (blank ns k)
     by false h = h
 
--- no text has this number
-abbrev pub NoText : ℕ → Trees → Type 0
-NoText n none = ⊤
-NoText n (tree m c k r) = ((m == n) ≡ true → is_text c ≡ false) × NoText n k × NoText n r
-
-pub no_text-absent : (n : ℕ) (t : Trees) → times n t ≡ 0 → NoText n t
-no_text-absent n none h = tt
-no_text-absent n (tree m c k r) h =
-    let parts = times-split n m c k r h in
-    (λ e. absurd (false-true (sym parts.0 ∙ e)), no_text-absent n k parts.1, no_text-absent n r parts.2)
-
-pub no_text-followed : (n : ℕ) (t s : Trees) → NoText n t → NoText n s → NoText n (followed t s)
-no_text-followed n none s h k = k
-no_text-followed n (tree m c j r) s h k = (h.0, h.1, no_text-followed n r s h.2 k)
-
-no-at : (q : Content → Bool) (n : ℕ) (t : Trees) → times n t ≡ 0 → is_at q n t ≡ true → ⊥
-no-at q n t none_ h = let k = at-times q n t h in let no : ⊥ = omega (arith, k, none_) in no
-
--- where the node is of a kind that is no text
-pub no_text-of : (q : Content → Bool) → ((c : Content) → q c ≡ true → is_text c ≡ false) → (n : ℕ) (t : Trees) → times n t ≤ 1 → is_at q n t ≡ true → NoText n t
-no_text-of q other n none once at_ = tt
-no_text-of q other n (tree m c k r) once at_ =
-    elim (cases_Bool (m == n)) [
-      | inl e ↦
-          let in_k : times n k ≡ 0 = omega (arith, (rw e at once)) in
-          let in_r : times n r ≡ 0 = omega (arith, (rw e at once)) in
-          (λ f. other c (first (rw e at at_) in_k in_r), no_text-absent n k in_k, no_text-absent n r in_r)
-      | inr e ↦
-          let whole : times n k + times n r ≤ 1 = omega (arith, (rw e at once)) in (
-            λ f. absurd (false-true (sym e ∙ f)),
-            or-cases (is_at q n k) (is_at q n r) (rw e at at_) (NoText n k) (λ g. no_text-of q other n k (omega (arith, whole)) g) (λ g. let z = at-times q n r g in no_text-absent n k (omega (arith, whole, z))),
-            or-cases (is_at q n k) (is_at q n r) (rw e at at_) (NoText n r) (λ g. let z = at-times q n k g in no_text-absent n r (omega (arith, whole, z))) (λ g. no_text-of q other n r (omega (arith, whole)) g),
-          )
-    ]
+textless-each : (n : ℕ) (t : Trees) → Each (λ c. is_text c ≡ false) n t → Each (λ c. is_text c ≡ false) n (textless t)
+textless-each n none h = tt
+textless-each n (tree m c k r) h = by (is_text c) (textless-each n r h.2)
   where
-    first : (q c || (is_at q n k || is_at q n r)) ≡ true → times n k ≡ 0 → times n r ≡ 0 → q c ≡ true
-    first g a b = or-cases (q c) (is_at q n k || is_at q n r) g (q c ≡ true) (λ x. x)
-        (λ x. or-cases (is_at q n k) (is_at q n r) x (q c ≡ true) (λ y. absurd (no-at q n k a y)) (λ y. absurd (no-at q n r b y)))
-
-no_text-textless : (n : ℕ) (t : Trees) → NoText n t → NoText n (textless t)
-no_text-textless n none h = tt
-no_text-textless n (tree m c k r) h = by (is_text c) (no_text-textless n r h.2)
-  where
-    by : (b : Bool) → NoText n (textless r) → NoText n (cond b (textless r) (tree m c k (textless r)))
+    by : (b : Bool) → Each (λ c. is_text c ≡ false) n (textless r) → Each (λ c. is_text c ≡ false) n (cond b (textless r) (tree m c k (textless r)))
     by true s = s
     by false s = (h.0, h.1, s)
 
-no_text-blank : (n : ℕ) (ns : List ℕ) (t : Trees) → NoText n t → NoText n (blank ns t)
-no_text-blank n ns none h = tt
-no_text-blank n ns (tree m c k r) h = (λ e. content (has m ns) ∙ h.0 e, by (has m ns) (no_text-blank n ns k h.1), no_text-blank n ns r h.2)
+blank-each : (n : ℕ) (ns : List ℕ) (t : Trees) → Each (λ c. is_text c ≡ false) n t → Each (λ c. is_text c ≡ false) n (blank ns t)
+blank-each n ns none h = tt
+blank-each n ns (tree m c k r) h = (λ e. content (has m ns) ∙ h.0 e, by (has m ns) (blank-each n ns k h.1), blank-each n ns r h.2)
   where
     content : (b : Bool) → is_text (cond b (with_value [] c) c) ≡ is_text c
     content true = value-text [] c
     content false = refl
 
-    by : (b : Bool) → NoText n (blank ns k) → NoText n (cond b (textless (blank ns k)) (blank ns k))
-    by true s = no_text-textless n (blank ns k) s
+    by : (b : Bool) → Each (λ c. is_text c ≡ false) n (blank ns k) → Each (λ c. is_text c ≡ false) n (cond b (textless (blank ns k)) (blank ns k))
+    by true s = textless-each n (blank ns k) s
     by false s = s
 
-found-textless : (n : ℕ) (inside : Bool) (t : Trees) → Sound inside t → NoText n t → found n (textless t) ≡ found n t
+found-textless : (n : ℕ) (inside : Bool) (t : Trees) → Sound inside t → Each (λ c. is_text c ≡ false) n t → found n (textless t) ≡ found n t
 found-textless n inside none s h = refl
 found-textless n inside (tree m c k r) s h =
     elim (cases_Bool (is_text c)) [
@@ -127,7 +87,7 @@ found-textless n inside (tree m c k r) s h =
     not-here true e q = absurd (false-true (sym (h.0 e) ∙ q))
     not-here false e q = refl
 
-pub blank-found : (n : ℕ) (ns : List ℕ) (inside : Bool) (t : Trees) → Sound inside t → NoText n t → blank ns (found n t) ≡ found n (blank ns t)
+pub blank-found : (n : ℕ) (ns : List ℕ) (inside : Bool) (t : Trees) → Sound inside t → Each (λ c. is_text c ≡ false) n t → blank ns (found n t) ≡ found n (blank ns t)
 blank-found n ns inside none s h = refl
 blank-found n ns inside (tree m c k r) s h =
     blank-followed ns (if m == n then tree m c k none else found n k) (found n r)
@@ -140,7 +100,7 @@ blank-found n ns inside (tree m c k r) s h =
     by false b e = e ∙ inner (has m ns)
       where
         inner : (b : Bool) → found n (blank ns k) ≡ found n (cond b (textless (blank ns k)) (blank ns k))
-        inner true = sym (found-textless n true (blank ns k) (sound-blank true ns k s.2) (no_text-blank n ns k h.1))
+        inner true = sym (found-textless n true (blank ns k) (sound-blank true ns k s.2) (blank-each n ns k h.1))
         inner false = refl
 
 -- blank trees have no number more often
@@ -162,14 +122,6 @@ blank-times n ns (tree m c k r) = by (has m ns) (blank-times n ns k) (blank-time
     by false h g = omega (arith, h, g)
 
 -- ---- soundness
-
-sound-less : (inside : Bool) (t : Trees) → Sound inside t → Sound false t
-sound-less inside none h = tt
-sound-less inside (tree n c k r) h = (h.0, off (is_root c), h.2, sound-less inside r h.3)
-  where
-    off : (b : Bool) → (b && false) ≡ false
-    off true = refl
-    off false = refl
 
 pub sound-removed : (n : ℕ) (inside : Bool) (t : Trees) → Sound inside t → Sound inside (removed n t)
 sound-removed n inside none h = tt

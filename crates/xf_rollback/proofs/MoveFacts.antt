@@ -1,21 +1,16 @@
 -- Trees cut off and put below a node: numbers, tests and soundness, and what is undone by cutting off.
-use Rattle.std.proofs.Common.{◌≡◌, ℕ, zero, suc, ◌+◌, ◌==◌, Bool, true, false, not, cond, ◌&&◌, ◌||◌, List, [], ◌∷◌, refl, sym, ap, ◌∙◌, subst, inl, inr, arith}
-use Rattle.std.specs.Prelude.{⊤, ◌≤◌, ◌<◌, if◌then◌else◌}
+use Rattle.std.proofs.Common.{◌≡◌, ℕ, zero, suc, ◌+◌, ◌==◌, Bool, true, false, cond, ◌||◌, refl, sym, ap, ◌∙◌, inl, inr, arith}
+use Rattle.std.specs.Prelude.{◌≤◌, if◌then◌else◌}
 use Rattle.std.proofs.lemmas.Bool.{cases_Bool}
 use Rattle.std.proofs.lemmas.Bool.Decides.{nat_tests}
 use Rattle.xf_doc.specs.declared.content.Content.{Content}
-use Rattle.xf_doc.specs.Forest.{is_root, is_attribute, is_text}
-use Rattle.xf_doc.specs.Visit.{has}
-use Rattle.xf_doc.specs.Texts.{with_value}
+use Rattle.xf_doc.specs.Forest.{is_attribute}
 use Rattle.xf_doc.specs.Changes.{at_place}
-use Rattle.xf_doc.proofs.BackLaws.{false-true}
 use Rattle.xf_rollback.proofs.Trees.{Trees, none, tree, followed, times, times-followed}
-use Rattle.xf_rollback.proofs.TreeTexts.{times-split, Where, here, inside, later, where_is}
-use Rattle.xf_rollback.proofs.TreeShape.{Sound, is_leaf, sound-followed}
-use Rattle.xf_rollback.proofs.TreeMoved.{Moved, same, swap, under, through, some, moved-times, value-text}
-use Rattle.xf_rollback.proofs.TreeBlank.{textless, blank, blank-followed}
+use Rattle.xf_rollback.proofs.TreeTexts.{Where, here, inside, later, where_is}
+use Rattle.xf_rollback.proofs.TreeMoved.{Moved, same, swap, under, through, some, moved-times}
 use Rattle.xf_rollback.proofs.TreeFacts.{some-followed}
-use Rattle.xf_rollback.proofs.TreeMoves.{removed, found, removed-absent, found-absent, followed-none, followed-again, removed-followed, found-followed}
+use Rattle.xf_rollback.proofs.TreeMoves.{removed, found, found-absent}
 use Rattle.xf_rollback.proofs.TreePlaces.{inserted, beside, with_tree, changed, changed-absent}
 
 -- ---- in another order

@@ -1,13 +1,13 @@
 -- What the nodes with one number are, and the tree of such a node.
-use Rattle.std.proofs.Common.{◌≡◌, ℕ, ◌+◌, ◌==◌, Bool, true, false, cond, ◌&&◌, ◌||◌, refl, sym, ap, ◌∙◌, subst, inl, inr, arith}
-use Rattle.std.specs.Prelude.{⊤, ◌≤◌, if◌then◌else◌}
+use Rattle.std.proofs.Common.{◌≡◌, ℕ, ◌+◌, ◌==◌, Bool, true, ◌||◌, sym, ap, ◌∙◌, inl, inr, arith}
+use Rattle.std.specs.Prelude.{⊤, ◌≤◌}
 use Rattle.std.proofs.lemmas.Bool.{cases_Bool}
 use Rattle.xf_doc.specs.declared.content.Content.{Content}
 use Rattle.xf_doc.proofs.BackLaws.{false-true, one_number}
 use Rattle.xf_rollback.proofs.Trees.{Trees, none, tree, followed, times}
 use Rattle.xf_rollback.proofs.TreeTexts.{times-split, Where, here, inside, later, where_is}
 use Rattle.xf_rollback.proofs.TreeFacts.{is_at, at-times, or-cases}
-use Rattle.xf_rollback.proofs.TreeMoves.{removed, found, found-absent, followed-none}
+use Rattle.xf_rollback.proofs.TreeMoves.{found, found-absent, followed-none}
 
 -- each node with this number is of a kind
 abbrev pub Each : (Content → Type 0) → ℕ → Trees → Type 0

@@ -11,7 +11,7 @@ use Rattle.xf_doc.proofs.BackLaws.{false-true}
 use Rattle.xf_rollback.proofs.Trees.{Trees, none, tree, followed, times}
 use Rattle.xf_rollback.proofs.TreeTexts.{attributes, times-split}
 use Rattle.xf_rollback.proofs.TreeShape.{is_leaf}
-use Rattle.xf_rollback.proofs.TreeMoved.{Moved, same, swap, under, through, value-element, value-attribute, value-text, value-over, value-if-root}
+use Rattle.xf_rollback.proofs.TreeMoved.{Moved, same, swap, under, through, value-attribute, value-text, value-over, value-if-root}
 
 -- without the texts at the top
 abbrev pub textless : Trees → Trees
@@ -64,10 +64,6 @@ content-attribute false c = refl
 content-text : (b : Bool) (c : Content) → is_text (cond b (with_value [] c) c) ≡ is_text c
 content-text true c = value-text [] c
 content-text false c = refl
-
-content-element : (b : Bool) (c : Content) → is_element (cond b (with_value [] c) c) ≡ is_element c
-content-element true c = value-element [] c
-content-element false c = refl
 
 pub attributes-blank : (ns : List ℕ) (t : Trees) → attributes (blank ns t) ≡ blank ns (attributes t)
 attributes-blank ns none = refl

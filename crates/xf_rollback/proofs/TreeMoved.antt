@@ -8,7 +8,6 @@ use Rattle.xf_doc.specs.Texts.{with_value}
 use Rattle.xf_rollback.proofs.Trees.{Trees, none, tree, followed, times}
 use Rattle.xf_rollback.proofs.TreeTexts.{attributes, retexted, revalued}
 use Rattle.xf_rollback.proofs.TreeVisits.{elements}
-use Rattle.xf_rollback.proofs.TreeShape.{Sound}
 
 pub data Moved : Trees → Trees → Type 0 where
   same : (t : Trees) → Moved t t
@@ -52,21 +51,11 @@ moved-elements u n (swap {n = x} {m = y} {c = c} {d = d} {k = k} {j = j} {r = r}
 moved-elements u n (under m c k h) = ap (λ b. (is_element c && u) || (elements (n == m) n k || b)) (moved-elements u n h)
 moved-elements u n (through g h) = moved-elements u n g ∙ moved-elements u n h
 
-pub moved-sound : {a b : Trees} → Moved a b → Sound false a → Sound false b
-moved-sound (same t) s = s
-moved-sound (swap e f) s = (s.3.0, s.3.1, s.3.2, (s.0, s.1, s.2, s.3.3))
-moved-sound (under n c k h) s = (s.0, s.1, s.2, moved-sound h s.3)
-moved-sound (through g h) s = moved-sound h (moved-sound g s)
-
 pub moved-followed : (s : Trees) {a b : Trees} → Moved a b → Moved (followed a s) (followed b s)
 moved-followed s (same t) = same (followed t s)
 moved-followed s (swap e f) = swap e f
 moved-followed s (under n c k h) = under n c k (moved-followed s h)
 moved-followed s (through g h) = through (moved-followed s g) (moved-followed s h)
-
-pub moved-behind : (s : Trees) {a b : Trees} → Moved a b → Moved (followed s a) (followed s b)
-moved-behind none h = h
-moved-behind (tree n c k r) h = under n c k (moved-behind r h)
 
 -- ---- contents that keep their kind
 

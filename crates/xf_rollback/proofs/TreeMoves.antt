@@ -1,15 +1,13 @@
 -- A tree that is cut off, or put below a node, as in the list.
-use Rattle.std.proofs.Common.{◌≡◌, ℕ, zero, suc, ◌+◌, ◌-◌, ◌==◌, Bool, true, false, not, cond, ◌&&◌, ◌||◌, List, [], ◌∷◌, ◌++◌, map, nat_lt, refl, sym, ap, ◌∙◌, subst, inl, inr, append_assoc, arith}
-use Rattle.std.specs.Prelude.{⊤, ◌≤◌, ◌<◌, if◌then◌else◌}
+use Rattle.std.proofs.Common.{◌≡◌, ℕ, suc, ◌+◌, ◌-◌, ◌==◌, List, [], ◌∷◌, ◌++◌, map, refl, sym, ap, ◌∙◌, inl, inr, arith}
+use Rattle.std.specs.Prelude.{◌≤◌, if◌then◌else◌}
 use Rattle.std.proofs.lemmas.Bool.{cases_Bool}
 use Rattle.std.proofs.lemmas.Bool.Decides.{nat_tests}
 use Rattle.xf_doc.specs.declared.content.Node.{Node}
-use Rattle.xf_doc.specs.declared.content.Content.{Content}
-use Rattle.xf_doc.specs.Forest.{Forest, is_attribute, below, past, tree_of}
-use Rattle.xf_doc.specs.Plant.{is_less, written_of}
-use Rattle.xf_doc.specs.Changes.{shifted, moved_to, without_tree, detached, at_place, with_child, with_attribute, with_part, with_below, placed}
+use Rattle.xf_doc.specs.Forest.{Forest, tree_of}
+use Rattle.xf_doc.specs.Changes.{shifted, moved_to, without_tree, detached}
 use Rattle.xf_doc.proofs.RunLemmas.{tree-here, tree-other}
-use Rattle.xf_rollback.proofs.Trees.{Trees, none, tree, onto, followed, times, times-followed, StopsAt, stops-onto, stops-more, onto-followed, onto-append}
+use Rattle.xf_rollback.proofs.Trees.{Trees, none, tree, onto, followed, times, StopsAt, stops-more, onto-followed, onto-append}
 use Rattle.xf_rollback.proofs.TreeTexts.{times-split, Where, here, inside, later, where_is, below-onto, past-onto}
 
 -- without the trees of this node

@@ -1,13 +1,11 @@
 -- In the trees of a forest the attributes of an element stand before its other children.
-use Rattle.std.proofs.Common.{◌≡◌, ℕ, zero, suc, ◌+◌, ◌==◌, Bool, true, false, not, cond, ◌&&◌, ◌||◌, List, [], ◌∷◌, nat_lt, refl, sym, ap, ◌∙◌, subst, inl, inr, arith}
-use Rattle.std.specs.Prelude.{⊤, ◌⊎◌, ◌≤◌, ◌<◌, if◌then◌else◌}
-use Rattle.std.proofs.lemmas.Bool.{cases_Bool}
+use Rattle.std.proofs.Common.{◌≡◌, ℕ, suc, ◌==◌, Bool, true, false, ◌&&◌, ◌||◌, List, [], ◌∷◌, refl, sym, ◌∙◌, inl, inr, arith}
+use Rattle.std.specs.Prelude.{⊤, ◌⊎◌, ◌<◌}
 use Rattle.std.proofs.lemmas.Bool.Decides.{nat_tests}
 use Rattle.xf_doc.specs.declared.content.Node.{Node}
-use Rattle.xf_doc.specs.declared.content.Content.{Content}
 use Rattle.xf_doc.specs.Forest.{is_element, is_attribute}
 use Rattle.xf_doc.specs.WellFormed.{stands_first, are_first}
-use Rattle.xf_doc.proofs.BackLaws.{and-true, or-false, false-true}
+use Rattle.xf_doc.proofs.BackLaws.{and-true, false-true}
 use Rattle.xf_rollback.proofs.Trees.{Trees, none, tree, onto}
 
 abbrev pub NoAttributes : Trees → Type 0

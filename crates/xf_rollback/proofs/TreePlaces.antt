@@ -1,15 +1,14 @@
 -- A tree put below a node, at a place among its children or among its attributes, as in the list.
-use Rattle.std.proofs.Common.{◌≡◌, ℕ, zero, suc, ◌+◌, ◌-◌, ◌==◌, Bool, true, false, not, cond, ◌&&◌, ◌||◌, List, [], ◌∷◌, ◌++◌, map, nat_lt, refl, sym, ap, ◌∙◌, subst, inl, inr, append_assoc, arith}
-use Rattle.std.specs.Prelude.{⊤, ◌≤◌, ◌<◌, if◌then◌else◌}
+use Rattle.std.proofs.Common.{◌≡◌, ℕ, zero, suc, ◌==◌, true, false, List, [], ◌∷◌, ◌++◌, nat_lt, refl, sym, ap, ◌∙◌, subst, inl, inr, arith}
+use Rattle.std.specs.Prelude.{⊤, ◌<◌, if◌then◌else◌}
 use Rattle.std.proofs.lemmas.Bool.{cases_Bool}
 use Rattle.std.proofs.lemmas.Bool.Decides.{nat_tests}
 use Rattle.xf_doc.specs.declared.content.Node.{Node}
-use Rattle.xf_doc.specs.declared.content.Content.{Content}
 use Rattle.xf_doc.specs.Forest.{Forest, is_attribute, tree_of}
-use Rattle.xf_doc.specs.Changes.{moved_to, without_tree, at_place, with_child, with_attribute, with_part, with_below, placed}
-use Rattle.xf_rollback.proofs.Trees.{Trees, none, tree, onto, followed, times, StopsAt, stops-onto, stops-more, onto-followed, onto-append}
+use Rattle.xf_doc.specs.Changes.{without_tree, at_place, with_child, with_attribute, with_part, with_below, placed}
+use Rattle.xf_rollback.proofs.Trees.{Trees, none, tree, onto, followed, times, StopsAt, stops-more, onto-followed, onto-append}
 use Rattle.xf_rollback.proofs.TreeTexts.{times-split, Where, here, inside, later, where_is}
-use Rattle.xf_rollback.proofs.TreeMoves.{removed, found, without-onto, tree-onto, moved-onto, followed-none}
+use Rattle.xf_rollback.proofs.TreeMoves.{removed, found, without-onto, tree-onto, moved-onto}
 
 -- before the child with a place, or behind them all
 abbrev pub inserted : ℕ → Trees → Trees → Trees

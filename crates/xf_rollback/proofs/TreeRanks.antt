@@ -1,19 +1,18 @@
 -- Where a node stands among the children or the attributes of its parent, in trees.
-use Rattle.std.proofs.Common.{◌≡◌, ℕ, zero, suc, ◌+◌, ◌==◌, Bool, true, false, not, cond, ◌&&◌, ◌||◌, List, [], ◌∷◌, ◌++◌, map, length, nat_lt, Option, Some, None, refl, sym, ap, ◌∙◌, subst, inl, inr, arith}
-use Rattle.std.specs.Prelude.{⊤, ◌⊎◌, ◌≤◌, ◌<◌, filter, find, option_map, if◌then◌else◌}
-use Rattle.std.specs.List.{list_any, position_or_len}
+use Rattle.std.proofs.Common.{◌≡◌, ℕ, zero, suc, ◌==◌, Bool, true, false, not, cond, ◌&&◌, List, [], ◌∷◌, map, Option, Some, None, refl, sym, ap, ◌∙◌, subst, inl, inr, arith}
+use Rattle.std.specs.Prelude.{◌⊎◌, ◌≤◌, filter, find, if◌then◌else◌}
+use Rattle.std.specs.List.{position_or_len}
 use Rattle.std.proofs.lemmas.Bool.{cases_Bool}
 use Rattle.std.proofs.lemmas.Bool.Decides.{nat_tests}
-use Rattle.xf_doc.specs.declared.content.Node.{Node}
 use Rattle.xf_doc.specs.declared.content.Content.{Content}
 use Rattle.xf_doc.specs.Forest.{is_attribute}
-use Rattle.xf_doc.specs.Visit.{Visit, visits, is_first, first_of, above_in, parent_of, has, children_of, attributes_of}
-use Rattle.xf_doc.proofs.BackLaws.{false-true, one_number}
+use Rattle.xf_doc.specs.Visit.{Visit, visits, is_first, first_of, above_in, parent_of, has}
+use Rattle.xf_doc.proofs.BackLaws.{false-true}
 use Rattle.xf_rollback.proofs.Trees.{Trees, none, tree, onto, followed, times}
 use Rattle.xf_rollback.proofs.TreeTexts.{times-split, Where, here, inside as deeper, later, where_is}
 use Rattle.xf_rollback.proofs.TreeVisits.{seen, visits-seen}
 use Rattle.xf_rollback.proofs.TreeMoves.{removed, found, removed-absent, found-absent, followed-none}
-use Rattle.xf_rollback.proofs.NodeKinds.{Each, FoundTree, found-tree}
+use Rattle.xf_rollback.proofs.NodeKinds.{Each, found-tree}
 use Rattle.xf_rollback.proofs.TreePlaces.{inserted, beside, with_tree, changed, changed-absent}
 use Rattle.xf_rollback.proofs.TreeTops.{tops}
 use Rattle.xf_rollback.proofs.TreeOrder.{NoAttributes, AttributesFirst, Ordered}

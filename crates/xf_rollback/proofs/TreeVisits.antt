@@ -1,6 +1,5 @@
 -- The visits of trees, and the elements directly below a node.
 use Rattle.std.proofs.Common.{◌≡◌, ℕ, suc, ◌==◌, Bool, true, false, ◌&&◌, ◌||◌, List, [], ◌∷◌, nat_lt, refl, ap, ◌∙◌, inl, inr, arith}
-use Rattle.std.specs.Prelude.{⊤}
 use Rattle.std.proofs.lemmas.Bool.{cases_Bool}
 use Rattle.std.proofs.lemmas.Bool.Decides.{nat_tests}
 use Rattle.xf_doc.specs.declared.content.Node.{Node}
@@ -18,9 +17,6 @@ seen up (tree n c k r) vs = record { number = n; above = up; content = c } ∷ s
 above-again : (d : ℕ) (stack : List Node) → still_above d (still_above d stack) ≡ still_above d stack
 above-again d [] = refl
 above-again d (y ∷ ys) = elim (cases_Bool (nat_lt y.depth d)) [ inl e ↦ rw e (rw e refl) | inr e ↦ rw e (above-again d ys) ]
-
-above-less : (d e : ℕ) (stack : List Node) → nat_lt e d ≡ false → still_above d (still_above e stack) ≡ still_above d stack → ⊤
-above-less d e stack h k = tt
 
 -- a node that is no deeper leaves less open
 shut : (e d : ℕ) (stack : List Node) → nat_lt d e ≡ false → still_above e (still_above d stack) ≡ still_above e stack

@@ -1,8 +1,7 @@
 -- What was made of a forest since it was kept: each change is noted, made and filled in, and new trees come in beside.
-use Rattle.std.specs.Prelude.{ℕ, ◌≡◌, ◌+◌, ◌==◌, Bool, true, false, List, [], ◌∷◌, ◌++◌, length, Some, Result, Ok}
+use Rattle.std.specs.Prelude.{ℕ, ◌≡◌, ◌+◌, ◌==◌, Bool, true, false, List, [], ◌∷◌, ◌++◌, length, Some, Ok}
 use Rattle.std.specs.List.{list_any}
 use Rattle.xf_doc.specs.declared.content.Content.{Content}
-use Rattle.xf_doc.specs.declared.fault.TreeFault.{TreeFault}
 use Rattle.xf_doc.specs.Forest.{Forest, is_root}
 use Rattle.xf_doc.specs.Limits.{Limits}
 use Rattle.xf_doc.specs.Plant.{numbered_from}
