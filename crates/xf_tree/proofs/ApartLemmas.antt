@@ -8,7 +8,7 @@ use Rattle.xf_doc.specs.Forest.{has_number}
 use Rattle.xf_doc.specs.WellFormed.{are_apart}
 use Rattle.xf_tree.specs.Tree.{times}
 
-none-has : (n : ℕ) (xs : List Node) → times n xs ≡ 0 → has_number n xs ≡ false
+pub none-has : (n : ℕ) (xs : List Node) → times n xs ≡ 0 → has_number n xs ≡ false
 none-has n [] h = refl
 none-has n (x ∷ xs) h =
     elim (cases_Bool (x.number == n)) [

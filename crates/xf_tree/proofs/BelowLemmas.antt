@@ -1,10 +1,9 @@
 -- Walks over the nodes after a parent, to where a child or an attribute goes.
 use Rattle.std.proofs.Common.{◌≡◌, ℕ, zero, suc, ◌+◌, ◌-◌, ◌<◌, ◌≤◌, ◌==◌, ◌&&◌, ◌||◌, not, Bool, true, false, List, [], ◌∷◌, map, length, drop, get_or, nat_lt, refl, sym, ap, ◌∙◌, inl, inr, arith}
 use Rattle.std.proofs.lemmas.Bool.Decides.{nat_tests}
-use Rattle.std.proofs.lemmas.Bool.{cases_lt, true≢false, false≢true, and_parts}
+use Rattle.std.proofs.lemmas.Bool.{cases_lt, cases_Bool, true≢false, false≢true, and_parts}
 use Rattle.slab.specs.Slab.{Slab, get}
 use Rattle.xf_doc.specs.Forest.{is_attribute}
-use Rattle.xf_doc.specs.Plant.{is_less, written_of}
 use Rattle.xf_tree.specs.declared.rows.Row.{Row}
 use Rattle.xf_tree.specs.declared.slot.Slot.{Slot}
 use Rattle.xf_tree.specs.Rows.{deeper, tree_of, after_tree}
@@ -150,13 +149,27 @@ tree-inside rows above next o h inside =
 
 -- ---- attributes
 
-pub attribute-more : (s : Slab Slot) (d next : ℕ) (name : List ℕ) (rows : List Row) → next < length rows → is_kin d true (node_of s (get_or rows next no_row)) ≡ true
-    → is_less (written_of (content_in (get s (get_or rows next no_row).key))) name ≡ true
-    → next + 1 + attribute_at d name (map (node_of s) (drop (next + 1) rows)) ≡ next + attribute_at d name (map (node_of s) (drop next rows))
-attribute-more s d next name rows h is less =
+-- one of which more are to be passed
+pub attribute-more : (s : Slab Slot) (d next place : ℕ) (rows : List Row) → next < length rows → is_kin d true (node_of s (get_or rows next no_row)) ≡ true → 0 < place
+    → next + 1 + attribute_at d (place - 1) (map (node_of s) (drop (next + 1) rows)) ≡ next + attribute_at d place (map (node_of s) (drop next rows))
+attribute-more s d next zero rows h is some = absurd (omega arith)
+attribute-more s d next (suc left) rows h is some =
     let x = get_or rows next no_row in
-    let p = and_parts (x.depth == d) (is_attribute (content_in (get s x.key))) is in
     let later = drop (next + 1) rows in
-    let a : attribute_at d name (map (node_of s) (x ∷ later)) ≡ suc (attribute_at d name (map (node_of s) later)) = rw (p.0, p.1, less) refl in
-    let b = ap (λ l. attribute_at d name (map (node_of s) l)) (split-at next rows no_row h) in
-    omega (arith, a, b)
+    let one : suc left - 1 ≡ left = omega arith in
+    let a : attribute_at d (suc left) (map (node_of s) (x ∷ later)) ≡ suc (attribute_at d left (map (node_of s) later)) = rw is refl in
+    let b = ap (λ l. attribute_at d (suc left) (map (node_of s) l)) (split-at next rows no_row h) in
+    let e = ap (λ k. attribute_at d k (map (node_of s) later)) one in
+    omega (arith, a, b, e)
+
+-- where none is to be passed, and where none follows
+pub attribute-here : (s : Slab Slot) (d : ℕ) (xs : List Row) → attribute_at d 0 (map (node_of s) xs) ≡ 0
+attribute-here s d [] = refl
+attribute-here s d (x ∷ xs) = elim (cases_Bool ((x.depth == d) && is_attribute (content_in (get s x.key)))) [ inl e ↦ rw e refl | inr e ↦ rw e refl ]
+
+pub attribute-none : (s : Slab Slot) (d next place : ℕ) (rows : List Row) → next < length rows → is_kin d true (node_of s (get_or rows next no_row)) ≡ false
+    → attribute_at d place (map (node_of s) (drop next rows)) ≡ 0
+attribute-none s d next place rows h other = ap (λ l. attribute_at d place (map (node_of s) l)) (split-at next rows no_row h) ∙ rw other refl
+
+pub attribute-end : (s : Slab Slot) (d next place : ℕ) (rows : List Row) → length rows ≤ next → attribute_at d place (map (node_of s) (drop next rows)) ≡ 0
+attribute-end s d next place rows h = ap (λ l. attribute_at d place (map (node_of s) l)) (past-end next rows h)

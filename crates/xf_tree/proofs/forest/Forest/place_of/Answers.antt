@@ -1,0 +1,1 @@
+use Rattle.xf_tree.proofs.forest.Forest.place_of.Goals as goal
