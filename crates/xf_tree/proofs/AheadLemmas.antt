@@ -21,7 +21,6 @@ use Rattle.xf_tree.specs.Walks.{attributes_ahead}
 use Rattle.xf_tree.proofs.SizedLemmas.{lt-true, lt-false}
 use Rattle.xf_tree.proofs.NodeLemmas.{eq-true, eq-false}
 use Rattle.xf_tree.proofs.PlaceLemmas.{split-at}
-use Rattle.xf_tree.proofs.RootLemmas.{past-end}
 use Rattle.xf_tree.proofs.CountLemmas.{count-cons}
 use Rattle.xf_tree.proofs.LeafLemmas.{parts-append}
 use Rattle.xf_tree.proofs.FirstLemmas.{first-parts}
@@ -128,7 +127,3 @@ like-more s q d at rows h is =
     let l : d < x.depth = omega arith in
     ap (λ r. kids_in q s (suc d) (take (deeper d r) r)) (split-at at rows no_row h)
     ∙ rw (lt-true d x.depth l) (count-cons (is_kid q (suc d)) (node_of s x) (map (node_of s) (take (deeper d xs) xs)) ∙ rw same refl)
-
--- and where all are passed
-pub like-end : (s : Slab Slot) (q : Content → Bool) (d at : ℕ) (rows : List Row) → length rows ≤ at → like_ahead q s d at rows ≡ 0
-like-end s q d at rows h = ap (λ r. kids_in q s (suc d) (take (deeper d r) r)) (past-end at rows h)

@@ -162,14 +162,7 @@ attribute-more s d next (suc left) rows h is some =
     let e = ap (λ k. attribute_at d k (map (node_of s) later)) one in
     omega (arith, a, b, e)
 
--- where none is to be passed, and where none follows
+-- where none is to be passed
 pub attribute-here : (s : Slab Slot) (d : ℕ) (xs : List Row) → attribute_at d 0 (map (node_of s) xs) ≡ 0
 attribute-here s d [] = refl
 attribute-here s d (x ∷ xs) = elim (cases_Bool ((x.depth == d) && is_attribute (content_in (get s x.key)))) [ inl e ↦ rw e refl | inr e ↦ rw e refl ]
-
-pub attribute-none : (s : Slab Slot) (d next place : ℕ) (rows : List Row) → next < length rows → is_kin d true (node_of s (get_or rows next no_row)) ≡ false
-    → attribute_at d place (map (node_of s) (drop next rows)) ≡ 0
-attribute-none s d next place rows h other = ap (λ l. attribute_at d place (map (node_of s) l)) (split-at next rows no_row h) ∙ rw other refl
-
-pub attribute-end : (s : Slab Slot) (d next place : ℕ) (rows : List Row) → length rows ≤ next → attribute_at d place (map (node_of s) (drop next rows)) ≡ 0
-attribute-end s d next place rows h = ap (λ l. attribute_at d place (map (node_of s) l)) (past-end next rows h)

@@ -30,7 +30,7 @@ lowest d e n h = rw (lt-false d e h) refl
 
 -- ---- the place on a list of nodes
 
--- what is so at each later place, for each number of nodes of the kind to pass, is so from this one on
+-- what is so of the nodes behind a child or an attribute, whatever the place there, is so with it in front
 place-is : (place : ℕ) (tree : List Node) (y : Node) (ys : List Node) (nodes : ℕ → List Node) (at : ℕ → ℕ) → ((left : ℕ) → nodes left ≡ take (at left) ys ++ (tree ++ drop (at left) ys))
     → at_place place (tree ++ (y ∷ ys)) (λ left. y ∷ nodes left)
     ≡ take (at_place place 0 (λ left. suc (at left))) (y ∷ ys) ++ (tree ++ drop (at_place place 0 (λ left. suc (at left))) (y ∷ ys))

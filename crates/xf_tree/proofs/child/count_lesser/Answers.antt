@@ -5,7 +5,7 @@ use Rattle.xf_doc.specs.Forest.{is_attribute}
 use Rattle.xf_doc.specs.Plant.{is_less, written_of}
 use Rattle.xf_tree.specs.Kids.{is_lesser_attribute}
 use Rattle.xf_tree.specs.Tree.{content_in, no_row}
-use Rattle.xf_tree.proofs.AheadLemmas.{lesser-only, like-stop, like-more, like-end}
+use Rattle.xf_tree.proofs.AheadLemmas.{lesser-only, like-stop, like-more}
 use Rattle.xf_tree.proofs.child.count_lesser.Goals as goal
 use Rattle.xf_tree.proofs.child.count_lesser.Goals.{then-is_less_at, else-is_less_at}
 

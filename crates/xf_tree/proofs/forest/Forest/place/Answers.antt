@@ -33,7 +33,7 @@ returns-in_default-row_of c =
     absurd (
     let absent = subst (λ r. has_number m (map (node_of s) r) ≡ false) c.deref-3.ensures.value c.in_default-row_of.ensures in
     let may = subst (λ (k : Keeping). goes_below (kind_at n k.forest.nodes) (kind_at m k.forest.nodes) ≡ true) (sym c.self.view_is) c.requires.kinds in
-    elim (parent-kind _ _ may) [ inl e ↦ none-kind m kind.Element _ absent e | inr e ↦ none-kind m kind.Root _ absent e ]
+    elim (parent-kind (kind_at n (map (node_of s) c.self.inside.rows.items)) _ may) [ inl e ↦ none-kind m kind.Element _ absent e | inr e ↦ none-kind m kind.Root _ absent e ]
     )
 
 -- where the node's row stands, and the parent's
@@ -83,7 +83,7 @@ no-root_there : (c : After-deref_mut) → is_root (content_in (get c.self.inside
 no-root_there c = no-root_content _ (node-kind _ _ (kinds-there c))
 
 no-leaf_there : (c : After-deref_mut) → is_leaf (content_in (get c.self.inside.slots (get_or c.self.inside.rows.items c.in-Some-row_of.above no_row).key)) ≡ false
-no-leaf_there c = no-leaf_content _ (parent-kind _ _ (kinds-there c))
+no-leaf_there c = no-leaf_content _ (parent-kind (Some (kind_of (content_in (get c.self.inside.slots (get_or c.self.inside.rows.items c.in-Some.at no_row).key)))) _ (kinds-there c))
 
 element-there : (c : After-deref_mut) → is_attribute (content_in (get c.self.inside.slots (get_or c.self.inside.rows.items c.in-Some.at no_row).key)) ≡ true
     → is_element (content_in (get c.self.inside.slots (get_or c.self.inside.rows.items c.in-Some-row_of.above no_row).key)) ≡ true
