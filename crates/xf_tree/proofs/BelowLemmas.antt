@@ -14,7 +14,7 @@ use Rattle.xf_tree.proofs.CutLemmas.{stops-after, tree-within}
 use Rattle.xf_tree.proofs.NodeLemmas.{eq-true}
 use Rattle.xf_tree.proofs.PlaceLemmas.{split-at, tree-size}
 use Rattle.xf_tree.proofs.AboveLemmas.{inside-deeper}
-use Rattle.xf_tree.proofs.RootLemmas.{past-tree, past-end}
+use Rattle.xf_tree.proofs.RootLemmas.{past-tree}
 
 -- rows that are deeper than a child are passed
 child-below : (s : Slab Slot) (d e left : ℕ) (xs : List Row) → d ≤ e
@@ -148,19 +148,6 @@ tree-inside rows above next o h inside =
     ]
 
 -- ---- attributes
-
--- one of which more are to be passed
-pub attribute-more : (s : Slab Slot) (d next place : ℕ) (rows : List Row) → next < length rows → is_kin d true (node_of s (get_or rows next no_row)) ≡ true → 0 < place
-    → next + 1 + attribute_at d (place - 1) (map (node_of s) (drop (next + 1) rows)) ≡ next + attribute_at d place (map (node_of s) (drop next rows))
-attribute-more s d next zero rows h is some = absurd (omega arith)
-attribute-more s d next (suc left) rows h is some =
-    let x = get_or rows next no_row in
-    let later = drop (next + 1) rows in
-    let one : suc left - 1 ≡ left = omega arith in
-    let a : attribute_at d (suc left) (map (node_of s) (x ∷ later)) ≡ suc (attribute_at d left (map (node_of s) later)) = rw is refl in
-    let b = ap (λ l. attribute_at d (suc left) (map (node_of s) l)) (split-at next rows no_row h) in
-    let e = ap (λ k. attribute_at d k (map (node_of s) later)) one in
-    omega (arith, a, b, e)
 
 -- where none is to be passed
 pub attribute-here : (s : Slab Slot) (d : ℕ) (xs : List Row) → attribute_at d 0 (map (node_of s) xs) ≡ 0

@@ -127,15 +127,6 @@ kids-so_far q s rows above next h first last =
     let sum = ap (kids_in q s (suc x.depth)) whole ∙ kid-append q s (suc x.depth) (take k later) (drop k (take wide later)) in
     omega arith
 
-pub kids-all : (q : Content → Bool) (s : Slab Slot) (rows : List Row) (above next : ℕ) → above < length rows → next ≡ above + length (tree_of (drop above rows))
-    → kids_in q s (suc (get_or rows above no_row).depth) (take (next - (above + 1)) (drop (above + 1) rows)) ≡ kids_at q s rows above
-kids-all q s rows above next h e =
-    let x = get_or rows above no_row in
-    let later = drop (above + 1) rows in
-    let size = tree-size above rows h in
-    let k : next - (above + 1) ≡ deeper x.depth later = omega arith in
-    ap (λ n. kids_in q s (suc x.depth) (take n later)) k
-
 pub kid-step : (q : Content → Bool) (s : Slab Slot) (rows : List Row) (above next end last : ℕ) → above < length rows → above + 1 ≤ next → next < last → last ≡ above + length (tree_of (drop above rows))
     → end ≡ next + length (tree_of (drop next rows)) → Step q s rows above next end last
 kid-step q s rows above next end last h first inside l e =

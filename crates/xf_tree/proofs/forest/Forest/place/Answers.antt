@@ -7,7 +7,7 @@ use Rattle.xf_doc.specs.Changes.{placed}
 use Rattle.xf_doc.specs.Needs.{is_top, goes_below}
 use Rattle.xf_doc.specs.Texts.{Keeping}
 use Rattle.xf_tree.specs.Leaves.{is_leaf}
-use Rattle.xf_tree.specs.Tree.{StandsAt, node_of, kept_of, content_in, keeping_of, no_row}
+use Rattle.xf_tree.specs.Tree.{StandsAt, node_of, kept_of, content_in, no_row}
 use Rattle.xf_tree.proofs.PlaceLemmas.{stands, one_of, content-means}
 use Rattle.xf_tree.proofs.AddLemmas.{named-meets, zero-depth, element-is}
 use Rattle.xf_tree.proofs.NeedLemmas.{none-named, none-kind, node-kind, parent-kind, attribute-parent, attribute-kind, no-root_content, no-leaf_content}
