@@ -4,13 +4,13 @@ use Rattle.std.specs.Prelude.{nat_le}
 use Rattle.std.specs.List.{list_any, list_all}
 use Rattle.std.proofs.lemmas.Bool.{cases_Bool, cases_lt}
 use Rattle.std.proofs.lemmas.Bool.Decides.{nat_tests}
+use Rattle.slab.specs.Slab.{Slab}
 use Rattle.xf_doc.specs.declared.content.Node.{Node}
 use Rattle.xf_doc.specs.declared.content.Content.{Content}
 use Rattle.xf_doc.specs.declared.content.Content.TheVariants.{Root, Element, Attribute, Text}
 use Rattle.xf_doc.specs.Forest.{has_number, is_root, is_element, is_attribute, is_text}
 use Rattle.xf_doc.specs.Texts.{KeptText}
 use Rattle.xf_doc.specs.WellFormed.{are_below, are_depths_from, are_first, are_tops, are_kept_apart, AreTrees}
-use Rattle.slab.specs.Slab.{Slab}
 use Rattle.xf_tree.specs.declared.rows.Row.{Row}
 use Rattle.xf_tree.specs.declared.slot.Slot.{Slot}
 use Rattle.xf_tree.specs.First.{attribute_depth, AreFirst}
