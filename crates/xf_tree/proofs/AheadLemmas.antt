@@ -1,5 +1,5 @@
 -- Walks over attributes: they stand first, so none comes behind what is none.
-use Rattle.std.proofs.Common.{◌≡◌, ℕ, suc, ◌+◌, ◌<◌, ◌≤◌, ◌==◌, ◌&&◌, Bool, true, false, List, [], ◌∷◌, ◌++◌, map, length, take, drop, get_or, refl, sym, ap, ◌∙◌, subst, inl, inr, arith}
+use Rattle.std.proofs.Common.{◌≡◌, ℕ, suc, ◌+◌, ◌<◌, ◌≤◌, ◌==◌, ◌&&◌, Bool, true, false, cond, List, [], ◌∷◌, ◌++◌, map, length, take, drop, get_or, refl, sym, ap, ◌∙◌, subst, inl, inr, arith}
 use Rattle.std.specs.Prelude.{filter}
 use Rattle.std.proofs.lemmas.Bool.{cases_Bool, cases_lt, true≢false, and_parts}
 use Rattle.std.proofs.lemmas.List.{take-append-drop, map-append}
@@ -8,13 +8,14 @@ use Rattle.xf_doc.specs.declared.content.Content.{Content}
 use Rattle.xf_doc.specs.declared.content.Content.TheVariants.{Root, Element, Attribute, Text}
 use Rattle.xf_doc.specs.Forest.{is_attribute, name_in}
 use Rattle.xf_doc.specs.Visit.{numbers}
+use Rattle.xf_doc.specs.Plant.{is_less, written_of}
 use Rattle.xf_doc.specs.WellFormed.{have_same_name}
 use Rattle.xf_tree.specs.declared.rows.Row.{Row}
 use Rattle.xf_tree.specs.declared.slot.Slot.{Slot}
 use Rattle.xf_tree.specs.Rows.{deeper}
 use Rattle.xf_tree.specs.Leaves.{parts_in}
 use Rattle.xf_tree.specs.First.{attribute_depth, AreFirst}
-use Rattle.xf_tree.specs.Kids.{is_kid, is_attribute_like, kids_in}
+use Rattle.xf_tree.specs.Kids.{is_kid, is_attribute_like, is_lesser_attribute, kids_in}
 use Rattle.xf_tree.specs.Tree.{node_of, content_in, no_row}
 use Rattle.xf_tree.specs.Walks.{attributes_ahead}
 use Rattle.xf_tree.proofs.SizedLemmas.{lt-true, lt-false}
@@ -87,26 +88,42 @@ ahead-all s d p (x ∷ xs) a =
       | inr l ↦ rw (lt-false d x.depth l, eq-false x.depth (suc d) (λ e. let w : ⊥ = omega arith in w)) refl
     ]
 
--- ---- whether one of them is like another
+-- ---- those that meet a test
 
 abbrev pub like_ahead : (Content → Bool) → Slab Slot → ℕ → ℕ → List Row → ℕ
 like_ahead q s d at rows = kids_in q s (suc d) (take (deeper d (drop at rows)) (drop at rows))
 
-like-only : (like c : Content) → is_attribute_like like c ≡ true → is_attribute c ≡ true
+pub like-only : (like c : Content) → is_attribute_like like c ≡ true → is_attribute c ≡ true
 like-only like c is = (and_parts (is_attribute c) (have_same_name (name_in c) (name_in like)) is).0
 
-pub like-stop : (s : Slab Slot) (like : Content) (d at : ℕ) (rows : List Row) → at < length rows → AreFirst 0 (parts_in (map (node_of s) rows)) → is_kid is_attribute (suc d) (node_of s (get_or rows at no_row)) ≡ false
-    → like_ahead (is_attribute_like like) s d at rows ≡ 0
-like-stop s like d at rows h first other =
+pub lesser-only : (content c : Content) → is_lesser_attribute content c ≡ true → is_attribute c ≡ true
+lesser-only content c is = (and_parts (is_attribute c) (is_less (written_of c) (written_of content)) is).0
+
+-- none is ahead of what is no attribute
+pub like-stop : (s : Slab Slot) (q : Content → Bool) → ((c : Content) → q c ≡ true → is_attribute c ≡ true) → (d at : ℕ) (rows : List Row) → at < length rows → AreFirst 0 (parts_in (map (node_of s) rows))
+    → is_kid is_attribute (suc d) (node_of s (get_or rows at no_row)) ≡ false → like_ahead q s d at rows ≡ 0
+like-stop s q only d at rows h first other =
     let x = get_or rows at no_row in
     let xs = drop (at + 1) rows in
     let c = content_in (get s x.key) in
-    let q = is_attribute_like like in
     ap (λ r. kids_in q s (suc d) (take (deeper d r) r)) (split-at at rows no_row h) ∙ elim (cases_lt d x.depth) [
       | inl l ↦
           let pos : 0 < suc d = omega arith in
-          let none = none-later s q (like-only like) d (attribute_depth x.depth c) xs (other-behind (suc d) x.depth c l pos other) (later-first s at rows h first) in
+          let none = none-later s q only d (attribute_depth x.depth c) xs (other-behind (suc d) x.depth c l pos other) (later-first s at rows h first) in
           let rest : kids_in q s (suc d) (take (deeper d xs) xs) ≡ 0 = sym (filtered-length (is_kid q (suc d)) (map (node_of s) (take (deeper d xs) xs))) ∙ ap (λ l. length (numbers l)) none in
-          rw (lt-true d x.depth l) (count-cons (is_kid q (suc d)) (node_of s x) (map (node_of s) (take (deeper d xs) xs)) ∙ rw (kept-out q (like-only like) (x.depth == suc d) c other) (omega (arith, rest)))
+          rw (lt-true d x.depth l) (count-cons (is_kid q (suc d)) (node_of s x) (map (node_of s) (take (deeper d xs) xs)) ∙ rw (kept-out q only (x.depth == suc d) c other) (omega (arith, rest)))
       | inr l ↦ rw (lt-false d x.depth l) refl
     ]
+
+-- from one attribute to the next
+pub like-more : (s : Slab Slot) (q : Content → Bool) (d at : ℕ) (rows : List Row) → at < length rows → is_kid is_attribute (suc d) (node_of s (get_or rows at no_row)) ≡ true
+    → like_ahead q s d at rows ≡ cond (q (content_in (get s (get_or rows at no_row).key))) 1 0 + like_ahead q s d (at + 1) rows
+like-more s q d at rows h is =
+    let x = get_or rows at no_row in
+    let xs = drop (at + 1) rows in
+    let c = content_in (get s x.key) in
+    let same = (and_parts (x.depth == suc d) (is_attribute c) is).0 in
+    let depth = eq-is x.depth (suc d) same in
+    let l : d < x.depth = omega arith in
+    ap (λ r. kids_in q s (suc d) (take (deeper d r) r)) (split-at at rows no_row h)
+    ∙ rw (lt-true d x.depth l) (count-cons (is_kid q (suc d)) (node_of s x) (map (node_of s) (take (deeper d xs) xs)) ∙ rw same refl)

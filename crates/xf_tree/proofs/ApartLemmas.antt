@@ -1,6 +1,6 @@
 -- No number comes twice.
-use Rattle.std.proofs.Common.{◌≡◌, ℕ, ◌+◌, ◌==◌, Bool, true, false, not, ◌&&◌, List, [], ◌∷◌, refl, inl, inr, arith}
-use Rattle.std.specs.Prelude.{◌≤◌, if◌then◌else◌}
+use Rattle.std.proofs.Common.{◌≡◌, ℕ, ◌+◌, ◌==◌, true, false, List, [], ◌∷◌, refl, inl, inr, arith}
+use Rattle.std.specs.Prelude.{◌≤◌}
 use Rattle.std.proofs.lemmas.Bool.{cases_Bool}
 use Rattle.std.proofs.lemmas.Bool.Decides.{nat_tests}
 use Rattle.xf_doc.specs.declared.content.Node.{Node}
@@ -8,7 +8,7 @@ use Rattle.xf_doc.specs.Forest.{has_number}
 use Rattle.xf_doc.specs.WellFormed.{are_apart}
 use Rattle.xf_tree.specs.Tree.{times}
 
-none-has : (n : ℕ) (xs : List Node) → times n xs ≡ 0 → has_number n xs ≡ false
+pub none-has : (n : ℕ) (xs : List Node) → times n xs ≡ 0 → has_number n xs ≡ false
 none-has n [] h = refl
 none-has n (x ∷ xs) h =
     elim (cases_Bool (x.number == n)) [

@@ -1,10 +1,9 @@
 -- Walks over the nodes after a parent, to where a child or an attribute goes.
 use Rattle.std.proofs.Common.{◌≡◌, ℕ, zero, suc, ◌+◌, ◌-◌, ◌<◌, ◌≤◌, ◌==◌, ◌&&◌, ◌||◌, not, Bool, true, false, List, [], ◌∷◌, map, length, drop, get_or, nat_lt, refl, sym, ap, ◌∙◌, inl, inr, arith}
 use Rattle.std.proofs.lemmas.Bool.Decides.{nat_tests}
-use Rattle.std.proofs.lemmas.Bool.{cases_lt, true≢false, false≢true, and_parts}
+use Rattle.std.proofs.lemmas.Bool.{cases_lt, cases_Bool, true≢false, false≢true, and_parts}
 use Rattle.slab.specs.Slab.{Slab, get}
 use Rattle.xf_doc.specs.Forest.{is_attribute}
-use Rattle.xf_doc.specs.Plant.{is_less, written_of}
 use Rattle.xf_tree.specs.declared.rows.Row.{Row}
 use Rattle.xf_tree.specs.declared.slot.Slot.{Slot}
 use Rattle.xf_tree.specs.Rows.{deeper, tree_of, after_tree}
@@ -15,7 +14,7 @@ use Rattle.xf_tree.proofs.CutLemmas.{stops-after, tree-within}
 use Rattle.xf_tree.proofs.NodeLemmas.{eq-true}
 use Rattle.xf_tree.proofs.PlaceLemmas.{split-at, tree-size}
 use Rattle.xf_tree.proofs.AboveLemmas.{inside-deeper}
-use Rattle.xf_tree.proofs.RootLemmas.{past-tree, past-end}
+use Rattle.xf_tree.proofs.RootLemmas.{past-tree}
 
 -- rows that are deeper than a child are passed
 child-below : (s : Slab Slot) (d e left : ℕ) (xs : List Row) → d ≤ e
@@ -150,13 +149,7 @@ tree-inside rows above next o h inside =
 
 -- ---- attributes
 
-pub attribute-more : (s : Slab Slot) (d next : ℕ) (name : List ℕ) (rows : List Row) → next < length rows → is_kin d true (node_of s (get_or rows next no_row)) ≡ true
-    → is_less (written_of (content_in (get s (get_or rows next no_row).key))) name ≡ true
-    → next + 1 + attribute_at d name (map (node_of s) (drop (next + 1) rows)) ≡ next + attribute_at d name (map (node_of s) (drop next rows))
-attribute-more s d next name rows h is less =
-    let x = get_or rows next no_row in
-    let p = and_parts (x.depth == d) (is_attribute (content_in (get s x.key))) is in
-    let later = drop (next + 1) rows in
-    let a : attribute_at d name (map (node_of s) (x ∷ later)) ≡ suc (attribute_at d name (map (node_of s) later)) = rw (p.0, p.1, less) refl in
-    let b = ap (λ l. attribute_at d name (map (node_of s) l)) (split-at next rows no_row h) in
-    omega (arith, a, b)
+-- where none is to be passed
+pub attribute-here : (s : Slab Slot) (d : ℕ) (xs : List Row) → attribute_at d 0 (map (node_of s) xs) ≡ 0
+attribute-here s d [] = refl
+attribute-here s d (x ∷ xs) = elim (cases_Bool ((x.depth == d) && is_attribute (content_in (get s x.key)))) [ inl e ↦ rw e refl | inr e ↦ rw e refl ]

@@ -3,12 +3,15 @@ use Rattle.std.proofs.Common.{◌≡◌, ℕ, suc, ◌+◌, ◌-◌, ◌<◌, �
 use Rattle.std.specs.Prelude.{filter, count_by, Option, Some, None, option_and_then}
 use Rattle.std.specs.List.{list_any}
 use Rattle.std.proofs.lemmas.Bool.{cases_Bool, cases_lt}
-use Rattle.std.proofs.lemmas.List.{take-append-drop, map-append, drop-drop, take-take}
+use Rattle.std.proofs.lemmas.List.{take-append-drop, map-append, length-map, drop-drop, take-take}
+use Rattle.std.proofs.lemmas.List.Sums.{length-filter}
 use Rattle.slab.specs.Slab.{Slab}
 use Rattle.xf_doc.specs.declared.content.Content.{Content}
 use Rattle.xf_doc.specs.declared.content.Name.{Name}
 use Rattle.xf_doc.specs.Forest.{Forest, has_number, content_at, is_attribute, is_element, name_in}
+use Rattle.xf_doc.specs.Changes.{is_lesser}
 use Rattle.xf_doc.specs.Needs.{lacks_name}
+use Rattle.xf_doc.specs.Plant.{is_less, written_of}
 use Rattle.xf_doc.specs.Shape.{has_elements}
 use Rattle.xf_doc.specs.Visit.{Visit, visits, is_first, numbers}
 use Rattle.xf_doc.specs.WellFormed.{have_same_name}
@@ -16,7 +19,7 @@ use Rattle.xf_tree.specs.declared.rows.Row.{Row}
 use Rattle.xf_tree.specs.declared.slot.Slot.{Slot}
 use Rattle.xf_tree.specs.Rows.{deeper, tree_of, after_tree}
 use Rattle.xf_tree.specs.Tree.{node_of, no_row, AreSteps, StandsAt, IsSound}
-use Rattle.xf_tree.specs.Kids.{is_kid, is_attribute_like, kids_in, kids_at}
+use Rattle.xf_tree.specs.Kids.{is_kid, is_attribute_like, is_lesser_attribute, kids_in, kids_at}
 use Rattle.xf_tree.proofs.SizedLemmas.{lt-true, AllDeep}
 use Rattle.xf_tree.proofs.CutLemmas.{tree-is-front, tree-within, stops-after}
 use Rattle.xf_tree.proofs.CountLemmas.{count-append, count-cons}
@@ -124,15 +127,6 @@ kids-so_far q s rows above next h first last =
     let sum = ap (kids_in q s (suc x.depth)) whole ∙ kid-append q s (suc x.depth) (take k later) (drop k (take wide later)) in
     omega arith
 
-pub kids-all : (q : Content → Bool) (s : Slab Slot) (rows : List Row) (above next : ℕ) → above < length rows → next ≡ above + length (tree_of (drop above rows))
-    → kids_in q s (suc (get_or rows above no_row).depth) (take (next - (above + 1)) (drop (above + 1) rows)) ≡ kids_at q s rows above
-kids-all q s rows above next h e =
-    let x = get_or rows above no_row in
-    let later = drop (above + 1) rows in
-    let size = tree-size above rows h in
-    let k : next - (above + 1) ≡ deeper x.depth later = omega arith in
-    ap (λ n. kids_in q s (suc x.depth) (take n later)) k
-
 pub kid-step : (q : Content → Bool) (s : Slab Slot) (rows : List Row) (above next end last : ℕ) → above < length rows → above + 1 ≤ next → next < last → last ≡ above + length (tree_of (drop above rows))
     → end ≡ next + length (tree_of (drop next rows)) → Step q s rows above next end last
 kid-step q s rows above next end last h first inside l e =
@@ -200,6 +194,18 @@ lacks-are n m forest like e =
     ∙ ap not (any-alike (λ (v : Visit). is_first m v.above && is_attribute v.content && have_same_name (name_in v.content) (name_in like)) (λ (v : Visit). is_first m v.above && is_attribute_like like v.content)
     (λ v. and-joined (is_first m v.above) (is_attribute v.content) (have_same_name (name_in v.content) (name_in like))) (visits forest.nodes))
     ∙ ap not (any-left (λ (v : Visit). is_first m v.above && is_attribute_like like v.content) (visits forest.nodes))
+
+-- attributes with a name that is less
+pub lesser-are : (m : ℕ) (content : Content) (all : List Visit) → count_by (is_lesser m content) all ≡ length (kids (is_lesser_attribute content) m all)
+lesser-are m content all =
+    count-same (is_lesser m content) (λ (v : Visit). is_first m v.above && is_lesser_attribute content v.content)
+    (λ v. and-joined (is_first m v.above) (is_attribute v.content) (is_less (written_of v.content) (written_of content))) all
+    ∙ sym (length-filter (λ (v : Visit). is_first m v.above && is_lesser_attribute content v.content) all)
+    ∙ sym (length-map (filter (λ (v : Visit). is_first m v.above && is_lesser_attribute content v.content) all) (λ (v : Visit). v.number))
+  where
+    count-same : (p r : Visit → Bool) → ((v : Visit) → p v ≡ r v) → (all : List Visit) → count_by p all ≡ count_by r all
+    count-same p r same [] = refl
+    count-same p r same (v ∷ vs) = count-cons p v vs ∙ ap (λ b. cond b 1 0 + count_by p vs) (same v) ∙ ap (λ n. cond (r v) 1 0 + n) (count-same p r same vs) ∙ sym (count-cons r v vs)
 
 -- what has no name is named like nothing
 pub lacks-nameless : (n m : ℕ) (forest : Forest) → content_at n forest.nodes ≡ None → lacks_name n m forest ≡ true

@@ -1,12 +1,11 @@
 -- Attributes stand first: the rows without a tree, a tree of them, and where a tree comes in.
 use Rattle.std.proofs.Common.{◌≡◌, ℕ, zero, suc, ◌+◌, ◌-◌, ◌<◌, ◌≤◌, ◌==◌, ◌&&◌, ◌||◌, ◌⊎◌, true, false, List, [], ◌∷◌, ◌++◌, map, length, take, drop, get_or, nat_lt, refl, sym, ap, ◌∙◌, subst, inl, inr, arith}
-use Rattle.std.proofs.lemmas.Bool.{cases_Bool, true≢false, or_parts}
+use Rattle.std.proofs.lemmas.Bool.{cases_Bool, true≢false, and_parts, or_parts}
 use Rattle.slab.specs.Slab.{Slab, get}
 use Rattle.xf_doc.specs.declared.content.Node.{Node}
 use Rattle.xf_doc.specs.declared.content.Content.{Content}
 use Rattle.xf_doc.specs.Changes.{shifted, at_place}
 use Rattle.xf_doc.specs.Forest.{is_attribute}
-use Rattle.xf_doc.specs.Plant.{is_less, written_of}
 use Rattle.xf_tree.specs.declared.rows.Row.{Row}
 use Rattle.xf_tree.specs.declared.slot.Slot.{Slot}
 use Rattle.xf_tree.specs.Rows.{deeper, tree_of, after_tree}
@@ -24,7 +23,7 @@ use Rattle.xf_tree.proofs.ForestLemmas.{whole-map}
 use Rattle.xf_tree.proofs.ParentLemmas.{deep-prefix}
 use Rattle.xf_tree.proofs.BelowLemmas.{eq-is}
 use Rattle.xf_tree.proofs.StackLemmas.{lt-from, le-from}
-use Rattle.xf_tree.proofs.PartLemmas.{before-parts, attribute-leaf}
+use Rattle.xf_tree.proofs.PartLemmas.{attribute-leaf}
 
 all-below : (s : Slab Slot) (d : ℕ) (rows : List Row) → AllDeep (d + 1) rows → AllBelow d (map (node_of s) rows)
 all-below s d [] deep = tt
@@ -116,21 +115,26 @@ module _ (s : Slab Slot) where
       child (suc left) here later = later left
 
   -- where an attribute goes, an attribute may stand
-  attribute-first : (d e : ℕ) (name : List ℕ) (xs : List Row) → e ≡ d → depth_behind e (parts (take (attribute_at d name (map (node_of s) xs)) xs)) ≡ d
-  attribute-first d e name [] same = same
-  attribute-first d e name (x ∷ xs) same =
+  attribute-first : (d place e : ℕ) (xs : List Row) → e ≡ d → depth_behind e (parts (take (attribute_at d place (map (node_of s) xs)) xs)) ≡ d
+  attribute-first d place e [] same = same
+  attribute-first d place e (x ∷ xs) same =
       let c = content_in (get s x.key) in
-      elim (cases_Bool ((x.depth == d) && is_attribute c && is_less (written_of c) name)) [
+      elim (cases_Bool ((x.depth == d) && is_attribute c)) [
         | inl a ↦
-            let p = before-parts (x.depth == d) (is_attribute c) (is_less (written_of c) name) a in
-            rw a (attribute-first d (attribute_depth x.depth c) name xs (attribute-behind x.depth c p.1 ∙ eq-is x.depth d p.0))
+            let p = and_parts (x.depth == d) (is_attribute c) a in
+            rw a (here place (λ left. attribute-first d left (attribute_depth x.depth c) xs (attribute-behind x.depth c p.1 ∙ eq-is x.depth d p.0)))
         | inr a ↦ rw a same
       ]
+    where
+      here : (place : ℕ) → ((left : ℕ) → depth_behind (attribute_depth x.depth (content_in (get s x.key))) (parts (take (attribute_at d left (map (node_of s) xs)) xs)) ≡ d)
+          → depth_behind e (parts (take (at_place place 0 (λ left. suc (attribute_at d left (map (node_of s) xs)))) (x ∷ xs))) ≡ d
+      here zero later = same
+      here (suc left) later = later left
 
   pub part-first : (d place e : ℕ) (c : Content) (xs : List Row) → (is_attribute c ≡ true → e ≡ d) → (e ≡ 0) ⊎ (d ≤ e) → AreFirst e (parts xs)
       → (is_attribute c ≡ true → depth_behind e (parts (take (part_at d place c (map (node_of s) xs)) xs)) ≡ d)
       × (is_attribute c ≡ false → AreFirst 0 (parts (drop (part_at d place c (map (node_of s) xs)) xs)))
   part-first d place e c xs same h a = (
-    (λ is. rw is (attribute-first d e (written_of c) xs (same is))),
+    (λ is. rw is (attribute-first d place e xs (same is))),
     (λ other. rw other (child-first d place e xs h a)),
   )

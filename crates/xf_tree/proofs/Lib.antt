@@ -44,6 +44,7 @@ pub mod SiblingLemmas
 pub mod AheadLemmas
 pub mod AxisLemmas
 pub mod ApartLemmas
+pub mod TreesLemmas
 pub mod BelowLemmas
 pub mod BehindLemmas
 pub mod PartLemmas

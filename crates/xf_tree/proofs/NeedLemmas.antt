@@ -8,7 +8,7 @@ use Rattle.xf_doc.specs.declared.content.Content.TheVariants.{Root, Element, Att
 use Rattle.xf_doc.specs.declared.content.Kind.{Kind}
 use Rattle.xf_doc.specs.declared.content.Kind.TheVariants as kind
 use Rattle.xf_doc.specs.Forest.{Forest, is_root, is_attribute, kind_of, kind_at, node_at, has_number}
-use Rattle.xf_doc.specs.Needs.{MayAttach, MayStand, in_element, in_root, as_attribute}
+use Rattle.xf_doc.specs.Needs.{MayAttach, MayStand, MayPlace, in_element, in_root, as_attribute, goes_below}
 use Rattle.xf_tree.specs.Leaves.{is_leaf}
 use Rattle.xf_tree.proofs.StackLemmas.{absent-parts}
 
@@ -28,24 +28,44 @@ none-kind n k nodes h e = nothing (sym (ap (λ o. option_map kind_of (option_map
     nothing e = cc
 
 -- what comes below a node is an element or an attribute, and that node is an element or a root
-pub node-kind : (n m place : ℕ) (forest : Forest) → MayStand n m place forest → (kind_at n forest.nodes ≡ Some kind.Element) ⊎ (kind_at n forest.nodes ≡ Some kind.Attribute)
-node-kind n m place forest (in_element a b e) = inl a
-node-kind n m place forest (in_root a b e g) = inl a
-node-kind n m place forest (as_attribute a b e) = inr a
+pub node-kind : (a b : Option Kind) → goes_below a b ≡ true → (a ≡ Some kind.Element) ⊎ (a ≡ Some kind.Attribute)
+node-kind None b e = absurd (false≢true e)
+node-kind (Some kind.Root) b e = absurd (false≢true e)
+node-kind (Some kind.Element) b e = inl refl
+node-kind (Some kind.Attribute) b e = inr refl
+node-kind (Some kind.Text) b e = absurd (false≢true e)
 
-pub parent-kind : (n m place : ℕ) (forest : Forest) → MayStand n m place forest → (kind_at m forest.nodes ≡ Some kind.Element) ⊎ (kind_at m forest.nodes ≡ Some kind.Root)
-parent-kind n m place forest (in_element a b e) = inl b
-parent-kind n m place forest (in_root a b e g) = inr b
-parent-kind n m place forest (as_attribute a b e) = inl b
+pub parent-kind : (a b : Option Kind) → goes_below a b ≡ true → (b ≡ Some kind.Element) ⊎ (b ≡ Some kind.Root)
+parent-kind (Some kind.Element) (Some kind.Element) e = inl refl
+parent-kind (Some kind.Element) (Some kind.Root) e = inr refl
+parent-kind (Some kind.Attribute) (Some kind.Element) e = inl refl
+parent-kind None b e = absurd (false≢true e)
+parent-kind (Some kind.Root) b e = absurd (false≢true e)
+parent-kind (Some kind.Text) b e = absurd (false≢true e)
+parent-kind (Some kind.Element) None e = absurd (false≢true e)
+parent-kind (Some kind.Element) (Some kind.Attribute) e = absurd (false≢true e)
+parent-kind (Some kind.Element) (Some kind.Text) e = absurd (false≢true e)
+parent-kind (Some kind.Attribute) None e = absurd (false≢true e)
+parent-kind (Some kind.Attribute) (Some kind.Root) e = absurd (false≢true e)
+parent-kind (Some kind.Attribute) (Some kind.Attribute) e = absurd (false≢true e)
+parent-kind (Some kind.Attribute) (Some kind.Text) e = absurd (false≢true e)
 
 -- an attribute comes below an element
-pub attribute-parent : (n m place : ℕ) (forest : Forest) → MayStand n m place forest → kind_at n forest.nodes ≡ Some kind.Attribute → kind_at m forest.nodes ≡ Some kind.Element
-attribute-parent n m place forest (in_element a b e) is = b
-attribute-parent n m place forest (in_root a b e g) is = absurd (wrong (sym a ∙ is))
+pub attribute-parent : (b : Option Kind) → goes_below (Some kind.Attribute) b ≡ true → b ≡ Some kind.Element
+attribute-parent None e = absurd (false≢true e)
+attribute-parent (Some kind.Root) e = absurd (false≢true e)
+attribute-parent (Some kind.Element) e = refl
+attribute-parent (Some kind.Attribute) e = absurd (false≢true e)
+attribute-parent (Some kind.Text) e = absurd (false≢true e)
+
+-- what may be attached may be placed
+pub attach-place : (n m place : ℕ) (forest : Forest) → MayAttach n m place forest → MayPlace n m forest
+attach-place n m place forest may = record { detached = may.detached; outside = may.outside; kinds = kinds may.stands }
   where
-    wrong : ◌≡◌ {A = Option Kind} (Some kind.Element) (Some kind.Attribute) → ⊥
-    wrong e = cc
-attribute-parent n m place forest (as_attribute a b e) is = b
+    kinds : MayStand n m place forest → goes_below (kind_at n forest.nodes) (kind_at m forest.nodes) ≡ true
+    kinds (in_element a b e) = rw (a, b) refl
+    kinds (in_root a b e g) = rw (a, b) refl
+    kinds (as_attribute a b e) = rw (a, b) refl
 
 pub attribute-kind : (c : Content) → is_attribute c ≡ true → kind_of c ≡ kind.Attribute
 attribute-kind Root is = absurd (false≢true is)
@@ -66,14 +86,14 @@ no-leaf_content (Attribute name text) e = absurd (elim e [ inl x ↦ cc x | inr 
 no-leaf_content (Text text) e = absurd (elim e [ inl x ↦ cc x | inr x ↦ cc x ])
 
 -- both are there
-pub node-live : (n m place : ℕ) (forest : Forest) → MayAttach n m place forest → has_number n forest.nodes ≡ true
-node-live n m place forest may = elim (cases_Bool (has_number n forest.nodes)) [
+pub node-live : (n m : ℕ) (forest : Forest) → MayPlace n m forest → has_number n forest.nodes ≡ true
+node-live n m forest may = elim (cases_Bool (has_number n forest.nodes)) [
   | inl e ↦ e
   | inr e ↦ absurd (none-named n (λ (x : Node). x.depth == 0) forest.nodes e may.detached)
 ]
 
-pub parent-live : (n m place : ℕ) (forest : Forest) → MayAttach n m place forest → has_number m forest.nodes ≡ true
-parent-live n m place forest may = elim (cases_Bool (has_number m forest.nodes)) [
+pub parent-live : (n m : ℕ) (forest : Forest) → MayPlace n m forest → has_number m forest.nodes ≡ true
+parent-live n m forest may = elim (cases_Bool (has_number m forest.nodes)) [
   | inl e ↦ e
-  | inr e ↦ absurd (elim (parent-kind n m place forest may.stands) [ inl k ↦ none-kind m kind.Element forest.nodes e k | inr k ↦ none-kind m kind.Root forest.nodes e k ])
+  | inr e ↦ absurd (elim (parent-kind (kind_at n forest.nodes) (kind_at m forest.nodes) may.kinds) [ inl k ↦ none-kind m kind.Element forest.nodes e k | inr k ↦ none-kind m kind.Root forest.nodes e k ])
 ]

@@ -1,11 +1,7 @@
-use Rattle.std.proofs.Common.{◌≡◌, true, map, subst, arith}
-use Rattle.xf_doc.specs.Texts.{Keeping}
-use Rattle.xf_doc.specs.WellFormed.{are_apart}
-use Rattle.xf_tree.specs.Tree.{node_of}
-use Rattle.xf_tree.proofs.ApartLemmas.{once-apart}
+use Rattle.std.proofs.Common.{subst}
+use Rattle.xf_doc.specs.WellFormed.{AreTrees}
+use Rattle.xf_tree.proofs.TreesLemmas.{sound-trees}
 use Rattle.xf_tree.proofs.forest.Forest.are_trees.Goals as goal
 
 pub returns : goal.returns
-returns c =
-    subst (λ (k : Keeping). are_apart k.forest.nodes ≡ true) c.self.view_is
-    (once-apart (map (node_of c.self.inside.slots) c.self.inside.rows.items) (λ n. let once = c.self.invariant.sound.apart n in omega (arith, once)))
+returns c = subst AreTrees c.self.view_is (sound-trees c.self.inside.slots c.self.inside.rows.items c.self.inside.kept.items c.self.inside.next c.self.invariant.sound)

@@ -2,12 +2,12 @@ use Rattle.std.proofs.Common.{◌≡◌, ◌==◌, List, Some, map, get_or, fals
 use Rattle.slab.specs.Slab.{get}
 use Rattle.xf_doc.specs.declared.content.Node.{Node}
 use Rattle.xf_doc.specs.declared.content.Kind.TheVariants as kind
-use Rattle.xf_doc.specs.Forest.{has_number, kind_of, tree_of, is_root, is_element, is_attribute}
+use Rattle.xf_doc.specs.Forest.{has_number, kind_of, kind_at, tree_of, is_root, is_element, is_attribute}
 use Rattle.xf_doc.specs.Changes.{placed}
-use Rattle.xf_doc.specs.Needs.{is_top, MayStand}
+use Rattle.xf_doc.specs.Needs.{is_top, goes_below}
 use Rattle.xf_doc.specs.Texts.{Keeping}
 use Rattle.xf_tree.specs.Leaves.{is_leaf}
-use Rattle.xf_tree.specs.Tree.{StandsAt, node_of, kept_of, content_in, keeping_of, no_row}
+use Rattle.xf_tree.specs.Tree.{StandsAt, node_of, kept_of, content_in, no_row}
 use Rattle.xf_tree.proofs.PlaceLemmas.{stands, one_of, content-means}
 use Rattle.xf_tree.proofs.AddLemmas.{named-meets, zero-depth, element-is}
 use Rattle.xf_tree.proofs.NeedLemmas.{none-named, none-kind, node-kind, parent-kind, attribute-parent, attribute-kind, no-root_content, no-leaf_content}
@@ -32,8 +32,8 @@ returns-in_default-row_of c =
     let s = c.self.inside.slots in
     absurd (
     let absent = subst (λ r. has_number m (map (node_of s) r) ≡ false) c.deref-3.ensures.value c.in_default-row_of.ensures in
-    let may = subst (λ (k : Keeping). MayStand n m c.args.place k.forest) (sym c.self.view_is) c.requires.stands in
-    elim (parent-kind n m c.args.place _ may) [ inl e ↦ none-kind m kind.Element _ absent e | inr e ↦ none-kind m kind.Root _ absent e ]
+    let may = subst (λ (k : Keeping). goes_below (kind_at n k.forest.nodes) (kind_at m k.forest.nodes) ≡ true) (sym c.self.view_is) c.requires.kinds in
+    elim (parent-kind (kind_at n (map (node_of s) c.self.inside.rows.items)) _ may) [ inl e ↦ none-kind m kind.Element _ absent e | inr e ↦ none-kind m kind.Root _ absent e ]
     )
 
 -- where the node's row stands, and the parent's
@@ -43,8 +43,19 @@ node-here c = subst (λ r. StandsAt c.self.inside.slots r c.args.node.number c.i
 parent-here : (c : After-deref_mut) → StandsAt c.self.inside.slots c.self.inside.rows.items c.args.parent.number c.in-Some-row_of.above
 parent-here c = subst (λ r. StandsAt c.self.inside.slots r c.args.parent.number c.in-Some-row_of.above) c.deref-3.ensures.value c.in-Some-row_of.ensures
 
-may-stand : (c : After-deref_mut) → MayStand c.args.node.number c.args.parent.number c.args.place (keeping_of c.self.inside.slots c.self.inside.rows.items c.self.inside.kept.items c.self.inside.next).forest
-may-stand c = subst (λ (k : Keeping). MayStand c.args.node.number c.args.parent.number c.args.place k.forest) (sym c.self.view_is) c.requires.stands
+-- what kinds of nodes they are
+kinds-there : (c : After-deref_mut) → goes_below (Some (kind_of (content_in (get c.self.inside.slots (get_or c.self.inside.rows.items c.in-Some.at no_row).key))))
+    (Some (kind_of (content_in (get c.self.inside.slots (get_or c.self.inside.rows.items c.in-Some-row_of.above no_row).key)))) ≡ true
+kinds-there c =
+    let n = c.args.node.number in
+    let m = c.args.parent.number in
+    let s = c.self.inside.slots in
+    let rows = c.self.inside.rows.items in
+    let kept = c.self.inside.kept.items in
+    let one = ap (option_map kind_of) (content-means s n c.in-Some.at rows kept c.self.inside.next c.self.invariant.sound (node-here c)) in
+    let two = ap (option_map kind_of) (content-means s m c.in-Some-row_of.above rows kept c.self.inside.next c.self.invariant.sound (parent-here c)) in
+    let may = subst (λ (k : Keeping). goes_below (kind_at n k.forest.nodes) (kind_at m k.forest.nodes) ≡ true) (sym c.self.view_is) c.requires.kinds in
+    ap (λ k. goes_below k (Some (kind_of (content_in (get s (get_or rows c.in-Some-row_of.above no_row).key))))) (sym one) ∙ ap (goes_below (kind_at n (map (node_of s) rows))) (sym two) ∙ may
 
 at-top : (c : After-deref_mut) → (get_or c.self.inside.rows.items c.in-Some.at no_row).depth ≡ 0
 at-top c =
@@ -69,28 +80,16 @@ place_tree-requires-clause-outside c =
     stands-outside s n m c.in-Some.at c.in-Some-row_of.above rows (node-here k) (parent-here k) (one_of s rows c.self.inside.kept.items c.self.inside.next n c.self.invariant.sound) outside
 
 no-root_there : (c : After-deref_mut) → is_root (content_in (get c.self.inside.slots (get_or c.self.inside.rows.items c.in-Some.at no_row).key)) ≡ false
-no-root_there c =
-    let s = c.self.inside.slots in
-    let rows = c.self.inside.rows.items in
-    let means = ap (option_map kind_of) (content-means s c.args.node.number c.in-Some.at rows c.self.inside.kept.items c.self.inside.next c.self.invariant.sound (node-here c)) in
-    no-root_content _ (elim (node-kind _ _ c.args.place _ (may-stand c)) [ inl e ↦ inl (sym means ∙ e) | inr e ↦ inr (sym means ∙ e) ])
+no-root_there c = no-root_content _ (node-kind _ _ (kinds-there c))
 
 no-leaf_there : (c : After-deref_mut) → is_leaf (content_in (get c.self.inside.slots (get_or c.self.inside.rows.items c.in-Some-row_of.above no_row).key)) ≡ false
-no-leaf_there c =
-    let s = c.self.inside.slots in
-    let rows = c.self.inside.rows.items in
-    let means = ap (option_map kind_of) (content-means s c.args.parent.number c.in-Some-row_of.above rows c.self.inside.kept.items c.self.inside.next c.self.invariant.sound (parent-here c)) in
-    no-leaf_content _ (elim (parent-kind _ _ c.args.place _ (may-stand c)) [ inl e ↦ inl (sym means ∙ e) | inr e ↦ inr (sym means ∙ e) ])
+no-leaf_there c = no-leaf_content _ (parent-kind (Some (kind_of (content_in (get c.self.inside.slots (get_or c.self.inside.rows.items c.in-Some.at no_row).key)))) _ (kinds-there c))
 
 element-there : (c : After-deref_mut) → is_attribute (content_in (get c.self.inside.slots (get_or c.self.inside.rows.items c.in-Some.at no_row).key)) ≡ true
     → is_element (content_in (get c.self.inside.slots (get_or c.self.inside.rows.items c.in-Some-row_of.above no_row).key)) ≡ true
 element-there c is =
-    let s = c.self.inside.slots in
-    let rows = c.self.inside.rows.items in
-    let kept = c.self.inside.kept.items in
-    let one = ap (option_map kind_of) (content-means s c.args.node.number c.in-Some.at rows kept c.self.inside.next c.self.invariant.sound (node-here c)) in
-    let two = ap (option_map kind_of) (content-means s c.args.parent.number c.in-Some-row_of.above rows kept c.self.inside.next c.self.invariant.sound (parent-here c)) in
-    element-is _ (sym two ∙ attribute-parent _ _ c.args.place _ (may-stand c) (one ∙ ap Some (attribute-kind _ is)))
+    let parent = Some (kind_of (content_in (get c.self.inside.slots (get_or c.self.inside.rows.items c.in-Some-row_of.above no_row).key))) in
+    element-is _ (attribute-parent parent (subst (λ k. goes_below (Some k) parent ≡ true) (attribute-kind _ is) (kinds-there c)))
 
 pub invariant_of-self : goal.invariant_of-self
 invariant_of-self c =
