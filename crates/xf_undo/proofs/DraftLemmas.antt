@@ -75,7 +75,7 @@ before-kept n k after = by (is_attribute_at n k.forest.nodes)
 pub set-kept : (l : Limits) (n : ℕ) (text : List ℕ) (k after : Keeping) (before : Before) → text_set l n text k ≡ Ok (before, after) → MayGiveUp before after
 set-kept l n text k after before e = by (passed_by_text l (length text) (forest_with_text n text k.forest).nodes) e
   where
-    by : (fault : Option TreeFault) → unless fault (before_of n k.forest.nodes, record { forest = forest_with_text n text k.forest; kept = k.kept ++ taken_from n k.forest.nodes }) ≡ Ok (before, after) → MayGiveUp before after
+    by : (fault : Option TreeFault) → unless {X = Before × Keeping} fault (before_of n k.forest.nodes, record { forest = forest_with_text n text k.forest; kept = k.kept ++ taken_from n k.forest.nodes }) ≡ Ok (before, after) → MayGiveUp before after
     by None e =
         let same : ◌≡◌ {A = Before × Keeping} (before_of n k.forest.nodes, record { forest = forest_with_text n text k.forest; kept = k.kept ++ taken_from n k.forest.nodes }) (before, after) = cc e in
         subst (λ (p : Before × Keeping). MayGiveUp p.0 p.1) same (before-kept n k (forest_with_text n text k.forest))

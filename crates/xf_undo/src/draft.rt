@@ -24,9 +24,9 @@ pub struct Draft {
 }
 
 impl Model for Draft {
-    ghost use Rattle.xf_undo.specs.Draft.{Draft as Value};
+    ghost use Rattle.xf_undo.specs.Draft.{Draft as Drafted};
 
-    ghost Value = { Value };
+    ghost Value = { Drafted };
 
     ghost use Rattle.xf_undo.specs.Draft.{draft_of, IsDraft};
 
