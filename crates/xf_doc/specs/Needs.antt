@@ -56,7 +56,7 @@ abbrev pub goes_below : Option Kind → Option Kind → Bool
 goes_below (Some Element) (Some Element) = true
 goes_below (Some Element) (Some Root) = true
 goes_below (Some Attribute) (Some Element) = true
-goes_below node parent = false
+goes_below other above = false
 
 -- a tree comes back to where it was cut off
 pub record MayPlace (n parent : ℕ) (forest : Forest) : Type 0 where

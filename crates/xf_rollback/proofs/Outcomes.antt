@@ -15,7 +15,7 @@ pub unless-ok : {X : Type 0} (fault : Option TreeFault) (v w : X) → unless fau
 unless-ok None v w e = cc e
 unless-ok (Some fault) v w e = cc e
 
-set-forest : (n : ℕ) (before : Before) (es : List Entry) (next : ℕ) (k : Keeping) → (with_set n before es next k).1.forest ≡ k.forest
+pub set-forest : (n : ℕ) (before : Before) (es : List Entry) (next : ℕ) (k : Keeping) → (with_set n before es next k).1.forest ≡ k.forest
 set-forest n before es next k = by (is_known n k es)
   where
     given : (before : Before) → (given_up before k).forest ≡ k.forest

@@ -5,5 +5,5 @@ use Rattle.xf_rollback.proofs.Laws.{rolls_back}
 use Rattle.xf_undo.proofs.ledger.Ledger.roll_back.Goals as goal
 
 pub returns-clause-law : goal.returns-clause-law
-returns-clause-law c = λ start made only sound.
-    c.drop_from.ensures ∙ ap (without_from c.self.inside.next) c.undo_all.ensures.back ∙ ap (λ l. rolled_back l c.args.forest.now) c.self.view_is ∙ rolls_back made only sound
+returns-clause-law c = λ start made sound.
+    c.drop_from.ensures ∙ ap (without_from c.self.inside.next) c.undo_all.ensures.back ∙ ap (λ l. rolled_back l c.args.forest.now) c.self.view_is ∙ rolls_back made sound

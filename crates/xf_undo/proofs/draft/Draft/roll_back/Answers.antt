@@ -1,0 +1,28 @@
+use Rattle.std.proofs.Common.{◌≡◌, ap, ◌∙◌}
+use Rattle.xf_doc.specs.Texts.{Keeping}
+use Rattle.xf_undo.specs.Draft.{Draft}
+use Rattle.xf_rollback.specs.Made.{Made}
+use Rattle.xf_rollback.proofs.Laws.{can_roll_back, rolls_back}
+use Rattle.xf_rollback.proofs.MadeLemmas.{keeps-again}
+use Rattle.xf_undo.proofs.DraftLemmas.{drafted, made-as}
+use Rattle.xf_undo.proofs.draft.Draft.roll_back.Goals.{After-are_trees-2}
+use Rattle.xf_undo.proofs.draft.Draft.roll_back.Goals as goal
+
+pub roll_back-requires : goal.roll_back-requires
+roll_back-requires c = can_roll_back c.self.invariant.made c.are_trees.ensures
+
+-- what is given back is what was kept
+back-is : (c : After-are_trees-2) → c.roll_back.new.forest ≡ c.self.invariant.start
+back-is c = c.roll_back.ensures.back ∙ rolls_back c.self.invariant.made c.are_trees.ensures
+
+made-then : (c : After-are_trees-2) → Made c.self.invariant.start c.roll_back.new.self c.roll_back.new.forest
+made-then c = made-as (keeps-again c.self.invariant.made) c.roll_back.ensures.none (back-is c)
+
+pub invariant_of-self : goal.invariant_of-self
+invariant_of-self c = record { start = c.self.invariant.start; made = made-then (goal.at.invariant_of-self c).After-are_trees-2 }
+
+pub returns : goal.returns
+returns c =
+    let k = (goal.at.returns c).After-are_trees-2 in
+    drafted c.args.self.now c.self.view_is c.self.invariant.made c.are_trees.ensures (made-then k) c.are_trees-2.ensures
+    ∙ ap (λ (k : Keeping). record { kept = c.args.self.now.kept; now = k.forest }) c.roll_back.ensures.back ∙ ap (λ (d : Draft). record { kept = c.args.self.now.kept; now = d.kept }) c.self.view_is
