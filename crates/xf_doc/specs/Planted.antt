@@ -1,5 +1,5 @@
 -- Literal trees that come into a forest, as detached trees, and why they do not.
-use Rattle.std.specs.Prelude.{ℕ, suc, ◌+◌, Bool, true, false, not, ◌||◌, List, [], ◌∷◌, ◌++◌, map, flat_map, length, Option, Some, None, is_none, option_map, Result, Err, ◌==◌, if◌then◌else◌}
+use Rattle.std.specs.Prelude.{ℕ, suc, ◌+◌, Bool, true, false, not, ◌||◌, List, [], ◌∷◌, ◌++◌, map, flat_map, length, Option, Some, None, is_none, Result, Err, ◌==◌, if◌then◌else◌}
 use Rattle.std.specs.List.{list_any}
 use Rattle.xf_name.specs.Bindings.{Bindings, space_number, space_of_prefix, text_of_space}
 use Rattle.xf_name.specs.Part.{Kind, no_declaration, is_part, kind_of}

@@ -1,27 +1,26 @@
 -- A parent's row, the rows between, and a node's place among its siblings.
-use Rattle.std.proofs.Common.{◌≡◌, ℕ, zero, suc, ◌+◌, ◌-◌, ◌<◌, ◌≤◌, ◌==◌, ◌&&◌, not, Bool, true, false, List, [], ◌∷◌, ◌++◌, map, length, take, drop, nat_lt, cond, if◌then◌else◌, reverse, Option, Some, None, length-drop, length-take, length-append, append-nil, append_assoc, subst, inl, inr, refl, sym, ap, ◌∙◌, arith, get_or, take-add}
+use Rattle.std.proofs.Common.{◌≡◌, ℕ, zero, suc, ◌+◌, ◌-◌, ◌<◌, ◌≤◌, ◌==◌, ◌&&◌, not, Bool, true, false, List, [], ◌∷◌, ◌++◌, map, length, take, drop, cond, if◌then◌else◌, reverse, Some, length-drop, length-take, length-append, append_assoc, subst, inl, inr, refl, sym, ap, ◌∙◌, arith, get_or, take-add}
 use Rattle.std.specs.Prelude.{count_by, filter}
-use Rattle.std.proofs.lemmas.Bool.Decides.{nat_tests}
-use Rattle.std.proofs.lemmas.Bool.{cases_lt, cases_Bool, true≢false}
-use Rattle.std.proofs.lemmas.List.{take-append-drop, map-append, drop-drop, reverse-append, reverse-reverse, length-reverse, take_more, get_or-take, get_or-drop, length-map, take-take}
+use Rattle.std.proofs.lemmas.Bool.{cases_lt, cases_Bool}
+use Rattle.std.proofs.lemmas.List.{take-append-drop, map-append, drop-drop, reverse-append, reverse-reverse, length-reverse, take_more, get_or-take, get_or-drop, take-take}
 use Rattle.std.proofs.Math.Seq.{get_or-append_seam}
 use Rattle.slab.specs.Slab.{Slab, get}
 use Rattle.xf_doc.specs.declared.content.Node.{Node}
 use Rattle.xf_doc.specs.declared.content.Content.{Content}
-use Rattle.xf_doc.specs.Forest.{is_attribute, below, has_number}
+use Rattle.xf_doc.specs.Forest.{is_attribute, below}
 use Rattle.xf_doc.specs.Changes.{place_in, place_among, with_place, standing}
 use Rattle.xf_doc.specs.Visit.{visits, numbers, has, attributes_of, children_of, parent_of}
 use Rattle.xf_tree.specs.declared.rows.Row.{Row}
 use Rattle.xf_tree.specs.declared.slot.Slot.{Slot}
-use Rattle.xf_tree.specs.Rows.{deeper, Sized, tree_of, after_tree, less_deep, parent_row_of, top_depth}
-use Rattle.xf_tree.specs.Tree.{node_of, number_in, content_in, no_row, StandsAt, AreSteps, depths, times, same_kind, is_kin, kin_in, kin_before, number_at, IsSound}
+use Rattle.xf_tree.specs.Rows.{deeper, tree_of, less_deep, parent_row_of, top_depth}
+use Rattle.xf_tree.specs.Tree.{node_of, number_in, content_in, no_row, StandsAt, AreSteps, depths, times, is_kin, kin_in, kin_before, number_at, IsSound}
 use Rattle.xf_tree.proofs.SizedLemmas.{lt-true, lt-false, AllDeep}
-use Rattle.xf_tree.proofs.CutLemmas.{tree-is-front, deeper-length, all-deeper}
+use Rattle.xf_tree.proofs.CutLemmas.{tree-is-front, deeper-length}
 use Rattle.xf_tree.proofs.ParentLemmas.{deep-prefix, parent-means}
 use Rattle.xf_tree.proofs.PlaceLemmas.{split-at, stands, below-is, tree-size, one_of, parted-at}
-use Rattle.xf_tree.proofs.NodeLemmas.{Parted, part, eq-false, eq-true, times-append}
+use Rattle.xf_tree.proofs.NodeLemmas.{part, eq-false, eq-true, times-append}
 use Rattle.xf_tree.proofs.CountLemmas.{count-append, count-cons}
-use Rattle.xf_tree.proofs.KidLemmas.{kids, is_kid, parted-kids, place-of_kin, has-kin, node_depths}
+use Rattle.xf_tree.proofs.KidLemmas.{is_kid, parted-kids, place-of_kin, has-kin, node_depths}
 
 pub deep-at : (d : ℕ) (xs : List Row) (i : ℕ) → AllDeep d xs → i < length xs → d ≤ (get_or xs i no_row).depth
 deep-at d [] i all h = absurd (omega arith)

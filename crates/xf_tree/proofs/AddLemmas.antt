@@ -1,7 +1,6 @@
 -- A tree that came in behind all others.
-use Rattle.std.proofs.Common.{◌≡◌, ℕ, zero, suc, ◌+◌, ◌-◌, ◌<◌, ◌≤◌, ◌^◌, ◌*◌, ◌==◌, ◌&&◌, ◌||◌, not, get_or, Bool, true, false, List, [], ◌∷◌, ◌++◌, map, length, take, drop, Option, Some, None, IsSome, refl, sym, ap, ◌∙◌, subst, inl, inr, nat_lt, if◌then◌else◌, arith, length-append}
-use Rattle.std.specs.Prelude.{is_some}
-use Rattle.std.proofs.lemmas.Bool.{cases_lt, cases_Bool, false≢true}
+use Rattle.std.proofs.Common.{◌≡◌, ℕ, suc, ◌+◌, ◌<◌, ◌≤◌, ◌^◌, ◌*◌, ◌==◌, ◌&&◌, ◌||◌, get_or, Bool, true, false, List, [], ◌∷◌, ◌++◌, map, length, take, drop, Option, Some, None, IsSome, refl, sym, ap, ◌∙◌, subst, inl, inr, nat_lt, if◌then◌else◌, arith, length-append}
+use Rattle.std.proofs.lemmas.Bool.{cases_lt}
 use Rattle.std.specs.List.{list_any}
 use Rattle.std.proofs.lemmas.List.{take-append-drop, map-append, length-map}
 use Rattle.slab.specs.Slab.{Slab, get}
@@ -12,28 +11,25 @@ use Rattle.xf_doc.specs.declared.content.Kind.{Kind}
 use Rattle.xf_doc.specs.declared.content.Kind.TheVariants as kind
 use Rattle.xf_doc.specs.declared.fault.TreeFault.TheVariants.{Nodes, AllText}
 use Rattle.std.proofs.lemmas.Bool.Decides.{nat_tests}
-use Rattle.xf_doc.specs.Changes.{shifted, contents_in}
-use Rattle.xf_doc.specs.Forest.{is_text, is_root, is_element, kind_of, has_number, first_tree, tree_of}
+use Rattle.xf_doc.specs.Forest.{is_text, is_element, kind_of, has_number}
 use Rattle.xf_doc.specs.Limits.{Limits, node_count, all_size, size_of, passed_by_all}
 use Rattle.xf_doc.specs.Plant.{numbered_from}
 use Rattle.xf_doc.specs.Texts.{KeptText, Keeping}
 use Rattle.xf_tree.specs.declared.rows.Row.{Row}
 use Rattle.xf_tree.specs.declared.slot.Slot.{Slot}
-use Rattle.xf_tree.specs.Rows.{Sized, deeper, tree_of as row_tree}
+use Rattle.xf_tree.specs.Rows.{Sized, deeper}
 use Rattle.xf_tree.specs.Leaves.{parts_in, AreLeaves}
 use Rattle.xf_tree.specs.First.{AreFirst}
 use Rattle.xf_tree.specs.Calls.{with_contents}
-use Rattle.xf_tree.specs.Tree.{node_of, kept_of, number_in, content_in, times, kept_times, AllLive, AllKept, AllTops, AreSteps, depths, KeepsLive, IsTree, AllPlain, size_of_all, IsSound, IsCounted, IsState, StandsAt, keeping_of, part_of, no_row}
-use Rattle.xf_tree.proofs.SizedLemmas.{sized-append, lt-true, lt-false, AllDeep}
-use Rattle.xf_tree.proofs.CutLemmas.{all-deep-zero, all-deeper}
-use Rattle.xf_tree.proofs.NodeLemmas.{Parted, parted-from, eq-true, times-append}
-use Rattle.xf_tree.proofs.CountLemmas.{nodes-append, sizes-append, sizes-cons, nodes-most}
-use Rattle.xf_tree.proofs.StepLemmas.{most_after, steps-append, steps-more, steps-parts, steps-lowered}
-use Rattle.xf_tree.proofs.LeafLemmas.{leaves-top, leaves-parts, leaves-shifted, parts-append, parts-numbered, steps-not_deeper}
+use Rattle.xf_tree.specs.Tree.{node_of, kept_of, number_in, content_in, times, kept_times, AllLive, AllKept, AllTops, AreSteps, depths, KeepsLive, IsTree, AllPlain, size_of_all, IsSound, IsState, StandsAt, keeping_of, no_row}
+use Rattle.xf_tree.proofs.SizedLemmas.{sized-append, lt-true, lt-false}
+use Rattle.xf_tree.proofs.CutLemmas.{all-deep-zero}
+use Rattle.xf_tree.proofs.NodeLemmas.{Parted, eq-true, times-append}
+use Rattle.xf_tree.proofs.CountLemmas.{nodes-append, sizes-append, sizes-cons}
+use Rattle.xf_tree.proofs.StepLemmas.{most_after, steps-append, steps-more}
+use Rattle.xf_tree.proofs.LeafLemmas.{leaves-top, parts-append, parts-numbered, steps-not_deeper}
 use Rattle.xf_tree.proofs.FirstLemmas.{first-append, first-anywhere}
-use Rattle.xf_tree.proofs.ForestLemmas.{live-append, tops-append, tops-parts, above-deep}
-use Rattle.xf_tree.proofs.ParentLemmas.{deep-prefix}
-use Rattle.xf_tree.proofs.PlaceLemmas.{split-at, stands, below-is, parted-at}
+use Rattle.xf_tree.proofs.ForestLemmas.{tops-append}
 use Rattle.xf_tree.proofs.StackLemmas.{absent-parts}
 use Rattle.xf_tree.proofs.PushLemmas.{kept-nodes, kept-live}
 use Rattle.xf_tree.proofs.NumberLemmas.{low-times, high-times, new-times, new-count, new-size, new-tops}

@@ -1,5 +1,5 @@
 -- Literal trees with resolved names, level by level: their elements, the first fault of these, and their contents.
-use Rattle.std.proofs.Common.{◌≡◌, ℕ, suc, ◌+◌, ◌<◌, ◌≤◌, ◌^◌, ◌==◌, ◌||◌, if◌then◌else◌, not, Bool, true, false, cond, List, [], ◌∷◌, ◌++◌, map, flat_map, length, drop, get_or, codes, Option, Some, None, option_map, Bor, refl, sym, ap, ◌∙◌, subst, inl, inr, arith, append_assoc}
+use Rattle.std.proofs.Common.{◌≡◌, ℕ, ◌+◌, ◌<◌, ◌==◌, ◌||◌, not, Bool, true, false, cond, List, [], ◌∷◌, ◌++◌, map, flat_map, length, drop, get_or, codes, Option, Some, None, option_map, refl, sym, ap, ◌∙◌, inl, inr, arith}
 use Rattle.std.specs.List.{list_any}
 use Rattle.std.specs.Str.{bytes_eq}
 use Rattle.std.proofs.lemmas.Bool.{cases_Bool}
@@ -8,13 +8,12 @@ use Rattle.std.proofs.lemmas.List.{drop_more}
 use Rattle.indexmap.specs.IndexSet.{insert_key}
 use Rattle.xf_name.specs.Bindings.{Bindings}
 use Rattle.xf_name.specs.Part.{kind_of, kind_by, at_colon}
-use Rattle.xf_name.specs.Faults.{is_same_name, has_double}
+use Rattle.xf_name.specs.Faults.{is_same_name}
 use Rattle.xf_name.proofs.DoubleLemmas.{Name, Key, doubles, name_shown, same_key}
 use Rattle.xf_doc.specs.declared.bare.Bare.{Bare}
 use Rattle.xf_doc.specs.declared.bare.Bare.TheFolds.{fold_out-BareElement}
 use Rattle.xf_doc.specs.declared.bare.BareElement.{BareElement}
 use Rattle.xf_doc.specs.declared.bare.BareAttribute.{BareAttribute}
-use Rattle.xf_doc.specs.declared.fault.TreeFault.{TreeFault}
 use Rattle.xf_doc.specs.Forest.{written_with}
 use Rattle.xf_doc.specs.Planted.{Elements, elements_of_bare, bare_elements, bare_element_elements, bare_fault, first_fault, or_later, is_declaration}
 use Rattle.xf_tree.specs.Contents.{elements_of_element, elements_of_all}

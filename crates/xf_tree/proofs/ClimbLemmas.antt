@@ -1,7 +1,7 @@
 -- Climbing from a row to the nearest one before it that is less deep: the rows between stay as they are.
-use Rattle.std.proofs.Common.{◌≡◌, ℕ, zero, suc, ◌+◌, ◌-◌, ◌<◌, ◌≤◌, Bool, true, false, List, [], ◌∷◌, ◌++◌, map, length, take, drop, get_or, set, nat_lt, if◌then◌else◌, reverse, Option, Some, None, length-drop, length-take, length-append, length-set, subst, append_assoc, append-nil, inl, inr, refl, sym, ap, ◌∙◌, arith, add-one}
+use Rattle.std.proofs.Common.{◌≡◌, ℕ, zero, suc, ◌+◌, ◌-◌, ◌<◌, ◌≤◌, List, [], ◌∷◌, ◌++◌, length, take, drop, get_or, set, nat_lt, if◌then◌else◌, reverse, Some, None, length-take, length-set, subst, append_assoc, inl, inr, refl, sym, ap, ◌∙◌, arith}
 use Rattle.std.proofs.lemmas.Bool.{cases_lt}
-use Rattle.std.proofs.lemmas.List.{take-append-drop, reverse-append, reverse-reverse, length-reverse, map-append, take_more, drop-append-le, take-set, get_or-set_same, take-take, get_or-take, drop-set-lt}
+use Rattle.std.proofs.lemmas.List.{take-append-drop, reverse-append, reverse-reverse, length-reverse, take_more, drop-append-le, take-set, get_or-set_same, take-take, get_or-take, drop-set-lt}
 use Rattle.std.proofs.Math.Seq.{get_or-append_seam, drop-append_seam, map-set_same}
 use Rattle.xf_tree.specs.declared.rows.Row.{Row}
 use Rattle.xf_tree.specs.Rows.{deeper, Sized, SizedBefore, grown, shrunk, tree_of, top_depth, less_deep, parent_row_of, past_row}

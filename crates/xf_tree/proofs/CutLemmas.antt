@@ -1,11 +1,10 @@
 -- What moving a tree to the end does to the sizes.
-use Rattle.std.proofs.Common.{◌≡◌, ℕ, zero, suc, ◌+◌, ◌-◌, ◌<◌, ◌≤◌, Bool, true, false, List, [], ◌∷◌, ◌++◌, map, length, take, drop, get_or, nat_lt, cond, reverse, subst, append_assoc, inl, inr, refl, sym, ap, ◌∙◌, arith, length-drop, length-take, length-append}
+use Rattle.std.proofs.Common.{◌≡◌, ℕ, zero, suc, ◌+◌, ◌-◌, ◌<◌, ◌≤◌, List, [], ◌∷◌, ◌++◌, map, length, take, drop, get_or, reverse, subst, append_assoc, inl, inr, refl, sym, ap, ◌∙◌, arith, length-drop, length-take, length-append}
 use Rattle.std.proofs.lemmas.Bool.Decides.{nat_tests}
 use Rattle.std.proofs.lemmas.Bool.{cases_lt}
 use Rattle.std.proofs.lemmas.List.{take-append-drop, reverse-reverse, length-reverse, take_at, drop_at, length-map, append-nil, drop-drop}
-use Rattle.std.proofs.Math.Seq.{drop-cons}
 use Rattle.xf_tree.specs.declared.rows.Row.{Row}
-use Rattle.xf_tree.specs.Rows.{deeper, Sized, SizedBefore, grown, shrunk, raised, tree_of, after_tree, top_depth, rotated, IsCut, raised_part}
+use Rattle.xf_tree.specs.Rows.{deeper, Sized, SizedBefore, shrunk, raised, tree_of, after_tree, top_depth, rotated, IsCut, raised_part}
 use Rattle.xf_tree.proofs.MoveLemmas.{rotated-parts}
 use Rattle.xf_tree.proofs.SizedLemmas.{lt-true, lt-false, Longer, AllDeep, deeper-append, sized-append, sized-front, longer-tree, shrunk-sized, sized-before}
 

@@ -1,5 +1,5 @@
 -- The first fault of a literal tree, level by level, and the limits over new nodes.
-use Rattle.std.proofs.Common.{◌≡◌, ℕ, suc, ◌+◌, ◌<◌, ◌≤◌, ◌&&◌, ◌||◌, if◌then◌else◌, Bool, true, false, List, [], ◌∷◌, ◌++◌, length, nat_lt, Option, Some, None, refl, sym, ap, ◌∙◌, subst, arith}
+use Rattle.std.proofs.Common.{◌≡◌, ℕ, suc, ◌+◌, ◌<◌, ◌≤◌, ◌&&◌, ◌||◌, true, false, List, [], ◌∷◌, ◌++◌, nat_lt, Option, Some, None, refl, sym, ap, ◌∙◌, arith}
 use Rattle.std.specs.Prelude.{nat_le}
 use Rattle.std.specs.List.{list_any}
 use Rattle.std.proofs.lemmas.Bool.Decides.{nat_tests}
@@ -15,7 +15,7 @@ use Rattle.xf_doc.specs.declared.content.Content.{Content}
 use Rattle.xf_doc.specs.declared.fault.TreeFault.{TreeFault}
 use Rattle.xf_doc.specs.declared.fault.TreeFault.TheVariants.{Nodes, NodeText, AllText, Depth}
 use Rattle.xf_doc.specs.Forest.{is_element}
-use Rattle.xf_doc.specs.Limits.{Limits, has_long_text, is_too_deep, passed_by_all, passed_by_tree, node_count, all_size}
+use Rattle.xf_doc.specs.Limits.{Limits, has_long_text, is_too_deep, passed_by_tree, node_count, all_size}
 use Rattle.xf_doc.specs.Plant.{numbered_from}
 use Rattle.xf_doc.specs.Planted.{or_later, first_fault, written_fault, fault_by, is_unknown_space}
 use Rattle.xf_tree.specs.Contents.{is_long, is_deep}

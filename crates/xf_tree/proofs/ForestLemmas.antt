@@ -1,23 +1,21 @@
 -- What cutting a tree of the rows means for the list of nodes.
-use Rattle.std.proofs.Common.{◌≡◌, ℕ, zero, suc, ◌+◌, ◌-◌, ◌<◌, ◌≤◌, ◌==◌, Bool, true, false, List, [], ◌∷◌, ◌++◌, map, length, take, drop, nat_lt, cond, if◌then◌else◌, reverse, IsSome, length-drop, length-append, subst, append_assoc, inl, inr, refl, sym, ap, ◌∙◌, arith, get_or}
-use Rattle.std.proofs.lemmas.Bool.Decides.{nat_tests}
+use Rattle.std.proofs.Common.{◌≡◌, ℕ, suc, ◌+◌, ◌-◌, ◌<◌, ◌≤◌, ◌==◌, List, [], ◌∷◌, ◌++◌, map, length, take, drop, if◌then◌else◌, reverse, subst, append_assoc, inl, inr, refl, sym, ap, ◌∙◌, arith, get_or}
 use Rattle.std.proofs.lemmas.Bool.{cases_lt}
-use Rattle.std.proofs.lemmas.List.{take-append-drop, reverse-append, reverse-reverse, map-append, length-map}
-use Rattle.slab.specs.Slab.{Slab, get}
+use Rattle.std.proofs.lemmas.List.{take-append-drop, reverse-append, reverse-reverse, map-append}
+use Rattle.slab.specs.Slab.{Slab}
 use Rattle.xf_doc.specs.declared.content.Node.{Node}
-use Rattle.xf_doc.specs.Forest.{from_node, below, past, first_tree, tree_of as tree_of_node, is_root}
-use Rattle.xf_doc.specs.Changes.{shifted, moved_to, without_tree}
-use Rattle.xf_doc.specs.Texts.{KeptText}
+use Rattle.xf_doc.specs.Forest.{first_tree, tree_of as tree_of_node}
+use Rattle.xf_doc.specs.Changes.{moved_to, without_tree}
 use Rattle.xf_doc.specs.Limits.{node_count, all_size}
 use Rattle.xf_tree.specs.declared.rows.Row.{Row}
 use Rattle.xf_tree.specs.declared.slot.Slot.{Slot}
-use Rattle.xf_tree.specs.Rows.{deeper, Sized, shrunk, grown, raised, tree_of, after_tree, top_depth, IsCut}
-use Rattle.xf_tree.specs.Tree.{node_of, kept_of, number_in, times, kept_times, AllLive, AllTops, AreSteps, depths, IsSound, IsCounted, IsState, StandsAt, no_row}
+use Rattle.xf_tree.specs.Rows.{deeper, shrunk, grown, raised, tree_of, after_tree, top_depth, IsCut}
+use Rattle.xf_tree.specs.Tree.{node_of, times, AllLive, AllTops, AreSteps, depths, IsCounted, StandsAt, no_row}
 use Rattle.xf_tree.proofs.SizedLemmas.{lt-true, lt-false, AllDeep}
-use Rattle.xf_tree.proofs.CutLemmas.{tree-parts, tree-is-front, stops-after, all-deeper}
-use Rattle.xf_tree.proofs.NodeLemmas.{Parted, parted-without, parted-from, times-append}
-use Rattle.xf_tree.proofs.PlaceLemmas.{split-at, stands, below-is, past-is, one_of}
-use Rattle.xf_tree.proofs.StepLemmas.{most_after, steps-append, steps-parts, steps-more, steps-lowered, AllAbove}
+use Rattle.xf_tree.proofs.CutLemmas.{tree-parts, stops-after, all-deeper}
+use Rattle.xf_tree.proofs.NodeLemmas.{parted-without, parted-from, times-append}
+use Rattle.xf_tree.proofs.PlaceLemmas.{split-at, stands, below-is, past-is}
+use Rattle.xf_tree.proofs.StepLemmas.{most_after, steps-append, steps-parts, steps-lowered, AllAbove}
 use Rattle.xf_tree.proofs.CountLemmas.{nodes-append, sizes-append, count-alike, size-alike}
 
 -- what doesn't look at sizes

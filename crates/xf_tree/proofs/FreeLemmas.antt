@@ -1,18 +1,16 @@
 -- Slots that are emptied, and what keeps its slot.
-use Rattle.std.proofs.Common.{◌≡◌, ◌≢◌, ℕ, zero, suc, ◌+◌, ◌-◌, ◌<◌, ◌≤◌, ◌==◌, not, Bool, true, false, cond, if◌then◌else◌, List, [], ◌∷◌, ◌++◌, map, length, take, drop, get_or, Option, Some, None, IsSome, refl, sym, ap, ◌∙◌, subst, inl, inr, arith}
-use Rattle.std.specs.Prelude.{is_some, ◌⊎◌}
-use Rattle.std.proofs.lemmas.Bool.{cases_Bool, true≢false, cases_lt}
+use Rattle.std.proofs.Common.{◌≡◌, ℕ, ◌+◌, ◌<◌, ◌≤◌, ◌==◌, not, cond, if◌then◌else◌, List, [], ◌∷◌, ◌++◌, map, length, take, drop, get_or, None, refl, sym, ap, ◌∙◌, inl, inr, arith}
+use Rattle.std.specs.Prelude.{◌⊎◌}
+use Rattle.std.proofs.lemmas.Bool.{cases_lt}
 use Rattle.std.proofs.lemmas.List.{take-append-drop, map-append, take_more}
 use Rattle.slab.specs.Slab.{Slab, get, Updates}
-use Rattle.xf_doc.specs.declared.content.Node.{Node}
 use Rattle.xf_doc.specs.Forest.{is_root}
 use Rattle.xf_doc.specs.Limits.{node_count, all_size, size_of}
 use Rattle.xf_doc.specs.Texts.{KeptText}
 use Rattle.xf_tree.specs.declared.rows.Row.{Row}
 use Rattle.xf_tree.specs.declared.slot.Slot.{Slot}
-use Rattle.xf_tree.specs.Tree.{node_of, kept_of, number_in, content_in, times, kept_times, no_row, AllLive, KeepsBut, KeepsButKept}
+use Rattle.xf_tree.specs.Tree.{node_of, kept_of, number_in, content_in, times, kept_times, no_row, KeepsBut, KeepsButKept}
 use Rattle.xf_tree.proofs.NodeLemmas.{times-append, eq-true}
-use Rattle.xf_tree.proofs.PlaceLemmas.{times-at}
 use Rattle.xf_tree.proofs.CountLemmas.{nodes-append, sizes-append, nodes-cons, sizes-cons}
 
 pub kept_times-append : (n : ℕ) (xs ys : List KeptText) → kept_times n (xs ++ ys) ≡ kept_times n xs + kept_times n ys

@@ -1,21 +1,20 @@
 -- The children and attributes of a node: what is below it and one deeper.
-use Rattle.std.proofs.Common.{◌≡◌, ℕ, zero, suc, ◌+◌, ◌<◌, ◌≤◌, ◌==◌, ◌||◌, ◌&&◌, not, Bool, true, false, cond, if◌then◌else◌, List, [], ◌∷◌, ◌++◌, map, length, nat_lt, Option, Some, None, refl, sym, ap, ◌∙◌, subst, inl, inr, arith, append_assoc}
+use Rattle.std.proofs.Common.{◌≡◌, ℕ, suc, ◌<◌, ◌≤◌, ◌==◌, ◌||◌, ◌&&◌, Bool, true, false, cond, List, [], ◌∷◌, ◌++◌, map, length, nat_lt, refl, sym, ap, ◌∙◌, subst, inl, inr, arith}
 use Rattle.std.specs.Prelude.{filter, count_by}
-use Rattle.std.specs.List.{list_any, position_or_len}
+use Rattle.std.specs.List.{position_or_len}
 use Rattle.std.proofs.lemmas.Bool.{cases_Bool, true≢false, false≢true, cases_lt}
-use Rattle.std.proofs.lemmas.Bool.Decides.{nat_tests}
 use Rattle.std.proofs.lemmas.List.{map-append, length-map}
 use Rattle.std.proofs.lemmas.List.Sums.{length-filter}
 use Rattle.std.proofs.lemmas.List.Elements.{filter-append}
 use Rattle.xf_doc.specs.declared.content.Node.{Node}
 use Rattle.xf_doc.specs.declared.content.Content.{Content}
-use Rattle.xf_doc.specs.Forest.{has_number, past, below, is_attribute}
-use Rattle.xf_doc.specs.Visit.{Visit, still_above, numbers, visit, visits_from, visits, has, is_first, children_of, attributes_of}
+use Rattle.xf_doc.specs.Forest.{has_number, below}
+use Rattle.xf_doc.specs.Visit.{Visit, still_above, numbers, visit, visits_from, visits, has, is_first}
 use Rattle.xf_doc.proofs.RunLemmas.{AreDeeper}
-use Rattle.xf_tree.specs.Tree.{AreSteps, same_kind, is_kin}
+use Rattle.xf_tree.specs.Tree.{AreSteps}
 pub use Rattle.xf_tree.specs.Kids.{is_kid}
 use Rattle.xf_tree.proofs.NodeLemmas.{Parted, eq-true, eq-false, eq-turned, has-append}
-use Rattle.xf_tree.proofs.StackLemmas.{stack, visits-append, absent-above, absent-parts, absent-cons, absent-stack, has-numbers, above-inside, above-past, deeper-above, lt-from, le-from}
+use Rattle.xf_tree.proofs.StackLemmas.{stack, visits-append, absent-above, absent-parts, absent-cons, absent-stack, has-numbers, above-inside, above-past, deeper-above, lt-from}
 use Rattle.xf_tree.proofs.SizedLemmas.{lt-true, lt-false}
 
 abbrev pub node_depths : List Node → List ℕ

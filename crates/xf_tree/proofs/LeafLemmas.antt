@@ -1,8 +1,8 @@
 -- Leaves have nothing below them: lists in parts, with other depths, and with a tree less.
-use Rattle.std.proofs.Common.{◌≡◌, ℕ, zero, suc, ◌+◌, ◌-◌, ◌<◌, ◌≤◌, Bool, true, false, List, [], ◌∷◌, ◌++◌, map, refl, sym, ap, ◌∙◌, subst, inl, inr, arith}
+use Rattle.std.proofs.Common.{◌≡◌, ℕ, suc, ◌≤◌, List, [], ◌∷◌, ◌++◌, map, refl, ap, inl, inr, arith}
 use Rattle.std.proofs.lemmas.Bool.{cases_lt}
 use Rattle.std.proofs.lemmas.List.{map-append}
-use Rattle.slab.specs.Slab.{Slab, get}
+use Rattle.slab.specs.Slab.{Slab}
 use Rattle.xf_doc.specs.declared.content.Node.{Node}
 use Rattle.xf_doc.specs.declared.content.Content.{Content}
 use Rattle.xf_doc.specs.Changes.{shifted}
@@ -10,7 +10,7 @@ use Rattle.xf_doc.specs.Plant.{numbered_from}
 use Rattle.xf_tree.specs.declared.rows.Row.{Row}
 use Rattle.xf_tree.specs.declared.slot.Slot.{Slot}
 use Rattle.xf_tree.specs.Rows.{deeper}
-use Rattle.xf_tree.specs.Leaves.{is_leaf, parts_in, NotDeeper, AreLeaves}
+use Rattle.xf_tree.specs.Leaves.{parts_in, NotDeeper, AreLeaves}
 use Rattle.xf_tree.specs.Tree.{node_of, AreSteps}
 use Rattle.xf_tree.specs.Contents.{AllFrom}
 use Rattle.xf_tree.proofs.SizedLemmas.{lt-true}

@@ -1,23 +1,20 @@
 -- Older trees move forward over newer ones.
-use Rattle.std.proofs.Common.{◌≡◌, ℕ, zero, suc, ◌+◌, ◌-◌, ◌<◌, ◌≤◌, ◌^◌, ◌==◌, ◌&&◌, not, Bool, true, false, cond, if◌then◌else◌, List, [], ◌∷◌, ◌++◌, map, length, take, drop, get_or, Option, Some, None, IsSome, refl, sym, ap, ◌∙◌, subst, inl, inr, arith, append_assoc, append-nil, length-append, length-take, length-drop, take-add}
+use Rattle.std.proofs.Common.{◌≡◌, ℕ, suc, ◌+◌, ◌-◌, ◌<◌, ◌≤◌, false, List, [], ◌++◌, map, length, take, drop, get_or, refl, sym, ap, ◌∙◌, subst, inl, inr, arith, append_assoc, append-nil, length-append, length-take, length-drop, take-add}
 use Rattle.std.specs.Prelude.{filter}
 use Rattle.std.specs.List.{copy_within}
-use Rattle.std.proofs.lemmas.Bool.{cases_Bool, cases_lt, true≢false, false≢true}
+use Rattle.std.proofs.lemmas.Bool.{cases_lt}
 use Rattle.std.proofs.lemmas.List.{take-append-drop, map-append, take_at, drop_at, drop-drop, get_or-drop}
 use Rattle.std.proofs.lemmas.List.Elements.{filter-append}
 use Rattle.slab.specs.Slab.{Slab, get}
-use Rattle.xf_doc.specs.declared.content.Node.{Node}
-use Rattle.xf_doc.specs.Changes.{in_instances, is_detached_top}
-use Rattle.xf_doc.specs.Forest.{is_root}
+use Rattle.xf_doc.specs.Changes.{in_instances}
 use Rattle.xf_doc.specs.Limits.{node_count, all_size, size_of}
-use Rattle.xf_doc.specs.Needs.{is_new}
 use Rattle.xf_tree.specs.declared.rows.Row.{Row}
 use Rattle.xf_tree.specs.declared.slot.Slot.{Slot}
 use Rattle.xf_tree.specs.Rows.{Sized, deeper, tree_of, after_tree}
 use Rattle.xf_tree.specs.Tree.{node_of, number_in, content_in, times, no_row, KeepsBut}
-use Rattle.xf_tree.specs.Older.{is_older, is_newer, AreWhole}
-use Rattle.xf_tree.proofs.SizedLemmas.{lt-true, lt-false, AllDeep}
-use Rattle.xf_tree.proofs.NodeLemmas.{eq-true, times-append}
+use Rattle.xf_tree.specs.Older.{is_older, is_newer}
+use Rattle.xf_tree.proofs.SizedLemmas.{lt-true, lt-false}
+use Rattle.xf_tree.proofs.NodeLemmas.{times-append}
 use Rattle.xf_tree.proofs.OlderLemmas.{WholeRows, older-parted}
 use Rattle.xf_tree.proofs.OldTreeLemmas.{tree-older, tree-newer, front-older}
 use Rattle.xf_tree.proofs.CutLemmas.{size-at, tree-within, tree-is-front, stops-after}
@@ -25,7 +22,6 @@ use Rattle.xf_tree.proofs.CountLemmas.{nodes-append, sizes-append}
 use Rattle.xf_tree.proofs.RootLemmas.{past-tree}
 use Rattle.xf_tree.proofs.ForestLemmas.{whole-map}
 use Rattle.xf_tree.proofs.DropLemmas.{SameAt, same-where, nodes-same}
-use Rattle.xf_tree.proofs.ParentLemmas.{deep-prefix}
 use Rattle.xf_tree.proofs.PlaceLemmas.{split-at}
 
 pub moved-none : {X : Type 0} (xs : List X) (at end : ℕ) → at ≤ end → end ≤ length xs → xs ≡ copy_within xs at end at

@@ -1,10 +1,7 @@
 -- New nodes with the next numbers.
-use Rattle.std.proofs.Common.{◌≡◌, ℕ, zero, suc, ◌+◌, ◌-◌, ◌<◌, ◌≤◌, ◌^◌, ◌*◌, ◌==◌, not, Bool, true, false, cond, if◌then◌else◌, List, [], ◌∷◌, ◌++◌, map, length, refl, sym, ap, ◌∙◌, subst, inl, inr, arith}
-use Rattle.std.specs.Prelude.{sum_by}
+use Rattle.std.proofs.Common.{◌≡◌, ℕ, suc, ◌+◌, ◌<◌, ◌≤◌, ◌^◌, ◌*◌, not, true, false, cond, List, [], ◌∷◌, length, refl, sym, ap, ◌∙◌, inl, inr, arith}
 use Rattle.std.proofs.lemmas.List.Sums.{sum_by-cons}
-use Rattle.xf_doc.specs.declared.content.Node.{Node}
 use Rattle.xf_doc.specs.declared.content.Content.{Content}
-use Rattle.xf_doc.specs.Forest.{is_root}
 use Rattle.xf_doc.specs.Limits.{node_count, all_size, size_of}
 use Rattle.xf_doc.specs.Plant.{numbered_from}
 use Rattle.xf_tree.specs.Tree.{times, AllPlain, AllTops, size_of_all}

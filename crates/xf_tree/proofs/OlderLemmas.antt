@@ -1,10 +1,9 @@
 -- The rows of older nodes, where what is new stands in trees of its own.
-use Rattle.std.proofs.Common.{◌≡◌, ℕ, zero, suc, ◌+◌, ◌-◌, ◌<◌, ◌≤◌, ◌==◌, not, Bool, true, false, if◌then◌else◌, List, [], ◌∷◌, ◌++◌, map, length, nat_lt, refl, sym, ap, ◌∙◌, subst, inl, inr, arith}
+use Rattle.std.proofs.Common.{◌≡◌, ℕ, suc, ◌+◌, ◌≤◌, not, Bool, true, false, if◌then◌else◌, List, [], ◌∷◌, ◌++◌, map, length, nat_lt, refl, sym, ap, ◌∙◌, subst, inl, inr, arith}
 use Rattle.std.specs.Prelude.{filter}
 use Rattle.std.proofs.lemmas.Bool.{cases_Bool, cases_lt, true≢false, false≢true}
 use Rattle.slab.specs.Slab.{Slab, get}
 use Rattle.xf_doc.specs.declared.content.Node.{Node}
-use Rattle.xf_doc.specs.Needs.{is_new}
 use Rattle.xf_tree.specs.declared.rows.Row.{Row}
 use Rattle.xf_tree.specs.declared.slot.Slot.{Slot}
 use Rattle.xf_tree.specs.Rows.{Sized, deeper}
@@ -12,7 +11,7 @@ use Rattle.xf_tree.specs.Leaves.{parts_in, NotDeeper, AreLeaves}
 use Rattle.xf_tree.specs.First.{attribute_depth, AreFirst}
 use Rattle.xf_tree.specs.Tree.{node_of, number_in, content_in, times, AllLive, AllTops, AreSteps, depths, IsSound}
 use Rattle.xf_tree.specs.Older.{is_older, is_newer, AreWhole}
-use Rattle.xf_tree.proofs.SizedLemmas.{lt-true, lt-false, deeper-less, AllDeep}
+use Rattle.xf_tree.proofs.SizedLemmas.{lt-true, lt-false, deeper-less}
 use Rattle.xf_tree.proofs.NodeLemmas.{eq-false}
 use Rattle.xf_tree.proofs.DropLemmas.{IsShaped}
 use Rattle.xf_tree.proofs.LeafLemmas.{less-deeper, first-not_deeper}

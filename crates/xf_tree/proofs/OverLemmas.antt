@@ -1,29 +1,28 @@
 -- A root over a tree: what the rows stand for.
-use Rattle.std.proofs.Common.{◌≡◌, ℕ, zero, suc, ◌+◌, ◌-◌, ◌<◌, ◌≤◌, ◌^◌, ◌==◌, Bool, true, false, if◌then◌else◌, List, [], ◌∷◌, ◌++◌, map, length, take, drop, get_or, Option, Some, None, IsSome, append_assoc, refl, sym, ap, ◌∙◌, subst, inl, inr, arith, length-append, length-take, length-drop, add-one}
+use Rattle.std.proofs.Common.{◌≡◌, ℕ, suc, ◌+◌, ◌<◌, ◌≤◌, ◌^◌, true, false, if◌then◌else◌, List, [], ◌∷◌, ◌++◌, map, length, take, drop, get_or, IsSome, append_assoc, refl, sym, ap, ◌∙◌, subst, inl, inr, arith, length-append, add-one}
 use Rattle.std.proofs.lemmas.List.{take-append-drop, map-append, length-map}
-use Rattle.std.proofs.lemmas.Bool.{cases_Bool, cases_lt, true≢false, false≢true}
+use Rattle.std.proofs.lemmas.Bool.{cases_Bool, true≢false, false≢true}
 use Rattle.slab.specs.Slab.{Slab, get}
 use Rattle.xf_doc.specs.declared.content.Node.{Node}
 use Rattle.xf_doc.specs.declared.content.Content.{Content}
 use Rattle.xf_doc.specs.declared.content.Content.TheVariants.{Root, Element, Attribute, Text}
 use Rattle.xf_doc.specs.Forest.{Forest, first_tree, tree_of, is_root, is_element, is_attribute}
 use Rattle.xf_doc.specs.Changes.{shifted, moved_to, without_tree, in_instances, in_detached, with_root, is_detached_top}
-use Rattle.xf_doc.specs.Limits.{node_count, all_size, size_of}
-use Rattle.xf_doc.specs.Texts.{KeptText, Keeping}
+use Rattle.xf_doc.specs.Limits.{node_count, all_size}
 use Rattle.xf_tree.specs.declared.rows.Row.{Row}
 use Rattle.xf_tree.specs.declared.slot.Slot.{Slot}
 use Rattle.xf_tree.specs.Rows.{Sized, deeper, deepened, tree_of as row_tree, after_tree, rest_of}
 use Rattle.xf_tree.specs.Leaves.{parts_in, AreLeaves}
 use Rattle.xf_tree.specs.First.{AreFirst}
-use Rattle.xf_tree.specs.Tree.{node_of, kept_of, number_in, content_in, times, kept_times, AllLive, AllTops, AreSteps, depths, KeepsLive, IsSound, IsCounted, IsState, StandsAt, keeping_of, no_row, IsOver}
-use Rattle.xf_tree.proofs.SizedLemmas.{lt-true, lt-false, AllDeep, sized-append, sized-front}
-use Rattle.xf_tree.proofs.CutLemmas.{all-deep-zero, tree-parts, stops-after, all-deeper}
-use Rattle.xf_tree.proofs.PasteLemmas.{deepened-sized, deepened-deeper}
+use Rattle.xf_tree.specs.Tree.{node_of, number_in, content_in, times, kept_times, AllLive, AllTops, AreSteps, depths, KeepsLive, IsSound, IsState, StandsAt, keeping_of, no_row, IsOver}
+use Rattle.xf_tree.proofs.SizedLemmas.{lt-true, lt-false, sized-append, sized-front}
+use Rattle.xf_tree.proofs.CutLemmas.{all-deep-zero, tree-parts}
+use Rattle.xf_tree.proofs.PasteLemmas.{deepened-sized}
 use Rattle.xf_tree.proofs.DeepenLemmas.{lowered, live-deepened, times-shifted, depths-deepened, no-roots}
 use Rattle.xf_tree.proofs.NodeLemmas.{parted-without, parted-from, times-append, eq-false, eq-true}
 use Rattle.xf_tree.proofs.PlaceLemmas.{split-at, stands, below-is, past-is, one_of}
-use Rattle.xf_tree.proofs.CountLemmas.{nodes-append, sizes-append, nodes-cons, sizes-cons, count-alike, size-alike}
-use Rattle.xf_tree.proofs.StepLemmas.{most_after, steps-append, steps-parts, steps-more, steps-raised}
+use Rattle.xf_tree.proofs.CountLemmas.{nodes-append, sizes-append, count-alike, size-alike}
+use Rattle.xf_tree.proofs.StepLemmas.{most_after, steps-append, steps-parts, steps-raised}
 use Rattle.xf_tree.proofs.LeafLemmas.{leaves-top, leaves-parts, leaves-shifted, parts-append, first-not_deeper}
 use Rattle.xf_tree.proofs.FirstLemmas.{depth_behind, first-append, first-parts, first-top}
 use Rattle.xf_tree.proofs.FirstRowLemmas.{without-first, tree-first}

@@ -1,8 +1,7 @@
 -- The nearest row before a place that is less deep is the parent's.
-use Rattle.std.proofs.Common.{◌≡◌, ℕ, zero, suc, ◌+◌, ◌-◌, ◌<◌, ◌≤◌, ◌==◌, Bool, true, false, List, [], ◌∷◌, ◌++◌, map, length, take, drop, nat_lt, cond, if◌then◌else◌, reverse, Option, Some, None, length-drop, length-take, length-append, subst, append_assoc, append-nil, inl, inr, refl, sym, ap, ◌∙◌, arith, get_or, add-one}
-use Rattle.std.proofs.lemmas.Bool.Decides.{nat_tests}
+use Rattle.std.proofs.Common.{◌≡◌, ℕ, zero, suc, ◌+◌, ◌-◌, ◌<◌, ◌≤◌, List, [], ◌∷◌, ◌++◌, map, length, take, drop, nat_lt, if◌then◌else◌, reverse, Option, Some, None, length-take, subst, append_assoc, append-nil, inl, inr, refl, sym, ap, ◌∙◌, arith, get_or}
 use Rattle.std.proofs.lemmas.Bool.{cases_lt}
-use Rattle.std.proofs.lemmas.List.{take-append-drop, reverse-append, reverse-reverse, length-reverse, map-append, take_more, drop-drop}
+use Rattle.std.proofs.lemmas.List.{take-append-drop, reverse-append, reverse-reverse, length-reverse}
 use Rattle.std.proofs.Math.Seq.{get_or-append_seam, take-append-add}
 use Rattle.slab.specs.Slab.{Slab, get}
 use Rattle.xf_doc.specs.declared.content.Node.{Node}
@@ -10,11 +9,10 @@ use Rattle.xf_doc.specs.Visit.{still_above, numbers, first_of, parent_of, visits
 use Rattle.xf_doc.proofs.RenumberLaws.{map-reverse}
 use Rattle.xf_tree.specs.declared.rows.Row.{Row}
 use Rattle.xf_tree.specs.declared.slot.Slot.{Slot}
-use Rattle.xf_tree.specs.Rows.{deeper, Sized, tree_of, top_depth, less_deep, parent_row_of}
+use Rattle.xf_tree.specs.Rows.{deeper, tree_of, top_depth, less_deep, parent_row_of}
 use Rattle.xf_tree.specs.Tree.{node_of, number_in, times, StandsAt, no_row, number_at}
 use Rattle.xf_tree.proofs.SizedLemmas.{lt-true, lt-false, AllDeep}
 use Rattle.xf_tree.proofs.PlaceLemmas.{split-at, stands}
-use Rattle.xf_tree.proofs.NodeLemmas.{Parted}
 use Rattle.xf_tree.proofs.StackLemmas.{stack, still-shut, parted-ancestors}
 
 -- what is open after these nodes, which come from the nearest on

@@ -1,13 +1,13 @@
 -- What moving a tree that stands by itself under a node does to the sizes.
-use Rattle.std.proofs.Common.{◌≡◌, take-add, ℕ, zero, suc, ◌+◌, ◌-◌, ◌<◌, ◌≤◌, ◌^◌, Bool, true, false, List, [], ◌∷◌, ◌++◌, map, length, take, drop, get_or, set, nat_lt, cond, reverse, subst, append_assoc, inl, inr, refl, sym, ap, ◌∙◌, arith, length-drop, length-take, length-append}
+use Rattle.std.proofs.Common.{◌≡◌, ℕ, zero, suc, ◌+◌, ◌-◌, ◌<◌, ◌≤◌, ◌^◌, List, [], ◌∷◌, ◌++◌, map, length, take, drop, get_or, set, reverse, subst, append_assoc, inl, inr, refl, sym, ap, ◌∙◌, arith, length-drop, length-take, length-append}
 use Rattle.std.proofs.lemmas.Bool.{cases_lt}
-use Rattle.std.proofs.lemmas.List.{take-append-drop, reverse-reverse, length-reverse, take_at, drop_at, length-map, append-nil, drop-drop, get_or_default, get_or-take, get_or-drop, take-append-le, take-take}
+use Rattle.std.proofs.lemmas.List.{take-append-drop, reverse-reverse, length-reverse, take_at, drop_at, length-map, drop-drop, get_or_default, get_or-take, get_or-drop}
 use Rattle.std.proofs.lemmas.List.Edits.{map_over_more}
 use Rattle.std.specs.List.{All}
 use Rattle.xf_tree.specs.declared.rows.Row.{Row}
-use Rattle.xf_tree.specs.Rows.{deeper, Sized, SizedBefore, grown, deepened, deepened_part, rotated, tree_of, after_tree, top_depth, IsPaste}
+use Rattle.xf_tree.specs.Rows.{deeper, Sized, grown, deepened, deepened_part, rotated, tree_of, after_tree, top_depth, IsPaste}
 use Rattle.xf_tree.proofs.SizedLemmas.{lt-true, lt-false, Longer, AllDeep, deeper-append, deeper-less, sized-append, sized-front, longer-tree, grown-sized, sized-before}
-use Rattle.xf_tree.proofs.CutLemmas.{tree-parts, sized-take, sized-drop, all-deep-zero, tree-is-front, tree-within, stops-after, deeper-length}
+use Rattle.xf_tree.proofs.CutLemmas.{tree-parts, all-deep-zero, stops-after, deeper-length}
 use Rattle.xf_tree.proofs.MoveLemmas.{rotated-parts}
 
 pub deepen-step : (by i : ℕ) (xs ys : List Row) (d : Row) → i < length xs → ys ≡ map (deepened by) (take i xs) ++ drop i xs

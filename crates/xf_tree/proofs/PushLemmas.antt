@@ -1,7 +1,7 @@
 -- Nodes that come in behind all others, and their sizes.
-use Rattle.std.proofs.Common.{◌≡◌, ◌≢◌, ℕ, zero, suc, ◌+◌, ◌-◌, ◌<◌, ◌≤◌, ◌^◌, ◌==◌, Bool, true, false, cond, if◌then◌else◌, List, [], ◌∷◌, ◌++◌, map, length, take, drop, get_or, set, Option, Some, None, IsSome, nat_lt, refl, sym, ap, ◌∙◌, subst, inl, inr, arith, append_assoc, append-nil, length-append, length-take, length-drop, add-one, length-set}
-use Rattle.std.specs.Prelude.{is_some, ◌⊎◌}
-use Rattle.std.proofs.lemmas.Bool.{cases_Bool, true≢false, false≢true, cases_lt}
+use Rattle.std.proofs.Common.{◌≡◌, ℕ, zero, suc, ◌+◌, ◌-◌, ◌<◌, ◌≤◌, ◌^◌, List, [], ◌∷◌, ◌++◌, map, length, take, drop, get_or, set, Some, None, IsSome, refl, sym, ap, ◌∙◌, subst, inl, inr, arith, append_assoc, length-drop, add-one, length-set}
+use Rattle.std.specs.Prelude.{is_some}
+use Rattle.std.proofs.lemmas.Bool.{false≢true}
 use Rattle.std.proofs.lemmas.List.{take-append-drop, map-append, take_at, drop_at, drop-drop, take-take, get_or-set_same}
 use Rattle.slab.specs.Slab.{Slab, get, Updates}
 use Rattle.xf_doc.specs.declared.content.Node.{Node}
@@ -11,9 +11,9 @@ use Rattle.xf_doc.specs.Plant.{numbered_from}
 use Rattle.xf_tree.specs.declared.rows.Row.{Row}
 use Rattle.xf_tree.specs.declared.slot.Slot.{Slot}
 use Rattle.xf_tree.specs.Rows.{Sized, deeper, tree_of, after_tree}
-use Rattle.xf_tree.specs.Tree.{node_of, number_in, content_in, no_row, AllLive, AllPlain, IsTree, KeepsLive, unsized}
+use Rattle.xf_tree.specs.Tree.{node_of, number_in, content_in, no_row, AllLive, AllPlain, KeepsLive, unsized}
 use Rattle.xf_tree.proofs.SizedLemmas.{lt-true, lt-false, AllDeep}
-use Rattle.xf_tree.proofs.CutLemmas.{tree-parts, size-at, sized-drop, deeper-length, all-deeper, tree-is-front, tree-within}
+use Rattle.xf_tree.proofs.CutLemmas.{size-at, sized-drop, all-deeper, tree-is-front, tree-within}
 use Rattle.xf_tree.proofs.FreeLemmas.{same-key}
 use Rattle.xf_tree.proofs.PlaceLemmas.{split-at, tree-size}
 use Rattle.xf_tree.proofs.ForestLemmas.{live-append}

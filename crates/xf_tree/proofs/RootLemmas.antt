@@ -1,19 +1,18 @@
 -- Walking over the tops of trees: a tree's rows are skipped, since no root and no detached top stands below another node.
-use Rattle.std.proofs.Common.{◌≡◌, ℕ, zero, suc, ◌+◌, ◌-◌, ◌<◌, ◌≤◌, ◌==◌, ◌&&◌, not, Bool, true, false, List, [], ◌∷◌, ◌++◌, map, length, take, drop, nat_lt, cond, Option, Some, None, length-drop, append-nil, append_assoc, subst, inl, inr, refl, sym, ap, ◌∙◌, arith, get_or}
-use Rattle.std.proofs.lemmas.Bool.Decides.{nat_tests}
-use Rattle.std.proofs.lemmas.Bool.{cases_lt, cases_Bool, true≢false}
+use Rattle.std.proofs.Common.{◌≡◌, ℕ, zero, suc, ◌+◌, ◌-◌, ◌<◌, ◌≤◌, ◌==◌, true, false, List, [], ◌∷◌, ◌++◌, map, length, take, drop, Some, None, append-nil, append_assoc, subst, inl, inr, refl, sym, ap, ◌∙◌, arith, get_or}
+use Rattle.std.proofs.lemmas.Bool.{cases_lt, cases_Bool}
 use Rattle.std.proofs.lemmas.List.{take-append-drop, map-append, drop-drop}
 use Rattle.std.proofs.Common.{take-add}
 use Rattle.slab.specs.Slab.{Slab, get}
 use Rattle.xf_doc.specs.declared.content.Node.{Node}
 use Rattle.xf_doc.specs.Forest.{is_root}
-use Rattle.xf_doc.specs.Changes.{root_of, in_instances, in_detached, is_detached_top}
+use Rattle.xf_doc.specs.Changes.{root_of, in_instances, is_detached_top}
 use Rattle.xf_tree.specs.declared.rows.Row.{Row}
 use Rattle.xf_tree.specs.declared.slot.Slot.{Slot}
-use Rattle.xf_tree.specs.Rows.{deeper, Sized, tree_of, after_tree}
+use Rattle.xf_tree.specs.Rows.{deeper, tree_of, after_tree}
 use Rattle.xf_tree.specs.Tree.{node_of, number_in, content_in, AllTops, no_row}
 use Rattle.xf_tree.proofs.SizedLemmas.{lt-true, lt-false}
-use Rattle.xf_tree.proofs.CutLemmas.{tree-is-front, tree-parts}
+use Rattle.xf_tree.proofs.CutLemmas.{tree-is-front}
 use Rattle.xf_tree.proofs.NodeLemmas.{eq-false}
 use Rattle.xf_tree.proofs.PlaceLemmas.{split-at}
 use Rattle.xf_tree.proofs.ForestLemmas.{tops-parts}

@@ -7,8 +7,8 @@ use Rattle.xf_tree.specs.declared.rows.Row.{Row}
 use Rattle.xf_tree.specs.Rows.{Sized, deeper, deepened, deepened_part, rotated, tree_of, after_tree, rest_of, IsRooted}
 use Rattle.xf_tree.specs.Tree.{AreSteps, depths, no_row}
 use Rattle.xf_tree.proofs.SizedLemmas.{lt-true, lt-false, sized-append, sized-front}
-use Rattle.xf_tree.proofs.MoveLemmas.{rotated-parts, parts}
-use Rattle.xf_tree.proofs.CutLemmas.{all-deep-zero, tree-parts, tree-is-front, stops-after}
+use Rattle.xf_tree.proofs.MoveLemmas.{rotated-parts}
+use Rattle.xf_tree.proofs.CutLemmas.{all-deep-zero, tree-parts, stops-after}
 use Rattle.xf_tree.proofs.PlaceLemmas.{split-at}
 
 -- a list in three parts

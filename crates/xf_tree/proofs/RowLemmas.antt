@@ -1,10 +1,9 @@
 -- One step of the loops that go back over the rows before a place.
-use Rattle.std.proofs.Common.{◌≡◌, ℕ, ◌+◌, ◌-◌, ◌<◌, List, [], ◌∷◌, ◌++◌, length, take, drop, reverse, map, get_or, set, refl, sym, ap, ◌∙◌, arith, length-append, length-take, length-drop}
-use Rattle.std.proofs.lemmas.List.{take_more, take-set, drop-set, reverse-append, get_or_default, length-map}
+use Rattle.std.proofs.Common.{◌≡◌, ℕ, ◌+◌, ◌-◌, ◌<◌, List, [], ◌∷◌, ◌++◌, length, take, drop, reverse, map, get_or, set, ap, ◌∙◌, arith, length-append, length-take, length-drop}
+use Rattle.std.proofs.lemmas.List.{take_more, reverse-append, get_or_default, length-map}
 use Rattle.std.proofs.lemmas.List.Edits.{map_over_more}
 use Rattle.xf_tree.specs.declared.rows.Row.{Row}
 use Rattle.xf_tree.specs.Rows.{raised}
-use Rattle.std.proofs.Math.Seq.{drop-cons}
 
 pub reverse-take : {X : Type 0} (xs : List X) (i : ℕ) (d : X) → i < length xs → reverse (take (i + 1) xs) ≡ get_or xs i d ∷ reverse (take i xs)
 reverse-take xs i d h = ap reverse (take_more xs i d h) ∙ reverse-append (take i xs) (get_or xs i d ∷ [])

@@ -1,13 +1,12 @@
 -- Which nodes are above a visited one: those that are open there.
-use Rattle.std.proofs.Common.{◌≡◌, ℕ, zero, suc, ◌+◌, ◌<◌, ◌≤◌, ◌==◌, ◌||◌, ◌&&◌, not, Bool, true, false, cond, if◌then◌else◌, List, [], ◌∷◌, ◌++◌, map, length, find, nat_lt, Option, Some, None, refl, sym, ap, ◌∙◌, subst, inl, inr, arith, append_assoc}
+use Rattle.std.proofs.Common.{◌≡◌, ℕ, ◌<◌, ◌≤◌, ◌==◌, ◌||◌, true, false, List, [], ◌∷◌, ◌++◌, find, nat_lt, Some, None, refl, sym, ap, ◌∙◌, inl, inr, arith, append_assoc}
 use Rattle.std.specs.List.{flat_map}
-use Rattle.std.proofs.lemmas.Bool.{cases_Bool, true≢false, false≢true, cases_lt}
+use Rattle.std.proofs.lemmas.Bool.{cases_Bool, true≢false, cases_lt}
 use Rattle.std.proofs.lemmas.Bool.Decides.{nat_tests}
 use Rattle.xf_doc.specs.declared.content.Node.{Node}
-use Rattle.xf_doc.specs.declared.content.Content.{Content}
-use Rattle.xf_doc.specs.Forest.{has_number, past, below, own_text}
+use Rattle.xf_doc.specs.Forest.{has_number, below, own_text}
 use Rattle.xf_doc.specs.Visit.{Visit, still_above, numbers, visit, visits_from, visits, has, first_of, ancestors_of, above_in, parent_of}
-use Rattle.xf_doc.specs.StringValue.{characters, text_below, value_of, value_in, string_value}
+use Rattle.xf_doc.specs.StringValue.{characters, text_below, value_in, string_value}
 use Rattle.xf_doc.proofs.RunLemmas.{AreDeeper}
 use Rattle.xf_tree.proofs.NodeLemmas.{Parted, eq-true, eq-turned}
 use Rattle.xf_tree.proofs.SizedLemmas.{lt-true, lt-false}

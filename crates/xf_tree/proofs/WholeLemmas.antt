@@ -1,7 +1,7 @@
 -- What is new stands in trees of its own: so it is seen from one node to the next.
-use Rattle.std.proofs.Common.{◌≡◌, ℕ, zero, suc, ◌+◌, ◌<◌, ◌≤◌, ◌&&◌, not, Bool, true, false, List, [], ◌∷◌, map, nat_lt, refl, sym, ap, ◌∙◌, subst, inl, inr, arith}
+use Rattle.std.proofs.Common.{◌≡◌, ℕ, suc, ◌<◌, ◌≤◌, ◌&&◌, not, Bool, true, false, List, [], ◌∷◌, map, nat_lt, refl, sym, ◌∙◌, subst, inl, inr, arith}
 use Rattle.std.specs.List.{list_all}
-use Rattle.std.proofs.lemmas.Bool.{cases_Bool, cases_lt, true≢false, false≢true}
+use Rattle.std.proofs.lemmas.Bool.{cases_Bool, cases_lt, false≢true}
 use Rattle.xf_doc.specs.declared.content.Node.{Node}
 use Rattle.xf_doc.specs.Forest.{is_root}
 use Rattle.xf_doc.specs.Visit.{still_above, numbers, visit, visits_from, visits}
@@ -9,7 +9,7 @@ use Rattle.xf_doc.specs.Needs.{is_new, goes_or_stays}
 use Rattle.slab.specs.Slab.{Slab}
 use Rattle.xf_tree.specs.declared.rows.Row.{Row}
 use Rattle.xf_tree.specs.declared.slot.Slot.{Slot}
-use Rattle.xf_tree.specs.Tree.{node_of, depths, AreSteps, IsSound}
+use Rattle.xf_tree.specs.Tree.{node_of, AreSteps, IsSound}
 use Rattle.xf_tree.specs.Older.{AreWhole}
 use Rattle.xf_tree.proofs.SizedLemmas.{lt-true, lt-false}
 use Rattle.xf_tree.proofs.KidLemmas.{node_depths}

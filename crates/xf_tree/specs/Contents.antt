@@ -1,5 +1,5 @@
 -- The contents of literal trees, one after another, and what holds of each such part of a tree.
-use Rattle.std.specs.Prelude.{ℕ, Bool, ◌&&◌, nat_lt, nat_le, length, ◌≤◌, ◌≡◌, ◌^◌, true, false, ◌++◌, List, [], ◌∷◌, map, flat_map}
+use Rattle.std.specs.Prelude.{ℕ, Bool, ◌&&◌, nat_lt, nat_le, length, ◌≤◌, ◌≡◌, ◌^◌, true, false, List, [], ◌∷◌, map, flat_map}
 use Rattle.xf_name.specs.Bindings.{Bindings}
 use Rattle.xf_name.specs.declared.lit.Lit.{Lit}
 use Rattle.xf_name.specs.declared.lit.LitElement.{LitElement, fold-LitElement}

@@ -1,5 +1,5 @@
 -- A forest's shape: rows in document order, each with its depth and with how many rows its tree has.
-use Rattle.std.specs.Prelude.{ℕ, suc, ◌≡◌, ◌+◌, ◌-◌, ◌≤◌, ◌<◌, ◌^◌, Bool, true, false, List, [], ◌∷◌, ◌++◌, map, take, drop, reverse, length, nat_lt, ◌==◌, Option, Some, None, slice_index_or, if◌then◌else◌}
+use Rattle.std.specs.Prelude.{ℕ, suc, ◌≡◌, ◌+◌, ◌-◌, ◌≤◌, List, [], ◌∷◌, ◌++◌, map, take, drop, reverse, length, nat_lt, ◌==◌, Option, Some, None, if◌then◌else◌}
 use Rattle.xf_tree.specs.declared.rows.Row.{Row}
 
 -- how many rows at the front are deeper than this: as many as a node of this depth has below it

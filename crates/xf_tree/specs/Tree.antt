@@ -1,11 +1,11 @@
 -- What the rows and the slots stand for: the list of a forest's nodes, and the texts that are kept beside it.
-use Rattle.std.specs.Prelude.{ℕ, zero, suc, ◌≡◌, ◌+◌, ◌-◌, ◌≤◌, ◌<◌, ◌^◌, ◌==◌, length, slice_index_or, Bool, true, false, List, [], ◌∷◌, ◌++◌, take, drop, map, Option, Some, None, IsSome, count_by, sum_by, not, ◌&&◌, if◌then◌else◌}
+use Rattle.std.specs.Prelude.{ℕ, suc, ◌≡◌, ◌+◌, ◌-◌, ◌≤◌, ◌<◌, ◌^◌, ◌==◌, length, slice_index_or, Bool, true, false, List, [], ◌∷◌, ◌++◌, take, drop, map, Option, Some, None, IsSome, count_by, sum_by, not, ◌&&◌, if◌then◌else◌}
 use Rattle.std.specs.List.{flat_map}
 use Rattle.slab.specs.Slab.{Slab, get, Updates}
 use Rattle.xf_doc.specs.declared.content.Node.{Node}
 use Rattle.xf_doc.specs.declared.content.Content.{Content}
 use Rattle.xf_doc.specs.declared.content.Content.TheVariants.{Root}
-use Rattle.xf_doc.specs.Forest.{Forest, is_root, is_attribute, is_text, own_text}
+use Rattle.xf_doc.specs.Forest.{is_root, is_attribute, is_text, own_text}
 use Rattle.xf_doc.specs.Changes.{in_instances}
 use Rattle.xf_doc.specs.Limits.{node_count, all_size, size_of}
 use Rattle.xf_doc.specs.StringValue.{characters}

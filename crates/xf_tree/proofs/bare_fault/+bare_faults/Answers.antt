@@ -1,4 +1,4 @@
-use Rattle.std.proofs.Common.{◌≡◌, ◌+◌, ◌∷◌, Option, Some, None, drop, sym, ap, ◌∙◌, add-one}
+use Rattle.std.proofs.Common.{◌≡◌, ◌+◌, ◌∷◌, Some, None, drop, sym, ap, ◌∙◌, add-one}
 use Rattle.std.proofs.lemmas.Result.{IfOk-weaker}
 use Rattle.std.proofs.Math.Seq.{drop-cons}
 use Rattle.xf_doc.specs.Planted.{first_fault, bare_fault, or_later, elements_of_bare}

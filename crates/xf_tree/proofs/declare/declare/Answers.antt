@@ -1,5 +1,4 @@
 use Rattle.std.proofs.Common.{◌≡◌, ◌++◌, reverse, sym, ap, ◌∙◌, subst}
-use Rattle.std.specs.Str.{bytes_eq}
 use Rattle.std.proofs.lemmas.Result.{on_ok_weaker}
 use Rattle.xf_doc.specs.Printed.{pair, with_pair, with_prefix}
 use Rattle.xf_tree.proofs.PairLemmas.{declared-stays, declared-more, not-false}

@@ -1,4 +1,4 @@
-use Rattle.std.proofs.Common.{◌≡◌, sym, ap, ◌∙◌}
+use Rattle.std.proofs.Common.{sym, ap, ◌∙◌}
 use Rattle.std.specs.Str.{bytes_eq}
 use Rattle.xf_name.specs.declared.lit.Pair.{Pair}
 use Rattle.xf_tree.proofs.PairLemmas.{place-taken}

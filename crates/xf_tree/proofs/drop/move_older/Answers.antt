@@ -1,9 +1,5 @@
-use Rattle.std.proofs.Common.{◌≡◌, ℕ, ◌+◌, ◌-◌, ◌<◌, ◌≤◌, length, take, drop, map, refl, sym, ap, ◌∙◌, subst, arith, get_or}
-use Rattle.std.specs.Prelude.{filter}
-use Rattle.xf_doc.specs.Limits.{node_count, all_size}
-use Rattle.xf_tree.specs.Rows.{tree_of}
-use Rattle.xf_tree.specs.Tree.{node_of, no_row, KeepsBut}
-use Rattle.xf_tree.specs.Older.{is_older, is_newer}
+use Rattle.std.proofs.Common.{◌+◌, ◌<◌, ◌≤◌, length, arith, get_or}
+use Rattle.xf_tree.specs.Tree.{no_row}
 use Rattle.xf_tree.proofs.PlaceLemmas.{tree-size}
 use Rattle.xf_tree.proofs.MoveOlderLemmas.{moving-start, moving-older, moving-newer, end-within, size-is, slice-apart}
 use Rattle.xf_tree.proofs.drop.move_older.Goals as goal

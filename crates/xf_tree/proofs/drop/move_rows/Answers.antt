@@ -1,4 +1,4 @@
-use Rattle.std.proofs.Common.{◌≡◌, ◌≤◌, ap, ◌∙◌, arith}
+use Rattle.std.proofs.Common.{◌≡◌, ap, ◌∙◌, arith}
 use Rattle.std.specs.List.{copy_within}
 use Rattle.xf_tree.proofs.MoveOlderLemmas.{moved-none}
 use Rattle.xf_tree.proofs.drop.move_rows.Goals as goal

@@ -1,12 +1,10 @@
-use Rattle.std.proofs.Common.{◌≡◌, ◌+◌, ◌∷◌, ℕ, suc, List, Option, Some, None, drop, get_or, sym, ap, ◌∙◌, subst, add-one}
+use Rattle.std.proofs.Common.{◌≡◌, ◌+◌, ◌∷◌, ℕ, suc, Some, None, drop, sym, ap, ◌∙◌, subst, add-one}
 use Rattle.std.specs.Prelude.{IfOk, Result, Ok, Err}
 use Rattle.std.proofs.Math.Seq.{drop-cons}
 use Rattle.xf_name.specs.Faults.{name_fault}
 use Rattle.xf_name.specs.Shown.{walk_of_all}
 use Rattle.xf_name.specs.Written.{Walk, walk_of, walk_of_element, default_below}
-use Rattle.xf_name.specs.declared.lit.Lit.{Lit}
 use Rattle.xf_name.proofs.WalkLemmas.{walk_of-Element}
-use Rattle.xf_doc.specs.declared.fault.TreeFault.{TreeFault}
 use Rattle.xf_doc.specs.Planted.{first_fault, written_fault, fault_by, is_unknown_space, or_later}
 use Rattle.xf_tree.proofs.FaultLemmas.{later-fault, found-fault, element-fault}
 use Rattle.xf_tree.proofs.fault.+faults.Goals as goal

@@ -1,4 +1,4 @@
-use Rattle.std.proofs.Common.{◌≡◌, ◌≤◌, length, arith}
+use Rattle.std.proofs.Common.{◌≤◌, length, arith}
 use Rattle.xf_tree.proofs.ParentLemmas.{hint-parent}
 use Rattle.xf_tree.proofs.ClimbLemmas.{size-above, top-alone}
 use Rattle.xf_tree.proofs.lookup.above_row.Goals as goal

@@ -1,7 +1,6 @@
-use Rattle.std.proofs.Common.{◌≡◌, ℕ, ◌+◌, ◌-◌, ◌<◌, ◌≤◌, length, take, drop, get_or, cond, true, false, inl, inr, refl, sym, ap, ◌∙◌, arith}
+use Rattle.std.proofs.Common.{ℕ, ◌+◌, ◌<◌, ◌≤◌, length, get_or, cond, inl, inr, sym, ap, ◌∙◌, arith}
 use Rattle.std.proofs.lemmas.Bool.{cases_lt}
-use Rattle.xf_tree.specs.Rows.{tree_of}
-use Rattle.xf_tree.specs.Tree.{no_row, kin_in}
+use Rattle.xf_tree.specs.Tree.{no_row}
 use Rattle.xf_tree.proofs.CutLemmas.{tree-within}
 use Rattle.xf_tree.proofs.PlaceLemmas.{tree-size}
 use Rattle.xf_tree.proofs.AboveLemmas.{inside-deeper, kin-skip, above-within}

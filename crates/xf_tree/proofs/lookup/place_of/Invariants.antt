@@ -1,4 +1,4 @@
-use Rattle.std.proofs.Common.{◌≡◌, ◌≤◌, ◌+◌, ◌-◌, length, take, drop}
+use Rattle.std.proofs.Common.{◌≡◌, ◌≤◌, ◌+◌, ◌-◌, take, drop}
 use Rattle.xf_tree.specs.Tree.{kin_in}
 use Rattle.xf_tree.proofs.lookup.place_of.Given as goal
 

@@ -1,10 +1,6 @@
-use Rattle.std.proofs.Common.{◌≡◌, ◌<◌, ◌≤◌, ◌-◌, length, map, drop, get_or, refl, sym, ap, ◌∙◌, arith}
-use Rattle.std.proofs.lemmas.List.{get_or_default}
-use Rattle.slab.specs.Slab.{get}
-use Rattle.xf_doc.specs.Forest.{is_root}
+use Rattle.std.proofs.Common.{map, drop, sym, ap, ◌∙◌, arith}
 use Rattle.xf_doc.specs.Changes.{root_of}
-use Rattle.xf_tree.specs.declared.rows.Row.{Row}
-use Rattle.xf_tree.specs.Tree.{node_of, content_in, no_row}
+use Rattle.xf_tree.specs.Tree.{node_of}
 use Rattle.xf_tree.proofs.RootLemmas.{root-other, root-more}
 use Rattle.xf_tree.proofs.lookup.root_row.Goals as goal
 use Rattle.xf_tree.proofs.lookup.root_row.Goals.{then-is_root_at+else-left-eq0, else-is_root_at}

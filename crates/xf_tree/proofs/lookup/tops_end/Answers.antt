@@ -1,4 +1,4 @@
-use Rattle.std.proofs.Common.{◌≡◌, sym, ◌∙◌}
+use Rattle.std.proofs.Common.{sym, ◌∙◌}
 use Rattle.xf_tree.proofs.RootLemmas.{instances-more}
 use Rattle.xf_tree.proofs.lookup.tops_end.Goals as goal
 

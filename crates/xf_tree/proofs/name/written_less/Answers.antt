@@ -1,7 +1,7 @@
-use Rattle.std.proofs.Common.{sym, ◌∙◌}
+use Rattle.std.proofs.Common.{◌∙◌}
 use Rattle.xf_doc.specs.Plant.{written_of}
 use Rattle.xf_tree.proofs.WrittenLemmas.{less-end, less-start, less-here, less-more, less-stop}
-use Rattle.std.proofs.Common.{◌≡◌, ◌≤◌, length, subst, arith}
+use Rattle.std.proofs.Common.{arith}
 use Rattle.xf_tree.proofs.name.written_less.Goals as goal
 
 pub returns-in_default : goal.returns-in_default

@@ -1,10 +1,8 @@
-use Rattle.std.proofs.Common.{◌≡◌, ◌+◌, ◌++◌, ◌∷◌, ℕ, List, drop, get_or, refl, sym, ap, ◌∙◌, subst, arith, append_assoc, add-one}
+use Rattle.std.proofs.Common.{◌≡◌, ◌+◌, ◌++◌, ◌∷◌, ℕ, drop, sym, ap, ◌∙◌, subst, append_assoc, add-one}
 use Rattle.std.proofs.lemmas.Result.{on_ok_weaker}
-use Rattle.std.proofs.lemmas.List.{get_or_default}
 use Rattle.std.proofs.Math.Seq.{drop-cons}
 use Rattle.std.specs.List.{filter_map}
 use Rattle.xf_name.specs.Bindings.{resolved}
-use Rattle.xf_name.specs.declared.lit.Lit.{Lit}
 use Rattle.xf_doc.specs.declared.content.Content.{Content}
 use Rattle.xf_doc.specs.declared.content.Content.TheVariants.{Element}
 use Rattle.xf_doc.specs.Plant.{contents_of, default_below, element_name, at_depth, in_order, attribute_in}

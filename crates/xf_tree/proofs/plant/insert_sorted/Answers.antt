@@ -1,4 +1,4 @@
-use Rattle.std.proofs.Common.{◌≡◌, take, drop, reverse, sym, ap, ◌∙◌, subst}
+use Rattle.std.proofs.Common.{take, drop, reverse, ap, ◌∙◌, subst}
 use Rattle.xf_tree.specs.Contents.{AllLess, EndsNotLess}
 use Rattle.xf_tree.proofs.WrittenLemmas.{insert-place}
 use Rattle.xf_tree.proofs.plant.insert_sorted.Goals as goal

@@ -1,4 +1,4 @@
-use Rattle.std.proofs.Common.{sym, ◌∙◌, arith}
+use Rattle.std.proofs.Common.{sym, ◌∙◌}
 use Rattle.xf_tree.proofs.WrittenLemmas.{ends-at}
 use Rattle.xf_tree.proofs.plant.place_of.Goals as goal
 

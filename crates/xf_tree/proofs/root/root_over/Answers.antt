@@ -1,9 +1,8 @@
-use Rattle.std.proofs.Common.{◌≡◌, ℕ, ◌+◌, ◌-◌, ◌<◌, ◌≤◌, ◌^◌, List, [], ◌∷◌, ◌++◌, map, length, take, drop, get_or, refl, sym, ap, ◌∙◌, subst, arith, length-append}
-use Rattle.std.specs.List.{All}
+use Rattle.std.proofs.Common.{◌≡◌, ℕ, ◌+◌, ◌<◌, ◌≤◌, List, [], ◌∷◌, ◌++◌, map, length, take, drop, get_or, refl, sym, ap, ◌∙◌, subst, arith}
 use Rattle.std.proofs.lemmas.List.{get_or_default}
 use Rattle.xf_doc.specs.Changes.{in_instances}
 use Rattle.xf_tree.specs.declared.rows.Row.{Row}
-use Rattle.xf_tree.specs.Rows.{Sized, deeper, deepened, tree_of, after_tree, rest_of}
+use Rattle.xf_tree.specs.Rows.{Sized, deeper, deepened, tree_of, rest_of}
 use Rattle.xf_tree.specs.Tree.{node_of, no_row}
 use Rattle.xf_tree.proofs.CutLemmas.{size-at, tree-within}
 use Rattle.xf_tree.proofs.RootedLemmas.{rest-sized, rooted-is, rest-front, depths-fit}

@@ -1,5 +1,5 @@
-use Rattle.std.proofs.Common.{◌≡◌, ◌+◌, ◌-◌, ◌<◌, length, take, drop, get_or, reverse, refl, sym, ap, ◌∙◌, arith, subst, length-drop}
-use Rattle.xf_tree.specs.Rows.{Sized, tree_of, top_depth, raised_part, rotated, shrunk, IsCut}
+use Rattle.std.proofs.Common.{◌≡◌, ◌+◌, ◌-◌, ◌<◌, length, drop, get_or, sym, ap, ◌∙◌, arith, subst, length-drop}
+use Rattle.xf_tree.specs.Rows.{Sized, tree_of, raised_part, rotated}
 use Rattle.xf_tree.proofs.CutLemmas.{cut-steps, cut-sized, sized-take, sized-drop, depth-at, no_row}
 use Rattle.xf_tree.proofs.rows.cut.Goals as goal
 

@@ -1,4 +1,4 @@
-use Rattle.std.proofs.Common.{◌≡◌, ◌<◌, length, take, drop, get_or, refl, arith}
+use Rattle.std.proofs.Common.{arith}
 use Rattle.xf_tree.proofs.PasteLemmas.{deepen-step}
 use Rattle.xf_tree.proofs.rows.deepen_all.Goals as goal
 

@@ -1,4 +1,4 @@
-use Rattle.std.proofs.Common.{◌≡◌, ◌+◌, ap, arith}
+use Rattle.std.proofs.Common.{◌+◌, ap, arith}
 use Rattle.xf_tree.proofs.CutLemmas.{no_row, size-at, tree-within}
 use Rattle.xf_tree.proofs.rows.end_of.Goals as goal
 

@@ -1,9 +1,7 @@
-use Rattle.std.proofs.Common.{◌≡◌, ◌+◌, ◌-◌, ◌<◌, ◌≤◌, ◌^◌, ◌∷◌, List, length, take, get_or, sym, ap, ◌∙◌, subst, arith, length-take}
-use Rattle.std.proofs.lemmas.List.{get_or-take}
-use Rattle.xf_tree.specs.declared.rows.Row.{Row}
+use Rattle.std.proofs.Common.{◌+◌, ◌-◌, get_or}
 use Rattle.xf_tree.specs.Rows.{grown}
 use Rattle.xf_tree.specs.Tree.{no_row}
-use Rattle.xf_tree.proofs.ClimbLemmas.{grown-passes, grown-changes, sized-here, row-here, climb-past, climb-over}
+use Rattle.xf_tree.proofs.ClimbLemmas.{grown-passes, grown-changes, sized-here, climb-past, climb-over}
 use Rattle.xf_tree.proofs.rows.grow.Goals as goal
 
 pub above_end-left-requires-clause-sized : goal.above_end-left-requires-clause-sized

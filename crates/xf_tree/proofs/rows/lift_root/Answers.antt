@@ -1,6 +1,5 @@
-use Rattle.std.proofs.Common.{◌≡◌, ◌+◌, ◌-◌, ◌<◌, ◌≤◌, ◌^◌, length, refl, arith}
+use Rattle.std.proofs.Common.{◌≡◌, ◌+◌, ◌-◌, ◌≤◌, length, arith}
 use Rattle.xf_tree.proofs.RootedLemmas.{rooted-steps}
-use Rattle.xf_tree.proofs.PasteLemmas.{fits-part}
 use Rattle.xf_tree.proofs.rows.lift_root.Goals as goal
 
 pub returns : goal.returns

@@ -1,4 +1,3 @@
-use Rattle.std.proofs.Common.{◌≡◌, ◌+◌, length, ap, ◌∙◌}
 use Rattle.xf_tree.proofs.RootedLemmas.{last-moved}
 use Rattle.xf_tree.proofs.rows.move_last.Goals as goal
 

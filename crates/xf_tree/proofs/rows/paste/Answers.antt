@@ -1,7 +1,7 @@
-use Rattle.std.proofs.Common.{◌≡◌, ℕ, ◌+◌, ◌-◌, ◌<◌, ◌≤◌, ◌^◌, List, length, take, drop, reverse, refl, sym, ap, ◌∙◌, arith, subst}
+use Rattle.std.proofs.Common.{◌≡◌, ◌+◌, ◌-◌, ◌<◌, ◌≤◌, ◌^◌, length, take, drop, sym, ap, ◌∙◌, arith, subst}
 use Rattle.std.specs.List.{All}
 use Rattle.xf_tree.specs.declared.rows.Row.{Row}
-use Rattle.xf_tree.specs.Rows.{Sized, tree_of, top_depth, deepened_part, rotated, grown, IsPaste}
+use Rattle.xf_tree.specs.Rows.{tree_of, deepened_part, rotated}
 use Rattle.xf_tree.proofs.PasteLemmas.{paste-steps, paste-keeps, room-for, fits-part, after-grown}
 use Rattle.xf_tree.proofs.rows.paste.Goals as goal
 

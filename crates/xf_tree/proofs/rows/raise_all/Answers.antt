@@ -1,4 +1,4 @@
-use Rattle.std.proofs.Common.{◌≡◌, ◌<◌, length, take, drop, get_or, refl, arith}
+use Rattle.std.proofs.Common.{arith}
 use Rattle.xf_tree.proofs.RowLemmas.{raise-step}
 use Rattle.xf_tree.proofs.rows.raise_all.Goals as goal
 

@@ -1,4 +1,3 @@
-use Rattle.std.proofs.Common.{◌≡◌, ◌∙◌, ap}
 use Rattle.xf_tree.proofs.MoveLemmas.{turned-rotated}
 use Rattle.xf_tree.proofs.rows.rotate.Goals as goal
 

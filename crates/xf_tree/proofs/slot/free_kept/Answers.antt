@@ -1,4 +1,4 @@
-use Rattle.std.proofs.Common.{◌≡◌, get_or, refl}
+use Rattle.std.proofs.Common.{get_or, refl}
 use Rattle.xf_tree.proofs.FreeLemmas.{free-kept_more, less-more}
 use Rattle.xf_tree.proofs.slot.free_kept.Goals as goal
 

@@ -1,4 +1,4 @@
-use Rattle.std.proofs.Common.{◌≡◌, ◌≤◌, ℕ, map, take}
+use Rattle.std.proofs.Common.{◌≤◌, ℕ, map, take}
 use Rattle.slab.specs.Slab.{get}
 use Rattle.xf_doc.specs.Limits.{size_of}
 use Rattle.xf_tree.specs.Tree.{kept_of, content_in, KeepsButKept}

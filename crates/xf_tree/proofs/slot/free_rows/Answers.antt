@@ -1,6 +1,4 @@
-use Rattle.std.proofs.Common.{◌≡◌, ◌+◌, ◌-◌, ℕ, map, take, not, cond, get_or, refl, sym, ap, ◌∙◌, arith}
-use Rattle.std.proofs.lemmas.List.{get_or_default}
-use Rattle.slab.specs.Slab.{get}
+use Rattle.std.proofs.Common.{ℕ, not, cond, get_or, refl, ap, arith}
 use Rattle.xf_doc.specs.Forest.{is_root}
 use Rattle.xf_doc.specs.Limits.{size_of}
 use Rattle.xf_tree.specs.Tree.{content_in, no_row}

@@ -1,5 +1,5 @@
-use Rattle.std.proofs.Common.{◌≡◌, ◌<◌, length, nat_lt, true, false, not, sym, ap, refl, arith}
-use Rattle.xf_tree.specs.Tree.{texts_in, no_row}
+use Rattle.std.proofs.Common.{◌<◌, length, not, sym, ap}
+use Rattle.xf_tree.specs.Tree.{texts_in}
 use Rattle.xf_tree.proofs.SizedLemmas.{lt-true}
 use Rattle.xf_tree.proofs.TextLemmas.{texts-over}
 use Rattle.xf_tree.proofs.text.fits.Goals as goal

@@ -1,4 +1,4 @@
-use Rattle.std.proofs.Common.{◌≡◌, length, ◌∙◌}
+use Rattle.std.proofs.Common.{length, ◌∙◌}
 use Rattle.xf_tree.proofs.PushLemmas.{nodes-later, live-unsized}
 use Rattle.xf_tree.proofs.tree.push_tree.Goals as goal
 

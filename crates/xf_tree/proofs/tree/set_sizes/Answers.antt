@@ -1,7 +1,6 @@
-use Rattle.std.proofs.Common.{◌≡◌, ◌+◌, ◌-◌, ◌<◌, ◌≤◌, length, map, take, drop, get_or, set, refl, sym, ap, ◌∙◌, subst, arith, length-set}
-use Rattle.xf_tree.specs.declared.rows.Row.{Row}
-use Rattle.xf_tree.specs.Rows.{Sized, deeper}
-use Rattle.xf_tree.specs.Tree.{no_row, unsized}
+use Rattle.std.proofs.Common.{◌≡◌, ◌+◌, ◌-◌, ◌<◌, ◌≤◌, length, take, drop, get_or, refl, sym, subst, arith, length-set}
+use Rattle.xf_tree.specs.Rows.{Sized}
+use Rattle.xf_tree.specs.Tree.{no_row}
 use Rattle.xf_tree.proofs.PushLemmas.{size-step}
 use Rattle.xf_tree.proofs.tree.set_sizes.Goals as goal
 

@@ -1,5 +1,4 @@
-use Rattle.std.proofs.Common.{◌≡◌, ◌+◌, ◌-◌, ◌<◌, ◌≤◌, length, drop, get_or, sym, ap, ◌∙◌, arith}
-use Rattle.xf_tree.specs.Rows.{deeper}
+use Rattle.std.proofs.Common.{◌+◌, get_or, arith}
 use Rattle.xf_tree.specs.Tree.{no_row}
 use Rattle.xf_tree.proofs.PushLemmas.{next-within, end-more}
 use Rattle.xf_tree.proofs.tree.tree_end.Goals as goal

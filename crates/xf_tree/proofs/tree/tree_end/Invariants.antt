@@ -1,6 +1,5 @@
-use Rattle.std.proofs.Common.{◌≡◌, ◌≤◌, ◌+◌, ◌-◌, length, drop, get_or}
+use Rattle.std.proofs.Common.{◌≡◌, ◌≤◌, ◌+◌, ◌-◌, length, drop}
 use Rattle.xf_tree.specs.Rows.{deeper}
-use Rattle.xf_tree.specs.Tree.{no_row}
 use Rattle.xf_tree.proofs.tree.tree_end.Given as goal
 
 abbrev pub invariant-loop-next : goal.invariant-loop-next

@@ -1,10 +1,6 @@
-use Rattle.std.proofs.Common.{◌≡◌, ◌+◌, ◌-◌, ◌*◌, ◌^◌, ◌<◌, ◌≤◌, ℕ, List, map, length, take, drop, refl, sym, ap, ◌∙◌, subst, arith, vec_len, vec_capacity}
-use Rattle.slab.specs.Slab.{Slab, get}
-use Rattle.xf_doc.specs.Limits.{size_of}
-use Rattle.xf_doc.specs.Texts.{Keeping}
-use Rattle.xf_tree.specs.declared.rows.Row.{Row}
+use Rattle.std.proofs.Common.{◌≡◌, ◌+◌, ◌^◌, ◌<◌, ◌≤◌, length, sym, ap, ◌∙◌, subst, arith, vec_capacity}
 use Rattle.xf_tree.specs.Calls.{with_contents}
-use Rattle.xf_tree.specs.Tree.{IsState, AllLive, content_in, keeping_of, size_of_all}
+use Rattle.xf_tree.specs.Tree.{IsState, AllLive, keeping_of, size_of_all}
 use Rattle.xf_tree.proofs.PushLemmas.{kept-live}
 use Rattle.xf_tree.proofs.AddLemmas.{same-state, same-view, room-same, added-state, added-view, bytes-most}
 use Rattle.xf_tree.proofs.forest.Forest.add.Goals as goal

@@ -1,13 +1,12 @@
-use Rattle.std.proofs.Common.{◌≡◌, ◌+◌, ◌-◌, ◌^◌, ◌<◌, ◌≤◌, ◌==◌, ℕ, List, Some, true, false, map, length, get_or, option_map, refl, sym, ap, ◌∙◌, subst, arith, vec_len, vec_capacity}
-use Rattle.slab.specs.Slab.{Slab, get}
+use Rattle.std.proofs.Common.{◌≡◌, ◌+◌, ◌^◌, ◌<◌, ◌≤◌, ◌==◌, Some, true, length, get_or, option_map, sym, ap, ◌∙◌, subst, arith, vec_capacity}
+use Rattle.slab.specs.Slab.{get}
 use Rattle.xf_doc.specs.declared.content.Node.{Node}
 use Rattle.xf_doc.specs.declared.content.Kind.TheVariants as kind
 use Rattle.xf_doc.specs.Changes.{with_root}
 use Rattle.xf_doc.specs.Forest.{kind_of, kind_at, is_element}
 use Rattle.xf_doc.specs.Needs.{is_top}
 use Rattle.xf_doc.specs.Texts.{Keeping}
-use Rattle.xf_tree.specs.declared.rows.Row.{Row}
-use Rattle.xf_tree.specs.Tree.{IsState, StandsAt, node_of, kept_of, content_in, keeping_of, no_row}
+use Rattle.xf_tree.specs.Tree.{IsState, StandsAt, content_in, keeping_of, no_row}
 use Rattle.xf_tree.proofs.PlaceLemmas.{stands, one_of, content-means}
 use Rattle.xf_tree.proofs.PushLemmas.{insert-keeps}
 use Rattle.xf_tree.proofs.AddLemmas.{same-state, same-view, room-same, kept-same, kept-texts, named-meets, zero-depth, element-is, stands-same}

@@ -1,10 +1,9 @@
-use Rattle.std.proofs.Common.{◌≡◌, ◌-◌, ◌≤◌, ℕ, List, [], ◌++◌, map, length, take, drop, refl, sym, ap, ◌∙◌, subst, arith, vec_capacity, length-take}
+use Rattle.std.proofs.Common.{◌≡◌, ◌-◌, ◌≤◌, ℕ, List, [], map, length, take, drop, sym, ap, ◌∙◌, subst, arith, vec_capacity, length-take}
 use Rattle.std.proofs.lemmas.List.{take-append-drop, map-append}
 use Rattle.xf_doc.specs.declared.content.Node.{Node}
 use Rattle.xf_doc.specs.Changes.{in_instances}
 use Rattle.xf_doc.specs.Limits.{node_count, all_size}
 use Rattle.xf_doc.specs.Texts.{Keeping, without_detached}
-use Rattle.xf_tree.specs.declared.rows.Row.{Row}
 use Rattle.xf_tree.specs.Rows.{deeper}
 use Rattle.xf_tree.specs.Tree.{node_of, kept_of, times, KeepsBut, IsState}
 use Rattle.xf_tree.proofs.NodeLemmas.{times-append}

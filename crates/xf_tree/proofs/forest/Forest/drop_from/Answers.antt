@@ -1,4 +1,4 @@
-use Rattle.std.proofs.Common.{◌≡◌, ℕ, ◌≤◌, List, [], map, length, true, false, refl, sym, ap, ◌∙◌, subst, arith, nat_lt, vec_capacity}
+use Rattle.std.proofs.Common.{◌≡◌, ℕ, List, [], map, true, false, sym, ap, ◌∙◌, subst, arith, nat_lt, vec_capacity}
 use Rattle.std.specs.Prelude.{filter}
 use Rattle.std.specs.List.{list_all}
 use Rattle.xf_doc.specs.declared.content.Node.{Node}

@@ -1,4 +1,4 @@
-use Rattle.std.proofs.Common.{◌≡◌, Some, option_map, sym, ap, ◌∙◌, subst}
+use Rattle.std.proofs.Common.{Some, option_map, sym, ap, ◌∙◌, subst}
 use Rattle.std.proofs.lemmas.List.{get_or_default}
 use Rattle.slab.specs.Slab.{get}
 use Rattle.xf_doc.specs.Forest.{kind_of, kind_at}

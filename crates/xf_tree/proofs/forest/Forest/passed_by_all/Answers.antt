@@ -1,9 +1,8 @@
-use Rattle.std.proofs.Common.{◌≡◌, ◌+◌, ◌<◌, ◌≤◌, ◌++◌, Option, map, length, sym, ap, ◌∙◌, subst, arith}
-use Rattle.xf_doc.specs.declared.fault.TreeFault.{TreeFault}
+use Rattle.std.proofs.Common.{◌<◌, ◌≤◌, ◌++◌, map, ap, ◌∙◌, arith}
 use Rattle.xf_doc.specs.Limits.{limits, node_count, all_size, passed_by_all}
 use Rattle.xf_doc.specs.Plant.{numbered_from}
 use Rattle.xf_doc.specs.Texts.{Keeping}
-use Rattle.xf_tree.specs.Tree.{node_of, size_of_all}
+use Rattle.xf_tree.specs.Tree.{node_of}
 use Rattle.xf_tree.proofs.AddLemmas.{count-with, size-with, passed-nodes, passed-bytes, passed-none}
 use Rattle.xf_tree.proofs.forest.Forest.passed_by_all.Goals as goal
 

@@ -1,9 +1,8 @@
-use Rattle.std.proofs.Common.{◌≡◌, ◌+◌, ◌<◌, ◌≤◌, ◌++◌, true, false, List, map, length, sym, ap, ◌∙◌, subst, arith}
-use Rattle.xf_doc.specs.declared.content.Node.{Node}
-use Rattle.xf_doc.specs.Limits.{limits, node_count, all_size, passed_by_tree, has_long_text, is_too_deep}
+use Rattle.std.proofs.Common.{◌<◌, ◌≤◌, ◌++◌, map, sym, ap, ◌∙◌, arith}
+use Rattle.xf_doc.specs.Limits.{limits, node_count, all_size, passed_by_tree}
 use Rattle.xf_doc.specs.Plant.{numbered_from}
 use Rattle.xf_doc.specs.Texts.{Keeping}
-use Rattle.xf_tree.specs.Tree.{node_of, size_of_all}
+use Rattle.xf_tree.specs.Tree.{node_of}
 use Rattle.xf_tree.proofs.AddLemmas.{count-with, size-with}
 use Rattle.xf_tree.proofs.FaultLemmas.{long-numbered, deep-numbered, tree-nodes, tree-long, tree-bytes, tree-deep, tree-none}
 use Rattle.xf_tree.proofs.forest.Forest.passed_by_tree.Goals as goal
