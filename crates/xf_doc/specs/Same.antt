@@ -1,6 +1,6 @@
 -- Forests that are the same but for the numbers of their nodes. Definitions compare numbers and do nothing else with them, so that each
--- goes with a renumbering; shapes, which have numbers of their own for texts, go with one that keeps these, and `without_from` alone,
--- which only undoing calls, with none.
+-- goes with a renumbering; shapes, which have numbers of their own for texts, go with one that keeps these. What says that numbers are
+-- new or old goes with none: `without_from` and what it needs, and that all numbers are below the next one.
 use Rattle.std.specs.Prelude.{ℕ, ◌≡◌, ◌==◌, map}
 use Rattle.xf_doc.specs.declared.content.Node.{Node}
 use Rattle.xf_doc.specs.Forest.{Forest}

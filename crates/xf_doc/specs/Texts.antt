@@ -130,7 +130,7 @@ put_back n (element_texts ns) k = record {
 abbrev pub without_detached : Keeping → Keeping
 without_detached k = record { forest = record k.forest { nodes = in_instances k.forest.nodes }; kept = [] }
 
--- no node is left with this number or a later one, and it is the next number again; here alone numbers are compared by size
+-- no node is left with this number or a later one, and it is the next number again: the one change that compares numbers by size
 abbrev pub without_from : ℕ → Keeping → Keeping
 without_from number k = record {
   forest = record { nodes = filter (λ x. nat_lt x.number number) k.forest.nodes; next = number };

@@ -1,5 +1,5 @@
--- What every forest keeps: its numbers differ, its depths are those of trees, and each node stands where its kind may (XPath 1.0,
--- section 5).
+-- When a forest is that of instance data: its numbers differ, its depths are those of trees, and each node stands where its kind may
+-- (XPath 1.0, section 5). `AreTrees` is what no change of a forest takes away.
 use Rattle.std.specs.Prelude.{ℕ, suc, ◌≡◌, Bool, true, false, not, ◌&&◌, ◌||◌, List, [], ◌∷◌, length, filter, nat_lt, nat_le, ◌==◌, Option, Some, if◌then◌else◌}
 use Rattle.std.specs.List.{list_any, list_all}
 use Rattle.std.specs.Str.{bytes_eq}

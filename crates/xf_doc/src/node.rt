@@ -6,7 +6,8 @@ ghost use Rattle.std.specs.List.{list_any};
 use std::alloc::{AllocError, Global};
 use std::marker::Model;
 
-/// A node of a forest. Its number is never given to another; the place is a hint of whoever keeps the forest.
+/// A node of a forest. Its number is given to no other, but where the forest is rolled back before it came; the place is a hint of whoever
+/// keeps the forest.
 #[derive(Clone, Copy, Debug)]
 pub struct NodeId {
     pub number: u128,

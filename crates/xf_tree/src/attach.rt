@@ -13,8 +13,8 @@ ghost use Rattle.xf_tree.specs.Tree.{node_of, content_in, no_row, AreSteps, dept
 ghost use Rattle.xf_tree.specs.Below.{attribute_at, child_at, row_below, elements_over, IsBehind, IsPlaced};
 
 use crate::child::count_lesser;
-use crate::fault::DEPTH_LIMIT;
 use crate::forest::Forest;
+use crate::limits::DEPTH_LIMIT;
 use crate::lookup::{Hint, is_kin_at, note_parent, note_rows, parent_row, row_of};
 use crate::rows::{Row, end_of, paste_in, put_last};
 use crate::slot::{Slot, is_attribute_at, is_element_at};

@@ -10,6 +10,7 @@ ghost use Rattle.xf_doc.specs.Planted.{planted};
 
 use crate::fault::{has_deep, has_long, lit_fault};
 use crate::forest::Forest;
+use crate::limits::{ALL_LIMIT, NODE_LIMIT, ROW_LIMIT};
 use crate::lookup::{note_rows, parent_row, place_of, row_of};
 use crate::plant::contents_of_lit;
 use crate::root::root_over;
@@ -19,13 +20,6 @@ use crate::tree::{Part, contents_of, push_tree, size_of_tree};
 use std::alloc::{AllocError, Global};
 use xf_doc::{NodeId, TreeFault};
 use xf_name::{Lit, Prefixes};
-
-// The limits of nodes and of bytes in a forest, and one more than it ever has rows and kept texts.
-const NODE_LIMIT: usize = 65536;
-
-const ALL_LIMIT: u128 = 4194304;
-
-const ROW_LIMIT: usize = 2147483648;
 
 impl Forest {
     ghost use Rattle.xf_tree.specs.Calls.{with_contents};

@@ -9,14 +9,11 @@ ghost use Rattle.xf_doc.specs.Limits.{limits};
 ghost use Rattle.xf_doc.specs.Planted.{lit_fault, written_fault, first_fault, fault_by, is_unknown_space};
 ghost use Rattle.xf_tree.specs.Contents.{is_long, is_deep};
 
+use crate::limits::{DEPTH_LIMIT, TEXT_LIMIT};
 use crate::tree::Part;
 use std::alloc::AllocError;
 use xf_doc::{Content, TreeFault};
 use xf_name::{Lit, LitElement, NameFault, Pair, Prefixes};
-
-const TEXT_LIMIT: usize = 65536;
-
-pub const DEPTH_LIMIT: u32 = 100;
 
 /// The fault of the first element that has one.
 pub fn lit_fault(prefixes: &Prefixes, lit: &Lit) -> Result<Option<TreeFault>, AllocError>

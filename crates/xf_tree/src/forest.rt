@@ -73,7 +73,7 @@ impl Forest {
         self.next
     }
 
-    /// The node with a number, where it stands in the forest.
+    /// The node with a number, where it stands in the forest. Looks through all rows: with a `NodeId` at hand, `is_live` is quicker.
     pub fn find(&self, number: u128) -> Option<NodeId>
         ensures number { IfSome result (λ n. n.number ≡ number) }
         ensures live { MatchOption result (has_number number self.now.forest.nodes ≡ false) (λ n. IsLive n.number self.now.forest) }

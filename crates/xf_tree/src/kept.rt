@@ -7,6 +7,7 @@ ghost use Rattle.xf_doc.specs.Limits.{node_count, all_size, size_of};
 ghost use Rattle.xf_tree.specs.Tree.{content_in, node_of, kept_of, times, kept_times, KeepsBut, KeepsButKept};
 ghost use Rattle.xf_tree.specs.Texts.{passed_by, valued_slot, owned_slot, text_slot, text_count, IsOwned, children, keys_of, numbers_at, numbers_in, text_row, places_of, is_wanted, is_left, no_text, moved_text};
 
+use crate::limits::{ALL_LIMIT, NODE_LIMIT, ROW_LIMIT, TEXT_LIMIT};
 use crate::rows::Row;
 use crate::slot::{Slot, free_node, is_attribute_at, number_of, size_in};
 use slab::Slab;
@@ -14,16 +15,6 @@ use std::alloc::AllocError;
 use std::mem;
 use xf_doc::{Content, NodeId, TreeFault};
 use xf_name::Word;
-
-// The limits of nodes in a forest, of bytes in a text, and of bytes in a forest.
-const NODE_LIMIT: usize = 65536;
-
-const TEXT_LIMIT: usize = 65536;
-
-const ALL_LIMIT: u128 = 4194304;
-
-// One more than a forest ever has rows and kept texts.
-const ROW_LIMIT: usize = 2147483648;
 
 /// The limit that is passed by so many nodes, a text of so many bytes, and so many bytes together.
 pub fn passed(count: usize, text: usize, bytes: u128) -> Option<TreeFault>

@@ -15,6 +15,7 @@ mod forest;
 mod gather;
 mod kept;
 mod law;
+mod limits;
 mod lookup;
 mod may;
 mod name;

@@ -8,11 +8,11 @@ ghost use Rattle.xf_tree.specs.Tree.{node_of, number_in, content_in};
 ghost use Rattle.xf_tree.specs.Print.{is_inside};
 
 use crate::rows::Row;
-use crate::slot::Slot;
+use crate::slot::{Slot, is_text};
 use indexmap::IndexSet;
 use slab::Slab;
 use std::alloc::{AllocError, Global};
-use xf_doc::{Content, NodeList};
+use xf_doc::NodeList;
 
 /// The numbers of nodes, to be looked up.
 pub fn numbers_of(alloc: Global, nodes: &NodeList) -> Result<IndexSet<u128>, AllocError>
@@ -84,14 +84,5 @@ fn is_kept(slots: &Slab<Slot>, key: usize, kept: &IndexSet<u128>) -> bool
     match slots.get(key) {
         Some(slot) => is_text(&slot.content) || kept.contains(&slot.number),
         None => kept.contains(&0),
-    }
-}
-
-fn is_text(content: &Content) -> bool
-    ensures { result ≡ is_text content.now }
-{
-    match content {
-        Content::Text(_) => true,
-        _ => false,
     }
 }

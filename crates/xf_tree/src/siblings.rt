@@ -1,6 +1,5 @@
 //! The place of a node among its siblings, as a path has it.
 ghost use Rattle.std.specs.Prelude.{◌≡◌, ◌+◌, ◌<◌, ◌≤◌, length, nat_lt, slice_index_or};
-ghost use Rattle.xf_doc.specs.Forest.{is_text};
 ghost use Rattle.xf_tree.specs.Rows.{Sized, AllDeep};
 ghost use Rattle.xf_tree.specs.Siblings.{same_sort, is_like};
 ghost use Rattle.xf_tree.specs.Tree.{node_of, no_row};
@@ -9,7 +8,7 @@ ghost use Rattle.xf_tree.specs.Walks.{between, chosen};
 use crate::fault::is_element;
 use crate::name::same_written;
 use crate::rows::{Row, end_of};
-use crate::slot::Slot;
+use crate::slot::{Slot, is_text};
 use slab::Slab;
 use xf_doc::Content;
 
@@ -20,15 +19,6 @@ fn same_sort(like: &Content, other: &Content) -> bool
     match like {
         Content::Element(_) => is_element(other) && same_written(like, other),
         Content::Text(_) => is_text(other),
-        _ => false,
-    }
-}
-
-fn is_text(content: &Content) -> bool
-    ensures { result ≡ is_text content.now }
-{
-    match content {
-        Content::Text(_) => true,
         _ => false,
     }
 }

@@ -2,7 +2,7 @@
 ghost use Rattle.std.specs.Prelude.{◌≡◌, ◌-◌, ◌≤◌, ◌^◌, ℕ, not, cond, map, option_map, None, IfOk};
 ghost use Rattle.slab.specs.Slab.{get, Updates};
 ghost use Rattle.xf_doc.specs.Limits.{node_count, all_size, size_of};
-ghost use Rattle.xf_doc.specs.Forest.{is_root, is_element, is_attribute, kind_of, name_in, own_text};
+ghost use Rattle.xf_doc.specs.Forest.{is_root, is_element, is_attribute, is_text, kind_of, name_in, own_text};
 ghost use Rattle.xf_doc.specs.Plant.{is_less, written_of};
 ghost use Rattle.xf_doc.specs.StringValue.{characters};
 ghost use Rattle.xf_doc.specs.WellFormed.{have_same_name};
@@ -123,6 +123,15 @@ pub fn is_attribute_at(slots: &Slab<Slot>, key: usize) -> bool
             _ => false,
         },
         None => false,
+    }
+}
+
+pub fn is_text(content: &Content) -> bool
+    ensures { result ≡ is_text content.now }
+{
+    match content {
+        Content::Text(_) => true,
+        _ => false,
     }
 }
 

@@ -1,5 +1,5 @@
 //! String values.
-ghost use Rattle.std.specs.Prelude.{◌≡◌, ◌++◌, ◌<◌, length, nat_lt, not, IfOk, OnOk, string_bytes};
+ghost use Rattle.std.specs.Prelude.{◌≡◌, ◌++◌, ◌<◌, length, nat_lt, not, true, IfOk, string_bytes};
 ghost use Rattle.xf_doc.specs.StringValue.{within};
 ghost use Rattle.xf_tree.specs.Rows.{Sized};
 ghost use Rattle.xf_tree.specs.Tree.{texts_in, text_of};
@@ -23,37 +23,37 @@ pub fn text_at(
     ensures { IfOk result (λ text. text ≡ within most (text_of slots.now rows.now at)) }
 {
     let first = own(slots, rows[at].key);
-    let rest = &rows[at + 1..end_of(rows, at)];
-    if first.len() > most || !fits(rest, slots, most - first.len()) {
+    if first.len() > most {
         return Ok(None);
     }
+    let left = most - first.len();
     let mut text = String::new(alloc);
     text.push_str(first)?;
-    push_texts(rest, slots, &mut text)?;
-    Ok(Some(Word::from_string(text)))
+    if push_texts(&rows[at + 1..end_of(rows, at)], slots, left, &mut text)? {
+        Ok(Some(Word::from_string(text)))
+    } else {
+        Ok(None)
+    }
 }
 
-/// Whether the texts of these rows have no more bytes than that together.
-fn fits(rows: &[Row], slots: &Slab<Slot>, most: usize) -> bool
-    ensures { result ≡ not (nat_lt most (length (texts_in slots.now rows.now))) }
+/// Appends the texts of these rows, one after another, and tells whether they have no more bytes than that together.
+fn push_texts(
+    rows: &[Row],
+    slots: &Slab<Slot>,
+    most: usize,
+    text: &mut String,
+) -> Result<bool, AllocError>
+    ensures fits { IfOk result (λ fits. fits ≡ not (nat_lt most (length (texts_in slots.now rows.now)))) }
+    ensures added { IfOk result (λ fits. fits ≡ true → string_bytes text.new ≡ string_bytes text.old ++ texts_in slots.now rows.now) }
 {
     let mut left = most;
     for row in rows {
-        let size = below(slots, row.key).len();
-        if size > left {
-            return false;
+        let part = below(slots, row.key);
+        if part.len() > left {
+            return Ok(false);
         }
-        left -= size;
+        left -= part.len();
+        text.push_str(part)?;
     }
-    true
-}
-
-/// Appends the texts of these rows, one after another.
-fn push_texts(rows: &[Row], slots: &Slab<Slot>, text: &mut String) -> Result<(), AllocError>
-    ensures { OnOk result (string_bytes text.new ≡ string_bytes text.old ++ texts_in slots.now rows.now) }
-{
-    for row in rows {
-        text.push_str(below(slots, row.key))?;
-    }
-    Ok(())
+    Ok(true)
 }

@@ -29,7 +29,7 @@ pub enum Left {
     Back { above: usize, at: usize, depth: u32 },
 }
 
-/// The nodes on an axis, nearest first. It costs what it yields.
+/// The nodes on an axis, nearest first. It costs what it yields, and a look at each attribute that it passes.
 #[derive(Drop)]
 pub struct Walk<'a> {
     pub(crate) rows: &'a [Row],

@@ -1,20 +1,18 @@
 -- The children of a node by their parents, where no number comes twice.
 use Rattle.std.proofs.Common.{◌≡◌, ℕ, ◌==◌, Bool, true, false, not, cond, ◌&&◌, ◌||◌, List, [], ◌∷◌, map, Option, Some, None, refl, sym, ap, ◌∙◌, subst, inl, inr, arith}
-use Rattle.std.specs.Prelude.{filter, find}
-use Rattle.std.specs.List.{list_any}
+use Rattle.std.specs.Prelude.{filter}
 use Rattle.std.proofs.lemmas.Bool.{cases_Bool}
 use Rattle.std.proofs.lemmas.Bool.Decides.{nat_tests}
 use Rattle.xf_doc.specs.declared.content.Node.{Node}
 use Rattle.xf_doc.specs.declared.content.Content.{Content}
 use Rattle.xf_doc.specs.declared.content.Content.TheVariants.{Root, Element, Attribute, Text}
 use Rattle.xf_doc.specs.declared.content.Kind.{Kind}
-use Rattle.xf_doc.specs.declared.content.Kind.TheVariants as kind
 use Rattle.xf_doc.specs.Forest.{is_attribute, kind_of, kind_at, has_number}
 use Rattle.xf_doc.specs.Texts.{is_attribute_at}
-use Rattle.xf_doc.specs.Visit.{Visit, still_above, visits_from, visits, is_first, first_of, above_in, parent_of, has, children_of}
+use Rattle.xf_doc.specs.Visit.{Visit, still_above, visits_from, visits, is_first, first_of, parent_of, has, children_of}
 use Rattle.xf_doc.specs.WellFormed.{are_apart}
 use Rattle.xf_undo.specs.Children.{is_number, is_attribute_kind}
-use Rattle.xf_doc.proofs.BackLaws.{and-true, or-false, not-true, false-true, one_number, attribute-absent}
+use Rattle.xf_doc.proofs.BackLaws.{and-true, or-false, not-true, one_number, attribute-absent}
 
 -- ---- attributes
 
@@ -47,6 +45,11 @@ attribute-test k m (x ∷ xs) apart h =
 
 pub attribute-none : (m : ℕ) (nodes : List Node) → has_number m nodes ≡ false → is_attribute_at m nodes ≡ false
 attribute-none m nodes h = attribute-absent m nodes h
+
+-- a node that is not told live does not stand there
+pub not-live : (there told : Bool) → (there ≡ true → told ≡ true) → told ≡ false → there ≡ false
+not-live true told tells h = sym (tells refl) ∙ h
+not-live false told tells h = refl
 
 -- ---- children
 

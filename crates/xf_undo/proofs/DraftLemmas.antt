@@ -1,12 +1,11 @@
 -- A draft after each change: what is kept stays the forest that was kept.
-use Rattle.std.proofs.Common.{◌≡◌, ℕ, ◌==◌, Bool, true, false, ◌&&◌, ◌||◌, List, [], ◌∷◌, ◌++◌, map, length, Option, Some, None, Ok, Err, refl, sym, ap, ◌∙◌, subst, inl, inr, arith}
-use Rattle.std.specs.Prelude.{Result, if◌then◌else◌}
-use Rattle.std.specs.List.{list_any, list_all}
-use Rattle.std.proofs.lemmas.Bool.{cases_Bool}
+use Rattle.std.proofs.Common.{◌≡◌, ℕ, ◌==◌, Bool, true, false, ◌&&◌, ◌||◌, List, [], ◌∷◌, ◌++◌, length, Option, Some, None, Ok, refl, sym, ap, ◌∙◌, subst, arith}
+use Rattle.std.specs.Prelude.{if◌then◌else◌}
+use Rattle.std.specs.List.{list_any}
 use Rattle.std.proofs.lemmas.Bool.Decides.{nat_tests}
 use Rattle.xf_doc.specs.declared.content.Node.{Node}
 use Rattle.xf_doc.specs.declared.fault.TreeFault.{TreeFault}
-use Rattle.xf_doc.specs.Forest.{Forest, own_text, tree_of}
+use Rattle.xf_doc.specs.Forest.{Forest, tree_of}
 use Rattle.xf_doc.specs.Visit.{numbers}
 use Rattle.xf_doc.specs.Limits.{Limits, limits, passed_by_text, unless}
 use Rattle.xf_doc.specs.Texts.{Keeping, KeptText, Before, attribute_text, element_texts, is_attribute_at, texts_in, value_in, kept_from, before_of, taken_from, with_text as forest_with_text, text_set}

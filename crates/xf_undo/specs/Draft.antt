@@ -1,5 +1,5 @@
 -- A forest as it was kept and as it stands.
-use Rattle.std.specs.Prelude.{ℕ, ◌≡◌, List, [], Result, Ok, Err}
+use Rattle.std.specs.Prelude.{ℕ, [], Result, Ok, Err}
 use Rattle.xf_doc.specs.declared.fault.TreeFault.{TreeFault}
 use Rattle.xf_doc.specs.Forest.{Forest}
 use Rattle.xf_doc.specs.Texts.{Keeping, Before}

@@ -1,5 +1,5 @@
 -- What a ledger keeps beside its entries, so that a filling need not look through them.
-use Rattle.std.specs.Prelude.{ℕ, suc, ◌≡◌, ◌≤◌, Bool, true, false, List, [], ◌∷◌, drop, Option, None, is_some, nat_eq}
+use Rattle.std.specs.Prelude.{ℕ, ◌≡◌, ◌≤◌, Bool, true, false, List, [], ◌∷◌, drop, None, is_some, nat_eq}
 use Rattle.std.specs.List.{list_any, list_all}
 use Rattle.indexmap.specs.IndexMap.{IndexMap, get, spare}
 use Rattle.xf_doc.specs.Undo as undo

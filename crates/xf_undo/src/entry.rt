@@ -65,10 +65,10 @@ fn is_child(node: NodeId, forest: &Forest, child: NodeId) -> bool
     if is_attribute(forest, child) {
         return false;
     }
-    match forest.find(child.number) {
-        Some(child) => is_below(node, forest.parent(child)),
-        None => false,
+    if !forest.is_live(child) {
+        return false;
     }
+    is_below(node, forest.parent(child))
 }
 
 /// Whether the node is this one.
@@ -86,10 +86,10 @@ fn is_attribute(forest: &Forest, node: NodeId) -> bool
     requires { are_apart forest.now.forest.nodes ≡ true }
     ensures { result ≡ is_attribute_at node.number forest.now.forest.nodes }
 {
-    match forest.find(node.number) {
-        Some(node) => is_attribute_kind(forest.kind(node)),
-        None => false,
+    if !forest.is_live(node) {
+        return false;
     }
+    is_attribute_kind(forest.kind(node))
 }
 
 /// Whether this is the kind of an attribute.

@@ -1,7 +1,8 @@
-use Rattle.std.proofs.Common.{◌≡◌, ◌++◌, take}
+use Rattle.std.proofs.Common.{◌≡◌, ◌+◌, ◌++◌, length, take}
 use Rattle.std.specs.Prelude.{string_bytes}
 use Rattle.xf_tree.specs.Tree.{texts_in}
 use Rattle.xf_tree.proofs.text.push_texts.Given as goal
 
 abbrev pub invariant-loop-row : goal.invariant-loop-row
-invariant-loop-row l = string_bytes l.text ≡ string_bytes l.fn.text ++ texts_in l.slots (take l.row-index l.rows)
+invariant-loop-row l =
+    (l.left + length (texts_in l.slots (take l.row-index l.rows)) ≡ l.most) × (string_bytes l.text ≡ string_bytes l.fn.text ++ texts_in l.slots (take l.row-index l.rows))

@@ -1,8 +1,9 @@
-use Rattle.std.proofs.Common.{◌≡◌, ℕ, Bool, true, false, not, ◌&&◌, Option, refl, sym, ap, ◌∙◌}
+use Rattle.std.proofs.Common.{◌≡◌, Bool, true, false, not, ◌&&◌, refl, sym, ap, ◌∙◌}
+use Rattle.xf_doc.specs.Forest.{has_number}
 use Rattle.xf_doc.specs.Texts.{is_attribute_at}
 use Rattle.xf_doc.specs.Visit.{visits, parent_of}
 use Rattle.xf_undo.specs.Children.{is_number}
-use Rattle.xf_undo.proofs.ChildLemmas.{child-test, child-none}
+use Rattle.xf_undo.proofs.ChildLemmas.{child-test, child-none, not-live}
 use Rattle.xf_undo.proofs.entry.is_child.Goals as goal
 
 and-false : (b : Bool) → (b && false) ≡ false
@@ -21,14 +22,16 @@ returns-then-is_attribute c =
     let is : is_attribute_at m nodes ≡ true = sym c.is_attribute.ensures ∙ c.if-is_attribute.true in
     sym (child-test m n nodes c.requires ∙ ap (λ b. is_number (parent_of m (visits nodes)) n && not b) is ∙ and-false (is_number (parent_of m (visits nodes)) n))
 
-pub returns-in-Some : goal.returns-in-Some
-returns-in-Some c =
+pub returns-then-not-is_live : goal.returns-then-not-is_live
+returns-then-not-is_live c =
+    let nodes = c.args.forest.now.forest.nodes in
+    sym (child-none c.args.child.number c.args.node.number nodes (not-live (has_number c.args.child.number nodes) c.is_live.result c.is_live.ensures.1 c.if-not-is_live.true))
+
+pub returns : goal.returns
+returns c =
     let nodes = c.args.forest.now.forest.nodes in
     let m = c.args.child.number in
     let n = c.args.node.number in
     let other : is_attribute_at m nodes ≡ false = sym c.is_attribute.ensures ∙ c.if-is_attribute.false in
-    c.is_below.ensures ∙ ap (λ o. is_number o n) (c.parent.ensures ∙ ap (λ i. parent_of i (visits nodes)) c.in-Some.ensures.number)
+    c.is_below.ensures ∙ ap (λ o. is_number o n) c.parent.ensures
     ∙ sym (child-test m n nodes c.requires ∙ ap (λ b. is_number (parent_of m (visits nodes)) n && not b) other ∙ and-true (is_number (parent_of m (visits nodes)) n))
-
-pub returns-in-None : goal.returns-in-None
-returns-in-None c = sym (child-none c.args.child.number c.args.node.number c.args.forest.now.forest.nodes c.in-None.ensures.live)

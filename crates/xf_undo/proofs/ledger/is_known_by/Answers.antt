@@ -1,4 +1,4 @@
-use Rattle.std.proofs.Common.{◌≡◌, sym, ◌∙◌, arith}
+use Rattle.std.proofs.Common.{sym, ◌∙◌}
 use Rattle.xf_undo.proofs.IndexLemmas.{unlisted, known-at}
 use Rattle.xf_undo.proofs.ledger.is_known_by.Goals as goal
 

@@ -1,4 +1,4 @@
-use Rattle.std.proofs.Common.{◌≡◌, Ok, sym, ap, ◌∙◌, subst}
+use Rattle.std.proofs.Common.{Ok, sym, ap, ◌∙◌, subst}
 use Rattle.xf_doc.specs.Changes.{attached}
 use Rattle.xf_doc.specs.Limits.{limits}
 use Rattle.xf_doc.specs.Needs.{MayAttach}

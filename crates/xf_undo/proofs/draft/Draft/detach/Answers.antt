@@ -1,4 +1,4 @@
-use Rattle.std.proofs.Common.{◌≡◌, sym, ap, ◌∙◌, subst}
+use Rattle.std.proofs.Common.{sym, ap, ◌∙◌, subst}
 use Rattle.xf_doc.specs.Changes.{detached}
 use Rattle.xf_doc.specs.Needs.{MayDetach}
 use Rattle.xf_doc.specs.Texts.{Keeping}

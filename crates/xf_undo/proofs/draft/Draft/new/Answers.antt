@@ -1,4 +1,4 @@
-use Rattle.std.proofs.Common.{◌≡◌, sym, ap, ◌∙◌}
+use Rattle.std.proofs.Common.{sym, ap, ◌∙◌}
 use Rattle.xf_doc.specs.Texts.{Keeping, without_detached}
 use Rattle.xf_doc.specs.Undo.{kept_at}
 use Rattle.xf_undo.specs.Draft.{draft_of}

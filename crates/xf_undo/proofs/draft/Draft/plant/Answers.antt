@@ -1,7 +1,5 @@
-use Rattle.std.proofs.Common.{◌≡◌, ℕ, Ok, refl, sym, ap, ◌∙◌, subst}
-use Rattle.xf_doc.specs.Forest.{Forest}
+use Rattle.std.proofs.Common.{Ok, refl, sym, ap, ◌∙◌}
 use Rattle.xf_doc.specs.Limits.{limits}
-use Rattle.xf_doc.specs.Texts.{Keeping}
 use Rattle.xf_rollback.specs.Made.{Made}
 use Rattle.xf_undo.specs.Draft.{Draft, with_tree}
 use Rattle.xf_doc.specs.Planted.{planted}

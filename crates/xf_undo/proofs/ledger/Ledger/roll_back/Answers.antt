@@ -1,4 +1,4 @@
-use Rattle.std.proofs.Common.{◌≡◌, ap, ◌∙◌}
+use Rattle.std.proofs.Common.{ap, ◌∙◌}
 use Rattle.xf_doc.specs.Texts.{without_from}
 use Rattle.xf_doc.specs.Undo.{rolled_back}
 use Rattle.xf_rollback.proofs.Laws.{rolls_back}
