@@ -32,6 +32,29 @@ pub const ROWS: [Part<'static>; 9] = [
 // ["e",{"k":"y"}]
 pub const ONE: [Part<'static>; 3] = [Part::Open("e"), Part::With("k", "y"), Part::Close];
 
+// Trees with a bad name, with a prefix that is not declared, with both, with an attribute that comes twice, and with a prefix
+// that is declared otherwise.
+const BAD: [Part<'static>; 4] = [Part::Open("d"), Part::Open("1x"), Part::Close, Part::Close];
+
+const UNKNOWN: [Part<'static>; 2] = [Part::Open("q:d"), Part::Close];
+
+const BOTH: [Part<'static>; 5] = [
+    Part::Open("d"),
+    Part::Open("q:d"),
+    Part::With("a b", ""),
+    Part::Close,
+    Part::Close,
+];
+
+const TWICE: [Part<'static>; 4] = [
+    Part::Open("d"),
+    Part::With("k", "1"),
+    Part::With("k", "2"),
+    Part::Close,
+];
+
+const REBOUND: [Part<'static>; 3] = [Part::Open("d"), Part::With("xmlns:p", "urn:q"), Part::Close];
+
 /// Asserts what steps write on an empty forest.
 pub fn assert_play(
     rt: &(impl Abort + AllocGlobal),
@@ -81,28 +104,12 @@ fn a_tree_is_planted_in_document_order(rt: HostRuntime) -> Result<(), Fail> {
 
 #[test]
 fn a_bad_name_is_told_before_a_prefix(rt: HostRuntime) -> Result<(), Fail> {
-    let bad = [Part::Open("d"), Part::Open("1x"), Part::Close, Part::Close];
-    let unknown = [Part::Open("q:d"), Part::Close];
-    let both = [
-        Part::Open("d"),
-        Part::Open("q:d"),
-        Part::With("a b", ""),
-        Part::Close,
-        Part::Close,
-    ];
-    let twice = [
-        Part::Open("d"),
-        Part::With("k", "1"),
-        Part::With("k", "2"),
-        Part::Close,
-    ];
-    let rebound = [Part::Open("d"), Part::With("xmlns:p", "urn:q"), Part::Close];
     let steps = [
-        Step::Plant(&bad),
-        Step::Plant(&unknown),
-        Step::Plant(&both),
-        Step::Plant(&twice),
-        Step::Plant(&rebound),
+        Step::Plant(&BAD),
+        Step::Plant(&UNKNOWN),
+        Step::Plant(&BOTH),
+        Step::Plant(&TWICE),
+        Step::Plant(&REBOUND),
         Step::Next,
         Step::Plant(&ONE),
     ];
