@@ -278,4 +278,4 @@ set-may l n text k after before trees able e = by (passed_by_text l (length text
 
 pub put_back-requires : goal.put_back-requires
 put_back-requires c =
-    set-may limits c.args.node.number c.args.text.now c.args.self.now.forest c.set_text.new.self c.in-Ok.before c.are_trees.ensures c.if-not-may_set_text.ensures c.in-Ok.ensures.answer
+    set-may limits c.args.node.number c.args.text.now c.args.self.now.forest c.set_text.new.self c.in-Ok.before c.are_trees.ensures (c.if-not-may_set_text.ensures.0 refl) c.in-Ok.ensures.answer
