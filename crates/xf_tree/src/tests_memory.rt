@@ -9,7 +9,7 @@ use std::test::Fail;
 use xf_doc::NodeId;
 
 // 0 to 6 come as the tree of ROWS, 7 is its root, 8 to 14 are the same tree out of the bare one, 15 to 19 the copy of its row, and
-// 20 is the new text of the first row. Attributes are named before texts: 2 is @k.
+// 20 is the new text of the first row.
 const STEPS: [Step<'static>; 7] = [
     Step::Plant(&ROWS),
     Step::Root(0),
@@ -68,7 +68,8 @@ fn a_change_without_memory_leaves_the_forest(rt: HostRuntime) -> Result<(), Fail
         attempt(&rt, &mut stage, step)?;
     }
     let words = written(rt.alloc(), &stage.forest)?;
-    let want = "0<7=12newt 1<0=new 2<1=a longer text 3<1=7 6<0=t 7=12newt 8=12t 9<8=12 10<9=x 11<9=7 12<9=1 13<9=2 14<8=t 15<0=12 16<15=x 17<15=7 18<15=1 19<15=2 20<1=new 21";
+    let want =
+        "0<7=12newt 1<0=new 2<1=a longer text 3<1=7 6<0=t 7=12newt 8=12t 9<8=12 10<9=x 11<9=7 12<9=1 13<9=2 14<8=t 15<0=12 16<15=x 17<15=7 18<15=1 19<15=2 20<1=new 21";
     assert_eq!(rt; words.as_str(), want);
     Ok(())
 }

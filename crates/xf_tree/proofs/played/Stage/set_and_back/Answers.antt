@@ -130,11 +130,11 @@ module _ (n : ℕ) where
         | inl e ↦
             rw e
             (ap (λ b. b || list_any child (visits_from (x ∷ still_above x.depth stay) (with_content x.depth (one_text next text) xs))) (visit-none stay x h)
-              ∙ content-none x (still_above x.depth stay) (one_text next text) xs (texts-none next text (suc x.depth)) (still-lacks x.depth stay h) (gone-after n x xs apart e))
+            ∙ content-none x (still_above x.depth stay) (one_text next text) xs (texts-none next text (suc x.depth)) (still-lacks x.depth stay h) (gone-after n x xs apart e))
         | inr e ↦
             rw e
             (ap (λ b. b || list_any child (visits_from (x ∷ still_above x.depth stay) (with_texts n (one_text next text) xs))) (visit-none stay x h)
-              ∙ with-none next text (x ∷ still_above x.depth stay) xs (lacks-more x stay e h) (and-true (not (has_number x.number xs)) (are_apart xs) apart).1)
+            ∙ with-none next text (x ∷ still_above x.depth stay) xs (lacks-more x stay e h) (and-true (not (has_number x.number xs)) (are_apart xs) apart).1)
       ]
 
   texts-kind : (texts nodes : List Node) → kind_at n (with_texts n texts nodes) ≡ kind_at n nodes
