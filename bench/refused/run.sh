@@ -21,7 +21,7 @@ for ((number = 1; ; number++)); do
     fi
     if [ "$status" -eq 0 ]; then
         passed=$((passed + 1))
-    elif [ "$status" -lt 128 ] && grep -qi 'memory' "$work/said" "$work/told"; then
+    elif [ "$status" -lt 128 ] && grep -qE '^error: (AllocError|AllocFailed .*|Memory)$' "$work/told"; then
         ended=$((ended + 1))
     else
         echo "allocation $number refused: status $status"
