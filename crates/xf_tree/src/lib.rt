@@ -36,6 +36,8 @@ mod spaces;
 #[cfg(test)]
 mod tests;
 #[cfg(test)]
+mod tests_memory;
+#[cfg(test)]
 mod tests_texts;
 mod text;
 mod tree;

@@ -1,4 +1,7 @@
 //! Steps played on a forest, and what they write: a test is a list of steps and the text that it expects.
+ghost use Rattle.std.specs.Prelude.{IsTrue};
+ghost use Rattle.xf_tree.specs.Print.{MayPrint};
+
 use crate::Forest;
 use crate::written::{Part, push_number, push_tree, tree};
 use std::alloc::Global;
@@ -26,6 +29,8 @@ pub enum Step<'a> {
     Print(u128, &'a [u128]),
     /// The same out of the bare tree that it is, planted in another forest.
     Bare(u128),
+    /// A tree comes once more, out of the bare tree that it is.
+    PlantBare(u128),
     Value(u128),
     Path(u128),
     Walk(u128, Axis),
@@ -40,18 +45,13 @@ pub enum Step<'a> {
 pub struct Stage {
     alloc: Global,
     prefixes: Prefixes,
-    forest: Forest,
-    words: String,
+    pub forest: Forest,
+    pub words: String,
 }
 
 /// What the steps write on an empty forest, with the prefixes that a form declares.
 pub fn play(alloc: Global, form: &[Part], steps: &[Step]) -> Result<String, Fail> {
-    let mut stage = Stage {
-        alloc,
-        prefixes: collect(alloc, &tree(alloc, form)?)?,
-        forest: Forest::new(alloc),
-        words: String::new(alloc),
-    };
+    let mut stage = Stage::new(alloc, form)?;
     for step in steps {
         stage.step(*step)?;
         stage.words.push_str(" ")?;
@@ -80,7 +80,18 @@ fn name_of(fault: TreeFault) -> &'static str {
 }
 
 impl Stage {
-    fn step(&mut self, step: Step) -> Result<(), Fail> {
+    /// An empty forest.
+    pub fn new(alloc: Global, form: &[Part]) -> Result<Stage, Fail> {
+        let prefixes = collect(alloc, &tree(alloc, form)?)?;
+        Ok(Stage {
+            alloc,
+            prefixes,
+            forest: Forest::new(alloc),
+            words: String::new(alloc),
+        })
+    }
+
+    pub fn step(&mut self, step: Step) -> Result<(), Fail> {
         match step {
             Step::Plant(parts) => self.plant(parts),
             Step::Root(top) => self.root(node(top)),
@@ -92,7 +103,10 @@ impl Stage {
             }
             Step::Double(top, count) => self.double(node(top), count),
             Step::Set(number, text) => self.set(node(number), text),
-            Step::SetAndBack(number, text) => self.set_and_back(node(number), text),
+            Step::SetAndBack(number, text) => {
+                let word = self.set_and_back(node(number), text);
+                self.say(word)
+            }
             Step::Drop => {
                 self.forest.drop_detached();
                 self.say("dropped")
@@ -106,6 +120,7 @@ impl Stage {
         match step {
             Step::Print(number, kept) => self.print(node(number), kept),
             Step::Bare(number) => self.bare(node(number)),
+            Step::PlantBare(number) => self.plant_bare(node(number)),
             Step::Value(number) => self.value(node(number)),
             Step::Path(number) => self.path(node(number)),
             Step::Walk(number, axis) => self.walk(node(number), axis),
@@ -114,7 +129,7 @@ impl Stage {
                 let root = self.forest.root(0);
                 self.say_node(root)
             }
-            _ => self.say_number(self.forest.next_number()),
+            _ => self.next(),
         }
     }
 
@@ -142,11 +157,6 @@ impl Stage {
         }
     }
 
-    /// Whether numbers are left.
-    fn has_numbers(&self) -> bool {
-        self.forest.next_number() < 1 << 126
-    }
-
     fn plant(&mut self, parts: &[Part]) -> Result<(), Fail> {
         let lit = tree(self.alloc, parts)?;
         if self.forest.next_number() >= 1 << 126 {
@@ -160,8 +170,10 @@ impl Stage {
         if self.forest.next_number() >= 1 << 126 || !self.forest.may_root(top) {
             return self.say("no");
         }
-        let root = self.forest.add_root(top)?;
-        self.say_number(root.number)
+        match self.forest.add_root(top) {
+            Ok(root) => self.say_number(root.number),
+            Err(_) => self.say("Memory"),
+        }
     }
 
     fn copy(&mut self, node: NodeId) -> Result<(), Fail> {
@@ -200,7 +212,12 @@ impl Stage {
             let copied = self.forest.copy(top)?;
             self.attach(copied, top, 0);
         }
-        self.say_number(self.forest.next_number())
+        self.next()
+    }
+
+    fn next(&mut self) -> Result<(), Fail> {
+        let number = self.forest.next_number();
+        self.say_number(number)
     }
 
     fn set(&mut self, node: NodeId, text: &str) -> Result<(), Fail> {
@@ -213,16 +230,17 @@ impl Stage {
         }
     }
 
-    fn set_and_back(&mut self, node: NodeId, text: &str) -> Result<(), Fail> {
+    fn set_and_back(&mut self, node: NodeId, text: &str) -> &'static str {
         if self.forest.next_number() >= 1 << 126 || !self.forest.may_set_text(node) {
-            return self.say("no");
+            return "no";
         }
+        self.forest.are_trees();
         match self.forest.set_text(node, text) {
             Ok(before) => {
                 self.forest.put_back(node, before);
-                self.say("back")
+                "back"
             }
-            Err(fault) => self.say(name_of(fault)),
+            Err(fault) => name_of(fault),
         }
     }
 
@@ -260,6 +278,15 @@ impl Stage {
         self.say_result(planted)?;
         self.say(".")?;
         self.say_number(other.next_number())
+    }
+
+    fn plant_bare(&mut self, node: NodeId) -> Result<(), Fail> {
+        if self.forest.next_number() >= 1 << 126 || !can_print(&self.forest, node) {
+            return self.say("no");
+        }
+        let bare = self.forest.to_bare(node)?;
+        let planted = self.forest.plant_bare(&bare, &self.prefixes);
+        self.say_result(planted)
     }
 
     fn value(&mut self, node: NodeId) -> Result<(), Fail> {
@@ -308,7 +335,9 @@ impl Stage {
 }
 
 /// Whether the node is an element or a text.
-fn can_print(forest: &Forest, node: NodeId) -> bool {
+fn can_print(forest: &Forest, node: NodeId) -> bool
+    ensures { IsTrue result → MayPrint node.number forest.now.forest }
+{
     if !forest.is_live(node) {
         return false;
     }

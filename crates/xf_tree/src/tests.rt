@@ -32,6 +32,29 @@ pub const ROWS: [Part<'static>; 9] = [
 // ["e",{"k":"y"}]
 pub const ONE: [Part<'static>; 3] = [Part::Open("e"), Part::With("k", "y"), Part::Close];
 
+// Trees with a bad name, with a prefix that is not declared, with both, with an attribute that comes twice, and with a prefix
+// that is declared otherwise.
+const BAD: [Part<'static>; 4] = [Part::Open("d"), Part::Open("1x"), Part::Close, Part::Close];
+
+const UNKNOWN: [Part<'static>; 2] = [Part::Open("q:d"), Part::Close];
+
+const BOTH: [Part<'static>; 5] = [
+    Part::Open("d"),
+    Part::Open("q:d"),
+    Part::With("a b", ""),
+    Part::Close,
+    Part::Close,
+];
+
+const TWICE: [Part<'static>; 4] = [
+    Part::Open("d"),
+    Part::With("k", "1"),
+    Part::With("k", "2"),
+    Part::Close,
+];
+
+const REBOUND: [Part<'static>; 3] = [Part::Open("d"), Part::With("xmlns:p", "urn:q"), Part::Close];
+
 /// Asserts what steps write on an empty forest.
 pub fn assert_play(
     rt: &(impl Abort + AllocGlobal),
@@ -46,19 +69,19 @@ pub fn assert_play(
 
 #[test]
 fn an_empty_forest_has_no_root(rt: HostRuntime) -> Result<(), Fail> {
-    let steps = [
+    const STEPS: [Step<'static>; 5] = [
         Step::Root0,
         Step::Next,
         Step::Drop,
         Step::Root0,
         Step::Value(0),
     ];
-    assert_play(&rt, &PLAIN, &steps, "none 0 dropped none none ")
+    assert_play(&rt, &PLAIN, &STEPS, "none 0 dropped none none ")
 }
 
 #[test]
 fn a_tree_is_planted_in_document_order(rt: HostRuntime) -> Result<(), Fail> {
-    let steps = [
+    const STEPS: [Step<'static>; 15] = [
         Step::Plant(&ROWS),
         Step::Next,
         Step::Walk(0, Axis::DescendantOrSelf),
@@ -76,43 +99,27 @@ fn a_tree_is_planted_in_document_order(rt: HostRuntime) -> Result<(), Fail> {
         Step::Next,
     ];
     let want = "0 7 0,1,4,5,6, 2,3, '12t' '12' 'x' '7' 't' before behind behind dropped none 7 ";
-    assert_play(&rt, &PLAIN, &steps, want)
+    assert_play(&rt, &PLAIN, &STEPS, want)
 }
 
 #[test]
 fn a_bad_name_is_told_before_a_prefix(rt: HostRuntime) -> Result<(), Fail> {
-    let bad = [Part::Open("d"), Part::Open("1x"), Part::Close, Part::Close];
-    let unknown = [Part::Open("q:d"), Part::Close];
-    let both = [
-        Part::Open("d"),
-        Part::Open("q:d"),
-        Part::With("a b", ""),
-        Part::Close,
-        Part::Close,
-    ];
-    let twice = [
-        Part::Open("d"),
-        Part::With("k", "1"),
-        Part::With("k", "2"),
-        Part::Close,
-    ];
-    let rebound = [Part::Open("d"), Part::With("xmlns:p", "urn:q"), Part::Close];
-    let steps = [
-        Step::Plant(&bad),
-        Step::Plant(&unknown),
-        Step::Plant(&both),
-        Step::Plant(&twice),
-        Step::Plant(&rebound),
+    const STEPS: [Step<'static>; 7] = [
+        Step::Plant(&BAD),
+        Step::Plant(&UNKNOWN),
+        Step::Plant(&BOTH),
+        Step::Plant(&TWICE),
+        Step::Plant(&REBOUND),
         Step::Next,
         Step::Plant(&ONE),
     ];
     let want = "BadName Prefix BadName BadName Prefix 0 0 ";
-    assert_play(&rt, &FORM, &steps, want)
+    assert_play(&rt, &FORM, &STEPS, want)
 }
 
 #[test]
 fn a_root_comes_over_a_detached_element(rt: HostRuntime) -> Result<(), Fail> {
-    let steps = [
+    const STEPS: [Step<'static>; 17] = [
         Step::Plant(&ROWS),
         Step::Plant(&ONE),
         Step::Root(1),
@@ -132,12 +139,12 @@ fn a_root_comes_over_a_detached_element(rt: HostRuntime) -> Result<(), Fail> {
         Step::Next,
     ];
     let want = "0 7 no no 9 9 no no before no 9.0 no attached '12t' dropped none 10 ";
-    assert_play(&rt, &PLAIN, &steps, want)
+    assert_play(&rt, &PLAIN, &STEPS, want)
 }
 
 #[test]
 fn what_has_a_parent_is_cut_off(rt: HostRuntime) -> Result<(), Fail> {
-    let steps = [
+    const STEPS: [Step<'static>; 13] = [
         Step::Plant(&ROWS),
         Step::Cut(0),
         Step::Cut(4),
@@ -153,12 +160,12 @@ fn what_has_a_parent_is_cut_off(rt: HostRuntime) -> Result<(), Fail> {
         Step::Order(3, 1),
     ];
     let want = "0 no no no 1.1 0.0 no 't' '12' 1,4,5,  before before ";
-    assert_play(&rt, &PLAIN, &steps, want)
+    assert_play(&rt, &PLAIN, &STEPS, want)
 }
 
 #[test]
 fn two_texts_meet_where_an_element_is_cut_off(rt: HostRuntime) -> Result<(), Fail> {
-    let tree = [
+    const TREE: [Part<'static>; 6] = [
         Part::Open("d"),
         Part::Text("x"),
         Part::Open("a"),
@@ -166,8 +173,8 @@ fn two_texts_meet_where_an_element_is_cut_off(rt: HostRuntime) -> Result<(), Fai
         Part::Text("y"),
         Part::Close,
     ];
-    let steps = [
-        Step::Plant(&tree),
+    const STEPS: [Step<'static>; 7] = [
+        Step::Plant(&TREE),
         Step::Cut(2),
         Step::Walk(0, Axis::Child),
         Step::Value(0),
@@ -176,12 +183,12 @@ fn two_texts_meet_where_an_element_is_cut_off(rt: HostRuntime) -> Result<(), Fai
         Step::Print(0, &[]),
     ];
     let want = r#"0 0.1 1,3, 'xy' /d/text()[1] /d/text()[2] <d>"x""y"</> "#;
-    assert_play(&rt, &PLAIN, &steps, want)
+    assert_play(&rt, &PLAIN, &STEPS, want)
 }
 
 #[test]
 fn a_tree_comes_to_its_place(rt: HostRuntime) -> Result<(), Fail> {
-    let steps = [
+    const STEPS: [Step<'static>; 13] = [
         Step::Plant(&ROWS),
         Step::Plant(&ONE),
         Step::Attach(7, 0, 3),
@@ -197,12 +204,12 @@ fn a_tree_comes_to_its_place(rt: HostRuntime) -> Result<(), Fail> {
         Step::Attach(7, 0, 0),
     ];
     let want = "0 7 no no attached 4,7,5, 1.1 attached 7,1,6, 0.0 attached 1,4,5,6,7, no ";
-    assert_play(&rt, &PLAIN, &steps, want)
+    assert_play(&rt, &PLAIN, &STEPS, want)
 }
 
 #[test]
 fn a_tree_comes_to_a_parent_outside_it(rt: HostRuntime) -> Result<(), Fail> {
-    let steps = [
+    const STEPS: [Step<'static>; 13] = [
         Step::Plant(&ROWS),
         Step::Plant(&ONE),
         Step::Attach(0, 0, 0),
@@ -218,12 +225,12 @@ fn a_tree_comes_to_a_parent_outside_it(rt: HostRuntime) -> Result<(), Fail> {
         Step::Order(8, 0),
     ];
     let want = "0 7 no no no no no no no attached 7,0,1,4,5,6, 0,7, before ";
-    assert_play(&rt, &PLAIN, &steps, want)
+    assert_play(&rt, &PLAIN, &STEPS, want)
 }
 
 #[test]
 fn an_attribute_comes_by_its_name(rt: HostRuntime) -> Result<(), Fail> {
-    let steps = [
+    const STEPS: [Step<'static>; 15] = [
         Step::Plant(&ROWS),
         Step::Plant(&ONE),
         Step::Cut(2),
@@ -241,12 +248,12 @@ fn an_attribute_comes_by_its_name(rt: HostRuntime) -> Result<(), Fail> {
         Step::Walk(1, Axis::DescendantOrSelf),
     ];
     let want = "0 7 1.0 no no 1.0 attached attached 2,3, 1.0 1.0 attached 8,3, '7' 1,4,5, ";
-    assert_play(&rt, &PLAIN, &steps, want)
+    assert_play(&rt, &PLAIN, &STEPS, want)
 }
 
 #[test]
 fn axes_go_in_proximity_order(rt: HostRuntime) -> Result<(), Fail> {
-    let steps = [
+    const STEPS: [Step<'static>; 17] = [
         Step::Plant(&ROWS),
         Step::Plant(&ONE),
         Step::Attach(7, 1, 1),
@@ -266,12 +273,12 @@ fn axes_go_in_proximity_order(rt: HostRuntime) -> Result<(), Fail> {
         Step::Walk(4, Axis::Child),
     ];
     let want = "0 7 attached 7, 1,  1,0, 8,7,1,0,  6, 1, 7,4, 7,5,   8,  ";
-    assert_play(&rt, &PLAIN, &steps, want)
+    assert_play(&rt, &PLAIN, &STEPS, want)
 }
 
 #[test]
 fn paths_count_siblings_of_one_written_name(rt: HostRuntime) -> Result<(), Fail> {
-    let tree = [
+    const TREE: [Part<'static>; 14] = [
         Part::Open("d"),
         Part::Open("a"),
         Part::With("k", "x"),
@@ -287,8 +294,8 @@ fn paths_count_siblings_of_one_written_name(rt: HostRuntime) -> Result<(), Fail>
         Part::Close,
         Part::Close,
     ];
-    let steps = [
-        Step::Plant(&tree),
+    const STEPS: [Step<'static>; 9] = [
+        Step::Plant(&TREE),
         Step::Path(0),
         Step::Path(1),
         Step::Path(2),
@@ -299,5 +306,5 @@ fn paths_count_siblings_of_one_written_name(rt: HostRuntime) -> Result<(), Fail>
         Step::Path(7),
     ];
     let want = "0 /d /d/a[1] /d/a[1]/@k /d/a[1]/text()[1] /d/a[1]/p:b /d/text()[1] /d/a[2] /d/c ";
-    assert_play(&rt, &FORM, &steps, want)
+    assert_play(&rt, &FORM, &STEPS, want)
 }

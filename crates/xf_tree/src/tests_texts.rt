@@ -8,7 +8,7 @@ use xf_name::Axis;
 
 #[test]
 fn a_text_is_set_where_no_element_is(rt: HostRuntime) -> Result<(), Fail> {
-    let steps = [
+    const STEPS: [Step<'static>; 13] = [
         Step::Plant(&ROWS),
         Step::Set(0, "a"),
         Step::Set(4, "a"),
@@ -24,12 +24,12 @@ fn a_text_is_set_where_no_element_is(rt: HostRuntime) -> Result<(), Fail> {
         Step::Order(3, 6),
     ];
     let want = "0 no no no set 7, 'newt' set  set '' 8 before ";
-    assert_play(&rt, &PLAIN, &steps, want)
+    assert_play(&rt, &PLAIN, &STEPS, want)
 }
 
 #[test]
 fn a_text_is_put_back(rt: HostRuntime) -> Result<(), Fail> {
-    let steps = [
+    const STEPS: [Step<'static>; 9] = [
         Step::Plant(&ROWS),
         Step::SetAndBack(1, "new"),
         Step::Walk(1, Axis::Child),
@@ -41,12 +41,12 @@ fn a_text_is_put_back(rt: HostRuntime) -> Result<(), Fail> {
         Step::Next,
     ];
     let want = "0 back 4,5, '12t' back 'x' back 1,4,5,6, 8 ";
-    assert_play(&rt, &PLAIN, &steps, want)
+    assert_play(&rt, &PLAIN, &STEPS, want)
 }
 
 #[test]
 fn numbers_begin_again(rt: HostRuntime) -> Result<(), Fail> {
-    let steps = [
+    const STEPS: [Step<'static>; 13] = [
         Step::Plant(&ROWS),
         Step::Plant(&ONE),
         Step::DropFrom(8),
@@ -62,34 +62,34 @@ fn numbers_begin_again(rt: HostRuntime) -> Result<(), Fail> {
         Step::DropFrom(0),
     ];
     let want = "0 7 no no no dropped dropped 7 7 9 no 'y' no ";
-    assert_play(&rt, &PLAIN, &steps, want)
+    assert_play(&rt, &PLAIN, &STEPS, want)
 }
 
 #[test]
 fn nodes_double_to_their_limit(rt: HostRuntime) -> Result<(), Fail> {
-    let leaf = [Part::Open("e"), Part::Close];
-    let steps = [
-        Step::Plant(&leaf),
+    const LEAF: [Part<'static>; 2] = [Part::Open("e"), Part::Close];
+    const STEPS: [Step<'static>; 10] = [
+        Step::Plant(&LEAF),
         Step::Double(0, 16),
         Step::Copy(0),
-        Step::Plant(&leaf),
+        Step::Plant(&LEAF),
         Step::Set(65535, "x"),
         Step::Next,
         Step::Cut(65535),
         Step::Drop,
-        Step::Plant(&leaf),
+        Step::Plant(&LEAF),
         Step::Next,
     ];
     let want = "0 65536 Nodes Nodes Nodes 65536 32768.14 dropped 65536 65537 ";
-    assert_play(&rt, &PLAIN, &steps, want)
+    assert_play(&rt, &PLAIN, &STEPS, want)
 }
 
 #[test]
 fn an_element_may_be_the_hundredth(rt: HostRuntime) -> Result<(), Fail> {
-    let leaf = [Part::Open("e"), Part::Close];
+    const LEAF: [Part<'static>; 2] = [Part::Open("e"), Part::Close];
     // Each copy is attached below the one before.
     let mut steps = Vec::new(rt.alloc());
-    steps.push(Step::Plant(&leaf))?;
+    steps.push(Step::Plant(&LEAF))?;
     for number in 1..100u32 {
         steps.push(Step::Copy(u128::from(number) - 1))?;
         steps.push(Step::Attach(u128::from(number), u128::from(number) - 1, 0))?;
@@ -128,7 +128,7 @@ fn a_text_has_65536_bytes_at_most(rt: HostRuntime) -> Result<(), Fail> {
 
 #[test]
 fn what_is_not_kept_is_left_out(rt: HostRuntime) -> Result<(), Fail> {
-    let steps = [
+    const STEPS: [Step<'static>; 6] = [
         Step::Plant(&ROWS),
         Step::Print(0, &[0, 1, 2, 3]),
         Step::Print(0, &[1, 3]),
@@ -138,12 +138,12 @@ fn what_is_not_kept_is_left_out(rt: HostRuntime) -> Result<(), Fail> {
     ];
     let want =
         r#"0 <d><row k="x" no="7">"1""2"</>"t"</> <d><row no="7">"1""2"</>"t"</> <d>"t"</> "1" no "#;
-    assert_play(&rt, &PLAIN, &steps, want)
+    assert_play(&rt, &PLAIN, &STEPS, want)
 }
 
 #[test]
 fn the_top_declares_each_prefix_once(rt: HostRuntime) -> Result<(), Fail> {
-    let tree = [
+    const TREE: [Part<'static>; 8] = [
         Part::Open("d"),
         Part::With("z", "2"),
         Part::Open("p:e"),
@@ -153,8 +153,8 @@ fn the_top_declares_each_prefix_once(rt: HostRuntime) -> Result<(), Fail> {
         Part::Close,
         Part::Close,
     ];
-    let steps = [
-        Step::Plant(&tree),
+    const STEPS: [Step<'static>; 5] = [
+        Step::Plant(&TREE),
         Step::Print(0, &[1, 2, 3, 4, 5]),
         Step::Print(2, &[5]),
         Step::Print(0, &[1]),
@@ -162,12 +162,12 @@ fn the_top_declares_each_prefix_once(rt: HostRuntime) -> Result<(), Fail> {
     ];
     let want =
         r#"0 <d xmlns:p="urn:p" z="2"><p:e a="1" p:k="x" xml:lang="en"></></> <p:e xml:lang="en" xmlns:p="urn:p"></> <d z="2"></> 0.6 "#;
-    assert_play(&rt, &FORM, &steps, want)
+    assert_play(&rt, &FORM, &STEPS, want)
 }
 
 #[test]
 fn a_default_namespace_is_declared_where_it_changes(rt: HostRuntime) -> Result<(), Fail> {
-    let tree = [
+    const TREE: [Part<'static>; 10] = [
         Part::Open("d"),
         Part::With("xmlns", "urn:d"),
         Part::Open("p:q"),
@@ -179,8 +179,8 @@ fn a_default_namespace_is_declared_where_it_changes(rt: HostRuntime) -> Result<(
         Part::Close,
         Part::Close,
     ];
-    let steps = [
-        Step::Plant(&tree),
+    const STEPS: [Step<'static>; 5] = [
+        Step::Plant(&TREE),
         Step::Print(0, &[1, 2, 3]),
         Step::Print(1, &[2]),
         Step::Print(3, &[]),
@@ -188,5 +188,5 @@ fn a_default_namespace_is_declared_where_it_changes(rt: HostRuntime) -> Result<(
     ];
     let want =
         r#"0 <d xmlns="urn:d" xmlns:p="urn:p"><p:q><e></></><n xmlns=""></></> <p:q xmlns:p="urn:p"><e xmlns="urn:d"></></> <n></> 0.4 "#;
-    assert_play(&rt, &FORM, &steps, want)
+    assert_play(&rt, &FORM, &STEPS, want)
 }
