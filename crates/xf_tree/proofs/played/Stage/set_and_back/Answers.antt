@@ -1,23 +1,21 @@
 -- A text that was just set may be put back.
-use Rattle.std.proofs.Common.{◌≡◌, ℕ, suc, ◌==◌, Bool, true, false, not, ◌&&◌, ◌||◌, List, [], ◌∷◌, ◌++◌, map, filter, length, nat_lt, Option, Some, None, Ok, Err, refl, sym, ap, ◌∙◌, subst, inl, inr, arith}
-use Rattle.std.specs.Prelude.{⊤, ◌⊎◌, Result, if◌then◌else◌}
-use Rattle.std.specs.List.{list_any, list_all}
+use Rattle.std.proofs.Common.{◌≡◌, ℕ, suc, ◌==◌, Bool, true, false, not, ◌&&◌, ◌||◌, List, [], ◌∷◌, ◌++◌, map, filter, length, nat_lt, Option, Some, None, Ok, refl, sym, ap, ◌∙◌, subst, inl, inr, arith}
+use Rattle.std.specs.Prelude.{⊤, ◌⊎◌}
+use Rattle.std.specs.List.{list_any}
 use Rattle.std.proofs.lemmas.Bool.{cases_Bool}
 use Rattle.std.proofs.lemmas.Bool.Decides.{nat_tests}
 use Rattle.xf_doc.specs.declared.content.Node.{Node}
 use Rattle.xf_doc.specs.declared.content.Content.{Content}
 use Rattle.xf_doc.specs.declared.content.Content.TheVariants.{Root, Element, Attribute, Text}
-use Rattle.xf_doc.specs.declared.content.Kind.{Kind}
 use Rattle.xf_doc.specs.declared.content.Kind.TheVariants as kind
 use Rattle.xf_doc.specs.declared.fault.TreeFault.{TreeFault}
-use Rattle.xf_doc.specs.Forest.{Forest, kind_of, kind_at, is_element, is_attribute, has_number, below, past, tree_of, own_text}
-use Rattle.xf_doc.specs.Visit.{Visit, is_first, still_above, numbers, visit, visits_from, visits}
-use Rattle.xf_doc.specs.Shape.{has_elements}
+use Rattle.xf_doc.specs.Forest.{kind_of, kind_at, is_element, is_attribute, has_number, below, past, tree_of}
+use Rattle.xf_doc.specs.Visit.{Visit, is_first, still_above, numbers, visit, visits_from}
 use Rattle.xf_doc.specs.Limits.{Limits, limits, passed_by_text, unless}
 use Rattle.xf_doc.specs.WellFormed.{AreTrees, are_apart}
-use Rattle.xf_doc.specs.Needs.{IsSettable, MayPutBack, FitsNode, are_kept_of}
-use Rattle.xf_doc.specs.Texts.{Keeping, KeptText, Before, attribute_text, element_texts, one_text, at_depth, with_content, with_texts, with_value, valued, with_attribute_text, is_attribute_at, texts_in, value_in, kept_from, before_of, taken_from, with_text, text_set}
-use Rattle.xf_doc.proofs.BackLaws.{and-true, not-true, or-false, one_number, attribute-absent}
+use Rattle.xf_doc.specs.Needs.{IsSettable, MayPutBack, are_kept_of}
+use Rattle.xf_doc.specs.Texts.{Keeping, KeptText, Before, one_text, at_depth, with_content, with_texts, with_value, valued, with_attribute_text, is_attribute_at, texts_in, kept_from, before_of, taken_from, with_text, text_set}
+use Rattle.xf_doc.proofs.BackLaws.{and-true, or-false, attribute-absent}
 use Rattle.xf_doc.proofs.MoveLemmas.{gone-after}
 use Rattle.xf_doc.proofs.RunLemmas.{AreDeeper, below-deeper, placed-deeper, deeper-append}
 use Rattle.xf_doc.proofs.VisitLemmas.{BeginsWithin, past-within, closed, still_above-map}
