@@ -34,4 +34,8 @@ if [ "$status" -ne 0 ]; then
     cat "$work/said" "$work/told"
     exit 1
 fi
+if [ "$passed" -eq 0 ]; then
+    echo "no run passed with an allocation refused: the test meets none in a change"
+    exit 1
+fi
 echo "$((number - 1)) allocations refused in turn: $passed runs passed, $ended ended for want of memory"

@@ -3,7 +3,7 @@ use crate::Forest;
 use crate::played::{Stage, Step};
 use crate::tests::{PLAIN, ROWS};
 use crate::written::push_number;
-use std::alloc::{AllocGlobal, Global};
+use std::alloc::{AllocError, AllocGlobal, Global};
 use std::process::Abort;
 use std::test::Fail;
 use xf_doc::NodeId;
@@ -21,7 +21,7 @@ const STEPS: [Step<'static>; 7] = [
 ];
 
 /// The number of each node, its parent's and its string value, and the next number.
-fn written(alloc: Global, forest: &Forest) -> Result<String, Fail> {
+fn written(alloc: Global, forest: &Forest) -> Result<String, AllocError> {
     let mut words = String::new(alloc);
     for number in 0..forest.next_number() {
         if let Some(node) = forest.find(number) {
@@ -32,20 +32,48 @@ fn written(alloc: Global, forest: &Forest) -> Result<String, Fail> {
     Ok(words)
 }
 
-fn push_node(alloc: Global, words: &mut String, forest: &Forest, node: NodeId) -> Result<(), Fail> {
+fn push_node(
+    alloc: Global,
+    words: &mut String,
+    forest: &Forest,
+    node: NodeId,
+) -> Result<(), AllocError> {
+    push_number(alloc, words, node.number)?;
+    push_parent(alloc, words, forest, node)?;
+    push_value(words, forest, node)?;
+    words.push_str(" ")?;
+    Ok(())
+}
+
+fn push_parent(
+    alloc: Global,
+    words: &mut String,
+    forest: &Forest,
+    node: NodeId,
+) -> Result<(), AllocError> {
     if !forest.is_live(node) {
         return Ok(());
     }
-    push_number(alloc, words, node.number)?;
-    if let Some(parent) = forest.parent(node) {
-        words.push_str("<")?;
-        push_number(alloc, words, parent.number)?;
+    let Some(parent) = forest.parent(node) else {
+        return Ok(());
+    };
+    words.push_str("<")?;
+    push_number(alloc, words, parent.number)
+}
+
+fn push_value(words: &mut String, forest: &Forest, node: NodeId) -> Result<(), AllocError> {
+    if !forest.is_live(node) {
+        return Ok(());
     }
     words.push_str("=")?;
-    if let Some(text) = forest.string_value(node, 99)? {
-        words.push_str(text.as_str())?;
+    match forest.string_value(node, 99)? {
+        Some(text) => push_text(words, text.as_str()),
+        None => Ok(()),
     }
-    words.push_str(" ")?;
+}
+
+fn push_text(words: &mut String, text: &str) -> Result<(), AllocError> {
+    words.push_str(text)?;
     Ok(())
 }
 
