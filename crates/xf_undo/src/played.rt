@@ -166,8 +166,16 @@ impl Stage {
         if !self.draft.forest().is_live(top) {
             return self.say("none");
         }
-        push_tree(self.alloc, &mut self.words, self.draft.forest(), top)?;
-        self.say_number(self.draft.forest().next_number())
+        let words = self.tree(top)?;
+        self.say(words.as_str())?;
+        let next = self.draft.forest().next_number();
+        self.say_number(next)
+    }
+
+    fn tree(&self, top: NodeId) -> Result<String, Fail> {
+        let mut words = String::new(self.alloc);
+        push_tree(self.alloc, &mut words, self.draft.forest(), top)?;
+        Ok(words)
     }
 }
 
