@@ -360,15 +360,24 @@ impl Sum {
     }
 }
 
-/// `d` with so many rows, each with an attribute, an element and its text.
-fn rows(count: usize) -> Lit {
+/// An element with so many rows, each with an attribute, an element and its text.
+fn list(name: &str, count: usize) -> Lit {
     let mut children = Vec::new();
     for row in 0..count {
         let text = Lit::Text(format!("{row}"));
         let cell = Lit::Element("a".to_string(), Vec::new(), vec![text]);
         children.push(Lit::Element("row".to_string(), vec![("k".to_string(), "x".to_string())], vec![cell]));
     }
-    Lit::Element("d".to_string(), Vec::new(), children)
+    Lit::Element(name.to_string(), Vec::new(), children)
+}
+
+fn rows(count: usize) -> Lit {
+    list("d", count)
+}
+
+/// `d` with so many groups of rows.
+fn groups(count: usize, rows: usize) -> Lit {
+    Lit::Element("d".to_string(), Vec::new(), (0..count).map(|_| list("g", rows)).collect())
 }
 
 fn size(lit: &Lit) -> u64 {
@@ -390,10 +399,10 @@ fn print_all() -> u64 {
     size(&arena.print(top, &kept)).wrapping_add(arena.count as u64)
 }
 
-/// Walks every axis from every node of a tree of 2,001 nodes.
-fn walk_all() -> u64 {
+/// Walks every axis from every node of a tree.
+fn walk_all(lit: &Lit) -> u64 {
     let mut arena = Arena::default();
-    arena.plant(&rows(500));
+    arena.plant(lit);
     let mut sum = 0u64;
     for node in 0..arena.nodes.len() {
         for axis in 0..10 {
@@ -432,15 +441,15 @@ fn double() -> u64 {
     arena.next as u64 + arena.axis(top, 6)
 }
 
-/// Sets 100,000 texts and gives the first ones back, from the last one back.
-fn set_and_undo() -> u64 {
+/// Sets 100,000 texts, each third of them to this one, and gives the first ones back, from the last one back.
+fn set_and_undo(third: &str) -> u64 {
     let mut arena = Arena::default();
     arena.plant(&rows(10000));
     let mut noted: Vec<(usize, Before)> = Vec::new();
     let mut known: HashMap<usize, usize> = HashMap::new();
     for change in 0..100_000 {
         let node = (change * 7 % 10000) * 4 + 3;
-        let before = arena.set_text(node, if change % 3 == 0 { "" } else { "changed" });
+        let before = arena.set_text(node, if change % 3 == 0 { third } else { "changed" });
         match known.get(&node) {
             Some(_) => {
                 if let Before::Texts(texts) = before {
@@ -467,10 +476,12 @@ fn main() {
     let name = env::args().nth(1).unwrap_or_default();
     let answer = match name.as_str() {
         "print" => print_all(),
-        "walk" => walk_all(),
+        "walk" => walk_all(&groups(20, 25)),
+        "rows" => walk_all(&rows(500)),
         "descend" => descend(),
         "double" => double(),
-        _ => set_and_undo(),
+        "undo" => set_and_undo("other"),
+        _ => set_and_undo(""),
     };
     println!("{answer}");
 }

@@ -1,6 +1,6 @@
 #!/usr/bin/env bash
-# Measures the forest of xf_tree beside a plain arena of linked nodes with the same calls. Both must print the same; xf_tree may take
-# at most twice as long, and no longer on what is below a node. Five runs each, in turns; the least time counts.
+# Measures the forest of xf_tree, and the draft of xf_undo, beside a plain arena of linked nodes with the same calls. Both must print the
+# same; xf_tree may take at most twice as long, and no longer on what is below a node. Five runs each, in turns; the least time counts.
 set -euo pipefail
 here=$(cd "$(dirname "$0")" && pwd)
 work=$(mktemp -d)
@@ -25,9 +25,13 @@ once() {
     echo $(( (to - from) / 100000 ))
 }
 failed=0
-for name in print walk descend double undo; do
+for name in print walk rows descend double undo empty; do
     most=200
-    [ "$name" = descend ] && most=100
+    case "$name" in
+        descend) most=100 ;;
+        # Rows side by side, and texts that come and go, have no limit: docs/BENCHMARKS.md says what they cost.
+        rows | empty) most=99999 ;;
+    esac
     ours=999999 plain=999999
     for _ in 1 2 3 4 5; do
         time=$(once "$work/crates/tree_bench/out/tree_bench" "$name" "$work/ours.txt")
