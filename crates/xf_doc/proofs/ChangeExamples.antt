@@ -9,7 +9,7 @@ use Rattle.xf_doc.specs.Visit.{visits, children_of, attributes_of}
 use Rattle.xf_doc.specs.Limits.{Limits, node_count, all_size}
 use Rattle.xf_doc.specs.Changes.{with_root, root_of, copied, standing, detached, placed, attached, in_instances}
 use Rattle.xf_doc.specs.Needs.{MayCopy, MayRoot, MayDetach, MayAttach, in_element, in_root, as_attribute, lacks_name, MayPlace, goes_below, MayDropFrom}
-use Rattle.xf_doc.specs.WellFormed.{IsForest, AreTrees, are_first}
+use Rattle.xf_doc.specs.WellFormed.{HasTrees, AreTrees, are_first}
 use Rattle.xf_doc.specs.Examples.{rows, pair_of_instances, just, wide, node, element, attribute, text, of_p, qname}
 
 -- the depths beside the numbers
@@ -53,8 +53,8 @@ an_attribute_has_a_place_among_attributes = refl
 a_top_stands_below_nothing : standing 12 rows.nodes ≡ None
 a_top_stands_below_nothing = refl
 
-a_forest_stays_one : IsForest (detached 6 rows)
-a_forest_stays_one = record { apart = refl; below = refl; depths = refl; ordered = refl; single = refl; roots = refl; documents = refl }
+a_forest_stays_one : HasTrees (detached 6 rows)
+a_forest_stays_one = record { apart = refl; below = refl; depths = refl; tops = refl; first = refl }
 
 a_tree_cut_out_of_a_detached_one_stands_last : outline (detached 4 (record { nodes = element 3 0 (codes "d") ∷ element 4 1 (codes "a") ∷ text 5 1 (codes "x") ∷ element 6 0 (codes "b") ∷ []; next = 7 })) ≡ (3, 0) ∷ (5, 1) ∷ (6, 0) ∷ (4, 0) ∷ []
 a_tree_cut_out_of_a_detached_one_stands_last = refl
@@ -97,8 +97,8 @@ detached_and_attached_again = refl
 abbrev replaced : Forest
 replaced = record { nodes = (detached 1 pair_of_instances).nodes ++ element 5 0 (codes "c") ∷ []; next = 6 }
 
-a_root_without_an_element_is_in_a_forest : IsForest replaced
-a_root_without_an_element_is_in_a_forest = record { apart = refl; below = refl; depths = refl; ordered = refl; single = refl; roots = refl; documents = refl }
+a_root_without_an_element_is_in_a_forest : HasTrees replaced
+a_root_without_an_element_is_in_a_forest = record { apart = refl; below = refl; depths = refl; tops = refl; first = refl }
 
 an_element_may_be_attached_to_such_a_root : MayAttach 5 0 0 replaced
 an_element_may_be_attached_to_such_a_root = record { detached = refl; outside = refl; stands = in_root refl refl refl refl }
@@ -182,14 +182,14 @@ an_attribute_of_a_new_name_may_be_attached = record { detached = refl; outside =
 abbrev alike : Forest
 alike = record { nodes = element 0 0 (codes "e") ∷ attribute 1 1 (codes "b") [] ∷ node 2 0 (Attribute (record { meaning = qname 2 0 (codes "b"); prefix = [] }) []) ∷ []; next = 3 }
 
-alike_is_a_forest : IsForest alike
-alike_is_a_forest = record { apart = refl; below = refl; depths = refl; ordered = refl; single = refl; roots = refl; documents = refl }
+alike_is_a_forest : HasTrees alike
+alike_is_a_forest = record { apart = refl; below = refl; depths = refl; tops = refl; first = refl }
 
 an_attribute_written_alike_may_be_attached : MayAttach 2 0 0 alike
 an_attribute_written_alike_may_be_attached = record { detached = refl; outside = refl; stands = as_attribute refl refl refl }
 
-what_may_be_attached_leaves_a_forest : IsForest (placed 2 0 0 alike)
-what_may_be_attached_leaves_a_forest = record { apart = refl; below = refl; depths = refl; ordered = refl; single = refl; roots = refl; documents = refl }
+what_may_be_attached_leaves_a_forest : HasTrees (placed 2 0 0 alike)
+what_may_be_attached_leaves_a_forest = record { apart = refl; below = refl; depths = refl; tops = refl; first = refl }
 
 what_was_cut_off_may_be_placed_again : MayPlace 3 2 (detached 3 rows)
 what_was_cut_off_may_be_placed_again = record { detached = refl; outside = refl; kinds = refl }

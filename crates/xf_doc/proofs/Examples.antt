@@ -12,7 +12,7 @@ use Rattle.xf_doc.specs.StringValue.{string_value, string_value_within}
 use Rattle.xf_doc.specs.Order.{is_before}
 use Rattle.xf_doc.specs.Axis.{axis_of}
 use Rattle.xf_doc.specs.Path.{path_of}
-use Rattle.xf_doc.specs.WellFormed.{IsForest, are_depths, are_in_order, are_single, are_roots_first}
+use Rattle.xf_doc.specs.WellFormed.{HasTrees, are_depths, are_first, are_tops, have_same_name}
 use Rattle.xf_doc.specs.Examples.{rows, pair_of_instances, node, element, attribute, text, of_p, qname}
 
 -- ---- what stands where
@@ -62,23 +62,22 @@ name_of_a_node = refl
 a_text_has_no_name : name_at 13 rows.nodes ≡ None
 a_text_has_no_name = refl
 
-rows_is_a_forest : IsForest rows
-rows_is_a_forest = record { apart = refl; below = refl; depths = refl; ordered = refl; single = refl; roots = refl; documents = refl }
+rows_is_a_forest : HasTrees rows
+rows_is_a_forest = record { apart = refl; below = refl; depths = refl; tops = refl; first = refl }
 
-instances_are_a_forest : IsForest pair_of_instances
-instances_are_a_forest = record { apart = refl; below = refl; depths = refl; ordered = refl; single = refl; roots = refl; documents = refl }
+instances_are_a_forest : HasTrees pair_of_instances
+instances_are_a_forest = record { apart = refl; below = refl; depths = refl; tops = refl; first = refl }
 
-an_attribute_behind_a_text_is_out_of_place : are_in_order (element 0 0 (codes "d") ∷ text 1 1 (codes "x") ∷ attribute 2 1 (codes "k") [] ∷ []) ≡ false
+an_attribute_behind_a_text_is_out_of_place : are_first (element 0 0 (codes "d") ∷ text 1 1 (codes "x") ∷ attribute 2 1 (codes "k") [] ∷ []) ≡ false
 an_attribute_behind_a_text_is_out_of_place = refl
 
 nothing_stands_below_an_attribute : are_depths (element 0 0 (codes "d") ∷ attribute 1 1 (codes "k") [] ∷ text 2 2 (codes "x") ∷ []) ≡ false
 nothing_stands_below_an_attribute = refl
 
-no_root_stands_behind_a_detached_tree : are_roots_first false (element 0 0 (codes "d") ∷ node 1 0 Root ∷ []) ≡ false
-no_root_stands_behind_a_detached_tree = refl
+nothing_stands_above_a_root : are_tops (element 0 0 (codes "d") ∷ node 1 1 Root ∷ []) ≡ false
+nothing_stands_above_a_root = refl
 
-two_prefixes_of_one_namespace_make_one_name : are_single (visits (element 0 0 (codes "d")
-    ∷ node 1 1 (Attribute (of_p (codes "k")) []) ∷ node 2 1 (Attribute (record { meaning = qname 1 2 (codes "k"); prefix = codes "r" }) []) ∷ [])) ≡ false
+two_prefixes_of_one_namespace_make_one_name : have_same_name (Some (of_p (codes "k"))) (Some (record { meaning = qname 1 2 (codes "k"); prefix = codes "r" })) ≡ true
 two_prefixes_of_one_namespace_make_one_name = refl
 
 -- ---- string values

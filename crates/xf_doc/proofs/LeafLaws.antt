@@ -1,4 +1,4 @@
--- In a forest, below an element without element children stand attributes, then texts, and nothing else.
+-- In trees, below an element without element children stand attributes, then texts, and nothing else.
 use Rattle.std.proofs.Common.{◌≡◌, ℕ, suc, ◌==◌, Bool, true, false, not, cond, ◌&&◌, ◌||◌, List, [], ◌∷◌, nat_lt, Option, Some, refl, sym, ap, ◌∙◌, subst, inl, inr, arith}
 use Rattle.std.specs.Prelude.{⊤, nat_le}
 use Rattle.std.specs.List.{list_any}
@@ -11,7 +11,7 @@ use Rattle.xf_doc.specs.declared.content.Kind.TheVariants as kind
 use Rattle.xf_doc.specs.Forest.{Forest, kind_of, kind_at, is_root, is_element, is_attribute, is_text, below}
 use Rattle.xf_doc.specs.Visit.{Visit, is_first, still_above, numbers, visit, visits_from, visits}
 use Rattle.xf_doc.specs.Shape.{has_elements}
-use Rattle.xf_doc.specs.WellFormed.{IsForest, reach, are_depths_from, may_follow, comes_after, are_in_order, are_roots_first}
+use Rattle.xf_doc.specs.WellFormed.{HasTrees, reach, are_depths_from, stands_first, are_first, are_tops}
 use Rattle.xf_doc.proofs.RunLemmas.{IsRun, AreTexts, IsLeafAt}
 use Rattle.xf_doc.proofs.VisitLemmas.{BeginsWithin, closed, deeper-by_one}
 use Rattle.xf_doc.proofs.BackLaws.{false-true, and-true, or-false}
@@ -50,16 +50,17 @@ module _ (n : ℕ) (x : Node) (stay : List Node) (here : (x.number == n) ≡ tru
         subst (λ l. list_any is_child l ≡ false) (closed y (x ∷ stay) ys begins) (subst (λ l. list_any is_child (visits_from (y ∷ l) ys) ≡ false) (above-is y deep) h),
       )
 
-  not-root : (y : Node) (past rest : Bool) → y.content ≡ Root → y.depth ≡ suc x.depth → ((y.depth == 0) && not past && rest) ≡ true → ⊥
-  not-root y past rest is deep h =
-      let zero : (y.depth == 0) ≡ true = (and-true (y.depth == 0) (not past) (and-true ((y.depth == 0) && not past) rest h).0).0 in
+  not-root : (y : Node) (rest : Bool) → y.content ≡ Root → y.depth ≡ suc x.depth → ((not (is_root y.content) || (y.depth == 0)) && rest) ≡ true → ⊥
+  not-root y rest is deep h =
+      let first = (and-true (not (is_root y.content) || (y.depth == 0)) rest h).0 in
+      let zero : (y.depth == 0) ≡ true = ap (λ c. not (is_root c) || (y.depth == 0)) (sym is) ∙ first in
       let no : ⊥ = grind (arith, nat_tests, zero, deep) in no
 
   -- what is known of the nodes after the one named first, which is the element or one of its attributes and texts
-  record Rest (p : Node) (past : Bool) (ys : List Node) : Type 0 where
+  record Rest (p : Node) (ys : List Node) : Type 0 where
     depths : are_depths_from (suc x.depth) ys ≡ true
-    ordered : are_in_order (p ∷ ys) ≡ true
-    roots : are_roots_first past ys ≡ true
+    first : are_first (p ∷ ys) ≡ true
+    tops : are_tops ys ≡ true
     childless : list_any is_child (visits_from (x ∷ stay) ys) ≡ false
 
   flat-attribute : (y : Node) (name : _) (text : List ℕ) → y.content ≡ Attribute name text → reach y ≡ y.depth
@@ -68,61 +69,58 @@ module _ (n : ℕ) (x : Node) (stay : List Node) (here : (x.number == n) ≡ tru
   flat-text : (y : Node) (text : List ℕ) → y.content ≡ Text text → reach y ≡ y.depth
   flat-text y text is = ap (λ c. cond (is_attribute c || is_text c) y.depth (suc y.depth)) is
 
-  after-roots : (past : Bool) (y : Node) (ys : List Node) → is_root y.content ≡ false → are_roots_first past (y ∷ ys) ≡ true → are_roots_first (past || (y.depth == 0)) ys ≡ true
-  after-roots past y ys other h = subst (λ b. cond b ((y.depth == 0) && not past && are_roots_first past ys) (are_roots_first (past || (y.depth == 0)) ys) ≡ true) other h
-
-  later : (p y : Node) (past : Bool) (ys : List Node) → y.depth ≡ suc x.depth → reach y ≡ y.depth → is_root y.content ≡ false → Rest p past (y ∷ ys) → Rest y (past || (y.depth == 0)) ys
-  later p y past ys deep flat other r =
+  later : (p y : Node) (ys : List Node) → y.depth ≡ suc x.depth → reach y ≡ y.depth → Rest p (y ∷ ys) → Rest y ys
+  later p y ys deep flat r =
       let depths = (and-true (nat_le y.depth (suc x.depth)) (are_depths_from (reach y) ys) r.depths).1 in
       let child = or-false (is_child (visit (x ∷ stay) y)) (list_any is_child (visits_from (y ∷ still_above y.depth (x ∷ stay)) ys)) r.childless in
       let k = after-child y ys deep flat depths child.1 in
       record {
         depths = k.0;
-        ordered = (and-true (may_follow p y) (are_in_order (y ∷ ys)) r.ordered).1;
-        roots = after-roots past y ys other r.roots;
+        first = (and-true (stands_first p y) (are_first (y ∷ ys)) r.first).1;
+        tops = (and-true (not (is_root y.content) || (y.depth == 0)) (are_tops ys) r.tops).1;
         childless = k.1;
       }
 
   -- an attribute does not follow a text
   no_attribute : (p y : Node) (name : _) (text : List ℕ) (rest : Bool) → is_element p.content ≡ false → is_attribute p.content ≡ false → y.content ≡ Attribute name text → y.depth ≡ suc x.depth
-      → (may_follow p y && rest) ≡ true → ⊥
+      → (stands_first p y && rest) ≡ true → ⊥
   no_attribute p y name text rest a b is deep h =
-      let follows = (and-true (may_follow p y) rest h).0 in
+      let follows = (and-true (stands_first p y) rest h).0 in
       let deeper : (y.depth == 0) ≡ false = grind (arith, nat_tests, deep) in
-      let none : may_follow p y ≡ false = ap (λ c. not (is_attribute c) || (y.depth == 0) || comes_after p y) is ∙ rw (deeper, a, b) refl in
+      let none : stands_first p y ≡ false = ap (λ c. not (is_attribute c) || (y.depth == 0) || (is_element p.content && (suc p.depth == y.depth)) || (is_attribute p.content && (p.depth == y.depth))) is ∙ rw (deeper, a, b) refl in
       false-true (sym none ∙ follows)
 
   deep-of : (y : Node) (ys : List Node) → nat_lt x.depth y.depth ≡ true → are_depths_from (suc x.depth) (y ∷ ys) ≡ true → y.depth ≡ suc x.depth
   deep-of y ys e h = one_deeper x.depth y.depth e (and-true (nat_le y.depth (suc x.depth)) (are_depths_from (reach y) ys) h).0
 
-  texts-below : (p : Node) (past : Bool) (ys : List Node) → is_element p.content ≡ false → is_attribute p.content ≡ false → Rest p past ys → AreTexts x.depth (below x.depth ys)
-  texts-below p past [] a b r = tt
-  texts-below p past (y ∷ ys) a b r =
+  texts-below : (p : Node) (ys : List Node) → is_element p.content ≡ false → is_attribute p.content ≡ false → Rest p ys → AreTexts x.depth (below x.depth ys)
+  texts-below p [] a b r = tt
+  texts-below p (y ∷ ys) a b r =
       elim (cases_Bool (nat_lt x.depth y.depth)) [
-        | inl e ↦ rw e (by (λ next. texts-below y (past || (y.depth == 0)) ys next.0 next.1 next.2) y.content refl (deep-of y ys e r.depths))
+        | inl e ↦ rw e (by (λ next. texts-below y ys next.0 next.1 next.2) y.content refl (deep-of y ys e r.depths))
         | inr e ↦ rw e tt
       ]
     where
-      by : ((is_element y.content ≡ false) × (is_attribute y.content ≡ false) × Rest y (past || (y.depth == 0)) ys → AreTexts x.depth (below x.depth ys))
+      by : ((is_element y.content ≡ false) × (is_attribute y.content ≡ false) × Rest y ys → AreTexts x.depth (below x.depth ys))
           → (c : Content) → y.content ≡ c → y.depth ≡ suc x.depth → (is_text y.content ≡ true) × (y.depth ≡ suc x.depth) × AreTexts x.depth (below x.depth ys)
-      by next Root is deep = absurd (not-root y past (are_roots_first past ys) is deep (subst (λ b. cond b ((y.depth == 0) && not past && are_roots_first past ys) (are_roots_first (past || (y.depth == 0)) ys) ≡ true) (ap is_root is) r.roots))
+      by next Root is deep = absurd (not-root y (are_tops ys) is deep r.tops)
       by next (Element name) is deep = absurd (no_element y name (visits_from (y ∷ still_above y.depth (x ∷ stay)) ys) is deep r.childless)
-      by next (Attribute name text) is deep = absurd (no_attribute p y name text (are_in_order (y ∷ ys)) a b is deep r.ordered)
-      by next (Text text) is deep = (ap is_text is, deep, next (ap is_element is, ap is_attribute is, later p y past ys deep (flat-text y text is) (ap is_root is) r))
+      by next (Attribute name text) is deep = absurd (no_attribute p y name text (are_first (y ∷ ys)) a b is deep r.first)
+      by next (Text text) is deep = (ap is_text is, deep, next (ap is_element is, ap is_attribute is, later p y ys deep (flat-text y text is) r))
 
-  run-below : (p : Node) (past : Bool) (ys : List Node) → Rest p past ys → IsRun x.depth (below x.depth ys)
-  run-below p past [] r = tt
-  run-below p past (y ∷ ys) r =
+  run-below : (p : Node) (ys : List Node) → Rest p ys → IsRun x.depth (below x.depth ys)
+  run-below p [] r = tt
+  run-below p (y ∷ ys) r =
       elim (cases_Bool (nat_lt x.depth y.depth)) [
-        | inl e ↦ rw e (by (λ next. run-below y (past || (y.depth == 0)) ys next) y.content refl (deep-of y ys e r.depths))
+        | inl e ↦ rw e (by (λ next. run-below y ys next) y.content refl (deep-of y ys e r.depths))
         | inr e ↦ rw e tt
       ]
     where
-      by : (Rest y (past || (y.depth == 0)) ys → IsRun x.depth (below x.depth ys)) → (c : Content) → y.content ≡ c → y.depth ≡ suc x.depth → IsRun x.depth (y ∷ below x.depth ys)
-      by next Root is deep = absurd (not-root y past (are_roots_first past ys) is deep (subst (λ b. cond b ((y.depth == 0) && not past && are_roots_first past ys) (are_roots_first (past || (y.depth == 0)) ys) ≡ true) (ap is_root is) r.roots))
+      by : (Rest y ys → IsRun x.depth (below x.depth ys)) → (c : Content) → y.content ≡ c → y.depth ≡ suc x.depth → IsRun x.depth (y ∷ below x.depth ys)
+      by next Root is deep = absurd (not-root y (are_tops ys) is deep r.tops)
       by next (Element name) is deep = absurd (no_element y name (visits_from (y ∷ still_above y.depth (x ∷ stay)) ys) is deep r.childless)
-      by next (Attribute name text) is deep = inl (ap is_attribute is, deep, next (later p y past ys deep (flat-attribute y name text is) (ap is_root is) r))
-      by next (Text text) is deep = inr (ap is_text is, deep, texts-below y (past || (y.depth == 0)) ys (ap is_element is) (ap is_attribute is) (later p y past ys deep (flat-text y text is) (ap is_root is) r))
+      by next (Attribute name text) is deep = inl (ap is_attribute is, deep, next (later p y ys deep (flat-attribute y name text is) r))
+      by next (Text text) is deep = inr (ap is_text is, deep, texts-below y ys (ap is_element is) (ap is_attribute is) (later p y ys deep (flat-text y text is) r))
 
 -- ---- the law
 
@@ -130,36 +128,29 @@ abbrev IsElementAt : ℕ → List Node → Type 0
 IsElementAt n [] = ⊤
 IsElementAt n (x ∷ xs) = cond (x.number == n) (is_element x.content ≡ true) (IsElementAt n xs)
 
-roots-tail : (past : Bool) (x : Node) (xs : List Node) → are_roots_first past (x ∷ xs) ≡ true → (later : Bool) × (are_roots_first later xs ≡ true)
-roots-tail past x xs h = by (is_root x.content) h
-  where
-    by : (b : Bool) → cond b ((x.depth == 0) && not past && are_roots_first past xs) (are_roots_first (past || (x.depth == 0)) xs) ≡ true → (later : Bool) × (are_roots_first later xs ≡ true)
-    by true h = (past, (and-true ((x.depth == 0) && not past) (are_roots_first past xs) h).1)
-    by false h = (past || (x.depth == 0), h)
+first-tail : (x : Node) (xs : List Node) → are_first (x ∷ xs) ≡ true → are_first xs ≡ true
+first-tail x [] h = refl
+first-tail x (y ∷ ys) h = (and-true (stands_first x y) (are_first (y ∷ ys)) h).1
 
-order-tail : (x : Node) (xs : List Node) → are_in_order (x ∷ xs) ≡ true → are_in_order xs ≡ true
-order-tail x [] h = refl
-order-tail x (y ∷ ys) h = (and-true (may_follow x y) (are_in_order (y ∷ ys)) h).1
-
-leaf-from : (n most : ℕ) (past : Bool) (above nodes : List Node) → IsElementAt n nodes → are_depths_from most nodes ≡ true → are_in_order nodes ≡ true → are_roots_first past nodes ≡ true
+leaf-from : (n most : ℕ) (above nodes : List Node) → IsElementAt n nodes → are_depths_from most nodes ≡ true → are_first nodes ≡ true → are_tops nodes ≡ true
     → list_any (λ v. is_element v.content && is_first n v.above) (visits_from above nodes) ≡ false → IsLeafAt n nodes
-leaf-from n most past above [] is depths ordered roots none = tt
-leaf-from n most past above (x ∷ xs) is depths ordered roots none =
+leaf-from n most above [] is depths first tops none = tt
+leaf-from n most above (x ∷ xs) is depths first tops none =
     let stay = still_above x.depth above in
     let inner = (and-true (nat_le x.depth most) (are_depths_from (reach x) xs) depths).1 in
-    let tail = roots-tail past x xs roots in
+    let tail = (and-true (not (is_root x.content) || (x.depth == 0)) (are_tops xs) tops).1 in
     let others = (or-false (is_element x.content && is_first n (numbers stay)) (list_any (λ v. is_element v.content && is_first n v.above) (visits_from (x ∷ stay) xs)) none).1 in
     elim (cases_Bool (x.number == n)) [
       | inl e ↦ rw e (
         rw e at is,
-        run-below n x stay e x tail.0 xs (record {
+        run-below n x stay e x xs (record {
           depths = subst (λ d. are_depths_from d xs ≡ true) (element-reach x.content (rw e at is)) inner;
-          ordered = ordered;
-          roots = tail.1;
+          first = first;
+          tops = tail;
           childless = others;
         }),
       )
-      | inr e ↦ rw e (leaf-from n (reach x) tail.0 (x ∷ stay) xs (rw e at is) inner (order-tail x xs ordered) tail.1 others)
+      | inr e ↦ rw e (leaf-from n (reach x) (x ∷ stay) xs (rw e at is) inner (first-tail x xs first) tail others)
     ]
   where
     element-reach : (c : Content) → is_element c ≡ true → cond (is_attribute c || is_text c) x.depth (suc x.depth) ≡ suc x.depth
@@ -187,5 +178,5 @@ element-at n (x ∷ xs) h =
     of_kind (Text text) e = cc e
 
 -- what the laws on texts need of an element stands in every forest
-pub leaf-in_forest : (n : ℕ) (forest : Forest) → IsForest forest → kind_at n forest.nodes ≡ Some kind.Element → has_elements (visits forest.nodes) n ≡ false → IsLeafAt n forest.nodes
-leaf-in_forest n forest sound is none = leaf-from n 0 false [] forest.nodes (element-at n forest.nodes is) sound.depths sound.ordered sound.roots none
+pub leaf-in_forest : (n : ℕ) (forest : Forest) → HasTrees forest → kind_at n forest.nodes ≡ Some kind.Element → has_elements (visits forest.nodes) n ≡ false → IsLeafAt n forest.nodes
+leaf-in_forest n forest sound is none = leaf-from n 0 [] forest.nodes (element-at n forest.nodes is) sound.depths sound.first sound.tops none

@@ -8,6 +8,7 @@ pub mod RenumberLaws
 pub mod RenumberChanges
 pub mod RenumberTexts
 pub mod OrderLaws
+pub mod LiveLaws
 pub mod MoveLemmas
 pub mod TextLaws
 pub mod Examples

@@ -8,7 +8,7 @@ use Rattle.xf_doc.specs.declared.content.Node.{Node}
 use Rattle.xf_doc.specs.Forest.{Forest, has_number}
 use Rattle.xf_doc.specs.Visit.{Visit, visits, visits_from, still_above, has}
 use Rattle.xf_doc.specs.Axis.{before, after, in_range, is_on, on_axis}
-use Rattle.xf_doc.specs.WellFormed.{IsForest, are_apart}
+use Rattle.xf_doc.specs.WellFormed.{HasTrees, are_apart}
 use Rattle.xf_doc.proofs.BackLaws.{and-true, or-false, not-true}
 
 -- the first list is the second without some of its items
@@ -89,7 +89,7 @@ both-true false b h k = h
 none-of : (b : Bool) → b ≡ false → not b ≡ true
 none-of b h = ap not h
 
-sub-has : (n : ℕ) {xs ys : List ℕ} → Sub xs ys → has n ys ≡ false → has n xs ≡ false
+pub sub-has : (n : ℕ) {xs ys : List ℕ} → Sub xs ys → has n ys ≡ false → has n xs ≡ false
 sub-has n done h = h
 sub-has n (skip {x = x} {ys = ys} p) h = sub-has n p (or-false (n == x) (has n ys) h).1
 sub-has n (keep {x = x} {xs = xs} {ys = ys} p) h =
@@ -106,7 +106,7 @@ sub-different (keep {x = x} {xs = xs} {ys = ys} p) h =
 turned : (m n : ℕ) → (m == n) ≡ (n == m)
 turned m n = grind (arith, nat_tests)
 
-seen-has : (n : ℕ) (above xs : List Node) → has n (map (λ v. v.number) (visits_from above xs)) ≡ has_number n xs
+pub seen-has : (n : ℕ) (above xs : List Node) → has n (map (λ v. v.number) (visits_from above xs)) ≡ has_number n xs
 seen-has n above [] = refl
 seen-has n above (x ∷ xs) =
     ap (λ b. b || has n (map (λ v. v.number) (visits_from (x ∷ still_above x.depth above) xs))) (turned n x.number)
@@ -121,9 +121,9 @@ seen-different above (x ∷ xs) h =
     (ap not (seen-has x.number stay xs) ∙ parts.0) (seen-different stay xs parts.1)
 
 -- the order list has no doubles
-pub visits-different : (forest : Forest) → IsForest forest → are_different (map (λ v. v.number) (visits forest.nodes)) ≡ true
+pub visits-different : (forest : Forest) → HasTrees forest → are_different (map (λ v. v.number) (visits forest.nodes)) ≡ true
 visits-different forest sound = seen-different [] forest.nodes sound.apart
 
 -- and what is on an axis has none
-pub axis-different : (axis : Axis) (forest : Forest) (x : Visit) → IsForest forest → are_different (map (λ v. v.number) (on_axis axis (visits forest.nodes) x)) ≡ true
+pub axis-different : (axis : Axis) (forest : Forest) (x : Visit) → HasTrees forest → are_different (map (λ v. v.number) (on_axis axis (visits forest.nodes) x)) ≡ true
 axis-different axis forest x sound = sub-different (map-sub (λ v. v.number) (axis-in_order axis (visits forest.nodes) x)) (visits-different forest sound)

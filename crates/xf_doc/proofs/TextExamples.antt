@@ -5,7 +5,7 @@ use Rattle.xf_doc.specs.declared.fault.TreeFault.TheVariants.{Nodes, NodeText, A
 use Rattle.xf_doc.specs.Texts.{Keeping, KeptText, attribute_text, element_texts, text_set, put_back, given_up, without_detached, without_from}
 use Rattle.xf_doc.specs.Changes.{in_instances, detached}
 use Rattle.xf_doc.specs.Undo.{noted, set, joined, cut, of_text, of_detach, kept_at, with_note, text_filled, place_filled, rolled_back}
-use Rattle.xf_doc.specs.WellFormed.{IsKeeping}
+use Rattle.xf_doc.specs.WellFormed.{AreTrees}
 use Rattle.xf_doc.specs.Examples.{rows, keeping, just, wide, element, attribute, text}
 
 abbrev kept_text : ℕ → ℕ → List ℕ → KeptText
@@ -58,8 +58,8 @@ all_texts_of_an_element_go : text_set wide 0 (codes "z") two_texts ≡ Ok (
 )
 all_texts_of_an_element_go = refl
 
-what_is_kept_stays_apart : IsKeeping with_new
-what_is_kept_stays_apart = record { forest = record { apart = refl; below = refl; depths = refl; ordered = refl; single = refl; roots = refl; documents = refl }; apart = refl; outside = refl; below = refl }
+what_is_kept_stays_apart : AreTrees with_new
+what_is_kept_stays_apart = record { apart = refl; below = refl; depths = refl; tops = refl; first = refl; kept_apart = refl; kept_outside = refl; kept_below = refl }
 
 -- ---- put back, given up, dropped
 

@@ -9,12 +9,16 @@ use Rattle.xf_doc.specs.declared.content.Kind.{Kind}
 use Rattle.xf_doc.specs.declared.content.Kind.TheVariants as kind
 use Rattle.xf_doc.specs.Forest.{Forest, kind_of, kind_at, is_attribute, has_number}
 use Rattle.xf_doc.specs.Shape.{shape_of}
-use Rattle.xf_doc.specs.WellFormed.{IsForest, IsKeeping, are_apart}
+use Rattle.xf_doc.specs.WellFormed.{HasTrees, AreTrees, are_apart}
 use Rattle.xf_doc.specs.Needs.{IsSettable}
 use Rattle.xf_doc.specs.Texts.{Keeping, is_attribute_at, with_text, put_back, before_of}
 use Rattle.xf_doc.proofs.BackLaws.{HasText, after_set, put_back-after_set, outside-all, and-true, not-true, attribute-absent, one_number}
 use Rattle.xf_doc.proofs.ShapeLaws.{shape-with_text}
 use Rattle.xf_doc.proofs.LeafLaws.{leaf-in_forest}
+
+-- what holds of a forest with kept texts holds of the forest
+pub in_forest : {k : Keeping} → AreTrees k → HasTrees k.forest
+in_forest sound = record { apart = sound.apart; below = sound.below; depths = sound.depths; tops = sound.tops; first = sound.first }
 
 some : {K : Type 0} {a b : K} → ◌≡◌ {A = Option K} (Some a) (Some b) → a ≡ b
 some e = cc e
@@ -53,7 +57,7 @@ element-there n (x ∷ xs) apart h =
       | inr e ↦ rw e (element-there n xs parts.1 (rw e at h))
     ]
 
-pub has_text : (n : ℕ) (forest : Forest) → IsForest forest → IsSettable n forest → HasText n forest.nodes
+pub has_text : (n : ℕ) (forest : Forest) → HasTrees forest → IsSettable n forest → HasText n forest.nodes
 has_text n forest sound able = by able.kind
   where
     by : (kind_at n forest.nodes ≡ Some kind.Attribute) ⊎ (kind_at n forest.nodes ≡ Some kind.Element) → HasText n forest.nodes
@@ -61,11 +65,11 @@ has_text n forest sound able = by able.kind
     by (inr h) = inr (element-there n forest.nodes sound.apart h, leaf-in_forest n forest sound h able.childless)
 
 -- setting a text never changes the shape
-pub setting-keeps_shape : (n : ℕ) (text : List ℕ) (forest : Forest) → IsForest forest → IsSettable n forest → shape_of (with_text n text forest).nodes ≡ shape_of forest.nodes
+pub setting-keeps_shape : (n : ℕ) (text : List ℕ) (forest : Forest) → HasTrees forest → IsSettable n forest → shape_of (with_text n text forest).nodes ≡ shape_of forest.nodes
 setting-keeps_shape n text forest sound able = shape-with_text n text forest able.childless (has_text n forest sound able)
 
 -- a setting is undone by putting back what was before: all but the next number is again as it was
-pub setting-undone : (n : ℕ) (text : List ℕ) (k : Keeping) → IsKeeping k → IsSettable n k.forest
+pub setting-undone : (n : ℕ) (text : List ℕ) (k : Keeping) → AreTrees k → IsSettable n k.forest
     → put_back n (before_of n k.forest.nodes) (after_set n text k) ≡ record k { forest = record k.forest { next = (with_text n text k.forest).next } }
 setting-undone n text k sound able =
-    put_back-after_set n text k sound.forest.apart (outside-all k.forest.nodes k.kept sound.outside) (has_text n k.forest sound.forest able)
+    put_back-after_set n text k sound.apart (outside-all k.forest.nodes k.kept sound.kept_outside) (has_text n k.forest (in_forest sound) able)

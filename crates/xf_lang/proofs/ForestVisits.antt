@@ -7,7 +7,7 @@ use Rattle.xf_doc.specs.declared.content.Content.{Content}
 use Rattle.xf_doc.specs.declared.content.Content.TheVariants as content
 use Rattle.xf_doc.specs.Forest.{Forest, is_text, is_attribute}
 use Rattle.xf_doc.specs.Visit.{Visit, still_above, numbers, visits_from, visits, has}
-use Rattle.xf_doc.specs.WellFormed.{IsForest, reach, are_depths_from}
+use Rattle.xf_doc.specs.WellFormed.{HasTrees, reach, are_depths_from}
 use Rattle.xf_doc.specs.Shape.{erased, without_text}
 use Rattle.xf_doc.proofs.BackLaws.{and-true, not-true}
 use Rattle.xf_doc.proofs.OrderLaws.{visits-different}
@@ -193,7 +193,7 @@ parents-erased all e k n ns x z h i j = by (found k all) (found n all) refl refl
         ap (λ (q : Visit). has_list q.content) (sym (some-same r)) ∙ list-erased v.content
         ∙ each-found (ParentIn all) k all y e a n ns v (ap (λ (q : Visit). q.above) (some-same l) ∙ i) b
 
-pub forest-visits : (forest : Forest) → IsForest forest → AreVisits (map erased (visits forest.nodes))
+pub forest-visits : (forest : Forest) → HasTrees forest → AreVisits (map erased (visits forest.nodes))
 forest-visits forest sound =
     let apart : are_apart (numbers_of (visits forest.nodes)) ≡ true = visits-different forest sound in
     record {

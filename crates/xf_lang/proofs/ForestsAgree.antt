@@ -8,7 +8,7 @@ use Rattle.xf_ast.specs.declared.expr.Start.TheVariants.{Root}
 use Rattle.xf_doc.specs.Visit.{Visit, visits, has, is_first, top_of}
 use Rattle.xf_doc.specs.StringValue.{string_value}
 use Rattle.xf_doc.specs.Shape.{erased, shape_of}
-use Rattle.xf_doc.specs.WellFormed.{IsForest}
+use Rattle.xf_doc.specs.WellFormed.{HasTrees}
 use Rattle.xf_lang.specs.declared.value.Value.{Value}
 use Rattle.xf_lang.specs.Given.{Document, Given, document_of}
 use Rattle.xf_lang.specs.Plain.{Plain, Functions}
@@ -45,8 +45,8 @@ pub record InBoth (first second : Forest) (k : ℕ) : Type 0 where
 
 -- what two forests have in common, whatever is asked of them
 pub record AreForests (functions : Functions) (most : Option ℕ) (given : Given) (documents : List Document) (first second : Forest) (model current : ℕ) : Type 0 where
-  pub is_first : IsForest first
-  pub is_second : IsForest second
+  pub is_first : HasTrees first
+  pub is_second : HasTrees second
   -- no node has the number of a text in a shape
   pub below : AreBelow (numbers_of (visits first.nodes))
   pub frame : HaveOneFrame (bare first) (bare second)

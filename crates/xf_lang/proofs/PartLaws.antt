@@ -8,7 +8,7 @@ use Rattle.xf_doc.specs.Forest.{Forest, is_text, own_text}
 use Rattle.xf_doc.specs.Visit.{Visit, visits, has, is_first, last_of}
 use Rattle.xf_doc.specs.StringValue.{string_value, value_in, text_below, characters}
 use Rattle.xf_doc.specs.Shape.{erased}
-use Rattle.xf_doc.specs.WellFormed.{IsForest}
+use Rattle.xf_doc.specs.WellFormed.{HasTrees}
 use Rattle.xf_doc.proofs.RenumberLaws.{map-map}
 use Rattle.xf_lang.specs.Asked.{found}
 use Rattle.xf_lang.specs.Agree.{numbers_of, are_apart, untexted, list_of, AreVisits, HaveOneFrame}
@@ -97,7 +97,7 @@ first-has n (m ∷ ms) h = or-left (n == m) (has n ms) h
 
 -- ---- a part of a forest
 
-module _ (tops : List ℕ) (part whole : Forest) (is_part : IsForest part) (is_whole : IsForest whole) (same : visits part.nodes ≡ filter (is_under tops) (visits whole.nodes)) where
+module _ (tops : List ℕ) (part whole : Forest) (is_part : HasTrees part) (is_whole : HasTrees whole) (same : visits part.nodes ≡ filter (is_under tops) (visits whole.nodes)) where
   part_visits : AreVisits (bare part)
   part_visits = forest-visits part is_part
 

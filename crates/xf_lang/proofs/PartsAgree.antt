@@ -7,7 +7,7 @@ use Rattle.xf_doc.specs.Forest.{Forest, is_text}
 use Rattle.xf_doc.specs.Visit.{Visit, visits, has}
 use Rattle.xf_doc.specs.StringValue.{string_value, value_in}
 use Rattle.xf_doc.specs.Shape.{erased, shape_of, only_text, visits_in, is_gone}
-use Rattle.xf_doc.specs.WellFormed.{IsForest}
+use Rattle.xf_doc.specs.WellFormed.{HasTrees}
 use Rattle.xf_doc.proofs.OrderLaws.{filter-sub, map-sub, sub-different}
 use Rattle.xf_doc.proofs.RenumberLaws.{map-map}
 use Rattle.xf_lang.specs.Given.{Given}
@@ -37,7 +37,7 @@ there n all h = by (found n all) refl (sym (has-found n all) ∙ h)
     by None e i = no i
     by (Some z) e i = (z, e)
 
-module _ (tops : List ℕ) (part whole : Forest) (is_part : IsForest part) (is_whole : IsForest whole) (same : visits part.nodes ≡ filter (is_under tops) (visits whole.nodes))
+module _ (tops : List ℕ) (part whole : Forest) (is_part : HasTrees part) (is_whole : HasTrees whole) (same : visits part.nodes ≡ filter (is_under tops) (visits whole.nodes))
     (functions : Functions) (most : Option ℕ) (given : Given) (model current : ℕ) (h : IsSurrounded functions most given part model current)
     (below : AreBelow (numbers_of (visits whole.nodes))) where
   in-both : (k : ℕ) → IsIn part k → InBoth part whole k

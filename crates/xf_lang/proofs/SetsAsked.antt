@@ -4,7 +4,7 @@ use Rattle.std.proofs.Common.{◌≡◌, ℕ, true, List, Bool, Option, Some, No
 use Rattle.xf_ast.specs.declared.expr.Expr.{Expr}
 use Rattle.xf_doc.specs.Forest.{Forest}
 use Rattle.xf_doc.specs.Visit.{Visit, visits}
-use Rattle.xf_doc.specs.WellFormed.{IsForest}
+use Rattle.xf_doc.specs.WellFormed.{HasTrees}
 use Rattle.xf_lang.specs.declared.value.Value.{Value}
 use Rattle.xf_lang.specs.Given.{Given, document_of}
 use Rattle.xf_lang.specs.Plain.{Plain, Functions}
@@ -31,7 +31,7 @@ IsIn forest k = (x : Visit) × (found k (untexted (bare forest)) ≡ Some x)
 
 -- a forest with what surrounds an expression
 pub record IsSurrounded (functions : Functions) (most : Option ℕ) (given : Given) (forest : Forest) (model current : ℕ) : Type 0 where
-  pub is_forest : IsForest forest
+  pub is_forest : HasTrees forest
   pub below : AreBelow (numbers_of (visits forest.nodes))
   pub current_stands : IsIn forest current
   pub documents_stand : (id : List ℕ) (n : ℕ) → document_of model id given.documents ≡ Some n → IsIn forest n

@@ -7,7 +7,7 @@ use Rattle.xf_doc.specs.declared.content.Content.{Content}
 use Rattle.xf_doc.specs.declared.content.Content.TheVariants as content
 use Rattle.xf_doc.specs.Forest.{Forest, is_text, is_element}
 use Rattle.xf_doc.specs.Visit.{Visit, visits, has}
-use Rattle.xf_doc.specs.WellFormed.{IsForest}
+use Rattle.xf_doc.specs.WellFormed.{HasTrees}
 use Rattle.xf_doc.specs.Shape.{Texts, text_number, text_visit, given_visits, visits_in, is_borne, is_replaced, is_gone, filled, retexted, has_elements, only_text, erased, without_text, shape, shape_of}
 use Rattle.xf_doc.proofs.BackLaws.{and-true, or-false, not-true}
 use Rattle.xf_doc.proofs.OrderLaws.{Sub, filter-sub, map-sub, sub-different}
@@ -345,7 +345,7 @@ closed-erased-in xs part same e k n ns x h i = by (found k xs) refl (sym (found-
     by (Some y) j l = ap (λ ys. option_map (λ (z : Visit). z.above) (found n ys)) same ∙ each-found (ClosedIn part) k xs y e j n ns (ap (λ (z : Visit). z.above) (some-same l) ∙ i)
 
 -- closed in the forest without texts is closed in the shape without them
-pub shape-visits : (forest : Forest) → IsForest forest → AreBelow (numbers_of (visits forest.nodes)) → AreVisits (map erased (shape_of forest.nodes))
+pub shape-visits : (forest : Forest) → HasTrees forest → AreBelow (numbers_of (visits forest.nodes)) → AreVisits (map erased (shape_of forest.nodes))
 shape-visits forest sound below =
     let real : List Visit = map erased (visits forest.nodes) in
     let v : AreVisits real = forest-visits forest sound in

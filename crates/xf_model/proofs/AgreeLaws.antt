@@ -8,7 +8,7 @@ use Rattle.xf_doc.specs.Forest.{Forest}
 use Rattle.xf_doc.specs.Visit.{Visit, visits, has, is_first}
 use Rattle.xf_doc.specs.StringValue.{string_value}
 use Rattle.xf_doc.specs.Shape.{erased, shape, shape_of}
-use Rattle.xf_doc.specs.WellFormed.{IsForest}
+use Rattle.xf_doc.specs.WellFormed.{HasTrees}
 use Rattle.xf_lang.specs.Given.{document_of}
 use Rattle.xf_lang.specs.Plain.{Plain, Functions}
 use Rattle.xf_lang.specs.Plain as plain
@@ -40,7 +40,7 @@ use Rattle.xf_model.proofs.ReadSolid.{IsSolid, AreSolid, AreHung}
 
 -- what surrounds the calculates of a model, over the nodes of a forest
 pub record AreData (scope : Scope) (most : ℕ) (forest : Forest) : Type 0 where
-  pub forest_is : IsForest forest
+  pub forest_is : HasTrees forest
   -- no node has the number of a text in a shape
   pub below : AreBelow (numbers_of (visits forest.nodes))
   -- texts stand in nodes
