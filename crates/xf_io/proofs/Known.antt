@@ -2,7 +2,8 @@
 use Rattle.std.proofs.Common.{◌-◌, length-append, ◌+◌, ◌<◌, min, length, length-drop, take, drop, arith, ◌≡◌, ℕ, List, [], ◌++◌, sym, ap, ◌∙◌, take_all, take-append-drop}
 use Rattle.std.proofs.lemmas.List.{length-take-le, take_at, drop-drop}
 use Rattle.std.proofs.Math.ListN.{drop_of_length-le}
-use Rattle.std.specs.Prelude.{Result, Ok, Err, OnErr}
+use Rattle.std.specs.Prelude.{Result, Ok, Err, OnErr, Option, Some, None}
+use Rattle.xf_io.specs.Flushed.{FlushesOn}
 
 -- what `&xs[n..]` is
 pub rest_from : (xs : List ℕ) (n : ℕ) → take (length xs - n) (drop n xs) ≡ drop n xs
@@ -24,3 +25,13 @@ read_front xs into front at most count n some f =
 pub on_err : {T E : Type 0} (r : Result T E) (P : Type 0) → P → OnErr r P
 on_err (Ok x) P p = tt
 on_err (Err e) P p = p
+
+pub flushes-refl : (a : Option ℕ) → FlushesOn a a
+flushes-refl None = tt
+flushes-refl (Some n) = omega arith
+
+pub flushes-trans : (a b c : Option ℕ) → FlushesOn a b → FlushesOn b c → FlushesOn a c
+flushes-trans None b c p q = tt
+flushes-trans (Some x) None c p q = absurd p
+flushes-trans (Some x) (Some y) None p q = absurd q
+flushes-trans (Some x) (Some y) (Some z) p q = omega (arith, p, q)

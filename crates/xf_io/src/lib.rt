@@ -2,6 +2,7 @@
 #![tactic(auto)]
 
 mod bytes;
+mod failing;
 mod lines;
 mod memory;
 mod part;
@@ -10,6 +11,7 @@ mod sink;
 mod source;
 
 pub use bytes::Bytes;
+pub use failing::FailingCalls;
 pub use lines::{Line, Lines};
 pub use memory::{MemorySink, MemorySource};
 pub use real::{FileSource, ReaderSource, WriterSink};

@@ -128,6 +128,8 @@ impl<W: Write> WriterSink<W> {
 impl<W: Write> Sink for WriterSink<W> {
     ghost taken = { λ _. None };
 
+    ghost flushed = { λ _. None };
+
     ghost faults = { λ failed. failed };
 
     fn write(&mut self, bytes: &[u8]) -> Result<usize, Failed> {

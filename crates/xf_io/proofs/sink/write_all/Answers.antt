@@ -2,7 +2,7 @@ use Rattle.std.proofs.Common.{◌≡◌, ◌+◌, ◌-◌, ◌++◌, ◌∙◌, 
 use Rattle.std.proofs.KnownBytes.{Appends-trans, Appends-kept}
 use Rattle.std.proofs.Math.Seq.{take-add}
 use Rattle.xf_io.specs.Front.{AppendsFront}
-use Rattle.xf_io.proofs.Known.{rest_from, on_err}
+use Rattle.xf_io.proofs.Known.{rest_from, on_err, flushes-trans}
 use Rattle.xf_io.proofs.sink.write_all.Goals as goal
 
 pub loop-done-preserved : goal.loop-done-preserved
@@ -17,6 +17,7 @@ loop-done-preserved g c =
       omega (arith, c.in_ok-count.ensures.bound, ap length (rest_from bytes done), length-drop done bytes),
       rw joined both,
       omega (arith, kept.2, c.in_ok-count.ensures.cause.later),
+      flushes-trans _ _ _ kept.3 c.in_ok-count.ensures.flushed,
     )
 
 pub returns-then-count-eq0-clause-err : goal.returns-then-count-eq0-clause-err

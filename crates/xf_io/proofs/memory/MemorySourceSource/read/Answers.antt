@@ -7,5 +7,5 @@ returns-clause-bytes c =
     let most = c.self.inside.piece in
     let read =
     read_front c.self.inside.held.items c.args.into.now c.copy_from_slice.new.self c.self.inside.at most c.min-count.result
-    (c.min-count.ensures ∙ ap (λ n. min n most) (rw (← c.deref-2.ensures.value) c.min.ensures)) c.self.invariant.1 (rw (← c.deref-2.ensures.value) c.copy_from_slice.ensures.after) in
+    (c.min-count.ensures ∙ ap (λ n. min n most) (rw (← c.deref.ensures.value) c.min.ensures)) c.self.invariant.1 (rw (← c.deref.ensures.value) c.copy_from_slice.ensures.after) in
     (sym (ap (λ s. s.left) c.self.view_is) ∙ read.0, read.1)
