@@ -7,7 +7,7 @@ work=$(mktemp -d)
 trap 'rm -rf "$work"' EXIT
 git init -q "$work"
 mkdir -p "$work/crates/funcs_bench/src" "$work/crates/funcs_bench/specs"
-for crate in xf_base xf_num xf_table xf_name xf_funcs; do
+for crate in xf_base xf_num xf_table xf_name xf_types xf_plain_values xf_dates xf_funcs; do
     cp -r "$here/../../crates/$crate" "$work/crates/$crate"
     rm -rf "$work/crates/$crate/out"
     grep "^$crate:" "$here/../../crates.txt" >> "$work/crates.txt"

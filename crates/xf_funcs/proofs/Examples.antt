@@ -1,12 +1,12 @@
 -- Worked values of the definitions.
-use Rattle.std.proofs.Common.{◌≡◌, true, false, [], ◌∷◌, Some, None, Ok, pos, negsuc, refl, codes, filter_map}
+use Rattle.std.proofs.Common.{◌≡◌, true, false, [], ◌∷◌, Some, None, pos, negsuc, refl, codes, filter_map}
 use Rattle.std.specs.Char.{encode_utf8}
 use Rattle.std.specs.Str.{chars}
-use Rattle.std.specs.Fmt.{digits}
 use Rattle.xf_num.specs.Number.{scale}
 use Rattle.xf_table.specs.Contents.{function_entries}
-use Rattle.xf_funcs.specs.declared.plain.Plain.TheVariants.{Text, Number, Truth}
+use Rattle.xf_plain_values.specs.declared.plain.Plain.TheVariants.{Text, Number, Truth}
 use Rattle.xf_funcs.specs.Called.{called}
+use Rattle.xf_funcs.specs.Served.{is_served}
 use Rattle.xf_funcs.specs.Numbers.{power}
 use Rattle.xf_funcs.specs.Searching.{around, is_true_text}
 use Rattle.xf_funcs.specs.Spaces.{words, joined}
@@ -72,27 +72,42 @@ truth_with_a_space : is_true_text (codes " true") ≡ false
 truth_with_a_space = refl
 
 -- calls, by the functions' places in their table: `concat`, `string-length`, `starts-with`, `compare`
-concat_called : called 6 6 (Text (codes "a") ∷ Truth true ∷ []) ≡ Ok (Text (codes "atrue"))
+concat_called : called (Some 4194304) 6 6 (Text (codes "a") ∷ Truth true ∷ []) ≡ Some (Text (codes "atrue"))
 unfolding function_entries
 concat_called = refl
 
-string_length_called : called 6 38 (Text (codes "abc") ∷ []) ≡ Ok (Number (Some (pos 3000000)))
+string_length_called : called (Some 4194304) 6 38 (Text (codes "abc") ∷ []) ≡ Some (Number (Some (pos 3000000)))
 unfolding function_entries chars scale
 string_length_called = refl
 
 -- U+1F600 is one character of four bytes
-one_character : called 6 38 (Text (240 ∷ 159 ∷ 152 ∷ 128 ∷ []) ∷ []) ≡ Ok (Number (Some (pos 1000000)))
+one_character : called (Some 4194304) 6 38 (Text (240 ∷ 159 ∷ 152 ∷ 128 ∷ []) ∷ []) ≡ Some (Number (Some (pos 1000000)))
 unfolding function_entries chars scale
 one_character = refl
 
-starts_with_called : called 6 36 (Text (codes "abc") ∷ Text (codes "b") ∷ []) ≡ Ok (Truth false)
+starts_with_called : called (Some 4194304) 6 36 (Text (codes "abc") ∷ Text (codes "b") ∷ []) ≡ Some (Truth false)
 unfolding function_entries chars
 starts_with_called = refl
 
-compare_called : called 6 5 (Text (codes "a") ∷ Text (codes "b") ∷ []) ≡ Ok (Number (Some (negsuc 999999)))
+compare_called : called (Some 4194304) 6 5 (Text (codes "a") ∷ Text (codes "b") ∷ []) ≡ Some (Number (Some (negsuc 999999)))
 unfolding function_entries chars scale
 compare_called = refl
 
-if_called : called 6 16 (Text [] ∷ Text (codes "x") ∷ Number (Some (pos 1500000)) ∷ []) ≡ Ok (Text (codes "1.5"))
-unfolding function_entries scale digits
-if_called = refl
+-- a string of at most 3 bytes
+string_too_long : called (Some 3) 6 6 (Text (codes "ab") ∷ Text (codes "cd") ∷ []) ≡ None
+unfolding function_entries
+string_too_long = refl
+
+string_without_a_limit : called None 6 6 (Text (codes "ab") ∷ Text (codes "cd") ∷ []) ≡ Some (Text (codes "abcd"))
+unfolding function_entries
+string_without_a_limit = refl
+
+-- `round` over numbers of two decimals
+rounded_hundredths : called None 2 32 (Text (codes "1.5") ∷ []) ≡ Some (Number (Some (pos 200)))
+unfolding function_entries scale
+rounded_hundredths = refl
+
+-- `substring` takes two arguments or three, `string-length` is given the context node where none is written, `count` takes nodes
+served : is_served 39 2 ∷ is_served 39 3 ∷ is_served 39 4 ∷ is_served 38 1 ∷ is_served 38 0 ∷ is_served 8 1 ∷ [] ≡ true ∷ true ∷ false ∷ true ∷ false ∷ false ∷ []
+unfolding function_entries
+served = refl

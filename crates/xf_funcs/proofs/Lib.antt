@@ -4,4 +4,5 @@ pub mod PlaceLemmas
 pub mod SpaceLemmas
 pub mod TranslateLemmas
 pub mod LimitLemmas
+pub mod CallLaws
 pub mod Examples

@@ -1,4 +1,3 @@
-pub mod Conversions
 pub mod Given
 pub mod Searching
 pub mod Substring
@@ -6,3 +5,4 @@ pub mod Translate
 pub mod Spaces
 pub mod Numbers
 pub mod Called
+pub mod Served

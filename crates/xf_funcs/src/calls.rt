@@ -1,25 +1,27 @@
 //! Calls of functions.
 
-ghost use Rattle.std.specs.Prelude.{◌≡◌};
-ghost use Rattle.xf_base.specs.Gives.{Gives};
+ghost use Rattle.std.specs.Prelude.{◌≡◌, length, true, Some};
+ghost use Rattle.xf_base.specs.Limits.{string_limit};
 ghost use Rattle.xf_table.specs.Contents.{function_entries};
 ghost use Rattle.xf_table.specs.Places.{name_at};
-ghost use Rattle.xf_funcs.specs.Called.{branch, by_name, by_numbers, called};
+ghost use Rattle.xf_plain_values.specs.Bounded.{GivesBounded};
+ghost use Rattle.xf_funcs.specs.Called.{by_name, called};
+ghost use Rattle.xf_funcs.specs.Served.{is_served};
 
-use crate::given::{argument_at, number_at, text_at, truth_at};
+use crate::dates::by_dates;
+use crate::fault::FuncFault;
+use crate::given::number_at;
 use crate::numbers::power;
-use crate::plain::{FuncFault, Plain};
-use crate::strings::by_strings;
 use std::alloc::Global;
+use xf_plain_values::Plain;
 use xf_table::functions::rows;
 
-/// The value of a function, which is known by its code in the table of functions, at these arguments.
+/// The value of a function on plain values, which is known by its code in the table of functions, at these arguments.
 ///
-/// It covers the functions that work on plain values alone, with as many arguments as they take; `number`, `string`,
-/// `string-length` and `normalize-space` are given one. An argument that is not given counts as the empty text, and another
-/// function gives the empty text.
+/// `string-length` and `normalize-space` are given one argument.
 pub fn call(alloc: Global, code: u16, given: &[Plain]) -> Result<Plain, FuncFault>
-    ensures { Gives FuncFault.Memory (λ value. value) result (called 6 code given.now) }
+    requires { is_served code (length given.now) ≡ true }
+    ensures { GivesBounded FuncFault.Memory FuncFault.Long (λ value. value) result (called (Some string_limit) 6 code given.now) }
 {
     by_name(alloc, name_of(code), given)
 }
@@ -35,45 +37,8 @@ fn name_of(code: u16) -> &'static str
 }
 
 fn by_name(alloc: Global, name: &str, given: &[Plain]) -> Result<Plain, FuncFault>
-    ensures { Gives FuncFault.Memory (λ value. value) result (by_name 6 name.now given.now) }
+    ensures { GivesBounded FuncFault.Memory FuncFault.Long (λ value. value) result (by_name (Some string_limit) 6 name.now given.now) }
 {
-    if name == "string" {
-        return text_at(alloc, given, 0);
-    }
-    if name == "boolean" {
-        return Ok(Plain::Truth(truth_at(given, 0)));
-    }
-    if name == "not" {
-        return Ok(Plain::Truth(!truth_at(given, 0)));
-    }
-    if name == "true" {
-        return Ok(Plain::Truth(true));
-    }
-    if name == "false" {
-        return Ok(Plain::Truth(false));
-    }
-    if name == "if" {
-        return text_at(alloc, given, branch(given));
-    }
-    if name == "choose" {
-        return argument_at(alloc, given, branch(given));
-    }
-    by_numbers(alloc, name, given)
-}
-
-/// The place of the argument that is chosen by the first.
-fn branch(given: &[Plain]) -> usize
-    ensures { result ≡ branch given.now }
-{
-    if truth_at(given, 0) { 1 } else { 2 }
-}
-
-fn by_numbers(alloc: Global, name: &str, given: &[Plain]) -> Result<Plain, FuncFault>
-    ensures { Gives FuncFault.Memory (λ value. value) result (by_numbers 6 name.now given.now) }
-{
-    if name == "number" {
-        return Ok(Plain::Number(number_at(given, 0)));
-    }
     if name == "round" {
         return Ok(Plain::Number(number_at(given, 0).round()));
     }
@@ -86,5 +51,5 @@ fn by_numbers(alloc: Global, name: &str, given: &[Plain]) -> Result<Plain, FuncF
     if name == "power" {
         return Ok(Plain::Number(power(number_at(given, 0), number_at(given, 1))));
     }
-    by_strings(alloc, name, given)
+    by_dates(alloc, name, given)
 }

@@ -34,20 +34,6 @@ pub const CEILING: [(&str, &str); 6] = [
     ("#999999999999.000001", "#NaN"),
 ];
 
-/// Of `number`.
-pub const NUMBER: [(&str, &str); 10] = [
-    ("12", "#12"),
-    (" -3.5 ", "#-3.5"),
-    ("1.0000009", "#1"),
-    ("1e3", "#NaN"),
-    ("+1", "#NaN"),
-    ("", "#NaN"),
-    ("\u{a0}1", "#NaN"),
-    ("1000000000000", "#NaN"),
-    ("?true", "#1"),
-    ("#0.10", "#0.1"),
-];
-
 /// Of `power`.
 pub const POWER: [(&str, &str); 18] = [
     ("#2|#10", "#1024"),
@@ -70,32 +56,6 @@ pub const POWER: [(&str, &str); 18] = [
     ("#3| 2 ", "#9"),
 ];
 
-/// Of `boolean`.
-pub const BOOLEAN: [(&str, &str); 8] = [
-    ("", "?false"),
-    ("false", "?true"),
-    (" ", "?true"),
-    ("#0", "?false"),
-    ("#NaN", "?false"),
-    ("#0.000001", "?true"),
-    ("#-1", "?true"),
-    ("?false", "?false"),
-];
-
-/// Of `not`.
-pub const NOT: [(&str, &str); 4] = [
-    ("?true", "?false"),
-    ("", "?true"),
-    ("#NaN", "?true"),
-    ("0", "?false"),
-];
-
-/// Of `true`.
-pub const TRUE: [(&str, &str); 1] = [("()", "?true")];
-
-/// Of `false`.
-pub const FALSE: [(&str, &str); 1] = [("()", "?false")];
-
 /// Of `boolean-from-string`.
 pub const BOOLEAN_FROM_STRING: [(&str, &str); 12] = [
     ("true", "?true"),
@@ -110,36 +70,6 @@ pub const BOOLEAN_FROM_STRING: [(&str, &str); 12] = [
     ("1 ", "?false"),
     ("yes", "?false"),
     ("11", "?false"),
-];
-
-/// Of `string`.
-pub const STRING: [(&str, &str); 8] = [
-    ("#1.0", "1"),
-    ("#-.50", "-0.5"),
-    ("#NaN", "NaN"),
-    ("#-0", "0"),
-    ("?true", "true"),
-    ("?false", "false"),
-    (" a ", " a "),
-    ("", ""),
-];
-
-/// Of `if`.
-pub const IF: [(&str, &str); 6] = [
-    ("?true|x|y", "x"),
-    ("?false|x|y", "y"),
-    ("|x|y", "y"),
-    ("a|#1.50|y", "1.5"),
-    ("#0|x|?true", "true"),
-    ("#NaN|x|", ""),
-];
-
-/// Of `choose`.
-pub const CHOOSE: [(&str, &str); 4] = [
-    ("?true|#1.50|y", "#1.5"),
-    ("|x|?true", "?true"),
-    ("a|x|y", "x"),
-    ("#0|x|", ""),
 ];
 
 /// Of `property`.

@@ -1,14 +1,17 @@
 //! The conversions of plain values.
 
-ghost use Rattle.std.specs.Prelude.{◌≡◌};
+ghost use Rattle.std.specs.Prelude.{◌≡◌, Some};
 ghost use Rattle.std.specs.Cow.{cow_str_bytes};
-ghost use Rattle.xf_base.specs.Gives.{Gives};
-ghost use Rattle.xf_funcs.specs.Conversions.{kept, is_not_zero, truth_of, whole, number_of_truth, number_of, text_of_truth, string_of};
+ghost use Rattle.xf_base.specs.Limits.{string_limit};
+ghost use Rattle.xf_plain_values.specs.Bounded.{GivesBounded, capped};
+ghost use Rattle.xf_plain_values.specs.Conversions.{whole, number_of_truth, number_in, text_of_truth};
+ghost use Rattle.xf_funcs.specs.Given.{string_of};
 
-use crate::plain::{FuncFault, Plain};
+use crate::fault::FuncFault;
 use std::alloc::Global;
 use std::borrow::CowStr;
 use xf_num::Num;
+use xf_plain_values::Plain;
 
 /// No string of an evaluation has more bytes.
 pub const STRING_LIMIT: usize = 4_194_304;
@@ -16,30 +19,9 @@ pub const STRING_LIMIT: usize = 4_194_304;
 /// The units in one.
 pub const ONE: u64 = 1_000_000;
 
-/// The value as a truth.
-pub fn truth_of(value: &Plain) -> bool
-    ensures { result ≡ truth_of value.now }
-{
-    match value {
-        Plain::Text(text) => !text.is_empty(),
-        Plain::Number(number) => is_not_zero(*number),
-        Plain::Truth(truth) => *truth,
-    }
-}
-
-/// Whether a number is neither zero nor NaN.
-fn is_not_zero(number: Num) -> bool
-    ensures { result ≡ is_not_zero number }
-{
-    match number.units() {
-        Some(units) => units != 0,
-        None => false,
-    }
-}
-
 /// The value as a number.
 pub fn number_of(value: &Plain) -> Num
-    ensures { result ≡ number_of 6 value.now }
+    ensures { result ≡ number_in 6 value.now }
 {
     match value {
         Plain::Text(text) => Num::read(text.as_str()),
@@ -64,12 +46,12 @@ pub fn whole(count: usize) -> Num
 
 /// The string of a value, which is copied only where it has to be made.
 pub fn string_of<'a>(alloc: Global, value: &'a Plain) -> Result<CowStr<'a, Global>, FuncFault>
-    ensures { Gives FuncFault.Memory cow_str_bytes result (string_of 6 value.now) }
+    ensures { GivesBounded FuncFault.Memory FuncFault.Long cow_str_bytes result (string_of (Some string_limit) 6 value.now) }
 {
     match value {
-        Plain::Text(text) => kept(CowStr::Borrowed(text.as_str())),
-        Plain::Number(number) => kept(CowStr::Owned(number.print(alloc)?)),
-        Plain::Truth(truth) => kept(CowStr::Borrowed(text_of_truth(*truth))),
+        Plain::Text(text) => capped(CowStr::Borrowed(text.as_str())),
+        Plain::Number(number) => capped(CowStr::Owned(number.print(alloc)?)),
+        Plain::Truth(truth) => capped(CowStr::Borrowed(text_of_truth(*truth))),
     }
 }
 
@@ -80,8 +62,8 @@ fn text_of_truth(truth: bool) -> &'static str
 }
 
 /// The string, where it keeps the limit.
-fn kept<'a>(string: CowStr<'a, Global>) -> Result<CowStr<'a, Global>, FuncFault>
-    ensures { Gives FuncFault.Memory cow_str_bytes result (kept (cow_str_bytes string.entry)) }
+fn capped<'a>(string: CowStr<'a, Global>) -> Result<CowStr<'a, Global>, FuncFault>
+    ensures { GivesBounded FuncFault.Memory FuncFault.Long cow_str_bytes result (capped (Some string_limit) (cow_str_bytes string.entry)) }
 {
     if string.len() > STRING_LIMIT {
         return Err(FuncFault::Long);

@@ -3,10 +3,12 @@
 
 mod calls;
 mod conversions;
+mod dates;
+mod fault;
 mod given;
 mod numbers;
-mod plain;
 mod searching;
+mod served;
 mod spaces;
 mod strings;
 mod substring;
@@ -14,7 +16,9 @@ mod text;
 mod translate;
 
 pub use calls::call;
-pub use plain::{FuncFault, Plain};
+pub use fault::FuncFault;
+pub use served::is_served;
+pub use xf_plain_values::Plain;
 
 #[cfg(test)]
 mod cases;

@@ -1,13 +1,14 @@
 //! Functions of strings.
 
-ghost use Rattle.std.specs.Prelude.{◌≡◌};
-ghost use Rattle.xf_base.specs.Gives.{Gives};
-ghost use Rattle.xf_funcs.specs.declared.plain.Plain.TheVariants.{Text};
+ghost use Rattle.std.specs.Prelude.{◌≡◌, Some};
+ghost use Rattle.xf_base.specs.Limits.{string_limit};
+ghost use Rattle.xf_plain_values.specs.declared.plain.Plain.TheVariants.{Text};
+ghost use Rattle.xf_plain_values.specs.Bounded.{GivesBounded};
 ghost use Rattle.xf_funcs.specs.Called.{property_value, concat_of, substring_called, translate_of, by_strings, by_texts};
 
 use crate::conversions::{STRING_LIMIT, string_of, whole};
+use crate::fault::FuncFault;
 use crate::given::{number_at, string_at};
-use crate::plain::{FuncFault, Plain};
 use crate::searching::{after, before, begins_with, compared, contains, is_true_text};
 use crate::spaces::normalized;
 use crate::substring::{substring_from, substring_of};
@@ -15,10 +16,11 @@ use crate::text::char_count;
 use crate::translate::translated;
 use std::alloc::Global;
 use xf_name::Word;
+use xf_plain_values::Plain;
 
 /// The functions that ask something of strings.
 pub fn by_strings(alloc: Global, name: &str, given: &[Plain]) -> Result<Plain, FuncFault>
-    ensures { Gives FuncFault.Memory (λ value. value) result (by_strings 6 name.now given.now) }
+    ensures { GivesBounded FuncFault.Memory FuncFault.Long (λ value. value) result (by_strings (Some string_limit) 6 name.now given.now) }
 {
     if name == "string-length" {
         let string = string_at(alloc, given, 0)?;
@@ -48,7 +50,7 @@ pub fn by_strings(alloc: Global, name: &str, given: &[Plain]) -> Result<Plain, F
 
 /// The functions that give texts.
 fn by_texts(alloc: Global, name: &str, given: &[Plain]) -> Result<Plain, FuncFault>
-    ensures { Gives FuncFault.Memory (λ value. value) result (by_texts 6 name.now given.now) }
+    ensures { GivesBounded FuncFault.Memory FuncFault.Long (λ value. value) result (by_texts (Some string_limit) 6 name.now given.now) }
 {
     if name == "concat" {
         return concat_of(alloc, given);
@@ -82,7 +84,7 @@ fn by_texts(alloc: Global, name: &str, given: &[Plain]) -> Result<Plain, FuncFau
 
 /// A text as a value.
 fn text(alloc: Global, text: &str) -> Result<Plain, FuncFault>
-    ensures { Gives FuncFault.Memory (λ value. value) result (Ok (Text text.now)) }
+    ensures { GivesBounded FuncFault.Memory FuncFault.Long (λ value. value) result (Some (Text text.now)) }
 {
     Ok(Plain::Text(Word::from_str(alloc, text)?))
 }
@@ -94,7 +96,7 @@ fn property_value(name: &str) -> &'static str
 }
 
 fn substring_called(alloc: Global, given: &[Plain]) -> Result<Plain, FuncFault>
-    ensures { Gives FuncFault.Memory (λ value. value) result (substring_called 6 given.now) }
+    ensures { GivesBounded FuncFault.Memory FuncFault.Long (λ value. value) result (substring_called (Some string_limit) 6 given.now) }
 {
     let string = string_at(alloc, given, 0)?;
     let start = number_at(given, 1);
@@ -108,7 +110,7 @@ fn substring_called(alloc: Global, given: &[Plain]) -> Result<Plain, FuncFault>
 }
 
 fn translate_of(alloc: Global, given: &[Plain]) -> Result<Plain, FuncFault>
-    ensures { Gives FuncFault.Memory (λ value. value) result (translate_of 6 given.now) }
+    ensures { GivesBounded FuncFault.Memory FuncFault.Long (λ value. value) result (translate_of (Some string_limit) 6 given.now) }
 {
     let string = string_at(alloc, given, 0)?;
     let from = string_at(alloc, given, 1)?;
@@ -119,7 +121,7 @@ fn translate_of(alloc: Global, given: &[Plain]) -> Result<Plain, FuncFault>
 
 /// The strings of all arguments, one behind the other.
 fn concat_of(alloc: Global, given: &[Plain]) -> Result<Plain, FuncFault>
-    ensures { Gives FuncFault.Memory (λ value. value) result (concat_of 6 given.now) }
+    ensures { GivesBounded FuncFault.Memory FuncFault.Long (λ value. value) result (concat_of (Some string_limit) 6 given.now) }
 {
     let mut made = Word::new(alloc);
     for value in given {

@@ -1,11 +1,11 @@
 //! Worked values, by name.
 
 use crate::cases::{
-    BOOLEAN, BOOLEAN_FROM_STRING, CEILING, CHOOSE, COMPARE, CONCAT, CONTAINS, FALSE, FLOOR, IF,
-    NORMALIZE_SPACE, NOT, NUMBER, POWER, PROPERTY, ROUND, STARTS_WITH, STRING, STRING_LENGTH,
-    SUBSTRING, SUBSTRING_AFTER, SUBSTRING_BEFORE, SUBSTRING_FROM, TRANSLATE, TRUE,
+    BOOLEAN_FROM_STRING, CEILING, COMPARE, CONCAT, CONTAINS, FLOOR, NORMALIZE_SPACE, POWER,
+    PROPERTY, ROUND, STARTS_WITH, STRING_LENGTH, SUBSTRING, SUBSTRING_AFTER, SUBSTRING_BEFORE,
+    SUBSTRING_FROM, TRANSLATE,
 };
-use crate::{FuncFault, Plain, call};
+use crate::{FuncFault, Plain, call, is_served};
 use std::alloc::{AllocError, Global};
 use std::process::Abort;
 use std::test::Fail;
@@ -52,6 +52,9 @@ fn written(alloc: Global, value: &Plain) -> Result<String, AllocError> {
 /// What a function answers, by its name.
 fn answer(alloc: Global, name: &str, given: &[Plain]) -> Result<Result<Plain, FuncFault>, Fail> {
     let code = find(rows(), name).ok_or("no such function")?;
+    if !is_served(code, given.len()) {
+        return Err(Fail::from("no such call"));
+    }
     Ok(call(alloc, code, given))
 }
 
@@ -79,20 +82,12 @@ fn numbers_are_rounded_and_raised(rt: HostRuntime) -> Result<(), Fail> {
     assert_gives(&rt, "round", &ROUND)?;
     assert_gives(&rt, "floor", &FLOOR)?;
     assert_gives(&rt, "ceiling", &CEILING)?;
-    assert_gives(&rt, "number", &NUMBER)?;
     assert_gives(&rt, "power", &POWER)
 }
 
 #[test]
-fn values_are_converted_and_chosen(rt: HostRuntime) -> Result<(), Fail> {
-    assert_gives(&rt, "boolean", &BOOLEAN)?;
-    assert_gives(&rt, "not", &NOT)?;
-    assert_gives(&rt, "true", &TRUE)?;
-    assert_gives(&rt, "false", &FALSE)?;
+fn truths_and_properties_are_told(rt: HostRuntime) -> Result<(), Fail> {
     assert_gives(&rt, "boolean-from-string", &BOOLEAN_FROM_STRING)?;
-    assert_gives(&rt, "string", &STRING)?;
-    assert_gives(&rt, "if", &IF)?;
-    assert_gives(&rt, "choose", &CHOOSE)?;
     assert_gives(&rt, "property", &PROPERTY)
 }
 
@@ -144,9 +139,8 @@ fn is_long(alloc: Global, name: &str, given: &[Plain]) -> Result<bool, Fail> {
 fn a_string_has_at_most_4_mib(rt: HostRuntime) -> Result<(), Fail> {
     let alloc = rt.alloc();
     // the function, the bytes past the limit, the other arguments, and whether a string is too long
-    let cases: [(&str, usize, &str, bool); 13] = [
-        ("string", 0, "()", false),
-        ("string", 1, "()", true),
+    let cases: [(&str, usize, &str, bool); 9] = [
+        ("string-length", 0, "()", false),
         ("string-length", 1, "()", true),
         ("normalize-space", 1, "()", true),
         ("substring", 1, "#1|#1", true),
@@ -154,10 +148,7 @@ fn a_string_has_at_most_4_mib(rt: HostRuntime) -> Result<(), Fail> {
         ("concat", 0, "", false),
         ("concat", 0, "b", true),
         ("translate", 0, "a|\u{1f600}", true),
-        ("boolean", 1, "()", false),
-        ("number", 1, "()", false),
-        ("if", 1, "x|y", false),
-        ("choose", 1, "x|y", false),
+        ("round", 1, "()", false),
     ];
     for (name, more, others, wanted) in cases {
         let mut given = vec![in alloc; long(alloc, more)?]?;
@@ -166,10 +157,5 @@ fn a_string_has_at_most_4_mib(rt: HostRuntime) -> Result<(), Fail> {
         }
         assert_eq!(rt; is_long(alloc, name, &given)?, wanted, "{name} {others}");
     }
-    let chosen = vec![in alloc; Plain::Truth(false), long(alloc, 1)?, value(alloc, "y")?]?;
-    assert!(rt; !is_long(alloc, "if", &chosen)?);
-    let other = vec![in alloc; Plain::Truth(true), long(alloc, 1)?, value(alloc, "y")?]?;
-    assert!(rt; is_long(alloc, "if", &other)?);
-    assert!(rt; !is_long(alloc, "choose", &other)?);
     Ok(())
 }

@@ -1,14 +1,14 @@
 //! Replacing characters.
 
-ghost use Rattle.std.specs.Prelude.{◌≡◌, ℕ, string_bytes, IfOk, IfErr, chars};
+ghost use Rattle.std.specs.Prelude.{◌≡◌, ℕ, Some, string_bytes, IfOk, IfErr, chars};
 ghost use Rattle.std.specs.BTreeMap.{get};
 ghost use Rattle.std.specs.Ordering.{nat_cmp};
-ghost use Rattle.xf_base.specs.Gives.{Gives};
-ghost use Rattle.xf_funcs.specs.Conversions.{kept};
+ghost use Rattle.xf_base.specs.Limits.{string_limit};
+ghost use Rattle.xf_plain_values.specs.Bounded.{GivesBounded, capped};
 ghost use Rattle.xf_funcs.specs.Translate.{first, others, mapped, kept_or, translated};
 
 use crate::conversions::STRING_LIMIT;
-use crate::plain::FuncFault;
+use crate::fault::FuncFault;
 use crate::text::split_first;
 use std::alloc::Global;
 use std::collections::BTreeMap;
@@ -18,7 +18,7 @@ type Images = BTreeMap<char, Option<char>>;
 
 /// The text with each character of the second text replaced by the one at the same place of the third.
 pub fn translated(alloc: Global, text: &str, from: &str, to: &str) -> Result<String, FuncFault>
-    ensures { Gives FuncFault.Memory string_bytes result (kept (translated text.now from.now to.now)) }
+    ensures { GivesBounded FuncFault.Memory FuncFault.Long string_bytes result (capped (Some string_limit) (translated text.now from.now to.now)) }
 {
     let images = images(alloc, from, to)?;
     let mut made = String::with_capacity(alloc, text.len())?;

@@ -6,8 +6,9 @@ use Rattle.xf_ast.specs.declared.expr.Operator.TheVariants.{Or, And, Equal, NotE
 use Rattle.xf_lang.specs.declared.value.Value.{Value}
 use Rattle.xf_lang.specs.declared.value.Value.TheVariants.{Truth}
 use Rattle.xf_lang.specs.Given.{document_of}
-use Rattle.xf_lang.specs.Plain.{Plain, Decimal, whole}
-use Rattle.xf_lang.specs.Plain as plain
+use Rattle.xf_plain_values.specs.declared.plain.Plain.{Plain}
+use Rattle.xf_plain_values.specs.Conversions.{Decimal, whole}
+use Rattle.xf_plain_values.specs.declared.plain.Plain.TheVariants as plain
 use Rattle.xf_lang.specs.Setting.{Setting, Focus, Meaning, ◌>>=◌}
 use Rattle.xf_lang.specs.Conversions.{nodes_of, truth_of}
 use Rattle.xf_lang.specs.Comparisons.{compared}

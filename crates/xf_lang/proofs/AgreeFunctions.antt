@@ -8,7 +8,8 @@ use Rattle.xf_doc.specs.Forest.{written_in}
 use Rattle.xf_doc.specs.Visit.{Visit, has}
 use Rattle.xf_lang.specs.declared.value.Value.{Value}
 use Rattle.xf_lang.specs.declared.value.Value.TheVariants.{Text, Number}
-use Rattle.xf_lang.specs.Plain.{Plain, Decimal, whole}
+use Rattle.xf_plain_values.specs.declared.plain.Plain.{Plain}
+use Rattle.xf_plain_values.specs.Conversions.{Decimal, whole}
 use Rattle.xf_lang.specs.Setting.{Setting, Focus, Meaning, ◌>>=◌, capped, in_order}
 use Rattle.xf_lang.specs.Conversions.{nodes_of, truth_of, is_filled, number_of, string_of, plain_of, value_of_plain, strings_of}
 use Rattle.xf_lang.specs.Functions.{argument, own_argument, plain_arguments, text_value, count_of, of_numbers, total, average, extreme, greater, lesser, first_name, local_part, namespace_of, branch, branched, called}

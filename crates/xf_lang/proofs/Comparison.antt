@@ -7,7 +7,7 @@ use Rattle.xf_ast.specs.declared.expr.Test.{Test}
 use Rattle.xf_doc.specs.Visit.{Visit, has}
 use Rattle.xf_lang.specs.declared.value.Value.{Value}
 use Rattle.xf_lang.specs.Given.{Document, document_of}
-use Rattle.xf_lang.specs.Plain.{Plain}
+use Rattle.xf_plain_values.specs.declared.plain.Plain.{Plain}
 use Rattle.xf_lang.specs.Setting.{Setting, in_order}
 use Rattle.xf_lang.specs.Asked.{found, parent_in, lists_below, list_around}
 use Rattle.xf_lang.specs.AskedSteps.{lists_of, is_kind, meets_texts}

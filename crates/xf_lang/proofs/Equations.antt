@@ -7,7 +7,7 @@ use Rattle.xf_ast.specs.declared.expr.Link.{Link}
 use Rattle.xf_ast.specs.declared.expr.Expr.TheOpen.{Expr-F}
 use Rattle.xf_ast.specs.declared.expr.Expr.TheFolds.{fold-roll-Expr, fold_out-Step, fold_out-Link}
 use Rattle.xf_ast.specs.declared.expr.Expr.TheVariants.{Number, Literal, Call, Negated, Chain, Filter, Path, From, rolls-Number, rolls-Literal, rolls-Call, rolls-Negated, rolls-Chain, rolls-Filter, rolls-Path, rolls-From}
-use Rattle.xf_lang.specs.Plain.{Decimal}
+use Rattle.xf_plain_values.specs.Conversions.{Decimal}
 use Rattle.xf_lang.specs.Setting.{Meaning, LinkMeaning, Walk}
 use Rattle.xf_lang.specs.Steps.{step_walk}
 use Rattle.xf_lang.specs.Meaning.{expr_meaning, link_meaning, meaning, meaning_of_link, walk_of}

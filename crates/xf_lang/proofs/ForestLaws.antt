@@ -13,7 +13,7 @@ use Rattle.xf_doc.proofs.RenumberLaws.{map-map, visits-renumbered, string_value-
 use Rattle.xf_doc.proofs.RenumberTexts.{shape_of-renumbered}
 use Rattle.xf_lang.specs.declared.context.Context.{Context}
 use Rattle.xf_lang.specs.Given.{Given}
-use Rattle.xf_lang.specs.Plain.{Functions}
+use Rattle.xf_plain_values.specs.Functions.{Functions}
 use Rattle.xf_lang.specs.Setting.{Setting, Focus, setting_over}
 use Rattle.xf_lang.specs.Meaning.{meaning}
 use Rattle.xf_lang.specs.Asked.{Trace, has_list, converted}

@@ -11,8 +11,9 @@ use Rattle.xf_doc.specs.Shape.{erased, shape_of}
 use Rattle.xf_doc.specs.WellFormed.{HasTrees}
 use Rattle.xf_lang.specs.declared.value.Value.{Value}
 use Rattle.xf_lang.specs.Given.{Document, Given, document_of}
-use Rattle.xf_lang.specs.Plain.{Plain, Functions}
-use Rattle.xf_lang.specs.Plain as plain
+use Rattle.xf_plain_values.specs.declared.plain.Plain.{Plain}
+use Rattle.xf_plain_values.specs.Functions.{Functions}
+use Rattle.xf_plain_values.specs.declared.plain.Plain.TheVariants as plain
 use Rattle.xf_lang.specs.Setting.{Setting, Focus, setting_over, ◌>>=◌}
 use Rattle.xf_lang.specs.Conversions.{string_of}
 use Rattle.xf_lang.specs.Table.{function_at}

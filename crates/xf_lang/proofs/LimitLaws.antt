@@ -13,7 +13,8 @@ use Rattle.xf_ast.specs.declared.expr.Test.{Test}
 use Rattle.xf_doc.specs.Forest.{written_in}
 use Rattle.xf_lang.specs.declared.value.Value.{Value}
 use Rattle.xf_lang.specs.declared.value.Value.TheVariants.{Nodes, Text, Number, Truth}
-use Rattle.xf_lang.specs.Plain.{Plain, Decimal, text_in}
+use Rattle.xf_plain_values.specs.declared.plain.Plain.{Plain}
+use Rattle.xf_plain_values.specs.Conversions.{Decimal, text_in}
 use Rattle.xf_lang.specs.Setting.{Setting, Focus, Meaning, LinkMeaning, Walk, ◌>>=◌, each, capped}
 use Rattle.xf_lang.specs.Conversions.{nodes_of, truth_of, string_of_node, strings_of, first_string, plain_of, number_of, string_of, value_of_plain}
 use Rattle.xf_lang.specs.Comparisons.{plains_of, pairs_hold, compared}

@@ -12,8 +12,9 @@ use Rattle.xf_doc.proofs.OrderLaws.{Sub, done, skip, keep, sub-none, sub-all, su
 use Rattle.xf_lang.specs.declared.value.Value.{Value}
 use Rattle.xf_lang.specs.declared.value.Value.TheVariants.{Nodes, Text, Number, Truth}
 use Rattle.xf_lang.specs.Given.{document_of, property_of}
-use Rattle.xf_lang.specs.Plain.{Plain, Decimal}
-use Rattle.xf_lang.specs.Plain as plain
+use Rattle.xf_plain_values.specs.declared.plain.Plain.{Plain}
+use Rattle.xf_plain_values.specs.Conversions.{Decimal}
+use Rattle.xf_plain_values.specs.declared.plain.Plain.TheVariants as plain
 use Rattle.xf_lang.specs.Setting.{Setting, Focus, Meaning, LinkMeaning, Walk, each, in_order}
 use Rattle.xf_lang.specs.Conversions.{nodes_of, truth_of, number_of, value_of_plain, strings_of}
 use Rattle.xf_lang.specs.Comparisons.{compared}

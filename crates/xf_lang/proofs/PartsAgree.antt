@@ -11,7 +11,7 @@ use Rattle.xf_doc.specs.WellFormed.{HasTrees}
 use Rattle.xf_doc.proofs.OrderLaws.{filter-sub, map-sub, sub-different}
 use Rattle.xf_doc.proofs.RenumberLaws.{map-map}
 use Rattle.xf_lang.specs.Given.{Given}
-use Rattle.xf_lang.specs.Plain.{Functions}
+use Rattle.xf_plain_values.specs.Functions.{Functions}
 use Rattle.xf_lang.specs.Setting.{Setting, Focus, setting_over, ◌>>=◌}
 use Rattle.xf_lang.specs.Conversions.{string_of}
 use Rattle.xf_lang.specs.Meaning.{meaning}

@@ -5,8 +5,9 @@ use Rattle.xf_ast.specs.declared.expr.Operator.{Operator}
 use Rattle.xf_ast.specs.declared.expr.Operator.TheVariants.{Or, And, Equal, NotEqual, Less, LessOrEqual, Greater, GreaterOrEqual, Add, Subtract, Multiply, Divide, Modulo, Union}
 use Rattle.xf_lang.specs.declared.value.Value.{Value}
 use Rattle.xf_lang.specs.declared.value.Value.TheVariants.{Nodes, Text, Number, Truth}
-use Rattle.xf_lang.specs.Plain.{Plain, Decimal, whole, number_in, text_in}
-use Rattle.xf_lang.specs.Plain as plain
+use Rattle.xf_plain_values.specs.declared.plain.Plain.{Plain}
+use Rattle.xf_plain_values.specs.Conversions.{Decimal, whole, number_in, text_in}
+use Rattle.xf_plain_values.specs.declared.plain.Plain.TheVariants as plain
 use Rattle.xf_lang.specs.Setting.{Setting, Focus, Meaning, LinkMeaning, ◌>>=◌, capped}
 use Rattle.xf_lang.specs.Conversions.{nodes_of, truth_of, is_filled, number_of, string_of, plain_of, value_of_plain}
 use Rattle.xf_lang.specs.Comparisons.{plains_of, some_pair, holds, pairs_hold, compared}

@@ -14,7 +14,7 @@ use Rattle.xf_lang.specs.declared.value.Value.{Value}
 use Rattle.xf_lang.specs.Given.{Document, Given, document_of}
 use Rattle.xf_lang.specs.Conversions.{nodes_of}
 use Rattle.xf_lang.specs.Functions.{set_of}
-use Rattle.xf_lang.specs.Plain.{Functions}
+use Rattle.xf_plain_values.specs.Functions.{Functions}
 use Rattle.xf_lang.specs.Setting.{Setting, Focus, setting_over, in_order, ◌>>=◌}
 use Rattle.xf_lang.specs.Conversions.{string_of}
 use Rattle.xf_lang.specs.Meaning.{meaning}

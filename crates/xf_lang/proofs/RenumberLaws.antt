@@ -13,8 +13,9 @@ use Rattle.xf_doc.specs.Same.{IsRenumbering, renumbered_visit}
 use Rattle.xf_doc.proofs.RenumberLaws.{map-cond, filter-through, find-through, map-map, map-reverse, has-renumbered, on_axis-renumbered}
 use Rattle.xf_lang.specs.declared.value.Value.{Value}
 use Rattle.xf_lang.specs.declared.value.Value.TheVariants.{Nodes, Text, Number, Truth}
-use Rattle.xf_lang.specs.Plain.{Plain, Decimal, text_in}
-use Rattle.xf_lang.specs.Plain as plain
+use Rattle.xf_plain_values.specs.declared.plain.Plain.{Plain}
+use Rattle.xf_plain_values.specs.Conversions.{Decimal, text_in}
+use Rattle.xf_plain_values.specs.declared.plain.Plain.TheVariants as plain
 use Rattle.xf_lang.specs.Setting.{Setting, ◌>>=◌, capped, in_order, joined}
 use Rattle.xf_lang.specs.Tests.{meets}
 use Rattle.xf_lang.specs.Conversions.{nodes_of, value_of_plain, is_filled, truth_of, string_of_node, strings_of, first_string, plain_of, number_of, string_of}

@@ -20,7 +20,8 @@ use Rattle.xf_doc.proofs.RenumberLaws.{find-through, top_of-renumbered}
 use Rattle.xf_lang.specs.declared.value.Value.{Value}
 use Rattle.xf_lang.specs.declared.value.Value.TheVariants.{Nodes, Text, Number, Truth}
 use Rattle.xf_lang.specs.Given.{Document, document_of, beside, property_of}
-use Rattle.xf_lang.specs.Plain.{Plain, Decimal, whole}
+use Rattle.xf_plain_values.specs.declared.plain.Plain.{Plain}
+use Rattle.xf_plain_values.specs.Conversions.{Decimal, whole}
 use Rattle.xf_lang.specs.Setting.{Setting, Focus, Meaning, LinkMeaning, Walk, ◌>>=◌, each, capped, in_order, joined}
 use Rattle.xf_lang.specs.Conversions.{nodes_of, truth_of, number_of, string_of, plain_of, value_of_plain, strings_of}
 use Rattle.xf_lang.specs.Steps.{reached, is_true_at, with_first, kept_from, kept_by_all, from_one, begun_at, step_walk, walked, begun}

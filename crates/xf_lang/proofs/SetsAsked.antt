@@ -7,8 +7,9 @@ use Rattle.xf_doc.specs.Visit.{Visit, visits}
 use Rattle.xf_doc.specs.WellFormed.{HasTrees}
 use Rattle.xf_lang.specs.declared.value.Value.{Value}
 use Rattle.xf_lang.specs.Given.{Given, document_of}
-use Rattle.xf_lang.specs.Plain.{Plain, Functions}
-use Rattle.xf_lang.specs.Plain as plain
+use Rattle.xf_plain_values.specs.declared.plain.Plain.{Plain}
+use Rattle.xf_plain_values.specs.Functions.{Functions}
+use Rattle.xf_plain_values.specs.declared.plain.Plain.TheVariants as plain
 use Rattle.xf_lang.specs.Setting.{Setting, Focus, setting_over}
 use Rattle.xf_lang.specs.Conversions.{nodes_of}
 use Rattle.xf_lang.specs.Table.{function_at}

@@ -7,8 +7,9 @@ use Rattle.xf_doc.specs.Forest.{name_in, is_text}
 use Rattle.xf_doc.specs.Visit.{Visit, has, first_of}
 use Rattle.xf_lang.specs.declared.value.Value.{Value}
 use Rattle.xf_lang.specs.declared.value.Value.TheVariants.{Nodes, Text, Number, Truth}
-use Rattle.xf_lang.specs.Plain.{Plain, Decimal, text_in}
-use Rattle.xf_lang.specs.Plain as plain
+use Rattle.xf_plain_values.specs.declared.plain.Plain.{Plain}
+use Rattle.xf_plain_values.specs.Conversions.{Decimal, text_in}
+use Rattle.xf_plain_values.specs.declared.plain.Plain.TheVariants as plain
 use Rattle.xf_lang.specs.Setting.{Setting, ◌>>=◌, capped, in_order}
 use Rattle.xf_lang.specs.Conversions.{nodes_of, string_of_node, strings_of, first_string, plain_of, number_of, string_of}
 use Rattle.xf_lang.specs.Comparisons.{plains_of, some_pair, holds, pairs_hold, compared}

@@ -8,8 +8,9 @@ use Rattle.xf_ast.specs.declared.expr.Operator.{Operator}
 use Rattle.xf_ast.specs.declared.expr.Operator.TheVariants.{Equal, NotEqual, Less, LessOrEqual, Greater, GreaterOrEqual}
 use Rattle.xf_lang.specs.declared.value.Value.{Value}
 use Rattle.xf_lang.specs.declared.value.Value.TheVariants.{Nodes, Truth}
-use Rattle.xf_lang.specs.Plain.{Plain, Decimal, truth_in, number_in}
-use Rattle.xf_lang.specs.Plain as plain
+use Rattle.xf_plain_values.specs.declared.plain.Plain.{Plain}
+use Rattle.xf_plain_values.specs.Conversions.{Decimal, truth_in, number_in}
+use Rattle.xf_plain_values.specs.declared.plain.Plain.TheVariants as plain
 use Rattle.xf_lang.specs.Setting.{Setting, ◌>>=◌}
 use Rattle.xf_lang.specs.Conversions.{is_filled, strings_of, plain_of}
 

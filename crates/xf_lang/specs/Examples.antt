@@ -17,8 +17,10 @@ use Rattle.xf_doc.specs.Examples.{node, element, attribute, text, qname}
 use Rattle.xf_lang.specs.declared.value.Value.{Value}
 use Rattle.xf_lang.specs.declared.value.Value.TheVariants.{Nodes, Text}
 use Rattle.xf_lang.specs.Given.{Given}
-use Rattle.xf_lang.specs.Plain.{Plain, Functions, text_in}
-use Rattle.xf_lang.specs.Plain as plain
+use Rattle.xf_plain_values.specs.declared.plain.Plain.{Plain}
+use Rattle.xf_plain_values.specs.Conversions.{text_in}
+use Rattle.xf_plain_values.specs.Functions.{Functions}
+use Rattle.xf_plain_values.specs.declared.plain.Plain.TheVariants as plain
 use Rattle.xf_lang.specs.Setting.{Focus, setting_over, capped}
 use Rattle.xf_lang.specs.Asked.{Trace, WalkTrace}
 use Rattle.xf_lang.specs.Reads.{expr_trace, step_trace, reads_in, looks_in, shape_setting}

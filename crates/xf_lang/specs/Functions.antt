@@ -10,7 +10,8 @@ use Rattle.xf_doc.specs.Visit.{Visit}
 use Rattle.xf_lang.specs.declared.value.Value.{Value}
 use Rattle.xf_lang.specs.declared.value.Value.TheVariants.{Nodes, Text, Number, Truth}
 use Rattle.xf_lang.specs.Given.{document_of, beside, property_of}
-use Rattle.xf_lang.specs.Plain.{Plain, Decimal, whole}
+use Rattle.xf_plain_values.specs.declared.plain.Plain.{Plain}
+use Rattle.xf_plain_values.specs.Conversions.{Decimal, whole}
 use Rattle.xf_lang.specs.Setting.{Setting, Focus, Meaning, ◌>>=◌, each, capped}
 use Rattle.xf_lang.specs.Conversions.{nodes_of, truth_of, number_of, string_of, plain_of, value_of_plain, strings_of, is_filled}
 use Rattle.xf_lang.specs.Comparisons.{is_less, is_greater}

@@ -1,5 +1,4 @@
 pub mod Given
-pub mod Plain
 pub mod Setting
 pub mod Tests
 pub mod Steps

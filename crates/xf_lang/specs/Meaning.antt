@@ -14,7 +14,7 @@ use Rattle.xf_lang.specs.declared.fault.EvalFault.TheVariants.{Long}
 use Rattle.xf_lang.specs.declared.value.Value.{Value}
 use Rattle.xf_lang.specs.declared.value.Value.TheVariants.{Nodes, Number}
 use Rattle.xf_lang.specs.Given.{Given}
-use Rattle.xf_lang.specs.Plain.{Functions}
+use Rattle.xf_plain_values.specs.Functions.{Functions}
 use Rattle.xf_lang.specs.Setting.{Setting, Focus, Meaning, LinkMeaning, Walk, ◌>>=◌, setting_over}
 use Rattle.xf_lang.specs.Conversions.{nodes_of, number_of, string_of}
 use Rattle.xf_lang.specs.Steps.{step_walk, kept_by_all, walked, begun}

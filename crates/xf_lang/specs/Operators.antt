@@ -6,7 +6,7 @@ use Rattle.xf_ast.specs.declared.expr.Operator.{Operator}
 use Rattle.xf_ast.specs.declared.expr.Operator.TheVariants.{Or, And, Add, Subtract, Multiply, Divide, Modulo, Union}
 use Rattle.xf_lang.specs.declared.value.Value.{Value}
 use Rattle.xf_lang.specs.declared.value.Value.TheVariants.{Nodes, Number, Truth}
-use Rattle.xf_lang.specs.Plain.{Decimal}
+use Rattle.xf_plain_values.specs.Conversions.{Decimal}
 use Rattle.xf_lang.specs.Setting.{Setting, Meaning, LinkMeaning, ◌>>=◌, in_order}
 use Rattle.xf_lang.specs.Conversions.{nodes_of, truth_of, number_of}
 use Rattle.xf_lang.specs.Comparisons.{compared}

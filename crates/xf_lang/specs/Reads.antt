@@ -10,7 +10,7 @@ use Rattle.xf_doc.specs.Visit.{Visit}
 use Rattle.xf_doc.specs.Shape.{shape_of}
 use Rattle.xf_lang.specs.declared.context.Context.{Context}
 use Rattle.xf_lang.specs.Given.{Given}
-use Rattle.xf_lang.specs.Plain.{Functions}
+use Rattle.xf_plain_values.specs.Functions.{Functions}
 use Rattle.xf_lang.specs.Setting.{Setting, Focus, Meaning, LinkMeaning, Walk, setting_over, in_order}
 use Rattle.xf_lang.specs.Steps.{step_walk, begun}
 use Rattle.xf_lang.specs.Table.{function_at}

@@ -1,13 +1,15 @@
 -- Where an expression is evaluated, and what a meaning is (XPath 1.0, section 1).
-use Rattle.std.specs.Prelude.{ℕ, ◌^◌, ◌*◌, List, [], ◌∷◌, map, filter, Option, Some, None}
+use Rattle.std.specs.Prelude.{ℕ, List, [], ◌∷◌, map, filter, Option, Some}
 use Rattle.std.specs.List.{flat_map}
 use Rattle.xf_ast.specs.declared.expr.Operator.{Operator}
 use Rattle.xf_doc.specs.Visit.{Visit, has}
-use Rattle.xf_doc.specs.StringValue.{within, string_value}
+use Rattle.xf_doc.specs.StringValue.{string_value}
 use Rattle.xf_doc.specs.Shape.{erased}
 use Rattle.xf_lang.specs.declared.value.Value.{Value}
 use Rattle.xf_lang.specs.Given.{Given}
-use Rattle.xf_lang.specs.Plain.{Plain, Functions}
+use Rattle.xf_plain_values.specs.declared.plain.Plain.{Plain}
+use Rattle.xf_plain_values.specs.Functions.{Functions}
+pub use Rattle.xf_plain_values.specs.Bounded.{◌>>=◌, capped}
 
 -- what is the same in all parts of an expression; the structure of the data stands apart from their texts
 pub record Setting : Type 0 where
@@ -56,12 +58,7 @@ setting_over functions most given all model current = record {
   current = current;
 }
 
--- ---- what may be too long
-
-infixl 10 ◌>>=◌
-abbrev pub ◌>>=◌ : {A B : Type 0} → Option A → (A → Option B) → Option B
-None >>= made = None
-Some x >>= made = made x
+-- ---- lists of what may be too long
 
 -- what is made of each item, unless something was too long
 abbrev pub each : {A B : Type 0} → (A → Option B) → List A → Option (List B)
@@ -70,11 +67,6 @@ each made (x ∷ xs) = do
   y ← made x
   ys ← each made xs
   Some (y ∷ ys)
-
--- a string, unless it is too long
-abbrev pub capped : Option ℕ → List ℕ → Option (List ℕ)
-capped None text = Some text
-capped (Some most) text = within most text
 
 -- ---- sets of nodes
 

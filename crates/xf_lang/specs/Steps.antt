@@ -12,7 +12,7 @@ use Rattle.xf_doc.specs.Visit.{Visit, top_of}
 use Rattle.xf_doc.specs.Axis.{axis_from}
 use Rattle.xf_lang.specs.declared.value.Value.{Value}
 use Rattle.xf_lang.specs.declared.value.Value.TheVariants.{Number}
-use Rattle.xf_lang.specs.Plain.{whole}
+use Rattle.xf_plain_values.specs.Conversions.{whole}
 use Rattle.xf_lang.specs.Setting.{Setting, Focus, Meaning, Walk, LinkMeaning, ◌>>=◌, each, in_order, joined}
 use Rattle.xf_lang.specs.Conversions.{truth_of}
 use Rattle.xf_lang.specs.Comparisons.{is_same_number}

@@ -10,8 +10,9 @@ use Rattle.xf_doc.specs.StringValue.{string_value}
 use Rattle.xf_doc.specs.Shape.{erased, shape, shape_of}
 use Rattle.xf_doc.specs.WellFormed.{HasTrees}
 use Rattle.xf_lang.specs.Given.{document_of}
-use Rattle.xf_lang.specs.Plain.{Plain, Functions}
-use Rattle.xf_lang.specs.Plain as plain
+use Rattle.xf_plain_values.specs.declared.plain.Plain.{Plain}
+use Rattle.xf_plain_values.specs.Functions.{Functions}
+use Rattle.xf_plain_values.specs.declared.plain.Plain.TheVariants as plain
 use Rattle.xf_lang.specs.Setting.{◌>>=◌}
 use Rattle.xf_lang.specs.Conversions.{nodes_of, string_of}
 use Rattle.xf_lang.specs.Functions.{set_of}

@@ -9,7 +9,7 @@ use Rattle.xf_ast.specs.declared.form.Bind.{Bind}
 use Rattle.xf_ast.specs.declared.form.Tables.{Tables}
 use Rattle.xf_types.specs.declared.kind.SimpleType.{SimpleType}
 use Rattle.xf_lang.specs.Given.{Given}
-use Rattle.xf_lang.specs.Plain.{Functions}
+use Rattle.xf_plain_values.specs.Functions.{Functions}
 use Rattle.xf_lang.specs.Table.{Function, function_at}
 use Rattle.xf_lang.specs.Table as of
 use Rattle.xf_lang.specs.Asked.{Trace}

@@ -1,4 +1,4 @@
-use Rattle.std.proofs.Common.{◌+◌, ◌<◌, length, inr, arith}
+use Rattle.std.proofs.Common.{◌+◌, ◌<◌, length, inr, refl, arith}
 use Rattle.std.specs.Cow.{cow_str_bytes}
 use Rattle.xf_base.specs.Limits.{string_limit}
 use Rattle.xf_funcs.proofs.LimitLemmas.{concat_fault, concat_long}
@@ -11,4 +11,4 @@ pub returns-then-len-gt-STRING_LIMIT : goal.returns-then-len-gt-STRING_LIMIT
 returns-then-len-gt-STRING_LIMIT c =
     let string = cow_str_bytes c.in-Ok.string in
     let long : string_limit < length c.loop-value.made + length string = omega arith in
-    inr (concat_long c.args.given.now c.loop-value.value-index c.value-item.result c.loop-value.made string (omega arith) c.value-item.is c.loop-value.invariant.0 c.in-Ok.ensures long)
+    inr (refl, concat_long c.args.given.now c.loop-value.value-index c.value-item.result c.loop-value.made string (omega arith) c.value-item.is c.loop-value.invariant.0 c.in-Ok.ensures long)

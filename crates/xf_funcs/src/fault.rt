@@ -1,16 +1,6 @@
-//! Plain values, and why a call has none.
+//! Why a call has no value.
 
 use std::alloc::{AllocError, AllocFailed};
-use xf_name::Word;
-use xf_num::Num;
-
-/// A value that is no set of nodes.
-#[derive(Debug, Drop)]
-pub enum Plain {
-    Text(Word),
-    Number(Num),
-    Truth(bool),
-}
 
 /// Why a call of a function has no value.
 #[derive(Clone, Copy, Debug, PartialEq, Eq)]
@@ -22,7 +12,7 @@ pub enum FuncFault {
 
 impl From<AllocError> for FuncFault {
     ghost use Rattle.std.specs.Prelude.{◌≡◌};
-    ghost use Rattle.xf_funcs.specs.declared.plain.FuncFault.TheVariants.{Memory};
+    ghost use Rattle.xf_funcs.specs.declared.fault.FuncFault.TheVariants.{Memory};
 
     ghost from_gives = { λ _ e. e ≡ Memory };
 
@@ -33,7 +23,7 @@ impl From<AllocError> for FuncFault {
 
 impl<T: Drop> From<AllocFailed<T>> for FuncFault {
     ghost use Rattle.std.specs.Prelude.{◌≡◌};
-    ghost use Rattle.xf_funcs.specs.declared.plain.FuncFault.TheVariants.{Memory};
+    ghost use Rattle.xf_funcs.specs.declared.fault.FuncFault.TheVariants.{Memory};
 
     ghost from_gives = { λ _ e. e ≡ Memory };
 

@@ -1,21 +1,13 @@
--- Plain values, which are no sets of nodes, and their conversions (XPath 1.0, sections 4.2 to 4.4). A number is that of so many decimals.
+-- The conversions of plain values (XPath 1.0, sections 4.2 to 4.4). A number is that of d decimals.
 use Rattle.std.specs.Prelude.{ℕ, ◌*◌, nat_lt, Bool, true, false, not, List, ℤ, pos, unsigned_abs, Option, Some, None, codes}
 use Rattle.xf_num.specs.Number.{scale, in_range}
 use Rattle.xf_num.specs.Written.{is_empty, read_at, printed}
+use Rattle.xf_plain_values.specs.declared.plain.Plain.{Plain}
+use Rattle.xf_plain_values.specs.declared.plain.Plain.TheVariants.{Text, Number, Truth}
 
 -- a number: a count of units of the last decimal, or None for NaN
 abbrev pub Decimal : Type 0
 Decimal = Option ℤ
-
-pub data Plain : Type 0 where
-  Text : List ℕ → Plain
-  Number : Decimal → Plain
-  Truth : Bool → Plain
-
--- the functions of plain values: by the most bytes that a string may have, the decimals of numbers, the code in the table of functions,
--- and the arguments; None is a string that has more
-abbrev pub Functions : Type 0
-Functions = Option ℕ → ℕ → ℕ → List Plain → Option Plain
 
 -- a whole number
 abbrev pub whole : ℕ → ℕ → Decimal
