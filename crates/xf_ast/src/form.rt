@@ -1,9 +1,14 @@
-//! The tables of a form's models (XForms 1.1, section 3). What is numbered is numbered in document order among its kind, from 0.
+//! The tables of a form (XForms 1.1, section 3). Models, instances, binds, submissions, repeats and switches are numbered in document order
+//! among their kind, from 0.
 
+use crate::element::{ElementList, Elements};
 use crate::expr::Expr;
 use xf_base::Items;
 use xf_name::Word;
 use xf_types::SimpleType;
+
+/// Places among the parts of elements, each within the one before.
+pub type PlaceList = Items<u32>;
 
 /// An instance: its tree stands under the root of its number.
 #[derive(Drop)]
@@ -11,6 +16,11 @@ pub struct Instance {
     pub model: u32,
     /// Empty where it has none.
     pub id: Word,
+    /// Where its document element stands in the form as it was read: its place among what stands in each element on the way down from the
+    /// root of the form, texts included, from 0.
+    pub place: PlaceList,
+    /// The namespace that an element without a prefix has there.
+    pub space: u16,
 }
 
 /// The instances of all models.
@@ -50,7 +60,27 @@ pub enum Selection {
     Bind(u32),
 }
 
-/// A submission, in so far as it says what is sent (XForms 1.1, section 11.1).
+/// How a submission calls the store (XForms 1.1, section 11.9).
+#[derive(Clone, Copy, Debug, PartialEq, Eq)]
+pub enum Method {
+    Put,
+    Post,
+    Get,
+}
+
+/// What the response of a submission replaces (XForms 1.1, section 11.1).
+#[derive(Clone, Copy, Debug, PartialEq, Eq)]
+pub enum Replace {
+    /// Nothing: a note is added.
+    All,
+    /// The target, by the element that the response is.
+    Instance,
+    /// The text of the target.
+    Text,
+    Nothing,
+}
+
+/// A submission (XForms 1.1, section 11.1).
 #[derive(Drop)]
 pub struct Submission {
     pub model: u32,
@@ -61,6 +91,16 @@ pub struct Submission {
     pub is_relevant: bool,
     /// Whether invalid nodes prevent it.
     pub is_validated: bool,
+    /// The name in the store: `resource`, else `action`.
+    pub resource: Word,
+    pub method: Method,
+    pub replace: Replace,
+    /// The instance whose document element is replaced where no target is written.
+    pub instance: Option<u32>,
+    /// `targetref`.
+    pub target: Option<Expr>,
+    /// Whether what is selected is sent; with the serialization `none` no bytes are.
+    pub is_serialized: bool,
 }
 
 /// The submissions of all models.
@@ -74,4 +114,18 @@ pub struct Tables {
     pub instances: InstanceList,
     pub binds: BindList,
     pub submissions: SubmissionList,
+}
+
+/// A form: its models, and all elements outside its instances.
+#[derive(Drop)]
+pub struct Form {
+    pub tables: Tables,
+    pub elements: Elements,
+    /// The elements of what is numbered among its kind, by these numbers.
+    pub models: ElementList,
+    pub instances: ElementList,
+    pub binds: ElementList,
+    pub submissions: ElementList,
+    pub repeats: ElementList,
+    pub switches: ElementList,
 }

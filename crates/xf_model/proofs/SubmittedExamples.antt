@@ -3,6 +3,8 @@ use Rattle.std.proofs.Common.{◌≡◌, ℕ, Bool, true, false, not, ◌||◌, 
 use Rattle.xf_base.specs.Limits.{string_limit}
 use Rattle.xf_ast.specs.declared.expr.Test.TheVariants as test
 use Rattle.xf_ast.specs.declared.form.Selection.TheVariants.{Whole, Bind}
+use Rattle.xf_ast.specs.declared.form.Method.TheVariants.{Put}
+use Rattle.xf_ast.specs.declared.form.Replace.TheVariants.{Nothing}
 use Rattle.xf_ast.specs.declared.form.Submission.{Submission}
 use Rattle.xf_name.specs.declared.axis.Axis.TheVariants as axis
 use Rattle.xf_doc.specs.Visit.{visits}
@@ -12,7 +14,19 @@ use Rattle.xf_model.specs.Submitted.{Submitted, left, no_data, invalid, by_expre
 use Rattle.xf_model.specs.Examples
 
 abbrev asking : Bool → Bool → Submission
-asking is_relevant is_validated = record { model = 0; id = []; selection = Whole; is_relevant = is_relevant; is_validated = is_validated }
+asking is_relevant is_validated = record {
+  model = 0;
+  id = [];
+  selection = Whole;
+  is_relevant = is_relevant;
+  is_validated = is_validated;
+  resource = codes "o.json";
+  method = Put;
+  replace = Nothing;
+  instance = None;
+  target = None;
+  is_serialized = true;
+}
 
 -- g and x in it with its text are irrelevant
 abbrev relevance : ℕ → Bool
