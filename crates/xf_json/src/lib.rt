@@ -7,7 +7,7 @@ mod reading;
 
 pub use fault::JsonFault;
 pub use printing::print;
-pub use reading::read;
+pub use reading::{read, value_of};
 
 #[cfg(test)]
 mod tests;

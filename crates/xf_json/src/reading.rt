@@ -24,8 +24,8 @@ pub fn read(alloc: Global, bytes: &[u8]) -> Result<Lit, JsonFault>
     }
 }
 
-// The value that bytes spell.
-fn value_of(alloc: Global, bytes: &[u8]) -> Result<Value, JsonFault>
+/// The value that bytes spell as JSON. `NotElement` does not come.
+pub fn value_of(alloc: Global, bytes: &[u8]) -> Result<Value, JsonFault>
     ensures { GivesValue result (value_in bytes.now) }
 {
     match Value::from_slice(alloc, bytes) {

@@ -2,7 +2,7 @@
 use Rattle.std.specs.Prelude.{ℕ, List, [], ◌∷◌, Bool, ◌&&◌, Option, Some, None, option_map, ok_or, Result, Ok, Err, length, nat_le, if◌then◌else◌, codes, bytes_eq}
 use Rattle.serde_json.specs.Data.{unsigned, Data, number, string, array, Items, no_items, item}
 use Rattle.xf_base.specs.Limits.{event_name_limit}
-use Rattle.xf_line.specs.Json.{json_of}
+use Rattle.xf_json.specs.Element.{value_in}
 use Rattle.xf_line.specs.declared.event.Event.{Event}
 use Rattle.xf_line.specs.declared.event.Event.TheVariants.{Set, Activate, Index, Send, Dispatch, Reset}
 use Rattle.xf_line.specs.declared.event.Asked.{Asked}
@@ -87,5 +87,5 @@ Err fault >>= f = Err fault
 -- what a line asks for, or why it asks for nothing
 unfoldable pub asked_by : List ℕ → Result Asked LineFault
 asked_by line = do
-  value ← ok_or (json_of line) NotJson
+  value ← ok_or (value_in line) NotJson
   ok_or (asked_of value) NotEvent

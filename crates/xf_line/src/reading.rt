@@ -1,16 +1,16 @@
 //! Reading a line.
 
-ghost use Rattle.std.specs.Prelude.{◌≡◌, IfOk, option_map};
+ghost use Rattle.std.specs.Prelude.{◌≡◌, IfOk};
 ghost use Rattle.serde_json.specs.View.{view, items_view};
 ghost use Rattle.xf_base.specs.Gives.{Gives};
-ghost use Rattle.xf_line.specs.Json.{json_of};
 ghost use Rattle.xf_line.specs.Line.{rows_in, set_in, activate_in, index_in, send_in, dispatch_in, reset_in, show_in, is_event_name, event_in, asked_in, asked_of, asked_by};
 
 use crate::event::{Asked, Event, RowList};
 use crate::fault::LineFault;
-use serde_json::{Category, Value};
+use serde_json::Value;
 use std::alloc::{AllocError, Global};
 use xf_base::Items;
+use xf_json::{JsonFault, value_of};
 use xf_name::Word;
 
 // The longest name of an event, in bytes.
@@ -23,25 +23,14 @@ const EVENT_NAME_LIMIT: usize = 255;
 pub fn read_line(alloc: Global, bytes: &[u8]) -> Result<Asked, LineFault>
     ensures { Gives LineFault.Memory (λ x. x) result (asked_by bytes.now) }
 {
-    let Some(value) = value_of(alloc, bytes)? else {
-        return Err(LineFault::NotJson);
+    let value = match value_of(alloc, bytes) {
+        Ok(value) => value,
+        Err(JsonFault::Memory) => return Err(LineFault::Memory),
+        Err(_) => return Err(LineFault::NotJson),
     };
     match asked_of(alloc, &value)? {
         Some(asked) => Ok(asked),
         None => Err(LineFault::NotEvent),
-    }
-}
-
-// The value that bytes spell, if they spell one.
-fn value_of(alloc: Global, bytes: &[u8]) -> Result<Option<Value>, AllocError>
-    ensures { IfOk result (λ value. option_map view value ≡ json_of bytes.now) }
-{
-    match Value::from_slice(alloc, bytes) {
-        Ok(value) => Ok(Some(value)),
-        Err(e) => match e.classify() {
-            Category::Memory => Err(AllocError),
-            _ => Ok(None),
-        },
     }
 }
 
