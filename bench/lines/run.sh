@@ -1,36 +1,23 @@
 #!/usr/bin/env bash
-# Times the program over 1,000 to 200,000 set lines, beside a Python loop over the same lines.
-# Usage: bench/lines/run.sh PROGRAM, with the path of the built program `xforms`.
-set -eu
-program=$(realpath "$1")
-here=$(cd "$(dirname "$0")" && pwd)
-work=$(mktemp -d)
-trap 'rm -rf "$work"' EXIT
+# Times the program over 10,000 to 200,000 set lines, beside a Python loop over the same lines. The time of a run without lines is taken
+# off. A line of the most may take at most 1.5 times as long as one of the fewest, and at most half of Python's time.
+# Usage: bench/lines/run.sh [PROGRAM], with the path of the built program `xforms`, else that which `run` builds.
+. "$(dirname "$0")/../common.sh"
+program=$(realpath "${1:-$top/crates/xforms/out/xforms}")
 cd "$work"
-seconds() { # the least of five runs
-  local least=""
-  for _ in 1 2 3 4 5; do
-    local from to took
-    from=$(date +%s%N)
-    "$@" <events >replies
-    to=$(date +%s%N)
-    took=$((to - from))
-    if [ -z "$least" ] || [ "$took" -lt "$least" ]; then least=$took; fi
-  done
-  echo "$least"
-}
-echo "lines  xforms_us_per_line  python_us_per_line"
-for count in 1000 10000 50000 200000; do
-  python3 "$here/make.py" . "$count"
-  : >events.empty
-  mv events events.all
-  mv events.empty events
-  idle=$(seconds "$program" try)
-  idle_python=$(seconds python3 "$here/loop.py")
-  mv events.all events
-  ours=$(seconds "$program" try)
-  tail -n 1 replies | grep -qx "ok $count"
-  theirs=$(seconds python3 "$here/loop.py")
-  awk -v n="$count" -v a="$ours" -v b="$theirs" -v c="$idle" -v d="$idle_python" \
-    'BEGIN { printf "%d  %.3f  %.3f\n", n, (a - c) / n / 1000, (b - d) / n / 1000 }'
+for count in 10000 50000 200000; do
+    python3 "$here/make.py" . "$count"
+    idle=$(least_of_five replies "$program" try </dev/null)
+    idle_python=$(least_of_five replies python3 "$here/loop.py" </dev/null)
+    ours=$(least_of_five replies bash -c '"$0" try <events' "$program")
+    tail -n 1 replies | grep -qx "ok $count"
+    theirs=$(least_of_five replies bash -c 'python3 "$0" <events' "$here/loop.py")
+    # nanoseconds a line
+    last=$(((ours - idle) * 100000 / count))
+    python=$(((theirs - idle_python) * 100000 / count))
+    : "${first:=$last}"
+    echo "$count lines: $last ns a line, Python $python ns a line"
 done
+verdict "a line of 200,000 beside one of 10,000, in hundredths" $((last * 100 / first)) 150
+verdict "a line beside Python's, in hundredths" $((last * 100 / python)) 50
+finish

@@ -1,0 +1,79 @@
+# What the benchmarks share: sourced by each bench/NAME/run.sh. It makes a new folder, `work`, which is removed at the end.
+set -euo pipefail
+here=$(cd "$(dirname "${BASH_SOURCE[1]}")" && pwd)
+top=$(cd "$(dirname "${BASH_SOURCE[0]}")/.." && pwd)
+work=$(mktemp -d)
+trap 'rm -rf "$work"' EXIT
+failed=0
+
+# The crates of crates.txt that these stand on, and these, each behind those below it.
+closure() {
+    awk -F: -v wanted="$*" '
+        function visit(name,  i, n, below) {
+            if (seen[name]++ || !(name in stands)) return
+            n = split(stands[name], below, " ")
+            for (i = 1; i <= n; i++) visit(below[i])
+            print name
+        }
+        { sub(/#.*/, "") }
+        NF > 1 { stands[$1] = $2 }
+        END { n = split(wanted, names, " "); for (i = 1; i <= n; i++) visit(names[i]) }' "$top/crates.txt"
+}
+
+# make_bench NAME CRATE..: proves and builds the program of main.rt.txt beside copies of these crates and of those below them, and
+# the plain program of plain.rs. They are then "$ours" and "$plain".
+make_bench() {
+    local name=$1 crate
+    shift
+    git init -q "$work"
+    mkdir -p "$work/crates/$name/src" "$work/crates/$name/specs"
+    for crate in $(closure "$@"); do
+        tar -C "$top/crates" --exclude=out --exclude=must-fail -cf - "$crate" | tar -C "$work/crates" -xf -
+        grep "^$crate:" "$top/crates.txt" >> "$work/crates.txt"
+    done
+    echo "$name: $*" >> "$work/crates.txt"
+    cp "$here/main.rt.txt" "$work/crates/$name/src/main.rt"
+    : > "$work/crates/$name/specs/Lib.antt"
+    (cd "$work/crates/$name" && rt run > "$work/built" 2>&1) || true
+    ours=$work/crates/$name/out/$name
+    [ -x "$ours" ] || { tail -n 20 "$work/built" >&2; exit 1; }
+    rustc -O -o "$work/plain" "$here/plain.rs"
+    plain=$work/plain
+}
+
+# least_of_five FILE COMMAND..: the least time of five runs in tenths of a millisecond. What was written stands in FILE.
+least_of_five() {
+    local to=$1 least=999999999 from took
+    shift
+    for _ in 1 2 3 4 5; do
+        from=$(date +%s%N)
+        "$@" > "$to"
+        took=$((($(date +%s%N) - from) / 100000))
+        if [ "$took" -lt "$least" ]; then least=$took; fi
+    done
+    echo "$least"
+}
+
+# beside MOST WORDS..: times both programs with these words. They must write the same, and ours may take at most MOST hundredths
+# of the plain program's time.
+beside() {
+    local most=$1 one other
+    shift
+    one=$(least_of_five "$work/one" "$ours" "$@")
+    other=$(least_of_five "$work/other" "$plain" "$@")
+    cmp "$work/one" "$work/other"
+    verdict "${*:-all}: ours $one, plain $other tenths of a ms, ratio in hundredths" $((one * 100 / other)) "$most"
+}
+
+# verdict WHAT NUMBER MOST: says a number and whether it is within its goal.
+verdict() {
+    if [ "$2" -le "$3" ]; then
+        echo "met: $1: $2, at most $3"
+    else
+        echo "MISSED: $1: $2, at most $3"
+        failed=1
+    fi
+}
+
+# ends with 0 exactly where each goal was met
+finish() { exit "$failed"; }
