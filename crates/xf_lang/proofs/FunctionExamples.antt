@@ -7,7 +7,7 @@ use Rattle.xf_ast.specs.declared.expr.Operator.TheVariants as operator
 use Rattle.xf_doc.specs.Visit.{visits}
 use Rattle.xf_lang.specs.declared.value.Value.TheVariants.{Nodes, Text, Number, Truth}
 use Rattle.xf_lang.specs.Asked.{Trace}
-use Rattle.xf_lang.specs.Binding.{bound_nodes}
+use Rattle.xf_lang.specs.Binding.{first_bound, bound_nodes}
 use Rattle.xf_lang.specs.Examples.{nodes, worth, worth_within, simple, step, below, child, up, here, path, from_root, from, filter_by, number, literal, call, two}
 
 abbrev all_a : Trace
@@ -200,6 +200,12 @@ a_long_result = refl
 
 a_text_stands_for_its_parent : bound_nodes (visits nodes) (4 ∷ 5 ∷ 12 ∷ []) ≡ 4 ∷ 11 ∷ []
 a_text_stands_for_its_parent = refl
+
+the_first_stands_for_its_parent : first_bound (visits nodes) (5 ∷ 6 ∷ []) ≡ 4 ∷ []
+the_first_stands_for_its_parent = refl
+
+the_first_stands_for_its_document : first_bound (visits nodes) (14 ∷ 16 ∷ []) ≡ 15 ∷ []
+the_first_stands_for_its_document = refl
 
 a_root_stands_for_its_document : bound_nodes (visits nodes) (0 ∷ 3 ∷ 14 ∷ []) ≡ 1 ∷ 3 ∷ 15 ∷ []
 a_root_stands_for_its_document = refl

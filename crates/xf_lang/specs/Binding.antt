@@ -20,6 +20,11 @@ abbrev pub stand_ins : List Visit → Option Visit → List ℕ
 stand_ins all None = []
 stand_ins all (Some x) = stand_in all x x.content
 
--- in document order, each once
+-- where one node is taken, the first is, and then what it stands for
+abbrev pub first_bound : List Visit → List ℕ → List ℕ
+first_bound all [] = []
+first_bound all (n ∷ ns) = stand_ins all (find (λ x. x.number == n) all)
+
+-- where all are taken, each stands for its node: in document order, each once
 abbrev pub bound_nodes : List Visit → List ℕ → List ℕ
 bound_nodes all ns = in_order all (flat_map (λ n. stand_ins all (find (λ x. x.number == n) all)) ns)

@@ -3,7 +3,7 @@ use Rattle.std.specs.Prelude.{ℕ, Bool, true, false, List, [], ◌∷◌, Optio
 use Rattle.xf_lang.specs.declared.value.Value.{Value}
 use Rattle.xf_lang.specs.declared.value.Value.TheVariants.{Nodes, Text, Number, Truth}
 use Rattle.xf_plain_values.specs.declared.plain.Plain.{Plain}
-use Rattle.xf_plain_values.specs.Conversions.{Decimal, is_not_zero, number_in, text_in}
+use Rattle.xf_plain_values.specs.Conversions.{Decimal, truth_in, number_in, text_in}
 use Rattle.xf_plain_values.specs.declared.plain.Plain.TheVariants as plain
 use Rattle.xf_lang.specs.Setting.{Setting, ◌>>=◌, each, capped}
 
@@ -25,9 +25,9 @@ is_filled (x ∷ xs) = true
 
 abbrev pub truth_of : Value → Bool
 truth_of (Nodes ns) = is_filled ns
-truth_of (Text text) = is_filled text
-truth_of (Number k) = is_not_zero k
-truth_of (Truth b) = b
+truth_of (Text text) = truth_in (plain.Text text)
+truth_of (Number k) = truth_in (plain.Number k)
+truth_of (Truth b) = truth_in (plain.Truth b)
 
 -- ---- as a text or a number
 

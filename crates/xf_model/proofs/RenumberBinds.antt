@@ -14,7 +14,7 @@ use Rattle.xf_ast.specs.declared.expr.Expr.{Expr}
 use Rattle.xf_lang.specs.Given.{first_document}
 use Rattle.xf_lang.specs.Setting.{Setting, Focus, ◌>>=◌, each, in_order, joined}
 use Rattle.xf_lang.specs.Conversions.{nodes_of}
-use Rattle.xf_lang.specs.Binding.{as_list, stand_in, stand_ins, bound_nodes}
+use Rattle.xf_lang.specs.Binding.{as_list, stand_in, stand_ins, first_bound, bound_nodes}
 use Rattle.xf_lang.specs.Asked.{Trace}
 use Rattle.xf_lang.specs.Reads.{trace, reads_in, looks_in}
 use Rattle.xf_lang.specs.Same.{renumbered_value, renumbered_focus, renumbered_setting, HasStrings}
@@ -22,8 +22,9 @@ use Rattle.xf_lang.proofs.Options.{then-through, map-through, each-through}
 use Rattle.xf_lang.proofs.RenumberLaws.{in_order-renumbered, found-renumbered, flat-renumbered, joined-renumbered, nodes-renumbered}
 use Rattle.xf_lang.proofs.RenumberValues.{Renumbers, document_of-renumbered}
 use Rattle.xf_lang.proofs.RenumberReads.{trace-renumbered, reads-renumbered, looks-renumbered}
-use Rattle.xf_model.specs.Rules.{Rule, Scope, chain_around, chains}
+use Rattle.xf_model.specs.Rules.{Rule, Scope, scope_of_bind, chain_around, chains}
 use Rattle.xf_model.specs.Nested.{alone, setting_for, set_from, reached_through, begun, sets_of, nested}
+use Rattle.xf_model.specs.Submitted.{first_from}
 use Rattle.xf_model.specs.Pertinent.{AllOf}
 use Rattle.xf_model.specs.Same.{renumbered_scope}
 
@@ -68,6 +69,11 @@ module _ (f : ℕ → ℕ) (same : IsRenumbering f) where
   stand_ins-renumbered all None = refl
   stand_ins-renumbered all (Some x) = stand_in-renumbered all x x.content
 
+  pub first_bound-renumbered : (all : List Visit) (ns : List ℕ) → first_bound (map (renumbered_visit f) all) (map f ns) ≡ map f (first_bound all ns)
+  first_bound-renumbered all [] = refl
+  first_bound-renumbered all (n ∷ ns) =
+      ap (stand_ins (map (renumbered_visit f) all)) (found-renumbered f same n all) ∙ stand_ins-renumbered all (find (λ x. x.number == n) all)
+
   pub bound-renumbered : (all : List Visit) (ns : List ℕ) → bound_nodes (map (renumbered_visit f) all) (map f ns) ≡ map f (bound_nodes all ns)
   bound-renumbered all ns =
       ap (in_order (map (renumbered_visit f) all))
@@ -104,6 +110,13 @@ module _ (f : ℕ → ℕ) (same : IsRenumbering f) where
         ∙ map-through (renumbered_value f) (map f) (t.meaning (setting_for most scope all n) (alone n)) (λ v. bound_nodes all (nodes_of v)) (λ v. bound_nodes others (nodes_of v))
         (λ v. ap (bound_nodes others) (nodes-renumbered f v) ∙ bound-renumbered all (nodes_of v))
 
+    pub first-renumbered : (t : Trace) → TraceGoes f t → (n : ℕ) → first_from most (renumbered_scope f scope) others t (f n) ≡ option_map (map f) (first_from most scope all t n)
+    first-renumbered t goes n =
+        ap (λ s. option_map (λ v. first_bound others (nodes_of v)) (t.meaning s (alone (f n)))) (setting-renumbered n)
+        ∙ ap (option_map (λ v. first_bound others (nodes_of v))) (goes.meaning (setting_for most scope all n) new_strings (strings-kept n) (alone n))
+        ∙ map-through (renumbered_value f) (map f) (t.meaning (setting_for most scope all n) (alone n)) (λ v. first_bound all (nodes_of v)) (λ v. first_bound others (nodes_of v))
+        (λ v. ap (first_bound others) (nodes-renumbered f v) ∙ first_bound-renumbered all (nodes_of v))
+
     pub through-renumbered : (ts : List Trace) → AllOf (TraceGoes f) ts → (ns : List ℕ)
         → reached_through most (renumbered_scope f scope) others ts (map f ns) ≡ option_map (map f) (reached_through most scope all ts ns)
     through-renumbered [] goes ns = refl
@@ -127,7 +140,9 @@ module _ (f : ℕ → ℕ) (same : IsRenumbering f) where
         (each (set_from most scope all r.node_set)) (each (set_from most (renumbered_scope f scope) others r.node_set))
         (λ ns. each-through f (map f) (set_from most scope all r.node_set) (set_from most (renumbered_scope f scope) others r.node_set) (set-renumbered r.node_set own) ns)
 
-    pub nested-renumbered : (bind : ℕ) → AllOf (TraceGoes f) (get_or (chains scope) bind []) → nested most (renumbered_scope f scope) others bind ≡ option_map (map f) (nested most scope all bind)
-    nested-renumbered bind goes =
-        ap (reached_through most (renumbered_scope f scope) others (get_or (chains scope) bind [])) begun-renumbered
-        ∙ through-renumbered (get_or (chains scope) bind []) goes (begun scope)
+  pub nested-renumbered : (most : Option ℕ) (scope : Scope) (all : List Visit) (bind : ℕ) → AllOf (TraceGoes f) (get_or (chains scope) bind [])
+      → nested most (renumbered_scope f scope) (map (renumbered_visit f) all) bind ≡ option_map (map f) (nested most scope all bind)
+  nested-renumbered most scope all bind goes =
+      let own = scope_of_bind scope bind in
+      ap (reached_through most (renumbered_scope f own) (map (renumbered_visit f) all) (get_or (chains scope) bind [])) (begun-renumbered most own all)
+      ∙ through-renumbered most own all (get_or (chains scope) bind []) goes (begun own)

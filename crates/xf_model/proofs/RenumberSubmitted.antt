@@ -13,11 +13,11 @@ use Rattle.xf_lang.specs.Setting.{each, joined}
 use Rattle.xf_lang.specs.Reads.{trace}
 use Rattle.xf_lang.proofs.Options.{map-through, each-through}
 use Rattle.xf_lang.proofs.RenumberLaws.{found-renumbered, joined-renumbered}
-use Rattle.xf_model.specs.Rules.{Scope, chains}
-use Rattle.xf_model.specs.Nested.{set_from, begun, nested}
-use Rattle.xf_model.specs.Submitted.{Submitted, no_data, first_in, selected_by, element_in, element_of, kept_below, unless_invalid, validated, sent_from, left_by, submitted_from, submitted}
+use Rattle.xf_model.specs.Rules.{Scope, in_model, chains}
+use Rattle.xf_model.specs.Nested.{begun, nested}
+use Rattle.xf_model.specs.Submitted.{Submitted, no_data, first_in, first_from, selected_by, element_in, element_of, kept_below, unless_invalid, validated, sent_from, left_by, submitted_from, submitted}
 use Rattle.xf_model.specs.Same.{renumbered_scope, renumbered_submitted}
-use Rattle.xf_model.proofs.RenumberBinds.{trace-goes, set-renumbered, begun-renumbered, nested-renumbered}
+use Rattle.xf_model.proofs.RenumberBinds as binds
 use Rattle.xf_model.proofs.RenumberApplied.{got, all-chains_go}
 use Rattle.xf_model.proofs.RenumberEntries.{ScopeGoes, sets-go}
 
@@ -30,15 +30,15 @@ module _ (f : ℕ → ℕ) (same : IsRenumbering f) where
 
   selected-renumbered : (most : Option ℕ) (scope : Scope) (all : List Visit) → ScopeGoes f scope → (selection : Selection)
       → selected_by most (renumbered_scope f scope) (map (renumbered_visit f) all) selection ≡ option_map (option_map f) (selected_by most scope all selection)
-  selected-renumbered most scope all goes Whole = ap (λ ns. Some (first_in ns)) (begun-renumbered f same most scope all) ∙ ap Some (first-renumbered (begun scope))
+  selected-renumbered most scope all goes Whole = ap (λ ns. Some (first_in ns)) (binds.begun-renumbered f same most scope all) ∙ ap Some (first-renumbered (begun scope))
   selected-renumbered most scope all goes (Ref expr) =
-      ap (λ ns. option_map (λ sets. first_in (joined sets)) (each (set_from most (renumbered_scope f scope) (map (renumbered_visit f) all) (trace expr)) ns)) (begun-renumbered f same most scope all)
+      ap (λ ns. option_map (λ sets. first_in (joined sets)) (each (first_from most (renumbered_scope f scope) (map (renumbered_visit f) all) (trace expr)) ns)) (binds.begun-renumbered f same most scope all)
       ∙ ap (option_map (λ sets. first_in (joined sets)))
-      (each-through f (map f) (set_from most scope all (trace expr)) (set_from most (renumbered_scope f scope) (map (renumbered_visit f) all) (trace expr)) (set-renumbered f same most scope all (trace expr) (trace-goes f same expr)) (begun scope))
-      ∙ map-through (map (map f)) (option_map f) (each (set_from most scope all (trace expr)) (begun scope)) (λ sets. first_in (joined sets)) (λ sets. first_in (joined sets))
+      (each-through f (map f) (first_from most scope all (trace expr)) (first_from most (renumbered_scope f scope) (map (renumbered_visit f) all) (trace expr)) (binds.first-renumbered f same most scope all (trace expr) (binds.trace-goes f same expr)) (begun scope))
+      ∙ map-through (map (map f)) (option_map f) (each (first_from most scope all (trace expr)) (begun scope)) (λ sets. first_in (joined sets)) (λ sets. first_in (joined sets))
       (λ sets. ap first_in (joined-renumbered f sets) ∙ first-renumbered (joined sets))
   selected-renumbered most scope all goes (Bind bind) =
-      ap (option_map first_in) (nested-renumbered f same most scope all bind (got f (chains scope) bind (all-chains_go f scope (sets-go f scope.rules goes))))
+      ap (option_map first_in) (binds.nested-renumbered f same most scope all bind (got f (chains scope) bind (all-chains_go f scope (sets-go f scope.rules goes))))
       ∙ map-through (map f) (option_map f) (nested most scope all bind) first_in first_in first-renumbered
 
   -- ---- what is left
@@ -102,8 +102,9 @@ module _ (f : ℕ → ℕ) (same : IsRenumbering f) where
       → (nodes : List Node) (s : Submission)
       → submitted (renumbered_scope f scope) new_relevant new_valid (map (renumbered f) nodes) s ≡ option_map (renumbered_submitted f) (submitted scope is_relevant is_valid nodes s)
   submitted-renumbered scope goes is_relevant new_relevant is_valid new_valid h k nodes s =
-      ap (λ all. option_map (submitted_from s new_relevant new_valid all) (selected_by (Some string_limit) (renumbered_scope f scope) all s.selection)) (visits-renumbered f same nodes)
-      ∙ ap (option_map (submitted_from s new_relevant new_valid (map (renumbered_visit f) (visits nodes)))) (selected-renumbered (Some string_limit) scope (visits nodes) goes s.selection)
-      ∙ map-through (option_map f) (renumbered_submitted f) (selected_by (Some string_limit) scope (visits nodes) s.selection)
+      let own = in_model s.model scope in
+      ap (λ all. option_map (submitted_from s new_relevant new_valid all) (selected_by (Some string_limit) (renumbered_scope f own) all s.selection)) (visits-renumbered f same nodes)
+      ∙ ap (option_map (submitted_from s new_relevant new_valid (map (renumbered_visit f) (visits nodes)))) (selected-renumbered (Some string_limit) own (visits nodes) goes s.selection)
+      ∙ map-through (option_map f) (renumbered_submitted f) (selected_by (Some string_limit) own (visits nodes) s.selection)
       (submitted_from s is_relevant is_valid (visits nodes)) (submitted_from s new_relevant new_valid (map (renumbered_visit f) (visits nodes)))
       (from-renumbered (visits nodes) s is_relevant new_relevant is_valid new_valid h k)

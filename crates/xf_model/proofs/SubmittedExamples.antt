@@ -10,7 +10,9 @@ use Rattle.xf_name.specs.declared.axis.Axis.TheVariants as axis
 use Rattle.xf_doc.specs.Visit.{visits}
 use Rattle.xf_lang.specs.Asked.{Trace}
 use Rattle.xf_lang.specs.Examples.{child, step, path, from_root, number, call}
-use Rattle.xf_model.specs.Submitted.{Submitted, left, no_data, invalid, by_expression, selected_by, submitted_from}
+use Rattle.xf_model.specs.Nested.{nested}
+use Rattle.xf_model.specs.Rules.{Rule}
+use Rattle.xf_model.specs.Submitted.{Submitted, left, no_data, invalid, by_expression, selected_by, submitted_from, submitted}
 use Rattle.xf_model.specs.Examples
 
 abbrev asking : Bool → Bool → Submission
@@ -116,3 +118,24 @@ too_long = refl
 
 of_a_bind : selected_by (Some string_limit) (Examples.scope (Examples.bind (Examples.to (codes "h")) ∷ [])) (visits Examples.groups) (Bind 0) ≡ Some (Some 5)
 of_a_bind = refl
+
+-- over ["d",["b","1"],"t"] the first of node() is b, and the document element stands behind it only for the text
+the_first_before_what_a_text_stands_for : by_expression (Some string_limit) (Examples.scope []) (visits Examples.mixed) (path (step axis.Child test.Node [] ∷ [])) ≡ Some (Some 2)
+the_first_before_what_a_text_stands_for = refl
+
+-- ---- models
+
+-- a bind of the second model that selects `a`
+abbrev of_the_second : Rule
+of_the_second = record (Examples.bind (Examples.to (codes "a"))) { model = 1 }
+
+its_own_model_counts : nested (Some string_limit) (Examples.both_models (of_the_second ∷ [])) (visits Examples.apart) 0 ≡ Some (5 ∷ [])
+its_own_model_counts = refl
+
+-- a submission of the first model sends what a bind of the second selects
+by_a_bind_of_another_model : submitted (Examples.both_models (of_the_second ∷ [])) all_relevant all_relevant Examples.apart (record (asking true true) { selection = Bind 0 }) ≡ Some (left 5 (5 ∷ 6 ∷ []))
+by_a_bind_of_another_model = refl
+
+-- a submission of the second model sends the document of that, whatever the scope's model
+of_its_own_model : submitted (Examples.both_models []) all_relevant all_relevant Examples.apart (record (asking true true) { model = 1 }) ≡ Some (left 4 (4 ∷ 5 ∷ 6 ∷ []))
+of_its_own_model = refl

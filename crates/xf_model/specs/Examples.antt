@@ -74,6 +74,14 @@ given = record {
 abbrev pub scope : List Rule → Scope
 scope rules = record { functions = functions; given = given; model = 0; rules = rules }
 
+-- two models, of which the second has the document element 4
+abbrev pub both_given : Given
+both_given = record given { documents = record { model = 0; id = []; element = 1 } ∷ record { model = 1; id = []; element = 4 } ∷ [] }
+
+-- over the first
+abbrev pub both_models : List Rule → Scope
+both_models rules = record { functions = functions; given = both_given; model = 0; rules = rules }
+
 -- ---- expressions
 
 abbrev pub yes : Trace
@@ -129,6 +137,17 @@ groups =
 -- ["d",["a"],["b",["x"]]]
 abbrev pub nest : List Node
 nest = node 0 0 Root ∷ element 1 1 (codes "d") ∷ element 2 2 (codes "a") ∷ element 3 2 (codes "b") ∷ element 4 3 (codes "x") ∷ []
+
+-- ["d",["a"]], and ["e",["a","1"]] of another model
+abbrev pub apart : List Node
+apart =
+    node 0 0 Root ∷ element 1 1 (codes "d") ∷ element 2 2 (codes "a")
+    ∷ node 3 0 Root ∷ element 4 1 (codes "e") ∷ element 5 2 (codes "a") ∷ text 6 3 (codes "1") ∷ []
+
+-- ["d",["b","1"],"t"]
+abbrev pub mixed : List Node
+mixed =
+    node 0 0 Root ∷ element 1 1 (codes "d") ∷ element 2 2 (codes "b") ∷ text 3 3 (codes "1") ∷ text 4 2 (codes "t") ∷ []
 
 -- ---- what is read of entries
 

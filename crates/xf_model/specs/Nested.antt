@@ -7,7 +7,7 @@ use Rattle.xf_lang.specs.Setting.{Setting, Focus, ◌>>=◌, setting_over, each,
 use Rattle.xf_lang.specs.Conversions.{nodes_of}
 use Rattle.xf_lang.specs.Binding.{as_list, bound_nodes}
 use Rattle.xf_lang.specs.Asked.{Trace}
-use Rattle.xf_model.specs.Rules.{Rule, Scope, chains, chain_around}
+use Rattle.xf_model.specs.Rules.{Rule, Scope, scope_of_bind, chains, chain_around}
 
 abbrev pub alone : ℕ → Focus
 alone n = record { node = n; position = 1; size = 1 }
@@ -36,6 +36,7 @@ sets_of most scope all r = do
   ns ← reached_through most scope all (chain_around (chains scope) r.around) (begun scope)
   each (set_from most scope all r.node_set) ns
 
--- the nodes of a bind, in document order, each once
+-- the nodes of a bind, in document order, each once, evaluated with the bind's own model: the scope's model does not count
 abbrev pub nested : Option ℕ → Scope → List Visit → ℕ → Option (List ℕ)
-nested most scope all bind = reached_through most scope all (get_or (chains scope) bind []) (begun scope)
+nested most scope all bind =
+    let own = scope_of_bind scope bind in reached_through most own all (get_or (chains own) bind []) (begun own)

@@ -1,6 +1,6 @@
 -- The binds of a form's models (XForms 1.1, sections 3.3.4 and 7.4.1), each expression in place of its text with what it means and what it
 -- asks.
-use Rattle.std.specs.Prelude.{ℕ, Bool, true, false, ◌||◌, List, [], ◌∷◌, ◌++◌, map, Option, Some, None, option_map, get_or}
+use Rattle.std.specs.Prelude.{ℕ, Bool, true, false, ◌||◌, List, [], ◌∷◌, ◌++◌, map, Option, Some, None, option_map, get_or, slice_get}
 use Rattle.std.specs.List.{list_any}
 use Rattle.xf_ast.specs.declared.expr.Expr.{Expr}
 use Rattle.xf_ast.specs.declared.expr.Expr.TheOpen.{Expr-F, Link-F, Step-F}
@@ -42,6 +42,10 @@ pub record Scope : Type 0 where
   pub model : ℕ
   -- the binds of all models, in document order
   pub rules : List Rule
+
+-- the same with another model
+abbrev pub in_model : ℕ → Scope → Scope
+in_model model scope = record scope { model = model }
 
 -- ---- calls of `position()` and `last()` (XPath 1.0, section 4.1)
 
@@ -93,6 +97,16 @@ rule_of bind = record {
 -- of one of the models, by its number
 abbrev pub scope_of : Functions → Given → Tables → ℕ → Scope
 scope_of functions given tables model = record { functions = functions; given = given; model = model; rules = map rule_of tables.binds }
+
+-- ---- the model of a bind, whatever names it
+
+abbrev pub model_or : ℕ → Option Rule → ℕ
+model_or model None = model
+model_or model (Some r) = r.model
+
+-- the bind's own model is that of its expressions
+abbrev pub scope_of_bind : Scope → ℕ → Scope
+scope_of_bind scope bind = in_model (model_or scope.model (slice_get scope.rules bind)) scope
 
 -- ---- the binds around a bind
 

@@ -9,10 +9,12 @@ use Rattle.xf_doc.specs.declared.content.Node.{Node}
 use Rattle.xf_doc.specs.Forest.{is_element}
 use Rattle.xf_doc.specs.Visit.{Visit, has, visits}
 use Rattle.xf_lang.specs.Setting.{each, joined}
+use Rattle.xf_lang.specs.Conversions.{nodes_of}
+use Rattle.xf_lang.specs.Binding.{first_bound}
 use Rattle.xf_lang.specs.Asked.{Trace}
 use Rattle.xf_lang.specs.Reads.{trace}
-use Rattle.xf_model.specs.Rules.{Scope}
-use Rattle.xf_model.specs.Nested.{set_from, begun, nested}
+use Rattle.xf_model.specs.Rules.{Scope, in_model}
+use Rattle.xf_model.specs.Nested.{alone, setting_for, begun, nested}
 
 pub data Submitted : Type 0 where
   -- the tree of this node, of which these nodes are left
@@ -28,11 +30,15 @@ abbrev pub first_in : List ℕ → Option ℕ
 first_in [] = None
 first_in (n ∷ ns) = Some n
 
+-- what the first node stands for that is selected from a node
+abbrev pub first_from : Option ℕ → Scope → List Visit → Trace → ℕ → Option (List ℕ)
+first_from most scope all t n = option_map (λ v. first_bound all (nodes_of v)) (t.meaning (setting_for most scope all n) (alone n))
+
 -- by an expression whose context is the document element of the model's first instance
 abbrev pub by_expression : Option ℕ → Scope → List Visit → Trace → Option (Option ℕ)
-by_expression most scope all t = option_map (λ sets. first_in (joined sets)) (each (set_from most scope all t) (begun scope))
+by_expression most scope all t = option_map (λ sets. first_in (joined sets)) (each (first_from most scope all t) (begun scope))
 
--- the first node; None where a string passes the limit on the way
+-- over a scope of the submission's model; None where a string passes the limit on the way
 abbrev pub selected_by : Option ℕ → Scope → List Visit → Selection → Option (Option ℕ)
 selected_by most scope all Whole = Some (first_in (begun scope))
 selected_by most scope all (Ref expr) = by_expression most scope all (trace expr)
@@ -78,7 +84,7 @@ abbrev pub submitted_from : Submission → (ℕ → Bool) → (ℕ → Bool) →
 submitted_from s is_relevant is_valid all selected =
     sent_from s.is_validated (left_by s.is_relevant is_relevant) is_valid all (element_of all selected)
 
--- None where the selection is too long
+-- whatever the scope's model is, the submission's own counts; None where the selection is too long
 abbrev pub submitted : Scope → (ℕ → Bool) → (ℕ → Bool) → List Node → Submission → Option Submitted
 submitted scope is_relevant is_valid nodes s =
-    option_map (submitted_from s is_relevant is_valid (visits nodes)) (selected_by (Some string_limit) scope (visits nodes) s.selection)
+    option_map (submitted_from s is_relevant is_valid (visits nodes)) (selected_by (Some string_limit) (in_model s.model scope) (visits nodes) s.selection)
