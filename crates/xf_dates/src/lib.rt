@@ -11,6 +11,3 @@ pub use days::day_of;
 pub use durations::duration;
 pub use instants::seconds_of;
 pub use printing::{date_of, moment_of};
-
-#[cfg(test)]
-mod tests;

@@ -19,8 +19,3 @@ pub use calls::call;
 pub use fault::FuncFault;
 pub use served::is_served;
 pub use xf_plain_values::Plain;
-
-#[cfg(test)]
-mod cases;
-#[cfg(test)]
-mod tests;

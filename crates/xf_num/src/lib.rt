@@ -13,6 +13,3 @@ pub use reading::{digits_onto, with_decimals};
 pub use scales::{DECIMALS, units_in_one};
 pub use steps::Steps;
 pub use text::{after_digits, all_digits, is_digit, is_space, trimmed};
-
-#[cfg(test)]
-mod tests;

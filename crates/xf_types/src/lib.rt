@@ -16,6 +16,3 @@ pub use names::named;
 pub use shapes::{cut, two_digits};
 pub use texts::meets;
 pub use times::{is_date, is_date_time, year_of};
-
-#[cfg(test)]
-mod tests;

@@ -1,0 +1,29 @@
+//! Reads cases from standard input, calls what they name, and prints which answers are not what was wanted, and how many.
+//!
+//! A line that begins with `#` is a comment. Any other line is a case: a JSON array of the crate, the call, the arguments and what
+//! must come, each a text; docs/CONTRIBUTING.md has the calls. A text of many letters may be an array of texts and counts in turns,
+//! as `["a","4096"]`, each text so many times.
+#![tactic(auto)]
+
+mod calls;
+mod dates;
+mod functions;
+mod numbers;
+mod report;
+mod sheet;
+mod types;
+
+use anyhow::Result;
+use std::io;
+
+/// The crates that are called, in the order of the report.
+const NAMES: [&str; 4] = ["xf_num", "xf_types", "xf_dates", "xf_funcs"];
+
+fn main(rt: HostRuntime) -> Result<()> {
+    let alloc = rt.alloc();
+    let text = io::read_to_string(alloc, rt.reader())?;
+    let outcomes = sheet::outcomes_of(alloc, text.as_str())?;
+    let report = report::report_of(alloc, &NAMES, &outcomes)?;
+    print!(rt; "{report}")?;
+    Ok(())
+}
