@@ -7,7 +7,8 @@ use Rattle.xf_lang.specs.Asked.{Trace}
 use Rattle.xf_lang.specs.Examples.{step, path, from_root}
 use Rattle.xf_ui.specs.Interface.{Interface, nodes}
 use Rattle.xf_ui.specs.Interface as sort
-use Rattle.xf_ui.specs.Context.{Context, alone, all_bound, first_bound, context_of}
+use Rattle.xf_ui.specs.Around.{alone, all_bound, first_bound}
+use Rattle.xf_ui.specs.Context.{Context, context_of, moved}
 use Rattle.xf_ui.specs.Rows.{rows_of, row_at, held}
 use Rattle.xf_ui.specs.Examples
 
@@ -103,6 +104,32 @@ the_model_of_a_bind = refl
 -- where nothing around has a binding, it is the document element of the model in scope
 of_the_second_model : within 9 ≡ Some (record { model = 1; focus = Some (alone 13) })
 of_the_second_model = refl
+
+-- in a group on zz a repeat on s, and one on a bind: no rows, since nothing is evaluated
+abbrev lost_repeats : Interface
+lost_repeats = Examples.interface
+    (Examples.top (1 ∷ [])
+    ∷ Examples.by (Examples.to (codes "zz")) (Examples.inside 0 (2 ∷ 3 ∷ []) sort.group)
+    ∷ Examples.by (Examples.to (codes "s")) (Examples.inside 1 [] (sort.repeated 0 1))
+    ∷ Examples.by_number 0 (Examples.inside 1 [] (sort.repeated 1 1))
+    ∷ [])
+    (2 ∷ 3 ∷ []) []
+
+no_rows_of_an_expression : rows_of lost_repeats (Examples.around Examples.two_lists) [] 2 ≡ Some []
+no_rows_of_an_expression = refl
+
+no_rows_of_a_bind : rows_of lost_repeats (Examples.around Examples.two_lists) [] 3 ≡ Some []
+no_rows_of_a_bind = refl
+
+-- `context` in place of the context of an action
+moved_to_e : moved (Examples.around Examples.two_lists) (record { model = 0; focus = Some (alone 1) }) (Some (Examples.to (codes "e")).meaning) ≡ Some (record { model = 0; focus = Some (alone 10) })
+moved_to_e = refl
+
+moved_to_nothing : moved (Examples.around Examples.two_lists) (record { model = 0; focus = Some (alone 1) }) (Some (Examples.to (codes "zz")).meaning) ≡ Some (record { model = 0; focus = None })
+moved_to_nothing = refl
+
+not_moved : moved (Examples.around Examples.two_lists) (record { model = 0; focus = Some (alone 1) }) None ≡ Some (record { model = 0; focus = Some (alone 1) })
+not_moved = refl
 
 -- what a submission selects is the context of what stands in it: 1 a model, 2 a submission of e, 4 one of zz, in each a handler
 abbrev submissions : Interface

@@ -10,6 +10,7 @@ use Rattle.xf_ui.specs.Index.{Index}
 use Rattle.xf_ui.specs.Cases.{first_cases, is_selected}
 use Rattle.xf_ui.specs.Places.{places}
 use Rattle.xf_ui.specs.Copies.{Marks, Copy, copies, copy_count}
+use Rattle.xf_ui.specs.Notifications.{Notification, notifications}
 use Rattle.xf_ui.specs.Examples
 use Rattle.xf_ui.specs.Examples.{inside, around, as_usual}
 
@@ -146,6 +147,30 @@ one_case_for_all_rows :
     enabled_of repeated_switch Examples.two_lists (λ n. false) (1 ∷ [])
     ≡ Some ((1, true) ∷ (2, true) ∷ (3, true) ∷ (4, false) ∷ (5, true) ∷ (2, true) ∷ (3, true) ∷ (4, false) ∷ (5, true) ∷ [])
 one_case_for_all_rows = refl
+
+-- ---- what changes between two lists: the second case is selected in place of the first one. The cases themselves are told nothing
+
+abbrev told : Notification → List ℕ × ℕ
+told n = (n.name, n.target)
+
+abbrev told_by_toggle : Option (List Copy) → Option (List Copy) → Option (List (List ℕ × ℕ))
+told_by_toggle (Some before) (Some now) = Some (map told (notifications before now))
+told_by_toggle before now = None
+
+toggled :
+    told_by_toggle (copies switched (around Examples.two_lists) as_usual (0 ∷ []) []) (copies switched (around Examples.two_lists) as_usual (1 ∷ []) [])
+    ≡ Some ((codes "xforms-disabled", 3) ∷ (codes "xforms-enabled", 5) ∷ [])
+toggled = refl
+
+-- the group on `.` and what it holds are told, the group first
+abbrev grouped : Interface
+grouped = Examples.interface
+    (Examples.top (1 ∷ []) ∷ Examples.by Examples.itself (inside 0 (2 ∷ []) sort.group) ∷ inside 1 [] sort.field ∷ []) [] []
+
+a_container_is_told :
+    told_by_toggle (copies grouped (around Examples.two_lists) as_usual [] []) (copies grouped (around Examples.two_lists) (irrelevant (λ n. n == 1)) [] [])
+    ≡ Some ((codes "xforms-disabled", 1) ∷ (codes "xforms-disabled", 2) ∷ [])
+a_container_is_told = refl
 
 -- ---- how many
 

@@ -1,11 +1,14 @@
 -- Items, and the texts that they allow.
 use Rattle.std.proofs.Common.{◌≡◌, ℕ, true, false, List, [], ◌∷◌, Some, None, refl, codes}
+use Rattle.xf_num.specs.Number.{scale}
+use Rattle.xf_ast.specs.declared.expr.Operator.TheVariants as operator
 use Rattle.xf_lang.specs.Asked.{Trace}
+use Rattle.xf_lang.specs.Examples.{call, two}
 use Rattle.xf_ui.specs.declared.answers.Item.{Item}
 use Rattle.xf_ui.specs.Interface.{Interface}
 use Rattle.xf_ui.specs.Interface as sort
 use Rattle.xf_ui.specs.Context.{standing_in}
-use Rattle.xf_ui.specs.Items.{items_of, allows, is_chosen, words}
+use Rattle.xf_ui.specs.Items.{items_of, allows, may_be_set, is_chosen, words}
 use Rattle.xf_ui.specs.Examples
 use Rattle.xf_ui.specs.Examples.{inside, saying}
 
@@ -41,6 +44,20 @@ in_document_order = refl
 without_a_context_node : items_of (payment (Examples.to (codes "zz"))) (Examples.around Examples.two_lists) [] 1 ≡ Some (item (codes "A") (codes "x") ∷ item [] [] ∷ [])
 without_a_context_node = refl
 
+-- 1 a select on e with an item set on ../s, whose value is `position() = last()`
+abbrev by_place : Interface
+by_place = Examples.interface
+    (Examples.top (1 ∷ [])
+    ∷ Examples.by (Examples.to (codes "e")) (inside 0 (2 ∷ []) (sort.select true false))
+    ∷ Examples.by (Examples.beside (codes "s")) (inside 1 (3 ∷ []) sort.itemset)
+    ∷ inside 2 [] (sort.item_value (Some (two (call 29 []) operator.Equal (call 19 [])).meaning))
+    ∷ [])
+    [] []
+
+at_their_places : items_of by_place (Examples.around Examples.two_lists) [] 1 ≡ Some (item [] (codes "false") ∷ item [] (codes "true") ∷ [])
+unfolding scale
+at_their_places = refl
+
 -- a node of an item set has its place in it
 a_node_of_the_set : standing_in 7 (2 ∷ 7 ∷ []) ≡ record { node = 7; position = 2; size = 2 }
 a_node_of_the_set = refl
@@ -62,6 +79,13 @@ not_a_label = refl
 
 not_two : allows false all (codes "x 3") ≡ false
 not_two = refl
+
+-- other texts are allowed
+any_text : may_be_set false true all (codes "gold") ≡ true
+any_text = refl
+
+only_these : may_be_set false false all (codes "gold") ≡ false
+only_these = refl
 
 -- ---- many may be chosen
 

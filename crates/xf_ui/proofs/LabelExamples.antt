@@ -4,7 +4,7 @@ use Rattle.xf_ast.specs.declared.element.Part.TheVariants as part
 use Rattle.xf_lang.specs.Examples.{literal}
 use Rattle.xf_ui.specs.Interface.{Interface}
 use Rattle.xf_ui.specs.Interface as sort
-use Rattle.xf_ui.specs.Elements.{element_at}
+use Rattle.xf_ui.specs.Elements.{element_at, actions_in}
 use Rattle.xf_ui.specs.Labels.{text_of, words_of}
 use Rattle.xf_ui.specs.Examples
 use Rattle.xf_ui.specs.Examples.{inside, saying, words}
@@ -74,3 +74,24 @@ the_texts_alone = refl
 
 the_binding_of_an_output_before_its_value : text_at 19 ≡ Some (codes "x")
 the_binding_of_an_output_before_its_value = refl
+
+-- ---- actions in an action: 1 holds an action, a host element with the actions 4 and 5, of which 5 holds the action 6, and an output
+abbrev actions : Interface
+actions = Examples.interface
+    (Examples.top (1 ∷ [])
+    ∷ inside 0 (2 ∷ 3 ∷ 7 ∷ []) (sort.action None)
+    ∷ inside 1 [] (sort.action None)
+    ∷ inside 1 (4 ∷ 5 ∷ []) sort.host
+    ∷ inside 3 [] (sort.action None)
+    ∷ inside 3 (6 ∷ []) (sort.action None)
+    ∷ inside 5 [] (sort.action None)
+    ∷ inside 1 [] (sort.output None)
+    ∷ [])
+    [] []
+
+-- those in a host element are among them; those in another action are not
+by_the_nearest_action : actions_in actions 1 ≡ 2 ∷ 4 ∷ 5 ∷ []
+by_the_nearest_action = refl
+
+of_the_inner_one : actions_in actions 5 ≡ 6 ∷ []
+of_the_inner_one = refl

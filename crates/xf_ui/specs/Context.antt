@@ -1,58 +1,13 @@
 -- Where an element is evaluated (XForms 1.1, section 7.2): its model in scope, and the node of the nearest element around it that has a
 -- binding or is a row.
-use Rattle.std.specs.Prelude.{ℕ, suc, List, [], ◌∷◌, length, find, Option, Some, None, option_map, unwrap_or, slice_get, ◌==◌, if◌then◌else◌}
+use Rattle.std.specs.Prelude.{ℕ, suc, List, [], ◌∷◌, length, Option, Some, None, option_map, unwrap_or, slice_get, ◌==◌, if◌then◌else◌}
 use Rattle.std.specs.List.{position_or_len}
-use Rattle.xf_doc.specs.Visit.{Visit, has, first_of}
-use Rattle.xf_lang.specs.Given.{Given, first_document}
-use Rattle.xf_plain_values.specs.Functions.{Functions}
-use Rattle.xf_lang.specs.Setting.{Setting, Focus, Meaning, ◌>>=◌, setting_over}
-use Rattle.xf_lang.specs.Conversions.{nodes_of}
-use Rattle.xf_lang.specs.Binding.{stand_ins, bound_nodes}
+use Rattle.xf_doc.specs.Visit.{has}
+use Rattle.xf_lang.specs.Given.{first_document}
+use Rattle.xf_lang.specs.Setting.{Focus, Meaning, ◌>>=◌}
 use Rattle.xf_ui.specs.Interface.{Bound, unbound, nodes, by_bind, Sort, repeated, Element, Interface}
 use Rattle.xf_ui.specs.Elements.{element_at, path_to, elements_on}
-
--- what surrounds all expressions of a form
-pub record Around : Type 0 where
-  pub functions : Functions
-  -- the most bytes that a string may have, or None
-  pub most : Option ℕ
-  pub given : Given
-  -- the visits of the data
-  pub all : List Visit
-  -- the nodes of a bind over the present data, by its number: None where a string is too long
-  pub bound : ℕ → Option (List ℕ)
-
-abbrev pub setting : Around → ℕ → ℕ → Setting
-setting a model n = setting_over a.functions a.most a.given a.all model n
-
-abbrev pub alone : ℕ → Focus
-alone n = record { node = n; position = 1; size = 1 }
-
--- ---- what a binding selects (sections 3.2.3 and 3.2.4); without a context node nothing is evaluated
-
-abbrev pub selected_by : Around → ℕ → Focus → Meaning → Option (List ℕ)
-selected_by a model c m = option_map nodes_of (m (setting a model c.node) c)
-
--- all nodes, each by what stands for it
-abbrev pub all_bound : Around → ℕ → Bound → Option Focus → Option (List ℕ)
-all_bound a model binding None = Some []
-all_bound a model unbound (Some c) = Some []
-all_bound a model (nodes m) (Some c) = option_map (bound_nodes a.all) (selected_by a model c m)
-all_bound a model (by_bind k) (Some c) = a.bound k
-
-abbrev pub stands_for : Around → ℕ → Option ℕ
-stands_for a n = first_of (stand_ins a.all (find (λ x. x.number == n) a.all))
-
-abbrev pub first_stand : Around → List ℕ → Option ℕ
-first_stand a [] = None
-first_stand a (n ∷ ns) = stands_for a n
-
--- the first node that is selected, and then what stands for it
-abbrev pub first_bound : Around → ℕ → Bound → Option Focus → Option (Option ℕ)
-first_bound a model binding None = Some None
-first_bound a model unbound (Some c) = Some None
-first_bound a model (nodes m) (Some c) = option_map (first_stand a) (selected_by a model c m)
-first_bound a model (by_bind k) (Some c) = option_map first_of (a.bound k)
+use Rattle.xf_ui.specs.Around.{Around, alone, all_bound, first_bound}
 
 -- ---- from the root of the form down
 
@@ -141,3 +96,8 @@ context_in f a s e = let model = scope_of f s.model e in record { model = model;
 
 abbrev pub context_of : Interface → Around → List ℕ → ℕ → Option Context
 context_of f a rows n = option_map (λ s. context_in f a s (element_at f n)) (inside f a rows n)
+
+-- the context that an attribute `context` gives in place of this one (sections 10.3 and 10.4): without a node where it selects nothing
+abbrev pub moved : Around → Context → Option Meaning → Option Context
+moved a c None = Some c
+moved a c (Some m) = option_map (λ n. record { model = c.model; focus = option_map alone n }) (first_bound a c.model (nodes m) c.focus)

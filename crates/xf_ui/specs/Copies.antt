@@ -8,7 +8,8 @@ use Rattle.xf_lang.specs.Conversions.{string_of_node}
 use Rattle.xf_ui.specs.declared.answers.Item.{Item}
 use Rattle.xf_ui.specs.Interface.{Bound, unbound, Sort, Element, Interface, repeated, output, select}
 use Rattle.xf_ui.specs.Elements.{element_at, ancestors, is_container}
-use Rattle.xf_ui.specs.Context.{Around, Context, setting, first_bound, context_of}
+use Rattle.xf_ui.specs.Around.{Around, setting, first_bound}
+use Rattle.xf_ui.specs.Context.{Context, context_of}
 use Rattle.xf_ui.specs.Index.{Index, seeing}
 use Rattle.xf_ui.specs.Cases.{is_in_selected}
 use Rattle.xf_ui.specs.Items.{items_of}

@@ -2,7 +2,7 @@
 use Rattle.std.specs.Prelude.{ℕ, zero, suc, Bool, true, false, List, [], ◌∷◌, map, filter, reverse, length, Option, Some, None, get_or}
 use Rattle.std.specs.List.{flat_map}
 use Rattle.xf_ast.specs.Ordered.{child_in}
-use Rattle.xf_ui.specs.Interface.{Element, Interface, Sort, host, group, switch, one_case, repeated, field, output, select, unbound}
+use Rattle.xf_ui.specs.Interface.{Element, Interface, Sort, host, group, switch, one_case, repeated, field, output, select, action, unbound}
 
 -- in place of one that does not stand in the form
 abbrev pub no_element : Element
@@ -66,3 +66,22 @@ is_control field = true
 is_control (output expr) = true
 is_control (select many is_free) = true
 is_control sort = is_container sort
+
+-- ---- through host elements
+
+abbrev pub is_action : Sort → Bool
+is_action (action handler) = true
+is_action sort = false
+
+abbrev pub through : (List ℕ → List ℕ) → Interface → ℕ → Sort → List ℕ
+through further f n host = further (children f n)
+through further f n sort = n ∷ []
+
+-- in place of each host element, of which at most so many are nested, what stands in it
+abbrev pub looked_through : ℕ → Interface → List ℕ → List ℕ
+looked_through zero f ns = []
+looked_through (suc most) f ns = flat_map (λ n. through (looked_through most f) f n (element_at f n).sort) ns
+
+-- the actions in an action, in document order (section 10.1)
+abbrev pub actions_in : Interface → ℕ → List ℕ
+actions_in f n = filter (λ m. is_action (element_at f m).sort) (looked_through (length f.elements) f (children f n))

@@ -6,7 +6,7 @@ use Rattle.xf_doc.specs.Visit.{has}
 use Rattle.xf_lang.specs.Setting.{◌>>=◌, each}
 use Rattle.xf_ui.specs.Interface.{Interface}
 use Rattle.xf_ui.specs.Elements.{element_at, ancestors, repeats_around, repeat_number}
-use Rattle.xf_ui.specs.Context.{Around}
+use Rattle.xf_ui.specs.Around.{Around}
 use Rattle.xf_ui.specs.Rows.{rows_of, row_at}
 
 pub record Index : Type 0 where

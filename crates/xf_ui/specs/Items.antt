@@ -7,7 +7,8 @@ use Rattle.xf_lang.specs.Setting.{◌>>=◌, each}
 use Rattle.xf_ui.specs.declared.answers.Item.{Item}
 use Rattle.xf_ui.specs.Interface.{Sort, Element, Interface, item, itemset, choices, label, item_value}
 use Rattle.xf_ui.specs.Elements.{element_at, children}
-use Rattle.xf_ui.specs.Context.{Around, Inside, Context, on, all_bound, standing_in, enter, inside, context_in}
+use Rattle.xf_ui.specs.Around.{Around, all_bound}
+use Rattle.xf_ui.specs.Context.{Inside, Context, on, standing_in, enter, inside, context_in}
 use Rattle.xf_ui.specs.Labels.{text_in}
 
 abbrev pub is_label : Sort → Bool
@@ -75,6 +76,10 @@ has_value items text = list_any (λ i. bytes_eq i.value text) items
 abbrev pub allows : Bool → List Item → List ℕ → Bool
 allows true items text = list_all (has_value items) (words text)
 allows false items text = is_empty text || has_value items text
+
+-- it may be set: other texts are allowed, or the items allow it
+abbrev pub may_be_set : Bool → Bool → List Item → List ℕ → Bool
+may_be_set many is_free items text = is_free || allows many items text
 
 -- the item is chosen by the text
 abbrev pub is_chosen : Bool → List ℕ → Item → Bool

@@ -9,7 +9,8 @@ use Rattle.xf_lang.specs.Meaning.{text_worth}
 use Rattle.xf_lang.specs.Conversions.{string_of_node}
 use Rattle.xf_ui.specs.Interface.{Bound, unbound, Sort, host, inline, item_value, Element, Interface}
 use Rattle.xf_ui.specs.Elements.{element_at}
-use Rattle.xf_ui.specs.Context.{Around, Inside, Context, setting, first_bound, enter, inside, context_in}
+use Rattle.xf_ui.specs.Around.{Around, setting, first_bound}
+use Rattle.xf_ui.specs.Context.{Inside, Context, enter, inside, context_in}
 use Rattle.std.specs.Prelude as std
 
 -- ---- what is joined

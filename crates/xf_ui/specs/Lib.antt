@@ -1,5 +1,6 @@
 pub mod Interface
 pub mod Elements
+pub mod Around
 pub mod Context
 pub mod Rows
 pub mod Index

@@ -5,7 +5,7 @@ use Rattle.xf_doc.specs.Visit.{has}
 use Rattle.xf_lang.specs.Setting.{◌>>=◌}
 use Rattle.xf_ui.specs.Interface.{Interface}
 use Rattle.xf_ui.specs.Elements.{ancestors, repeats_around}
-use Rattle.xf_ui.specs.Context.{Around}
+use Rattle.xf_ui.specs.Around.{Around}
 use Rattle.xf_ui.specs.Rows.{rows_of, row_at}
 use Rattle.xf_ui.specs.Index.{Index, index_of}
 

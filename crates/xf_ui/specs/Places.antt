@@ -4,7 +4,7 @@ use Rattle.std.specs.List.{flat_map}
 use Rattle.xf_lang.specs.Setting.{◌>>=◌, each}
 use Rattle.xf_ui.specs.Interface.{Sort, Interface, repeated}
 use Rattle.xf_ui.specs.Elements.{element_at, children, is_control}
-use Rattle.xf_ui.specs.Context.{Around}
+use Rattle.xf_ui.specs.Around.{Around}
 use Rattle.xf_ui.specs.Rows.{rows_of}
 
 -- an element with a chain of rows, the outermost first

@@ -3,7 +3,8 @@ use Rattle.std.specs.Prelude.{ℕ, zero, suc, List, length, Option, None, min, m
 use Rattle.xf_lang.specs.Setting.{◌>>=◌}
 use Rattle.xf_ui.specs.Interface.{Interface}
 use Rattle.xf_ui.specs.Elements.{element_at}
-use Rattle.xf_ui.specs.Context.{Around, all_bound, context_of}
+use Rattle.xf_ui.specs.Around.{Around, all_bound}
+use Rattle.xf_ui.specs.Context.{context_of}
 
 -- in document order
 abbrev pub rows_of : Interface → Around → List ℕ → ℕ → Option (List ℕ)

@@ -4,7 +4,7 @@ use Rattle.xf_doc.specs.Visit.{has}
 use Rattle.xf_lang.specs.Setting.{◌>>=◌}
 use Rattle.xf_ui.specs.Interface.{Interface}
 use Rattle.xf_ui.specs.Elements.{element_at, ancestors, repeat_start}
-use Rattle.xf_ui.specs.Context.{Around}
+use Rattle.xf_ui.specs.Around.{Around}
 use Rattle.xf_ui.specs.Rows.{held}
 use Rattle.xf_ui.specs.Index.{Index, unset, index_of, with_index, index_at, rows_now, same_node}
 
