@@ -1,4 +1,4 @@
-//! The actions of a form (XForms 1.1, section 10), and when they are called (XML Events, section 3.1).
+//! The actions of a form (XForms 1.1, section 10), and when they are called (XML Events, section 3).
 
 use crate::expr::Expr;
 use xf_name::Word;

@@ -1,0 +1,9 @@
+pub mod FormExamples
+pub mod ContextExamples
+pub mod IndexExamples
+pub mod NamedExamples
+pub mod LabelExamples
+pub mod ItemExamples
+pub mod CopyExamples
+pub mod NotificationExamples
+pub mod CallExamples

@@ -1,0 +1,52 @@
+-- What surrounds the expressions of a form, and what a binding selects (XForms 1.1, sections 3.2.3 and 3.2.4). Without a context node nothing is
+-- evaluated.
+use Rattle.std.specs.Prelude.{ℕ, List, [], ◌∷◌, find, Option, Some, None, option_map, ◌==◌}
+use Rattle.xf_doc.specs.Visit.{Visit, first_of}
+use Rattle.xf_lang.specs.Given.{Given}
+use Rattle.xf_plain_values.specs.Functions.{Functions}
+use Rattle.xf_lang.specs.Setting.{Setting, Focus, Meaning, setting_over}
+use Rattle.xf_lang.specs.Conversions.{nodes_of}
+use Rattle.xf_lang.specs.Binding.{stand_ins, bound_nodes}
+use Rattle.xf_ui.specs.Interface.{Bound, unbound, nodes, by_bind}
+
+pub record Around : Type 0 where
+  pub functions : Functions
+  -- the most bytes that a string may have, or None
+  pub most : Option ℕ
+  pub given : Given
+  -- the visits of the data
+  pub all : List Visit
+  -- the nodes of a bind over the present data, by its number: None where a string is too long
+  pub bound : ℕ → Option (List ℕ)
+
+abbrev pub setting : Around → ℕ → ℕ → Setting
+setting a model n = setting_over a.functions a.most a.given a.all model n
+
+abbrev pub alone : ℕ → Focus
+alone n = record { node = n; position = 1; size = 1 }
+
+-- ---- what a binding selects
+
+abbrev pub selected_by : Around → ℕ → Focus → Meaning → Option (List ℕ)
+selected_by a model c m = option_map nodes_of (m (setting a model c.node) c)
+
+-- all nodes, each by what stands for it
+abbrev pub all_bound : Around → ℕ → Bound → Option Focus → Option (List ℕ)
+all_bound a model binding None = Some []
+all_bound a model unbound (Some c) = Some []
+all_bound a model (nodes m) (Some c) = option_map (bound_nodes a.all) (selected_by a model c m)
+all_bound a model (by_bind k) (Some c) = a.bound k
+
+abbrev pub stands_for : Around → ℕ → Option ℕ
+stands_for a n = first_of (stand_ins a.all (find (λ x. x.number == n) a.all))
+
+abbrev pub first_stand : Around → List ℕ → Option ℕ
+first_stand a [] = None
+first_stand a (n ∷ ns) = stands_for a n
+
+-- the first node that is selected, and then what stands for it
+abbrev pub first_bound : Around → ℕ → Bound → Option Focus → Option (Option ℕ)
+first_bound a model binding None = Some None
+first_bound a model unbound (Some c) = Some None
+first_bound a model (nodes m) (Some c) = option_map (first_stand a) (selected_by a model c m)
+first_bound a model (by_bind k) (Some c) = option_map first_of (a.bound k)

@@ -1,0 +1,16 @@
+pub mod Interface
+pub mod Elements
+pub mod Around
+pub mod Context
+pub mod Rows
+pub mod Index
+pub mod Started
+pub mod Named
+pub mod Cases
+pub mod Labels
+pub mod Items
+pub mod Places
+pub mod Copies
+pub mod Notifications
+pub mod Calls
+pub mod Examples
