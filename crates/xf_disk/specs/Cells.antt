@@ -16,6 +16,7 @@ pub record IsWritten (at : ℕ) (put : List ℕ) (old new : Cells) : Type 0 wher
   pub written : new.written.items ≡ spliced at (replicate (length put) true) old.written.items
   pub len : new.len ≡ max old.len (at + length put)
   pub synced : new.synced ≡ old.synced
+  pub room : length new.bytes.items ≡ length old.bytes.items
 
 -- the cells after a sync: no byte is written since
 pub record IsSynced (old new : Cells) : Type 0 where

@@ -4,4 +4,6 @@ pub mod Crash
 pub mod Marks
 pub mod Cells
 pub mod Memory
+pub mod Fused
+pub mod File
 pub mod Laws

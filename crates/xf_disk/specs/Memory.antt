@@ -1,5 +1,5 @@
 -- What a disk in memory shows, and what a crash may leave of it.
-use Rattle.std.specs.Prelude.{◌≡◌, ◌≤◌, ◌⊎◌, ℕ, List, [], ◌∷◌, length, drop, Option}
+use Rattle.std.specs.Prelude.{◌≡◌, ◌≤◌, ◌⊎◌, ℕ, ◌-◌, ◌+◌, List, [], ◌∷◌, ◌++◌, length, drop, Option, Bool, ◌&&◌, nat_lt, nat_le, if◌then◌else◌, Result, is_ok}
 use Rattle.std.specs.declared.snapshot.Snapshot.{Snapshot}
 use Rattle.xf_disk.specs.declared.slot.Slot.{Slot}
 use Rattle.xf_disk.specs.declared.slot.Slot.TheVariants.{A, B}
@@ -7,6 +7,7 @@ use Rattle.xf_disk.specs.declared.cells.Cells.{Cells}
 use Rattle.xf_disk.specs.declared.slots.Slots.{Slots}
 use Rattle.xf_disk.specs.Image.{Image, beside}
 use Rattle.xf_disk.specs.declared.memory.MemoryDisk.{MemoryDisk}
+use Rattle.xf_disk.specs.declared.memory.Call.{Call}
 use Rattle.xf_disk.specs.Cells.{held_by, CellsMayHold, after_crash_of, Rests}
 
 abbrev pub cells_in : Slot → Slots → Cells
@@ -54,3 +55,20 @@ pub record HasRoom (room calls : ℕ) (disk : MemoryDisk) : Type 0 where
   pub a : room ≤ length disk.slots.a.bytes.items
   pub b : room ≤ length disk.slots.b.bytes.items
   pub listed : disk.calls_left ≡ calls
+  pub none_made : disk.calls.items ≡ []
+
+-- the room of each slot is the same
+pub record SameRooms (old new : Slots) : Type 0 where
+  pub a : length new.a.bytes.items ≡ length old.a.bytes.items
+  pub b : length new.b.bytes.items ≡ length old.b.bytes.items
+
+-- a write of so many bytes at this offset has room in the slot
+abbrev pub fits : Slot → ℕ → ℕ → MemoryDisk → Bool
+fits slot at count disk = nat_le (at + count) (length (cells_in slot disk.slots).bytes.items)
+
+-- a call is listed where the list has room for it; it fails exactly where the list has none, or where it does not fit
+pub record Makes {T E : Type 0} (call : Call) (fits : Bool) (old new : MemoryDisk) (result : Result T E) : Type 0 where
+  pub answer : is_ok result ≡ (nat_lt 0 old.calls_left && fits)
+  pub listed : new.calls.items ≡ (if nat_lt 0 old.calls_left then old.calls.items ++ call ∷ [] else old.calls.items)
+  pub left : new.calls_left ≡ old.calls_left - 1
+  pub rooms : SameRooms old.slots new.slots

@@ -1,14 +1,15 @@
 //! A disk over two files of the operating system.
-ghost use Rattle.std.specs.Prelude.{◌≡◌, ◌≤◌, false, length, IfOk};
+ghost use Rattle.std.specs.Prelude.{◌≡◌, ◌≤◌, false, length, IfOk, string_bytes};
 ghost use Rattle.xf_base.specs.Faults.{HasCause};
 
 use crate::{Disk, Slot};
 use std::alloc::{AllocError, Global};
 use std::fs::{OpenFile, OpenOptions};
 use std::io;
+use std::marker::Model;
 use std::os::unix::fs::FileExt;
 use std::rt::Files;
-use xf_io::Failed;
+use xf_io::{Failed, sync_folder_of};
 
 /// One file, opened at its first use, and made where there is none.
 #[derive(Drop)]
@@ -24,7 +25,9 @@ impl<R: Files> SlotFile<R>
 where
     R::File: FileExt,
 {
-    fn new(alloc: Global, path: &str) -> Result<SlotFile<R>, AllocError> {
+    fn new(alloc: Global, path: &str) -> Result<SlotFile<R>, AllocError>
+        ensures { IfOk result (λ file. string_bytes file.path ≡ path.now) }
+    {
         Ok(SlotFile {
             path: String::from_str(alloc, path)?,
             file: None,
@@ -74,23 +77,10 @@ where
     fn sync(&mut self, files: &R) -> io::Result<()> {
         self.open(files)?.sync_data()?;
         if !self.is_named {
-            let folder = folder_of(self.path.as_str());
-            OpenOptions::new()
-                .read(true)
-                .open(files, folder)?
-                .sync_all()?;
+            sync_folder_of(files, self.path.as_str())?;
             self.is_named = true;
         }
         Ok(())
-    }
-}
-
-/// The folder that a file lies in.
-fn folder_of(path: &str) -> &str {
-    match path.rsplit_once('/') {
-        Some(("", _)) => "/",
-        Some((folder, _)) => folder,
-        None => ".",
     }
 }
 
@@ -104,17 +94,23 @@ pub struct FileDisk<'a, R: Files> {
     faults: u64,
 }
 
+impl<'a, R: Files> Model for FileDisk<'a, R> {
+    ghost use Rattle.std.specs.Prelude.{string_bytes};
+    ghost use Rattle.xf_disk.specs.File.{TwoFiles};
+
+    ghost Value = { TwoFiles };
+
+    ghost view = { λ d. record { a = string_bytes d.a.path; b = string_bytes d.b.path; faults = d.faults } };
+}
+
 impl<'a, R: Files> FileDisk<'a, R>
 where
     R::File: FileExt,
 {
     /// A disk over the files with these paths. It takes the room for the paths, and opens nothing.
-    pub fn new(
-        alloc: Global,
-        files: &'a R,
-        a: &str,
-        b: &str,
-    ) -> Result<FileDisk<'a, R>, AllocError> {
+    pub fn new(alloc: Global, files: &'a R, a: &str, b: &str) -> Result<FileDisk<'a, R>, AllocError>
+        ensures { IfOk result (λ disk. disk ≡ record { a = a.now; b = b.now; faults = 0 }) }
+    {
         Ok(FileDisk {
             files,
             a: SlotFile::new(alloc, a)?,

@@ -1,7 +1,10 @@
 //! A disk that stops after so many calls.
-ghost use Rattle.std.specs.Prelude.{◌≡◌, ◌↔◌, ◌+◌, ◌-◌, ◌≤◌, IsTrue};
+ghost use Rattle.std.specs.Prelude.{◌≡◌, ◌↔◌, ◌+◌, ◌-◌, ◌++◌, ◌≤◌, IsTrue, length, take, drop, min, OnOk, IfOk};
 ghost use Rattle.std.specs.Bool.{OnTrue};
-ghost use Rattle.xf_base.specs.Faults.{Rose};
+ghost use Rattle.xf_base.specs.Faults.{Rose, HasCause};
+ghost use Rattle.xf_disk.specs.Image.{in_slot};
+ghost use Rattle.xf_disk.specs.Crash.{Torn, InSlot, Follows, LeavesNoMore, LeavesAll, Elapses};
+ghost use Rattle.xf_disk.specs.Fused.{PassesOn};
 
 use crate::{Disk, Slot};
 use xf_io::Failed;
@@ -49,28 +52,65 @@ impl<D: Disk> Disk for FusedDisk<D> {
 
     ghost seen_may_stand = { λ f. D.seen_may_stand f.disk };
 
-    fn len(&mut self, slot: Slot) -> Result<u64, Failed> {
+    fn len(&mut self, slot: Slot) -> Result<u64, Failed>
+        ensures length { IsTrue (D.tells self.old.disk) → IfOk result (λ bytes. bytes ≡ length (in_slot slot (D.seen self.old.disk))) }
+        ensures seen { D.seen self.new.disk ≡ D.seen self.old.disk }
+        ensures crash { LeavesNoMore (D.may_leave self.old.disk) (D.may_leave self.new.disk) }
+        ensures time { Elapses (D.moment self.old.disk) (D.moment self.new.disk) (D.left_since self.old.disk) (D.left_since self.new.disk) (D.may_leave self.new.disk) }
+        ensures tells { D.tells self.new.disk ≡ D.tells self.old.disk }
+        ensures cause { HasCause (D.faults self.old.disk + self.old.faults) (D.faults self.new.disk + self.new.faults) result }
+        ensures passes { PassesOn D.faults self.old.left self.new.left self.old.disk self.new.disk result }
+    {
         if is_blown(&mut self.left, &mut self.faults) {
             return Err(Failed);
         }
         self.disk.len(slot)
     }
 
-    fn read(&mut self, slot: Slot, at: u64, into: &mut [u8]) -> Result<usize, Failed> {
+    fn read(&mut self, slot: Slot, at: u64, into: &mut [u8]) -> Result<usize, Failed>
+        ensures within { IfOk result (λ count. count ≤ length into.old) }
+        ensures bytes { IsTrue (D.tells self.old.disk) → IfOk result (λ count. (count ≡ min (length into.old) (length (in_slot slot (D.seen self.old.disk)) - at))
+            × (into.new ≡ take count (drop at (in_slot slot (D.seen self.old.disk))) ++ drop count into.old)) }
+        ensures seen { D.seen self.new.disk ≡ D.seen self.old.disk }
+        ensures crash { LeavesNoMore (D.may_leave self.old.disk) (D.may_leave self.new.disk) }
+        ensures time { Elapses (D.moment self.old.disk) (D.moment self.new.disk) (D.left_since self.old.disk) (D.left_since self.new.disk) (D.may_leave self.new.disk) }
+        ensures tells { D.tells self.new.disk ≡ D.tells self.old.disk }
+        ensures cause { HasCause (D.faults self.old.disk + self.old.faults) (D.faults self.new.disk + self.new.faults) result }
+        ensures passes { PassesOn D.faults self.old.left self.new.left self.old.disk self.new.disk result }
+    {
         if is_blown(&mut self.left, &mut self.faults) {
             return Err(Failed);
         }
         self.disk.read(slot, at, into)
     }
 
-    fn write(&mut self, slot: Slot, at: u64, bytes: &[u8]) -> Result<(), Failed> {
+    fn write(&mut self, slot: Slot, at: u64, bytes: &[u8]) -> Result<(), Failed>
+        requires { IsTrue (D.tells self.old.disk) → at ≤ length (in_slot slot (D.seen self.old.disk)) }
+        ensures written { IsTrue (D.tells self.old.disk) → OnOk result (in_slot slot (D.seen self.new.disk)
+            ≡ take at (in_slot slot (D.seen self.old.disk)) ++ bytes.now ++ drop (at + length bytes.now) (in_slot slot (D.seen self.old.disk))) }
+        ensures torn { IsTrue (D.tells self.old.disk) → InSlot slot (Torn at (length bytes.now)) (D.seen self.old.disk) (D.seen self.new.disk) }
+        ensures crash { Follows (InSlot slot (Torn at (length bytes.now))) (D.may_leave self.old.disk) (D.may_leave self.new.disk) }
+        ensures time { Elapses (D.moment self.old.disk) (D.moment self.new.disk) (D.left_since self.old.disk) (D.left_since self.new.disk) (D.may_leave self.new.disk) }
+        ensures tells { D.tells self.new.disk ≡ D.tells self.old.disk }
+        ensures cause { HasCause (D.faults self.old.disk + self.old.faults) (D.faults self.new.disk + self.new.faults) result }
+        ensures passes { PassesOn D.faults self.old.left self.new.left self.old.disk self.new.disk result }
+    {
         if is_blown(&mut self.left, &mut self.faults) {
             return Err(Failed);
         }
         self.disk.write(slot, at, bytes)
     }
 
-    fn sync(&mut self, slot: Slot) -> Result<(), Failed> {
+    fn sync(&mut self, slot: Slot) -> Result<(), Failed>
+        ensures durable { IsTrue (D.tells self.old.disk) → OnOk result (LeavesAll (D.may_leave self.new.disk)
+            (λ image. in_slot slot image ≡ (in_slot slot (D.seen self.old.disk)))) }
+        ensures seen { D.seen self.new.disk ≡ D.seen self.old.disk }
+        ensures crash { LeavesNoMore (D.may_leave self.old.disk) (D.may_leave self.new.disk) }
+        ensures time { Elapses (D.moment self.old.disk) (D.moment self.new.disk) (D.left_since self.old.disk) (D.left_since self.new.disk) (D.may_leave self.new.disk) }
+        ensures tells { D.tells self.new.disk ≡ D.tells self.old.disk }
+        ensures cause { HasCause (D.faults self.old.disk + self.old.faults) (D.faults self.new.disk + self.new.faults) result }
+        ensures passes { PassesOn D.faults self.old.left self.new.left self.old.disk self.new.disk result }
+    {
         if is_blown(&mut self.left, &mut self.faults) {
             return Err(Failed);
         }

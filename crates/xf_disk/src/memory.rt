@@ -1,6 +1,5 @@
 //! A disk in memory that may stop at any moment, with a list of the calls that were made.
-ghost use Rattle.std.specs.Prelude.{◌≡◌, ◌∷◌, ◌++◌, [], ◌↔◌, IsSome, IfSome, IfOk};
-ghost use Rattle.std.specs.Bool.{OnTrue};
+ghost use Rattle.std.specs.Prelude.{◌≡◌, ◌≤◌, ◌+◌, ◌-◌, ◌∷◌, ◌++◌, [], ◌↔◌, nat_lt, if◌then◌else◌, vec_len, vec_capacity, IsSome, IfSome, IfOk};
 
 use crate::Slot;
 use crate::cells::Cells;
@@ -28,6 +27,8 @@ pub struct MemoryDisk {
     /// The calls that still have room in the list.
     pub(crate) calls_left: usize,
     pub(crate) faults: u64,
+    ghost room_to_list: { vec_len calls + calls_left ≤ vec_capacity calls },
+    ghost room_to_keep: { vec_len past + calls_left ≤ vec_capacity past },
 }
 
 impl MemoryDisk {
@@ -56,6 +57,7 @@ impl MemoryDisk {
     fn over(alloc: Global, slots: Slots, calls: usize) -> Result<MemoryDisk, AllocError>
         ensures slots { IfOk result (λ disk. disk.slots ≡ slots) }
         ensures calls { IfOk result (λ disk. disk.calls_left ≡ calls) }
+        ensures none_made { IfOk result (λ disk. disk.calls.items ≡ []) }
     {
         Ok(MemoryDisk {
             slots,
@@ -119,7 +121,11 @@ impl MemoryDisk {
 
 /// Lists a call, and says whether there was room for it.
 pub(crate) fn listed(calls: &mut Vec<Call>, left: &mut usize, call: Call) -> bool
-    ensures { OnTrue result (calls.new.items ≡ calls.old.items ++ call ∷ []) }
+    requires { vec_len calls.old + left.old ≤ vec_capacity calls.old }
+    ensures made { result ≡ nat_lt 0 left.old }
+    ensures left { left.new ≡ left.old - 1 }
+    ensures listed { calls.new.items ≡ (if result then calls.old.items ++ call ∷ [] else calls.old.items) }
+    ensures room { vec_len calls.new + left.new ≤ vec_capacity calls.new }
 {
     if *left == 0 {
         return false;

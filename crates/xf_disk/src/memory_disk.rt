@@ -1,8 +1,10 @@
 //! The disk in memory as a disk.
-ghost use Rattle.std.specs.Prelude.{◌≡◌, ◌≤◌, ◌+◌, ◌-◌, ◌++◌, true, min, length, take, drop};
+ghost use Rattle.std.specs.Prelude.{◌≡◌, ◌≤◌, ◌+◌, ◌-◌, ◌++◌, true, min, length, take, drop, IfOk, OnOk};
 ghost use Rattle.std.proofs.Common.{inl};
-ghost use Rattle.xf_base.specs.Faults.{Rose};
-ghost use Rattle.xf_disk.specs.Memory.{image_of, MayLeave, LeftSince};
+ghost use Rattle.xf_base.specs.Faults.{Rose, HasCause};
+ghost use Rattle.xf_disk.specs.Image.{in_slot};
+ghost use Rattle.xf_disk.specs.Crash.{Torn, InSlot, Follows, LeavesNoMore, LeavesAll, Elapses};
+ghost use Rattle.xf_disk.specs.Memory.{image_of, MayLeave, LeftSince, Makes, fits};
 ghost use Rattle.xf_disk.specs.Laws.{only_present, seen_may_be_left};
 
 use crate::memory::{Call, MemoryDisk, listed};
@@ -29,14 +31,30 @@ impl Disk for MemoryDisk {
 
     ghost seen_may_stand = { λ m told. seen_may_be_left m.slots };
 
-    fn len(&mut self, slot: Slot) -> Result<u64, Failed> {
+    fn len(&mut self, slot: Slot) -> Result<u64, Failed>
+        ensures length { IfOk result (λ bytes. bytes ≡ length (in_slot slot (image_of self.old.slots))) }
+        ensures seen { image_of self.new.slots ≡ image_of self.old.slots }
+        ensures crash { LeavesNoMore (MayLeave self.old.slots) (MayLeave self.new.slots) }
+        ensures time { Elapses (length self.old.past.items) (length self.new.past.items) (LeftSince self.old.slots self.old.past.items) (LeftSince self.new.slots self.new.past.items) (MayLeave self.new.slots) }
+        ensures cause { HasCause self.old.faults self.new.faults result }
+        ensures made { Makes (Call.Len slot) (true) self.old self.new result }
+    {
         if !listed(&mut self.calls, &mut self.calls_left, Call::Len(slot)) {
             return Err(fault(&mut self.faults));
         }
         Ok(self.slots.held(slot).len() as u64)
     }
 
-    fn read(&mut self, slot: Slot, at: u64, into: &mut [u8]) -> Result<usize, Failed> {
+    fn read(&mut self, slot: Slot, at: u64, into: &mut [u8]) -> Result<usize, Failed>
+        ensures within { IfOk result (λ count. count ≤ length into.old) }
+        ensures bytes { IfOk result (λ count. (count ≡ min (length into.old) (length (in_slot slot (image_of self.old.slots)) - at))
+            × (into.new ≡ take count (drop at (in_slot slot (image_of self.old.slots))) ++ drop count into.old)) }
+        ensures seen { image_of self.new.slots ≡ image_of self.old.slots }
+        ensures crash { LeavesNoMore (MayLeave self.old.slots) (MayLeave self.new.slots) }
+        ensures time { Elapses (length self.old.past.items) (length self.new.past.items) (LeftSince self.old.slots self.old.past.items) (LeftSince self.new.slots self.new.past.items) (MayLeave self.new.slots) }
+        ensures cause { HasCause self.old.faults self.new.faults result }
+        ensures made { Makes (Call.Read slot at (length into.old)) (true) self.old self.new result }
+    {
         let call = Call::Read(slot, at, into.len());
         if !listed(&mut self.calls, &mut self.calls_left, call) {
             return Err(fault(&mut self.faults));
@@ -44,7 +62,16 @@ impl Disk for MemoryDisk {
         Ok(copied(self.slots.held(slot), at, into))
     }
 
-    fn write(&mut self, slot: Slot, at: u64, bytes: &[u8]) -> Result<(), Failed> {
+    fn write(&mut self, slot: Slot, at: u64, bytes: &[u8]) -> Result<(), Failed>
+        requires { at ≤ length (in_slot slot (image_of self.old.slots)) }
+        ensures written { OnOk result (in_slot slot (image_of self.new.slots)
+            ≡ take at (in_slot slot (image_of self.old.slots)) ++ bytes.now ++ drop (at + length bytes.now) (in_slot slot (image_of self.old.slots))) }
+        ensures torn { InSlot slot (Torn at (length bytes.now)) (image_of self.old.slots) (image_of self.new.slots) }
+        ensures crash { Follows (InSlot slot (Torn at (length bytes.now))) (MayLeave self.old.slots) (MayLeave self.new.slots) }
+        ensures time { Elapses (length self.old.past.items) (length self.new.past.items) (LeftSince self.old.slots self.old.past.items) (LeftSince self.new.slots self.new.past.items) (MayLeave self.new.slots) }
+        ensures cause { HasCause self.old.faults self.new.faults result }
+        ensures made { Makes (Call.Write slot at (length bytes.now)) (fits slot at (length bytes.now) self.old) self.old self.new result }
+    {
         let call = Call::Write(slot, at, bytes.len());
         if !listed(&mut self.calls, &mut self.calls_left, call)
             || !self.slots.has_room(slot, at as usize, bytes.len())
@@ -55,7 +82,15 @@ impl Disk for MemoryDisk {
         Ok(())
     }
 
-    fn sync(&mut self, slot: Slot) -> Result<(), Failed> {
+    fn sync(&mut self, slot: Slot) -> Result<(), Failed>
+        ensures durable { OnOk result (LeavesAll (MayLeave self.new.slots)
+            (λ image. in_slot slot image ≡ in_slot slot (image_of self.old.slots))) }
+        ensures seen { image_of self.new.slots ≡ image_of self.old.slots }
+        ensures crash { LeavesNoMore (MayLeave self.old.slots) (MayLeave self.new.slots) }
+        ensures time { Elapses (length self.old.past.items) (length self.new.past.items) (LeftSince self.old.slots self.old.past.items) (LeftSince self.new.slots self.new.past.items) (MayLeave self.new.slots) }
+        ensures cause { HasCause self.old.faults self.new.faults result }
+        ensures made { Makes (Call.Sync slot) (true) self.old self.new result }
+    {
         if !listed(&mut self.calls, &mut self.calls_left, Call::Sync(slot)) {
             return Err(fault(&mut self.faults));
         }

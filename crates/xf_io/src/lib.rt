@@ -3,6 +3,7 @@
 
 mod bytes;
 mod failing;
+mod folder;
 mod lines;
 mod memory;
 mod part;
@@ -12,6 +13,7 @@ mod source;
 
 pub use bytes::Bytes;
 pub use failing::FailingCalls;
+pub use folder::sync_folder_of;
 pub use lines::{Line, Lines};
 pub use memory::{MemorySink, MemorySource};
 pub use real::{FileSource, ReaderSource, WriterSink};

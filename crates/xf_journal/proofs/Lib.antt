@@ -12,3 +12,4 @@ mod CreateLemmas
 mod NewLemmas
 mod CreateRun
 mod RunLemmas
+pub mod WithinLemmas

@@ -37,6 +37,10 @@ written_bytes line answers = entry_bytes line answers ++ 0 ∷ []
 abbrev pub is_within : List ℕ → List Answer → Bool
 is_within line answers = nat_le (length line) line_limit && nat_le (length answers) answer_limit && list_all is_short answers
 
+-- so have all of these
+abbrev pub are_within : List Accepted → Bool
+are_within entries = list_all (λ (entry : Accepted). is_within entry.line entry.answers) entries
+
 -- an answer, with the bytes behind it
 abbrev pub front_of : Answer × Bor (List ℕ) → Answer × List ℕ
 front_of found = (found.0, found.1.now)

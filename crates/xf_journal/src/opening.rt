@@ -1,9 +1,10 @@
 //! Opening the slots: both are synced, and then read.
-ghost use Rattle.std.specs.Prelude.{◌≡◌, IsTrue, OnOk, IfOk, IfErr};
+ghost use Rattle.std.specs.Prelude.{◌≡◌, IsTrue, OnOk, IfOk, IfErr, IfSome};
 ghost use Rattle.xf_base.specs.Faults.{HasCause};
 ghost use Rattle.xf_base.specs.Gives.{GivesOver};
 ghost use Rattle.xf_disk.specs.Image.{in_slot};
 ghost use Rattle.xf_disk.specs.Crash.{IsSettled};
+ghost use Rattle.xf_journal.specs.Entry.{are_within};
 ghost use Rattle.xf_journal.specs.Layout.{open_epoch};
 ghost use Rattle.xf_journal.specs.Held.{chosen, in_use, held};
 ghost use Rattle.xf_journal.specs.Scanned.{scan_of};
@@ -20,6 +21,7 @@ use xf_io::Failed;
 /// the syncs have succeeded a crash leaves what a read gives.
 pub fn scan<D: Disk>(alloc: Global, disk: &mut D) -> Result<Option<Scanned>, JournalFault>
     ensures held { IsTrue (D.tells disk.old) → GivesOver IsOutside (λ found. found) result (scan_of (held (D.seen disk.old))) }
+    ensures within { IfOk result (λ found. IfSome found (λ scanned. IsTrue (are_within scanned.entries))) }
     ensures looks { OnlyLooks D.tells D.seen D.may_leave D.moment D.left_since disk.old disk.new }
     ensures settled { IsTrue (D.tells disk.old) → OnceSynced result (IsSettled (D.seen disk.new) (D.may_leave disk.new)) }
     ensures cause { HasDiskCause (D.faults disk.old) (D.faults disk.new) result }

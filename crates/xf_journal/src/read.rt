@@ -1,8 +1,9 @@
 //! What the bytes of an open slot hold.
-ghost use Rattle.std.specs.Prelude.{◌≡◌, ◌≤◌, ◌<◌, ◌^◌, if◌then◌else◌, length, drop, IfOk};
+ghost use Rattle.std.specs.Prelude.{◌≡◌, ◌≤◌, ◌<◌, ◌^◌, if◌then◌else◌, length, drop, IfOk, IsTrue};
 ghost use Rattle.xf_base.specs.Gives.{Gives};
 ghost use Rattle.xf_journal.specs.Held.{entries_from, log_in, log_of};
 ghost use Rattle.xf_journal.specs.Layout.{entries_at};
+ghost use Rattle.xf_journal.specs.Entry.{are_within};
 ghost use Rattle.xf_journal.specs.Scanned.{scanned_of, scanned_result, tail_of};
 
 use crate::entry::entry_in;
@@ -24,7 +25,8 @@ struct Entries {
 /// What an open slot holds, or the first of its fields that fails.
 pub(crate) fn read_slot(alloc: Global, slot: Slot, bytes: &[u8]) -> Result<Scanned, JournalFault>
     requires { 22 ≤ length bytes.now }
-    ensures { Gives JournalFault.Memory (λ scanned. scanned) result (scanned_result (log_of slot bytes.now)) }
+    ensures read { Gives JournalFault.Memory (λ scanned. scanned) result (scanned_result (log_of slot bytes.now)) }
+    ensures within { IfOk result (λ scanned. IsTrue (are_within scanned.entries)) }
 {
     let Some(format) = format_in(bytes) else {
         return Err(JournalFault::Damaged(slot, 1));
@@ -36,10 +38,12 @@ pub(crate) fn read_slot(alloc: Global, slot: Slot, bytes: &[u8]) -> Result<Scann
 }
 
 /// What a slot holds whose fields stand.
+#[tactic(auto, using(crate::proofs::WithinLemmas::tail_within))]
 fn read_log(alloc: Global, slot: Slot, format: Format, bytes: &[u8]) -> Result<Scanned, AllocError>
     requires open { 22 ≤ length bytes.now }
     requires fields { entries_at format bytes.now ≤ length bytes.now }
-    ensures { IfOk result (λ scanned. scanned ≡ scanned_of (log_in format slot bytes.now)) }
+    ensures read { IfOk result (λ scanned. scanned ≡ scanned_of (log_in format slot bytes.now)) }
+    ensures within { IfOk result (λ scanned. IsTrue (are_within scanned.entries)) }
 {
     let [form_at, base_at] = [format.header_length(), base_at(format, bytes)];
     let entries_at = entries_at(format, bytes);

@@ -3,16 +3,24 @@ use Rattle.std.specs.Prelude.{ℕ, List, Option}
 use Rattle.xf_store.specs.declared.answers.Answer.{Answer}
 use Rattle.xf_store.specs.declared.call.Named.{Named}
 use Rattle.xf_store.specs.declared.call.StoreCall.{StoreCall}
+use Rattle.xf_io.specs.Failing.{Failing}
 
 -- the store in memory
 pub record Telling : Type 0 where
   pub held : List Named
   -- the calls, unless one found no room in the list
   pub calls : Option (List StoreCall)
+  -- which calls are to fail
+  pub failing : Failing
   pub faults : ℕ
 
 -- the store that answers from kept answers
 pub record Replaying : Type 0 where
   -- the answers that are left, unless a call did not fit the next
   pub to_come : Option (List Answer)
+  pub faults : ℕ
+
+-- the store over a folder: its path, and how often a call has failed
+pub record OneFolder : Type 0 where
+  pub folder : List ℕ
   pub faults : ℕ

@@ -1,21 +1,23 @@
 //! A store over one folder of the operating system.
-ghost use Rattle.std.specs.Prelude.{◌≡◌, ◌≤◌, None, length};
+ghost use Rattle.std.specs.Prelude.{◌≡◌, ◌≤◌, None, length, IfOk};
 
 use crate::fault::counted;
 use crate::{GOT_MOST, GetFault, Got, Store};
 use std::alloc::{AllocError, Global};
-use std::fs::{OpenFile, OpenOptions};
+use std::fs::OpenFile;
 use std::io::{ErrorKind, Read, Write};
+use std::marker::Model;
 use std::rt::Files;
 use std::{fs, io};
-use xf_io::{Bytes, Failed};
+use xf_io::{Bytes, Failed, sync_folder_of};
 
 /// The longest name that a path has room for.
 const NAME_MOST: usize = 64;
 
 /// A folder whose files are the named bytes. A put writes a file of another name, which no name here may
 /// have, and renames it, so that it is made whole or not at all; it makes the folder where there is none.
-/// The caller tries the names. It counts each error, and tells no content.
+/// The names of the file and of the folder are durable after it. The caller tries the names. It counts each error,
+/// and tells no content.
 #[derive(Drop)]
 pub struct FolderStore<'a, R: Files> {
     files: &'a R,
@@ -23,16 +25,26 @@ pub struct FolderStore<'a, R: Files> {
     folder: String,
     temporary: String,
     path: String,
+    /// Whether the folder above was synced: the folder may have been made a moment before, by this process or by one
+    /// that was stopped.
+    is_named: bool,
     failed: u64,
+}
+
+impl<'a, R: Files> Model for FolderStore<'a, R> {
+    ghost use Rattle.std.specs.Prelude.{string_bytes};
+    ghost use Rattle.xf_store.specs.Objects.{OneFolder};
+
+    ghost Value = { OneFolder };
+
+    ghost view = { λ s. record { folder = string_bytes s.folder; faults = s.failed } };
 }
 
 impl<'a, R: Files> FolderStore<'a, R> {
     /// A store over the folder with this path. It takes the room for its paths, and opens nothing.
-    pub fn new(
-        alloc: Global,
-        files: &'a R,
-        folder: &str,
-    ) -> Result<FolderStore<'a, R>, AllocError> {
+    pub fn new(alloc: Global, files: &'a R, folder: &str) -> Result<FolderStore<'a, R>, AllocError>
+        ensures { IfOk result (λ store. store ≡ record { folder = folder.now; faults = 0 }) }
+    {
         let mut temporary = String::from_str(alloc, folder)?;
         temporary.push_str("/.put")?;
         let room = folder.len().saturating_add(1 + NAME_MOST);
@@ -42,12 +54,13 @@ impl<'a, R: Files> FolderStore<'a, R> {
             folder: String::from_str(alloc, folder)?,
             temporary,
             path: String::with_capacity(alloc, room)?,
+            is_named: false,
             failed: 0,
         })
     }
 
     fn put_file(&mut self, name: &str, bytes: &[u8]) -> io::Result<()>
-        ensures { self.new.failed ≡ self.old.failed }
+        ensures { self.new.faults ≡ self.old.faults }
     {
         set_path(&mut self.path, self.folder.as_str(), name)?;
         let temporary = self.temporary.as_str();
@@ -55,11 +68,13 @@ impl<'a, R: Files> FolderStore<'a, R> {
         file.write_all(bytes)?;
         file.sync_all()?;
         fs::rename(self.files, temporary, self.path.as_str())?;
-        // the new name is durable where the folder is
-        OpenOptions::new()
-            .read(true)
-            .open(self.files, self.folder.as_str())?
-            .sync_all()
+        // a name is durable where its folder is
+        sync_folder_of(self.files, self.path.as_str())?;
+        if !self.is_named {
+            sync_folder_of(self.files, self.folder.as_str())?;
+            self.is_named = true;
+        }
+        Ok(())
     }
 }
 
@@ -70,7 +85,7 @@ impl<R: Files> Store for FolderStore<'_, R> {
 
     ghost to_come = { λ _. None };
 
-    ghost faults = { λ s. s.failed };
+    ghost faults = { λ s. s.faults };
 
     fn put(&mut self, name: &str, bytes: &[u8]) -> Result<(), Failed> {
         match self.put_file(name, bytes) {

@@ -2,7 +2,12 @@
 ghost use Rattle.std.specs.Prelude.{◌≡◌, ◌<◌, ◌∷◌, ◌++◌, [], length, Some, None, IfOk, IfSome, OnOk, OnErr};
 ghost use Rattle.std.specs.Option.{option_map, option_copied};
 ghost use Rattle.std.specs.Bool.{OnTrue, OnFalse};
-ghost use Rattle.xf_store.specs.Held.{found, put_under, place_from};
+ghost use Rattle.xf_base.specs.Faults.{HasCause};
+ghost use Rattle.xf_io.specs.Failing.{after_call};
+ghost use Rattle.xf_store.specs.Held.{found, put_under, place_from, Puts, Gets, Leaves};
+ghost use Rattle.xf_store.specs.Calls.{Lists, GetLists, put_call};
+ghost use Rattle.xf_store.specs.Replies.{GetUses};
+ghost use Rattle.xf_store.specs.Causes.{HasGetCause, PutFails, GetFails};
 ghost use Rattle.xf_store.specs.declared.call.StoreCall.{StoreCall};
 
 use crate::fault::counted;
@@ -10,17 +15,16 @@ use crate::{Answer, Asked, Calls, GOT_MOST, GetFault, Got, Named, Store, StoreCa
 use std::alloc::{AllocError, Global};
 use std::marker::Model;
 use xf_base::Items;
-use xf_io::{Bytes, Failed};
+use xf_io::{Bytes, Failed, FailingCalls};
 
-/// A store in memory. Want of memory in a put fails the call and is counted; a call that finds no memory
-/// to be listed ends the list.
+/// A store in memory. Want of memory in a put fails the call, is counted, and ends the list of calls, as
+/// does a call that finds no memory to be listed.
 #[derive(Drop)]
 pub struct MemoryStore {
     alloc: Global,
     held: Items<Named>,
     calls: Option<Calls>,
-    fails: Vec<u64>,
-    made: u64,
+    failing: FailingCalls,
     failed: u64,
 }
 
@@ -29,20 +33,19 @@ impl Model for MemoryStore {
 
     ghost Value = { Telling };
 
-    ghost view = { λ s. record { held = s.held; calls = s.calls; faults = s.failed } };
+    ghost view = { λ s. record { held = s.held; calls = s.calls; failing = s.failing; faults = s.failed } };
 }
 
 impl MemoryStore {
-    /// An empty store. The calls whose numbers are listed fail, the first being 0.
+    /// An empty store. The calls whose numbers are listed fail, the first being 0, and no other, unless memory is wanting.
     pub fn new(alloc: Global, fails: Vec<u64>) -> MemoryStore
-        ensures { result ≡ record { held = []; calls = Some []; faults = 0 } }
+        ensures { result ≡ record { held = []; calls = Some []; failing = record { fails = fails.items; made = 0 }; faults = 0 } }
     {
         MemoryStore {
             alloc,
             held: Items::new(alloc),
             calls: Some(Items::new(alloc)),
-            fails,
-            made: 0,
+            failing: FailingCalls::new(fails),
             failed: 0,
         }
     }
@@ -61,14 +64,6 @@ impl MemoryStore {
     {
         self.calls.as_ref()
     }
-
-    fn fails_now(&mut self) -> bool
-        ensures { self.new ≡ self.old }
-    {
-        let call = self.made;
-        self.made = self.made.saturating_add(1);
-        self.fails.contains(&call)
-    }
 }
 
 impl Store for MemoryStore {
@@ -80,10 +75,20 @@ impl Store for MemoryStore {
 
     ghost faults = { λ s. s.faults };
 
-    fn put(&mut self, name: &str, bytes: &[u8]) -> Result<(), Failed> {
-        let fails = self.fails_now();
-        if fails || put_named(self.alloc, &mut self.held, name.as_bytes(), bytes).is_err() {
+    fn put(&mut self, name: &str, bytes: &[u8]) -> Result<(), Failed>
+        ensures held { Puts (Some self.old.held) (Some self.new.held) name.now bytes.now result }
+        ensures calls { Lists self.old.calls self.new.calls (put_call name.now bytes.now result) }
+        ensures cause { HasCause self.old.faults self.new.faults result }
+        ensures fails { PutFails self.old.failing self.new.calls self.old.held self.new.held result }
+        ensures failing { self.new.failing ≡ after_call self.old.failing }
+    {
+        let fails = self.failing.fails_now();
+        if fails {
             list_put(self.alloc, &mut self.calls, name, bytes, Answer::Failed);
+            return Err(counted(&mut self.failed));
+        }
+        if put_named(self.alloc, &mut self.held, name.as_bytes(), bytes).is_err() {
+            self.calls = None;
             return Err(counted(&mut self.failed));
         }
         if list_put(self.alloc, &mut self.calls, name, bytes, Answer::PutDone) {
@@ -92,8 +97,17 @@ impl Store for MemoryStore {
         Err(counted(&mut self.failed))
     }
 
-    fn get(&mut self, name: &str, into: &mut Bytes) -> Result<Got, GetFault> {
-        if self.fails_now() {
+    fn get(&mut self, name: &str, into: &mut Bytes) -> Result<Got, GetFault>
+        ensures answer { Gets (Some self.old.held) name.now result into.new }
+        ensures into { Leaves result into.old into.new }
+        ensures held { self.new.held ≡ self.old.held }
+        ensures calls { GetLists self.old.calls self.new.calls name.now result into.new }
+        ensures to_come { GetUses None None result into.new }
+        ensures cause { HasGetCause self.old.faults self.new.faults result }
+        ensures fails { GetFails self.old.failing result }
+        ensures failing { self.new.failing ≡ after_call self.old.failing }
+    {
+        if self.failing.fails_now() {
             list_get(self.alloc, &mut self.calls, name, Answer::Failed)?;
             counted(&mut self.failed);
             return Err(GetFault::Failed);

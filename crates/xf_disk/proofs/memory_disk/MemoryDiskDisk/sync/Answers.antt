@@ -3,7 +3,7 @@ use Rattle.xf_disk.proofs.MemoryLemmas.{sync_durable, sync_crash, sync_time}
 use Rattle.xf_disk.proofs.memory_disk.MemoryDiskDisk.sync.Goals as goal
 
 pub returns-clause-durable : goal.returns-clause-durable
-returns-clause-durable c = λ told. sync_durable c.args.slot c.args.self.now.slots c.sync.new.self c.sync.ensures
+returns-clause-durable c = sync_durable c.args.slot c.args.self.now.slots c.sync.new.self c.sync.ensures
 
 pub returns-clause-crash : goal.returns-clause-crash
 returns-clause-crash c = sync_crash c.args.slot c.args.self.now.slots c.sync.new.self c.sync.ensures
