@@ -1,10 +1,14 @@
 //! The texts that make a string value up, one by one.
-ghost use Rattle.std.specs.Prelude.{◌≡◌, [], ◌∷◌, ◌++◌, length, map, drop, false, true};
+ghost use Rattle.std.specs.Prelude.{◌≡◌, ◌<◌, ◌≤◌, [], length, drop, true, slice_index_or};
 ghost use Rattle.std.specs.Iterator.{YieldsFirstBy, item_count};
-ghost use Rattle.xf_tree.specs.Reads.{pieces_left};
+ghost use Rattle.slab.specs.Slab.{get};
+ghost use Rattle.xf_doc.specs.StringValue.{characters, has_character};
+ghost use Rattle.xf_tree.specs.Reads.{pieces_left, pieces_at};
+ghost use Rattle.xf_tree.specs.Rows.{Sized};
+ghost use Rattle.xf_tree.specs.Tree.{content_in, no_row};
 
-use crate::rows::Row;
-use crate::slot::{Slot, below};
+use crate::rows::{Row, end_of};
+use crate::slot::{Slot, below, own};
 use slab::Slab;
 use std::marker::Model;
 
@@ -47,6 +51,19 @@ impl<'a> Iterator for Pieces<'a> {
         let text = below(self.slots, self.rows[at].key);
         self.rows = &self.rows[at + 1..];
         Some(text)
+    }
+}
+
+/// The texts of the node whose row stands at a place.
+pub fn pieces_at<'a>(rows: &'a [Row], slots: &'a Slab<Slot>, at: usize) -> Pieces<'a>
+    requires within { at < length rows.now }
+    requires sized { Sized rows.now }
+    ensures { result ≡ pieces_at slots.now rows.now at }
+{
+    Pieces {
+        slots,
+        first: own(slots, rows[at].key),
+        rows: &rows[at + 1..end_of(rows, at)],
     }
 }
 

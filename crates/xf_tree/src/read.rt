@@ -1,19 +1,15 @@
 //! What is read of a node at one look: what it is, its texts, where it stands.
-ghost use Rattle.std.specs.Prelude.{◌≡◌, ◌<◌, Some, length, map, option_map, slice_index_or};
-ghost use Rattle.std.specs.Iterator.{YieldsFirstBy, item_count};
+ghost use Rattle.std.specs.Prelude.{◌≡◌, option_map};
 ghost use Rattle.xf_doc.specs.Changes.{standing};
 ghost use Rattle.xf_doc.specs.Forest.{IsLive, content_at};
-ghost use Rattle.xf_doc.specs.Order.{instance_of, rank_of};
+ghost use Rattle.xf_doc.specs.Order.{rank_of};
 ghost use Rattle.xf_doc.specs.StringValue.{pieces, whole};
-ghost use Rattle.xf_doc.specs.Visit.{visits, top_of};
-ghost use Rattle.xf_tree.specs.Reads.{pieces_left};
-ghost use Rattle.xf_tree.specs.Tree.{number_at, no_row};
+ghost use Rattle.xf_doc.specs.Visit.{visits};
 
 use crate::forest::Forest;
-use crate::lookup::{Hint, parent_row, place_of, row_of};
-use crate::pieces::Pieces;
-use crate::rows::{Row, end_of};
-use crate::slot::{content_of, number_of, own};
+use crate::lookup::{parent_row, place_of, row_of};
+use crate::pieces::{Pieces, pieces_at};
+use crate::slot::{content_of, number_of};
 use xf_doc::{Content, NodeId};
 
 impl Forest {
@@ -32,11 +28,7 @@ impl Forest {
         ensures { result ≡ pieces node.number (visits self.now.forest.nodes) }
     {
         match row_of(&self.rows, &self.slots, &self.hints, node) {
-            Some(at) => Pieces {
-                slots: &self.slots,
-                first: own(&self.slots, self.rows[at].key),
-                rows: &self.rows[at + 1..end_of(&self.rows, at)],
-            },
+            Some(at) => pieces_at(&self.rows, &self.slots, at),
             None => Pieces {
                 slots: &self.slots,
                 first: "",
