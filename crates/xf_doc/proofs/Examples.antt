@@ -4,12 +4,12 @@ use Rattle.std.specs.Prelude.{codes}
 use Rattle.std.specs.Fmt.{digits}
 use Rattle.xf_name.specs.declared.axis.Axis.TheVariants as axis
 use Rattle.xf_doc.specs.declared.content.Node.{Node}
-use Rattle.xf_doc.specs.declared.content.Content.TheVariants.{Root, Element, Attribute}
+use Rattle.xf_doc.specs.declared.content.Content.TheVariants.{Root, Element}
 use Rattle.xf_doc.specs.declared.content.Kind.TheVariants as kind
 use Rattle.xf_doc.specs.Forest.{written, tree_of, kind_at, name_at}
 use Rattle.xf_doc.specs.Visit.{visits, numbers, ancestors_of, parent_of, top_of, children_of, attributes_of}
-use Rattle.xf_doc.specs.StringValue.{string_value, string_value_within}
-use Rattle.xf_doc.specs.Order.{is_before}
+use Rattle.xf_doc.specs.StringValue.{string_value, string_value_within, pieces, whole}
+use Rattle.xf_doc.specs.Order.{is_before, rank_of, in_order, instance_of}
 use Rattle.xf_doc.specs.Axis.{axis_of}
 use Rattle.xf_doc.specs.Path.{path_of}
 use Rattle.xf_doc.specs.WellFormed.{HasTrees, are_depths, are_first, are_tops, have_same_name}
@@ -80,7 +80,28 @@ nothing_stands_above_a_root = refl
 two_prefixes_of_one_namespace_make_one_name : have_same_name (Some (of_p (codes "k"))) (Some (record { meaning = qname 1 2 (codes "k"); prefix = codes "r" })) ≡ true
 two_prefixes_of_one_namespace_make_one_name = refl
 
+the_second_root_is_of_instance_one : instance_of 2 pair_of_instances.nodes ≡ Some 1
+the_second_root_is_of_instance_one = refl
+
+an_element_is_no_root : instance_of 3 pair_of_instances.nodes ≡ None
+an_element_is_no_root = refl
+
+the_rank_counts_attributes : rank_of 5 rows.nodes ≡ 5
+the_rank_counts_attributes = refl
+
+a_set_is_put_in_order : in_order (visits rows.nodes) (11 ∷ 2 ∷ 40 ∷ 11 ∷ 5 ∷ []) ≡ 2 ∷ 5 ∷ 11 ∷ []
+a_set_is_put_in_order = refl
+
 -- ---- string values
+
+a_value_has_a_piece_for_each_text : pieces 6 (visits rows.nodes) ≡ codes "2" ∷ codes "t" ∷ codes "3" ∷ []
+a_value_has_a_piece_for_each_text = refl
+
+a_value_of_three_pieces_is_not_whole : whole (pieces 6 (visits rows.nodes)) ≡ None
+a_value_of_three_pieces_is_not_whole = refl
+
+one_text_is_the_whole : whole (pieces 2 (visits rows.nodes)) ≡ Some (codes "1")
+one_text_is_the_whole = refl
 
 value_of_an_attribute : string_value 4 (visits rows.nodes) ≡ codes "7"
 value_of_an_attribute = refl

@@ -1,5 +1,5 @@
 -- String values (XPath 1.0, sections 5.1 to 5.7).
-use Rattle.std.specs.Prelude.{ℕ, List, [], ◌++◌, length, find, Option, Some, None, nat_lt, ◌==◌, if◌then◌else◌}
+use Rattle.std.specs.Prelude.{ℕ, Bool, true, false, List, [], ◌∷◌, ◌++◌, length, map, filter, find, Option, Some, None, nat_lt, ◌==◌, if◌then◌else◌}
 use Rattle.std.specs.List.{flat_map}
 use Rattle.xf_doc.specs.declared.content.Content.{Content}
 use Rattle.xf_doc.specs.declared.content.Content.TheVariants.{Text}
@@ -30,3 +30,26 @@ within most text = if nat_lt most (length text) then None else Some text
 
 abbrev pub string_value_within : ℕ → ℕ → List Visit → Option (List ℕ)
 string_value_within most n all = within most (string_value n all)
+
+-- ---- its pieces
+
+abbrev pub has_character : List ℕ → Bool
+has_character [] = false
+has_character (c ∷ cs) = true
+
+-- the texts that make a visited node's string value up: those that are not empty, in document order
+abbrev pub pieces_of : List Visit → Visit → List (List ℕ)
+pieces_of all x = filter has_character (own_text x.content ∷ map (text_below x.number) all)
+
+abbrev pub pieces_in : List Visit → Option Visit → List (List ℕ)
+pieces_in all None = []
+pieces_in all (Some x) = pieces_of all x
+
+abbrev pub pieces : ℕ → List Visit → List (List ℕ)
+pieces n all = pieces_in all (find (λ x. x.number == n) all)
+
+-- a text that is in one piece
+abbrev pub whole : List (List ℕ) → Option (List ℕ)
+whole [] = Some []
+whole (p ∷ []) = Some p
+whole (p ∷ q ∷ ps) = None

@@ -1,10 +1,12 @@
 //! Nodes of a forest, and lists of them.
 
-ghost use Rattle.std.specs.Prelude.{◌≡◌, ◌==◌, ◌<◌, ◌↔◌, [], ◌∷◌, ◌++◌, length, IsTrue, OnOk, OnErr, slice_get, option_map, position, Some};
+ghost use Rattle.std.specs.Prelude.{◌≡◌, ◌==◌, ◌<◌, ◌↔◌, [], ◌∷◌, ◌++◌, length, map, take, reverse, IsTrue, IfOk, OnOk, OnErr, slice_get, option_map, option_to_list, position, Some};
 ghost use Rattle.std.specs.List.{list_any};
+ghost use Rattle.std.specs.Slice.Iter.{iter_rest};
 
 use std::alloc::{AllocError, Global};
 use std::marker::Model;
+use std::slice::Iter;
 
 /// A node of a forest. Its number is given to no other, but where the forest is rolled back before it came; the place is a hint of whoever
 /// keeps the forest.
@@ -44,6 +46,28 @@ impl NodeList {
         NodeList {
             nodes: Vec::new(alloc),
         }
+    }
+
+    /// An empty list with room for so many nodes.
+    pub fn with_capacity(alloc: Global, count: usize) -> Result<Self, AllocError>
+        ensures { IfOk result (λ nodes. nodes ≡ []) }
+    {
+        Ok(NodeList {
+            nodes: Vec::with_capacity(alloc, count)?,
+        })
+    }
+
+    /// The nodes, the first one first.
+    pub fn as_slice(&self) -> &[NodeId]
+        ensures { map (λ n. n.number) result.now ≡ self.now }
+    {
+        &self.nodes
+    }
+
+    pub fn iter(&self) -> Iter<'_, NodeId>
+        ensures { map (λ n. n.number) (iter_rest result) ≡ self.now }
+    {
+        self.nodes.iter()
     }
 
     pub fn len(&self) -> usize
@@ -91,6 +115,32 @@ impl NodeList {
     {
         self.nodes.push(node)?;
         Ok(())
+    }
+
+    /// Takes the last node off.
+    pub fn pop(&mut self) -> Option<NodeId>
+        ensures { self.old ≡ self.new ++ option_to_list (option_map (λ n. n.number) result) }
+    {
+        self.nodes.pop()
+    }
+
+    /// Keeps the first nodes, so many of them.
+    pub fn truncate(&mut self, count: usize)
+        ensures { self.new ≡ take count self.old }
+    {
+        self.nodes.truncate(count);
+    }
+
+    pub fn clear(&mut self)
+        ensures { self.new ≡ [] }
+    {
+        self.nodes.clear();
+    }
+
+    pub fn reverse(&mut self)
+        ensures { self.new ≡ reverse self.old }
+    {
+        self.nodes.reverse();
     }
 }
 

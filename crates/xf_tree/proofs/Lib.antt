@@ -74,3 +74,7 @@ pub mod PairLemmas
 pub mod PrintedLemmas
 pub mod BareLemmas
 pub mod BareContents
+pub mod PieceLemmas
+pub mod ReadLemmas
+pub mod OrderLemmas
+pub mod TopLemmas

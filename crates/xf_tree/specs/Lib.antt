@@ -7,6 +7,7 @@ pub mod Contents
 pub mod Kids
 pub mod Older
 pub mod Walks
+pub mod Reads
 pub mod Below
 pub mod Siblings
 pub mod Texts

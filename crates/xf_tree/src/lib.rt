@@ -19,12 +19,15 @@ mod limits;
 mod lookup;
 mod may;
 mod name;
+mod order;
 mod path;
+mod pieces;
 mod plant;
 mod plant_bare;
 #[cfg(test)]
 mod played;
 mod print;
+mod read;
 mod root;
 mod rows;
 mod run;
@@ -40,6 +43,7 @@ mod tests_memory;
 #[cfg(test)]
 mod tests_texts;
 mod text;
+mod top;
 mod tree;
 mod walk;
 #[cfg(test)]
@@ -47,4 +51,5 @@ mod written;
 
 pub use before::Before;
 pub use forest::Forest;
+pub use pieces::Pieces;
 pub use walk::Walk;

@@ -33,6 +33,16 @@ pub fn number_of(slots: &Slab<Slot>, key: usize) -> u128
     }
 }
 
+/// What the node under a key is, where there is one.
+pub fn content_of(slots: &Slab<Slot>, key: usize) -> Option<&Content>
+    ensures { option_map (λ content. content.now) result ≡ option_map (λ slot. slot.content) (get slots.now key) }
+{
+    match slots.get(key) {
+        Some(slot) => Some(&slot.content),
+        None => None,
+    }
+}
+
 pub fn kind(slots: &Slab<Slot>, key: usize) -> Kind
     ensures { result ≡ kind_of (content_in (get slots.now key)) }
 {

@@ -1,0 +1,15 @@
+use Rattle.std.proofs.Common.{sym, ap, ◌∙◌, subst}
+use Rattle.xf_doc.specs.Order.{rank_of}
+use Rattle.xf_doc.specs.Texts.{Keeping}
+use Rattle.xf_tree.specs.Tree.{StandsAt}
+use Rattle.xf_tree.proofs.ReadLemmas.{rank-means}
+use Rattle.xf_tree.proofs.forest.Forest.rank.Goals as goal
+
+pub returns-in-Some : goal.returns-in-Some
+returns-in-Some c =
+    let n = c.args.node.number in
+    let s = c.self.inside.slots in
+    let rows = c.self.inside.rows.items in
+    let at = c.in-Some.at in
+    let here = subst (λ r. StandsAt s r n at) c.deref.ensures.value c.in-Some.ensures in
+    sym (rank-means s n at rows c.self.inside.kept.items c.self.inside.next c.self.invariant.sound here) ∙ ap (λ (k : Keeping). rank_of n k.forest.nodes) c.self.view_is

@@ -1,0 +1,92 @@
+//! Sets of nodes in document order.
+ghost use Rattle.std.specs.Prelude.{◌≡◌, ◌<◌, ◌≤◌, ℕ, length, map, IfOk};
+ghost use Rattle.std.specs.List.{All};
+ghost use Rattle.xf_doc.specs.Order.{in_order};
+ghost use Rattle.xf_doc.specs.Visit.{visits};
+ghost use Rattle.xf_tree.specs.Reads.{AreUp, each_once, is_among, stands_one};
+ghost use Rattle.xf_tree.specs.Tree.{node_of, times};
+ghost use Rattle.xf_tree.specs.Walks.{number_of_row};
+
+use crate::forest::Forest;
+use crate::lookup::{Hint, row_of};
+use crate::rows::Row;
+use crate::slot::{Slot, number_of};
+use slab::Slab;
+use std::alloc::{AllocError, Global};
+use xf_doc::{NodeId, NodeList};
+
+impl Forest {
+    /// A set of nodes in document order, each once; one that is not live is not in it. It costs one pass where they stand in
+    /// order already, else a sort.
+    pub fn in_order(&self, nodes: &NodeList) -> Result<NodeList, AllocError>
+        ensures { IfOk result (λ list. list ≡ in_order (visits self.now.forest.nodes) nodes.now) }
+    {
+        let mut ranks = ranks_of(
+            self.alloc,
+            &self.rows,
+            &self.slots,
+            &self.hints,
+            nodes.as_slice(),
+        )?;
+        put_up(&mut ranks);
+        nodes_at(self.alloc, &self.rows, &self.slots, &ranks)
+    }
+}
+
+/// The places of the rows of these nodes, in their order.
+fn ranks_of(
+    alloc: Global,
+    rows: &[Row],
+    slots: &Slab<Slot>,
+    hints: &[Hint],
+    nodes: &[NodeId],
+) -> Result<Vec<usize>, AllocError>
+    requires { (n : ℕ) → times n (map (node_of slots.now) rows.now) ≤ 1 }
+    ensures { IfOk result (λ ranks. (at : ℕ) → is_among at ranks.items ≡ stands_one slots.now rows.now (map (λ n. n.number) nodes.now) at) }
+{
+    let mut ranks = Vec::with_capacity(alloc, nodes.len())?;
+    for node in nodes {
+        match row_of(rows, slots, hints, *node) {
+            Some(at) => {
+                ranks.push(at)?;
+                continue;
+            }
+            None => continue,
+        }
+    }
+    Ok(ranks)
+}
+
+/// Sorts places, unless they are.
+fn put_up(ranks: &mut Vec<usize>)
+    ensures up { AreUp 0 ranks.new.items }
+    ensures same { (at : ℕ) → is_among at ranks.new.items ≡ is_among at ranks.old.items }
+{
+    if !ranks.is_sorted() {
+        ranks.sort_unstable();
+    }
+}
+
+/// The nodes whose rows stand at these places, which go up: each once.
+fn nodes_at(
+    alloc: Global,
+    rows: &[Row],
+    slots: &Slab<Slot>,
+    ranks: &[usize],
+) -> Result<NodeList, AllocError>
+    requires { All (λ rank. rank < length rows.now) ranks.now }
+    ensures { IfOk result (λ list. list ≡ map (number_of_row slots.now rows.now) (each_once 0 ranks.now)) }
+{
+    let mut list = NodeList::with_capacity(alloc, ranks.len())?;
+    let mut next = 0;
+    for rank in ranks {
+        if *rank < next {
+            continue;
+        }
+        let place = rows[*rank].key;
+        let number = number_of(slots, place);
+        list.push(NodeId { number, place })?;
+        next = *rank + 1;
+    }
+    Ok(list)
+}

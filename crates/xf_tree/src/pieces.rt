@@ -1,0 +1,81 @@
+//! The texts that make a string value up, one by one.
+ghost use Rattle.std.specs.Prelude.{◌≡◌, ◌<◌, ◌≤◌, [], length, drop, true, slice_index_or};
+ghost use Rattle.std.specs.Iterator.{YieldsFirstBy, item_count};
+ghost use Rattle.slab.specs.Slab.{get};
+ghost use Rattle.xf_doc.specs.StringValue.{characters, has_character};
+ghost use Rattle.xf_tree.specs.Reads.{pieces_left, pieces_at};
+ghost use Rattle.xf_tree.specs.Rows.{Sized};
+ghost use Rattle.xf_tree.specs.Tree.{content_in, no_row};
+
+use crate::rows::{Row, end_of};
+use crate::slot::{Slot, below, own};
+use slab::Slab;
+use std::marker::Model;
+
+/// The texts that make a string value up, the first one first. Contracts see it as the list of those that are left.
+#[derive(Drop)]
+pub struct Pieces<'a> {
+    pub(crate) slots: &'a Slab<Slot>,
+    pub(crate) first: &'a str,
+    pub(crate) rows: &'a [Row],
+}
+
+impl<'a> Model for Pieces<'a> {
+    ghost use Rattle.std.specs.Prelude.{ℕ, List};
+
+    ghost Value = { List (List ℕ) };
+
+    ghost use Rattle.xf_tree.specs.Reads.{pieces_left};
+
+    ghost view = { λ p. pieces_left p.slots.now p.first.now p.rows.now };
+}
+
+impl<'a> Iterator for Pieces<'a> {
+    type Item = &'a str;
+
+    ghost next_gives = { YieldsFirstBy (λ text. text.now) (λ p. p) };
+
+    ghost remaining = { item_count (λ p. p) };
+
+    fn next(&mut self) -> Option<&'a str> {
+        let first = self.first;
+        self.first = "";
+        if !first.is_empty() {
+            return Some(first);
+        }
+        let at = next_text(self.rows, self.slots);
+        if at >= self.rows.len() {
+            self.rows = &[];
+            return None;
+        }
+        let text = below(self.slots, self.rows[at].key);
+        self.rows = &self.rows[at + 1..];
+        Some(text)
+    }
+}
+
+/// The texts of the node whose row stands at a place.
+pub fn pieces_at<'a>(rows: &'a [Row], slots: &'a Slab<Slot>, at: usize) -> Pieces<'a>
+    requires within { at < length rows.now }
+    requires sized { Sized rows.now }
+    ensures { result ≡ pieces_at slots.now rows.now at }
+{
+    Pieces {
+        slots,
+        first: own(slots, rows[at].key),
+        rows: &rows[at + 1..end_of(rows, at)],
+    }
+}
+
+/// The place of the first of these rows that has characters, or how many rows there are.
+fn next_text(rows: &[Row], slots: &Slab<Slot>) -> usize
+    ensures left { pieces_left slots.now [] (drop result rows.now) ≡ pieces_left slots.now [] rows.now }
+    ensures found { result < length rows.now → has_character (characters (content_in (get slots.now (slice_index_or rows.now result no_row).key))) ≡ true }
+    ensures within { result ≤ length rows.now }
+{
+    let mut at = 0;
+    while at < rows.len() && below(slots, rows[at].key).is_empty() {
+        at += 1;
+    }
+    at
+}

@@ -1,0 +1,76 @@
+//! What is read of a node at one look: what it is, its texts, where it stands.
+ghost use Rattle.std.specs.Prelude.{◌≡◌, option_map};
+ghost use Rattle.xf_doc.specs.Changes.{standing};
+ghost use Rattle.xf_doc.specs.Forest.{IsLive, content_at};
+ghost use Rattle.xf_doc.specs.Order.{rank_of};
+ghost use Rattle.xf_doc.specs.StringValue.{pieces, whole};
+ghost use Rattle.xf_doc.specs.Visit.{visits};
+
+use crate::forest::Forest;
+use crate::lookup::{parent_row, place_of, row_of};
+use crate::pieces::{Pieces, pieces_at};
+use crate::slot::{content_of, number_of};
+use xf_doc::{Content, NodeId};
+
+impl Forest {
+    /// What the node is: its kind, its name as it is resolved and as it is written, its own text. `None` where it is not live.
+    pub fn content(&self, node: NodeId) -> Option<&Content>
+        ensures { option_map (λ content. content.now) result ≡ content_at node.number self.now.forest.nodes }
+    {
+        match row_of(&self.rows, &self.slots, &self.hints, node) {
+            Some(at) => content_of(&self.slots, self.rows[at].key),
+            None => None,
+        }
+    }
+
+    /// The texts that make the string value up, one by one: none is empty. Takes no memory.
+    pub fn pieces(&self, node: NodeId) -> Pieces<'_>
+        ensures { result ≡ pieces node.number (visits self.now.forest.nodes) }
+    {
+        match row_of(&self.rows, &self.slots, &self.hints, node) {
+            Some(at) => pieces_at(&self.rows, &self.slots, at),
+            None => Pieces {
+                slots: &self.slots,
+                first: "",
+                rows: &[],
+            },
+        }
+    }
+
+    /// The string value where it is one text of the forest, or empty: `None` where it has several pieces. Takes no memory.
+    pub fn whole_value(&self, node: NodeId) -> Option<&str>
+        ensures { option_map (λ text. text.now) result ≡ whole (pieces node.number (visits self.now.forest.nodes)) }
+    {
+        let mut pieces = self.pieces(node);
+        let Some(piece) = pieces.next() else {
+            return Some("");
+        };
+        match pieces.next() {
+            Some(_) => None,
+            None => Some(piece),
+        }
+    }
+
+    /// How many nodes stand before it. It holds until the forest changes.
+    pub fn rank(&self, node: NodeId) -> usize
+        requires { IsLive node.number self.now.forest }
+        ensures { result ≡ rank_of node.number self.now.forest.nodes }
+    {
+        match row_of(&self.rows, &self.slots, &self.hints, node) {
+            Some(at) => at,
+            None => 0,
+        }
+    }
+
+    /// The parent of a node and its place there: how many children stand before it, or for an attribute how many attributes.
+    pub fn standing(&self, node: NodeId) -> Option<(NodeId, u32)>
+        ensures { option_map (λ r. (r.0.number, r.1)) result ≡ standing node.number self.now.forest.nodes }
+    {
+        let at = row_of(&self.rows, &self.slots, &self.hints, node)?;
+        let above = parent_row(&self.rows, &self.hints, at)?;
+        let key = self.rows[above].key;
+        let number = number_of(&self.slots, key);
+        let place = place_of(&self.rows, &self.slots, above, at);
+        Some((NodeId { number, place: key }, place))
+    }
+}
