@@ -1,6 +1,6 @@
 -- The characters of texts that end, and the tokens of what stands behind some of them.
-use Rattle.std.proofs.Common.{◌≡◌, ◌&&◌, ◌==◌, ℕ, zero, suc, ◌+◌, ◌-◌, ◌≤◌, Bool, true, false, List, [], ◌∷◌, ◌++◌, length, take, drop, if◌then◌else◌, refl, sym, ap, ◌∙◌, arith, length-append, append_assoc}
-use Rattle.std.specs.Prelude.{encode_utf8_all}
+use Rattle.std.proofs.Common.{◌≡◌, ◌&&◌, ◌||◌, ◌==◌, ℕ, zero, suc, ◌+◌, ◌-◌, ◌≤◌, Bool, true, false, List, [], ◌∷◌, ◌++◌, length, take, drop, if◌then◌else◌, Some, None, refl, sym, ap, ◌∙◌, arith, length-append, append_assoc}
+use Rattle.std.specs.Prelude.{Option, encode_utf8_all}
 use Rattle.std.specs.Char.{len_utf8}
 use Rattle.std.specs.Str.{chars, IsUtf8, IsCharBoundary}
 use Rattle.std.proofs.lemmas.Str.{chars-nil, encodes-chars, encodes-append, length-encode, IsCharBoundary-at_seam}
@@ -10,7 +10,7 @@ use Rattle.xf_num.specs.Written.{is_space, is_digit, after_digits}
 use Rattle.xf_name.specs.Part.{begins_part, continues_part}
 use Rattle.xf_path.specs.declared.token.Kind.{Kind}
 use Rattle.xf_path.specs.declared.token.Kind.TheVariants as k
-use Rattle.xf_path.specs.Tokens.{Token, after_space, after_part, after_point, name_from, dot_from, slash_from, sign_of, token_from, tokens_from}
+use Rattle.xf_path.specs.Tokens.{Token, after_space, after_part, after_point, kind_at_colon, kind_before, kind_of_name, name_on, name_from, after_quote, literal_by, literal_from, dot_from, sign_of, with_equal, doubled, pair_of, sign_by, sign_from, token_from, tokens_from}
 use Rattle.xf_path.specs.Reading.{after_next}
 use Rattle.xf_path.specs.Left.{tokens_at}
 use Rattle.xf_path.specs.Cursor.{behind}
@@ -54,15 +54,34 @@ pub record Cuts (cs : List ℕ) (found : Kind × List ℕ) : Type 0 where
   pub ends : Ends cs found.1
   pub is_token : (later : List Token) → behind found.0 later ≡ later
 
-name_cuts : (cs : List ℕ) → Cuts cs (name_from cs)
-name_cuts [] = record { ends = all_of []; is_token = λ later. refl }
-name_cuts (c ∷ []) = record { ends = all_of (c ∷ []); is_token = λ later. refl }
-name_cuts (c ∷ d ∷ cs) =
-    chosen (Cuts (c ∷ d ∷ cs)) ((c == 58) && begins_part d) (k.Name, after_part cs) _
-    (record { ends = behind_one c (d ∷ cs) _ (behind_one d cs _ (part_ends cs)); is_token = λ later. refl })
-    (chosen (Cuts (c ∷ d ∷ cs)) ((c == 58) && (d == 42)) (k.Other, cs) (k.Name, c ∷ d ∷ cs)
+abbrev IsToken : Kind → Type 0
+IsToken kind = (later : List Token) → behind kind later ≡ later
+
+colon_is_token : (cs : List ℕ) → IsToken (kind_at_colon cs)
+colon_is_token [] = λ later. refl
+colon_is_token (c ∷ cs) = chosen IsToken (c == 58) k.AxisName k.Name (λ later. refl) (λ later. refl)
+
+before_is_token : (cs : List ℕ) → IsToken (kind_before cs)
+before_is_token [] = λ later. refl
+before_is_token (c ∷ cs) = chosen IsToken (c == 40) k.Called _ (λ later. refl) (chosen IsToken (c == 58) (kind_at_colon cs) k.Name (colon_is_token cs) (λ later. refl))
+
+name_is_token : (cs : List ℕ) → IsToken (kind_of_name cs)
+unfolding kind_of_name
+name_is_token cs = before_is_token (after_space cs)
+
+name_on_cuts : (c : ℕ) (cs : List ℕ) → Cuts (c ∷ cs) (name_on (c ∷ cs) cs)
+name_on_cuts c [] = record { ends = all_of (c ∷ []); is_token = name_is_token (c ∷ []) }
+name_on_cuts c (d ∷ cs) =
+    chosen (Cuts (c ∷ d ∷ cs)) (begins_part d) (kind_of_name (after_part cs), after_part cs) _
+    (record { ends = behind_one c (d ∷ cs) _ (behind_one d cs _ (part_ends cs)); is_token = name_is_token (after_part cs) })
+    (chosen (Cuts (c ∷ d ∷ cs)) (d == 42) (k.SpaceStar, cs) (kind_of_name (c ∷ d ∷ cs), c ∷ d ∷ cs)
     (record { ends = behind_one c (d ∷ cs) _ (behind_one d cs _ (all_of cs)); is_token = λ later. refl })
-    (record { ends = all_of (c ∷ d ∷ cs); is_token = λ later. refl }))
+    (record { ends = all_of (c ∷ d ∷ cs); is_token = name_is_token (c ∷ d ∷ cs) }))
+
+name_cuts : (cs : List ℕ) → Cuts cs (name_from cs)
+name_cuts [] = record { ends = all_of []; is_token = name_is_token [] }
+name_cuts (c ∷ cs) =
+    chosen (Cuts (c ∷ cs)) (c == 58) (name_on (c ∷ cs) cs) (kind_of_name (c ∷ cs), c ∷ cs) (name_on_cuts c cs) (record { ends = all_of (c ∷ cs); is_token = name_is_token (c ∷ cs) })
 
 dot_cuts : (cs : List ℕ) → Cuts cs (dot_from cs)
 dot_cuts [] = record { ends = all_of []; is_token = λ later. refl }
@@ -73,23 +92,67 @@ dot_cuts (c ∷ cs) =
     (record { ends = behind_one c cs _ (digits_end cs); is_token = λ later. refl })
     (record { ends = all_of (c ∷ cs); is_token = λ later. refl }))
 
-slash_cuts : (cs : List ℕ) → Cuts cs (slash_from cs)
-slash_cuts [] = record { ends = all_of []; is_token = λ later. refl }
-slash_cuts (c ∷ cs) =
-    chosen (Cuts (c ∷ cs)) (c == 47) (k.Other, cs) (k.Slash, c ∷ cs)
-    (record { ends = behind_one c cs _ (all_of cs); is_token = λ later. refl })
-    (record { ends = all_of (c ∷ cs); is_token = λ later. refl })
+-- what is found, if anything, is an end
+abbrev EndsIf : List ℕ → Option (List ℕ) → Type 0
+EndsIf cs None = Ends cs cs
+EndsIf cs (Some after) = Ends cs after
 
-abbrev IsToken : Kind → Type 0
-IsToken kind = (later : List Token) → behind kind later ≡ later
+behind_one_if : (c : ℕ) (cs : List ℕ) (found : Option (List ℕ)) → EndsIf cs found → EndsIf (c ∷ cs) found
+behind_one_if c cs None h = all_of (c ∷ cs)
+behind_one_if c cs (Some after) h = behind_one c cs after h
+
+quote_ends : (quote : ℕ) (cs : List ℕ) → EndsIf cs (after_quote quote cs)
+quote_ends quote [] = all_of []
+quote_ends quote (c ∷ cs) =
+    chosen (EndsIf (c ∷ cs)) (c == quote) (Some cs) (after_quote quote cs) (behind_one c cs cs (all_of cs)) (behind_one_if c cs (after_quote quote cs) (quote_ends quote cs))
+
+literal_cuts_by : (cs : List ℕ) (found : Option (List ℕ)) → EndsIf cs found → Cuts cs (literal_by cs found)
+literal_cuts_by cs None h = record { ends = h; is_token = λ later. refl }
+literal_cuts_by cs (Some after) h = record { ends = h; is_token = λ later. refl }
 
 sign_is_token : (c : ℕ) → IsToken (sign_of c)
 sign_is_token c =
     chosen IsToken (c == 40) k.Open _ (λ later. refl)
     (chosen IsToken (c == 41) k.Close _ (λ later. refl)
+    (chosen IsToken (c == 91) k.OpenSquare _ (λ later. refl)
+    (chosen IsToken (c == 93) k.CloseSquare _ (λ later. refl)
     (chosen IsToken (c == 42) k.Star _ (λ later. refl)
     (chosen IsToken (c == 43) k.Plus _ (λ later. refl)
-    (chosen IsToken (c == 45) k.Minus k.Other (λ later. refl) (λ later. refl)))))
+    (chosen IsToken (c == 45) k.Minus _ (λ later. refl)
+    (chosen IsToken (c == 44) k.Comma _ (λ later. refl)
+    (chosen IsToken (c == 47) k.Slash _ (λ later. refl)
+    (chosen IsToken (c == 60) k.Less _ (λ later. refl)
+    (chosen IsToken (c == 61) k.Equal _ (λ later. refl)
+    (chosen IsToken (c == 62) k.Greater _ (λ later. refl)
+    (chosen IsToken (c == 64) k.At _ (λ later. refl)
+    (chosen IsToken (c == 124) k.Bar k.Other (λ later. refl) (λ later. refl))))))))))))))
+
+-- where a kind is found, it is no end
+abbrev IsTokenIf : Option Kind → Type 0
+IsTokenIf None = IsToken k.Other
+IsTokenIf (Some kind) = IsToken kind
+
+equal_is_token : (c : ℕ) → IsTokenIf (with_equal c)
+equal_is_token c =
+    chosen IsTokenIf (c == 33) (Some k.NotEqual) _ (λ later. refl)
+    (chosen IsTokenIf (c == 60) (Some k.LessOrEqual) _ (λ later. refl)
+    (chosen IsTokenIf (c == 62) (Some k.GreaterOrEqual) None (λ later. refl) (λ later. refl)))
+
+doubled_is_token : (c : ℕ) → IsTokenIf (doubled c)
+doubled_is_token c =
+    chosen IsTokenIf (c == 47) (Some k.SlashSlash) _ (λ later. refl) (chosen IsTokenIf (c == 58) (Some k.ColonColon) None (λ later. refl) (λ later. refl))
+
+pair_is_token : (c d : ℕ) → IsTokenIf (pair_of c d)
+pair_is_token c d =
+    chosen IsTokenIf (d == 61) (with_equal c) _ (equal_is_token c) (chosen IsTokenIf (d == c) (doubled c) None (doubled_is_token c) (λ later. refl))
+
+sign_cuts_by : (c d : ℕ) (cs : List ℕ) (found : Option Kind) → IsTokenIf found → Cuts (d ∷ cs) (sign_by c d cs found)
+sign_cuts_by c d cs None h = record { ends = all_of (d ∷ cs); is_token = sign_is_token c }
+sign_cuts_by c d cs (Some kind) h = record { ends = behind_one d cs cs (all_of cs); is_token = h }
+
+sign_cuts : (c : ℕ) (cs : List ℕ) → Cuts cs (sign_from c cs)
+sign_cuts c [] = record { ends = all_of []; is_token = sign_is_token c }
+sign_cuts c (d ∷ cs) = sign_cuts_by c d cs (pair_of c d) (pair_is_token c d)
 
 -- a token's kind and what is left behind it
 pub token_cuts : (c : ℕ) (cs : List ℕ) → Cuts cs (token_from c cs)
@@ -97,10 +160,9 @@ token_cuts c cs =
     chosen (Cuts cs) (is_digit c) (k.Number, after_point (after_digits cs)) _
     (record { ends = behind_end cs _ _ (digits_end cs) (point_ends (after_digits cs)); is_token = λ later. refl })
     (chosen (Cuts cs) (c == 46) (dot_from cs) _ (dot_cuts cs)
-    (chosen (Cuts cs) (c == 47) (slash_from cs) _ (slash_cuts cs)
-    (chosen (Cuts cs) (begins_part c) (name_from (after_part cs)) (sign_of c, cs)
+    (chosen (Cuts cs) (begins_part c) (name_from (after_part cs)) _
     (let name = name_cuts (after_part cs) in record { ends = behind_end cs _ _ (part_ends cs) name.ends; is_token = name.is_token })
-    (record { ends = all_of cs; is_token = sign_is_token c }))))
+    (chosen (Cuts cs) ((c == 34) || (c == 39)) (literal_from c cs) (sign_from c cs) (literal_cuts_by cs (after_quote c cs) (quote_ends c cs)) (sign_cuts c cs))))
 
 -- ---- bytes
 

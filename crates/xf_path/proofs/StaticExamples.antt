@@ -7,7 +7,8 @@ use Rattle.xf_ast.specs.declared.expr.Start.TheVariants as start
 use Rattle.xf_ast.specs.declared.expr.Test.TheVariants as test
 use Rattle.xf_name.specs.declared.axis.Axis.TheVariants as axis
 use Rattle.xf_table.specs.Contents.{function_entries}
-use Rattle.xf_path.specs.Static.{Static, LinkStatic, expr_static, link_static, step_static}
+use Rattle.xf_path.specs.StaticParts.{Static, LinkStatic}
+use Rattle.xf_path.specs.Static.{expr_static, link_static, step_static}
 
 abbrev number : ℕ → Static
 number place = expr_static (Expr-F.Number place (Some (pos 1)))

@@ -1,6 +1,12 @@
 pub mod Tokens
 pub mod Reading
+pub mod Steps
+pub mod Paths
+pub mod Calls
+pub mod Primary
+pub mod Operators
 pub mod Grammar
+pub mod StaticParts
 pub mod Static
 pub mod Left
 pub mod Cursor

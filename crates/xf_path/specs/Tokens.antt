@@ -1,6 +1,6 @@
 -- The tokens of an expression (XPath 1.0, section 3.7): each is the longest that can be read at its place, and white space may stand
--- between them.
-use Rattle.std.specs.Prelude.{ℕ, zero, suc, ◌+◌, ◌-◌, ◌&&◌, ◌==◌, if◌then◌else◌, List, [], ◌∷◌, length, take, encode_utf8_all}
+-- between them. What a name is goes by what stands behind it; whether it, or a `*`, is an operator goes by where it is read.
+use Rattle.std.specs.Prelude.{ℕ, zero, suc, ◌+◌, ◌-◌, ◌&&◌, ◌||◌, ◌==◌, if◌then◌else◌, List, [], ◌∷◌, length, take, Option, Some, None, encode_utf8_all}
 use Rattle.std.specs.Char.{len_utf8}
 use Rattle.std.specs.Str.{chars}
 use Rattle.xf_num.specs.Written.{is_space, is_digit, after_digits}
@@ -30,13 +30,48 @@ abbrev pub after_part : List ℕ → List ℕ
 after_part [] = []
 after_part (c ∷ cs) = if continues_part c then after_part cs else c ∷ cs
 
+-- ---- names
+
+-- behind a name and a colon
+abbrev pub kind_at_colon : List ℕ → Kind
+kind_at_colon [] = k.Name
+kind_at_colon (c ∷ cs) = if c == 58 then k.AxisName else k.Name
+
+abbrev pub kind_before : List ℕ → Kind
+kind_before [] = k.Name
+kind_before (c ∷ cs) = if c == 40 then k.Called else (if c == 58 then kind_at_colon cs else k.Name)
+
+-- a name is that of a function or node type before `(`, and that of an axis before `::`; white space may stand between
+unfoldable pub kind_of_name : List ℕ → Kind
+kind_of_name cs = kind_before (after_space cs)
+
+-- behind a name and a colon: a second part, or `*`; the whole is what follows the name
+abbrev pub name_on : List ℕ → List ℕ → Kind × List ℕ
+name_on whole [] = (kind_of_name whole, whole)
+name_on whole (c ∷ cs) =
+    if begins_part c then (kind_of_name (after_part cs), after_part cs) else (if c == 42 then (k.SpaceStar, cs) else (kind_of_name whole, whole))
+
 -- [37] NameTest: behind its first part a name may go on with a colon and a second part; a colon and `*` make it a test of a namespace
 abbrev pub name_from : List ℕ → Kind × List ℕ
-name_from [] = (k.Name, [])
-name_from (c ∷ []) = (k.Name, c ∷ [])
-name_from (c ∷ d ∷ cs) =
-    if (c == 58) && begins_part d then (k.Name, after_part cs)
-    else (if (c == 58) && (d == 42) then (k.Other, cs) else (k.Name, c ∷ d ∷ cs))
+name_from [] = (kind_of_name [], [])
+name_from (c ∷ cs) = if c == 58 then name_on (c ∷ cs) cs else (kind_of_name (c ∷ cs), c ∷ cs)
+
+-- ---- literals
+
+-- what follows the next quote of this kind
+abbrev pub after_quote : ℕ → List ℕ → Option (List ℕ)
+after_quote quote [] = None
+after_quote quote (c ∷ cs) = if c == quote then Some cs else after_quote quote cs
+
+abbrev pub literal_by : List ℕ → Option (List ℕ) → Kind × List ℕ
+literal_by cs None = (k.Other, cs)
+literal_by cs (Some after) = (k.Literal, after)
+
+-- [29] Literal: behind a first quote, up to the next one of its kind
+abbrev pub literal_from : ℕ → List ℕ → Kind × List ℕ
+literal_from quote cs = literal_by cs (after_quote quote cs)
+
+-- ---- signs
 
 -- behind a first point: [12] `..`, [31] digits of a number, or nothing
 abbrev pub dot_from : List ℕ → Kind × List ℕ
@@ -44,27 +79,51 @@ dot_from [] = (k.Dot, [])
 dot_from (c ∷ cs) =
     if c == 46 then (k.DotDot, cs) else (if is_digit c then (k.Number, after_digits cs) else (k.Dot, c ∷ cs))
 
--- `//` is one token
-abbrev pub slash_from : List ℕ → Kind × List ℕ
-slash_from [] = (k.Slash, [])
-slash_from (c ∷ cs) = if c == 47 then (k.Other, cs) else (k.Slash, c ∷ cs)
-
 -- the tokens of one character
 abbrev pub sign_of : ℕ → Kind
 sign_of c =
     if c == 40 then k.Open
     else (if c == 41 then k.Close
+    else (if c == 91 then k.OpenSquare
+    else (if c == 93 then k.CloseSquare
     else (if c == 42 then k.Star
     else (if c == 43 then k.Plus
-    else (if c == 45 then k.Minus else k.Other))))
+    else (if c == 45 then k.Minus
+    else (if c == 44 then k.Comma
+    else (if c == 47 then k.Slash
+    else (if c == 60 then k.Less
+    else (if c == 61 then k.Equal
+    else (if c == 62 then k.Greater
+    else (if c == 64 then k.At
+    else (if c == 124 then k.Bar else k.Other)))))))))))))
+
+-- the tokens of two characters: a sign before `=`, and a sign that stands twice
+abbrev pub with_equal : ℕ → Option Kind
+with_equal c = if c == 33 then Some k.NotEqual else (if c == 60 then Some k.LessOrEqual else (if c == 62 then Some k.GreaterOrEqual else None))
+
+abbrev pub doubled : ℕ → Option Kind
+doubled c = if c == 47 then Some k.SlashSlash else (if c == 58 then Some k.ColonColon else None)
+
+abbrev pub pair_of : ℕ → ℕ → Option Kind
+pair_of c d = if d == 61 then with_equal c else (if d == c then doubled c else None)
+
+abbrev pub sign_by : ℕ → ℕ → List ℕ → Option Kind → Kind × List ℕ
+sign_by c d cs None = (sign_of c, d ∷ cs)
+sign_by c d cs (Some kind) = (kind, cs)
+
+abbrev pub sign_from : ℕ → List ℕ → Kind × List ℕ
+sign_from c [] = (sign_of c, [])
+sign_from c (d ∷ cs) = sign_by c d cs (pair_of c d)
+
+-- ---- all tokens
 
 -- [28] ExprToken: the kind of the token that begins with a character, and the characters that follow it
 abbrev pub token_from : ℕ → List ℕ → Kind × List ℕ
 token_from c cs =
     if is_digit c then (k.Number, after_point (after_digits cs))
     else (if c == 46 then dot_from cs
-    else (if c == 47 then slash_from cs
-    else (if begins_part c then name_from (after_part cs) else (sign_of c, cs))))
+    else (if begins_part c then name_from (after_part cs)
+    else (if (c == 34) || (c == 39) then literal_from c cs else sign_from c cs)))
 
 -- the tokens of characters that stand behind so many bytes, where the first few belong to the token before them
 abbrev pub tokens_from : ℕ → ℕ → List ℕ → List Token

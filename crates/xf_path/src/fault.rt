@@ -8,7 +8,7 @@ pub enum ExprKind {
     /// What comes next cannot stand there.
     Syntax,
     UnknownFunction,
-    /// So many arguments are none of those that the function takes.
+    /// The function takes neither so many arguments nor, where it takes nodes, one that gives none.
     Arity,
     /// The function's answer hangs on the clock or on chance.
     ClockOrRandom,
@@ -16,7 +16,7 @@ pub enum ExprKind {
     Prefix,
     /// The text has more than 4,096 bytes.
     Long,
-    /// Parentheses and signs are nested more than 64 deep.
+    /// Parentheses, predicates, calls and signs are nested more than 64 deep.
     Deep,
 }
 

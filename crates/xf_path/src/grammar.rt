@@ -2,26 +2,38 @@
 
 ghost use Rattle.std.specs.Prelude.{◌≡◌, ◌≤◌, [], Ok, IfOk};
 ghost use Rattle.xf_base.specs.Gives.{Gives};
-ghost use Rattle.xf_name.specs.Bindings.{resolved};
-ghost use Rattle.xf_path.specs.Reading.{Reads, kind_of, place_of, text_of};
+ghost use Rattle.xf_path.specs.Reading.{Reads, place_of, open_bracket};
+ghost use Rattle.xf_path.specs.Steps as step;
+ghost use Rattle.xf_path.specs.Paths as path;
+ghost use Rattle.xf_path.specs.Calls as call;
+ghost use Rattle.xf_path.specs.Primary as primary;
+ghost use Rattle.xf_path.specs.Operators as operator;
 ghost use Rattle.xf_path.specs.Grammar as spec;
 
+use crate::calls::{takes, unknown};
 use crate::fault::{ExprKind, ParseFault};
+use crate::operands::{chain_of, filter_of, literal, negated, number};
+use crate::steps::{abbreviated, axis, close, close_square, node_test, open_bracket};
 use crate::token::Kind;
 use crate::tokens::{MOST_BYTES, Tokens};
-use std::alloc::{AllocError, Global};
-use xf_ast::{Axis, Expr, Link, LinkList, Operator, Start, Step, StepList, Test};
+use crate::words::{
+    begins_primary, begins_step, is_comma, opens_predicate, operator_at, separator,
+};
+use std::alloc::Global;
+use xf_ast::{Axis, Expr, ExprList, Link, LinkList, Start, Step, StepList};
 use xf_base::{Boxed, Items};
-use xf_name::{NameFault, Prefixes};
-use xf_num::Num;
+use xf_name::Prefixes;
+use xf_table::find;
+use xf_table::functions::rows;
 
-/// How deep parentheses and signs nest.
+/// How deep brackets and signs nest.
 const MOST_DEPTH: u32 = 64;
 
-/// How many ranks of operators there are.
-const RANKS: u32 = 2;
+/// How many ranks of operators there are, the union among them.
+const RANKS: u32 = 7;
 
 /// The expression that a text is.
+#[tactic(auto, unfolding(crate::specs::Grammar::side))]
 pub fn parse(alloc: Global, text: &str, prefixes: &Prefixes) -> Result<Expr, ParseFault>
     ensures { Gives ParseFault.Memory (λ tree. tree) result (spec.parsed 6 prefixes.now text.now) }
 {
@@ -29,7 +41,7 @@ pub fn parse(alloc: Global, text: &str, prefixes: &Prefixes) -> Result<Expr, Par
         return Err(ParseFault::Expr(0, ExprKind::Long));
     }
     let mut tokens = Tokens::new(text);
-    let tree = Grammar { alloc, prefixes }.ranked(&mut tokens, RANKS, MOST_DEPTH)?;
+    let tree = Grammar { alloc, prefixes }.side(&mut tokens, RANKS, MOST_DEPTH)?;
     match tokens.kind() {
         Kind::End => Ok(tree),
         _ => Err(tokens.fault(ExprKind::Syntax)),
@@ -44,33 +56,47 @@ struct Grammar<'a> {
 }
 
 impl<'a> Grammar<'a> {
-    /// An expression whose operators are of the first ranks.
+    // ---- operators
+
+    /// What stands beside an operator of a rank: an expression of tighter operators alone.
     #[cycle(rules)]
-    fn ranked(&self, tokens: &mut Tokens<'_>, ranks: u32, depth: u32) -> Result<Expr, ParseFault>
-        ensures { Reads (spec.ranked (spec.unary_by (spec.signed 6 self.now.prefixes.now depth)) ranks tokens.old) result tokens.new }
+    fn side(&self, tokens: &mut Tokens<'_>, rank: u32, depth: u32) -> Result<Expr, ParseFault>
+        ensures { Reads (spec.side 6 self.now.prefixes.now depth rank tokens.old) result tokens.new }
     {
-        if ranks == 0 {
+        if rank == 0 {
+            return self.operand(tokens, depth);
+        }
+        if rank == 1 {
             return self.unary(tokens, depth);
         }
-        let first = self.ranked(tokens, ranks - 1, depth)?;
-        let found = self.links(tokens, ranks - 1, depth)?;
+        self.chain(tokens, rank - 1, depth)
+    }
+
+    /// Operands with operators of a rank between them.
+    #[cycle(rules)]
+    #[tactic(auto, unfolding(crate::specs::Operators::chain))]
+    fn chain(&self, tokens: &mut Tokens<'_>, rank: u32, depth: u32) -> Result<Expr, ParseFault>
+        ensures { Reads (operator.chain (spec.side 6 self.now.prefixes.now depth rank) rank tokens.old) result tokens.new }
+    {
+        let first = self.side(tokens, rank, depth)?;
+        let found = self.links(tokens, rank, depth)?;
         Ok(chain_of(self.alloc, first, found)?)
     }
 
     /// The operators of a rank that follow, with their right sides.
     #[cycle(rules)]
     fn links(&self, tokens: &mut Tokens<'_>, rank: u32, depth: u32) -> Result<LinkList, ParseFault>
-        ensures { Reads (spec.more_links (spec.ranked (spec.unary_by (spec.signed 6 self.now.prefixes.now depth)) rank) rank MOST_BYTES [] tokens.old) result tokens.new }
+        ensures { Reads (operator.more_links (spec.side 6 self.now.prefixes.now depth rank) rank MOST_BYTES [] tokens.old) result tokens.new }
     {
         let mut found = Items::new(self.alloc);
         // A text has no more operators than bytes.
         for _turn in 0..MOST_BYTES {
             let place = tokens.place();
-            let Some(operator) = operator_at(rank, tokens.kind()) else {
+            let Some(operator) = operator_at(rank, tokens.kind(), tokens.text()) else {
                 return Ok(found);
             };
             tokens.take();
-            let right = self.ranked(tokens, rank, depth)?;
+            let right = self.side(tokens, rank, depth)?;
             found.push(Link {
                 place,
                 operator,
@@ -80,8 +106,11 @@ impl<'a> Grammar<'a> {
         Ok(found)
     }
 
-    /// An operand behind any number of signs.
+    // ---- signs
+
+    /// A union behind any number of signs.
     #[cycle(rules)]
+    #[tactic(auto, unfolding(crate::specs::Grammar::unary_by))]
     fn unary(&self, tokens: &mut Tokens<'_>, depth: u32) -> Result<Expr, ParseFault>
         ensures { Reads (spec.unary_by (spec.signed 6 self.now.prefixes.now depth) tokens.old) result tokens.new }
     {
@@ -90,7 +119,7 @@ impl<'a> Grammar<'a> {
         Ok(negated(self.alloc, place, signs, inner)?)
     }
 
-    /// The number of signs, and the operand behind them.
+    /// The number of signs, and the union behind them.
     #[cycle(rules)]
     fn signed(&self, tokens: &mut Tokens<'_>, depth: u32) -> Result<(u32, Expr), ParseFault>
         ensures reads { Reads (spec.signed 6 self.now.prefixes.now depth tokens.old) result tokens.new }
@@ -106,34 +135,178 @@ impl<'a> Grammar<'a> {
                 Ok((signs + 1, inner))
             }
             _ => {
-                let inner = self.operand(tokens, depth)?;
+                let inner = self.chain(tokens, 0, depth)?;
                 Ok((0, inner))
             }
         }
     }
 
-    /// A number, a path, or an expression in parentheses.
+    // ---- operands
+
+    /// A primary expression with predicates and steps behind it, or a location path.
     #[cycle(rules)]
     fn operand(&self, tokens: &mut Tokens<'_>, depth: u32) -> Result<Expr, ParseFault>
-        ensures { Reads (spec.operand_at 6 self.now.prefixes.now depth tokens.old) result tokens.new }
+        ensures { Reads (spec.operand 6 self.now.prefixes.now depth tokens.old) result tokens.new }
+    {
+        if !begins_primary(tokens.kind(), tokens.text()) {
+            return self.path(tokens, depth);
+        }
+        let first = self.filtered(tokens, depth)?;
+        self.onward(tokens, first, depth)
+    }
+
+    /// A primary expression and its predicates.
+    #[cycle(rules)]
+    #[tactic(auto, unfolding(crate::specs::Primary::filtered))]
+    fn filtered(&self, tokens: &mut Tokens<'_>, depth: u32) -> Result<Expr, ParseFault>
+        ensures { Reads (primary.filtered 6 (spec.nested 6 self.now.prefixes.now depth) (spec.called 6 self.now.prefixes.now depth) tokens.old) result tokens.new }
+    {
+        let first = self.primary(tokens, depth)?;
+        let found = self.predicates(tokens, depth)?;
+        Ok(filter_of(self.alloc, first, found)?)
+    }
+
+    /// The steps behind an expression, if any.
+    #[cycle(rules)]
+    #[tactic(auto, unfolding(crate::specs::Primary::onward))]
+    fn onward(&self, tokens: &mut Tokens<'_>, first: Expr, depth: u32) -> Result<Expr, ParseFault>
+        ensures { Reads (primary.onward self.now.prefixes.now (spec.nested 6 self.now.prefixes.now depth) first tokens.old) result tokens.new }
+    {
+        let Some(is_below) = separator(tokens.kind()) else {
+            return Ok(first);
+        };
+        tokens.take();
+        let found = self.steps(tokens, is_below, depth)?;
+        Ok(Expr::From(Boxed::new(self.alloc, first)?, found))
+    }
+
+    /// A number, a literal, an expression in parentheses, or a call.
+    #[cycle(rules)]
+    #[tactic(auto, unfolding(crate::specs::Primary::primary))]
+    fn primary(&self, tokens: &mut Tokens<'_>, depth: u32) -> Result<Expr, ParseFault>
+        ensures { Reads (primary.primary 6 (spec.nested 6 self.now.prefixes.now depth) (spec.called 6 self.now.prefixes.now depth) tokens.old) result tokens.new }
     {
         match tokens.kind() {
-            Kind::Open => {
-                if depth == 0 {
-                    return Err(tokens.fault(ExprKind::Deep));
-                }
-                tokens.take();
-                let inner = self.ranked(tokens, RANKS, depth - 1)?;
-                closed(tokens, inner)
-            }
+            Kind::Open => self.grouped(tokens, depth),
             Kind::Number => Ok(number(tokens)),
-            _ => self.path(tokens),
+            Kind::Literal => literal(self.alloc, tokens),
+            _ => self.call(tokens, depth),
         }
     }
 
-    /// A location path.
-    fn path(&self, tokens: &mut Tokens<'_>) -> Result<Expr, ParseFault>
-        ensures { Reads (spec.path self.now.prefixes.now tokens.old) result tokens.new }
+    // ---- brackets
+
+    /// An expression in parentheses.
+    #[cycle(rules)]
+    #[tactic(auto, unfolding(crate::specs::Primary::grouped))]
+    fn grouped(&self, tokens: &mut Tokens<'_>, depth: u32) -> Result<Expr, ParseFault>
+        ensures { Reads (primary.grouped (spec.nested 6 self.now.prefixes.now depth) tokens.old) result tokens.new }
+    {
+        let inner = self.nested(tokens, depth)?;
+        close(tokens)?;
+        Ok(inner)
+    }
+
+    /// An expression in brackets, from the opening one on.
+    #[cycle(rules)]
+    #[tactic(auto, unfolding(crate::specs::Grammar::nested))]
+    fn nested(&self, tokens: &mut Tokens<'_>, depth: u32) -> Result<Expr, ParseFault>
+        ensures { Reads (spec.nested 6 self.now.prefixes.now depth tokens.old) result tokens.new }
+    {
+        open_bracket(tokens, depth)?;
+        self.inside(tokens, depth)
+    }
+
+    /// What stands in a bracket that is open.
+    #[cycle(rules)]
+    fn inside(&self, tokens: &mut Tokens<'_>, depth: u32) -> Result<Expr, ParseFault>
+        ensures { Reads (spec.inside 6 self.now.prefixes.now depth tokens.old) result tokens.new }
+    {
+        if depth == 0 {
+            return Err(tokens.fault(ExprKind::Deep));
+        }
+        self.side(tokens, RANKS, depth - 1)
+    }
+
+    // ---- calls
+
+    /// A call of a function.
+    #[cycle(rules)]
+    fn call(&self, tokens: &mut Tokens<'_>, depth: u32) -> Result<Expr, ParseFault>
+        ensures { Reads (spec.called 6 self.now.prefixes.now depth tokens.old) result tokens.new }
+    {
+        match find(rows(), tokens.text()) {
+            Some(code) => self.called(tokens, code, depth),
+            None => Err(unknown(self.prefixes, tokens)),
+        }
+    }
+
+    /// A call of the function of a code.
+    #[cycle(rules)]
+    #[tactic(auto, unfolding(crate::specs::Calls::called))]
+    fn called(&self, tokens: &mut Tokens<'_>, code: u16, depth: u32) -> Result<Expr, ParseFault>
+        ensures { Reads (call.called (open_bracket depth) (spec.inside 6 self.now.prefixes.now depth) (place_of tokens.old) code tokens.old) result tokens.new }
+    {
+        let place = tokens.place();
+        tokens.take();
+        open_bracket(tokens, depth)?;
+        let found = self.arguments(tokens, depth)?;
+        if !takes(code, found.as_slice()) {
+            return Err(ParseFault::Expr(place, ExprKind::Arity));
+        }
+        Ok(Expr::Call(place, code, found))
+    }
+
+    /// The arguments of a call, and its end.
+    #[cycle(rules)]
+    #[tactic(auto, unfolding(crate::specs::Calls::arguments))]
+    fn arguments(&self, tokens: &mut Tokens<'_>, depth: u32) -> Result<ExprList, ParseFault>
+        ensures { Reads (call.arguments (spec.inside 6 self.now.prefixes.now depth) tokens.old) result tokens.new }
+    {
+        match tokens.kind() {
+            Kind::Close => {
+                tokens.take();
+                Ok(Items::new(self.alloc))
+            }
+            _ => {
+                let mut found = Items::new(self.alloc);
+                let first = self.inside(tokens, depth)?;
+                found.push(first)?;
+                let found = self.more_arguments(tokens, found, depth)?;
+                ended(tokens, found)
+            }
+        }
+    }
+
+    /// The arguments behind those found.
+    #[cycle(rules)]
+    fn more_arguments(
+        &self,
+        tokens: &mut Tokens<'_>,
+        found: ExprList,
+        depth: u32,
+    ) -> Result<ExprList, ParseFault>
+        ensures { Reads (call.more_arguments (spec.inside 6 self.now.prefixes.now depth) MOST_BYTES found tokens.old) result tokens.new }
+    {
+        let mut found = found;
+        // A text has no more arguments than bytes.
+        for _turn in 0..MOST_BYTES {
+            if !is_comma(tokens.kind()) {
+                return Ok(found);
+            }
+            tokens.take();
+            let next = self.inside(tokens, depth)?;
+            found.push(next)?;
+        }
+        Ok(found)
+    }
+
+    // ---- location paths
+
+    #[cycle(rules)]
+    #[tactic(auto, unfolding(crate::specs::Paths::path))]
+    fn path(&self, tokens: &mut Tokens<'_>, depth: u32) -> Result<Expr, ParseFault>
+        ensures { Reads (path.path self.now.prefixes.now (spec.nested 6 self.now.prefixes.now depth) tokens.old) result tokens.new }
     {
         let place = tokens.place();
         match tokens.kind() {
@@ -142,147 +315,116 @@ impl<'a> Grammar<'a> {
                 if !begins_step(tokens.kind()) {
                     return Ok(Expr::Path(place, Start::Root, Items::new(self.alloc)));
                 }
-                let found = self.steps(tokens)?;
+                let found = self.steps(tokens, false, depth)?;
+                Ok(Expr::Path(place, Start::Root, found))
+            }
+            Kind::SlashSlash => {
+                tokens.take();
+                let found = self.steps(tokens, true, depth)?;
                 Ok(Expr::Path(place, Start::Root, found))
             }
             _ => {
-                let found = self.steps(tokens)?;
+                let found = self.steps(tokens, false, depth)?;
                 Ok(Expr::Path(place, Start::Context, found))
             }
         }
     }
 
-    /// Steps with `/` between them.
-    fn steps(&self, tokens: &mut Tokens<'_>) -> Result<StepList, ParseFault>
-        ensures { Reads (spec.steps self.now.prefixes.now tokens.old) result tokens.new }
+    /// Steps with `/` or `//` between them, the first of which is below where `//` stood before it.
+    #[cycle(rules)]
+    #[tactic(auto, unfolding(crate::specs::Paths::steps))]
+    fn steps(
+        &self,
+        tokens: &mut Tokens<'_>,
+        is_below: bool,
+        depth: u32,
+    ) -> Result<StepList, ParseFault>
+        ensures { Reads (path.steps self.now.prefixes.now (spec.nested 6 self.now.prefixes.now depth) is_below tokens.old) result tokens.new }
     {
         let mut found = Items::new(self.alloc);
-        let first = self.step(tokens)?;
+        let first = self.step(tokens, is_below, depth)?;
         found.push(first)?;
         // A text has no more steps than bytes.
         for _turn in 0..MOST_BYTES {
-            match tokens.kind() {
-                Kind::Slash => (),
-                _ => return Ok(found),
-            }
+            let Some(is_below) = separator(tokens.kind()) else {
+                return Ok(found);
+            };
             tokens.take();
-            let next = self.step(tokens)?;
+            let next = self.step(tokens, is_below, depth)?;
             found.push(next)?;
         }
         Ok(found)
     }
 
-    fn step(&self, tokens: &mut Tokens<'_>) -> Result<Step, ParseFault>
-        ensures { Reads (spec.step self.now.prefixes.now tokens.old) result tokens.new }
+    #[cycle(rules)]
+    #[tactic(auto, unfolding(crate::specs::Steps::step))]
+    fn step(&self, tokens: &mut Tokens<'_>, is_below: bool, depth: u32) -> Result<Step, ParseFault>
+        ensures { Reads (step.step self.now.prefixes.now (spec.nested 6 self.now.prefixes.now depth) is_below tokens.old) result tokens.new }
     {
         match tokens.kind() {
-            Kind::Name => self.named(tokens),
-            Kind::Dot => Ok(abbreviated(self.alloc, tokens, Axis::Self_)),
-            Kind::DotDot => Ok(abbreviated(self.alloc, tokens, Axis::Parent)),
-            _ => Err(tokens.fault(ExprKind::Syntax)),
+            Kind::Dot => Ok(abbreviated(self.alloc, tokens, is_below, Axis::Self_)),
+            Kind::DotDot => Ok(abbreviated(self.alloc, tokens, is_below, Axis::Parent)),
+            _ => self.written(tokens, is_below, depth),
         }
     }
 
-    /// The step that a name is.
-    fn named(&self, tokens: &mut Tokens<'_>) -> Result<Step, ParseFault>
-        ensures { Reads (spec.named (place_of tokens.old) (resolved self.now.prefixes.now (text_of tokens.old) 0) tokens.old) result tokens.new }
+    /// A step whose node test is written.
+    #[cycle(rules)]
+    #[tactic(auto, unfolding(crate::specs::Steps::written))]
+    fn written(
+        &self,
+        tokens: &mut Tokens<'_>,
+        is_below: bool,
+        depth: u32,
+    ) -> Result<Step, ParseFault>
+        ensures { Reads (step.written self.now.prefixes.now (spec.nested 6 self.now.prefixes.now depth) is_below tokens.old) result tokens.new }
     {
-        match self.prefixes.resolve(tokens.text(), 0) {
-            Ok(name) => {
-                let place = tokens.place();
-                tokens.take();
-                Ok(Step {
-                    place,
-                    is_below: false,
-                    is_written: true,
-                    axis: Axis::Child,
-                    test: Test::Name(name),
-                    predicates: Items::new(self.alloc),
-                })
+        let place = tokens.place();
+        let axis = axis(tokens)?;
+        let test = node_test(self.alloc, self.prefixes, tokens)?;
+        let predicates = self.predicates(tokens, depth)?;
+        Ok(Step {
+            place,
+            is_below,
+            is_written: true,
+            axis,
+            test,
+            predicates,
+        })
+    }
+
+    /// The predicates that follow.
+    #[cycle(rules)]
+    fn predicates(&self, tokens: &mut Tokens<'_>, depth: u32) -> Result<ExprList, ParseFault>
+        ensures { Reads (step.more_predicates (spec.nested 6 self.now.prefixes.now depth) MOST_BYTES [] tokens.old) result tokens.new }
+    {
+        let mut found = Items::new(self.alloc);
+        // A text has no more predicates than bytes.
+        for _turn in 0..MOST_BYTES {
+            if !opens_predicate(tokens.kind()) {
+                return Ok(found);
             }
-            Err(NameFault::Memory) => Err(ParseFault::Memory),
-            Err(NameFault::PrefixUnknown) => Err(tokens.fault(ExprKind::Prefix)),
-            Err(_) => Err(tokens.fault(ExprKind::Syntax)),
+            let next = self.predicate(tokens, depth)?;
+            found.push(next)?;
         }
+        Ok(found)
+    }
+
+    #[cycle(rules)]
+    #[tactic(auto, unfolding(crate::specs::Steps::predicate))]
+    fn predicate(&self, tokens: &mut Tokens<'_>, depth: u32) -> Result<Expr, ParseFault>
+        ensures { Reads (step.predicate (spec.nested 6 self.now.prefixes.now depth) tokens.old) result tokens.new }
+    {
+        let inner = self.nested(tokens, depth)?;
+        close_square(tokens)?;
+        Ok(inner)
     }
 }
 
-/// The step that `.` or `..` is.
-fn abbreviated(alloc: Global, tokens: &mut Tokens<'_>, axis: Axis) -> Step
-    ensures { spec.abbreviated axis tokens.old ≡ Ok (result, tokens.new) }
+/// The end of the arguments.
+fn ended(tokens: &mut Tokens<'_>, found: ExprList) -> Result<ExprList, ParseFault>
+    ensures { Reads (call.ended found tokens.old) result tokens.new }
 {
-    let place = tokens.place();
-    tokens.take();
-    Step {
-        place,
-        is_below: false,
-        is_written: false,
-        axis,
-        test: Test::Node,
-        predicates: Items::new(alloc),
-    }
-}
-
-/// Whether the token would begin a step behind a `/`.
-fn begins_step(kind: Kind) -> bool
-    ensures { result ≡ spec.begins_step kind }
-{
-    match kind {
-        Kind::Name | Kind::Dot | Kind::DotDot | Kind::Star => true,
-        _ => false,
-    }
-}
-
-fn number(tokens: &mut Tokens<'_>) -> Expr
-    ensures { spec.number 6 tokens.old ≡ Ok (result, tokens.new) }
-{
-    let place = tokens.place();
-    let value = Num::read(tokens.text());
-    tokens.take();
-    Expr::Number(place, value)
-}
-
-/// The expression in parentheses, which end here.
-fn closed(tokens: &mut Tokens<'_>, inner: Expr) -> Result<Expr, ParseFault>
-    ensures { Reads (spec.closed_by inner (kind_of tokens.old) tokens.old) result tokens.new }
-{
-    match tokens.kind() {
-        Kind::Close => {
-            tokens.take();
-            Ok(inner)
-        }
-        _ => Err(tokens.fault(ExprKind::Syntax)),
-    }
-}
-
-/// The operator of a rank that a token is, the tightest rank first.
-fn operator_at(rank: u32, kind: Kind) -> Option<Operator>
-    ensures { result ≡ spec.operator_at rank kind }
-{
-    match (rank, kind) {
-        (0, Kind::Star) => Some(Operator::Multiply),
-        (1, Kind::Plus) => Some(Operator::Add),
-        (1, Kind::Minus) => Some(Operator::Subtract),
-        _ => None,
-    }
-}
-
-/// An operand and its links; without any it stands by itself.
-fn chain_of(alloc: Global, first: Expr, found: LinkList) -> Result<Expr, AllocError>
-    ensures { IfOk result (λ tree. tree ≡ spec.chain_of first found) }
-{
-    if found.is_empty() {
-        return Ok(first);
-    }
-    Ok(Expr::Chain(Boxed::new(alloc, first)?, found))
-}
-
-/// An operand behind so many signs.
-fn negated(alloc: Global, place: u32, signs: u32, inner: Expr) -> Result<Expr, AllocError>
-    ensures { IfOk result (λ tree. tree ≡ spec.negated place signs inner) }
-{
-    if signs == 0 {
-        return Ok(inner);
-    }
-    Ok(Expr::Negated(place, signs, Boxed::new(alloc, inner)?))
+    close(tokens)?;
+    Ok(found)
 }

@@ -1,6 +1,6 @@
 //! Where the tokens of an expression end (XPath 1.0, section 3.7).
 
-ghost use Rattle.std.specs.Prelude.{◌≡◌, [], ◌∷◌, MatchOption};
+ghost use Rattle.std.specs.Prelude.{◌≡◌, [], ◌∷◌, MatchOption, option_map};
 ghost use Rattle.std.specs.Str.{chars};
 ghost use Rattle.xf_num.specs.Written as number;
 ghost use Rattle.xf_name.specs.Part as part;
@@ -85,24 +85,84 @@ fn after_point(text: &str) -> &str
     }
 }
 
+/// What follows the next quote of this kind.
+fn after_quote(quote: char, text: &str) -> Option<&str>
+    ensures { option_map (λ after. chars after.now) result ≡ spec.after_quote quote (chars text.now) }
+{
+    let mut rest = text;
+    while let Some((c, after)) = first_char(rest) {
+        if c == quote {
+            return Some(after);
+        }
+        rest = after;
+    }
+    None
+}
+
+/// The kind of a name by what stands behind it.
+#[tactic(auto, unfolding(crate::specs::Tokens::kind_of_name))]
+fn kind_of_name(text: &str) -> Kind
+    ensures { result ≡ spec.kind_of_name (chars text.now) }
+{
+    let Some((c, behind)) = first_char(after_space(text)) else {
+        return Kind::Name;
+    };
+    if c == '(' {
+        return Kind::Called;
+    }
+    if c == ':' {
+        return kind_at_colon(behind);
+    }
+    Kind::Name
+}
+
+/// The kind of a name by what stands behind it and a colon.
+fn kind_at_colon(text: &str) -> Kind
+    ensures { result ≡ spec.kind_at_colon (chars text.now) }
+{
+    match first_char(text) {
+        Some((':', _)) => Kind::AxisName,
+        _ => Kind::Name,
+    }
+}
+
 /// A name by what follows its first part.
 fn name_from(text: &str) -> (Kind, &str)
     ensures { (result.0, chars result.1.now) ≡ spec.name_from (chars text.now) }
 {
-    let Some((':', behind)) = first_char(text) else {
-        return (Kind::Name, text);
+    let Some((c, behind)) = first_char(text) else {
+        return (kind_of_name(text), text);
     };
-    match first_char(behind) {
-        Some((c, after)) => {
-            if begins_part(c) {
-                return (Kind::Name, after_part(after));
-            }
-            if c == '*' {
-                return (Kind::Other, after);
-            }
-            (Kind::Name, text)
-        }
-        None => (Kind::Name, text),
+    if c == ':' {
+        return name_on(text, behind);
+    }
+    (kind_of_name(text), text)
+}
+
+/// A name by what follows its first part and a colon, and by the whole of it.
+fn name_on<'a>(whole: &'a str, text: &'a str) -> (Kind, &'a str)
+    ensures { (result.0, chars result.1.now) ≡ spec.name_on (chars whole.now) (chars text.now) }
+{
+    let Some((c, after)) = first_char(text) else {
+        return (kind_of_name(whole), whole);
+    };
+    if begins_part(c) {
+        let rest = after_part(after);
+        return (kind_of_name(rest), rest);
+    }
+    if c == '*' {
+        return (Kind::SpaceStar, after);
+    }
+    (kind_of_name(whole), whole)
+}
+
+/// A literal by what follows its first quote.
+fn literal_from(quote: char, text: &str) -> (Kind, &str)
+    ensures { (result.0, chars result.1.now) ≡ spec.literal_from quote (chars text.now) }
+{
+    match after_quote(quote, text) {
+        Some(after) => (Kind::Literal, after),
+        None => (Kind::Other, text),
     }
 }
 
@@ -124,16 +184,6 @@ fn dot_from(text: &str) -> (Kind, &str)
     }
 }
 
-/// A token by what follows its first slash.
-fn slash_from(text: &str) -> (Kind, &str)
-    ensures { (result.0, chars result.1.now) ≡ spec.slash_from (chars text.now) }
-{
-    match first_char(text) {
-        Some(('/', after)) => (Kind::Other, after),
-        _ => (Kind::Slash, text),
-    }
-}
-
 /// The kind of a token of one character.
 fn sign_of(c: char) -> Kind
     ensures { result ≡ spec.sign_of c }
@@ -141,10 +191,54 @@ fn sign_of(c: char) -> Kind
     match c {
         '(' => Kind::Open,
         ')' => Kind::Close,
+        '[' => Kind::OpenSquare,
+        ']' => Kind::CloseSquare,
         '*' => Kind::Star,
         '+' => Kind::Plus,
         '-' => Kind::Minus,
+        ',' => Kind::Comma,
+        '/' => Kind::Slash,
+        '<' => Kind::Less,
+        '=' => Kind::Equal,
+        '>' => Kind::Greater,
+        '@' => Kind::At,
+        '|' => Kind::Bar,
         _ => Kind::Other,
+    }
+}
+
+/// The kind of a token of two characters.
+fn pair_of(first: char, second: char) -> Option<Kind>
+    ensures { result ≡ spec.pair_of first second }
+{
+    if second == '=' {
+        return match first {
+            '!' => Some(Kind::NotEqual),
+            '<' => Some(Kind::LessOrEqual),
+            '>' => Some(Kind::GreaterOrEqual),
+            _ => None,
+        };
+    }
+    if second != first {
+        return None;
+    }
+    match first {
+        '/' => Some(Kind::SlashSlash),
+        ':' => Some(Kind::ColonColon),
+        _ => None,
+    }
+}
+
+/// A token of one or two characters that are no part of a name, by what follows the first.
+fn sign_from(first: char, text: &str) -> (Kind, &str)
+    ensures { (result.0, chars result.1.now) ≡ spec.sign_from first (chars text.now) }
+{
+    let Some((second, after)) = first_char(text) else {
+        return (sign_of(first), text);
+    };
+    match pair_of(first, second) {
+        Some(kind) => (kind, after),
+        None => (sign_of(first), text),
     }
 }
 
@@ -158,11 +252,11 @@ pub fn token_from(first: char, rest: &str) -> (Kind, &str)
     if first == '.' {
         return dot_from(rest);
     }
-    if first == '/' {
-        return slash_from(rest);
-    }
     if begins_part(first) {
         return name_from(after_part(rest));
     }
-    (sign_of(first), rest)
+    if first == '"' || first == '\'' {
+        return literal_from(first, rest);
+    }
+    sign_from(first, rest)
 }

@@ -4,22 +4,53 @@
 #[derive(Clone, Copy, Debug, PartialEq, Eq)]
 pub enum Kind {
     Number,
+    /// A text in quotes.
+    Literal,
     Name,
+    /// A name before `(`.
+    Called,
+    /// A name before `::`.
+    AxisName,
+    /// `p:*`
+    SpaceStar,
     /// `.`
     Dot,
     /// `..`
     DotDot,
     /// `/`
     Slash,
+    /// `//`
+    SlashSlash,
+    /// `@`
+    At,
+    /// `::`
+    ColonColon,
+    /// `,`
+    Comma,
+    /// `|`
+    Bar,
     Plus,
     Minus,
     Star,
+    Equal,
+    /// `!=`
+    NotEqual,
+    Less,
+    /// `<=`
+    LessOrEqual,
+    Greater,
+    /// `>=`
+    GreaterOrEqual,
     /// `(`
     Open,
     /// `)`
     Close,
+    /// `[`
+    OpenSquare,
+    /// `]`
+    CloseSquare,
     /// The end of the text, which counts as a token.
     End,
-    /// A token that stands nowhere in this grammar.
+    /// What is no token.
     Other,
 }

@@ -1,71 +1,192 @@
-use Rattle.std.proofs.Common.{◌≡◌, ◌+◌, ◌-◌, ◌<◌, ◌∙◌, Some, None, Ok, ap, rules, arith}
+use Rattle.std.proofs.Common.{◌≡◌, ◌+◌, ◌-◌, ◌<◌, ◌∙◌, Some, None, Ok, true, false, ap, rules, arith}
 use Rattle.std.proofs.lemmas.Grind.{common_steps}
-use Rattle.xf_path.specs.declared.token.Kind.TheVariants as k
-use Rattle.xf_path.specs.Reading.{kind_of, after_next}
-use Rattle.xf_path.specs.Grammar.{operator_at, more_links, ranked, unary_by, signed, operand_at}
+use Rattle.xf_table.specs.Rows.{code_of}
+use Rattle.xf_table.specs.Contents.{function_entries}
+use Rattle.xf_path.specs.Reading.{kind_of, text_of, and_then}
+use Rattle.xf_path.specs.Steps.{opens_predicate, more_predicates}
+use Rattle.xf_path.specs.Paths.{steps, more_steps}
+use Rattle.xf_path.specs.Calls.{is_comma, more_arguments}
+use Rattle.xf_path.specs.Primary.{begins_primary, filtered, onward}
+use Rattle.xf_path.specs.Operators.{operator_at, more_links}
+use Rattle.xf_path.specs.Grammar.{signed, side, inside, nested}
+use Rattle.xf_path.specs.Grammar as spec
 use Rattle.xf_path.proofs.Turns.{one_turn, no_turn, deeper}
-use Rattle.xf_path.proofs.GrammarLemmas.{behind_sign, signed_is, grouped_is, Reads-same, links_end, links_go_on}
+use Rattle.xf_path.proofs.GrammarLemmas.{behind_sign, signed_is, side_zero, side_one, side_more, inside_none, inside_some, operand_path, operand_primary, call_some, call_none, Reads-same, Reads-fault, links_end, links_go_on, predicates_end, predicates_go_on, arguments_end, arguments_go_on}
 use Rattle.xf_path.proofs.grammar.Grammar.+rules.Goals as goal
+
+-- ---- ranks
+
+pub side-returns-then-rank-eq0 : goal.side-returns-then-rank-eq0
+side-returns-then-rank-eq0 t c =
+    let none : c.args.rank ≡ 0 = omega arith in
+    Reads-same _ _ c.operand.result c.operand.new.tokens (side_zero 6 c.args.self.now.prefixes.now c.args.depth c.args.rank c.args.tokens.now none) c.operand.ensures
+
+pub side-returns-then-rank-eq1 : goal.side-returns-then-rank-eq1
+side-returns-then-rank-eq1 t c =
+    let one : c.args.rank ≡ 1 = omega arith in
+    Reads-same _ _ c.unary.result c.unary.new.tokens (side_one 6 c.args.self.now.prefixes.now c.args.depth c.args.rank c.args.tokens.now one) c.unary.ensures
+
+pub side-returns : goal.side-returns
+side-returns t c =
+    let more : 1 < c.args.rank = omega arith in
+    Reads-same _ _ c.chain.result c.chain.new.tokens (side_more 6 c.args.self.now.prefixes.now c.args.depth c.args.rank c.args.tokens.now more) c.chain.ensures
+
+-- ---- brackets
+
+pub inside-returns-then-depth-eq0 : goal.inside-returns-then-depth-eq0
+inside-returns-then-depth-eq0 t c =
+    let none : c.args.depth ≡ 0 = omega arith in
+    let e = inside_none 6 c.args.self.now.prefixes.now c.args.depth c.args.tokens.now none in
+    first_of (search rules, grind (arith, common_steps))
+
+pub inside-returns : goal.inside-returns
+inside-returns t c =
+    let some : 0 < c.args.depth = omega arith in
+    Reads-same _ _ c.side.result c.side.new.tokens (inside_some 6 c.args.self.now.prefixes.now c.args.depth c.args.tokens.now some) c.side.ensures
+
+-- ---- operands
+
+pub operand-returns-then-not-begins_primary : goal.operand-returns-then-not-begins_primary
+operand-returns-then-not-begins_primary t c =
+    let no : begins_primary (kind_of c.args.tokens.now) (text_of c.args.tokens.now) ≡ false = search rules in
+    Reads-same _ _ c.path.result c.path.new.tokens (operand_path 6 c.args.self.now.prefixes.now c.args.depth c.args.tokens.now no) c.path.ensures
+
+pub operand-returns-in_err-first : goal.operand-returns-in_err-first
+operand-returns-in_err-first t c =
+    let yes : begins_primary (kind_of c.args.tokens.now) (text_of c.args.tokens.now) ≡ true = search rules in
+    let e = operand_primary 6 c.args.self.now.prefixes.now c.args.depth c.args.tokens.now yes in
+    first_of (search rules, grind (arith, common_steps))
+
+pub operand-returns : goal.operand-returns
+operand-returns t c =
+    let yes : begins_primary (kind_of c.args.tokens.now) (text_of c.args.tokens.now) ≡ true = search rules in
+    let e = operand_primary 6 c.args.self.now.prefixes.now c.args.depth c.args.tokens.now yes in
+    let read : filtered 6 (nested 6 c.args.self.now.prefixes.now c.args.depth) (spec.called 6 c.args.self.now.prefixes.now c.args.depth) c.args.tokens.now ≡ Ok (c.in_ok-first.first, c.filtered.new.tokens) = search rules in
+    Reads-same _ _ c.onward.result c.onward.new.tokens (e ∙ ap (λ o. and_then o (onward c.args.self.now.prefixes.now (nested 6 c.args.self.now.prefixes.now c.args.depth))) read) c.onward.ensures
+
+-- ---- calls
+
+pub call-returns-in-Some : goal.call-returns-in-Some
+call-returns-in-Some t c =
+    let found : code_of (text_of c.args.tokens.now) function_entries ≡ Some c.in-Some.code = first_of (cc, search rules, grind (arith, common_steps)) in
+    Reads-same _ _ c.called.result c.called.new.tokens (call_some 6 c.args.self.now.prefixes.now c.args.depth c.in-Some.code c.args.tokens.now found) c.called.ensures
+
+pub call-returns-in-None : goal.call-returns-in-None
+call-returns-in-None t c =
+    let found : code_of (text_of c.args.tokens.now) function_entries ≡ None = first_of (cc, search rules, grind (arith, common_steps)) in
+    Reads-fault _ _ _ c.unknown.result c.args.tokens.now (call_none 6 c.args.self.now.prefixes.now c.args.depth c.args.tokens.now found) c.unknown.ensures
 
 -- ---- links
 
 pub links-returns-in_default : goal.links-returns-in_default
 links-returns-in_default t c =
-    let side = (ranked (unary_by (signed 6 c.args.self.now.prefixes.now c.args.depth)) c.args.rank) in
-    let e = one_turn (λ n. more_links side c.args.rank n c.loop-turn.found c.loop-turn.tokens) 4096 c.loop-turn._turn c.loop-turn-test.true c.loop-turn.invariant in
-    let none : operator_at c.args.rank (kind_of c.loop-turn.tokens) ≡ None = search rules in
-    e ∙ links_end side c.args.rank (4096 - (c.loop-turn._turn + 1)) c.loop-turn.found c.loop-turn.tokens none
+    let e = one_turn (λ n. more_links (side 6 c.args.self.now.prefixes.now c.args.depth c.args.rank) c.args.rank n c.loop-turn.found c.loop-turn.tokens) 4096 c.loop-turn._turn c.loop-turn-test.true c.loop-turn.invariant in
+    let none : operator_at c.args.rank (kind_of c.loop-turn.tokens) (text_of c.loop-turn.tokens) ≡ None = search rules in
+    let ends = e ∙ links_end (side 6 c.args.self.now.prefixes.now c.args.depth c.args.rank) c.args.rank (4096 - (c.loop-turn._turn + 1)) c.loop-turn.found c.loop-turn.tokens none in
+    first_of (search rules, grind (arith, common_steps))
 
 pub links-returns-in_err-right : goal.links-returns-in_err-right
 links-returns-in_err-right t c =
-    let side = (ranked (unary_by (signed 6 c.args.self.now.prefixes.now c.args.depth)) c.args.rank) in
-    let e = one_turn (λ n. more_links side c.args.rank n c.loop-turn.found c.loop-turn.tokens) 4096 c.loop-turn._turn c.loop-turn-test.true c.loop-turn.invariant in
-    let some : operator_at c.args.rank (kind_of c.loop-turn.tokens) ≡ Some c.in-Some.operator = search rules in
-    let goes = e ∙ links_go_on side c.args.rank (4096 - (c.loop-turn._turn + 1)) c.loop-turn.found c.loop-turn.tokens c.in-Some.operator some in
+    let e = one_turn (λ n. more_links (side 6 c.args.self.now.prefixes.now c.args.depth c.args.rank) c.args.rank n c.loop-turn.found c.loop-turn.tokens) 4096 c.loop-turn._turn c.loop-turn-test.true c.loop-turn.invariant in
+    let some : operator_at c.args.rank (kind_of c.loop-turn.tokens) (text_of c.loop-turn.tokens) ≡ Some c.in-Some.operator = search rules in
+    let goes = e ∙ links_go_on (side 6 c.args.self.now.prefixes.now c.args.depth c.args.rank) c.args.rank (4096 - (c.loop-turn._turn + 1)) c.loop-turn.found c.loop-turn.tokens c.in-Some.operator some in
     first_of (search rules, grind (arith, common_steps))
 
 pub links-loop-turn-preserved : goal.links-loop-turn-preserved
 links-loop-turn-preserved t c =
-    let side = (ranked (unary_by (signed 6 c.args.self.now.prefixes.now c.args.depth)) c.args.rank) in
-    let e = one_turn (λ n. more_links side c.args.rank n c.loop-turn.found c.loop-turn.tokens) 4096 c.loop-turn._turn c.loop-turn-test.true c.loop-turn.invariant in
-    let some : operator_at c.args.rank (kind_of c.loop-turn.tokens) ≡ Some c.in-Some.operator = search rules in
-    let goes = e ∙ links_go_on side c.args.rank (4096 - (c.loop-turn._turn + 1)) c.loop-turn.found c.loop-turn.tokens c.in-Some.operator some in
+    let e = one_turn (λ n. more_links (side 6 c.args.self.now.prefixes.now c.args.depth c.args.rank) c.args.rank n c.loop-turn.found c.loop-turn.tokens) 4096 c.loop-turn._turn c.loop-turn-test.true c.loop-turn.invariant in
+    let some : operator_at c.args.rank (kind_of c.loop-turn.tokens) (text_of c.loop-turn.tokens) ≡ Some c.in-Some.operator = search rules in
+    let goes = e ∙ links_go_on (side 6 c.args.self.now.prefixes.now c.args.depth c.args.rank) c.args.rank (4096 - (c.loop-turn._turn + 1)) c.loop-turn.found c.loop-turn.tokens c.in-Some.operator some in
     first_of (search rules, grind (arith, common_steps))
 
 pub links-returns : goal.links-returns
 unfolding more_links
 links-returns t c =
-    let e = no_turn (λ n. more_links (ranked (unary_by (signed 6 c.args.self.now.prefixes.now c.args.depth)) c.args.rank) c.args.rank n c.loop-turn.found c.loop-turn.tokens) 4096 c.loop-turn._turn c.loop-turn-test.false c.loop-turn.invariant in
+    let e = no_turn (λ n. more_links (side 6 c.args.self.now.prefixes.now c.args.depth c.args.rank) c.args.rank n c.loop-turn.found c.loop-turn.tokens) 4096 c.loop-turn._turn c.loop-turn-test.false c.loop-turn.invariant in
     first_of (search rules, grind (arith, common_steps))
 
--- ---- ranks
+-- ---- predicates
 
-pub ranked-returns-then-ranks-eq0 : goal.ranked-returns-then-ranks-eq0
-unfolding ranked
-ranked-returns-then-ranks-eq0 t c =
-    let none : c.args.ranks ≡ 0 = omega arith in
-    let e = ap (λ n. ranked (unary_by (signed 6 c.args.self.now.prefixes.now c.args.depth)) n c.args.tokens.now) none in
+pub predicates-returns-then-not-opens_predicate : goal.predicates-returns-then-not-opens_predicate
+predicates-returns-then-not-opens_predicate t c =
+    let e = one_turn (λ n. more_predicates (nested 6 c.args.self.now.prefixes.now c.args.depth) n c.loop-turn.found c.loop-turn.tokens) 4096 c.loop-turn._turn c.loop-turn-test.true c.loop-turn.invariant in
+    let test : opens_predicate (kind_of c.loop-turn.tokens) ≡ false = search rules in
+    let goes = e ∙ predicates_end (nested 6 c.args.self.now.prefixes.now c.args.depth) (4096 - (c.loop-turn._turn + 1)) c.loop-turn.found c.loop-turn.tokens test in
     first_of (search rules, grind (arith, common_steps))
 
-pub ranked-returns-in_err-first : goal.ranked-returns-in_err-first
-unfolding ranked
-ranked-returns-in_err-first t c =
-    let some : 0 < c.args.ranks = omega arith in
-    let e = deeper (λ n. ranked (unary_by (signed 6 c.args.self.now.prefixes.now c.args.depth)) n c.args.tokens.now) c.args.ranks some in
+pub predicates-returns-in_err-next : goal.predicates-returns-in_err-next
+predicates-returns-in_err-next t c =
+    let e = one_turn (λ n. more_predicates (nested 6 c.args.self.now.prefixes.now c.args.depth) n c.loop-turn.found c.loop-turn.tokens) 4096 c.loop-turn._turn c.loop-turn-test.true c.loop-turn.invariant in
+    let test : opens_predicate (kind_of c.loop-turn.tokens) ≡ true = search rules in
+    let goes = e ∙ predicates_go_on (nested 6 c.args.self.now.prefixes.now c.args.depth) (4096 - (c.loop-turn._turn + 1)) c.loop-turn.found c.loop-turn.tokens test in
     first_of (search rules, grind (arith, common_steps))
 
-pub ranked-returns-in_err-found : goal.ranked-returns-in_err-found
-unfolding ranked
-ranked-returns-in_err-found t c =
-    let some : 0 < c.args.ranks = omega arith in
-    let e = deeper (λ n. ranked (unary_by (signed 6 c.args.self.now.prefixes.now c.args.depth)) n c.args.tokens.now) c.args.ranks some in
+pub predicates-loop-turn-preserved : goal.predicates-loop-turn-preserved
+predicates-loop-turn-preserved t c =
+    let e = one_turn (λ n. more_predicates (nested 6 c.args.self.now.prefixes.now c.args.depth) n c.loop-turn.found c.loop-turn.tokens) 4096 c.loop-turn._turn c.loop-turn-test.true c.loop-turn.invariant in
+    let test : opens_predicate (kind_of c.loop-turn.tokens) ≡ true = search rules in
+    let goes = e ∙ predicates_go_on (nested 6 c.args.self.now.prefixes.now c.args.depth) (4096 - (c.loop-turn._turn + 1)) c.loop-turn.found c.loop-turn.tokens test in
     first_of (search rules, grind (arith, common_steps))
 
-pub ranked-returns : goal.ranked-returns
-unfolding ranked
-ranked-returns t c =
-    let some : 0 < c.args.ranks = omega arith in
-    let e = deeper (λ n. ranked (unary_by (signed 6 c.args.self.now.prefixes.now c.args.depth)) n c.args.tokens.now) c.args.ranks some in
+pub predicates-returns : goal.predicates-returns
+unfolding more_predicates
+predicates-returns t c =
+    let e = no_turn (λ n. more_predicates (nested 6 c.args.self.now.prefixes.now c.args.depth) n c.loop-turn.found c.loop-turn.tokens) 4096 c.loop-turn._turn c.loop-turn-test.false c.loop-turn.invariant in
+    first_of (search rules, grind (arith, common_steps))
+
+-- ---- steps
+
+pub steps-returns-in_default : goal.steps-returns-in_default
+unfolding more_steps
+steps-returns-in_default t c =
+    let e = one_turn (λ n. more_steps c.args.self.now.prefixes.now (nested 6 c.args.self.now.prefixes.now c.args.depth) n c.loop-turn.found c.loop-turn.tokens) 4096 c.loop-turn._turn c.loop-turn-test.true c.loop-turn.invariant in
+    first_of (search rules, grind (arith, common_steps))
+
+pub steps-returns-in_err-next : goal.steps-returns-in_err-next
+unfolding more_steps
+steps-returns-in_err-next t c =
+    let e = one_turn (λ n. more_steps c.args.self.now.prefixes.now (nested 6 c.args.self.now.prefixes.now c.args.depth) n c.loop-turn.found c.loop-turn.tokens) 4096 c.loop-turn._turn c.loop-turn-test.true c.loop-turn.invariant in
+    first_of (search rules, grind (arith, common_steps))
+
+pub steps-loop-turn-preserved : goal.steps-loop-turn-preserved
+unfolding more_steps
+steps-loop-turn-preserved t c =
+    let e = one_turn (λ n. more_steps c.args.self.now.prefixes.now (nested 6 c.args.self.now.prefixes.now c.args.depth) n c.loop-turn.found c.loop-turn.tokens) 4096 c.loop-turn._turn c.loop-turn-test.true c.loop-turn.invariant in
+    first_of (search rules, grind (arith, common_steps))
+
+pub steps-returns : goal.steps-returns
+unfolding more_steps
+steps-returns t c =
+    let e = no_turn (λ n. more_steps c.args.self.now.prefixes.now (nested 6 c.args.self.now.prefixes.now c.args.depth) n c.loop-turn.found c.loop-turn.tokens) 4096 c.loop-turn._turn c.loop-turn-test.false c.loop-turn.invariant in
+    first_of (search rules, grind (arith, common_steps))
+
+-- ---- more_arguments
+
+pub more_arguments-returns-then-not-is_comma : goal.more_arguments-returns-then-not-is_comma
+more_arguments-returns-then-not-is_comma t c =
+    let e = one_turn (λ n. more_arguments (inside 6 c.args.self.now.prefixes.now c.args.depth) n c.loop-turn.found c.loop-turn.tokens) 4096 c.loop-turn._turn c.loop-turn-test.true c.loop-turn.invariant in
+    let test : is_comma (kind_of c.loop-turn.tokens) ≡ false = search rules in
+    let goes = e ∙ arguments_end (inside 6 c.args.self.now.prefixes.now c.args.depth) (4096 - (c.loop-turn._turn + 1)) c.loop-turn.found c.loop-turn.tokens test in
+    first_of (search rules, grind (arith, common_steps))
+
+pub more_arguments-returns-in_err-next : goal.more_arguments-returns-in_err-next
+more_arguments-returns-in_err-next t c =
+    let e = one_turn (λ n. more_arguments (inside 6 c.args.self.now.prefixes.now c.args.depth) n c.loop-turn.found c.loop-turn.tokens) 4096 c.loop-turn._turn c.loop-turn-test.true c.loop-turn.invariant in
+    let test : is_comma (kind_of c.loop-turn.tokens) ≡ true = search rules in
+    let goes = e ∙ arguments_go_on (inside 6 c.args.self.now.prefixes.now c.args.depth) (4096 - (c.loop-turn._turn + 1)) c.loop-turn.found c.loop-turn.tokens test in
+    first_of (search rules, grind (arith, common_steps))
+
+pub more_arguments-loop-turn-preserved : goal.more_arguments-loop-turn-preserved
+more_arguments-loop-turn-preserved t c =
+    let e = one_turn (λ n. more_arguments (inside 6 c.args.self.now.prefixes.now c.args.depth) n c.loop-turn.found c.loop-turn.tokens) 4096 c.loop-turn._turn c.loop-turn-test.true c.loop-turn.invariant in
+    let test : is_comma (kind_of c.loop-turn.tokens) ≡ true = search rules in
+    let goes = e ∙ arguments_go_on (inside 6 c.args.self.now.prefixes.now c.args.depth) (4096 - (c.loop-turn._turn + 1)) c.loop-turn.found c.loop-turn.tokens test in
+    first_of (search rules, grind (arith, common_steps))
+
+pub more_arguments-returns : goal.more_arguments-returns
+unfolding more_arguments
+more_arguments-returns t c =
+    let e = no_turn (λ n. more_arguments (inside 6 c.args.self.now.prefixes.now c.args.depth) n c.loop-turn.found c.loop-turn.tokens) 4096 c.loop-turn._turn c.loop-turn-test.false c.loop-turn.invariant in
     first_of (search rules, grind (arith, common_steps))
 
 -- ---- signs
@@ -100,13 +221,3 @@ pub signed-returns-in_ok-inner-in_default : goal.signed-returns-in_ok-inner-in_d
 signed-returns-in_ok-inner-in_default t c =
     let e = signed_is 6 c.args.self.now.prefixes.now c.args.depth c.args.tokens.now in
     first_of (search rules, grind (arith, common_steps))
-
--- ---- operands
-
-pub operand-returns-in_ok-inner-in-Open : goal.operand-returns-in_ok-inner-in-Open
-operand-returns-in_ok-inner-in-Open t c =
-    let some : 0 < c.args.depth = omega arith in
-    let opens : kind_of c.args.tokens.now ≡ k.Open = search rules in
-    let e = deeper (λ n. operand_at 6 c.args.self.now.prefixes.now n c.args.tokens.now) c.args.depth some in
-    let read : ranked (unary_by (signed 6 c.args.self.now.prefixes.now (c.args.depth - 1))) 2 (after_next c.args.tokens.now) ≡ Ok (c.in_ok-inner-in-Open.inner, c.ranked.new.tokens) = search rules in
-    Reads-same _ _ c.closed.result c.closed.new.tokens (e ∙ grouped_is 6 c.args.self.now.prefixes.now (c.args.depth - 1) c.args.tokens.now c.ranked.new.tokens c.in_ok-inner-in-Open.inner opens read) c.closed.ensures
