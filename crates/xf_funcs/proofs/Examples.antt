@@ -5,6 +5,8 @@ use Rattle.std.specs.Str.{chars}
 use Rattle.xf_num.specs.Number.{scale}
 use Rattle.xf_table.specs.Contents.{function_entries}
 use Rattle.xf_plain_values.specs.declared.plain.Plain.TheVariants.{Text, Number, Truth}
+use Rattle.xf_dates.specs.Days.{day_in}
+use Rattle.xf_dates.specs.Durations.{months_units, duration_in}
 use Rattle.xf_funcs.specs.Called.{called}
 use Rattle.xf_funcs.specs.Served.{is_served}
 use Rattle.xf_funcs.specs.Numbers.{power}
@@ -106,6 +108,19 @@ string_without_a_limit = refl
 rounded_hundredths : called None 2 32 (Text (codes "1.5") ∷ []) ≡ Some (Number (Some (pos 200)))
 unfolding function_entries scale
 rounded_hundredths = refl
+
+-- `days-from-date("2100-02-29")`, `months("P1Y2M")`, `seconds("x")`
+no_day_called : called None 6 11 (Text (codes "2100-02-29") ∷ []) ≡ Some (Number None)
+unfolding function_entries day_in
+no_day_called = refl
+
+months_called : called None 6 23 (Text (codes "P1Y2M") ∷ []) ≡ Some (Number (Some (pos 14000000)))
+unfolding function_entries scale duration_in months_units
+months_called = refl
+
+no_duration_called : called None 6 33 (Text (codes "x") ∷ []) ≡ Some (Number None)
+unfolding function_entries duration_in
+no_duration_called = refl
 
 -- `substring` takes two arguments or three, `string-length` is given the context node where none is written, `count` takes nodes
 served : is_served 39 2 ∷ is_served 39 3 ∷ is_served 39 4 ∷ is_served 38 1 ∷ is_served 38 0 ∷ is_served 8 1 ∷ [] ≡ true ∷ true ∷ false ∷ true ∷ false ∷ false ∷ []

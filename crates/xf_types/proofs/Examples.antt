@@ -1,7 +1,8 @@
 -- Worked values of the definitions.
-use Rattle.std.proofs.Common.{◌≡◌, true, false, Some, refl, codes}
+use Rattle.std.proofs.Common.{◌≡◌, true, false, Some, None, refl, codes}
 use Rattle.xf_types.specs.declared.kind.BuiltIn.TheVariants.{Boolean, Byte, Date, DateTime, DayTimeDuration, Duration, GMonthDay, HexBinary, Integer, Time, UnsignedLong}
-use Rattle.xf_types.specs.Named.{type_in, schema_uri}
+use Rattle.xf_table.specs.Contents.{type_entries}
+use Rattle.xf_types.specs.Named.{type_named, schema_uri, forms_uri}
 use Rattle.xf_types.specs.Meets.{meets_kind, meets_type}
 
 leap_day : meets_kind Date (codes "2004-02-29Z") ≡ true
@@ -52,5 +53,15 @@ odd_hex = refl
 blanks_then_empty : meets_type (record { kind = Integer; may_be_empty = true }) (codes "  ") ≡ true
 blanks_then_empty = refl
 
-in_schema : type_in schema_uri Boolean ≡ Some (record { kind = Boolean; may_be_empty = false })
+-- the table's marks say which names there are
+in_schema : type_named schema_uri (codes "boolean") ≡ Some (record { kind = Boolean; may_be_empty = false })
+unfolding type_entries
 in_schema = refl
+
+no_duration_in_forms : type_named forms_uri (codes "duration") ≡ None
+unfolding type_entries
+no_duration_in_forms = refl
+
+no_list_item_in_schema : type_named schema_uri (codes "listItem") ≡ None
+unfolding type_entries
+no_list_item_in_schema = refl

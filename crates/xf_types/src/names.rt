@@ -1,7 +1,8 @@
 //! The types by their names.
 
-ghost use Rattle.std.specs.Prelude.{◌≡◌};
-ghost use Rattle.xf_types.specs.Named.{is_in_schema, is_in_forms, type_in, type_named};
+ghost use Rattle.std.specs.Prelude.{◌≡◌, slice_get};
+ghost use Rattle.xf_table.specs.Contents.{type_entries};
+ghost use Rattle.xf_types.specs.Named.{marks_in, is_in_schema, is_in_forms, type_in, type_named};
 
 use crate::kind::{BuiltIn, SimpleType};
 use xf_table::find;
@@ -56,17 +57,27 @@ pub fn named(uri: &str, local: &str) -> Option<SimpleType>
     ensures { result ≡ type_named uri.now local.now }
 {
     match find(rows(), local) {
-        Some(code) => type_in(uri, KINDS[code as usize]),
+        Some(code) => type_in(uri, marks_of(code), KINDS[code as usize]),
         None => None,
     }
 }
 
-/// The type of this name in a namespace.
-fn type_in(uri: &str, kind: BuiltIn) -> Option<SimpleType>
-    ensures { result ≡ type_in uri.now kind }
+/// The marks of the row with this code.
+fn marks_of(code: u16) -> u8
+    ensures { result ≡ marks_in (slice_get type_entries code) }
+{
+    match rows().get(code as usize) {
+        Some(row) => row.marks,
+        None => 0,
+    }
+}
+
+/// The type of a row in a namespace, by its marks.
+fn type_in(uri: &str, marks: u8, kind: BuiltIn) -> Option<SimpleType>
+    ensures { result ≡ type_in uri.now marks kind }
 {
     if uri == SCHEMA_URI {
-        if !is_in_schema(kind) {
+        if !is_in_schema(marks) {
             return None;
         }
         return Some(SimpleType {
@@ -77,7 +88,7 @@ fn type_in(uri: &str, kind: BuiltIn) -> Option<SimpleType>
     if uri != FORMS_URI && !uri.is_empty() {
         return None;
     }
-    if !is_in_forms(kind) {
+    if !is_in_forms(marks) {
         return None;
     }
     Some(SimpleType {
@@ -86,23 +97,16 @@ fn type_in(uri: &str, kind: BuiltIn) -> Option<SimpleType>
     })
 }
 
-fn is_in_schema(kind: BuiltIn) -> bool
-    ensures { result ≡ is_in_schema kind }
+/// Whether XML Schema has a type of this name.
+fn is_in_schema(marks: u8) -> bool
+    ensures { result ≡ is_in_schema marks }
 {
-    match kind {
-        BuiltIn::ListItem => false,
-        BuiltIn::ListItems => false,
-        BuiltIn::DayTimeDuration => false,
-        BuiltIn::YearMonthDuration => false,
-        _ => true,
-    }
+    marks % 2 == 1
 }
 
-fn is_in_forms(kind: BuiltIn) -> bool
-    ensures { result ≡ is_in_forms kind }
+/// Whether XForms has a type of this name.
+fn is_in_forms(marks: u8) -> bool
+    ensures { result ≡ is_in_forms marks }
 {
-    match kind {
-        BuiltIn::Duration => false,
-        _ => true,
-    }
+    marks / 2 % 2 == 1
 }
