@@ -9,6 +9,7 @@ pub mod RenumberChanges
 pub mod RenumberTexts
 pub mod OrderLaws
 pub mod LiveLaws
+pub mod MadeLive
 pub mod PieceLaws
 pub mod MoveLemmas
 pub mod TextLaws

@@ -64,7 +64,7 @@ impl Ledger {
         ensures { self.new ≡ kept_at forest.now.forest }
     {
         self.entries.clear();
-        self.seats.clear();
+        vacate(&mut self.seats);
         self.still = 0;
         self.next = forest.next_number();
     }
@@ -130,7 +130,7 @@ impl Ledger {
         ensures law { (start : Keeping) → Made start self.old forest.old → AreTrees forest.old → forest.new ≡ start }
     {
         undo_all(&mut self.entries, forest);
-        self.seats.clear();
+        vacate(&mut self.seats);
         self.still = 0;
         forest.drop_from(self.next);
     }
@@ -157,6 +157,17 @@ fn is_known_by(
         return true;
     }
     is_known(node, forest, entries)
+}
+
+/// Takes all seats out: one by one where they are few, since a clearing looks at the whole room that was ever taken.
+fn vacate(seats: &mut IndexMap<u128, usize>) {
+    if seats.len() > seats.capacity() / 8 {
+        seats.clear();
+        return;
+    }
+    for _ in 0..seats.len() {
+        let _ = seats.pop();
+    }
 }
 
 /// Puts an entry last, where one has its room.
