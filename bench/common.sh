@@ -21,7 +21,7 @@ closure() {
 }
 
 # make_bench NAME CRATE..: proves and builds the program of main.rt.txt beside copies of these crates and of those below them, and
-# the plain program of plain.rs. They are then "$ours" and "$plain".
+# the plain program of plain.rs, where there is one. They are then "$ours" and "$plain".
 make_bench() {
     local name=$1 crate
     shift
@@ -37,7 +37,7 @@ make_bench() {
     (cd "$work/crates/$name" && rt run > "$work/built" 2>&1) || true
     ours=$work/crates/$name/out/$name
     [ -x "$ours" ] || { tail -n 20 "$work/built" >&2; exit 1; }
-    rustc -O -o "$work/plain" "$here/plain.rs"
+    if [ -f "$here/plain.rs" ]; then rustc -O -o "$work/plain" "$here/plain.rs"; fi
     plain=$work/plain
 }
 
