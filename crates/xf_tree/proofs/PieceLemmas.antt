@@ -1,5 +1,5 @@
 -- The texts of the rows of a tree that are not empty are the pieces of its string value.
-use Rattle.std.proofs.Common.{◌≡◌, ℕ, ◌+◌, ◌-◌, ◌<◌, ◌≤◌, true, false, cond, List, [], ◌∷◌, ◌++◌, map, length, take, drop, get_or, nat_lt, refl, sym, ap, ◌∙◌, inl, inr, arith}
+use Rattle.std.proofs.Common.{◌≡◌, ℕ, ◌+◌, ◌-◌, ◌<◌, true, false, cond, List, [], ◌∷◌, ◌++◌, map, length, take, drop, get_or, nat_lt, refl, sym, ap, ◌∙◌, inl, inr, arith}
 use Rattle.std.specs.Prelude.{filter}
 use Rattle.std.proofs.lemmas.Bool.{cases_Bool}
 use Rattle.std.proofs.lemmas.List.{map-append}
@@ -14,7 +14,7 @@ use Rattle.xf_tree.specs.declared.rows.Row.{Row}
 use Rattle.xf_tree.specs.declared.slot.Slot.{Slot}
 use Rattle.xf_tree.specs.Reads.{pieces_left, pieces_at}
 use Rattle.xf_tree.specs.Rows.{deeper, tree_of}
-use Rattle.xf_tree.specs.Tree.{node_of, content_in, times, StandsAt, no_row, IsSound}
+use Rattle.xf_tree.specs.Tree.{node_of, content_in, StandsAt, no_row, IsSound}
 use Rattle.xf_tree.proofs.NodeLemmas.{Parted}
 use Rattle.xf_tree.proofs.PlaceLemmas.{stands, below-is, tree-size, one_of, split-at}
 use Rattle.xf_tree.proofs.StackLemmas.{stack, visits-append, absent-above, absent-cons, absent-parts, absent-stack, has-numbers, has-middle, deeper-above, above-inside, above-past, parted-visit}

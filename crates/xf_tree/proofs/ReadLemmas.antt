@@ -1,16 +1,15 @@
 -- What is read at one look: the content of a node, its rank, and what is said of a node that is not there.
-use Rattle.std.proofs.Common.{◌≡◌, ℕ, suc, ◌+◌, ◌<◌, false, IsSome, List, [], ◌∷◌, ◌==◌, find, map, length, take, drop, get_or, Option, Some, None, option_map, refl, sym, ap, ◌∙◌, arith, length-take}
+use Rattle.std.proofs.Common.{◌≡◌, ℕ, false, IsSome, List, [], ◌∷◌, ◌==◌, find, map, length, take, get_or, Option, Some, None, option_map, refl, sym, ap, ◌∙◌, arith, length-take}
 use Rattle.std.proofs.lemmas.Bool.{false≢true}
 use Rattle.std.proofs.lemmas.List.{length-map}
 use Rattle.slab.specs.Slab.{Slab, get}
 use Rattle.xf_doc.specs.declared.content.Node.{Node}
-use Rattle.xf_doc.specs.declared.content.Content.{Content}
 use Rattle.xf_doc.specs.Forest.{has_number, node_at, content_at}
 use Rattle.xf_doc.specs.Axis.{before}
 use Rattle.xf_doc.specs.Changes.{standing, with_place}
 use Rattle.xf_doc.specs.Order.{rank_of}
 use Rattle.xf_doc.specs.StringValue.{pieces, pieces_in}
-use Rattle.xf_doc.specs.Visit.{Visit, still_above, visits_from, visits, parent_of}
+use Rattle.xf_doc.specs.Visit.{Visit, still_above, visits_from, visits}
 use Rattle.xf_tree.specs.declared.rows.Row.{Row}
 use Rattle.xf_tree.specs.declared.slot.Slot.{Slot}
 use Rattle.xf_tree.specs.Tree.{node_of, content_in, StandsAt, no_row, IsSound}

@@ -1,4 +1,4 @@
-use Rattle.std.proofs.Common.{◌<◌, length, get_or, sym, ap, ◌∙◌, arith}
+use Rattle.std.proofs.Common.{get_or, sym, ◌∙◌, arith}
 use Rattle.xf_tree.specs.Tree.{no_row}
 use Rattle.xf_tree.proofs.TopLemmas.{last-up, last-none}
 use Rattle.xf_tree.proofs.top.top_row.Goals as goal

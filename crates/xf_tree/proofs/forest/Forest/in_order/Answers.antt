@@ -4,7 +4,7 @@ use Rattle.std.specs.Prelude.{IfOk}
 use Rattle.xf_doc.specs.Order.{in_order}
 use Rattle.xf_doc.specs.Texts.{Keeping}
 use Rattle.xf_doc.specs.Visit.{visits}
-use Rattle.xf_tree.specs.Reads.{AreUp, is_among, stands_one, each_once}
+use Rattle.xf_tree.specs.Reads.{is_among, stands_one, each_once}
 use Rattle.xf_tree.specs.Walks.{number_of_row}
 use Rattle.xf_tree.proofs.OrderLemmas.{order-means, places-within, all-within}
 use Rattle.xf_tree.proofs.forest.Forest.in_order.Goals as goal
