@@ -23,7 +23,7 @@ use Rattle.xf_ast.specs.declared.expr.Expr.TheOpen.{Expr-F}
 use Rattle.xf_ast.specs.declared.expr.Expr.TheFolds.{fold-roll-Expr}
 use Rattle.xf_ast.specs.declared.expr.Link.{Link, roll-Link}
 use Rattle.xf_ast.specs.declared.expr.Step.{Step, roll-Step}
-use Rattle.xf_path.specs.declared.fault.ExprKind.TheVariants.{Syntax, Prefix, Deep, Arity, UnknownFunction, ClockOrRandom}
+use Rattle.xf_path.specs.declared.fault.ExprKind.TheVariants.{Syntax, Prefix, Long, Deep, Arity, UnknownFunction, ClockOrRandom}
 use Rattle.xf_path.specs.declared.fault.ParseFault.{ParseFault}
 use Rattle.xf_path.specs.declared.fault.ParseFault.TheVariants as fault
 use Rattle.xf_path.specs.Tokens.{kind_of_name}
@@ -236,6 +236,11 @@ too_many_signs = refl
 too_many_brackets : given (many 65 (codes "a[")) ≡ Err (fault.Expr 129 Deep)
 unfolding chars scale encode is_xid_start is_xid_continue in_ranges xid_start_ranges xid_continue_ranges function_entries kind_of_name axis_called axis_rule type_called target node_test predicate more_predicates abbreviated written step more_steps steps path more_arguments arguments called call number unquoted literal primary grouped onward filtered operand operator_of more_links chain unary_by ranked signed
 too_many_brackets = refl
+
+-- a text that is too long is not read at all
+too_long : given (many 4097 (codes "$")) ≡ Err (fault.Expr 0 Long)
+unfolding chars scale encode is_xid_start is_xid_continue in_ranges xid_start_ranges xid_continue_ranges function_entries kind_of_name axis_called axis_rule type_called target node_test predicate more_predicates abbreviated written step more_steps steps path more_arguments arguments called call number unquoted literal primary grouped onward filtered operand operator_of more_links chain unary_by ranked signed
+too_long = refl
 
 -- ---- kinds by syntax
 
