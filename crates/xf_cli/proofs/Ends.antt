@@ -6,7 +6,8 @@ use Rattle.std.proofs.KnownBytes.{Appends-trans, Appends-nil}
 use Rattle.xf_base.specs.Faults.{Rose}
 use Rattle.xf_form.specs.declared.form.Form.{Form}
 use Rattle.xf_machine.specs.State.{State, started}
-use Rattle.xf_machine.specs.Written.{Outside, Writes, Ends, AppendsLine, FormGives, FromForm, HasRisen, SpellsTry, HasCauseIn, status_line}
+use Rattle.xf_machine.specs.Outside.{Outside, HasRisen, IsFormRead}
+use Rattle.xf_machine.specs.Written.{Writes, Ends, AppendsLine, FormGives, FromForm, SpellsTry, HasCauseIn, status_line}
 use Rattle.xf_machine.specs.declared.status.Ending.{Ending}
 use Rattle.xf_machine.specs.declared.status.Ending.TheVariants as ending
 use Rattle.xf_machine.specs.declared.status.Status.{Status}
@@ -30,14 +31,14 @@ cause_of ending.Memory outside read written = tt
 untouched : (a b : Option (List ℕ)) → b ≡ a → Appends a b []
 untouched a b e = subst (λ x. Appends a x []) (sym e) (Appends-nil a)
 
-pub runs_form : (s : Status) (form : Form) (outside : Outside) → SpellsTry outside.words → FormGives outside.form (Ok form) → AnswersForm s form outside.events outside.left outside.before outside.after
+pub runs_form : (s : Status) (form : Form) (outside : Outside) → SpellsTry outside.words → IsFormRead outside → FormGives outside.form (Ok form) → AnswersForm s form outside.events outside.left outside.before outside.after
     → (s ≡ status.Answered ending.ReadFault → HasRisen outside.event_faults) → (s ≡ status.Answered ending.SinkFault → HasRisen outside.out_faults) → Runs s outside
-runs_form (status.Answered e) form outside spells is answered read written =
-    (answered.0, (spells, from_form outside.form form _ is answered.1, cause_of e outside read written), answered.2)
-runs_form status.NoRoom form outside spells is answered read written = ([], (spells, answered.0, refl), untouched outside.before outside.after answered.1)
-runs_form status.Usage form outside spells is answered read written = absurd answered
-runs_form (status.Refused number place) form outside spells is answered read written = absurd answered
-runs_form status.Unread form outside spells is answered read written = absurd answered
+runs_form (status.Answered e) form outside spells taken is answered read written =
+    (answered.0, (spells, taken, from_form outside.form form _ is answered.1, cause_of e outside read written), answered.2)
+runs_form status.NoRoom form outside spells taken is answered read written = ([], (spells, taken, answered.0, refl), untouched outside.before outside.after answered.1)
+runs_form status.Usage form outside spells taken is answered read written = absurd answered
+runs_form (status.Refused number place) form outside spells taken is answered read written = absurd answered
+runs_form status.Unread form outside spells taken is answered read written = absurd answered
 
 -- ---- the line for the status
 
@@ -63,10 +64,10 @@ writes_later status.Usage outside after faults written more h = h
 writes_later (status.Refused number place) outside after faults written more h = h
 writes_later status.Unread outside after faults written more h = h
 writes_later status.NoRoom outside after faults written more h = h
-writes_later (status.Answered e) outside after faults written more h = (h.0, h.1, cause_later e outside after faults more h.2)
+writes_later (status.Answered e) outside after faults written more h = (h.0, h.1, h.2, cause_later e outside after faults more h.3)
 
 no_room_of : (s : Status) (outside : Outside) (written : List ℕ) → IsRefused s → Writes s outside written → Writes status.NoRoom outside written
-no_room_of (status.Refused number place) outside written refused h = (h.0, h.2, h.3)
+no_room_of (status.Refused number place) outside written refused h = (h.0, h.2, h.3, h.4)
 no_room_of status.Usage outside written refused h = absurd refused
 no_room_of status.Unread outside written refused h = absurd refused
 no_room_of status.NoRoom outside written refused h = absurd refused

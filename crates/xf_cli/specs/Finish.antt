@@ -5,7 +5,8 @@ use Rattle.std.specs.Io.KnownBytes.{Appends}
 use Rattle.xf_base.specs.Faults.{Rose}
 use Rattle.xf_form.specs.declared.form.Form.{Form}
 use Rattle.xf_machine.specs.State.{started}
-use Rattle.xf_machine.specs.Written.{IsFront, Outside, Writes, status_line, status_code}
+use Rattle.xf_machine.specs.Outside.{Outside}
+use Rattle.xf_machine.specs.Written.{IsFront, Writes, status_line, status_code}
 use Rattle.xf_machine.specs.declared.status.Status.{Status}
 use Rattle.xf_machine.specs.declared.status.Status.TheVariants as status
 use Rattle.xf_cli.specs.Answering.{Answered}

@@ -3,6 +3,7 @@
 ghost use Rattle.std.specs.Prelude.{◌≡◌, ◌≤◌, IfOk, Ok, Err};
 ghost use Rattle.xf_base.specs.Faults.{Rose};
 ghost use Rattle.xf_machine.specs.Written.{FormGives};
+ghost use Rattle.xf_machine.specs.Outside.{TakesForm};
 ghost use Rattle.xf_cli.specs.Reading.{GivesReading, GivesLoaded, IsLoadedIndependent};
 
 use std::alloc::Global;
@@ -34,6 +35,7 @@ pub enum Loaded {
 /// Reads a form and loads it.
 pub fn load_form<F: Source>(alloc: Global, form: &mut F) -> Loaded
     ensures loaded { GivesLoaded (F.left form.old) result }
+    ensures left { TakesForm (F.left form.old) (F.left form.new) }
     ensures independent { IsLoadedIndependent result }
     ensures fault { result ≡ Loaded.Unread → Rose (F.faults form.old) (F.faults form.new) }
 {
@@ -51,6 +53,7 @@ pub fn load_form<F: Source>(alloc: Global, form: &mut F) -> Loaded
 // The bytes of a form, to their end or to the first that is too many.
 fn read_form<F: Source>(alloc: Global, form: &mut F) -> Reading
     ensures bytes { GivesReading (F.left form.old) (F.left form.new) result }
+    ensures left { TakesForm (F.left form.old) (F.left form.new) }
     ensures fault { result ≡ Reading.Fault → Rose (F.faults form.old) (F.faults form.new) }
 {
     let mut bytes = Bytes::new(alloc);

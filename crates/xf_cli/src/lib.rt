@@ -9,4 +9,4 @@ mod run;
 mod session;
 mod settle;
 
-pub use run::xforms;
+pub use run::{no_room, xforms};

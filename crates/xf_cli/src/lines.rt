@@ -4,6 +4,7 @@ ghost use Rattle.std.specs.Prelude.{◌≡◌, ◌≤◌, ◌<◌, ◌+◌, ◌^
 ghost use Rattle.std.specs.Io.KnownBytes.{prepend_known, IsAtEnd};
 ghost use Rattle.xf_base.specs.Faults.{Rose};
 ghost use Rattle.xf_io.specs.Lines.{CountsBytes};
+ghost use Rattle.xf_machine.specs.Outside.{IsOutOrFailed};
 ghost use Rattle.xf_cli.specs.Answering.{NextKnown, Answered, IsReplyOrEnd, Moves};
 
 use crate::output::write_reply;
@@ -30,6 +31,7 @@ pub fn answer_lines<E: Source, O: Sink>(
     ensures answered { Answered result session.old (E.left events.old) (E.left events.new) (O.taken out.old) (O.taken out.new) }
     ensures read { result ≡ Ending.ReadFault → Rose (E.faults events.old) (E.faults events.new) }
     ensures written { result ≡ Ending.SinkFault → Rose (O.faults out.old) (O.faults out.new) }
+    ensures flushed { IsOutOrFailed (O.taken out.old, O.flushed out.old) (O.taken out.new, O.flushed out.new) (O.faults out.old, O.faults out.new) }
     ensures later { O.faults out.old ≤ O.faults out.new }
 {
     let mut lines = Lines::new();

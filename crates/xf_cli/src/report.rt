@@ -1,12 +1,13 @@
 //! The text of a state.
 
 ghost use Rattle.std.specs.Prelude.{◌≡◌, ◌++◌, IfOk, OnOk, codes, slice_get, string_bytes};
-ghost use Rattle.xf_machine.specs.Replies.{quoted, marks, held_text, node_line, node_lines, value_held, value_in, control_line, control_lines};
+ghost use Rattle.xf_machine.specs.Replies.{quoted, id_text, marks, held_text, node_line, node_lines, value_held, value_in, control_line, control_lines};
 ghost use Rattle.xf_machine.specs.State.{is_readonly_at};
 
 use serde_json::Value;
 use std::alloc::{AllocError, Global};
 use xf_form::{DataNode, Held, Input};
+use xf_name::is_part;
 
 /// The text of a state: a line for each node of the data, then one for each control.
 pub fn state_text(alloc: Global, nodes: &[DataNode], inputs: &[Input]) -> Result<String, AllocError>
@@ -65,10 +66,16 @@ fn marks(is_readonly: bool) -> &'static str
 fn push_value(alloc: Global, text: &mut String, value: &str) -> Result<(), AllocError>
     ensures { OnOk result (string_bytes text.new ≡ string_bytes text.old ++ (codes " " ++ quoted value.now)) }
 {
-    let quoted = Value::String(String::from_str(alloc, value)?).to_string(alloc)?;
     text.push_str(" ")?;
-    text.push_str(quoted.as_str())?;
-    Ok(())
+    push_quoted(alloc, text, value)
+}
+
+// A text as a JSON string.
+fn push_quoted(alloc: Global, text: &mut String, value: &str) -> Result<(), AllocError>
+    ensures { OnOk result (string_bytes text.new ≡ string_bytes text.old ++ quoted value.now) }
+{
+    let quoted = Value::String(String::from_str(alloc, value)?).to_string(alloc)?;
+    text.push_str(quoted.as_str())
 }
 
 fn push_controls(
@@ -94,12 +101,22 @@ fn push_control(
     ensures { OnOk result (string_bytes text.new ≡ string_bytes text.old ++ control_line nodes.now input.now) }
 {
     text.push_str("control ")?;
-    text.push_str(input.id.as_str())?;
+    push_id(alloc, text, input.id.as_str())?;
     text.push_str(" []")?;
     text.push_str(marks(is_readonly_at(nodes, input.node)))?;
     push_value(alloc, text, value_at(nodes, input.node))?;
     text.push_str("\n")?;
     Ok(())
+}
+
+// An id, quoted where it could be read as more than one field.
+fn push_id(alloc: Global, text: &mut String, id: &str) -> Result<(), AllocError>
+    ensures { OnOk result (string_bytes text.new ≡ string_bytes text.old ++ id_text id.now) }
+{
+    if is_part(id) {
+        return text.push_str(id);
+    }
+    push_quoted(alloc, text, id)
 }
 
 /// Whether the node at a place is readonly.

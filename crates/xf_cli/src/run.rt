@@ -1,9 +1,10 @@
 //! The top call.
 
-ghost use Rattle.std.specs.Prelude.{◌≡◌, ◌≤◌, ◌↔◌, ◌++◌, IsTrue, IfOk, OnOk, map, string_bytes};
+ghost use Rattle.std.specs.Prelude.{◌≡◌, ◌≤◌, ◌↔◌, ◌++◌, IsTrue, IfOk, OnOk, [], map, string_bytes};
 ghost use Rattle.xf_base.specs.Faults.{Rose};
 ghost use Rattle.xf_form.specs.Binds.{IsIndependent};
-ghost use Rattle.xf_machine.specs.Written.{Ends, SpellsTry, ending_code, ending_line, status_line, refusal_name, place_part};
+ghost use Rattle.xf_machine.specs.Outside.{IsOutOrFailed};
+ghost use Rattle.xf_machine.specs.Written.{AppendsLine, Ends, SpellsTry, ending_code, ending_line, status_code, status_line, refusal_name, place_part};
 ghost use Rattle.xf_cli.specs.Finish.{Says, Finishes, Runs, AnswersForm};
 
 use crate::form::{Loaded, load_form};
@@ -27,9 +28,10 @@ pub fn xforms<F: Source, E: Source, O: Sink>(
     events: &mut E,
     out: &mut O,
 ) -> u8
-    ensures { Ends result record {
+    ensures ends { Ends result record {
       words = map string_bytes words.now;
       form = F.left form.old;
+      form_left = F.left form.new;
       form_faults = (F.faults form.old, F.faults form.new);
       events = E.left events.old;
       left = E.left events.new;
@@ -38,9 +40,18 @@ pub fn xforms<F: Source, E: Source, O: Sink>(
       after = O.taken out.new;
       out_faults = (O.faults out.old, O.faults out.new);
     } }
+    ensures flushed { IsOutOrFailed (O.taken out.old, O.flushed out.old) (O.taken out.new, O.flushed out.new) (O.faults out.old, O.faults out.new) }
 {
     let status = run(alloc, words, form, events, out);
     finish(alloc, out, status)
+}
+
+/// Tells that there is no memory for the words of the command, and gives the number that the program ends with.
+pub fn no_room<O: Sink>(out: &mut O) -> u8
+    ensures number { result ≡ status_code Status.NoRoom }
+    ensures says { AppendsLine (O.taken out.old) (O.taken out.new) [] (status_line Status.NoRoom) (Rose (O.faults out.old) (O.faults out.new)) }
+{
+    say(out, b"fault memory\n", 9)
 }
 
 // Does the work, and leaves the line for the status.
@@ -54,6 +65,7 @@ fn run<F: Source, E: Source, O: Sink>(
     ensures runs { Runs result record {
       words = map string_bytes words.now;
       form = F.left form.old;
+      form_left = F.left form.new;
       form_faults = (F.faults form.old, F.faults form.new);
       events = E.left events.old;
       left = E.left events.new;
@@ -62,6 +74,7 @@ fn run<F: Source, E: Source, O: Sink>(
       after = O.taken out.new;
       out_faults = (O.faults out.old, O.faults out.new);
     } }
+    ensures flushed { IsOutOrFailed (O.taken out.old, O.flushed out.old) (O.taken out.new, O.flushed out.new) (O.faults out.old, O.faults out.new) }
     ensures later { O.faults out.old ≤ O.faults out.new }
 {
     if !spells_try(words) {
@@ -91,6 +104,7 @@ fn answer_form<E: Source, O: Sink>(alloc: Global, form: Form, events: &mut E, ou
     ensures answered { AnswersForm result form (E.left events.old) (E.left events.new) (O.taken out.old) (O.taken out.new) }
     ensures read { result ≡ Status.Answered Ending.ReadFault → Rose (E.faults events.old) (E.faults events.new) }
     ensures written { result ≡ Status.Answered Ending.SinkFault → Rose (O.faults out.old) (O.faults out.new) }
+    ensures flushed { IsOutOrFailed (O.taken out.old, O.flushed out.old) (O.taken out.new, O.flushed out.new) (O.faults out.old, O.faults out.new) }
     ensures later { O.faults out.old ≤ O.faults out.new }
 {
     match Session::start(alloc, form) {
@@ -102,6 +116,7 @@ fn answer_form<E: Source, O: Sink>(alloc: Global, form: Form, events: &mut E, ou
 // Writes the line for the status, and gives its number.
 fn finish<O: Sink>(alloc: Global, out: &mut O, status: Status) -> u8
     ensures finishes { Finishes status result (O.taken out.old) (O.taken out.new) (O.faults out.old) (O.faults out.new) }
+    ensures flushed { IsOutOrFailed (O.taken out.old, O.flushed out.old) (O.taken out.new, O.flushed out.new) (O.faults out.old, O.faults out.new) }
     ensures later { O.faults out.old ≤ O.faults out.new }
 {
     match status {
@@ -119,6 +134,7 @@ fn finish<O: Sink>(alloc: Global, out: &mut O, status: Status) -> u8
 fn finish_answers<O: Sink>(out: &mut O, ending: Ending) -> u8
     ensures number { result ≡ ending_code ending }
     ensures says { Says (O.taken out.old) (O.taken out.new) (ending_line ending) (O.faults out.old) (O.faults out.new) }
+    ensures flushed { IsOutOrFailed (O.taken out.old, O.flushed out.old) (O.taken out.new, O.flushed out.new) (O.faults out.old, O.faults out.new) }
     ensures later { O.faults out.old ≤ O.faults out.new }
 {
     match ending {
@@ -134,6 +150,7 @@ fn finish_answers<O: Sink>(out: &mut O, ending: Ending) -> u8
 fn say<O: Sink>(out: &mut O, line: &[u8], number: u8) -> u8
     ensures number { result ≡ number }
     ensures says { Says (O.taken out.old) (O.taken out.new) line.now (O.faults out.old) (O.faults out.new) }
+    ensures flushed { IsOutOrFailed (O.taken out.old, O.flushed out.old) (O.taken out.new, O.flushed out.new) (O.faults out.old, O.faults out.new) }
     ensures later { O.faults out.old ≤ O.faults out.new }
 {
     let _ = write_reply(out, line);

@@ -2,6 +2,10 @@
 use Rattle.std.proofs.Common.{◌≡◌, ℕ, true, false, List, [], ◌∷◌, codes, refl, pos, Some, None, Ok, Err}
 use Rattle.std.specs.Fmt.{digits}
 use Rattle.std.specs.Str.{is_utf8, chars}
+use Rattle.ucd_table.specs.Rows.{in_ranges}
+use Rattle.ucd_derived.specs.Binary.{is_xid_start, is_xid_continue}
+use Rattle.ucd_derived.specs.XidStartRanges.{xid_start_ranges}
+use Rattle.ucd_derived.specs.XidContinueRanges.{xid_continue_ranges}
 use Rattle.serde_json.proofs.OnLiterals.{serde_json_on_literals}
 use Rattle.xf_form.specs.declared.form.Form.{Form}
 use Rattle.xf_form.specs.declared.form.Held.TheVariants.{Elements, Value, Text}
@@ -9,7 +13,7 @@ use Rattle.xf_line.specs.declared.event.Event.TheVariants.{Set, Send}
 use Rattle.xf_line.specs.Line.{asked_by}
 use Rattle.xf_machine.specs.declared.refusal.Refusal.TheVariants.{NoSuchTarget, NotBuilt}
 use Rattle.xf_machine.specs.State.{State, started, step}
-use Rattle.xf_machine.specs.Replies.{answer, replies, ok_line, state_text, node_line}
+use Rattle.xf_machine.specs.Replies.{answer, replies, ok_line, id_text, state_text, node_line}
 
 -- one element with a text, and an input on it
 abbrev one : Form
@@ -42,8 +46,24 @@ unfolding digits
 accepted_and_counted = refl
 
 shown : state_text (one_with (codes "2") 1) ≡ codes "instance 1.1\n/d ew-v \"2\"\ncontrol a [] ew-v \"2\"\nend\n"
-unfolding serde_json_on_literals
+unfolding serde_json_on_literals chars is_xid_start is_xid_continue in_ranges xid_start_ranges xid_continue_ranges
 shown = refl
+
+a_name_part_is_printed_as_it_is : id_text (codes "a-1.b_c") ≡ codes "a-1.b_c"
+unfolding chars is_xid_start is_xid_continue in_ranges xid_start_ranges xid_continue_ranges
+a_name_part_is_printed_as_it_is = refl
+
+a_blank_is_quoted : id_text (codes "a []") ≡ codes "\"a []\""
+unfolding serde_json_on_literals chars is_xid_start is_xid_continue in_ranges xid_start_ranges xid_continue_ranges
+a_blank_is_quoted = refl
+
+a_line_feed_is_escaped : id_text (codes "a\nend") ≡ codes "\"a\\nend\""
+unfolding serde_json_on_literals chars is_xid_start is_xid_continue in_ranges xid_start_ranges xid_continue_ranges
+a_line_feed_is_escaped = refl
+
+no_id_is_quoted : id_text [] ≡ codes "\"\""
+unfolding serde_json_on_literals chars
+no_id_is_quoted = refl
 
 elements_have_no_text : node_line (record { path = codes "/d"; held = Elements; is_readonly = false }) ≡ codes "/d ew-v\n"
 elements_have_no_text = refl

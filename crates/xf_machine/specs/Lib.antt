@@ -1,4 +1,5 @@
 pub mod Calculated
 pub mod State
 pub mod Replies
+pub mod Outside
 pub mod Written

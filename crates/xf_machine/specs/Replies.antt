@@ -4,6 +4,7 @@ use Rattle.std.specs.List.{list_all}
 use Rattle.serde_json.specs.Data.{string}
 use Rattle.serde_json.specs.Written.{compact_text}
 use Rattle.xf_base.specs.Limits.{line_limit}
+use Rattle.xf_name.specs.Part.{is_part}
 use Rattle.xf_form.specs.declared.form.Held.{Held}
 use Rattle.xf_form.specs.declared.form.Held.TheVariants.{Elements, Value, Text}
 use Rattle.xf_form.specs.declared.form.DataNode.{DataNode}
@@ -49,9 +50,13 @@ abbrev pub value_in : Option DataNode → List ℕ
 value_in None = []
 value_in (Some node) = value_held node.held
 
+-- an id: as it is where it is a part of a name, any other as a JSON string, so that none forges a line or a field
+abbrev pub id_text : List ℕ → List ℕ
+id_text id = if is_part id then id else quoted id
+
 -- a line for a control
 abbrev pub control_line : List DataNode → Input → List ℕ
-control_line nodes input = codes "control " ++ input.id ++ codes " []" ++ marks (is_readonly_at nodes input.node) ++ codes " " ++ quoted (value_in (slice_get nodes input.node)) ++ codes "\n"
+control_line nodes input = codes "control " ++ id_text input.id ++ codes " []" ++ marks (is_readonly_at nodes input.node) ++ codes " " ++ quoted (value_in (slice_get nodes input.node)) ++ codes "\n"
 
 abbrev pub control_lines : List DataNode → List Input → List ℕ
 control_lines nodes [] = []

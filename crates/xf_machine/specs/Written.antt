@@ -2,7 +2,6 @@
 use Rattle.std.specs.Prelude.{◌≡◌, ◌<◌, ◌≤◌, ◌⊎◌, ℕ, List, [], ◌∷◌, ◌++◌, Some, None, Result, Ok, Err, codes, decimal, length, take, if◌then◌else◌, ◌==◌}
 use Rattle.std.specs.declared.option.Option.{Option as Known}
 use Rattle.std.specs.Io.KnownBytes.{Appends}
-use Rattle.xf_base.specs.Faults.{Rose}
 use Rattle.xf_base.specs.Limits.{stream_limit}
 use Rattle.xf_io.specs.Lines.{lines_of, ended_lines}
 use Rattle.xf_form.specs.Form.{form_in}
@@ -15,6 +14,7 @@ use Rattle.xf_machine.specs.declared.status.Status.{Status}
 use Rattle.xf_machine.specs.declared.status.Status.TheVariants.{Usage, Refused, Unread, NoRoom, Answered}
 use Rattle.xf_machine.specs.State.{State, started}
 use Rattle.xf_machine.specs.Replies.{replies}
+use Rattle.xf_machine.specs.Outside.{Outside, HasRisen, IsUntouched, IsFormUntouched, IsFormRead}
 
 -- ---- the answers to the lines of the events, before any line for the status
 
@@ -42,21 +42,6 @@ AnswersKnown ending first (Some events) (Some left) written = Answers ending fir
 
 -- ---- a whole run
 
--- what is known of the objects that a run is given: their bytes, where they tell them, and their faults before and after
-pub record Outside : Type 0 where
-  pub words : List (List ℕ)
-  pub form : Known (List ℕ)
-  pub form_faults : ℕ × ℕ
-  pub events : Known (List ℕ)
-  pub left : Known (List ℕ)
-  pub event_faults : ℕ × ℕ
-  pub before : Known (List ℕ)
-  pub after : Known (List ℕ)
-  pub out_faults : ℕ × ℕ
-
-abbrev pub HasRisen : ℕ × ℕ → Type 0
-HasRisen faults = Rose faults.0 faults.1
-
 -- the words are the one that spells the command
 abbrev pub SpellsTry : List (List ℕ) → Type 0
 SpellsTry words = words ≡ codes "try" ∷ []
@@ -71,10 +56,6 @@ abbrev pub FromForm : Known (List ℕ) → (State → Type 0) → Type 0
 FromForm None holds = Unit {0}
 FromForm (Some bytes) holds = (form : Form) × (form_in bytes ≡ Ok form) × holds (started form)
 
--- the events were not touched
-abbrev pub IsUntouched : Outside → Type 0
-IsUntouched outside = outside.left ≡ outside.events
-
 -- a fault is told only where the object that was handed in counted one
 abbrev pub HasCauseIn : Ending → Outside → Type 0
 HasCauseIn Done outside = Unit {0}
@@ -85,11 +66,11 @@ HasCauseIn Memory outside = Unit {0}
 
 -- when a run ends so, and what it has written then, the line for its status left out
 abbrev pub Writes : Status → Outside → List ℕ → Type 0
-Writes Usage outside written = ¬ SpellsTry outside.words × IsUntouched outside × (written ≡ [])
-Writes (Refused number place) outside written = SpellsTry outside.words × FormGives outside.form (Err (fault.Refused number place)) × IsUntouched outside × (written ≡ [])
-Writes Unread outside written = SpellsTry outside.words × HasRisen outside.form_faults × IsUntouched outside × (written ≡ [])
-Writes NoRoom outside written = SpellsTry outside.words × IsUntouched outside × (written ≡ [])
-Writes (Answered ending) outside written = SpellsTry outside.words × FromForm outside.form (λ first. AnswersKnown ending first outside.events outside.left written) × HasCauseIn ending outside
+Writes Usage outside written = ¬ SpellsTry outside.words × IsFormUntouched outside × IsUntouched outside × (written ≡ [])
+Writes (Refused number place) outside written = SpellsTry outside.words × FormGives outside.form (Err (fault.Refused number place)) × IsFormRead outside × IsUntouched outside × (written ≡ [])
+Writes Unread outside written = SpellsTry outside.words × HasRisen outside.form_faults × IsFormRead outside × IsUntouched outside × (written ≡ [])
+Writes NoRoom outside written = SpellsTry outside.words × IsFormRead outside × IsUntouched outside × (written ≡ [])
+Writes (Answered ending) outside written = SpellsTry outside.words × IsFormRead outside × FromForm outside.form (λ first. AnswersKnown ending first outside.events outside.left written) × HasCauseIn ending outside
 
 -- ---- the line for a status
 

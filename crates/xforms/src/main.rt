@@ -1,31 +1,57 @@
 //! The program: the real objects under their fixed names.
 #![tactic(auto)]
 
+use std::fs::File;
+use std::os::fd::AsRawFd;
 use std::process::ExitCode;
-use std::{env, io};
-use xf_cli::xforms;
+use std::{env, fs, io};
+use xf_cli::{no_room, xforms};
 use xf_io::{FileSource, ReaderSource, WriterSink};
 
 fn main(rt: HostRuntime) -> ExitCode {
     let alloc = rt.alloc();
-    let mut words = Vec::new(alloc);
-    match env::args(&rt) {
+    // They are open until the end, so that no file is opened in the place of a standard stream.
+    let _held = [hold_stream(&rt), hold_stream(&rt), hold_stream(&rt)];
+    let mut out = WriterSink::new(io::writer(&rt));
+    let Some(words) = read_words(&rt) else {
+        return ExitCode::from(no_room(&mut out));
+    };
+    let mut form = FileSource::new(&rt, "form.json");
+    let mut events = ReaderSource::new(rt.reader());
+    ExitCode::from(xforms(alloc, &words, &mut form, &mut events, &mut out))
+}
+
+// Takes the place of a standard stream that is closed, if one is, by a folder: what can neither be read nor written.
+fn hold_stream(rt: &HostRuntime) -> Option<File> {
+    match fs::open(rt, "/") {
+        Ok(folder) => {
+            if folder.as_raw_fd() <= 2 {
+                return Some(folder);
+            }
+            None
+        }
+        Err(_) => None,
+    }
+}
+
+// The words after the name of the program, or None for want of memory.
+fn read_words(rt: &HostRuntime) -> Option<Vec<String>> {
+    let mut words = Vec::new(rt.alloc());
+    match env::args(rt) {
         Ok(args) => {
             for word in args.skip(1) {
                 if words.push(word).is_err() {
-                    return ExitCode::from(9);
+                    return None;
                 }
             }
+            Some(words)
         }
         Err(error) => {
             if error.kind() == io::ErrorKind::OutOfMemory {
-                return ExitCode::from(9);
+                return None;
             }
             // A word that is not UTF-8 leaves no words, which spell no command.
+            Some(words)
         }
     }
-    let mut form = FileSource::new(&rt, "form.json");
-    let mut events = ReaderSource::new(rt.reader());
-    let mut out = WriterSink::new(io::writer(&rt));
-    ExitCode::from(xforms(alloc, &words, &mut form, &mut events, &mut out))
 }

@@ -1,7 +1,8 @@
-use Rattle.std.proofs.Common.{◌++◌, [], arith, sym, subst}
+use Rattle.std.proofs.Common.{◌++◌, [], arith, inl, inr, refl, sym, subst}
 use Rattle.std.proofs.KnownBytes.{Appends-nil, Appends-trans}
 use Rattle.xf_io.specs.Front.{AppendsFront}
 use Rattle.xf_cli.proofs.Progress.{begun, one_more, running_reply, ends_known, answers_cut, true_false}
+use Rattle.xf_cli.proofs.Flushing.{out_again}
 use Rattle.xf_cli.proofs.lines.answer_lines.Goals as goal
 
 pub loop-reply-init : goal.loop-reply-init
@@ -9,6 +10,7 @@ loop-reply-init g c = (
   [],
   record {
     progress = begun c.args.session.now (g.E.Source.left c.args.events.now) c.new-lines.result c.new-lines.ensures.bytes c.new-lines.ensures.given;
+    is_out = inl refl;
     appended = Appends-nil _;
     few = omega (arith, c.requires, c.new-lines.ensures.given);
     within = omega (arith, c.new-lines.ensures.given);
@@ -27,6 +29,7 @@ loop-reply-preserved g c =
         progress =
             one_more _ _ _ _ _ _ c.loop-reply.lines c.next_reply.new.lines so_far.0 c.as_bytes.result.now c.in-Reply.reply so_far.1.progress next.next (sym c.as_bytes.ensures.value)
             (running_reply c.loop-reply.lines.ended c.in-Reply.reply next.done) next.counts;
+        is_out = out_again _ _ _ so_far.1.is_out c.in-Ok.ensures.flushed;
         appended = Appends-trans _ _ _ so_far.0 c.as_bytes.result.now so_far.1.appended c.in-Ok.ensures.ok;
         few = omega (arith, so_far.1.few, next.few, next.moves);
         within = next.counts.within;
@@ -47,3 +50,6 @@ pub returns-in-Ends-clause-answered : goal.returns-in-Ends-clause-answered
 returns-in-Ends-clause-answered g c =
     let so_far = c.loop-reply.invariant in
     (so_far.0, ends_known c.in-Ends.ending _ _ _ _ _ _ c.loop-reply.lines c.next_reply.new.lines so_far.0 so_far.1.progress c.in-Ends.ensures.next c.in-Ends.ensures.done c.in-Ends.ensures.counts so_far.1.within, so_far.1.appended)
+
+pub returns-in-Ends-clause-flushed : goal.returns-in-Ends-clause-flushed
+returns-in-Ends-clause-flushed g c = inl c.loop-reply.invariant.1.is_out

@@ -1,6 +1,7 @@
 use Rattle.std.proofs.Common.{◌≡◌, ◌≤◌, ◌-◌, List, ℕ, true}
 use Rattle.std.specs.Io.KnownBytes.{Appends, IsAtEnd, prepend_known}
 use Rattle.xf_base.specs.Limits.{stream_limit}
+use Rattle.xf_machine.specs.Outside.{IsOut}
 use Rattle.xf_cli.proofs.Progress.{ProgressKnown}
 use Rattle.xf_cli.proofs.lines.answer_lines.Given as goal
 
@@ -10,6 +11,7 @@ invariant-loop-reply g l =
     let taken = g.O.Sink.taken in
     (done : List ℕ) × record {
       progress : ProgressKnown l.fn.session l.session (left l.fn.events) (prepend_known l.lines.bytes (left l.events)) l.lines done;
+      is_out : IsOut (taken l.fn.out, g.O.Sink.flushed l.fn.out) (taken l.out, g.O.Sink.flushed l.out);
       appended : Appends (taken l.fn.out) (taken l.out) done;
       few : l.session.accepted ≤ l.lines.given;
       within : l.lines.given ≤ stream_limit;
