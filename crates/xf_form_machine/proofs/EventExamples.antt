@@ -1,0 +1,81 @@
+-- Which handlers an event calls, what their default is, and when updates come.
+use Rattle.std.proofs.Common.{◌≡◌, ℕ, List, [], ◌∷◌, map, Option, Some, refl, codes}
+use Rattle.json.specs.Print.{escape_byte}
+use Rattle.xf_ast.specs.declared.action.Handler.{Handler}
+use Rattle.xf_line.specs.declared.event.Event.{Event}
+use Rattle.xf_line.specs.declared.event.Event.TheVariants.{Set, Activate, Dispatch, Reset}
+use Rattle.xf_form_machine.specs.declared.note.Note.{Note}
+use Rattle.xf_form_machine.specs.declared.note.Note.TheVariants.{Message}
+use Rattle.xf_form_machine.specs.Program.{Program}
+use Rattle.xf_form_machine.specs.State.{State}
+use Rattle.xf_form_machine.specs.Surround.{all_in}
+use Rattle.xf_doc.specs.StringValue.{string_value}
+use Rattle.xf_form_machine.specs.Start.{start}
+use Rattle.xf_form_machine.specs.Examples.{profile, stopping, cancelling}
+use Rattle.xf_form_machine.specs.ExampleOutcomes.{seen, given_out, then}
+use Rattle.xf_form_machine.specs.ExampleEvents.{way, resetting, changing}
+
+abbrev noted : Program → Event → Option (List Note)
+noted form event = given_out (λ g. g.notes) (then (start profile form []) event)
+
+abbrev says : List (List ℕ) → Option (List Note)
+says texts = Some (map Message texts)
+
+abbrev plain : Handler → Handler
+plain h = h
+
+-- ---- the way of an event
+
+abbrev at_x : Event
+at_x = Activate (codes "x") []
+
+down_and_up : noted (way plain) at_x ≡ says (codes "one" ∷ codes "two" ∷ codes "three" ∷ codes "four" ∷ [])
+unfolding escape_byte
+down_and_up = refl
+
+-- the other handler of the same observer is still called
+a_stop : noted (way stopping) at_x ≡ says (codes "one" ∷ codes "two" ∷ [])
+unfolding escape_byte
+a_stop = refl
+
+-- ---- defaults
+
+abbrev numbers : State → List ℕ
+numbers s = map (λ x. x.number) s.forest.nodes
+
+abbrev after : Program → Event → Option (List ℕ)
+after form event = seen numbers (then (start profile form []) event)
+
+-- the nodes are new ones
+a_reset : after (resetting plain) (Reset []) ≡ Some (5 ∷ 6 ∷ 7 ∷ 8 ∷ 9 ∷ 10 ∷ [])
+unfolding escape_byte
+a_reset = refl
+
+a_cancel : after (resetting cancelling) (Reset (codes "m")) ≡ Some (5 ∷ 0 ∷ 1 ∷ 2 ∷ 3 ∷ 4 ∷ [])
+unfolding escape_byte
+a_cancel = refl
+
+a_cancel_is_heard : noted (resetting cancelling) (Dispatch (codes "xforms-reset") (codes "m")) ≡ says (codes "reset" ∷ [])
+unfolding escape_byte
+a_cancel_is_heard = refl
+
+-- ---- rounds
+
+abbrev set_i : Event
+set_i = Set (codes "i") [] (codes "5")
+
+-- the change of a is told; its handler sets b, so that a second round tells the change of b
+the_second_round : noted changing set_i ≡ says (codes "b" ∷ [])
+unfolding escape_byte
+the_second_round = refl
+
+abbrev values : State → List (List ℕ)
+values s = map (λ n. string_value n (all_in s)) (1 ∷ 3 ∷ [])
+
+both_are_set : seen values (then (start profile changing []) set_i) ≡ Some (codes "5" ∷ codes "9" ∷ [])
+unfolding escape_byte
+both_are_set = refl
+
+-- nothing is told of the text that stands
+the_same_text : noted changing (Set (codes "i") [] (codes "1")) ≡ says []
+the_same_text = refl

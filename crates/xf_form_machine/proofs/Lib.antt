@@ -1,0 +1,9 @@
+mod RowExamples
+mod EventExamples
+mod TurnExamples
+mod PlaceExamples
+mod SendExamples
+mod StepExamples
+mod BindExamples
+mod ReplyExamples
+mod RestExamples

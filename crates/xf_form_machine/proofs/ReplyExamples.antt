@@ -1,0 +1,59 @@
+-- What is written.
+use Rattle.std.proofs.Common.{◌≡◌, true, false, [], ◌∷◌, Some, None, refl, codes}
+use Rattle.std.specs.Fmt.{digits}
+use Rattle.json.specs.Print.{escape_byte}
+use Rattle.xf_line.specs.declared.event.Event.TheVariants.{Set}
+use Rattle.xf_form_machine.specs.declared.limit.LimitWord.TheVariants as word
+use Rattle.xf_form_machine.specs.Refusal.{limit, circular, depth}
+use Rattle.xf_form_machine.specs.State.{State}
+use Rattle.xf_form_machine.specs.Construct.{unbuilt}
+use Rattle.xf_form_machine.specs.Step.{Outcome}
+use Rattle.xf_form_machine.specs.Start.{start}
+use Rattle.xf_form_machine.specs.ControlText.{state_text}
+use Rattle.xf_form_machine.specs.Replies.{refusal_texts, reply_outcome}
+use Rattle.xf_form_machine.specs.FormReplies.{form_texts, ready_text}
+use Rattle.xf_ui.specs.Interface as sort
+use Rattle.xf_form_machine.specs.Program.{Program}
+use Rattle.xf_form_machine.specs.Program as role
+use Rattle.xf_form_machine.specs.Examples.{profile, form, element, bound, model, instance, to}
+use Rattle.xf_form_machine.specs.ExampleOutcomes.{seen, then}
+use Rattle.xf_form_machine.specs.ExampleEvents.{pair}
+use Rattle.xf_form_machine.specs.ExampleBinds.{binding, b_by_a}
+
+abbrev first : Outcome
+first = start profile (binding (b_by_a ∷ [])) []
+
+abbrev no_state : State
+no_state = unbuilt profile (binding []) None
+
+-- an input on a, which has no id
+abbrev nameless : Program
+nameless = form
+    (element None (1 ∷ 3 ∷ []) sort.host role.other ∷ model (2 ∷ []) ∷ instance
+    ∷ bound (to (codes "a")) (element (Some 0) [] sort.field role.entry) ∷ []) (b_by_a ∷ []) [] [] pair
+
+the_state : seen (state_text profile) (start profile nameless [])
+    ≡ Some (codes "instance 1.1\n/d ew-v\n/d/a ew-v \"1\"\n/d/b e--v \"1\"\ncontrol #1 [] ew-v \"1\"\nend\n")
+unfolding escape_byte digits
+the_state = refl
+
+accepted : (reply_outcome true no_state (then first (Set (codes "i") [] (codes "5")))).texts ≡ codes "ok 1 1\n" ∷ []
+unfolding digits
+accepted = refl
+
+not_counted : (reply_outcome false no_state (then first (Set (codes "i") [] (codes "5")))).texts ≡ codes "ok 1\n" ∷ []
+unfolding digits
+not_counted = refl
+
+no_target : (reply_outcome true no_state (then first (Set (codes "j") [] (codes "5")))).texts ≡ codes "no E4 NoSuchTarget\n" ∷ []
+no_target = refl
+
+-- either word may be told
+several_limits : refusal_texts (limit (word.Nodes ∷ word.All ∷ [])) ≡ codes "no E11 Limit nodes" ∷ codes "no E11 Limit all" ∷ []
+several_limits = refl
+
+a_cycle : form_texts (circular (codes "/d/a" ∷ codes "/d/b" ∷ [])) ≡ codes "form F15 Circular /d/a /d/b" ∷ []
+a_cycle = refl
+
+not_ready : ready_text depth ≡ codes "form F18 Ready E13 Depth"
+not_ready = refl

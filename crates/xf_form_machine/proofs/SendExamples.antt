@@ -1,0 +1,111 @@
+-- How submissions end, by the answers of the store.
+use Rattle.std.proofs.Common.{◌≡◌, ℕ, List, [], ◌∷◌, Option, Some, refl, codes}
+use Rattle.std.specs.Str.{is_utf8, chars}
+use lib.Utf8.{encode}
+use Rattle.std.specs.Fmt.{digits}
+use Rattle.json.specs.Print.{escape_byte}
+use Rattle.xf_ast.specs.declared.form.Method.TheVariants.{Put, Get}
+use Rattle.xf_ast.specs.declared.form.Replace.TheVariants as replace
+use Rattle.xf_ast.specs.declared.form.Submission.{Submission}
+use Rattle.xf_doc.specs.StringValue.{string_value}
+use Rattle.xf_line.specs.declared.event.Event.TheVariants.{Send}
+use Rattle.xf_store.specs.declared.answers.Answer.{Answer}
+use Rattle.xf_store.specs.declared.answers.Answer.TheVariants as answer
+use Rattle.xf_store.specs.declared.call.Asked.TheVariants as asked
+use Rattle.xf_store.specs.declared.call.StoreCall.{StoreCall}
+use Rattle.xf_model.specs.Rules.{Rule}
+use Rattle.xf_form_machine.specs.declared.note.Note.{Note}
+use Rattle.xf_form_machine.specs.declared.note.Note.TheVariants.{Message, All}
+use Rattle.xf_form_machine.specs.State.{State}
+use Rattle.xf_form_machine.specs.Surround.{all_in}
+use Rattle.xf_form_machine.specs.Step.{Outcome}
+use Rattle.xf_form_machine.specs.Start.{start}
+use Rattle.xf_form_machine.specs.Examples
+use Rattle.xf_form_machine.specs.Examples.{profile}
+use Rattle.xf_form_machine.specs.ExampleOutcomes.{seen, given_out, then_with}
+use Rattle.xf_form_machine.specs.ExampleSends.{sending, submitting, one, nest, never_relevant, never_valid, never_open}
+
+abbrev sent : Submission → List Rule → Examples.Tree → List Answer → Outcome
+sent s rules document answers = then_with answers (start profile (submitting s rules document) []) (Send (codes "s"))
+
+abbrev notes : Outcome → Option (List Note)
+notes = given_out (λ g. g.notes)
+
+abbrev calls : Outcome → Option (List StoreCall)
+calls = given_out (λ g. g.calls)
+
+abbrev fails_by : List ℕ → Option (List Note)
+fails_by error = Some (Message error ∷ [])
+
+abbrev put_all : Submission
+put_all = sending Put replace.All (codes "o")
+
+-- ---- before the store is called
+
+no_data : notes (sent put_all never_relevant one []) ≡ fails_by (codes "no-data")
+unfolding escape_byte
+no_data = refl
+
+not_valid : notes (sent put_all never_valid one []) ≡ fails_by (codes "validation-error")
+unfolding escape_byte
+not_valid = refl
+
+-- a name that begins with a point
+no_name : notes (sent (sending Put replace.All (codes ".o")) [] one (answer.PutDone ∷ [])) ≡ fails_by (codes "resource-error")
+unfolding escape_byte
+no_name = refl
+
+not_called : calls (sent (sending Put replace.All (codes ".o")) [] one (answer.PutDone ∷ [])) ≡ Some []
+unfolding escape_byte
+not_called = refl
+
+-- ---- by the answer
+
+abbrev get_text : Submission
+get_text = sending Get replace.Text (codes "r")
+
+a_put : notes (sent put_all [] one (answer.PutDone ∷ [])) ≡ Some (All (codes "o") 0 ∷ Message (codes "done") ∷ [])
+unfolding escape_byte digits
+a_put = refl
+
+the_call : calls (sent put_all [] one (answer.PutDone ∷ [])) ≡ Some (record { name = codes "o"; asked = asked.Put []; answer = answer.PutDone } ∷ [])
+unfolding escape_byte digits
+the_call = refl
+
+a_failed_put : notes (sent put_all [] one (answer.Failed ∷ [])) ≡ fails_by (codes "resource-error")
+unfolding escape_byte
+a_failed_put = refl
+
+nothing_there : notes (sent get_text [] one (answer.Absent ∷ [])) ≡ fails_by (codes "resource-error")
+unfolding escape_byte
+nothing_there = refl
+
+-- no UTF-8
+not_a_text : notes (sent get_text [] one (answer.Found (255 ∷ []) ∷ [])) ≡ fails_by (codes "parse-error")
+unfolding escape_byte is_utf8 chars encode
+not_a_text = refl
+
+-- an element with element children, and a readonly one
+no_target : notes (sent get_text [] nest (answer.Found (codes "7") ∷ [])) ≡ fails_by (codes "target-error")
+unfolding escape_byte is_utf8 chars encode
+no_target = refl
+
+a_readonly_target : notes (sent get_text never_open one (answer.Found (codes "7") ∷ [])) ≡ fails_by (codes "target-error")
+unfolding escape_byte is_utf8 chars encode
+a_readonly_target = refl
+
+abbrev text : State → List ℕ
+text s = string_value 0 (all_in s)
+
+a_text_replaced : seen text (sent get_text [] one (answer.Found (codes "7") ∷ [])) ≡ Some (codes "7")
+unfolding escape_byte is_utf8 chars encode
+a_text_replaced = refl
+
+-- an empty response replaces nothing, and is no failure
+nothing_replaced : seen text (sent get_text [] one (answer.Found [] ∷ [])) ≡ Some (codes "1")
+unfolding escape_byte
+nothing_replaced = refl
+
+an_empty_response : notes (sent get_text [] one (answer.Found [] ∷ [])) ≡ Some (Message (codes "done") ∷ [])
+unfolding escape_byte
+an_empty_response = refl

@@ -1,0 +1,56 @@
+-- Turns and depth: `while`, `if`, and the budgets.
+use Rattle.std.proofs.Common.{◌≡◌, ℕ, true, List, [], ◌∷◌, map, Some, refl, codes}
+use Rattle.xf_num.specs.Number.{scale}
+use Rattle.json.specs.Print.{escape_byte}
+use Rattle.xf_line.specs.declared.event.Event.TheVariants.{Activate}
+use Rattle.xf_form_machine.specs.declared.limit.LimitWord.TheVariants as word
+use Rattle.xf_form_machine.specs.declared.note.Note.TheVariants.{Message}
+use Rattle.xf_form_machine.specs.Program.{Program, Work}
+use Rattle.xf_form_machine.specs.Program as work
+use Rattle.xf_form_machine.specs.State.{State}
+use Rattle.xf_form_machine.specs.Refusal.{limit, budget, depth}
+use Rattle.xf_form_machine.specs.Step.{Outcome}
+use Rattle.xf_form_machine.specs.Start.{start}
+use Rattle.xf_form_machine.specs.Examples.{profile, bound, during, given_that, to}
+use Rattle.xf_form_machine.specs.ExampleOutcomes.{seen, given_out, why, then}
+use Rattle.xf_form_machine.specs.ExampleEvents.{twice, as_it_is, insert_a, fewer_than, yes, no}
+
+abbrev activated : Program → Outcome
+activated form = then (start profile form []) (Activate (codes "x") [])
+
+-- ---- `while` and `if`
+
+abbrev indexes : State → List ℕ
+indexes s = map (λ i. i.index) s.indexes
+
+-- of one a three are made
+a_while_that_ends : seen indexes (activated (twice as_it_is (λ x. during (fewer_than 3) (bound (to (codes "a")) x)) insert_a work.all_in_it)) ≡ Some (3 ∷ [])
+unfolding scale
+a_while_that_ends = refl
+
+a_while_that_is_false : given_out (λ g. g.notes) (activated (twice (during no) as_it_is work.all_in_it work.message)) ≡ Some []
+a_while_that_is_false = refl
+
+a_false_if : given_out (λ g. g.notes) (activated (twice as_it_is (given_that no) work.message work.message)) ≡ Some (Message (codes "end") ∷ [])
+unfolding escape_byte
+a_false_if = refl
+
+a_true_if : given_out (λ g. g.notes) (activated (twice as_it_is (given_that yes) work.message work.message)) ≡ Some (Message [] ∷ Message (codes "end") ∷ [])
+unfolding escape_byte
+a_true_if = refl
+
+-- ---- budgets
+
+no_end : why (activated (twice (during yes) as_it_is work.all_in_it work.all_in_it)) ≡ Some budget
+no_end = refl
+
+abbrev again : Work
+again = work.dispatch (record { name = codes "DOMActivate"; target = 3; bubbles = true; is_cancelable = true })
+
+too_deep : why (activated (twice as_it_is as_it_is again work.all_in_it)) ≡ Some depth
+too_deep = refl
+
+-- notes of 18 bytes each
+too_many_notes : why (activated (twice (during yes) as_it_is work.message work.message)) ≡ Some (limit (word.Notes ∷ []))
+unfolding escape_byte
+too_many_notes = refl

@@ -1,0 +1,35 @@
+-- Dispatch (DOM Level 2 Events, section 1.2): the handlers of an event in order, then its default action, by recursion on the depth that is
+-- left. Where no action and no update is running, an update falls due after each handler and after the default action.
+use Rattle.std.specs.Prelude.{ℕ, zero, suc, Bool, false}
+use Rattle.xf_ui.specs.Calls.{calls}
+use Rattle.xf_form_machine.specs.Profile.{Profile}
+use Rattle.xf_form_machine.specs.Refusal.{depth, refused}
+use Rattle.xf_form_machine.specs.Flow.{Run, ◌>>=◌, when, in_turn}
+use Rattle.xf_form_machine.specs.Surround.{interface}
+use Rattle.xf_form_machine.specs.Primitives.{spend}
+use Rattle.xf_form_machine.specs.Update.{update}
+use Rattle.xf_form_machine.specs.Events.{Fired, Tell}
+use Rattle.xf_form_machine.specs.Act.{act}
+use Rattle.xf_form_machine.specs.Default.{default}
+
+-- what is dispatched further in, and whether no action and no update is running then
+abbrev pub Further : Type 0
+Further = Bool → Tell
+
+-- an action runs inside the handler
+abbrev pub handle : Profile → Further → Bool → Fired → ℕ → Run
+handle p further is_idle e n s = act p (further false) e n s >>= when is_idle (update p (further false))
+
+-- a default action is no action
+abbrev pub after_all : Profile → Further → Bool → Fired → Run
+after_all p further is_idle e s = default p (further is_idle) e s >>= when is_idle (update p (further false))
+
+abbrev pub handled : Profile → Further → Bool → Fired → Run
+handled p further is_idle e s =
+    let called = calls (interface s) e.event in
+    in_turn (handle p further is_idle e) called.handlers s >>= when called.with_default (after_all p further is_idle e)
+
+-- a turn is spent before the depth is asked for
+abbrev pub dispatch : Profile → ℕ → Further
+dispatch p zero is_idle e s = spend s >>= refused depth
+dispatch p (suc left) is_idle e s = spend s >>= handled p (dispatch p left) is_idle e

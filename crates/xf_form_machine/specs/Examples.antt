@@ -1,0 +1,138 @@
+-- Small forms to read beside the definitions, with small budgets.
+use Rattle.std.specs.Prelude.{ℕ, true, false, List, [], ◌∷◌, map, Option, Some, None}
+use Rattle.xf_name.specs.Bindings.{no_bindings}
+use Rattle.xf_ast.specs.declared.action.Handler.{Handler}
+use Rattle.xf_ast.specs.declared.action.Phase.TheVariants.{Capture, Default}
+use Rattle.xf_ast.specs.declared.element.Part.TheVariants as part
+use Rattle.xf_doc.specs.declared.content.Content.{Content}
+use Rattle.xf_doc.specs.declared.content.Content.TheVariants.{Text}
+use Rattle.xf_doc.specs.declared.content.Content.TheVariants as content
+use Rattle.xf_doc.specs.Examples.{plain}
+use Rattle.xf_lang.specs.Setting.{Meaning}
+use Rattle.xf_lang.specs.Examples.{functions, path, child, here, call, literal}
+use Rattle.xf_model.specs.Rules.{Rule}
+use Rattle.xf_ui.specs.Interface.{Sort, Element, Interface, Bound, nodes, unbound}
+use Rattle.xf_ui.specs.Interface as sort
+use Rattle.xf_form_machine.specs.Program.{Work, Role, Program}
+use Rattle.xf_form_machine.specs.Program as role
+use Rattle.xf_form_machine.specs.Profile.{Profile}
+
+-- every type is met; small budgets
+abbrev pub profile : Profile
+profile = record {
+  functions = functions;
+  meets = λ kind text. true;
+  decimals = 6;
+  bounds = record { string = 1000; limits = record { nodes = 40; text = 10; all = 200; depth = 5 } };
+  turns = 12;
+  depth = 3;
+  sends = 2;
+  passes = 4;
+  notes = 80;
+  made = 100;
+  controls = 20;
+  edges = 100;
+}
+
+-- ---- expressions
+
+abbrev pub to : List ℕ → Meaning
+to name = (path (child name ∷ [])).meaning
+
+abbrev pub itself : Meaning
+itself = (path (here false ∷ [])).meaning
+
+-- `index('ID')`, `event('NAME')`
+abbrev pub index_of : List ℕ → Meaning
+index_of id = (call 17 (literal id ∷ [])).meaning
+
+abbrev pub event_of : List ℕ → Meaning
+event_of name = (call 13 (literal name ∷ [])).meaning
+
+-- ---- elements, each with what it is for the machine
+
+abbrev pub Part : Type 0
+Part = Element × Role
+
+abbrev pub element : Option ℕ → List ℕ → Sort → Role → Part
+element parent ns is as_what = (record { id = []; parent = parent; parts = map part.Element ns; model = None; binding = unbound; sort = is }, as_what)
+
+abbrev pub bound : Meaning → Part → Part
+bound m x = (record x.0 { binding = nodes m }, x.1)
+
+abbrev pub named : List ℕ → Part → Part
+named id x = (record x.0 { id = id }, x.1)
+
+abbrev pub saying : List ℕ → Part → Part
+saying text x = (record x.0 { parts = part.Text text ∷ [] }, x.1)
+
+-- a handler of an observer, and an action in another one
+abbrev pub handler : List ℕ → ℕ → Handler
+handler event observer = record { event = event; observer = Some observer; target = None; phase = Default; stops = false; cancels = false }
+
+-- a handler with more written of it
+abbrev pub heard : (Handler → Handler) → Sort → Sort
+heard more (sort.action (Some h)) = sort.action (Some (more h))
+heard more is = is
+
+abbrev pub with_handler : (Handler → Handler) → Part → Part
+with_handler more x = (record x.0 { sort = heard more x.0.sort }, x.1)
+
+abbrev pub capturing : Handler → Handler
+capturing h = record h { phase = Capture }
+
+abbrev pub stopping : Handler → Handler
+stopping h = record h { stops = true }
+
+abbrev pub cancelling : Handler → Handler
+cancelling h = record h { cancels = true }
+
+abbrev pub doing : Work → Role
+doing work = role.action (record { condition = None; repetition = None; work = work })
+
+abbrev pub on : List ℕ → ℕ → List ℕ → Work → Part
+on event observer ns work = element (Some observer) ns (sort.action (Some (handler event observer))) (doing work)
+
+abbrev pub inner : ℕ → Work → Part
+inner around work = element (Some around) [] (sort.action None) (doing work)
+
+abbrev pub during : Meaning → Part → Part
+during test (x, role.action a) = (x, role.action (record a { repetition = Some test }))
+during test x = x
+
+abbrev pub given_that : Meaning → Part → Part
+given_that test (x, role.action a) = (x, role.action (record a { condition = Some test }))
+given_that test x = x
+
+-- ---- data
+
+abbrev pub Tree : Type 0
+Tree = List (ℕ × Content)
+
+abbrev pub element_at : ℕ → List ℕ → ℕ × Content
+element_at depth name = (depth, content.Element (plain name))
+
+abbrev pub text_at : ℕ → List ℕ → ℕ × Content
+text_at depth text = (depth, Text text)
+
+-- ---- a form of one model with one instance: the root is element 0, the model 1, the instance 2
+
+abbrev pub instance : Part
+instance = element (Some 1) [] sort.other role.other
+
+abbrev pub model : List ℕ → Part
+model ns = element (Some 0) ns sort.other (role.model 0)
+
+abbrev pub form : List Part → List Rule → List ℕ → List ℕ → Tree → Program
+form parts rules repeats switches document = record {
+  interface = record { elements = map (λ x. x.0) parts; repeats = repeats; switches = switches; bind_models = map (λ r. r.model) rules };
+  roles = map (λ x. x.1) parts;
+  rules = rules;
+  instances = record { model = 0; id = []; place = []; space = 0 } ∷ [];
+  submissions = [];
+  model_elements = 1 ∷ [];
+  instance_elements = 2 ∷ [];
+  submission_elements = [];
+  bindings = no_bindings;
+  documents = document ∷ [];
+}

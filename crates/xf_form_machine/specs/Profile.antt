@@ -1,0 +1,46 @@
+-- What the machine is given beside a form: the functions of expressions, the rule of types, and each budget and limit.
+use Rattle.std.specs.Prelude.{ℕ, ◌^◌}
+use Rattle.xf_base.specs.Limits.{answer_limit}
+use Rattle.xf_plain_values.specs.Functions.{Functions}
+use Rattle.xf_model.specs.Properties.{Meets}
+use Rattle.xf_model.specs.Settled.{Bounds, bounds}
+
+pub record Profile : Type 0 where
+  pub functions : Functions
+  -- whether a text meets a type
+  pub meets : Meets
+  -- how many decimals numbers have
+  pub decimals : ℕ
+  -- those of strings, and of the forest
+  pub bounds : Bounds
+  -- the turns of one event, how deep its dispatches nest, and its calls of the store
+  pub turns : ℕ
+  pub depth : ℕ
+  pub sends : ℕ
+  -- passes over the indexes at one time
+  pub passes : ℕ
+  -- bytes of note lines in one event
+  pub notes : ℕ
+  -- nodes made in one event
+  pub made : ℕ
+  -- control copies and items
+  pub controls : ℕ
+  -- what all entries read and look at
+  pub edges : ℕ
+
+-- those of every form: budgets, limits and decimals, over the functions and the rule of types that a processor has
+abbrev pub usual : Functions → Meets → Profile
+usual functions meets = record {
+  functions = functions;
+  meets = meets;
+  decimals = 6;
+  bounds = bounds;
+  turns = 50000;
+  depth = 64;
+  sends = answer_limit;
+  passes = 64;
+  notes = 2 ^ 20;
+  made = 2 ^ 32;
+  controls = 65536;
+  edges = 2 ^ 23;
+}

@@ -1,0 +1,117 @@
+-- One step of the machine: an event from outside is tried, changes what it names, and what is due is done; then the detached trees are dropped.
+use Rattle.std.specs.Prelude.{ℕ, suc, Bool, true, false, not, ◌&&◌, List, [], ◌∷◌, length, codes, nat_le, Option, Some, Result, Ok, Err}
+use Rattle.xf_line.specs.declared.event.Event.{Event}
+use Rattle.xf_line.specs.declared.event.Event.TheVariants.{Set, Activate, Index, Send, Dispatch, Reset}
+use Rattle.xf_store.specs.declared.answers.Answer.{Answer}
+use Rattle.xf_store.specs.declared.call.StoreCall.{StoreCall}
+use Rattle.xf_doc.specs.Changes.{in_instances}
+use Rattle.xf_ui.specs.Copies.{Copy}
+use Rattle.xf_ui.specs.Elements.{element_at}
+use Rattle.xf_ui.specs.Index.{rows_now}
+use Rattle.xf_form_machine.specs.declared.note.Note.{Note}
+use Rattle.xf_form_machine.specs.Profile.{Profile}
+use Rattle.xf_form_machine.specs.State.{State}
+use Rattle.xf_form_machine.specs.Refusal.{Refusal, Refused, disabled, readonly, not_an_item, bad_index, or_long}
+use Rattle.xf_form_machine.specs.Flow.{Run, ◌>>=◌, where_some}
+use Rattle.xf_form_machine.specs.Surround.{interface, quiet}
+use Rattle.xf_form_machine.specs.SetValue.{set_node}
+use Rattle.xf_form_machine.specs.Choose.{named_copy, set_index}
+use Rattle.xf_form_machine.specs.Events.{Fired, fired, plainly, model_element}
+use Rattle.xf_form_machine.specs.Update.{update}
+use Rattle.xf_form_machine.specs.Dispatch.{dispatch}
+use Rattle.xf_form_machine.specs.Targets.{element_named, is_entry, is_trigger, is_model, is_submission, by_role, is_repeat_in, or_no_target, copy_named, unless, takes_text, model_around, take_rows}
+
+-- ---- what every event does
+
+-- what is due after the change of the event itself
+abbrev pub settle : Profile → Run
+settle p s = update p (dispatch p p.depth false) s
+
+-- the outermost dispatch
+abbrev pub tell : Profile → Fired → Run
+tell p e s = dispatch p p.depth true e s
+
+-- ---- each event
+
+abbrev pub set_bound : Profile → List ℕ → Option ℕ → Run
+set_bound p text bound s = where_some bound (λ n. set_node p n text) s
+
+-- tried in this order: the control is enabled, its node is not readonly, its items allow the text
+abbrev pub try_set : ℕ → Copy → List ℕ → Run
+try_set n c text s =
+    unless (not c.enabled) disabled s >>= unless (not c.readwrite) readonly
+    >>= unless (not (takes_text (element_at (interface s) n).sort c text)) not_an_item
+
+abbrev pub set : Profile → ℕ → List ℕ → List ℕ → Run
+set p n rows text s =
+    copy_named p s n rows >>= λ c. try_set n c text s >>= take_rows p n rows >>= set_bound p text c.node >>= settle p
+
+abbrev pub activate : Profile → ℕ → List ℕ → Run
+activate p n rows s =
+    copy_named p s n rows >>= λ c. unless (not c.enabled) disabled s >>= take_rows p n rows >>= settle p
+    >>= tell p (plainly (codes "DOMActivate") n c.rows)
+
+abbrev pub is_row : List ℕ → ℕ → Bool
+is_row rows k = nat_le 1 k && nat_le k (length rows)
+
+abbrev pub index : Profile → ℕ → ℕ → Run
+index p r k s =
+    or_long s (rows_now (interface s) (quiet p s) s.indexes r) >>= λ rows. unless (not (is_row rows k)) bad_index s
+    >>= set_index p (model_around (interface s) r) r k >>= settle p
+
+-- to the copy in the indexed rows: where an index is 0 there is none, and nothing is told
+abbrev pub to_copy : Profile → (State → List ℕ → Fired) → ℕ → Run
+to_copy p event n s = where_some (named_copy s n) (λ rows t. tell p (event t rows) t) s
+
+abbrev pub to_element : Profile → List ℕ → ℕ → Run
+to_element p name n = to_copy p (λ s rows. fired name true true [] n rows) n
+
+-- the empty text names the first model
+abbrev pub model_named : State → List ℕ → Option ℕ
+model_named s [] = Some (model_element s 0)
+model_named s (b ∷ bs) = element_named s (by_role s is_model) (b ∷ bs)
+
+abbrev pub changed_by : Profile → Event → Run
+changed_by p (Set id rows text) s = or_no_target s (element_named s (by_role s is_entry) id) >>= λ n. set p n rows text s
+changed_by p (Activate id rows) s = or_no_target s (element_named s (by_role s is_trigger) id) >>= λ n. activate p n rows s
+changed_by p (Index id k) s = or_no_target s (element_named s (is_repeat_in s) id) >>= λ r. index p r k s
+changed_by p (Send id) s = or_no_target s (element_named s (by_role s is_submission) id) >>= λ n. to_element p (codes "xforms-submit") n s
+changed_by p (Dispatch name id) s = or_no_target s (element_named s (λ n. true) id) >>= λ n. to_element p name n s
+changed_by p (Reset id) s = or_no_target s (model_named s id) >>= λ n. to_element p (codes "xforms-reset") n s
+
+-- ---- the step
+
+-- with a whole budget, and these answers of the store to come
+abbrev pub fresh : Profile → List Answer → State → State
+fresh p answers s = record s { notes = []; turns = p.turns; made = 0; evaluated = 0; calls = []; to_come = Some answers }
+
+-- what an accepted event gives out
+pub record Posted : Type 0 where
+  pub notes : List Note
+  -- the evaluations that its recalculations counted
+  pub evaluated : ℕ
+  pub calls : List StoreCall
+
+abbrev pub posted : State → Posted
+posted s = record { notes = s.notes; evaluated = s.evaluated; calls = s.calls }
+
+-- the detached trees are dropped, and nothing of the event is left
+abbrev pub at_end : Profile → State → State
+at_end p s = fresh p [] (record s { forest = record s.forest { nodes = in_instances s.forest.nodes } })
+
+pub data Outcome : Type 0 where
+  -- with the new state
+  accepted : State → Posted → Outcome
+  -- with the calls of the store that were made; the old state stands
+  refused : Refusal → List StoreCall → Outcome
+
+abbrev pub outcome : (State → State) → Result State Refused → Outcome
+outcome ended (Err r) = refused r.why r.calls
+outcome ended (Ok s) = accepted (ended s) (posted s)
+
+abbrev pub one_more : State → State
+one_more s = record s { accepted = suc s.accepted }
+
+-- the event over answers of the store
+abbrev pub step : Profile → State → Event → List Answer → Outcome
+step p s event answers = outcome (λ t. one_more (at_end p t)) (changed_by p event (fresh p answers s))

@@ -1,0 +1,86 @@
+-- What surrounds the expressions of a form in a state (XForms 1.1, section 7), and in which instance and model a node stands.
+use Rattle.std.specs.Prelude.{ℕ, List, [], ◌∷◌, Option, Some, None, option_map, option_and_then, slice_get}
+use Rattle.std.specs.List.{flat_map}
+use Rattle.xf_ast.specs.declared.form.Instance.{Instance}
+use Rattle.xf_ast.specs.Ordered.{numbered_from}
+use Rattle.xf_doc.specs.Visit.{Visit, visits, first_of, top_of, children_of}
+use Rattle.xf_doc.specs.Changes.{root_of}
+use Rattle.xf_doc.specs.Order.{instance_of}
+use Rattle.xf_lang.specs.declared.value.Value.{Value}
+use Rattle.xf_lang.specs.Given.{Document, Given}
+use Rattle.xf_model.specs.Rules.{Scope}
+use Rattle.xf_model.specs.Nested.{nested}
+use Rattle.xf_ui.specs.Interface.{Interface}
+use Rattle.xf_ui.specs.Around.{Around}
+use Rattle.xf_ui.specs.Index.{named_indexes}
+use Rattle.xf_form_machine.specs.Profile.{Profile}
+use Rattle.xf_form_machine.specs.State.{State}
+
+-- the properties of an event that is handled
+abbrev pub Told : Type 0
+Told = List (List ℕ × Value)
+
+abbrev pub interface : State → Interface
+interface s = s.form.interface
+
+abbrev pub instances_in : State → List Instance
+instances_in s = s.form.instances
+
+abbrev pub all_in : State → List Visit
+all_in s = visits s.forest.nodes
+
+-- ---- instances
+
+abbrev pub document_under : State → Option ℕ → Option ℕ
+document_under s None = None
+document_under s (Some root) = first_of (children_of root (all_in s))
+
+-- the document element of an instance
+abbrev pub document_at : State → ℕ → Option ℕ
+document_at s place = document_under s (root_of place s.forest.nodes)
+
+abbrev pub document_in : Instance → Option ℕ → List Document
+document_in i None = []
+document_in i (Some n) = record { model = i.model; id = i.id; element = n } ∷ []
+
+abbrev pub documents : State → List Document
+documents s = flat_map (λ i. document_in i.1 (document_at s i.0)) (numbered_from 0 (instances_in s))
+
+-- the instance in which a node stands: none for a node of a detached tree
+abbrev pub instance_holding : State → ℕ → Option ℕ
+instance_holding s n = instance_of (top_of n (all_in s)) s.forest.nodes
+
+abbrev pub model_of_instance : State → ℕ → Option ℕ
+model_of_instance s place = option_map (λ i. i.model) (slice_get (instances_in s) place)
+
+-- the model whose instance holds a node
+abbrev pub model_holding : State → ℕ → Option ℕ
+model_holding s n = option_and_then (model_of_instance s) (instance_holding s n)
+
+-- ---- surroundings
+
+abbrev pub given : Profile → State → Option Told → Given
+given p s event = record {
+  documents = documents s;
+  indexes = named_indexes (interface s) s.indexes;
+  event = event;
+  bindings = s.form.bindings;
+  decimals = p.decimals;
+}
+
+-- of the binds of a model: outside an event
+abbrev pub scope : Profile → State → ℕ → Scope
+scope p s model = record { functions = p.functions; given = given p s None; model = model; rules = s.form.rules }
+
+abbrev pub around : Profile → State → Option Told → Around
+around p s event = record {
+  functions = p.functions;
+  most = Some p.bounds.string;
+  given = given p s event;
+  all = all_in s;
+  bound = λ k. nested (Some p.bounds.string) (scope p s 0) (all_in s) k;
+}
+
+-- outside an event
+abbrev pub quiet : Profile → State → Around
+quiet p s = around p s None

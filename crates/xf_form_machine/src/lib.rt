@@ -1,0 +1,9 @@
+//! What the form machine does: its state, its changes, actions, updates, submissions, a step, a run, replies. Definitions, and the types in
+//! which they answer.
+#![tactic(auto)]
+
+mod limit;
+mod note;
+
+pub use limit::LimitWord;
+pub use note::{Note, Notes};
