@@ -5,8 +5,8 @@
 set -euo pipefail
 here=$(cd "$(dirname "$0")" && pwd)
 top=$(cd "$here/../.." && pwd)
-crate=${1:-xf_tree}
-test=${2:-tests_memory::a_change_without_memory_leaves_the_forest}
+crate=${1:-xf_forest_tests}
+test=${2:-memory::a_change_without_memory_leaves_the_forest}
 program="$top/crates/$crate/out/${crate}_tests"
 work=$(mktemp -d)
 trap 'rm -rf "$work"' EXIT

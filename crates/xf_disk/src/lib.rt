@@ -15,6 +15,3 @@ pub use file::FileDisk;
 pub use fused::FusedDisk;
 pub use memory::{Call, MemoryDisk};
 pub use slot::Slot;
-
-#[cfg(test)]
-mod tests;

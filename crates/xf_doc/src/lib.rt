@@ -10,6 +10,3 @@ pub use bare::{Bare, BareAttribute, BareAttributeList, BareElement, BareList};
 pub use content::{Content, Kind, Name, Node};
 pub use fault::TreeFault;
 pub use node::{NodeId, NodeList};
-
-#[cfg(test)]
-mod tests;

@@ -8,8 +8,6 @@ mod links;
 mod marks;
 mod order;
 mod peel;
-#[cfg(test)]
-mod tests;
 mod vertices;
 mod walk;
 

@@ -19,6 +19,3 @@ pub use memory::{MemorySink, MemorySource};
 pub use real::{FileSource, ReaderSource, WriterSink};
 pub use sink::{Sink, write_all};
 pub use source::{Failed, Source};
-
-#[cfg(test)]
-mod tests;

@@ -19,6 +19,3 @@ pub use image::{Image, Scanned};
 pub use journal::Journal;
 pub use new_journal::create;
 pub use opening::scan;
-
-#[cfg(test)]
-mod tests;

@@ -8,6 +8,3 @@ mod reading;
 pub use fault::JsonFault;
 pub use printing::print;
 pub use reading::{read, value_of};
-
-#[cfg(test)]
-mod tests;

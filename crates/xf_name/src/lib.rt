@@ -19,6 +19,3 @@ pub use part::{at_colon, begins_part, continues_part, is_part};
 pub use prefixes::Prefixes;
 pub use qname::QName;
 pub use word::Word;
-
-#[cfg(test)]
-mod tests;

@@ -17,6 +17,3 @@ pub use folder::FolderStore;
 pub use got::{GOT_MOST, GetFault, Got};
 pub use memory::MemoryStore;
 pub use store::Store;
-
-#[cfg(test)]
-mod tests;

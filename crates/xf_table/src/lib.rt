@@ -18,6 +18,3 @@ pub mod types;
 
 pub use look_up::{find, is_ordered};
 pub use row::Row;
-
-#[cfg(test)]
-mod tests;

@@ -24,8 +24,6 @@ mod path;
 mod pieces;
 mod plant;
 mod plant_bare;
-#[cfg(test)]
-mod played;
 mod print;
 mod read;
 mod root;
@@ -36,18 +34,10 @@ mod shown;
 mod siblings;
 mod slot;
 mod spaces;
-#[cfg(test)]
-mod tests;
-#[cfg(test)]
-mod tests_memory;
-#[cfg(test)]
-mod tests_texts;
 mod text;
 mod top;
 mod tree;
 mod walk;
-#[cfg(test)]
-mod written;
 
 pub use before::Before;
 pub use forest::Forest;

@@ -4,10 +4,6 @@
 mod draft;
 mod entry;
 mod ledger;
-#[cfg(test)]
-mod played;
-#[cfg(test)]
-mod tests;
 
 pub use draft::Draft;
 pub use entry::Change;

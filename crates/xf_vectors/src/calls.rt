@@ -1,6 +1,6 @@
 //! The crates that cases call.
 
-use crate::{dates, functions, numbers, types};
+use crate::{dates, functions, graphs, json, names, numbers, tables, trees, types};
 use std::alloc::{AllocError, Global};
 use xf_name::Word;
 
@@ -14,6 +14,12 @@ pub fn answer(alloc: Global, name: &str, call: &str, given: &[Word]) -> Answer {
         "xf_types" => types::answer(alloc, call, given),
         "xf_dates" => dates::answer(alloc, call, given),
         "xf_funcs" => functions::answer(alloc, call, given),
+        "xf_path" => trees::answer(alloc, call, given),
+        "xf_json" => json::answer(alloc, call, given),
+        "xf_name" => names::answer(alloc, call, given),
+        "xf_table" => tables::answer(alloc, call, given),
+        "xf_line" => json::line_answer(alloc, call, given),
+        "xf_graph" => graphs::answer(alloc, call, given),
         _ => Ok(None),
     }
 }

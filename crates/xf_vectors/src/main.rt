@@ -8,16 +8,24 @@
 mod calls;
 mod dates;
 mod functions;
+mod graphs;
+mod json;
+mod names;
 mod numbers;
 mod report;
 mod sheet;
+mod tables;
+mod trees;
 mod types;
 
 use anyhow::Result;
 use std::io;
 
 /// The crates that are called, in the order of the report.
-const NAMES: [&str; 4] = ["xf_num", "xf_types", "xf_dates", "xf_funcs"];
+const NAMES: [&str; 10] = [
+    "xf_num", "xf_types", "xf_dates", "xf_funcs", "xf_path", "xf_json", "xf_name", "xf_table",
+    "xf_line", "xf_graph",
+];
 
 fn main(rt: HostRuntime) -> Result<()> {
     let alloc = rt.alloc();

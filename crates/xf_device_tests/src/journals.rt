@@ -1,10 +1,10 @@
 //! The bytes of slots, by hand; the disk calls of an append; and each stop of one `create` and one `append`.
 
-use super::*;
 use std::alloc::{AllocError, Global};
 use std::test::Fail;
 use xf_disk::{Call, Disk, FusedDisk, MemoryDisk, Slot};
 use xf_io::Bytes;
+use xf_journal::*;
 use xf_store::{Answer, Answers};
 
 const FORM: &[u8; 123] =

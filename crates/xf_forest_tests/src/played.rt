@@ -2,12 +2,12 @@
 ghost use Rattle.std.specs.Prelude.{IsTrue};
 ghost use Rattle.xf_tree.specs.Print.{MayPrint};
 
-use crate::Forest;
 use crate::written::{Part, push_number, push_tree, tree};
 use std::alloc::Global;
 use std::test::Fail;
 use xf_doc::{Kind, NodeId, NodeList, TreeFault};
 use xf_name::{Axis, Prefixes, collect};
+use xf_tree::Forest;
 
 /// A change or a question. What it writes is a word: a number, a text or a fault, or `no` where the change may not be made.
 #[derive(Clone, Copy)]

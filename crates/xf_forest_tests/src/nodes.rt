@@ -1,5 +1,5 @@
-use crate::{NodeId, NodeList};
 use std::test::Fail;
+use xf_doc::{NodeId, NodeList};
 
 fn node(number: u128, place: usize) -> NodeId {
     NodeId { number, place }

@@ -3,11 +3,11 @@ ghost use Rattle.std.specs.Prelude.{◌≡◌};
 ghost use Rattle.std.specs.List.{list_all};
 ghost use Rattle.xf_store.specs.Replies.{is_short};
 
-use super::*;
 use std::alloc::{AllocError, Global};
 use std::test::Fail;
 use std::{env, fs};
 use xf_io::{Bytes, Failed};
+use xf_store::*;
 
 #[test]
 fn a_store_in_memory_keeps_the_last_bytes_of_a_name(rt: HostRuntime) -> Result<(), Fail> {

@@ -1,12 +1,12 @@
 //! Changes that are refused for want of memory.
-use crate::Forest;
 use crate::played::{Stage, Step};
-use crate::tests::{PLAIN, ROWS};
+use crate::trees::{PLAIN, ROWS};
 use crate::written::push_number;
 use std::alloc::{AllocError, AllocGlobal, Global};
 use std::process::Abort;
 use std::test::Fail;
 use xf_doc::NodeId;
+use xf_tree::Forest;
 
 // 0 to 6 come as the tree of ROWS, 7 is its root, 8 to 14 are the same tree out of the bare one, 15 to 19 the copy of its row, and
 // 20 is the new text of the first row.

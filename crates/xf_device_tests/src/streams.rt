@@ -1,9 +1,9 @@
-use crate::{
+use std::alloc::{AllocError, Global};
+use std::test::Fail;
+use xf_io::{
     FileSource, Line, Lines, MemorySink, MemorySource, ReaderSource, Sink, Source, WriterSink,
     write_all,
 };
-use std::alloc::{AllocError, Global};
-use std::test::Fail;
 
 fn source(alloc: Global, text: &str, fails: &[u64]) -> Result<MemorySource, AllocError> {
     Ok(MemorySource::new(text.as_bytes().to_vec(alloc)?, fails.to_vec(alloc)?))

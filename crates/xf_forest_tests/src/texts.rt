@@ -1,6 +1,6 @@
 //! Worked texts, limits and printed trees.
 use crate::played::{Step, play};
-use crate::tests::{FORM, ONE, PLAIN, ROWS, assert_play};
+use crate::trees::{FORM, ONE, PLAIN, ROWS, assert_play};
 use crate::written::Part;
 use std::process::Abort;
 use std::test::Fail;

@@ -1,5 +1,4 @@
 //! Steps played on a draft, and what they write: a test is a list of steps and the text that it expects.
-use crate::draft::Draft;
 use std::alloc::{AllocError, Global};
 use std::string::ToString;
 use std::test::Fail;
@@ -7,6 +6,7 @@ use xf_base::Items;
 use xf_doc::{NodeId, TreeFault};
 use xf_name::{Axis, Lit, LitElement, Pair, Word, collect};
 use xf_tree::Forest;
+use xf_undo::Draft;
 
 /// A change, or a look at the forest. What it writes is a word: `no` where a change may not be made.
 #[derive(Clone, Copy)]

@@ -1,5 +1,5 @@
 //! Changes that are undone.
-use crate::played::{Step, play};
+use crate::undone::{Step, play};
 use std::alloc::AllocGlobal;
 use std::process::Abort;
 use std::test::Fail;

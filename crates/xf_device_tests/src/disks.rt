@@ -1,9 +1,9 @@
 //! What no contract says: the list of calls, what the runtime's files do, and a few images by hand.
 
-use super::*;
 use std::alloc::{AllocError, Global};
 use std::fs;
 use std::test::Fail;
+use xf_disk::*;
 use xf_io::Failed;
 
 const FOLDER: &str = "xf_disk_test";

@@ -19,7 +19,7 @@ use Rattle.xf_doc.proofs.BackLaws.{and-true, or-false, attribute-absent}
 use Rattle.xf_doc.proofs.MoveLemmas.{gone-after}
 use Rattle.xf_doc.proofs.RunLemmas.{AreDeeper, below-deeper, placed-deeper, deeper-append}
 use Rattle.xf_doc.proofs.VisitLemmas.{BeginsWithin, past-within, closed, still_above-map}
-use Rattle.xf_tree.proofs.played.Stage.set_and_back.Goals as goal
+use Rattle.xf_forest_tests.proofs.played.Stage.set_and_back.Goals as goal
 
 abbrev NoElements : List Node → Type 0
 NoElements [] = ⊤
