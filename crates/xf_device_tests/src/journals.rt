@@ -54,7 +54,7 @@ fn a_new_slot_and_one_entry_have_their_bytes(rt: HostRuntime) -> Result<(), Fail
     assert_eq!(rt; disk.held(Slot::A).len(), 147);
     let calls = disk.calls().len();
     let entry = make_entry(alloc, LINE, &Answers::new(alloc))?;
-    assert!(rt; entry.written.len() == 28 && journal.used() == 147);
+    assert!(rt; entry.len() == 28 && journal.used() == 147);
     assert_eq!(rt; journal.slot(), Slot::A);
     assert_eq!(rt; journal.append(&mut disk, &entry), Ok(()));
     let want = [
@@ -173,7 +173,7 @@ const CRASHES: [(Option<u8>, u64); 8] = [
 
 /// Makes a journal in slot A, and in it one entry, as far as the calls go. It says how far they went.
 fn run(disk: &mut FusedDisk<MemoryDisk>, image: &Image, entry: &Entry) -> u8 {
-    if image.form.len() > 1 << 20 || image.base.len() > 2 || entry.written.len() > 28 {
+    if image.form.len() > 1 << 20 || image.base.len() > 2 || entry.len() > 28 {
         return 0;
     }
     let Ok(mut journal) = create(disk, Slot::A, 1, image) else {

@@ -2,7 +2,7 @@
 use Rattle.std.proofs.Common.{take, drop, length-append, ◌≡◌, ◌≤◌, ◌<◌, ℕ, zero, suc, ◌+◌, ◌-◌, ◌*◌, ◌^◌, List, [], ◌∷◌, ◌++◌, length, Option, Some, None, refl, sym, ◌∙◌, ap, arith, append_assoc}
 use Rattle.std.proofs.lemmas.Bool.{leb-true, le-leb, and_parts, and_from}
 use Rattle.std.proofs.lemmas.List.{take_at, drop_at, drop_all}
-use Rattle.std.specs.Option.{option_map}
+use Rattle.std.specs.Option.{option_map, unwrap_or}
 use Rattle.std.specs.List.{flat_map, list_all}
 use Rattle.std.specs.Prelude.{Bool, true, false, ◌&&◌, nat_le, if◌then◌else◌}
 use Rattle.std.specs.Option.{option_and_then}
@@ -11,7 +11,7 @@ use Rattle.xf_base.specs.Limits.{line_limit, found_limit}
 use Rattle.xf_store.specs.declared.answers.Answer.{Answer}
 use Rattle.xf_store.specs.declared.answers.Answer.TheVariants as answer
 use Rattle.xf_journal.specs.declared.entry.Accepted.{Accepted}
-use Rattle.xf_journal.specs.Entry.{answer_bytes, answers_bytes, body_bytes, entry_bytes, is_within, found_in, answer_in, these_answers, answers_in, body_in, entry_in, size_at}
+use Rattle.xf_journal.specs.Entry.{answer_bytes, answers_bytes, body_bytes, entry_bytes, is_within, written_bytes, spelled, IsEntry, found_in, answer_in, these_answers, answers_in, body_in, entry_in, size_at}
 use Rattle.xf_journal.specs.Numbers.{four, from_four}
 use Rattle.xf_journal.proofs.NumberLemmas.{length-four, from_four-four}
 
@@ -162,3 +162,15 @@ module _ (line : List ℕ) (answers : List Answer) (within : is_within line answ
       ∙ ap (λ (k : ℕ). body_in (take k (drop 4 all))) number
       ∙ ap body_in taken
       ∙ body_written
+
+  -- the bytes as they are written spell the entry
+  pub spelled_written : (bytes : List ℕ) → bytes ≡ written_bytes line answers → spelled bytes ≡ record { line = line; answers = answers }
+  spelled_written bytes same = ap spelled same ∙ ap (λ (o : Option Accepted). unwrap_or o (record { line = []; answers = [] })) (entry_written (0 ∷ []))
+
+  pub is_entry : (bytes : List ℕ) → bytes ≡ written_bytes line answers → IsEntry bytes
+  is_entry bytes same =
+      let told = spelled_written bytes same in
+      record {
+        as_written = same ∙ sym (ap (λ (entry : Accepted). written_bytes entry.line entry.answers) told);
+        within = ap (λ (entry : Accepted). is_within entry.line entry.answers) told ∙ within;
+      }

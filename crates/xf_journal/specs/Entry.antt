@@ -1,6 +1,7 @@
 -- Entries of a slot: the bytes of one, and what is read of such bytes.
-use Rattle.std.specs.Prelude.{ℕ, zero, suc, ◌+◌, ◌^◌, List, [], ◌∷◌, ◌++◌, length, take, drop, Bool, true, ◌&&◌, ◌==◌, nat_le, if◌then◌else◌, Option, Some, None, option_and_then, option_map}
+use Rattle.std.specs.Prelude.{◌≡◌, IsTrue, ℕ, zero, suc, ◌+◌, ◌^◌, List, [], ◌∷◌, ◌++◌, length, take, drop, Bool, true, ◌&&◌, ◌==◌, nat_le, if◌then◌else◌, Option, Some, None, option_and_then, option_map}
 use Rattle.std.specs.Borrow.{Bor}
+use Rattle.std.specs.Option.{unwrap_or}
 use Rattle.std.specs.List.{flat_map, list_all}
 use Rattle.xf_store.specs.Replies.{is_short}
 use Rattle.xf_base.specs.Limits.{line_limit, found_limit, answer_limit}
@@ -96,3 +97,12 @@ entry_in bytes =
     if nat_le 4 (length bytes) && nat_le (size_at bytes) (length bytes)
     then body_in (take (from_four bytes) (drop 4 bytes))
     else None
+
+-- the entry that these bytes begin with, and one of nothing where they are none
+abbrev pub spelled : List ℕ → Accepted
+spelled bytes = unwrap_or (entry_in bytes) (record { line = []; answers = [] })
+
+-- the bytes are those of an entry as it is written, which has no more than an entry may have
+pub record IsEntry (bytes : List ℕ) : Type 0 where
+  pub as_written : bytes ≡ written_bytes (spelled bytes).line (spelled bytes).answers
+  pub within : IsTrue (is_within (spelled bytes).line (spelled bytes).answers)

@@ -48,33 +48,6 @@ pub(crate) fn put_answers(bytes: &mut Vec<u8>, answers: &Answers) -> Result<(), 
     Ok(())
 }
 
-/// A copy of one answer.
-fn copy_answer(alloc: Global, answer: &Answer) -> Result<Answer, AllocError>
-    ensures { IfOk result (λ copy. copy ≡ answer.now) }
-{
-    match answer {
-        Answer::PutDone => Ok(Answer::PutDone),
-        Answer::Failed => Ok(Answer::Failed),
-        Answer::Found(found) => {
-            let copy = Vec::from_slice(alloc, found.as_slice())?;
-            Ok(Answer::Found(Bytes::from_vec(copy)))
-        }
-        Answer::Absent => Ok(Answer::Absent),
-        Answer::TooLong => Ok(Answer::TooLong),
-    }
-}
-
-/// A copy of the answers.
-pub(crate) fn copy_answers(alloc: Global, answers: &Answers) -> Result<Answers, AllocError>
-    ensures { IfOk result (λ copy. copy ≡ answers.now) }
-{
-    let mut copy = Vec::with_capacity(alloc, answers.len())?;
-    for answer in answers.as_slice() {
-        copy.push(copy_answer(alloc, answer)?)?;
-    }
-    Ok(Answers::from_vec(copy))
-}
-
 /// What was found, at the front of these bytes, and the bytes behind it.
 fn found_in(alloc: Global, bytes: &[u8]) -> Result<Option<(Answer, &[u8])>, AllocError>
     ensures { IfOk result (λ found. option_map front_of found ≡ found_in bytes.now) }

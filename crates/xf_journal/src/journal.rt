@@ -19,6 +19,7 @@ pub struct Journal {
 }
 
 impl Journal {
+    ghost use Rattle.xf_journal.specs.Entry.{written_bytes};
     ghost use Rattle.xf_journal.specs.Held.{Log};
     ghost use Rattle.xf_journal.specs.Scanned.{IsAtRest, HoldsEither, with_accepted};
 
@@ -52,7 +53,7 @@ impl Journal {
     /// It is for the journal that the slots hold, of which no append has failed. A crash at any moment leaves
     /// the entries from before, or the new one also; after `Ok` each crash leaves it.
     pub fn append<D: Disk>(&mut self, disk: &mut D, entry: &Entry) -> Result<(), Failed>
-        requires room { self.old.used + length entry.now.written ≤ 2 ^ 26 }
+        requires room { self.old.used + length (written_bytes entry.now.line entry.now.answers) ≤ 2 ^ 26 }
         requires stands { IsTrue (D.tells disk.old) → self.old.used ≤ length (in_slot self.old.slot (D.seen disk.old)) }
         ensures each_moment { IsTrue (D.tells disk.old) → (log : Log) → IsAtRest D.seen D.may_leave self.old log disk.old
             → LeavesOnly D.moment D.left_since disk.old disk.new (HoldsEither log (with_accepted log entry.now.line entry.now.answers)) }
@@ -62,7 +63,7 @@ impl Journal {
         ensures tells { D.tells disk.new ≡ D.tells disk.old }
         ensures cause { HasCause (D.faults disk.old) (D.faults disk.new) result }
     {
-        let written = entry.written.as_slice();
+        let written = entry.bytes();
         let gate = self.used.saturating_sub(1);
         write_synced(disk, self.slot, self.used, written)?;
         write_synced(disk, self.slot, gate, &[1])?;
