@@ -1,0 +1,8 @@
+pub mod Sound
+pub mod Spots
+pub mod Steps
+pub mod Fixed
+pub mod Over
+pub mod Told
+pub mod Woven
+pub mod Bound

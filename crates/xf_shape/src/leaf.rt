@@ -1,0 +1,92 @@
+//! Elements without element children, in place of whose texts the shape has one, and nodes as the shape has them.
+
+ghost use Rattle.std.specs.Prelude.{◌≡◌, true, not, false};
+ghost use Rattle.xf_doc.specs.Forest.{IsLive, content_at};
+ghost use Rattle.xf_doc.specs.Shape.{has_elements};
+ghost use Rattle.xf_doc.specs.Visit.{visits};
+ghost use Rattle.xf_shape.specs.Sound.{Sound};
+ghost use Rattle.xf_shape.specs.Spots.{is_element_in, is_leaf, is_spot, number_at, stands};
+ghost use Rattle.xf_shape.specs.Steps.{has_list_in};
+
+use crate::spot::Spot;
+use xf_doc::{Content, NodeId};
+use xf_name::Axis;
+use xf_tree::Forest;
+
+/// The nodes are those of trees, and their numbers are not those of texts. This tells contracts so, and does nothing.
+pub(crate) fn is_sound(forest: &Forest)
+    ensures { Sound forest.now.forest }
+{
+    forest.are_trees();
+    let _ = forest.next_number();
+}
+
+/// Whether an element stands right below the node. Looks no further than at the first.
+pub(crate) fn has_elements(forest: &Forest, node: NodeId) -> bool
+    requires { IsLive node.number forest.now.forest }
+    ensures { result ≡ has_elements (visits forest.now.forest.nodes) node.number }
+{
+    is_sound(forest);
+    for child in forest.axis(node, Axis::Child) {
+        if is_element(forest, child) {
+            return true;
+        }
+    }
+    false
+}
+
+/// Whether the node is an element.
+pub(crate) fn is_element(forest: &Forest, node: NodeId) -> bool
+    ensures { result ≡ is_element_in (content_at node.number forest.now.forest.nodes) }
+{
+    match forest.content(node) {
+        Some(Content::Element(_)) => true,
+        _ => false,
+    }
+}
+
+/// Whether the node has a list of attributes and children: a root or an element.
+pub(crate) fn has_list(forest: &Forest, node: NodeId) -> bool
+    ensures { result ≡ has_list_in (content_at node.number forest.now.forest.nodes) }
+{
+    match forest.content(node) {
+        Some(Content::Element(_)) | Some(Content::Root) => true,
+        _ => false,
+    }
+}
+
+/// Whether the node is an element without element children.
+pub(crate) fn is_leaf(forest: &Forest, node: NodeId) -> bool
+    requires { IsLive node.number forest.now.forest }
+    ensures { result ≡ is_leaf forest.now.forest.nodes node.number }
+{
+    is_element(forest, node) && !has_elements(forest, node)
+}
+
+/// Whether the node stands in the shape: a text does where its parent has elements in it, or where it is a top.
+pub(crate) fn stands(forest: &Forest, node: NodeId) -> bool
+    requires { IsLive node.number forest.now.forest }
+    ensures { result ≡ stands forest.now.forest.nodes node.number }
+{
+    is_sound(forest);
+    let Some(Content::Text(_)) = forest.content(node) else {
+        return true;
+    };
+    match forest.parent(node) {
+        Some(parent) => has_elements(forest, parent),
+        None => true,
+    }
+}
+
+/// The node as one of the shape, or as a text that the shape does not have.
+pub(crate) fn entered(forest: &Forest, node: NodeId) -> Spot
+    requires { IsLive node.number forest.now.forest }
+    ensures number { number_at result ≡ node.number }
+    ensures spot { is_spot forest.now.forest.nodes result ≡ true }
+{
+    if stands(forest, node) {
+        Spot::Node(node)
+    } else {
+        Spot::Outside(node)
+    }
+}
