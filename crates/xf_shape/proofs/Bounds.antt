@@ -75,7 +75,7 @@ pub bound-outside : (nodes : List Node) (n : ℕ) → stands nodes n ≡ false �
 bound-outside nodes n h = sym (ap (stand_ins (shaped nodes)) (absent n (shaped nodes) h))
 
 module _ (forest : Forest) (sound : Sound forest) (n : ℕ) (live : has_number n forest.nodes ≡ true) where
-  x : Visit
+  abbrev x : Visit
   x = (live-found forest sound n live).0
 
   at : found n (real forest sound) ≡ Some x

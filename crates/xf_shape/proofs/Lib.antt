@@ -19,3 +19,5 @@ pub mod FixedEquations
 pub mod Sounds
 pub mod Weaves
 pub mod Tops
+pub mod Results
+pub mod TextAxes

@@ -66,7 +66,7 @@ module _ (w : Comparison) where
   abbrev Known : Type 0
   Known = (f : Facts) × (x : Trace) × Lawful w f x
 
-  known : Pair → Known
+  abbrev known : Pair → Known
   known k = (told k.0, k.1, record { placed = k.2; exact = λ h. no h; plain = λ h i. no i })
 
   facts-known : (ks : List Pair) → map (λ (k : Known). k.0) (map known ks) ≡ map told (map (λ (k : Pair). k.0) ks)
@@ -120,13 +120,13 @@ of-given x nothing e = none-some e
 of-given {P = P} x (both p) e = subst P (some-same e) p
 
 module _ (forest : Forest) (sound : Sound forest) (given : Given) (context : Context) where
-  over : Setting
+  abbrev pub over : Setting
   over = setting_at given forest.nodes context
 
   bare-frame : Frame (untexted (whole forest sound)) (untexted (real forest sound))
   bare-frame = subst (λ l. Frame (untexted (whole forest sound)) l) (same-bare forest sound) (itself (whole forest sound) (whole-visits forest sound))
 
-  beside : Comparison
+  abbrev beside : Comparison
   beside = record {
     setting = over;
     others = real forest sound;

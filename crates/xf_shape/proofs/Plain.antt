@@ -21,14 +21,14 @@ use Rattle.xf_lang.specs.Agree.{untexted}
 use Rattle.xf_lang.specs.Exact.{is_sibling}
 use Rattle.xf_lang.specs.Steps.{reached}
 use Rattle.xf_lang.specs.Tests.{meets}
-use Rattle.xf_lang.proofs.VisitFacts.{no, some-same, none-some, or-cases, self-same, filter-none, found-in}
+use Rattle.xf_lang.proofs.VisitFacts.{no, some-same, none-some, or-cases, self-same, filter-none, found-in, found-number}
 use Rattle.xf_lang.proofs.ForestVisits.{Each, each-found, found-erased}
 use Rattle.xf_lang.proofs.UntextedLaws.{reached-untexted}
 use Rattle.xf_lang.proofs.ReachAgree.{reach}
 use Rattle.xf_eval.proofs.Erased.{content-seen}
-use Rattle.xf_shape.specs.Spots.{stands}
+use Rattle.xf_shape.specs.Spots.{is_element_in, is_leaf, stands}
 use Rattle.xf_shape.specs.Steps.{has_texts, has_list_in}
-use Rattle.xf_shape.proofs.Shapes.{Sound, is_kept, texts_of, text_or, real, whole, real-visits, whole-visits, same-bare, stands-is, stands-found, same-list}
+use Rattle.xf_shape.proofs.Shapes.{Sound, is_kept, is_leaf_visit, texts_of, text_or, real, whole, real-visits, whole-visits, same-bare, stands-is, stands-found, same-list}
 use Rattle.xf_shape.proofs.Frames.{any-found, list-empty, lists-alone, roots-from, frame}
 
 only-one : (m n : ℕ) → has m (n ∷ []) ≡ true → m ≡ n
@@ -222,3 +222,10 @@ module _ (forest : Forest) (sound : Sound forest) (n : ℕ) (x : Visit) (e : fou
       by (content.Element name) i = with-list (ap (λ c. not (is_text c)) i) (element-parent (ap is_element i)) (ap has_list i) axis test t
       by (content.Attribute name text) i = without-list (ap has_list i) (inr (ap is_attribute i)) axis test
       by (content.Text text) i = without-list (ap has_list i) (inl (text-parent (ap is_text i))) axis test
+
+-- an element without element children, by its visit
+pub leaf-visit : (nodes : List Node) (n : ℕ) (x : Visit) → found n (map erased (visits nodes)) ≡ Some x → is_leaf nodes n ≡ is_leaf_visit nodes x
+leaf-visit nodes n x e =
+    let c = content-of nodes n x e in
+    ap (λ b. b && not (has_elements (visits nodes) n)) (ap is_element_in c.1 ∙ sym (element-erased c.0) ∙ ap is_element (sym c.2))
+    ∙ ap (λ k. is_element x.content && not (has_elements (visits nodes) k)) (sym (found-number n (map erased (visits nodes)) x e))

@@ -17,10 +17,11 @@ use Rattle.xf_lang.specs.declared.value.Value.TheVariants.{Nodes, Text, Number, 
 use Rattle.xf_lang.specs.Comparisons.{compared}
 use Rattle.xf_lang.specs.Conversions.{nodes_of, number_of, string_of, plain_of, truth_of, value_of_plain}
 use Rattle.xf_lang.specs.Exact.{Facts, is_union, branches, call_facts, links_plain}
-use Rattle.xf_lang.specs.Functions.{argument, own_argument, branch, branched, called, plain_arguments, of_set, of_numbers, count_of, filled_count, text_value, total, average, extreme, greater, lesser}
+use Rattle.xf_lang.specs.Functions.{argument, own_argument, branch, branched, called, plain_arguments, of_set, of_numbers, count_of, filled_count, text_value, first_name, local_part, namespace_of, total, average, extreme, greater, lesser}
 use Rattle.xf_lang.specs.Meaning.{expr_meaning, link_meaning, meaning}
 use Rattle.xf_lang.specs.Operators.{truly, or_else, and_then, computed, combined, linked, chained}
-use Rattle.xf_lang.specs.Setting.{Setting, Focus, Meaning, LinkMeaning, Walk, ◌>>=◌}
+use Rattle.xf_doc.specs.Forest.{written_in}
+use Rattle.xf_lang.specs.Setting.{Setting, Focus, Meaning, LinkMeaning, Walk, ◌>>=◌, capped}
 use Rattle.xf_lang.specs.Steps.{step_walk}
 use Rattle.xf_lang.specs.Table.{Function, function_at}
 use Rattle.xf_lang.specs.Table as of
@@ -157,9 +158,9 @@ call-empty of.adding code ks h i s c = set-empty (λ s ns. of_numbers s total ns
 call-empty of.averaging code ks h i s c = set-empty (λ s ns. of_numbers s (average s.given.decimals) ns) (λ s ns. mapped _ (λ t. refl) _) (argument 0 (meanings ks)) s c
 call-empty of.greatest code ks h i s c = set-empty (λ s ns. of_numbers s (extreme greater) ns) (λ s ns. mapped _ (λ t. refl) _) (argument 0 (meanings ks)) s c
 call-empty of.least code ks h i s c = set-empty (λ s ns. of_numbers s (extreme lesser) ns) (λ s ns. mapped _ (λ t. refl) _) (argument 0 (meanings ks)) s c
-call-empty of.local_name code ks h i s c = set-empty _ (λ s ns. mapped Text (λ t. refl) _) (own_argument (meanings ks)) s c
-call-empty of.name code ks h i s c = set-empty _ (λ s ns. mapped Text (λ t. refl) _) (own_argument (meanings ks)) s c
-call-empty of.namespace code ks h i s c = set-empty _ (λ s ns. mapped Text (λ t. refl) _) (own_argument (meanings ks)) s c
+call-empty of.local_name code ks h i s c = set-empty (λ s ns. text_value s (local_part (first_name s.all ns))) (λ s ns. mapped Text (λ t. refl) (capped s.most (local_part (first_name s.all ns)))) (own_argument (meanings ks)) s c
+call-empty of.name code ks h i s c = set-empty (λ s ns. text_value s (written_in (first_name s.all ns))) (λ s ns. mapped Text (λ t. refl) (capped s.most (written_in (first_name s.all ns)))) (own_argument (meanings ks)) s c
+call-empty of.namespace code ks h i s c = set-empty (λ s ns. text_value s (namespace_of s.given.bindings (first_name s.all ns))) (λ s ns. mapped Text (λ t. refl) (capped s.most (namespace_of s.given.bindings (first_name s.all ns)))) (own_argument (meanings ks)) s c
 call-empty of.number code ks h i s c = mapped Number (λ t. refl) (own_argument (meanings ks) s c >>= number_of s)
 call-empty of.string code ks h i s c = mapped Text (λ t. refl) (own_argument (meanings ks) s c >>= string_of s)
 call-empty of.current code ks h i s c = no i

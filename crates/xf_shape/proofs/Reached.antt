@@ -33,7 +33,7 @@ use Rattle.xf_eval.specs.Worth.{seen}
 use Rattle.xf_eval.proofs.Erased.{content-seen}
 use Rattle.xf_shape.specs.declared.spot.Spot.{Spot}
 use Rattle.xf_shape.specs.declared.spot.Spot.TheVariants.{Node as Own, TextOf, Outside}
-use Rattle.xf_shape.specs.Spots.{number_at, numbers_at, shaped, stands, is_leaf, is_spot, AreSpots, is_element_in}
+use Rattle.xf_shape.specs.Spots.{number_at, numbers_at, shaped, stands, is_leaf, is_spot, AreSpots, is_element_in, is_filled, is_text_in}
 use Rattle.xf_shape.specs.Steps.{is_own, are_owned, is_other, has_texts, has_list_in, if_so, piece}
 use Rattle.xf_shape.proofs.Shapes.{Sound, real, whole, whole-visits, real-visits, is_kept, texts_of, text_or, live-found, live-below, found-live, stands-is, stands-found, absent-found, text-found, text-apart, text_in, is_leaf_visit}
 use Rattle.xf_shape.proofs.Plain.{content-of, element-erased, has-list-of, plain}
@@ -83,12 +83,8 @@ reached-stands nodes axis asked n = all-of (stands nodes) (reached axis asked (s
 
 -- ---- which nodes stand in the shape, by what they are
 
-abbrev pub is_filled : List Node → Option ℕ → Bool
-is_filled nodes None = true
-is_filled nodes (Some p) = has_elements (visits nodes) p
-
 module _ (forest : Forest) (sound : Sound forest) (n : ℕ) (live : has_number n forest.nodes ≡ true) where
-  there : (x : Visit) × (found n (real forest sound) ≡ Some x)
+  abbrev there : (x : Visit) × (found n (real forest sound) ≡ Some x)
   there = live-found forest sound n live
 
   about : (c : Content) × (content_at n forest.nodes ≡ Some c) × (there.0.content ≡ without_text c)
@@ -127,6 +123,13 @@ module _ (forest : Forest) (sound : Sound forest) (n : ℕ) (live : has_number n
       by [] = refl
       by (p ∷ ps) = of (has_elements (visits forest.nodes) p)
 
+  -- by what the calls test
+  pub stands-alone : is_text_in (content_at n forest.nodes) ≡ false → true ≡ stands forest.nodes n
+  stands-alone h = sym (stands-other about.0 about.1 (sym (ap is_text_in about.1) ∙ h))
+
+  pub stands-beside : is_text_in (content_at n forest.nodes) ≡ true → is_filled forest.nodes (parent_of n (visits forest.nodes)) ≡ stands forest.nodes n
+  stands-beside h = sym (stands-text about.0 about.1 (sym (ap is_text_in about.1) ∙ h))
+
   pub leaf-stands : is_leaf forest.nodes n ≡ true → stands forest.nodes n ≡ true
   leaf-stands h = by (content_at n forest.nodes) refl (and-true _ _ h).0
     where
@@ -139,6 +142,19 @@ module _ (forest : Forest) (sound : Sound forest) (n : ℕ) (live : has_number n
       by : (m : Option Content) → content_at n forest.nodes ≡ m → is_element_in m ≡ true → stands forest.nodes n ≡ true
       by None e i = no i
       by (Some c) e i = stands-other c e (not-text c i)
+
+  pub has-list-leaf : is_leaf forest.nodes n ≡ true → has_list there.0.content ≡ true
+  has-list-leaf h = sym (has-list-of forest.nodes n there.0 there.1) ∙ by (content_at n forest.nodes) (and-true _ _ h).0
+    where
+      of : (c : Content) → is_element c ≡ true → has_list c ≡ true
+      of content.Root i = refl
+      of (content.Element name) i = refl
+      of (content.Attribute name text) i = no i
+      of (content.Text text) i = no i
+
+      by : (m : Option Content) → is_element_in m ≡ true → has_list_in m ≡ true
+      by None i = no i
+      by (Some c) i = of c i
 
   -- ---- from a node that stands
 

@@ -1,5 +1,5 @@
 -- One round of each loop over the shape, and its end.
-use Rattle.std.proofs.Common.{◌≡◌, ℕ, suc, ◌+◌, ◌<◌, ◌≤◌, Bool, true, false, cond, ◌&&◌, List, [], ◌∷◌, ◌++◌, map, take, drop, length, get_or, Option, Some, None, option_map, refl, sym, ap, ◌∙◌, arith, append_assoc, slice_get}
+use Rattle.std.proofs.Common.{◌≡◌, ℕ, zero, suc, ◌+◌, ◌<◌, ◌≤◌, Bool, true, false, cond, ◌&&◌, List, [], ◌∷◌, ◌++◌, map, take, drop, length, get_or, Option, Some, None, option_map, refl, sym, ap, ◌∙◌, arith, append_assoc, slice_get}
 use Rattle.std.specs.List.{flat_map, list_all}
 use Rattle.std.proofs.lemmas.List.{at_drop_more, at_drop_all, take_more, take_all}
 use Rattle.xf_ast.specs.declared.expr.Expr.{Expr}
@@ -36,7 +36,7 @@ spots-one nodes x h = both-hold (is_spot nodes x) true h refl
 
 pub all-at : {X : Type 0} (p : X → Bool) (xs : List X) (i : ℕ) (d : X) → list_all p xs ≡ true → i < length xs → p (get_or xs i d) ≡ true
 all-at p [] i d h l = absurd (omega (arith, l))
-all-at p (x ∷ xs) 0 d h l = (and-true _ _ h).0
+all-at p (x ∷ xs) zero d h l = (and-true _ _ h).0
 all-at p (x ∷ xs) (suc i) d h l = all-at p xs i d (and-true _ _ h).1 (omega (arith, l))
 
 pub numbers-append : (xs ys : List Spot) → numbers_at (xs ++ ys) ≡ numbers_at xs ++ numbers_at ys
@@ -90,7 +90,8 @@ pub kept-round : (s : Setting) (m : Meaning) (spots : List Spot) (i : ℕ) (d : 
     onto done (kept_from s m (length spots) (suc i) (numbers_at (drop i spots))) ≡ worth → i < length spots → IsTold s m (suc i) (length spots) b →
     onto (done ++ if_so b (number_at (get_or spots i d))) (kept_from s m (length spots) (suc (suc i)) (numbers_at (drop (suc i) spots))) ≡ worth
 kept-round s m spots i d b done worth inv l told =
-    ap (λ k. onto (done ++ if_so b (number_at (get_or spots i d))) (kept_from s m (length spots) (suc (suc i)) (numbers_at (drop k spots)))) (omega arith)
+    let next : suc i ≡ i + 1 = omega arith in
+    ap (λ k. onto (done ++ if_so b (number_at (get_or spots i d))) (kept_from s m (length spots) (suc (suc i)) (numbers_at (drop k spots)))) next
     ∙ sym (at_drop_more (λ xs. onto done (kept_from s m (length spots) (suc i) (numbers_at xs))) spots i d l ∙ kept-more s m (length spots) (suc i) b done (number_at (get_or spots i d)) (numbers_at (drop (i + 1) spots)) told)
     ∙ inv
 

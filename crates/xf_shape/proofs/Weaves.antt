@@ -1,5 +1,5 @@
 -- One round of the loop that puts nodes and texts together.
-use Rattle.std.proofs.Common.{◌≡◌, ℕ, suc, ◌==◌, ◌+◌, ◌<◌, ◌≤◌, Bool, true, false, cond, ◌&&◌, List, [], ◌∷◌, ◌++◌, map, drop, length, get_or, Option, Some, None, option_map, refl, sym, ap, ◌∙◌, append_assoc}
+use Rattle.std.proofs.Common.{◌≡◌, ℕ, zero, suc, ◌==◌, ◌+◌, ◌<◌, ◌≤◌, Bool, true, false, cond, ◌&&◌, List, [], ◌∷◌, ◌++◌, map, drop, length, get_or, Option, Some, None, option_map, refl, sym, ap, ◌∙◌, arith, append_assoc}
 use Rattle.std.specs.List.{list_all}
 use Rattle.std.proofs.lemmas.Bool.{eqb-true}
 use Rattle.std.proofs.lemmas.List.{at_drop_more, at_drop_all}
@@ -95,9 +95,9 @@ module _ (own : ℕ → ℕ → Bool) where
 
   -- what comes next is one of them
   pub next-has : (p : ℕ → Bool) (n : ℕ) (ids : List NodeId) (at : ℕ) → list_all (λ (i : NodeId). p i.number) ids ≡ true → begins_with n (numbers (drop at ids)) ≡ true → p n ≡ true
-  next-has p n [] 0 h e = no e
+  next-has p n [] zero h e = no e
   next-has p n [] (suc at) h e = no e
-  next-has p n (i ∷ ids) 0 h e = ap p (sym (eqb-true i.number n e)) ∙ (and-true _ _ h).0
+  next-has p n (i ∷ ids) zero h e = ap p (sym (eqb-true i.number n e)) ∙ (and-true _ _ h).0
   next-has p n (i ∷ ids) (suc at) h e = next-has p n ids at (and-true _ _ h).1 e
 
   pub own-are : (forest_nodes : List Node) (node : NodeId) (ids : List NodeId) (at : ℕ) → list_all (λ (i : NodeId). is_shown forest_nodes i.number) ids ≡ true → AreSpots forest_nodes (own_if (begins_with node.number (numbers (drop at ids))) node)
@@ -114,3 +114,10 @@ module _ (own : ℕ → ℕ → Bool) where
       by : (b : Bool) → begins_with node.number (numbers (drop at ids)) ≡ b → list_all (is_owner forest_nodes) (as_list (number_in (cond b (Some node) w))) ≡ true
       by true e = both-hold (is_owner forest_nodes node.number) (next-has (is_owner forest_nodes) node.number ids at h e)
       by false e = k
+
+-- what comes next is taken off
+pub past-next : (n : ℕ) (ids : List NodeId) (at : ℕ) → begins_with n (numbers (drop at ids)) ≡ true → numbers (drop (at + 1) ids) ≡ past n (numbers (drop at ids))
+past-next n [] zero e = no e
+past-next n [] (suc at) e = no e
+past-next n (i ∷ ids) zero e = sym (ap (λ b. cond b (numbers ids) (i.number ∷ numbers ids)) e)
+past-next n (i ∷ ids) (suc at) e = let more : suc at + 1 ≡ suc (at + 1) = omega arith in ap (λ k. numbers (drop k (i ∷ ids))) more ∙ past-next n ids at e

@@ -74,6 +74,10 @@ module _ (p q : ℕ → Bool) where
     still-same None y h = refl
     still-same (Some owner) y h = ap (λ b. cond b (Some owner) None) (h owner)
 
+    -- of a list, whatever waits before it
+    abbrev Rest : List Visit → Type 0
+    Rest ys = (v : Option ℕ) → woven own v (filter (λ k. p k || q k) (numbers_of ys)) (filter p (numbers_of ys)) (filter q (numbers_of ys)) ≡ over v ys
+
     pub woven-over : (w : Option ℕ) (ys : List Visit) → Each Told ys →
         woven own w (filter (λ k. p k || q k) (numbers_of ys)) (filter p (numbers_of ys)) (filter q (numbers_of ys)) ≡ over w ys
     woven-over w [] h = refl
@@ -82,10 +86,7 @@ module _ (p q : ℕ → Bool) where
         ns : List ℕ
         ns = numbers_of ys
 
-        abbrev Rest : Type 0
-        Rest = (v : Option ℕ) → woven own v (filter (λ k. p k || q k) ns) (filter p ns) (filter q ns) ≡ over v ys
-
-        here : Rest → (b : Bool) (nodes owners : List ℕ) → begins_with y.number nodes ≡ b → (c : Bool) → begins_with y.number owners ≡ c → past y.number nodes ≡ filter p ns → past y.number owners ≡ filter q ns →
+        here : Rest ys → (b : Bool) (nodes owners : List ℕ) → begins_with y.number nodes ≡ b → (c : Bool) → begins_with y.number owners ≡ c → past y.number nodes ≡ filter p ns → past y.number owners ≡ filter q ns →
             woven own w (y.number ∷ filter (λ k. p k || q k) ns) nodes owners ≡ flush w y ++ (if_so b y.number ++ over (now_waiting c y.number (still w y)) ys)
         here rest b nodes owners e c i j k =
             ap (λ l. l ++ (if_so (begins_with y.number nodes) y.number ++ woven own (now_waiting (begins_with y.number owners) y.number (still_waiting own w y.number)) (filter (λ k. p k || q k) ns) (past y.number nodes) (past y.number owners))) (flush-same w y h.0)
@@ -101,7 +102,7 @@ module _ (p q : ℕ → Bool) where
         first-past : (l : List ℕ) → past y.number (y.number ∷ l) ≡ l
         first-past l = ap (λ b. cond b l (y.number ∷ l)) (self-same y.number)
 
-        by : Rest → (a b : Bool) → p y.number ≡ a → q y.number ≡ b →
+        by : Rest ys → (a b : Bool) → p y.number ≡ a → q y.number ≡ b →
             woven own w (cond (a || b) (y.number ∷ filter (λ k. p k || q k) ns) (filter (λ k. p k || q k) ns)) (cond a (y.number ∷ filter p ns) (filter p ns)) (cond b (y.number ∷ filter q ns) (filter q ns))
             ≡ cond (a || b) (flush w y ++ (if_so a y.number ++ over (now_waiting b y.number (still w y)) ys)) (over w ys)
         by rest true true e i = here rest true (y.number ∷ filter p ns) (y.number ∷ filter q ns) (self-same y.number) true (self-same y.number) (first-past (filter p ns)) (first-past (filter q ns))
@@ -178,9 +179,9 @@ module _ (p q : ℕ → Bool) where
     number-append : (xs ys : List Visit) → number (xs ++ ys) ≡ number xs ++ number ys
     number-append xs ys = ap numbers_of (filter-append h xs ys) ∙ both (filter h xs) (filter h ys)
       where
-        both : (as bs : List Visit) → numbers_of (as ++ bs) ≡ numbers_of as ++ numbers_of bs
-        both [] bs = refl
-        both (a ∷ as) bs = ap (λ l. a.number ∷ l) (both as bs)
+        both : (us vs : List Visit) → numbers_of (us ++ vs) ≡ numbers_of us ++ numbers_of vs
+        both [] vs = refl
+        both (u ∷ us) vs = ap (λ l. u.number ∷ l) (both us vs)
 
     number-one : (y : Visit) (l : List Visit) (b : Bool) → h y ≡ b → number (y ∷ l) ≡ if_so b y.number ++ number l
     number-one y l true e = ap (λ b. numbers_of (cond b (y ∷ filter h l) (filter h l))) e

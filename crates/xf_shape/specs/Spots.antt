@@ -3,7 +3,7 @@ use Rattle.std.specs.Prelude.{ℕ, ◌≡◌, Bool, true, false, not, ◌&&◌, 
 use Rattle.std.specs.List.{list_all}
 use Rattle.xf_doc.specs.declared.content.Node.{Node}
 use Rattle.xf_doc.specs.declared.content.Content.{Content}
-use Rattle.xf_doc.specs.Forest.{is_element, has_number, content_at}
+use Rattle.xf_doc.specs.Forest.{is_element, is_text, has_number, content_at}
 use Rattle.xf_doc.specs.Visit.{Visit, visits, has}
 use Rattle.xf_doc.specs.Shape.{erased, has_elements, shape_of, text_number}
 use Rattle.xf_lang.specs.Agree.{numbers_of}
@@ -41,3 +41,12 @@ is_spot nodes (Outside node) = has_number node.number nodes && not (stands nodes
 
 abbrev pub AreSpots : List Node → List Spot → Type 0
 AreSpots nodes spots = list_all (is_spot nodes) spots ≡ true
+
+abbrev pub is_text_in : Option Content → Bool
+is_text_in None = false
+is_text_in (Some content) = is_text content
+
+-- elements stand right below this node, if it is one
+abbrev pub is_filled : List Node → Option ℕ → Bool
+is_filled nodes None = true
+is_filled nodes (Some p) = has_elements (visits nodes) p

@@ -54,3 +54,6 @@ text_if b owner = if b then TextOf owner ∷ [] else []
 abbrev pub is_other : ℕ → Spot → Bool
 is_other n (Own node) = not (node.number == n)
 is_other n other = true
+
+abbrev pub spot_if : Bool → Spot → List Spot
+spot_if b spot = if b then spot ∷ [] else []

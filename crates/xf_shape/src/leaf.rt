@@ -1,11 +1,11 @@
 //! Elements without element children, in place of whose texts the shape has one, and nodes as the shape has them.
 
-ghost use Rattle.std.specs.Prelude.{◌≡◌, true, not, false};
+ghost use Rattle.std.specs.Prelude.{◌≡◌, ◌<◌, ◌^◌, true};
 ghost use Rattle.xf_doc.specs.Forest.{IsLive, content_at};
 ghost use Rattle.xf_doc.specs.Shape.{has_elements};
-ghost use Rattle.xf_doc.specs.Visit.{visits};
+ghost use Rattle.xf_doc.specs.Visit.{parent_of, visits};
 ghost use Rattle.xf_shape.specs.Sound.{Sound};
-ghost use Rattle.xf_shape.specs.Spots.{is_element_in, is_leaf, is_spot, number_at, stands};
+ghost use Rattle.xf_shape.specs.Spots.{is_element_in, is_filled, is_leaf, is_spot, is_text_in, number_at, stands};
 ghost use Rattle.xf_shape.specs.Steps.{has_list_in};
 
 use crate::spot::Spot;
@@ -18,7 +18,14 @@ pub(crate) fn is_sound(forest: &Forest)
     ensures { Sound forest.now.forest }
 {
     forest.are_trees();
-    let _ = forest.next_number();
+    fits(forest.next_number());
+}
+
+/// A number of the machine is less than those of texts. This tells contracts so, and does nothing.
+fn fits(number: u128)
+    ensures { number < 2 ^ 128 }
+{
+    let _ = number;
 }
 
 /// Whether an element stands right below the node. Looks no further than at the first.
@@ -69,9 +76,27 @@ pub(crate) fn stands(forest: &Forest, node: NodeId) -> bool
     ensures { result ≡ stands forest.now.forest.nodes node.number }
 {
     is_sound(forest);
-    let Some(Content::Text(_)) = forest.content(node) else {
-        return true;
-    };
+    if is_text(forest, node) {
+        return is_beside(forest, node);
+    }
+    true
+}
+
+/// Whether the node is a text.
+pub(crate) fn is_text(forest: &Forest, node: NodeId) -> bool
+    ensures { result ≡ is_text_in (content_at node.number forest.now.forest.nodes) }
+{
+    match forest.content(node) {
+        Some(Content::Text(_)) => true,
+        _ => false,
+    }
+}
+
+/// Whether elements stand right below the parent of a node, where it has one.
+fn is_beside(forest: &Forest, node: NodeId) -> bool
+    requires { IsLive node.number forest.now.forest }
+    ensures { result ≡ is_filled forest.now.forest.nodes (parent_of node.number (visits forest.now.forest.nodes)) }
+{
     match forest.parent(node) {
         Some(parent) => has_elements(forest, parent),
         None => true,

@@ -1,12 +1,13 @@
 //! Predicates (XPath 1.0, section 2.4) that go by position and size alone.
 
-ghost use Rattle.std.specs.Prelude.{◌≡◌, ℕ, ◌+◌, length, map, true, Some, IfOk};
+ghost use Rattle.std.specs.Prelude.{◌≡◌, ◌++◌, length, map, true, Some, IfOk, OnOk};
 ghost use Rattle.xf_lang.specs.Meaning.{meaning};
 ghost use Rattle.xf_lang.specs.Steps.{kept_by_all, kept_from};
 ghost use Rattle.xf_eval.specs.Live.{IsReady};
 ghost use Rattle.xf_shape.specs.Fixed.{are_placed, is_placed};
 ghost use Rattle.xf_shape.specs.Over.{shape_at};
 ghost use Rattle.xf_shape.specs.Spots.{AreSpots, numbers_at};
+ghost use Rattle.xf_shape.specs.Steps.{spot_if};
 ghost use Rattle.xf_shape.specs.Told.{IsTold};
 
 use crate::leaf::is_sound;
@@ -60,9 +61,8 @@ fn kept_by<A: Around>(
     };
     let mut left = Vec::new(alloc);
     for at in 0..size {
-        if is_true(alloc, forest, around, predicate, at + 1, size, context)? {
-            left.push(spots[at as usize])?;
-        }
+        let truth = is_true(alloc, forest, around, predicate, at + 1, size, context)?;
+        push_if(&mut left, truth, spots[at as usize])?;
     }
     Ok(left)
 }
@@ -94,4 +94,14 @@ fn is_true<A: Around>(
         Ok(value) => Ok(is_true_at(&value, position)),
         Err(_) => Err(AllocError),
     }
+}
+
+/// Puts a node behind the others, where it is kept.
+fn push_if(spots: &mut Vec<Spot>, is_kept: bool, spot: Spot) -> Result<(), AllocError>
+    ensures { OnOk result (spots.new.items ≡ spots.old.items ++ spot_if is_kept spot) }
+{
+    if is_kept {
+        spots.push(spot)?;
+    }
+    Ok(())
 }

@@ -51,9 +51,34 @@ fn from_node(
     ensures value { IfOk result (λ found. numbers_at found.items ≡ reached axis test.now (shaped forest.now.forest.nodes) node.number) }
     ensures spots { IfOk result (λ found. AreSpots forest.now.forest.nodes found.items) }
 {
-    if !is_kind(test) || !has_texts(forest, node, axis) {
-        return plainly(alloc, forest, node, axis, test);
+    if goes_to_texts(forest, node, axis, test) {
+        return in_texts(alloc, forest, node, axis, test);
     }
+    plainly(alloc, forest, node, axis, test)
+}
+
+/// Whether the step meets texts that stand in place of others.
+fn goes_to_texts(forest: &Forest, node: NodeId, axis: Axis, test: &Test) -> bool
+    requires { IsLive node.number forest.now.forest }
+    ensures { result ≡ (is_kind test.now && has_texts forest.now.forest.nodes node.number axis) }
+{
+    is_kind(test) && has_texts(forest, node, axis)
+}
+
+/// What it selects then.
+fn in_texts(
+    alloc: Global,
+    forest: &Forest,
+    node: NodeId,
+    axis: Axis,
+    test: &Test,
+) -> Result<Vec<Spot>, AllocError>
+    requires spot { is_spot forest.now.forest.nodes (Spot.Node node) ≡ true }
+    requires texts { (is_kind test.now && has_texts forest.now.forest.nodes node.number axis) ≡ true }
+    ensures value { IfOk result (λ found. numbers_at found.items ≡ reached axis test.now (shaped forest.now.forest.nodes) node.number) }
+    ensures spots { IfOk result (λ found. AreSpots forest.now.forest.nodes found.items) }
+{
+    is_sound(forest);
     match axis {
         Axis::Child => own_text(alloc, forest, node),
         Axis::Descendant => {
@@ -203,20 +228,35 @@ fn from_text(
     ensures value { IfOk result (λ found. numbers_at found.items ≡ reached axis test.now (shaped forest.now.forest.nodes) (text_number owner.number)) }
     ensures spots { IfOk result (λ found. AreSpots forest.now.forest.nodes found.items) }
 {
+    is_sound(forest);
     match axis {
-        Axis::Self_ | Axis::DescendantOrSelf => text_alone(alloc, owner, test),
+        Axis::Self_ => text_alone(alloc, owner, test),
+        Axis::DescendantOrSelf => text_alone(alloc, owner, test),
         Axis::Parent => plainly(alloc, forest, owner, Axis::Self_, test),
         Axis::Ancestor => plainly(alloc, forest, owner, Axis::AncestorOrSelf, test),
-        Axis::AncestorOrSelf => {
-            let mut found = text_alone(alloc, owner, test)?;
-            let above = plainly(alloc, forest, owner, Axis::AncestorOrSelf, test)?;
-            found.extend_from_slice(&above)?;
-            let mut ordered = in_order(alloc, forest, &found)?;
-            ordered.reverse();
-            Ok(ordered)
-        }
+        Axis::AncestorOrSelf => up_from_text(alloc, forest, owner, test),
         _ => Ok(Vec::new(alloc)),
     }
+}
+
+/// The text, its element, and what stands above this, the nearest first.
+fn up_from_text(
+    alloc: Global,
+    forest: &Forest,
+    owner: NodeId,
+    test: &Test,
+) -> Result<Vec<Spot>, AllocError>
+    requires { is_spot forest.now.forest.nodes (Spot.TextOf owner) ≡ true }
+    ensures value { IfOk result (λ found. numbers_at found.items ≡ reached Axis.AncestorOrSelf test.now (shaped forest.now.forest.nodes) (text_number owner.number)) }
+    ensures spots { IfOk result (λ found. AreSpots forest.now.forest.nodes found.items) }
+{
+    is_sound(forest);
+    let mut found = text_alone(alloc, owner, test)?;
+    let above = plainly(alloc, forest, owner, Axis::AncestorOrSelf, test)?;
+    found.extend_from_slice(&above)?;
+    let mut ordered = in_order(alloc, forest, &found)?;
+    ordered.reverse();
+    Ok(ordered)
 }
 
 /// The text itself, where it meets the test.
