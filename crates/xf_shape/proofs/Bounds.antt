@@ -37,7 +37,7 @@ use Rattle.xf_shape.specs.Woven.{is_shown}
 use Rattle.xf_shape.proofs.Shapes.{Sound, real, whole, real-visits, whole-visits, live-found, found-live, stands-is, stands-found, text-found, is_kept, texts_of, is_leaf_visit, shaped-is}
 use Rattle.xf_shape.proofs.Frames.{frame, opened}
 use Rattle.xf_shape.proofs.Plain.{content-of, element-erased}
-use Rattle.xf_shape.proofs.Reached.{plain-reached, child-reached}
+use Rattle.xf_shape.proofs.Reached.{plain-reached, child-reached, reached-stands}
 
 both-hold : (a b : Bool) → a ≡ true → b ≡ true → (a && b) ≡ true
 both-hold true b h i = i
@@ -190,3 +190,14 @@ module _ (forest : Forest) (sound : Sound forest) (n : ℕ) (live : has_number n
       no-element (Some (content.Element name)) i = no i
       no-element (Some (content.Attribute name text)) i = no i
       no-element (Some (content.Text text)) i = no i
+
+  pub children-shown : stands forest.nodes n ≡ true → has_elements (visits forest.nodes) n ≡ true → (ns : List ℕ) → ns ≡ reached Child AnyNode (seen forest.nodes) n → AllLive ns forest.nodes → list_all (is_shown forest.nodes) ns ≡ true
+  children-shown s h ns e l =
+      all-shown forest.nodes ns l (ap (list_all (stands forest.nodes)) (e ∙ plain-reached forest sound n live s Child AnyNode (ap (λ b. has_list_in (content_at n forest.nodes) && not b) h ∙ and-none (has_list_in (content_at n forest.nodes)))) ∙ reached-stands forest.nodes Child AnyNode n)
+    where
+      and-none : (b : Bool) → (b && false) ≡ false
+      and-none true = refl
+      and-none false = refl
+
+pub one-shown : (nodes : List Node) (n : ℕ) → is_shown nodes n ≡ true → list_all (is_shown nodes) (n ∷ []) ≡ true
+one-shown nodes n h = both-hold (is_shown nodes n) true h refl

@@ -8,9 +8,10 @@ use Rattle.xf_ast.specs.declared.expr.Expr.TheOpen.{Expr-F}
 use Rattle.xf_ast.specs.declared.expr.Expr.TheFolds.{fold-roll-Expr, fold_out-Step, fold_out-Link}
 use Rattle.xf_ast.specs.declared.expr.Expr.TheVariants.{Number, Literal, Call, Negated, Chain, Filter, Path, From, rolls-Number, rolls-Literal, rolls-Call, rolls-Negated, rolls-Chain, rolls-Filter, rolls-Path, rolls-From}
 use Rattle.xf_plain_values.specs.Conversions.{Decimal}
-use Rattle.std.specs.Prelude.{Bool}
+use Rattle.std.specs.Prelude.{Bool, true}
 use Rattle.std.specs.List.{list_all}
-use Rattle.xf_shape.specs.Fixed.{Fixed, LinkFixed, expr_fixed, link_fixed, step_fixed, fixed_of, link_fixed_of, is_fixed_step}
+use Rattle.xf_shape.specs.Fixed.{Fixed, LinkFixed, are_placed, expr_fixed, link_fixed, step_fixed, fixed_of, link_fixed_of, is_fixed_step}
+use Rattle.xf_shape.proofs.Results.{all-mapped}
 
 pub fixed-Number : (place : ℕ) (k : Decimal) → fixed_of (Number place k) ≡ expr_fixed (Expr-F.Number place k)
 fixed-Number place k = ap fixed_of (sym (rolls-Number place k)) ∙ fold-roll-Expr Fixed LinkFixed Bool expr_fixed link_fixed step_fixed (Expr-F.Number place k)
@@ -41,3 +42,7 @@ fixed-link l = fold_out-Link Fixed LinkFixed Bool expr_fixed link_fixed step_fix
 
 pub fixed-step : (s : Step) → is_fixed_step s ≡ list_all (λ x. x.is_placed) (map fixed_of s.predicates)
 fixed-step s = fold_out-Step Fixed LinkFixed Bool expr_fixed link_fixed step_fixed s
+
+-- the predicates of a step
+pub step-placed : (s : Step) → is_fixed_step s ≡ true → are_placed s.predicates ≡ true
+step-placed s h = all-mapped (λ (x : Fixed). x.is_placed) fixed_of s.predicates ∙ sym (fixed-step s) ∙ h

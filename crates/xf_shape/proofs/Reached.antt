@@ -26,7 +26,7 @@ use Rattle.xf_lang.specs.Steps.{reached}
 use Rattle.xf_lang.specs.Tests.{meets}
 use Rattle.xf_lang.proofs.AxisAgree.{has-sub}
 use Rattle.xf_lang.proofs.SameKept.{has-reverse}
-use Rattle.xf_lang.proofs.VisitFacts.{no, some-same, none-some, self-same, turned, or-left, or-right, found-number}
+use Rattle.xf_lang.proofs.VisitFacts.{no, some-same, none-some, self-same, turned, or-left, or-right, found-number, absent}
 use Rattle.xf_lang.proofs.ForestVisits.{Each, each-map, self-found, found-erased}
 use Rattle.xf_eval.specs.Live.{AllLive}
 use Rattle.xf_eval.specs.Worth.{seen}
@@ -34,7 +34,7 @@ use Rattle.xf_eval.proofs.Erased.{content-seen}
 use Rattle.xf_shape.specs.declared.spot.Spot.{Spot}
 use Rattle.xf_shape.specs.declared.spot.Spot.TheVariants.{Node as Own, TextOf, Outside}
 use Rattle.xf_shape.specs.Spots.{number_at, numbers_at, shaped, stands, is_leaf, is_spot, AreSpots, is_element_in, is_filled, is_text_in}
-use Rattle.xf_shape.specs.Steps.{is_own, are_owned, is_other, has_texts, has_list_in, if_so, piece}
+use Rattle.xf_shape.specs.Steps.{is_own, are_owned, is_other, has_texts, has_list_in, if_so, piece, text_if}
 use Rattle.xf_shape.proofs.Shapes.{Sound, real, whole, whole-visits, real-visits, is_kept, texts_of, text_or, live-found, live-below, found-live, stands-is, stands-found, absent-found, text-found, text-apart, text_in, is_leaf_visit}
 use Rattle.xf_shape.proofs.Plain.{content-of, element-erased, has-list-of, plain}
 use Rattle.xf_shape.proofs.Texts.{below-pieces, strictly-below}
@@ -237,3 +237,25 @@ module _ (forest : Forest) (sound : Sound forest) (n : ℕ) (live : has_number n
       by (Some x) i j =
           ap (λ m. list_any (λ k. is_element_in (content_at k forest.nodes)) (map (λ (y : Visit). y.number) (axis_from Child (visits forest.nodes) m))) i
           ∙ any-list (visits forest.nodes) x (found-number n (visits forest.nodes) x i) told
+
+-- the owner of a text stands there itself
+pub owner-own : (forest : Forest) → Sound forest → (owner : NodeId) → is_spot forest.nodes (TextOf owner) ≡ true → is_spot forest.nodes (Own owner) ≡ true
+owner-own forest sound owner h =
+    let p = and-true (has_number owner.number forest.nodes) (is_leaf forest.nodes owner.number) h in
+    both-hold (has_number owner.number forest.nodes) (stands forest.nodes owner.number) p.0 (leaf-stands forest sound owner.number p.0 p.1)
+
+pub text-numbers : (b : Bool) (owner : NodeId) → numbers_at (text_if b owner) ≡ if_so b (text_number owner.number)
+text-numbers true owner = refl
+text-numbers false owner = refl
+
+-- from what does not stand in the shape nothing is reached
+pub outside-reached : (nodes : List Node) (n : ℕ) → stands nodes n ≡ false → (axis : Axis) (asked : Test) → [] ≡ reached axis asked (shaped nodes) n
+outside-reached nodes n h axis asked = sym (ap (λ m. map (λ (y : Visit). y.number) (filter (λ y. meets axis asked y.content) (axis_from axis (shaped nodes) m))) (absent n (shaped nodes) h))
+
+pub spots-filter : (nodes : List Node) (p : Spot → Bool) (spots : List Spot) → AreSpots nodes spots → AreSpots nodes (filter p spots)
+spots-filter nodes p [] h = refl
+spots-filter nodes p (x ∷ xs) h = by (p x) (spots-filter nodes p xs (and-true _ _ h).1)
+  where
+    by : (b : Bool) → AreSpots nodes (filter p xs) → AreSpots nodes (cond b (x ∷ filter p xs) (filter p xs))
+    by true i = both-hold (is_spot nodes x) (list_all (is_spot nodes) (filter p xs)) (and-true _ _ h).0 i
+    by false i = i

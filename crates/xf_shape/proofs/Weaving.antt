@@ -243,7 +243,7 @@ module _ (p q : ℕ → Bool) where
       gone-step w i j = sym (ap (λ b. cond (b || q y.number) (flush w y ++ (if_so (p y.number) y.number ++ over (now_waiting (q y.number) y.number (still w y)) ys)) (over w ys)) i
           ∙ ap (λ b. cond (false || b) (flush w y ++ (if_so (p y.number) y.number ++ over (now_waiting (q y.number) y.number (still w y)) ys)) (over w ys)) j)
 
-    next-mode : Bool → ℕ → Mode
+    abbrev next-mode : Bool → ℕ → Mode
     next-mode true n = run n
     next-mode false n = none
 

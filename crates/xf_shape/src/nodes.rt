@@ -59,6 +59,7 @@ fn bound(alloc: Global, forest: &Forest, spot: Spot) -> Result<NodeList, AllocEr
     ensures value { IfOk result (λ nodes. nodes ≡ bound_at forest.now.forest.nodes (number_at spot)) }
     ensures shown { IfOk result (λ nodes. list_all (is_shown forest.now.forest.nodes) nodes ≡ true) }
 {
+    is_sound(forest);
     match spot {
         Spot::Outside(_) => Ok(NodeList::new(alloc)),
         Spot::TextOf(owner) => single(alloc, owner),

@@ -1,0 +1,8 @@
+use Rattle.xf_shape.proofs.FixedEquations.{step-placed}
+use Rattle.xf_shape.proofs.steps.stepped.Goals as goal
+
+pub taken-requires-clause-placed : goal.taken-requires-clause-placed
+taken-requires-clause-placed g c = step-placed c.args.step.now c.requires.fixed
+
+pub taken-requires-2-clause-placed : goal.taken-requires-2-clause-placed
+taken-requires-2-clause-placed g c = step-placed c.args.step.now c.requires.fixed
