@@ -1,5 +1,5 @@
 -- The value of a call as the evaluator tells functions apart is what the table of functions says.
-use Rattle.std.proofs.Common.{◌≡◌, ℕ, Bool, true, false, List, [], ◌∷◌, Option, Some, None, option_map, refl, sym, ap, ◌∙◌}
+use Rattle.std.proofs.Common.{◌≡◌, ℕ, zero, suc, List, [], ◌∷◌, Option, Some, None, option_map, refl, ap, ◌∙◌}
 use Rattle.std.specs.Prelude.{option_and_then, unwrap_or}
 use Rattle.xf_base.specs.Limits.{string_limit}
 use Rattle.xf_doc.specs.declared.content.Node.{Node}
@@ -11,10 +11,11 @@ use Rattle.xf_funcs.specs.Called as funcs
 use Rattle.xf_lang.specs.declared.context.Context.{Context}
 use Rattle.xf_lang.specs.declared.value.Value.{Value}
 use Rattle.xf_lang.specs.declared.value.Value.TheVariants.{Nodes, Text, Number, Truth}
-use Rattle.xf_lang.specs.Given.{Given, beside, property_of}
+use Rattle.xf_lang.specs.Given.{Given, beside, document_of, property_of}
 use Rattle.xf_lang.specs.Setting.{Focus, Meaning, Setting}
+use Rattle.xf_lang.specs.Binding.{as_list}
 use Rattle.xf_lang.specs.Conversions.{nodes_of, number_of, plain_of, string_of, truth_of, value_of_plain}
-use Rattle.xf_lang.specs.Functions.{argument, branched, index_number, local_part, namespace_of, own_argument, plain_arguments}
+use Rattle.xf_lang.specs.Functions.{argument, branched, index_number, instance_id, local_part, namespace_of, own_argument, plain_arguments, set_of}
 use Rattle.xf_lang.specs.Functions as functions
 use Rattle.xf_lang.specs.Meaning.{focus_of}
 use Rattle.xf_eval.specs.declared.kinds.Kind.{Kind}
@@ -23,7 +24,7 @@ use Rattle.xf_eval.specs.Kinds.{function_in}
 use Rattle.xf_eval.specs.Worth.{seen, setting_at, setting_in}
 use Rattle.xf_eval.specs.OfNodes.{first_content}
 use Rattle.xf_eval.specs.OfOne.{one_worth, own_worth, plain_worth}
-use Rattle.xf_eval.specs.ByKind.{by_kind}
+use Rattle.xf_eval.specs.ByKind.{argument_or, by_kind}
 use Rattle.xf_eval.proofs.Erased.{name-seen}
 use Rattle.xf_eval.proofs.Settings.{number-same, plain-same, string-same}
 
@@ -70,30 +71,107 @@ name-call : (nodes : List Node) (part : Option Name → List ℕ) (v : Value) �
     option_map Text (capped (Some string_limit) (part (functions.first_name (seen nodes) (nodes_of v)))) ≡ option_map Text (capped (Some string_limit) (part (option_and_then name_in (first_content nodes (nodes_of v)))))
 name-call nodes part v = ap (λ name. option_map Text (capped (Some string_limit) (part name))) (name-seen nodes (nodes_of v))
 
+-- ---- an argument, and what stands for one that is not written
+
+pub argument-none : (at : ℕ) (ms : List Meaning) (s : Setting) (c : Focus) → argument at ms s c ≡ argument_or at [] ms s c
+argument-none at [] s c = refl
+argument-none zero (m ∷ ms) s c = refl
+argument-none (suc at) (m ∷ ms) s c = argument-none at ms s c
+
+argument-own : (ms : List Meaning) (s : Setting) (c : Focus) → own_argument ms s c ≡ argument_or 0 (c.node ∷ []) ms s c
+argument-own [] s c = refl
+argument-own (m ∷ ms) s c = refl
+
+one-argument : (k : Kind) (given : Given) (nodes : List Node) (context : Context) (ms : List Meaning) (s : Setting) (c : Focus) →
+    (argument 0 ms s c >>= one_worth k context.model given nodes) ≡ (argument_or 0 [] ms s c >>= one_worth k context.model given nodes)
+one-argument k given nodes context ms s c = ap (λ m. m >>= one_worth k context.model given nodes) (argument-none 0 ms s c)
+
+own-argument : (k : Kind) (code : ℕ) (given : Given) (nodes : List Node) (ms : List Meaning) (s : Setting) (c : Focus) →
+    (own_argument ms s c >>= own_worth k code given nodes) ≡ (argument_or 0 (c.node ∷ []) ms s c >>= own_worth k code given nodes)
+own-argument k code given nodes ms s c = ap (λ m. m >>= own_worth k code given nodes) (argument-own ms s c)
+
+-- ---- the document element of an instance
+
+set-listed : (m : Option ℕ) → set_of m ≡ Nodes (as_list m)
+set-listed None = refl
+set-listed (Some n) = refl
+
+map-same : {A B : Type 0} (f g : A → B) → ((x : A) → f x ≡ g x) → (m : Option A) → option_map f m ≡ option_map g m
+map-same f g h None = refl
+map-same f g h (Some x) = ap Some (h x)
+
+instance-call : (given : Given) (nodes : List Node) (context : Context) (v : Value) →
+    option_map (λ id. set_of (document_of context.model id given.documents)) (string_of (setting_at given nodes context) v) ≡ one_worth kind.Instance context.model given nodes v
+instance-call given nodes context v =
+    ap (option_map (λ id. set_of (document_of context.model id given.documents))) (string-same given nodes context v)
+    ∙ map-same (λ id. set_of (document_of context.model id given.documents)) (λ id. Nodes (as_list (document_of context.model id given.documents))) (λ id. set-listed (document_of context.model id given.documents)) (string_of (setting_in nodes) v)
+
+instance-each : (given : Given) (nodes : List Node) (context : Context) (m : Option Value) →
+    option_map (λ id. set_of (document_of context.model id given.documents)) (m >>= string_of (setting_at given nodes context)) ≡ (m >>= one_worth kind.Instance context.model given nodes)
+instance-each given nodes context None = refl
+instance-each given nodes context (Some v) = instance-call given nodes context v
+
+instance-kind : (given : Given) (nodes : List Node) (context : Context) (ms : List Meaning) →
+    option_map (λ id. set_of (document_of context.model id given.documents)) (instance_id ms (setting_at given nodes context) (focus_of context)) ≡ (argument_or 0 [] ms (setting_at given nodes context) (focus_of context) >>= one_worth kind.Instance context.model given nodes)
+instance-kind given nodes context [] = instance-call given nodes context (Nodes [])
+instance-kind given nodes context (m ∷ ms) = instance-each given nodes context (m (setting_at given nodes context) (focus_of context))
+
 pub by-kind : (k : Kind) (code : ℕ) (given : Given) (nodes : List Node) (context : Context) (ms : List Meaning) →
     functions.called (function_in k) code ms (setting_at given nodes context) (focus_of context) ≡ by_kind k code given nodes context ms
 by-kind kind.Asking code given nodes context ms = plain-call code (plain_arguments ms (setting_at given nodes context) (focus_of context))
 by-kind kind.Plainly code given nodes context ms = plain-call code (plain_arguments ms (setting_at given nodes context) (focus_of context))
-by-kind kind.Owning code given nodes context ms = own-call code given nodes context (own_argument ms (setting_at given nodes context) (focus_of context))
-by-kind kind.Boolean code given nodes context ms = truth-call (λ v. Truth (truth_of v)) (argument 0 ms (setting_at given nodes context) (focus_of context))
-by-kind kind.Not code given nodes context ms = truth-call _ (argument 0 ms (setting_at given nodes context) (focus_of context))
+by-kind kind.Owning code given nodes context ms =
+    own-call code given nodes context (own_argument ms (setting_at given nodes context) (focus_of context))
+    ∙ own-argument kind.Owning code given nodes ms (setting_at given nodes context) (focus_of context)
+by-kind kind.Boolean code given nodes context ms =
+    truth-call (λ v. Truth (truth_of v)) (argument 0 ms (setting_at given nodes context) (focus_of context))
+    ∙ one-argument kind.Boolean given nodes context ms (setting_at given nodes context) (focus_of context)
+by-kind kind.Not code given nodes context ms =
+    truth-call _ (argument 0 ms (setting_at given nodes context) (focus_of context))
+    ∙ one-argument kind.Not given nodes context ms (setting_at given nodes context) (focus_of context)
 by-kind (kind.Truth b) code given nodes context ms = refl
 by-kind kind.Choosing code given nodes context ms = refl
 by-kind kind.Branching code given nodes context ms = branch-call given nodes context (branched ms (setting_at given nodes context) (focus_of context))
-by-kind kind.Counting code given nodes context ms = at-each (argument 0 ms (setting_at given nodes context) (focus_of context)) _ _ (λ v. refl)
-by-kind kind.CountingFilled code given nodes context ms = at-each (argument 0 ms (setting_at given nodes context) (focus_of context)) _ _ (λ v. refl)
-by-kind kind.Adding code given nodes context ms = at-each (argument 0 ms (setting_at given nodes context) (focus_of context)) _ _ (λ v. refl)
-by-kind kind.Averaging code given nodes context ms = at-each (argument 0 ms (setting_at given nodes context) (focus_of context)) _ _ (λ v. refl)
-by-kind kind.Greatest code given nodes context ms = at-each (argument 0 ms (setting_at given nodes context) (focus_of context)) _ _ (λ v. refl)
-by-kind kind.Least code given nodes context ms = at-each (argument 0 ms (setting_at given nodes context) (focus_of context)) _ _ (λ v. refl)
-by-kind kind.LocalName code given nodes context ms = at-each (own_argument ms (setting_at given nodes context) (focus_of context)) _ _ (name-call nodes local_part)
-by-kind kind.Name code given nodes context ms = at-each (own_argument ms (setting_at given nodes context) (focus_of context)) _ _ (name-call nodes written_in)
-by-kind kind.Namespace code given nodes context ms = at-each (own_argument ms (setting_at given nodes context) (focus_of context)) _ _ (name-call nodes (namespace_of given.bindings))
-by-kind kind.Number code given nodes context ms = number-call given nodes context (own_argument ms (setting_at given nodes context) (focus_of context))
-by-kind kind.Text code given nodes context ms = text-call given nodes context Text (own_argument ms (setting_at given nodes context) (focus_of context))
+by-kind kind.Counting code given nodes context ms =
+    at-each (argument 0 ms (setting_at given nodes context) (focus_of context)) _ _ (λ v. refl)
+    ∙ one-argument kind.Counting given nodes context ms (setting_at given nodes context) (focus_of context)
+by-kind kind.CountingFilled code given nodes context ms =
+    at-each (argument 0 ms (setting_at given nodes context) (focus_of context)) _ _ (λ v. refl)
+    ∙ one-argument kind.CountingFilled given nodes context ms (setting_at given nodes context) (focus_of context)
+by-kind kind.Adding code given nodes context ms =
+    at-each (argument 0 ms (setting_at given nodes context) (focus_of context)) _ _ (λ v. refl)
+    ∙ one-argument kind.Adding given nodes context ms (setting_at given nodes context) (focus_of context)
+by-kind kind.Averaging code given nodes context ms =
+    at-each (argument 0 ms (setting_at given nodes context) (focus_of context)) _ _ (λ v. refl)
+    ∙ one-argument kind.Averaging given nodes context ms (setting_at given nodes context) (focus_of context)
+by-kind kind.Greatest code given nodes context ms =
+    at-each (argument 0 ms (setting_at given nodes context) (focus_of context)) _ _ (λ v. refl)
+    ∙ one-argument kind.Greatest given nodes context ms (setting_at given nodes context) (focus_of context)
+by-kind kind.Least code given nodes context ms =
+    at-each (argument 0 ms (setting_at given nodes context) (focus_of context)) _ _ (λ v. refl)
+    ∙ one-argument kind.Least given nodes context ms (setting_at given nodes context) (focus_of context)
+by-kind kind.LocalName code given nodes context ms =
+    at-each (own_argument ms (setting_at given nodes context) (focus_of context)) _ _ (name-call nodes local_part)
+    ∙ own-argument kind.LocalName code given nodes ms (setting_at given nodes context) (focus_of context)
+by-kind kind.Name code given nodes context ms =
+    at-each (own_argument ms (setting_at given nodes context) (focus_of context)) _ _ (name-call nodes written_in)
+    ∙ own-argument kind.Name code given nodes ms (setting_at given nodes context) (focus_of context)
+by-kind kind.Namespace code given nodes context ms =
+    at-each (own_argument ms (setting_at given nodes context) (focus_of context)) _ _ (name-call nodes (namespace_of given.bindings))
+    ∙ own-argument kind.Namespace code given nodes ms (setting_at given nodes context) (focus_of context)
+by-kind kind.Number code given nodes context ms =
+    number-call given nodes context (own_argument ms (setting_at given nodes context) (focus_of context))
+    ∙ own-argument kind.Number code given nodes ms (setting_at given nodes context) (focus_of context)
+by-kind kind.Text code given nodes context ms =
+    text-call given nodes context Text (own_argument ms (setting_at given nodes context) (focus_of context))
+    ∙ own-argument kind.Text code given nodes ms (setting_at given nodes context) (focus_of context)
 by-kind kind.Current code given nodes context ms = refl
-by-kind kind.Event code given nodes context ms = text-call given nodes context (λ name. unwrap_or (property_of name given.event) (Nodes [])) (argument 0 ms (setting_at given nodes context) (focus_of context))
-by-kind kind.Index code given nodes context ms = text-call given nodes context (λ id. Number (index_number 6 (beside id given.indexes))) (argument 0 ms (setting_at given nodes context) (focus_of context))
-by-kind kind.Instance code given nodes context ms = refl
+by-kind kind.Event code given nodes context ms =
+    text-call given nodes context (λ name. unwrap_or (property_of name given.event) (Nodes [])) (argument 0 ms (setting_at given nodes context) (focus_of context))
+    ∙ one-argument kind.Event given nodes context ms (setting_at given nodes context) (focus_of context)
+by-kind kind.Index code given nodes context ms =
+    text-call given nodes context (λ id. Number (index_number 6 (beside id given.indexes))) (argument 0 ms (setting_at given nodes context) (focus_of context))
+    ∙ one-argument kind.Index given nodes context ms (setting_at given nodes context) (focus_of context)
+by-kind kind.Instance code given nodes context ms = instance-kind given nodes context ms
 by-kind kind.Last code given nodes context ms = refl
 by-kind kind.Position code given nodes context ms = refl

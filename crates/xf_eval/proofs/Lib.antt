@@ -7,3 +7,7 @@ pub mod Settings
 pub mod Called
 pub mod Parts
 pub mod Runs
+pub mod Bounded
+pub mod Arguments
+pub mod Kept
+pub mod Falls

@@ -8,7 +8,6 @@ use Rattle.xf_name.specs.declared.axis.Axis.{Axis}
 use Rattle.xf_ast.specs.declared.expr.Test.{Test}
 use Rattle.xf_doc.specs.declared.content.Node.{Node}
 use Rattle.xf_doc.specs.declared.node.NodeId.{NodeId}
-use Rattle.xf_doc.specs.declared.content.Content.{Content}
 use Rattle.xf_doc.specs.Forest.{Forest, content_at, has_number}
 use Rattle.xf_doc.specs.Visit.{Visit, visits, has}
 use Rattle.xf_doc.specs.Axis.{axis_from, axis_of, is_reverse, on_axis}
@@ -23,7 +22,7 @@ use Rattle.xf_lang.specs.Tests.{meets}
 use Rattle.xf_lang.proofs.ForestVisits.{Each, each-map, self-found}
 use Rattle.xf_eval.specs.Live.{AllLive}
 use Rattle.xf_eval.specs.Met.{is_met}
-use Rattle.xf_eval.proofs.Erased.{content-seen, reached-erased, in_order-erased}
+use Rattle.xf_eval.proofs.Erased.{content-seen, reached-erased}
 
 and-left : (a b : Bool) → (a && b) ≡ true → a ≡ true
 and-left true b h = refl

@@ -1,13 +1,12 @@
 -- One level of an expression from what its parts gave: steps, operators, calls, and the whole.
-use Rattle.std.proofs.Common.{◌≡◌, ◌⊎◌, inl, inr, ℕ, zero, suc, ◌<◌, ◌≤◌, length, get_or, arith, Bool, true, false, not, List, [], ◌∷◌, ◌++◌, map, Option, Some, None, option_map, Result, Ok, Err, refl, sym, ap, ◌∙◌}
+use Rattle.std.proofs.Common.{◌≡◌, inl, inr, ℕ, zero, suc, ◌<◌, ◌≤◌, length, get_or, arith, Bool, true, false, not, List, [], ◌∷◌, map, Option, Some, None, option_map, Result, Ok, Err, refl, sym, ap, ◌∙◌}
 use Rattle.xf_base.specs.Gives.{Gives}
 use Rattle.xf_doc.specs.declared.content.Node.{Node}
 use Rattle.xf_ast.specs.declared.expr.Expr.{Expr}
 use Rattle.xf_ast.specs.declared.expr.Expr.TheVariants as expr
 use Rattle.xf_ast.specs.declared.expr.Step.{Step}
-use Rattle.xf_ast.specs.declared.expr.Link.{Link}
 use Rattle.xf_ast.specs.declared.expr.Operator.{Operator}
-use Rattle.xf_ast.specs.declared.expr.Operator.TheVariants.{Or, And, Equal, NotEqual, Less, LessOrEqual, Greater, GreaterOrEqual, Add, Subtract, Multiply, Divide, Modulo, Union}
+use Rattle.xf_ast.specs.declared.expr.Operator.TheVariants.{Or, And}
 use Rattle.xf_plain_values.specs.Bounded.{◌>>=◌, GivesBounded}
 use Rattle.xf_funcs.specs.Called.{called}
 use Rattle.xf_lang.specs.declared.context.Context.{Context}
@@ -18,7 +17,6 @@ use Rattle.xf_lang.specs.declared.value.Value.TheVariants.{Nodes, Truth}
 use Rattle.xf_lang.specs.Given.{Given}
 use Rattle.xf_lang.specs.Setting.{Focus, Meaning, Setting, each, in_order, joined}
 use Rattle.xf_lang.specs.Conversions.{truth_of}
-use Rattle.xf_lang.specs.Functions.{argument}
 use Rattle.xf_lang.specs.Functions as functions
 use Rattle.xf_lang.specs.Meaning.{focus_of, meaning, or_long, setting_of, walk_of}
 use Rattle.xf_lang.specs.Operators.{and_then, linked, or_else, truly}
@@ -26,9 +24,11 @@ use Rattle.xf_lang.specs.Steps.{begun_at, from_one}
 use Rattle.xf_lang.specs.Table.{function_at}
 use Rattle.xf_lang.proofs.Equations.{meaning-Call, walk-step}
 use Rattle.xf_eval.specs.declared.kinds.Kind.{Kind}
+use Rattle.xf_eval.specs.declared.kinds.Kind.TheVariants as kind
 use Rattle.xf_eval.specs.Kinds.{function_in}
 use Rattle.xf_eval.specs.Answered.{answered, decides}
-use Rattle.xf_eval.specs.ByKind.{by_kind}
+use Rattle.xf_eval.specs.ByKind.{argument_or, by_kind}
+use Rattle.xf_eval.specs.OfOne.{one_worth}
 use Rattle.xf_eval.specs.Taken.{taken}
 use Rattle.xf_eval.specs.Worth.{setting_at, setting_in}
 use Rattle.xf_eval.proofs.Called.{by-kind}
@@ -93,17 +93,47 @@ call-worth place code arguments k given nodes context h =
     ∙ ap (λ f. functions.called f code (map meaning arguments) (setting_at given nodes context) (focus_of context)) (sym h)
     ∙ by-kind k code given nodes context (map meaning arguments)
 
--- the argument that is written at a place
-pub argument-within : (arguments : List Expr) (at : ℕ) (other : Expr) (s : Setting) (c : Focus) → at < length arguments → argument at (map meaning arguments) s c ≡ meaning (get_or arguments at other) s c
-argument-within [] at other s c h = absurd (omega arith)
-argument-within (e ∷ es) zero other s c h = refl
-argument-within (e ∷ es) (suc at) other s c h = argument-within es at other s c (omega arith)
+-- a function of one argument
+pub by-other : (k : Kind) (code : ℕ) (given : Given) (nodes : List Node) (context : Context) (ms : List Meaning) →
+    (k ≡ kind.Asking → ⊥) → (k ≡ kind.Plainly → ⊥) → (k ≡ kind.Owning → ⊥) → ((b : Bool) → k ≡ kind.Truth b → ⊥) → (k ≡ kind.Choosing → ⊥) → (k ≡ kind.Branching → ⊥) → (k ≡ kind.LocalName → ⊥) → (k ≡ kind.Name → ⊥) → (k ≡ kind.Namespace → ⊥) → (k ≡ kind.Number → ⊥) → (k ≡ kind.Text → ⊥) → (k ≡ kind.Current → ⊥) → (k ≡ kind.Last → ⊥) → (k ≡ kind.Position → ⊥) →
+    by_kind k code given nodes context ms ≡ (argument_or 0 [] ms (setting_at given nodes context) (focus_of context) >>= one_worth k context.model given nodes)
+by-other kind.Asking code given nodes context ms a b c d e f g h i j k l m n = absurd (a refl)
+by-other kind.Plainly code given nodes context ms a b c d e f g h i j k l m n = absurd (b refl)
+by-other kind.Owning code given nodes context ms a b c d e f g h i j k l m n = absurd (c refl)
+by-other (kind.Truth t) code given nodes context ms a b c d e f g h i j k l m n = absurd (d t refl)
+by-other kind.Choosing code given nodes context ms a b c d e f g h i j k l m n = absurd (e refl)
+by-other kind.Branching code given nodes context ms a b c d e f g h i j k l m n = absurd (f refl)
+by-other kind.LocalName code given nodes context ms a b c d e f g h i j k l m n = absurd (g refl)
+by-other kind.Name code given nodes context ms a b c d e f g h i j k l m n = absurd (h refl)
+by-other kind.Namespace code given nodes context ms a b c d e f g h i j k l m n = absurd (i refl)
+by-other kind.Number code given nodes context ms a b c d e f g h i j k l m n = absurd (j refl)
+by-other kind.Text code given nodes context ms a b c d e f g h i j k l m n = absurd (k refl)
+by-other kind.Current code given nodes context ms a b c d e f g h i j k l m n = absurd (l refl)
+by-other kind.Last code given nodes context ms a b c d e f g h i j k l m n = absurd (m refl)
+by-other kind.Position code given nodes context ms a b c d e f g h i j k l m n = absurd (n refl)
+by-other kind.Boolean code given nodes context ms a b c d e f g h i j k l m n = refl
+by-other kind.Not code given nodes context ms a b c d e f g h i j k l m n = refl
+by-other kind.Counting code given nodes context ms a b c d e f g h i j k l m n = refl
+by-other kind.CountingFilled code given nodes context ms a b c d e f g h i j k l m n = refl
+by-other kind.Adding code given nodes context ms a b c d e f g h i j k l m n = refl
+by-other kind.Averaging code given nodes context ms a b c d e f g h i j k l m n = refl
+by-other kind.Greatest code given nodes context ms a b c d e f g h i j k l m n = refl
+by-other kind.Least code given nodes context ms a b c d e f g h i j k l m n = refl
+by-other kind.Event code given nodes context ms a b c d e f g h i j k l m n = refl
+by-other kind.Index code given nodes context ms a b c d e f g h i j k l m n = refl
+by-other kind.Instance code given nodes context ms a b c d e f g h i j k l m n = refl
 
--- one that is not written is the empty set
-pub argument-past : (arguments : List Expr) (at : ℕ) (s : Setting) (c : Focus) → length arguments ≤ at → argument at (map meaning arguments) s c ≡ Some (Nodes [])
-argument-past [] at s c h = refl
-argument-past (e ∷ es) zero s c h = absurd (omega arith)
-argument-past (e ∷ es) (suc at) s c h = argument-past es at s c (omega arith)
+-- the argument that is written at a place
+pub argument-within : (arguments : List Expr) (at : ℕ) (own : List ℕ) (other : Expr) (s : Setting) (c : Focus) → at < length arguments → argument_or at own (map meaning arguments) s c ≡ meaning (get_or arguments at other) s c
+argument-within [] at own other s c h = absurd (omega arith)
+argument-within (e ∷ es) zero own other s c h = refl
+argument-within (e ∷ es) (suc at) own other s c h = argument-within es at own other s c (omega arith)
+
+-- what stands for one that is not written
+pub argument-past : (arguments : List Expr) (at : ℕ) (own : List ℕ) (s : Setting) (c : Focus) → length arguments ≤ at → argument_or at own (map meaning arguments) s c ≡ Some (Nodes own)
+argument-past [] at own s c h = refl
+argument-past (e ∷ es) zero own s c h = absurd (omega arith)
+argument-past (e ∷ es) (suc at) own s c h = argument-past es at own s c (omega arith)
 
 -- ---- a whole expression
 

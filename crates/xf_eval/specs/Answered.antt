@@ -1,8 +1,8 @@
 -- An operator whose sides are both evaluated, `or` and `and` among them where the left side did not decide (XPath 1.0, sections 3.3 to 3.5).
-use Rattle.std.specs.Prelude.{ℕ, Bool, true, false, not, Option, Some}
+use Rattle.std.specs.Prelude.{Bool, false, not, Option, Some}
 use Rattle.xf_num.specs.Number.{sum, difference, product, quotient, remainder}
 use Rattle.xf_ast.specs.declared.expr.Operator.{Operator}
-use Rattle.xf_ast.specs.declared.expr.Operator.TheVariants.{Or, And, Add, Subtract, Multiply, Divide, Modulo, Union}
+use Rattle.xf_ast.specs.declared.expr.Operator.TheVariants.{Or, And, Add, Subtract, Multiply, Divide}
 use Rattle.xf_lang.specs.declared.value.Value.{Value}
 use Rattle.xf_lang.specs.declared.value.Value.TheVariants.{Truth}
 use Rattle.xf_lang.specs.Setting.{Setting}

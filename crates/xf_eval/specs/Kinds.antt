@@ -1,5 +1,4 @@
 -- The functions in the order of their table, as the evaluator tells them apart.
-use Rattle.std.specs.Prelude.{Bool}
 use Rattle.xf_lang.specs.Table.{Function}
 use Rattle.xf_lang.specs.Table as of
 use Rattle.xf_eval.specs.declared.kinds.Kind.{Kind}

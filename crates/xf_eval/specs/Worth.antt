@@ -4,7 +4,6 @@ use Rattle.xf_base.specs.Limits.{string_limit}
 use Rattle.xf_doc.specs.declared.content.Node.{Node}
 use Rattle.xf_doc.specs.Visit.{Visit, visits}
 use Rattle.xf_doc.specs.Shape.{erased}
-use Rattle.xf_ast.specs.declared.expr.Operator.{Operator}
 use Rattle.xf_lang.specs.declared.context.Context.{Context}
 use Rattle.xf_lang.specs.declared.value.Value.{Value}
 use Rattle.xf_lang.specs.Given.{Given}

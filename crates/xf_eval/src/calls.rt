@@ -1,31 +1,27 @@
 //! Function calls (XPath 1.0, section 4; XForms 1.1, section 7).
 
-ghost use Rattle.std.specs.Prelude.{◌≡◌, [], IfOk, Some, map};
-ghost use Rattle.xf_base.specs.Limits.{string_limit};
+ghost use Rattle.std.specs.Prelude.{◌≡◌, [], IfOk, map, option_map};
 ghost use Rattle.xf_plain_values.specs.Bounded.{GivesBounded};
-ghost use Rattle.xf_funcs.specs.Called.{called};
 ghost use Rattle.xf_lang.specs.Conversions.{nodes_of, value_of_plain};
-ghost use Rattle.xf_lang.specs.Functions.{argument, branched, own_argument, plain_arguments};
-ghost use Rattle.xf_lang.specs.Functions as functions;
+ghost use Rattle.xf_lang.specs.Binding.{as_list};
+ghost use Rattle.xf_lang.specs.Functions.{branched, plain_arguments};
 ghost use Rattle.xf_lang.specs.Meaning.{focus_of, meaning};
-ghost use Rattle.xf_lang.specs.Table as of;
 ghost use Rattle.xf_eval.specs.Live.{AllLive, AroundStands, IsReady};
-ghost use Rattle.xf_eval.specs.Worth.{setting_at, setting_in};
+ghost use Rattle.xf_eval.specs.Worth.{setting_at};
 ghost use Rattle.xf_eval.specs.OfOne.{one_worth, own_worth, plain_worth};
-ghost use Rattle.xf_eval.specs.ByKind.{by_kind};
+ghost use Rattle.xf_eval.specs.ByKind.{argument_or, by_kind};
 
 use crate::around::Around;
 use crate::convert::{number_of, plain_of, text_of, truth_of, whole};
 use crate::expression::value_at;
 use crate::kinds::Kind;
 use crate::of_nodes::{name_of, of_nodes};
-use crate::sets::{copied, nodes_in, single};
+use crate::sets::{copied, listed, nodes_in, single};
 use std::alloc::Global;
 use xf_ast::Expr;
-use xf_doc::NodeList;
+use xf_doc::{NodeId, NodeList};
 use xf_funcs::{FuncFault, call};
 use xf_lang::{Context, EvalFault, Value};
-use xf_name::Word;
 use xf_num::Num;
 use xf_plain_values::Plain;
 use xf_tree::Forest;
@@ -59,20 +55,20 @@ pub(crate) fn call_value<A: Around>(
             let value = branched(alloc, forest, around, arguments, context)?;
             Ok(Value::Text(text_of(alloc, forest, &value)?))
         }
-        Kind::Instance => instance(alloc, forest, around, arguments, context),
         Kind::Owning | Kind::Number | Kind::Text | Kind::LocalName | Kind::Name | Kind::Namespace =>
             {
-                let value = own_argument(alloc, forest, around, arguments, context)?;
+                let own = Some(context.node);
+                let value = argument(alloc, forest, around, arguments, 0, own, context)?;
                 of_own(alloc, forest, around, kind, code, value)
             }
         _ => {
-            let value = argument(alloc, forest, around, arguments, 0, context)?;
-            of_one(alloc, forest, around, kind, value)
+            let value = argument(alloc, forest, around, arguments, 0, None, context)?;
+            of_one(alloc, forest, around, kind, context.model, value)
         }
     }
 }
 
-/// The argument at a place from 0; one that is not written is the empty set.
+/// The argument at a place from 0; where none is written, the set of the node that stands for it, or of none.
 #[cycle(value)]
 fn argument<A: Around>(
     alloc: Global,
@@ -80,34 +76,17 @@ fn argument<A: Around>(
     around: &A,
     arguments: &[Expr],
     at: usize,
+    own: Option<NodeId>,
     context: &Context,
 ) -> Result<Value, EvalFault>
-    requires { IsReady (A.given around.now) forest.now.forest.nodes context.now }
-    ensures value { GivesBounded EvalFault.Memory EvalFault.Long (λ value. value) result (argument at (map meaning arguments.now) (setting_at (A.given around.now) forest.now.forest.nodes context.now) (focus_of context.now)) }
+    requires ready { IsReady (A.given around.now) forest.now.forest.nodes context.now }
+    requires own { AllLive (as_list (option_map (λ n. n.number) own)) forest.now.forest.nodes }
+    ensures value { GivesBounded EvalFault.Memory EvalFault.Long (λ value. value) result (argument_or at (as_list (option_map (λ n. n.number) own)) (map meaning arguments.now) (setting_at (A.given around.now) forest.now.forest.nodes context.now) (focus_of context.now)) }
     ensures live { IfOk result (λ value. AllLive (nodes_of value) forest.now.forest.nodes) }
 {
     match arguments.get(at) {
         Some(argument) => value_at(alloc, forest, around, argument, context),
-        None => Ok(Value::Nodes(NodeList::new(alloc))),
-    }
-}
-
-/// The first argument, or the context node where none is written.
-#[cycle(value)]
-fn own_argument<A: Around>(
-    alloc: Global,
-    forest: &Forest,
-    around: &A,
-    arguments: &[Expr],
-    context: &Context,
-) -> Result<Value, EvalFault>
-    requires { IsReady (A.given around.now) forest.now.forest.nodes context.now }
-    ensures value { GivesBounded EvalFault.Memory EvalFault.Long (λ value. value) result (own_argument (map meaning arguments.now) (setting_at (A.given around.now) forest.now.forest.nodes context.now) (focus_of context.now)) }
-    ensures live { IfOk result (λ value. AllLive (nodes_of value) forest.now.forest.nodes) }
-{
-    match arguments.get(0) {
-        Some(argument) => value_at(alloc, forest, around, argument, context),
-        None => Ok(Value::Nodes(single(alloc, context.node)?)),
+        None => Ok(Value::Nodes(listed(alloc, own)?)),
     }
 }
 
@@ -144,35 +123,9 @@ fn branched<A: Around>(
     ensures value { GivesBounded EvalFault.Memory EvalFault.Long (λ value. value) result (branched (map meaning arguments.now) (setting_at (A.given around.now) forest.now.forest.nodes context.now) (focus_of context.now)) }
     ensures live { IfOk result (λ value. AllLive (nodes_of value) forest.now.forest.nodes) }
 {
-    let condition = argument(alloc, forest, around, arguments, 0, context)?;
+    let condition = argument(alloc, forest, around, arguments, 0, None, context)?;
     let at = if truth_of(&condition) { 1 } else { 2 };
-    argument(alloc, forest, around, arguments, at, context)
-}
-
-/// The document element of an instance, or the empty set.
-#[cycle(value)]
-fn instance<A: Around>(
-    alloc: Global,
-    forest: &Forest,
-    around: &A,
-    arguments: &[Expr],
-    context: &Context,
-) -> Result<Value, EvalFault>
-    requires { IsReady (A.given around.now) forest.now.forest.nodes context.now }
-    ensures value { GivesBounded EvalFault.Memory EvalFault.Long (λ value. value) result (functions.called of.instance 0 (map meaning arguments.now) (setting_at (A.given around.now) forest.now.forest.nodes context.now) (focus_of context.now)) }
-    ensures live { IfOk result (λ value. AllLive (nodes_of value) forest.now.forest.nodes) }
-{
-    let id = match arguments.get(0) {
-        Some(argument) => {
-            let value = value_at(alloc, forest, around, argument, context)?;
-            text_of(alloc, forest, &value)?
-        }
-        None => Word::new(alloc),
-    };
-    match around.instance(context.model, id.as_str()) {
-        Some(node) => Ok(Value::Nodes(single(alloc, node)?)),
-        None => Ok(Value::Nodes(NodeList::new(alloc))),
-    }
+    argument(alloc, forest, around, arguments, at, None, context)
 }
 
 /// What a function that may stand for the context node makes of its argument.
@@ -206,11 +159,12 @@ fn of_one<A: Around>(
     forest: &Forest,
     around: &A,
     kind: Kind,
+    model: u32,
     value: Value,
 ) -> Result<Value, EvalFault>
     requires around { AroundStands (A.given around.now) forest.now.forest.nodes }
     requires value { AllLive (nodes_of value) forest.now.forest.nodes }
-    ensures value { GivesBounded EvalFault.Memory EvalFault.Long (λ value. value) result (one_worth kind (A.given around.now) forest.now.forest.nodes value) }
+    ensures value { GivesBounded EvalFault.Memory EvalFault.Long (λ value. value) result (one_worth kind model (A.given around.now) forest.now.forest.nodes value) }
     ensures live { IfOk result (λ value. AllLive (nodes_of value) forest.now.forest.nodes) }
 {
     match kind {
@@ -229,6 +183,10 @@ fn of_one<A: Around>(
                 Some(index) => Ok(Value::Number(whole(index as usize))),
                 None => Ok(Value::Number(Num::nan())),
             }
+        }
+        Kind::Instance => {
+            let id = text_of(alloc, forest, &value)?;
+            Ok(Value::Nodes(listed(alloc, around.instance(model, id.as_str()))?))
         }
         kind => of_nodes(alloc, forest, kind, &nodes_in(alloc, value)),
     }

@@ -43,8 +43,9 @@ pub fn evaluate<A: Around, L: Ledger>(
     value_at(alloc, forest, around, expr, context)
 }
 
+/// The value of an expression over a forest, as by `evaluate`, without a step.
 #[cycle(value)]
-pub(crate) fn value_at<A: Around>(
+pub fn value_at<A: Around>(
     alloc: Global,
     forest: &Forest,
     around: &A,

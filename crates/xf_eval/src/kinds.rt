@@ -93,7 +93,7 @@ static KINDS: [Kind; 45] = [
 ghost use Rattle.xf_eval.specs.Kinds.{function_in};
 
 /// The function with a code.
-pub(crate) fn kind_of(code: u16) -> Kind
+pub fn kind_of(code: u16) -> Kind
     ensures { function_in result ≡ function_at code }
 {
     match KINDS.get(code as usize) {

@@ -9,7 +9,7 @@ use xf_doc::Content;
 use xf_name::{Axis, QName};
 
 /// Whether what a node is meets the test on an axis.
-pub(crate) fn meets(axis: Axis, test: &Test, content: &Content) -> bool
+pub fn meets(axis: Axis, test: &Test, content: &Content) -> bool
     ensures { result ≡ meets axis test.now content.now }
 {
     match test {

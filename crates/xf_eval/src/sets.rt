@@ -1,9 +1,10 @@
 //! Sets of nodes.
 
-ghost use Rattle.std.specs.Prelude.{◌≡◌, [], ◌∷◌, ◌++◌, true, IfOk, OnOk};
+ghost use Rattle.std.specs.Prelude.{◌≡◌, [], ◌∷◌, ◌++◌, true, option_map, IfOk, OnOk};
 ghost use Rattle.xf_name.specs.declared.axis.Axis.TheVariants.{DescendantOrSelf};
 ghost use Rattle.xf_ast.specs.declared.expr.Test.TheVariants.{Node};
 ghost use Rattle.xf_doc.specs.Forest.{IsLive, content_at};
+ghost use Rattle.xf_lang.specs.Binding.{as_list};
 ghost use Rattle.xf_lang.specs.Conversions.{nodes_of};
 ghost use Rattle.xf_lang.specs.Steps.{reached, begun_at};
 ghost use Rattle.xf_eval.specs.Live.{AllLive};
@@ -19,7 +20,7 @@ use xf_name::{Axis, Word};
 use xf_tree::Forest;
 
 /// What the axis and the test select from a node, in the order of the axis (XPath 1.0, section 2.1).
-pub(crate) fn reached(
+pub fn reached(
     alloc: Global,
     forest: &Forest,
     node: NodeId,
@@ -51,11 +52,7 @@ fn is_met(forest: &Forest, node: NodeId, axis: Axis, test: &Test) -> bool
 }
 
 /// All nodes from these down, in document order, each once: where a step behind `//` begins (XPath 1.0, section 2.5).
-pub(crate) fn all_below(
-    alloc: Global,
-    forest: &Forest,
-    nodes: &NodeList,
-) -> Result<NodeList, AllocError>
+fn all_below(alloc: Global, forest: &Forest, nodes: &NodeList) -> Result<NodeList, AllocError>
     requires { AllLive nodes.now forest.now.forest.nodes }
     ensures value { IfOk result (λ found. found ≡ begun_at true (seen forest.now.forest.nodes) nodes.now) }
     ensures live { IfOk result (λ found. AllLive found forest.now.forest.nodes) }
@@ -68,8 +65,25 @@ pub(crate) fn all_below(
     forest.in_order(&found)
 }
 
+/// Where a step begins: at these nodes, behind `//` at all nodes from these down.
+pub(crate) fn started(
+    alloc: Global,
+    forest: &Forest,
+    is_below: bool,
+    nodes: NodeList,
+) -> Result<NodeList, AllocError>
+    requires { AllLive nodes forest.now.forest.nodes }
+    ensures value { IfOk result (λ start. start ≡ begun_at is_below (seen forest.now.forest.nodes) nodes) }
+    ensures live { IfOk result (λ start. AllLive start forest.now.forest.nodes) }
+{
+    if is_below {
+        return all_below(alloc, forest, &nodes);
+    }
+    Ok(nodes)
+}
+
 /// Puts nodes behind others.
-pub(crate) fn append(nodes: &mut NodeList, more: &NodeList) -> Result<(), AllocError>
+pub fn append(nodes: &mut NodeList, more: &NodeList) -> Result<(), AllocError>
     ensures { OnOk result (nodes.new ≡ nodes.old ++ more.now) }
 {
     for node in more.as_slice() {
@@ -79,12 +93,22 @@ pub(crate) fn append(nodes: &mut NodeList, more: &NodeList) -> Result<(), AllocE
 }
 
 /// One node alone.
-pub(crate) fn single(alloc: Global, node: NodeId) -> Result<NodeList, AllocError>
+pub fn single(alloc: Global, node: NodeId) -> Result<NodeList, AllocError>
     ensures { IfOk result (λ nodes. nodes ≡ node.number ∷ []) }
 {
     let mut nodes = NodeList::new(alloc);
     nodes.push(node)?;
     Ok(nodes)
+}
+
+/// The node that is given, alone, or none.
+pub(crate) fn listed(alloc: Global, node: Option<NodeId>) -> Result<NodeList, AllocError>
+    ensures { IfOk result (λ nodes. nodes ≡ as_list (option_map (λ n. n.number) node)) }
+{
+    match node {
+        Some(node) => single(alloc, node),
+        None => Ok(NodeList::new(alloc)),
+    }
 }
 
 /// The nodes of a value: a plain value has none.

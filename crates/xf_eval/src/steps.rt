@@ -13,7 +13,7 @@ ghost use Rattle.xf_eval.specs.Taken.{taken};
 use crate::around::Around;
 use crate::convert::{truth_of, whole};
 use crate::expression::value_at;
-use crate::sets::{all_below, append, reached, single};
+use crate::sets::{append, reached, single, started};
 use std::alloc::{AllocError, Global};
 use std::cmp::Ordering;
 use xf_ast::{Expr, Start, Step};
@@ -38,31 +38,10 @@ pub(crate) fn walked<A: Around>(
 {
     let mut nodes = from;
     for step in steps {
-        nodes = stepped(alloc, forest, around, step, &nodes, context)?;
+        let start = started(alloc, forest, step.is_below, nodes)?;
+        nodes = taken(alloc, forest, around, step, &start, context)?;
     }
     Ok(nodes)
-}
-
-/// The nodes that a step reaches from these; behind `//` it begins at all nodes below them too.
-#[cycle(value)]
-fn stepped<A: Around>(
-    alloc: Global,
-    forest: &Forest,
-    around: &A,
-    step: &Step,
-    nodes: &NodeList,
-    context: &Context,
-) -> Result<NodeList, EvalFault>
-    requires ready { IsReady (A.given around.now) forest.now.forest.nodes context.now }
-    requires from { AllLive nodes.now forest.now.forest.nodes }
-    ensures value { GivesBounded EvalFault.Memory EvalFault.Long (λ found. found) result (walk_of step.now (setting_at (A.given around.now) forest.now.forest.nodes context.now) nodes.now) }
-    ensures live { IfOk result (λ found. AllLive found forest.now.forest.nodes) }
-{
-    if step.is_below {
-        let below = all_below(alloc, forest, nodes)?;
-        return taken(alloc, forest, around, step, &below, context);
-    }
-    taken(alloc, forest, around, step, nodes, context)
 }
 
 /// What the axis, the test and the predicates of a step select from each of these nodes, in document order, each once.
@@ -155,8 +134,8 @@ fn kept_by<A: Around>(
     Ok(kept)
 }
 
-/// Whether a predicate with this value keeps the node at a position: a number is true at its own.
-fn is_true_at(value: &Value, position: u32) -> bool
+/// Whether a predicate with this value keeps the node at a position: a number is true at its own (XPath 1.0, section 2.4).
+pub fn is_true_at(value: &Value, position: u32) -> bool
     ensures { result ≡ is_true_at 6 position value.now }
 {
     match value {

@@ -1,8 +1,9 @@
-use Rattle.std.proofs.Common.{◌≡◌, ◌++◌, suc, map, drop, length, option_map}
+use Rattle.std.proofs.Common.{◌≡◌, ◌++◌, suc, map, drop, length, Option, option_map}
 use Rattle.xf_lang.specs.Conversions.{nodes_of, plain_of}
 use Rattle.xf_lang.specs.Meaning.{focus_of, meaning, meaning_of_link, walk_of}
 use Rattle.xf_lang.specs.Operators.{chained}
-use Rattle.xf_lang.specs.Setting.{◌>>=◌, each, joined}
+use Rattle.xf_plain_values.specs.declared.plain.Plain.{Plain}
+use Rattle.xf_lang.specs.Setting.{Meaning, ◌>>=◌, each, joined}
 use Rattle.xf_lang.specs.Steps.{from_one, kept_by_all, kept_from, walked}
 use Rattle.xf_eval.specs.Live.{AllLive}
 use Rattle.xf_eval.specs.Worth.{setting_at}
@@ -52,5 +53,5 @@ abbrev pub invariant-calls::plain_arguments-loop-argument : goal.invariant-calls
 invariant-calls::plain_arguments-loop-argument g l =
     let s = setting_at (g.A.Around.given l.around) l.forest.forest.nodes l.context in
     let c = focus_of l.context in
-    let one = λ m. m s c >>= plain_of s in
+    let one : Meaning → Option Plain = λ m. m s c >>= plain_of s in
     onto l.given.items (each one (map meaning (drop l.argument-index l.arguments))) ≡ each one (map meaning l.arguments)

@@ -1,9 +1,7 @@
-use Rattle.std.proofs.Common.{◌≡◌, Some, None, Option, List, ℕ, sym, ap, subst}
+use Rattle.std.proofs.Common.{Some, List, ℕ, sym, subst}
 use Rattle.xf_base.specs.Limits.{string_limit}
 use Rattle.xf_doc.specs.Visit.{visits}
-use Rattle.xf_doc.specs.StringValue.{string_value}
 use Rattle.xf_doc.proofs.PieceLaws.{whole-value}
-use Rattle.xf_lang.specs.declared.fault.EvalFault.{EvalFault}
 use Rattle.xf_lang.specs.declared.fault.EvalFault.TheVariants.{Long, Memory}
 use Rattle.xf_plain_values.specs.Bounded.{GivesBounded, capped}
 use Rattle.xf_eval.proofs.convert.string_of_node.Goals as goal
