@@ -1,0 +1,18 @@
+//! The law on which recalculating only what a change can reach rests: two forests that agree on what an expression reads and looks at give
+//! it one value, for every static expression. Each function does nothing: its contract is a law.
+#![tactic(auto)]
+
+ghost use Rattle.xf_agree.specs.Settles.{CalculatesAgree, SettlesOnce, Settles};
+
+/// Data that hold the same contents at the nodes that a static calculate reads give it one text.
+pub fn calculates_agree()
+    ensures { CalculatesAgree }
+{
+}
+
+/// Where no cycle of static calculates stands, there is one settled state and no other.
+pub fn settles()
+    ensures { SettlesOnce }
+    ensures { Settles }
+{
+}
