@@ -12,7 +12,7 @@ pub fn calculates_agree()
 
 /// Where no cycle of static calculates stands, there is one settled state and no other.
 pub fn settles()
-    ensures { SettlesOnce }
-    ensures { Settles }
+    ensures once { SettlesOnce }
+    ensures settled { Settles }
 {
 }
