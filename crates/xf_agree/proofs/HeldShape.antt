@@ -17,7 +17,7 @@ use Rattle.xf_lang.specs.Agree.{numbers_of, are_apart, untexted, AreVisits}
 use Rattle.xf_lang.proofs.VisitFacts.{no, some-same, none-some, self-same, or-cases, or-left, or-right, found-number, found-in, found-out}
 use Rattle.xf_lang.proofs.UntextedLaws.{solid-found}
 use Rattle.xf_lang.proofs.ForestVisits.{Each, each-map, each-filter, each-found, self-found, found-erased, forest-visits}
-use Rattle.xf_lang.proofs.ShapeVisits.{AreBelow, shape-visits}
+use Rattle.xf_lang.proofs.ShapeVisits.{AreBelow, shape-untexted, shape-visits}
 use Rattle.xf_model.specs.Rules.{Scope}
 use Rattle.xf_model.specs.Applied.{Entry}
 use Rattle.xf_model.specs.Settled.{Bounds, Contents, content_of, holding, calculates}
@@ -143,6 +143,15 @@ blanked ts = map (λ (t : List ℕ). []) ts
 abbrev no_texts : List (List ℕ)
 no_texts = [] ∷ []
 
+-- ---- a shape has no other texts than empty ones
+
+abbrev IsErased : Visit → Type 0
+IsErased v = erased v ≡ v
+
+map-itself : (xs : List Visit) → Each IsErased xs → map erased xs ≡ xs
+map-itself [] h = refl
+map-itself (x ∷ xs) h = ap (λ y. y ∷ map erased xs) h.0 ∙ ap (λ l. x ∷ l) (map-itself xs h.1)
+
 -- ---- roots have nothing above them
 
 abbrev IsTop : Visit → Type 0
@@ -177,6 +186,25 @@ filled-each P g ws (y ∷ ys) h k = by (is_borne y) (filled-each P g ws ys h k.1
     by : (b : Bool) → Each P (filled g ws ys) → Each P (filled g (g y) ys) → Each P (cond b (y ∷ filled g ws ys) (ws ++ y ∷ filled g (g y) ys))
     by true i j = (k.0.0, i)
     by false i j = each-append ws (y ∷ filled g (g y) ys) h (k.0.0, j)
+
+each-twice : (xs : List Visit) → Each IsErased (map erased xs)
+each-twice [] = tt
+each-twice (x ∷ xs) = (ap (λ c. record { number = x.number; above = x.above; content = c }) (twice x.content), each-twice xs)
+
+pub shape-erased : (all : List Visit) → map erased (shape all) ≡ shape all
+shape-erased all = map-itself (shape all) (filled-each IsErased (visits_in (only_text all)) [] (filter (stays (only_text all)) (map erased all)) tt (with-given (filter (stays (only_text all)) (map erased all)) (each-filter IsErased (stays (only_text all)) (map erased all) (each-twice all))))
+  where
+    given : (y : Visit) → Each IsErased (visits_in (only_text all) y)
+    given y = by (is_element y.content) (has_elements all y.number)
+      where
+        by : (b c : Bool) → Each IsErased (cond b (given_visits y (cond c None (Some no_texts))) [])
+        by false c = tt
+        by true true = tt
+        by true false = (refl, tt)
+
+    with-given : (ys : List Visit) → Each IsErased ys → Each (λ y. IsErased y × Each IsErased (visits_in (only_text all) y)) ys
+    with-given [] h = tt
+    with-given (y ∷ ys) h = ((h.0, given y), with-given ys h.1)
 
 not-of : (b : Bool) → not b ≡ true → b ≡ false
 not-of true h = sym h
@@ -252,6 +280,15 @@ module _ {is_strict : Bool} (scope : Scope) (b : Bounds) (forest : Forest) (entr
     where
       nil-cons : {n : ℕ} {ns : List ℕ} → [] ≡ n ∷ ns → ⊥
       nil-cons h = cc h
+
+  -- its texts stand in elements
+  pub shape-in_elements : AreHung shaped
+  shape-in_elements k x e t =
+      let y = original k (shape all) x e in
+      let p = each-found Hung k (shape all) y.0 (each-hung (only_text all)) y.1 (sym (text-kept y.0.content) ∙ ap (λ (v : Visit). is_text v.content) y.2 ∙ t) in
+      let solid = element-solid p.1.content p.3 in
+      let same : untexted shaped ≡ untexted bare = shape-untexted all in
+      (p.0, p.1, (solid-found shaped shape_visits p.0 p.1 (ap (found p.0) same ∙ found-in (λ v. not (is_text v.content)) p.0 bare p.1 bare_visits.apart p.2 (ap not solid))).0, p.3, ap (λ (v : Visit). v.above) (sym y.2) ∙ p.4)
 
   stays-erased : (T : Texts) (xs : List Visit) → filter (stays T) (map erased xs) ≡ map erased (filter (stays T) xs)
   stays-erased T xs = filter-through erased (stays T) (stays T) (λ x. ap (λ c. not (c && is_replaced T x.above)) (text-kept x.content)) xs

@@ -74,7 +74,7 @@ pub parent-of : (xs ys : List ℕ) → same_parent xs ys ≡ true → (p : ℕ) 
 parent-of [] ys h = no h
 parent-of (p ∷ ps) ys h = (p, ps, refl, h)
 
-first-same : (p q : ℕ) (ns qs : List ℕ) → ns ≡ q ∷ qs → is_first p ns ≡ true → p ≡ q
+pub first-same : (p q : ℕ) (ns qs : List ℕ) → ns ≡ q ∷ qs → is_first p ns ≡ true → p ≡ q
 first-same p q [] qs e h = no h
 first-same p q (n ∷ ns) qs e h = eqb-true p n h ∙ cc e
 

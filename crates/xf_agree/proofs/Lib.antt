@@ -18,3 +18,5 @@ pub mod HeldShape
 pub mod HeldMeets
 pub mod LooseAgreement
 pub mod SettledStatic
+pub mod FormEntries
+pub mod FormSettled

@@ -3,6 +3,7 @@
 #![tactic(auto)]
 
 ghost use Rattle.xf_agree.specs.Settles.{CalculatesAgree, SettlesOnce, Settles};
+ghost use Rattle.xf_agree.specs.FormSettles.{FormAgrees, FormSettlesOnce, FormSettles};
 
 /// Data that hold the same contents at the nodes that a static calculate reads give it one text.
 pub fn calculates_agree()
@@ -14,5 +15,18 @@ pub fn calculates_agree()
 pub fn settles()
     ensures once { SettlesOnce }
     ensures settled { Settles }
+{
+}
+
+/// So do the calculates of a form, as its binds apply them.
+pub fn form_agrees()
+    ensures { FormAgrees }
+{
+}
+
+/// Where no cycle of a form's calculates stands, there is one settled state and no other.
+pub fn form_settles()
+    ensures once { FormSettlesOnce }
+    ensures settled { FormSettles }
 {
 }
