@@ -394,15 +394,15 @@ module _ {texts : Texts} {all shape : List Visit} (s : IsShaped texts all shape)
     cover-step Ancestor passed j on lone = step-by Ancestor passed cy.is_in (back-kept on)
     cover-step AncestorOrSelf passed j on lone = step-by AncestorOrSelf passed cy.is_in
         (elim (or-cases (has y.number x.above) (x.number == y.number) on) [
-        | inl a ↦ or-left (has cy.visit.number cx.visit.above) (cx.visit.number == cy.visit.number) (back-kept a)
-        | inr b ↦ or-right (has cy.visit.number cx.visit.above) (cx.visit.number == cy.visit.number) (itself-kept b)
-    ])
+          | inl a ↦ or-left (has cy.visit.number cx.visit.above) (cx.visit.number == cy.visit.number) (back-kept a)
+          | inr b ↦ or-right (has cy.visit.number cx.visit.above) (cx.visit.number == cy.visit.number) (itself-kept b)
+        ])
     cover-step Descendant passed j on lone = step-by Descendant passed cy.is_in (below-kept on)
     cover-step DescendantOrSelf passed j on lone = step-by DescendantOrSelf passed cy.is_in
         (elim (or-cases (has x.number y.above && not (is_attribute y.content)) (x.number == y.number) on) [
-        | inl a ↦ or-left (has cx.visit.number cy.visit.above && not (is_attribute cy.visit.content)) (cx.visit.number == cy.visit.number) (below-kept a)
-        | inr b ↦ or-right (has cx.visit.number cy.visit.above && not (is_attribute cy.visit.content)) (cx.visit.number == cy.visit.number) (itself-kept b)
-    ])
+          | inl a ↦ or-left (has cx.visit.number cy.visit.above && not (is_attribute cy.visit.content)) (cx.visit.number == cy.visit.number) (below-kept a)
+          | inr b ↦ or-right (has cx.visit.number cy.visit.above && not (is_attribute cy.visit.content)) (cx.visit.number == cy.visit.number) (itself-kept b)
+        ])
     cover-step FollowingSibling passed j on lone = by (is_replaced texts x.above) refl
       where
         ranged : found m (after n all) ≡ Some y

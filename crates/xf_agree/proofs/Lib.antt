@@ -20,3 +20,5 @@ pub mod LooseAgreement
 pub mod SettledStatic
 pub mod FormEntries
 pub mod FormSettled
+pub mod ForestsMeet
+pub mod OpenExamples

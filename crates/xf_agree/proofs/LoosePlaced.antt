@@ -147,6 +147,5 @@ module _ {w : Comparison} (m : Meeting w) (y : Comparison) where
   call-placed_at of.index code ks h = no h
   call-placed_at of.instance code ks h = no h
 
-
 pub call-placed : {w : Comparison} (m : Meeting w) (g : Function) (code : ℕ) (ks : List (Part m)) → (call_facts g (facts_in m ks)).is_placed ≡ true → ByPlace (called g code (map meaning_in (traces_in m ks)))
 call-placed m g code ks h y = call-placed_at m y g code ks h

@@ -22,20 +22,9 @@ use Rattle.xf_lang.proofs.UntextedLaws.{solid-found}
 use Rattle.xf_lang.proofs.Comparison.{Comparison, Agree, Within}
 use Rattle.xf_lang.proofs.ForestVisits.{Each, self-found}
 use Rattle.xf_agree.specs.Settles.{AreHung}
+pub use Rattle.xf_agree.specs.Kept.{is_known, keeps, kept}
 use Rattle.xf_agree.proofs.Parts.{part-apart}
 use Rattle.xf_agree.proofs.Covers.{IsShaped, IsLone, stand_in, has-head, above-solid, cov-above, cov-solid, solid-stays, stays-found, around-has}
-
--- whether the texts in the node above are known
-abbrev pub is_known : (ℕ → Bool) → List ℕ → Bool
-is_known known [] = true
-is_known known (p ∷ ps) = known p
-
-abbrev pub keeps : (ℕ → Bool) → Visit → Bool
-keeps known y = not (is_text y.content) || is_known known y.above
-
--- without the texts that are not known
-abbrev pub kept : (ℕ → Bool) → List Visit → List Visit
-kept known all = filter (keeps known) all
 
 pub record Meeting (w : Comparison) : Type 0 where
   -- the texts that the shape has in place of others

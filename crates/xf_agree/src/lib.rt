@@ -3,30 +3,33 @@
 #![tactic(auto)]
 
 ghost use Rattle.xf_agree.specs.Settles.{CalculatesAgree, SettlesOnce, Settles};
+ghost use Rattle.xf_agree.specs.Forests.{TwoForestsValue, TwoForests};
 ghost use Rattle.xf_agree.specs.FormSettles.{FormAgrees, FormSettlesOnce, FormSettles};
+
+/// Two forests that agree on what a covered expression reads and looks at, texts counted, give it one value, and one text.
+pub fn two_forests()
+    ensures value { TwoForestsValue }
+    ensures text { TwoForests }
+{}
 
 /// Data that hold the same contents at the nodes that a static calculate reads give it one text.
 pub fn calculates_agree()
     ensures { CalculatesAgree }
-{
-}
+{}
 
 /// Where no cycle of static calculates stands, there is one settled state and no other.
 pub fn settles()
     ensures once { SettlesOnce }
     ensures settled { Settles }
-{
-}
+{}
 
 /// So do the calculates of a form, as its binds apply them.
 pub fn form_agrees()
     ensures { FormAgrees }
-{
-}
+{}
 
 /// Where no cycle of a form's calculates stands, there is one settled state and no other.
 pub fn form_settles()
     ensures once { FormSettlesOnce }
     ensures settled { FormSettles }
-{
-}
+{}
