@@ -1,0 +1,4 @@
+pub mod TripleKeeps
+pub mod Words
+pub mod StaticLaw
+pub mod ReaderLaw
