@@ -1,16 +1,20 @@
 -- Syntax trees as the reader makes them: a step that is not written out is `.` or `..`, a chain has links, and `instance` has one argument
 -- at most. And the laws that what is read is so, and that the static ones are covered by the law of two forests.
-use Rattle.std.specs.Prelude.{◌≡◌, ℕ, Bool, true, false, not, ◌&&◌, List, [], ◌∷◌, Option, None, Result, Ok}
+use Rattle.std.specs.Prelude.{◌≡◌, ℕ, Bool, true, false, not, ◌&&◌, List, [], ◌∷◌, Option, Some, None, Result, Ok}
 use Rattle.std.specs.List.{list_all}
 use Rattle.xf_ast.specs.declared.expr.Expr.{Expr}
 use Rattle.xf_ast.specs.declared.expr.Expr.TheOpen.{Expr-F, Link-F, Step-F}
 use Rattle.xf_ast.specs.declared.expr.Expr.TheFolds.{fold-Expr}
+use Rattle.xf_ast.specs.declared.form.Bind.{Bind}
+use Rattle.xf_ast.specs.declared.form.Tables.{Tables}
 use Rattle.xf_name.specs.Bindings.{Bindings}
 use Rattle.xf_path.specs.Static.{static_fault}
 use Rattle.xf_path.specs.Grammar.{parsed}
 use Rattle.xf_lang.specs.Table.{Function, function_at}
 use Rattle.xf_lang.specs.Table as of
+use Rattle.xf_model.specs.Pertinent.{AllOf}
 use Rattle.xf_agree.specs.Covered.{is_told, is_covered}
+use Rattle.xf_agree.specs.FormSettles.{AreCovered}
 
 abbrev pub all_of : List Bool → Bool
 all_of bs = list_all (λ b. b) bs
@@ -56,3 +60,13 @@ StaticCovered = (expr : Expr) → is_as_read expr ≡ true → static_fault expr
 -- so a text that is read as a static expression is covered
 abbrev pub ReadCovered : Type 0
 ReadCovered = (d : ℕ) (b : Bindings) (text : List ℕ) (expr : Expr) → parsed d b text ≡ Ok expr → static_fault expr ≡ None → is_covered false expr ≡ true
+
+-- ---- of a form
+
+-- the calculate of a bind, if it has one, was read from a text, and is static
+abbrev pub IsReadStatic : ℕ → Bindings → Option Expr → Type 0
+IsReadStatic d b None = Unit {0}
+IsReadStatic d b (Some expr) = (text : List ℕ) × (parsed d b text ≡ Ok expr) × (static_fault expr ≡ None)
+
+abbrev pub FormCovered : Type 0
+FormCovered = (d : ℕ) (b : Bindings) (tables : Tables) → AllOf (λ (bind : Bind). IsReadStatic d b bind.properties.calculate) tables.binds → AreCovered false tables
