@@ -21,4 +21,5 @@ pub mod SettledStatic
 pub mod FormEntries
 pub mod FormSettled
 pub mod ForestsMeet
+pub mod ForestNumbers
 pub mod OpenExamples

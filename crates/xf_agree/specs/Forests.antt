@@ -6,6 +6,7 @@ use Rattle.xf_doc.specs.Visit.{Visit, visits, has, is_first}
 use Rattle.xf_doc.specs.StringValue.{string_value}
 use Rattle.xf_doc.specs.Shape.{erased, has_elements, shape}
 use Rattle.xf_doc.specs.WellFormed.{HasTrees}
+use Rattle.xf_doc.specs.Same.{IsRenumbering, renumbered}
 use Rattle.xf_lang.specs.declared.value.Value.{Value}
 use Rattle.xf_lang.specs.Given.{Document, Given, document_of}
 use Rattle.xf_lang.specs.Setting.{Setting, Focus, ◌>>=◌}
@@ -13,6 +14,7 @@ use Rattle.xf_lang.specs.Conversions.{string_of}
 use Rattle.xf_lang.specs.Meaning.{meaning}
 use Rattle.xf_lang.specs.Asked.{Asked, found, list_around, converted}
 use Rattle.xf_lang.specs.Reads.{trace}
+use Rattle.xf_lang.specs.Same.{renumbered_document, renumbered_focus}
 use Rattle.xf_lang.specs.Agree.{numbers_of, untexted, HaveOneFrame}
 use Rattle.xf_model.specs.Rules.{Scope}
 use Rattle.xf_model.specs.Nested.{setting_for}
@@ -77,3 +79,19 @@ TwoForests = (is_strict : Bool) (most : ℕ) (scope : Scope) (documents : List D
     Surrounds is_strict scope most first → AgreeOn known reads looks scope documents first second → is_covered is_strict expr ≡ true → InBoth first second current → InBoth first second c.node →
     ((n : ℕ) → has n (asked_whole scope first current expr c).reads ≡ true → has n reads ≡ true) → ((n : ℕ) → has n (asked_whole scope first current expr c).looks ≡ true → has n looks ≡ true) →
     text_over (setting_for (Some most) scope (visits first.nodes) current) expr c ≡ text_over (setting_for (Some most) (over_second scope documents indexes event) (visits second.nodes) current) expr c
+
+-- ---- numbers do not count
+
+abbrev pub renumbered_forest : (ℕ → ℕ) → Forest → Forest
+renumbered_forest f forest = record forest { nodes = map (renumbered f) forest.nodes }
+
+-- one text, where the second forest agrees once its nodes have other numbers, as texts that were set again have
+abbrev pub TwoForestsButNumbers : Type 0
+TwoForestsButNumbers = (is_strict : Bool) (most : ℕ) (scope : Scope) (documents : List Document) (indexes : List (List ℕ × ℕ)) (event : Option (List (List ℕ × Value)))
+    (first second : Forest) (f : ℕ → ℕ) (known : ℕ → Bool) (reads looks : List ℕ) (expr : Expr) (current : ℕ) (c : Focus) → IsRenumbering f →
+    Surrounds is_strict scope most first → AgreeOn known reads looks scope (map (renumbered_document f) documents) first (renumbered_forest f second) → is_covered is_strict expr ≡ true →
+    InBoth first (renumbered_forest f second) (f current) → InBoth first (renumbered_forest f second) (f c.node) →
+    ((n : ℕ) → has n (asked_whole scope first (f current) expr (renumbered_focus f c)).reads ≡ true → has n reads ≡ true) →
+    ((n : ℕ) → has n (asked_whole scope first (f current) expr (renumbered_focus f c)).looks ≡ true → has n looks ≡ true) →
+    text_over (setting_for (Some most) scope (visits first.nodes) (f current)) expr (renumbered_focus f c)
+    ≡ text_over (setting_for (Some most) (over_second scope documents indexes event) (visits second.nodes) current) expr c

@@ -3,13 +3,14 @@
 #![tactic(auto)]
 
 ghost use Rattle.xf_agree.specs.Settles.{CalculatesAgree, SettlesOnce, Settles};
-ghost use Rattle.xf_agree.specs.Forests.{TwoForestsValue, TwoForests};
+ghost use Rattle.xf_agree.specs.Forests.{TwoForestsValue, TwoForests, TwoForestsButNumbers};
 ghost use Rattle.xf_agree.specs.FormSettles.{FormAgrees, FormSettlesOnce, FormSettles};
 
 /// Two forests that agree on what a covered expression reads and looks at, texts counted, give it one value, and one text.
 pub fn two_forests()
     ensures value { TwoForestsValue }
     ensures text { TwoForests }
+    ensures but_numbers { TwoForestsButNumbers }
 {}
 
 /// Data that hold the same contents at the nodes that a static calculate reads give it one text.
