@@ -17,5 +17,4 @@ pub fn read_covered()
 /// So the calculates of a form that were read, and are static, are covered.
 pub fn form_covered()
     ensures { FormCovered }
-{
-}
+{}
