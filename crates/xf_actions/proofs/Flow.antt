@@ -1,0 +1,50 @@
+-- How one change follows another, and what a refusal of the first means for both.
+use Rattle.std.proofs.Common.{ℕ, suc, ◌≡◌, ◌+◌, ◌<◌, List, [], ◌∷◌, length, drop, get_or, Bool, true, false, Option, Some, None, Result, Ok, Err, refl, ap, sym, ◌∙◌, add-one}
+use Rattle.std.proofs.lemmas.List.{at_drop_more}
+use Rattle.xf_store.specs.declared.call.StoreCall.{StoreCall}
+use Rattle.xf_form_machine.specs.Refusal.{Refusal, Refused}
+use Rattle.xf_form_machine.specs.State.{State}
+use Rattle.xf_form_machine.specs.Flow.{Run, ◌>>=◌, when, in_turn}
+use Rattle.xf_actions.specs.Performs.{Refuses, RefusedAs}
+
+pub bind-assoc : {A B C : Type 0} (g : Result A Refused) (f : A → Result B Refused) (h : B → Result C Refused)
+    → (g >>= f) >>= h ≡ g >>= (λ x. f x >>= h)
+bind-assoc (Err r) f h = refl
+bind-assoc (Ok x) f h = refl
+
+pub refused-then : {A B : Type 0} (told : Refusal) (calls : List StoreCall) (g : Result A Refused) (next : A → Result B Refused)
+    → RefusedAs told calls g → RefusedAs told calls (g >>= next)
+refused-then told calls (Err r) next h = h
+refused-then told calls (Ok x) next h = absurd h
+
+-- what refuses the first refuses both
+pub refuses-then : {A B : Type 0} (told : Option Refusal) (calls : List StoreCall) (g : Result A Refused) (next : A → Result B Refused)
+    → Refuses told calls g → Refuses told calls (g >>= next)
+unfolding Refuses
+refuses-then None calls g next h = tt
+refuses-then (Some told) calls g next h = refused-then told calls g next h
+
+-- where the first is done, the rest begins in the state that it left
+pub in_turn-next : {X : Type 0} (run : X → Run) (x : X) (xs : List X) (s t : State)
+    → run x s ≡ Ok t → in_turn run (x ∷ xs) s ≡ in_turn run xs t
+in_turn-next run x xs s t e = ap (λ r. r >>= in_turn run xs) e
+
+-- the rest counts at the states where it begins
+pub then-same : {A B : Type 0} (g : Result A Refused) (h k : A → Result B Refused) → ((x : A) → h x ≡ k x) → g >>= h ≡ g >>= k
+then-same (Err r) h k e = refl
+then-same (Ok x) h k e = e x
+
+pub then-ok : {A : Type 0} (g : Result A Refused) → g >>= (λ x. Ok x) ≡ g
+then-ok (Err r) = refl
+then-ok (Ok x) = refl
+
+-- ---- a loop over a list: what is left of it from here gives what the whole list gives
+
+pub in_turn-step : {X : Type 0} (run : X → Run) (xs : List X) (i : ℕ) (d : X) (s t : State)
+    → i < length xs → run (get_or xs i d) s ≡ Ok t → in_turn run (drop i xs) s ≡ in_turn run (drop (i + 1) xs) t
+in_turn-step run xs i d s t h e = at_drop_more (λ ys. in_turn run ys s) xs i d h ∙ in_turn-next run (get_or xs i d) (drop (i + 1) xs) s t e
+
+pub in_turn-stop : {X : Type 0} (run : X → Run) (xs : List X) (i : ℕ) (d : X) (s : State) (told : Option Refusal) (calls : List StoreCall)
+    → i < length xs → Refuses told calls (run (get_or xs i d) s) → Refuses told calls (in_turn run (drop i xs) s)
+in_turn-stop run xs i d s told calls h r =
+    rw (at_drop_more (λ ys. in_turn run ys s) xs i d h) (refuses-then told calls (run (get_or xs i d) s) (in_turn run (drop (i + 1) xs)) r)

@@ -1,0 +1,5 @@
+pub mod Flow
+pub mod Telling
+pub mod Works
+pub mod Sendings
+pub mod Steps

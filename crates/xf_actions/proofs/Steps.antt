@@ -1,0 +1,233 @@
+-- Dispatch and actions, step by step: what each step of the machine gives, once the steps before it are done.
+use Rattle.std.proofs.Common.{ℕ, zero, suc, ◌≡◌, ◌-◌, ◌<◌, List, Bool, true, false, Option, Some, None, is_some, Result, Ok, Err, refl, ap, sym, ◌∙◌, arith}
+use Rattle.std.proofs.lemmas.Option.{none-some}
+use Rattle.xf_store.specs.declared.call.StoreCall.{StoreCall}
+use Rattle.xf_lang.specs.Setting.{Meaning, Focus}
+use Rattle.xf_ui.specs.Interface.{Interface}
+use Rattle.xf_ui.specs.Context.{Context, context_of}
+use Rattle.xf_ui.specs.Named.{handler_rows}
+use Rattle.xf_ui.specs.Calls.{calls}
+use Rattle.xf_form_machine.specs.Program.{Work, Act}
+use Rattle.xf_form_machine.specs.Profile.{Profile}
+use Rattle.xf_form_machine.specs.State.{State}
+use Rattle.xf_form_machine.specs.Refusal.{Refusal, Refused, budget, depth, refused, or_long}
+use Rattle.xf_form_machine.specs.Flow.{Run, ◌>>=◌, when, where_some, in_turn}
+use Rattle.xf_form_machine.specs.Surround.{interface, quiet}
+use Rattle.xf_form_machine.specs.Primitives.{spend}
+use Rattle.xf_form_machine.specs.Events.{Fired, Tell}
+use Rattle.xf_form_machine.specs.Acting.{Acting, act_at, acting, acting_in, acting_with, truth_for}
+use Rattle.xf_form_machine.specs.Act.{if_true, while_true, repeated, done_by, begun, act_within}
+use Rattle.xf_form_machine.specs.Update.{is_due, rounds, round, update}
+use Rattle.xf_form_machine.specs.Dispatch.{handle, after_all, handled, dispatch}
+use Rattle.xf_form_machine.specs.Dispatch as machine
+use Rattle.xf_actions.specs.Performs.{Refuses}
+use Rattle.xf_actions.specs.Parts.{work_in, condition_in, repetition_in, holds, once_done, acted}
+use Rattle.xf_actions.specs.Told.{told, round_begun}
+use Rattle.xf_actions.proofs.Flow.{bind-assoc, refuses-then, then-same}
+use Rattle.xf_actions.proofs.Telling.{round-told}
+
+-- a refusal that is told as it is
+pub refuses-depth : {X : Type 0} (told : Option Refusal) (s : State) → told ≡ Some depth → Refuses {X = X} told s.calls (refused depth s)
+unfolding Refuses
+refuses-depth told s e = rw e (refl, refl)
+
+pub refuses-budget : {X : Type 0} (told : Option Refusal) (s : State) → told ≡ Some budget → Refuses {X = X} told s.calls (refused budget s)
+unfolding Refuses
+refuses-budget told s e = rw e (refl, refl)
+
+-- ---- dispatch
+
+pub dispatch-stops : (p : Profile) (d : ℕ) (is_idle : Bool) (e : Fired) (s : State) (told : Option Refusal) (calls : List StoreCall)
+    → Refuses told calls (spend s) → Refuses told calls (dispatch p d is_idle e s)
+dispatch-stops p zero is_idle e s told calls h = refuses-then told calls (spend s) _ h
+dispatch-stops p (suc d) is_idle e s told calls h = refuses-then told calls (spend s) _ h
+
+pub dispatch-too_deep : (p : Profile) (d : ℕ) (is_idle : Bool) (e : Fired) (s t : State)
+    → d ≡ 0 → spend s ≡ Ok t → dispatch p d is_idle e s ≡ refused depth t
+dispatch-too_deep p zero is_idle e s t h q = ap (λ r. r >>= refused depth) q
+dispatch-too_deep p (suc d) is_idle e s t h q = absurd (omega arith)
+
+pub dispatch-begins : (p : Profile) (d : ℕ) (is_idle : Bool) (e : Fired) (s t : State)
+    → 0 < d → spend s ≡ Ok t → dispatch p d is_idle e s ≡ handled p (dispatch p (d - 1)) is_idle e t
+dispatch-begins p zero is_idle e s t h q = absurd (omega arith)
+dispatch-begins p (suc d) is_idle e s t h q =
+    ap (λ r. r >>= handled p (dispatch p d) is_idle e) q
+    ∙ ap (λ k. handled p (dispatch p k) is_idle e t) (let k : d ≡ suc d - 1 = omega arith in k)
+
+-- ---- an action begins
+
+pub act-none : (left : ℕ) (p : Profile) (tell : Tell) (e : Fired) (n : ℕ) (s : State)
+    → is_some (act_at s n) ≡ false → act_within left p tell e n s ≡ Ok s
+act-none zero p tell e n s h = refl
+act-none (suc left) p tell e n s h = none (act_at s n) h
+  where
+    none : (o : Option Act) → is_some o ≡ false → where_some o (begun p tell e (act_within left p tell e) n) s ≡ Ok s
+    none None h = refl
+    none (Some a) h = absurd (let q : true ≡ false = h in cc)
+
+abbrev acting_at : Fired → ℕ → List ℕ → ℕ → Focus → Acting
+acting_at e n rows model c = record { element = n; rows = rows; model = model; focus = c; told = e.told }
+
+-- the element that is about to act is the one that was asked for
+with-element : (e : Fired) (n : ℕ) (rows : List ℕ) (model : ℕ) (focus : Option Focus) (x : Acting)
+    → acting_with e n rows (record { model = model; focus = focus }) ≡ Some x → x.element ≡ n
+with-element e n rows model None x h = absurd (none-some x h)
+with-element e n rows model (Some c) x h =
+    let q : acting_at e n rows model c ≡ x = cc in sym (ap (λ y. y.element) q)
+
+in-element : (e : Fired) (n : ℕ) (s : State) (rows : List ℕ) (o : Option Context) (x : Acting)
+    → or_long s o >>= (λ c. Ok (acting_with e n rows c)) ≡ Ok (Some x) → x.element ≡ n
+in-element e n s rows None x h = cc
+in-element e n s rows (Some c) x h = with-element e n rows c.model c.focus x cc
+
+rows-element : (p : Profile) (e : Fired) (n : ℕ) (s : State) (o : Option (List ℕ)) (x : Acting)
+    → acting_in p e n s o ≡ Ok (Some x) → x.element ≡ n
+rows-element p e n s None x h = cc
+rows-element p e n s (Some rows) x h = in-element e n s rows (context_of (interface s) (quiet p s) rows n) x h
+
+pub acting-element : (p : Profile) (e : Fired) (n : ℕ) (s : State) (x : Acting) → acting p e n s ≡ Ok (Some x) → x.element ≡ n
+acting-element p e n s x h = rows-element p e n s (handler_rows (interface s) s.indexes e.event.target e.rows n) x h
+
+-- ---- an action acts
+
+abbrev acts_with : Profile → Tell → (ℕ → Run) → Act → State → Option Acting → Result State Refused
+acts_with p tell inner a s one = where_some one (λ x. repeated p x a.repetition (if_true p x a.condition (done_by p tell inner x a.work))) s
+
+some-stops : (p : Profile) (tell : Tell) (e : Fired) (inner : ℕ → Run) (n : ℕ) (o : Option Act) (s : State) (told : Option Refusal) (calls : List StoreCall)
+    → is_some o ≡ true → Refuses told calls (acting p e n s) → Refuses told calls (where_some o (begun p tell e inner n) s)
+some-stops p tell e inner n None s told calls h r = absurd (let q : false ≡ true = h in cc)
+some-stops p tell e inner n (Some a) s told calls h r = refuses-then told calls (acting p e n s) (acts_with p tell inner a s) r
+
+some-idle : (p : Profile) (tell : Tell) (e : Fired) (inner : ℕ → Run) (n : ℕ) (o : Option Act) (s : State)
+    → acting p e n s ≡ Ok None → where_some o (begun p tell e inner n) s ≡ Ok s
+some-idle p tell e inner n None s h = refl
+some-idle p tell e inner n (Some a) s h = ap (λ r. r >>= acts_with p tell inner a s) h
+
+some-acts : (p : Profile) (tell : Tell) (e : Fired) (inner : ℕ → Run) (n : ℕ) (o : Option Act) (x : Acting) (s : State)
+    → acting p e n s ≡ Ok (Some x) → where_some o (begun p tell e inner n) s ≡ acted p tell inner x o s
+unfolding acted
+some-acts p tell e inner n None x s h = refl
+some-acts p tell e inner n (Some a) x s h = ap (λ r. r >>= acts_with p tell inner a s) h
+
+pub act-stops : (left : ℕ) (p : Profile) (tell : Tell) (e : Fired) (n : ℕ) (s : State) (told : Option Refusal) (calls : List StoreCall)
+    → 0 < left → is_some (act_at s n) ≡ true → Refuses told calls (acting p e n s) → Refuses told calls (act_within left p tell e n s)
+act-stops zero p tell e n s told calls h o r = absurd (omega arith)
+act-stops (suc left) p tell e n s told calls h o r = some-stops p tell e (act_within left p tell e) n (act_at s n) s told calls o r
+
+pub act-idle : (left : ℕ) (p : Profile) (tell : Tell) (e : Fired) (n : ℕ) (s : State)
+    → acting p e n s ≡ Ok None → act_within left p tell e n s ≡ Ok s
+act-idle zero p tell e n s h = refl
+act-idle (suc left) p tell e n s h = some-idle p tell e (act_within left p tell e) n (act_at s n) s h
+
+pub act-acts : (left : ℕ) (p : Profile) (tell : Tell) (e : Fired) (n : ℕ) (x : Acting) (s : State)
+    → 0 < left → acting p e n s ≡ Ok (Some x)
+    → act_within left p tell e n s ≡ acted p tell (act_within (left - 1) p tell e) x (act_at s x.element) s
+act-acts zero p tell e n x s h q = absurd (omega arith)
+act-acts (suc left) p tell e n x s h q =
+    some-acts p tell e (act_within left p tell e) n (act_at s n) x s q
+    ∙ ap (λ k. acted p tell (act_within left p tell e) x (act_at s k) s) (sym (acting-element p e n s x q))
+    ∙ ap (λ k. acted p tell (act_within k p tell e) x (act_at s x.element) s) (let k : left ≡ suc left - 1 = omega arith in k)
+
+-- ---- `if`
+
+-- the work, whether its action is there or not
+abbrev pub done_in : Profile → Tell → (ℕ → Run) → Acting → Option Act → Run
+done_in p tell inner x None s = Ok s
+done_in p tell inner x (Some a) s = done_by p tell inner x a.work s
+
+abbrev once_with : (b : Bool) → Run → State → Result State Refused
+once_with b once s = when b once s
+
+if_true-holds : (p : Profile) (x : Acting) (o : Option Meaning) (once : Run) (s : State)
+    → if_true p x o once s ≡ holds p x o s >>= λ b. when b once s
+if_true-holds p x None once s = refl
+if_true-holds p x (Some m) once s = refl
+
+pub once-holds : (p : Profile) (tell : Tell) (inner : ℕ → Run) (x : Acting) (o : Option Act) (s : State)
+    → once_done p tell inner x o s ≡ holds p x (condition_in o) s >>= λ b. when b (done_in p tell inner x o) s
+unfolding once_done
+once-holds p tell inner x None s = refl
+once-holds p tell inner x (Some a) s = if_true-holds p x a.condition _ s
+
+-- ---- `while`
+
+pub acted-once : (p : Profile) (tell : Tell) (inner : ℕ → Run) (x : Acting) (o : Option Act) (s : State)
+    → is_some (repetition_in o) ≡ false → acted p tell inner x o s ≡ once_done p tell inner x o s
+unfolding (acted, once_done)
+acted-once p tell inner x None s h = refl
+acted-once p tell inner x (Some a) s h = without a.repetition h
+  where
+    without : (m : Option Meaning) → is_some m ≡ false
+        → repeated p x m (if_true p x a.condition (done_by p tell inner x a.work)) s ≡ if_true p x a.condition (done_by p tell inner x a.work) s
+    without None h = refl
+    without (Some m) h = absurd (let q : true ≡ false = h in cc)
+
+-- so many tests at most
+unfoldable pub tested : ℕ → Profile → Acting → Option Meaning → Run → Run
+tested left p x None once s = once s
+tested left p x (Some test) once s = while_true left p x test once s
+
+pub acted-tested : (p : Profile) (tell : Tell) (inner : ℕ → Run) (x : Acting) (o : Option Act) (s : State)
+    → is_some (repetition_in o) ≡ true → acted p tell inner x o s ≡ tested (suc s.turns) p x (repetition_in o) (once_done p tell inner x o) s
+unfolding (acted, once_done, tested)
+acted-tested p tell inner x None s h = absurd (let q : false ≡ true = h in cc)
+acted-tested p tell inner x (Some a) s h = with_some a.repetition h
+  where
+    with_some : (m : Option Meaning) → is_some m ≡ true
+        → repeated p x m (if_true p x a.condition (done_by p tell inner x a.work)) s
+            ≡ tested (suc s.turns) p x m (λ t. if_true p x a.condition (done_by p tell inner x a.work) t) s
+    with_some None h = absurd (let q : false ≡ true = h in cc)
+    with_some (Some m) h = refl
+
+pub tested-end : (left : ℕ) (p : Profile) (x : Acting) (o : Option Meaning) (once : Run) (s : State)
+    → left ≡ 0 → is_some o ≡ true → tested left p x o once s ≡ refused budget s
+unfolding tested
+tested-end zero p x (Some m) once s h q = refl
+tested-end (suc left) p x (Some m) once s h q = absurd (omega arith)
+tested-end left p x None once s h q = absurd (let q : false ≡ true = q in cc)
+
+-- a test: its turn is refused
+pub tested-stops : (left : ℕ) (p : Profile) (x : Acting) (o : Option Meaning) (once : Run) (s : State) (told : Option Refusal) (calls : List StoreCall)
+    → 0 < left → is_some o ≡ true → Refuses told calls (spend s) → Refuses told calls (tested left p x o once s)
+unfolding tested
+tested-stops zero p x o once s told calls h q r = absurd (omega arith)
+tested-stops (suc left) p x (Some m) once s told calls h q r = refuses-then told calls (spend s) _ r
+tested-stops (suc left) p x None once s told calls h q r = absurd (let q : false ≡ true = q in cc)
+
+-- its turn is spent
+pub tested-spent : (left : ℕ) (p : Profile) (x : Acting) (o : Option Meaning) (once : Run) (s t : State)
+    → 0 < left → is_some o ≡ true → spend s ≡ Ok t
+    → tested left p x o once s ≡ holds p x o t >>= λ b. when b (λ u. once u >>= tested (left - 1) p x o once) t
+unfolding tested
+tested-spent zero p x o once s t h q e = absurd (omega arith)
+tested-spent (suc left) p x (Some m) once s t h q e =
+    ap (λ r. r >>= λ t. truth_for p x t m >>= λ b. when b (λ u. once u >>= while_true left p x m once) t) e
+    ∙ ap (λ k. truth_for p x t m >>= λ b. when b (λ u. once u >>= while_true k p x m once) t) (let k : left ≡ suc left - 1 = omega arith in k)
+tested-spent (suc left) p x None once s t h q e = absurd (let q : false ≡ true = q in cc)
+
+-- ---- updates
+
+pub when-false : (b : Bool) (run : Run) (s : State) → b ≡ false → when b run s ≡ Ok s
+when-false false run s h = refl
+when-false true run s h = absurd (let q : true ≡ false = h in cc)
+
+pub when-true : (b : Bool) (run : Run) (s : State) → b ≡ true → when b run s ≡ run s
+when-true true run s h = refl
+when-true false run s h = absurd (let q : false ≡ true = h in cc)
+
+pub rounds-end : (left : ℕ) (once : Run) (s : State) → left ≡ 0 → rounds left once s ≡ refused budget s
+rounds-end zero once s h = refl
+rounds-end (suc left) once s h = absurd (omega arith)
+
+pub rounds-rest : (left : ℕ) (once : Run) (s : State) → 0 < left → is_due s ≡ false → rounds left once s ≡ Ok s
+rounds-rest zero once s h q = absurd (omega arith)
+rounds-rest (suc left) once s h q = when-false (is_due s) (λ t. spend t >>= once >>= rounds left once) s q
+
+pub rounds-begin : (left : ℕ) (p : Profile) (tell : Tell) (s : State) → 0 < left → is_due s ≡ true
+    → rounds left (round p tell) s ≡ round_begun p s >>= λ w. told tell w >>= rounds (left - 1) (round p tell)
+rounds-begin zero p tell s h q = absurd (omega arith)
+rounds-begin (suc left) p tell s h q =
+    when-true (is_due s) (λ t. spend t >>= round p tell >>= rounds left (round p tell)) s q
+    ∙ ap (λ r. r >>= rounds left (round p tell)) (round-told p tell s)
+    ∙ bind-assoc (round_begun p s) (told tell) (rounds left (round p tell))
+    ∙ ap (λ k. round_begun p s >>= λ w. told tell w >>= rounds k (round p tell)) (let k : left ≡ suc left - 1 = omega arith in k)
