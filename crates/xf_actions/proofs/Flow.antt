@@ -1,11 +1,11 @@
 -- How one change follows another, and what a refusal of the first means for both.
-use Rattle.std.proofs.Common.{ℕ, suc, ◌≡◌, ◌+◌, ◌<◌, List, [], ◌∷◌, length, drop, get_or, Bool, true, false, Option, Some, None, Result, Ok, Err, refl, ap, sym, ◌∙◌, add-one}
+use Rattle.std.proofs.Common.{ℕ, suc, ◌≡◌, ◌+◌, ◌<◌, List, [], ◌∷◌, length, drop, get_or, Bool, true, false, Option, Some, None, Result, Ok, Err, refl, ap, sym, ◌∙◌, subst}
 use Rattle.std.proofs.lemmas.List.{at_drop_more}
 use Rattle.xf_store.specs.declared.call.StoreCall.{StoreCall}
 use Rattle.xf_form_machine.specs.Refusal.{Refusal, Refused}
 use Rattle.xf_form_machine.specs.State.{State}
 use Rattle.xf_form_machine.specs.Flow.{Run, ◌>>=◌, when, in_turn}
-use Rattle.xf_actions.specs.Performs.{Refuses, RefusedAs}
+use Rattle.xf_actions.specs.Performs.{Refuses, RefusedAs, Runs}
 
 pub bind-assoc : {A B C : Type 0} (g : Result A Refused) (f : A → Result B Refused) (h : B → Result C Refused)
     → (g >>= f) >>= h ≡ g >>= (λ x. f x >>= h)
@@ -48,3 +48,20 @@ pub in_turn-stop : {X : Type 0} (run : X → Run) (xs : List X) (i : ℕ) (d : X
     → i < length xs → Refuses told calls (run (get_or xs i d) s) → Refuses told calls (in_turn run (drop i xs) s)
 in_turn-stop run xs i d s told calls h r =
     rw (at_drop_more (λ ys. in_turn run ys s) xs i d h) (refuses-then told calls (run (get_or xs i d) s) (in_turn run (drop (i + 1) xs)) r)
+
+-- ---- the same in other words
+
+pub same-refuses : {X : Type 0} (told : Option Refusal) (calls : List StoreCall) (g h : Result X Refused)
+    → g ≡ h → Refuses told calls h → Refuses told calls g
+same-refuses told calls g h e r = subst (λ (k : Result _ Refused). Refuses told calls k) (sym e) r
+
+pub same-runs : {F T : Type 0} (means : F → Option Refusal) (new : State) (r : Result T F) (g h : Result State Refused)
+    → g ≡ h → Runs means new r h → Runs means new r g
+same-runs means new r g h e q = subst (λ (k : Result State Refused). Runs means new r k) (sym e) q
+
+-- what cannot be refused is refused for want of memory alone
+pub refuses-any : {X Y : Type 0} (told : Option Refusal) (calls : List StoreCall) (x : X) (g : Result Y Refused)
+    → Refuses {X = X} told calls (Ok x) → Refuses told calls g
+unfolding Refuses
+refuses-any None calls x g h = tt
+refuses-any (Some told) calls x g h = absurd h

@@ -7,6 +7,7 @@ use Rattle.xf_ui.specs.Interface.{Interface}
 use Rattle.xf_ui.specs.Context.{Context, context_of}
 use Rattle.xf_ui.specs.Named.{handler_rows}
 use Rattle.xf_ui.specs.Calls.{calls}
+use Rattle.xf_ui.specs.declared.answers.CallList.{CallList}
 use Rattle.xf_form_machine.specs.Program.{Work, Act}
 use Rattle.xf_form_machine.specs.Profile.{Profile}
 use Rattle.xf_form_machine.specs.State.{State}
@@ -18,8 +19,7 @@ use Rattle.xf_form_machine.specs.Events.{Fired, Tell}
 use Rattle.xf_form_machine.specs.Acting.{Acting, act_at, acting, acting_in, acting_with, truth_for}
 use Rattle.xf_form_machine.specs.Act.{if_true, while_true, repeated, done_by, begun, act_within}
 use Rattle.xf_form_machine.specs.Update.{is_due, rounds, round, update}
-use Rattle.xf_form_machine.specs.Dispatch.{handle, after_all, handled, dispatch}
-use Rattle.xf_form_machine.specs.Dispatch as machine
+use Rattle.xf_form_machine.specs.Dispatch.{Further, handle, after_all, handled, dispatch}
 use Rattle.xf_actions.specs.Performs.{Refuses}
 use Rattle.xf_actions.specs.Parts.{work_in, condition_in, repetition_in, holds, once_done, acted}
 use Rattle.xf_actions.specs.Told.{told, round_begun}
@@ -53,6 +53,28 @@ dispatch-begins p zero is_idle e s t h q = absurd (omega arith)
 dispatch-begins p (suc d) is_idle e s t h q =
     ap (λ r. r >>= handled p (dispatch p d) is_idle e) q
     ∙ ap (λ k. handled p (dispatch p k) is_idle e t) (let k : d ≡ suc d - 1 = omega arith in k)
+
+-- the handlers are known
+pub handled-by : (p : Profile) (further : Further) (is_idle : Bool) (e : Fired) (t : State) (called : CallList)
+    → Ok {E = Refused} (calls (interface t) e.event) ≡ Ok called
+    → handled p further is_idle e t ≡ in_turn (handle p further is_idle e) called.handlers t >>= when called.with_default (after_all p further is_idle e)
+handled-by p further is_idle e t called h =
+    let q : calls (interface t) e.event ≡ called = cc in
+    ap (λ (c : CallList). in_turn (handle p further is_idle e) c.handlers t >>= when c.with_default (after_all p further is_idle e)) q
+
+pub dispatch-handles : (p : Profile) (d : ℕ) (is_idle : Bool) (e : Fired) (s t : State) (called : CallList)
+    → 0 < d → spend s ≡ Ok t → Ok {E = Refused} (calls (interface t) e.event) ≡ Ok called
+    → dispatch p d is_idle e s
+        ≡ in_turn (handle p (dispatch p (d - 1)) is_idle e) called.handlers t >>= when called.with_default (after_all p (dispatch p (d - 1)) is_idle e)
+dispatch-handles p d is_idle e s t called h q r =
+    dispatch-begins p d is_idle e s t h q ∙ handled-by p (dispatch p (d - 1)) is_idle e t called r
+
+pub dispatch-after : (p : Profile) (d : ℕ) (is_idle : Bool) (e : Fired) (s t u : State) (called : CallList)
+    → 0 < d → spend s ≡ Ok t → Ok {E = Refused} (calls (interface t) e.event) ≡ Ok called
+    → in_turn (handle p (dispatch p (d - 1)) is_idle e) called.handlers t ≡ Ok u
+    → dispatch p d is_idle e s ≡ when called.with_default (after_all p (dispatch p (d - 1)) is_idle e) u
+dispatch-after p d is_idle e s t u called h q r k =
+    dispatch-handles p d is_idle e s t called h q r ∙ ap (λ g. g >>= when called.with_default (after_all p (dispatch p (d - 1)) is_idle e)) k
 
 -- ---- an action begins
 

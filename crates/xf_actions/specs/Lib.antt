@@ -5,3 +5,4 @@ pub mod Changed
 pub mod Parts
 pub mod Sent
 pub mod Defaulted
+pub mod Texts

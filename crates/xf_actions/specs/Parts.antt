@@ -2,7 +2,7 @@
 use Rattle.std.specs.Prelude.{ℕ, Bool, true, false, map, get_or, Option, Some, None, Result, Ok}
 use Rattle.xf_ast.specs.declared.form.Form.{Form}
 use Rattle.xf_lang.specs.Setting.{Meaning}
-use Rattle.xf_form_machine.specs.Program.{Work, Act, all_in_it, other}
+use Rattle.xf_form_machine.specs.Program.{Work, Act, all_in_it, set_value, other}
 use Rattle.xf_form_machine.specs.Tables.{role_of}
 use Rattle.xf_form_machine.specs.Profile.{Profile}
 use Rattle.xf_form_machine.specs.State.{State}
@@ -29,6 +29,14 @@ condition_in (Some a) = a.condition
 abbrev pub repetition_in : Option Act → Option Meaning
 repetition_in None = None
 repetition_in (Some a) = a.repetition
+
+-- the expression `value` of a setvalue
+abbrev pub value_of_work : Work → Option Meaning
+value_of_work (set_value value) = value
+value_of_work work = None
+
+abbrev pub value_in : Option Act → Option Meaning
+value_in o = value_of_work (work_in o)
 
 abbrev pub is_block : Work → Bool
 is_block all_in_it = true

@@ -6,6 +6,7 @@ mod acting;
 mod fault;
 mod fired;
 mod parts;
+mod work;
 mod world;
 
 pub use act::dispatch;

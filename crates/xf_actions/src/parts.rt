@@ -13,7 +13,7 @@ use crate::fired::Fired;
 use crate::world::World;
 use xf_ast::{Action, Form, Kind, Work};
 
-fn action_of(form: &Form, element: u32) -> Option<&Action>
+pub fn action_of(form: &Form, element: u32) -> Option<&Action>
     ensures { option_map act_of (option_copied result) ≡ action_at form.now element }
 {
     match form.elements.get(element as usize) {
