@@ -18,7 +18,8 @@ use Rattle.xf_form_machine.specs.State.{State}
 use Rattle.xf_form_machine.specs.Refusal.{Refused, or_long}
 use Rattle.xf_form_machine.specs.Flow.{Run, ◌>>=◌, where_some, in_turn, when}
 use Rattle.xf_form_machine.specs.Surround.{model_holding}
-use Rattle.xf_form_machine.specs.Update.{due_revalidation}
+use Rattle.xf_form_machine.specs.Behave.{rebuild, recalculate, revalidate}
+use Rattle.xf_form_machine.specs.Update.{due_revalidation, refresh_cleared}
 use Rattle.xf_form_machine.specs.Events.{Fired, Tell, fired_at}
 use Rattle.xf_form_machine.specs.Submit as submit
 use Rattle.xf_form_machine.specs.Exchange as exchange
@@ -58,7 +59,9 @@ done-told tell r (Err refusal) e = ap submit.then_done e
 done-told tell r (Ok (events, s)) e = ap submit.then_done e ∙ is_then (in_turn tell events s)
 
 behaved-told : (p : Profile) (tell : Tell) (model : ℕ) (s : State) → submit.behave_all p tell model s ≡ behaved p model s >>= told tell
-behaved-told p tell model s = then-same _ _ _ (λ t. refresh-told p _ tell _) ∙ sym (bind-assoc _ _ (told tell))
+behaved-told p tell model s =
+    then-same (rebuild p model s >>= recalculate p model) _ _ (λ t. refresh-told p (refresh_cleared model) tell (revalidate p model t))
+    ∙ sym (bind-assoc (rebuild p model s >>= recalculate p model) _ (told tell))
 
 put_tree-told : (p : Profile) (tell : Tell) (lit : Lit) (n : ℕ) (s : State) → submit.put_tree p tell lit n s ≡ put_tree p lit n s >>= told tell
 put_tree-told p tell lit n s =
@@ -177,7 +180,7 @@ quiet-told tell r = telling-told tell r (untold r) (untold-told tell r)
 
 refreshed_now-told : (p : Profile) (tell : Tell) (k : ℕ) (s : State) → default.refresh_now p tell k s ≡ refreshed_now p k s >>= told tell
 refreshed_now-told p tell k s =
-    then-same (due_revalidation p k s) _ _ (refresh-told p _ tell) ∙ sym (bind-assoc (due_revalidation p k s) _ (told tell))
+    then-same (due_revalidation p k s) _ _ (λ t. refresh-told p (refresh_cleared k) tell t) ∙ sym (bind-assoc (due_revalidation p k s) _ (told tell))
 
 of_model-told : (p : Profile) (tell : Tell) (k : ℕ) (name : List ℕ) (s : State)
     → default.of_model p tell k name s ≡ of_model p k name s >>= concluded tell

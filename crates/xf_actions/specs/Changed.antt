@@ -25,6 +25,8 @@ use Rattle.xf_form_machine.specs.Delete as del
 use Rattle.xf_form_machine.specs.Delete.{delete_told}
 use Rattle.xf_form_machine.specs.Choose.{named_copy, act_index, switch_number}
 use Rattle.xf_form_machine.specs.Telling.{message, load, focus}
+use Rattle.xf_actions.specs.declared.work.Doing.{Doing}
+use Rattle.xf_actions.specs.declared.work.Doing.TheVariants.{Sets, Speaks, Other}
 use Rattle.xf_actions.specs.Told.{Telling, quietly}
 
 -- a change of which nothing is told
@@ -119,3 +121,10 @@ changed p x (work.send target) s = sent target s
 changed p x (work.load resource) s = untold (load p x resource s)
 changed p x work.message s = untold (message p x s)
 changed p x (work.on_model name) s = on_model name x.model s
+
+-- ---- which work it is
+
+abbrev pub doing_of : Work → Doing
+doing_of (work.set_value value) = Sets
+doing_of work.message = Speaks
+doing_of w = Other

@@ -51,10 +51,8 @@ holds p x (Some test) s = truth_for p x s test
 
 -- the work once, if its `if` holds
 unfoldable pub once_done : Profile → Tell → (ℕ → Run) → Acting → Option Act → Run
-once_done p tell inner x None s = Ok s
-once_done p tell inner x (Some a) s = if_true p x a.condition (done_by p tell inner x a.work) s
+once_done p tell inner x o s = if_true p x (condition_in o) (done_by p tell inner x (work_in o)) s
 
 -- and as often as its `while` holds
 unfoldable pub acted : Profile → Tell → (ℕ → Run) → Acting → Option Act → Run
-acted p tell inner x None s = Ok s
-acted p tell inner x (Some a) s = repeated p x a.repetition (if_true p x a.condition (done_by p tell inner x a.work)) s
+acted p tell inner x o s = repeated p x (repetition_in o) (once_done p tell inner x o) s

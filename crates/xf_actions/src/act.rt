@@ -1,7 +1,7 @@
 //! Dispatch (DOM Level 2 Events, section 1.2) and actions (XForms 1.1, section 10): by recursion on the depth of dispatch that is left, in it
 //! on the parts that are left, and in loops on the turns that are left.
 
-ghost use Rattle.std.specs.Prelude.{◌≡◌, map};
+ghost use Rattle.std.specs.Prelude.{◌≡◌, false, map};
 ghost use Rattle.xf_form_machine.specs.Flow.{in_turn};
 ghost use Rattle.xf_form_machine.specs.Acting.{act_at};
 ghost use Rattle.xf_form_machine.specs.Act.{act_within};
@@ -17,6 +17,7 @@ use crate::acting::Acting;
 use crate::fault::WorldFault;
 use crate::fired::{Ending, Fired};
 use crate::parts::{holds_condition, holds_repetition, is_action, is_block, is_repeated};
+use crate::work::change;
 use crate::world::World;
 
 /// Dispatches an event, where so many dispatches may stand one in the other. Where no action and no update is running, an update falls due
@@ -45,13 +46,20 @@ fn handle_all<W: World>(world: &mut W, fired: &Fired, handlers: &[u32], depth: u
     ensures form { (W.state world.new).form ≡ (W.state world.old).form }
 {
     for handler in handlers {
-        let left = world.form().elements.len();
-        act(world, fired, *handler, depth, left)?;
-        if is_idle {
-            update(world, depth)?;
-        }
+        handle(world, fired, *handler, depth, is_idle)?;
     }
     Ok(())
+}
+
+/// A handler acts, and where none is running the update after it.
+#[cycle(act)]
+fn handle<W: World>(world: &mut W, fired: &Fired, handler: u32, depth: u32, is_idle: bool) -> Result<(), W::Fault>
+    ensures done { Runs W.Fault.means (W.state world.new) result (handles W.profile (dispatches W.profile depth) is_idle (fired_of fired.now) handler (W.state world.old)) }
+    ensures form { (W.state world.new).form ≡ (W.state world.old).form }
+{
+    let left = world.form().elements.len();
+    act(world, fired, handler, depth, left)?;
+    if is_idle { update(world, depth) } else { Ok(()) }
 }
 
 /// The action that is this element, of which at most so many stand one in the other.
@@ -79,7 +87,7 @@ fn repeat<W: World>(world: &mut W, fired: &Fired, acting: &Acting, depth: u32, l
         return once(world, fired, acting, depth, left);
     }
     let most = world.turns() as u64 + 1;
-    'tests: for _ in 0..most {
+    for test in 0..most {
         world.spend()?;
         if !holds_repetition(world, fired, acting)? {
             return Ok(());
@@ -101,7 +109,7 @@ fn once<W: World>(world: &mut W, fired: &Fired, acting: &Acting, depth: u32, lef
         let parts = world.actions(acting.element)?;
         return act_all(world, fired, parts.as_slice(), depth, left);
     }
-    let events = world.change(fired, acting)?;
+    let events = change(world, fired, acting)?;
     tell_all(world, events.as_slice(), depth, false)
 }
 
@@ -135,7 +143,7 @@ fn update<W: World>(world: &mut W, depth: u32) -> Result<(), W::Fault>
     ensures form { (W.state world.new).form ≡ (W.state world.old).form }
 {
     let most = world.turns() as u64 + 1;
-    'rounds: for _ in 0..most {
+    for round in 0..most {
         if !world.is_due() {
             return Ok(());
         }
@@ -152,10 +160,7 @@ fn conclude<W: World>(world: &mut W, fired: &Fired, depth: u32, is_idle: bool) -
     ensures form { (W.state world.new).form ≡ (W.state world.old).form }
 {
     act_by_default(world, fired, depth, is_idle)?;
-    if is_idle {
-        update(world, depth)?;
-    }
-    Ok(())
+    if is_idle { update(world, depth) } else { Ok(()) }
 }
 
 #[cycle(act)]

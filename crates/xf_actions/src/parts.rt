@@ -2,8 +2,8 @@
 
 ghost use Rattle.std.specs.Prelude.{◌≡◌, is_some, option_map};
 ghost use Rattle.std.specs.Option.{option_copied};
-ghost use Rattle.xf_form_machine.specs.Tables.{act_of};
-ghost use Rattle.xf_form_machine.specs.Acting.{act_at};
+ghost use Rattle.xf_form_machine.specs.Tables.{act_of, role_of};
+ghost use Rattle.xf_form_machine.specs.Acting.{act_at, act_in};
 ghost use Rattle.xf_actions.specs.Performs.{Reads};
 ghost use Rattle.xf_actions.specs.Seen.{fired_of, acting_of};
 ghost use Rattle.xf_actions.specs.Parts.{action_at, work_in, condition_in, repetition_in, is_block as blocks, holds};
@@ -13,14 +13,23 @@ use crate::fired::Fired;
 use crate::world::World;
 use xf_ast::{Action, Form, Kind, Work};
 
+fn action_in(kind: &Kind) -> Option<&Action>
+    ensures { option_map act_of (option_copied result) ≡ act_in (role_of kind.now) }
+{
+    match kind {
+        Kind::Action(action) => Some(action),
+        Kind::Host | Kind::Model(_) | Kind::Instance(_) | Kind::Bind(_) | Kind::Submission(_) => None,
+        Kind::Control(_, _) => None,
+        Kind::Item | Kind::Itemset | Kind::Choices | Kind::Label | Kind::Value(_) | Kind::Output(_) => None,
+    }
+}
+
+/// The action that is this element.
 pub fn action_of(form: &Form, element: u32) -> Option<&Action>
     ensures { option_map act_of (option_copied result) ≡ action_at form.now element }
 {
     match form.elements.get(element as usize) {
-        Some(found) => match &found.kind {
-            Kind::Action(action) => Some(action),
-            _ => None,
-        },
+        Some(found) => action_in(&found.kind),
         None => None,
     }
 }
