@@ -14,12 +14,11 @@ use Rattle.xf_form_machine.specs.Update.{update}
 use Rattle.xf_form_machine.specs.Default.{default}
 use Rattle.xf_form_machine.specs.Dispatch.{Further, handle, after_all}
 use Rattle.xf_actions.specs.Performs.{Refuses}
-use Rattle.xf_actions.specs.Seen.{IsProgram, concluded_of, ending_of}
+use Rattle.xf_actions.specs.Seen.{IsProgram, fired_of, concluded_of, ending_of}
 use Rattle.xf_actions.specs.declared.fired.Concluded.{Concluded}
-use Rattle.xf_actions.specs.declared.fired.Ending.{Ending}
 use Rattle.xf_actions.specs.Defaulted as defaulted
 use Rattle.xf_actions.specs.Defaulted.{Defaulted, concluded, ended, told_by_end}
-use Rattle.xf_actions.proofs.Flow.{refuses-then, same-refuses}
+use Rattle.xf_actions.proofs.Flow.{fine, refuses-then, same-refuses}
 use Rattle.xf_actions.proofs.Sendings.{default-told}
 
 -- ---- a handler
@@ -74,24 +73,18 @@ default-ending : (p : Profile) (tell : Tell) (e : Fired) (s u : State) (d : Defa
     → defaulted.defaulted p e s ≡ Ok d → in_turn tell d.events d.state ≡ Ok u → default p tell e s ≡ where_some d.ending (ended tell) u
 default-ending p tell e s u d h q = default-tells p tell e s d h ∙ ap (λ r. r >>= where_some d.ending (ended tell)) q
 
-pub default-none : (p : Profile) (tell : Tell) (e : Fired) (s t u : State) (form : Program) (c : Concluded)
-    → defaulted.defaulted p e s ≡ Ok (concluded_of form t c) → in_turn tell (concluded_of form t c).events t ≡ Ok u → c.ending ≡ None
-    → default p tell e s ≡ Ok u
-default-none p tell e s t u form c h q k =
-    default-ending p tell e s u (concluded_of form t c) h q ∙ ap (λ o. where_some (option_map (ending_of form) o) (ended tell) u) k
-
-pub default-some : (p : Profile) (tell : Tell) (e : Fired) (s t u : State) (form : Program) (c : Concluded) (x : Ending)
-    → defaulted.defaulted p e s ≡ Ok (concluded_of form t c) → in_turn tell (concluded_of form t c).events t ≡ Ok u → c.ending ≡ Some x
-    → u.form ≡ form → default p tell e s ≡ ended tell (ending_of u.form x) u
-default-some p tell e s t u form c x h q k same =
-    default-ending p tell e s u (concluded_of form t c) h q ∙ ap (λ o. where_some (option_map (ending_of form) o) (ended tell) u) k
-    ∙ ap (λ f. ended tell (ending_of f x) u) (sym same)
+pub default-end : (p : Profile) (tell : Tell) (e : Fired) (s t u : State) (form : Program) (c : Concluded)
+    → defaulted.defaulted p e s ≡ Ok (concluded_of form t c) → in_turn tell (map fired_of c.events) t ≡ Ok u → u.form ≡ form
+    → default p tell e s ≡ where_some (option_map (ending_of u.form) c.ending) (ended tell) u
+default-end p tell e s t u form c h q same =
+    default-ending p tell e s u (concluded_of form t c) h q
+    ∙ ap (λ f. where_some (option_map (ending_of f) c.ending) (ended tell) u) (sym same)
 
 -- ---- the end of a submission
 
-pub ended-none : (tell : Tell) (x : defaulted.Ending) (s : State) → Ok {E = Refused} (told_by_end x s) ≡ Ok None → ended tell x s ≡ Ok s
+pub ended-none : (tell : Tell) (x : defaulted.Ending) (s : State) → fine (told_by_end x s) ≡ Ok None → ended tell x s ≡ Ok s
 ended-none tell x s h = let q : told_by_end x s ≡ None = cc in ap (λ o. where_some o tell s) q
 
 pub ended-some : (tell : Tell) (x : defaulted.Ending) (e : Fired) (s : State)
-    → Ok {E = Refused} (told_by_end x s) ≡ Ok (Some e) → ended tell x s ≡ tell e s
+    → fine (told_by_end x s) ≡ Ok (Some e) → ended tell x s ≡ tell e s
 ended-some tell x e s h = let q : told_by_end x s ≡ Some e = cc in ap (λ o. where_some o tell s) q

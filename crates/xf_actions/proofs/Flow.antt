@@ -1,11 +1,16 @@
 -- How one change follows another, and what a refusal of the first means for both.
-use Rattle.std.proofs.Common.{ℕ, suc, ◌≡◌, ◌+◌, ◌<◌, List, [], ◌∷◌, length, drop, get_or, Bool, true, false, Option, Some, None, Result, Ok, Err, refl, ap, sym, ◌∙◌, subst}
-use Rattle.std.proofs.lemmas.List.{at_drop_more}
+use Rattle.std.proofs.Common.{ℕ, suc, ◌≡◌, ◌+◌, ◌<◌, List, [], ◌∷◌, length, map, drop, get_or, Bool, true, false, Option, Some, None, Result, Ok, Err, refl, ap, sym, ◌∙◌, subst}
+use Rattle.std.proofs.lemmas.List.{at_drop_more, get_or-map, length-map}
+use Rattle.std.specs.Result.{IsErrAnd}
 use Rattle.xf_store.specs.declared.call.StoreCall.{StoreCall}
 use Rattle.xf_form_machine.specs.Refusal.{Refusal, Refused}
 use Rattle.xf_form_machine.specs.State.{State}
 use Rattle.xf_form_machine.specs.Flow.{Run, ◌>>=◌, when, in_turn}
-use Rattle.xf_actions.specs.Performs.{Refuses, RefusedAs, Runs}
+use Rattle.xf_actions.specs.Performs.{Refuses, RefusedAs, Runs, Makes}
+
+-- what is done, as a result that could be refused
+abbrev pub fine : {X : Type 0} → X → Result X Refused
+fine x = Ok x
 
 pub bind-assoc : {A B C : Type 0} (g : Result A Refused) (f : A → Result B Refused) (h : B → Result C Refused)
     → (g >>= f) >>= h ≡ g >>= (λ x. f x >>= h)
@@ -65,3 +70,28 @@ pub refuses-any : {X Y : Type 0} (told : Option Refusal) (calls : List StoreCall
 unfolding Refuses
 refuses-any None calls x g h = tt
 refuses-any (Some told) calls x g h = absurd h
+
+-- what a call passes on by `?`
+pub stopped : {F T : Type 0} (means : F → Option Refusal) (new : State) (r : Result T F) (e : F) (given : Result State Refused)
+    → IsErrAnd r (λ y. y ≡ e) → Refuses (means e) new.calls given → Runs means new r given
+stopped means new (Ok x) e given is q = absurd is
+stopped means new (Err y) e given is q = subst (λ f. Refuses (means f) new.calls given) (sym is) q
+
+pub makes-stopped : {F T X : Type 0} (means : F → Option Refusal) (view : T → X) (new : State) (r : Result T F) (e : F) (given : Result (X × State) Refused)
+    → IsErrAnd r (λ y. y ≡ e) → Refuses (means e) new.calls given → Makes means view new r given
+makes-stopped means view new (Ok x) e given is q = absurd is
+makes-stopped means view new (Err y) e given is q = subst (λ f. Refuses (means f) new.calls given) (sym is) q
+
+-- ---- the same loop, over what a list stands for
+
+pub told-step : {A X : Type 0} (run : X → Run) (f : A → X) (xs : List A) (i : ℕ) (x : A) (s t : State)
+    → i < length xs → x ≡ get_or xs i x → run (f x) s ≡ Ok t → in_turn run (drop i (map f xs)) s ≡ in_turn run (drop (i + 1) (map f xs)) t
+told-step run f xs i x s t h is e =
+    in_turn-step run (map f xs) i (f x) s t (rw (length-map xs f) h)
+        (ap (λ y. run y s) (get_or-map f xs i x (f x) h ∙ ap f (sym is)) ∙ e)
+
+pub told-stop : {A X : Type 0} (run : X → Run) (f : A → X) (xs : List A) (i : ℕ) (x : A) (s : State) (told : Option Refusal) (calls : List StoreCall)
+    → i < length xs → x ≡ get_or xs i x → Refuses told calls (run (f x) s) → Refuses told calls (in_turn run (drop i (map f xs)) s)
+told-stop run f xs i x s told calls h is r =
+    in_turn-stop run (map f xs) i (f x) s told calls (rw (length-map xs f) h)
+        (same-refuses told calls _ _ (ap (λ y. run y s) (get_or-map f xs i x (f x) h ∙ ap f (sym is))) r)

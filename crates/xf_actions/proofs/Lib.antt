@@ -6,3 +6,4 @@ pub mod Steps
 pub mod Ends
 pub mod Doings
 pub mod Roles
+pub mod Tests

@@ -11,15 +11,22 @@ use Rattle.xf_ast.specs.declared.form.Replace.{Replace}
 use Rattle.xf_ast.specs.declared.form.Replace.TheVariants as instead
 use Rattle.xf_ast.specs.declared.form.Submission.{Submission}
 use Rattle.xf_model.specs.Submitted.{Submitted, left, no_data, invalid}
+use Rattle.xf_model.specs.Submitted as model
+use Rattle.xf_doc.specs.Plant.{contents_of}
+use Rattle.xf_store.specs.Replay.{reply}
+use Rattle.xf_form_machine.specs.declared.note.Note.TheVariants as note
+use Rattle.xf_form_machine.specs.Primitives.{set_text, add_note}
+use Rattle.xf_form_machine.specs.Properties.{relevant_in, valid_in}
+use Rattle.xf_form_machine.specs.Construct.{replace}
 use Rattle.xf_form_machine.specs.Program.{Role, role_at}
 use Rattle.xf_form_machine.specs.Program as role
 use Rattle.xf_form_machine.specs.Profile.{Profile}
 use Rattle.xf_form_machine.specs.State.{State}
 use Rattle.xf_form_machine.specs.Refusal.{Refused, or_long}
 use Rattle.xf_form_machine.specs.Flow.{Run, ◌>>=◌, where_some, in_turn, when}
-use Rattle.xf_form_machine.specs.Surround.{model_holding}
+use Rattle.xf_form_machine.specs.Surround.{scope, model_holding}
 use Rattle.xf_form_machine.specs.Behave.{rebuild, recalculate, revalidate}
-use Rattle.xf_form_machine.specs.Update.{due_revalidation, refresh_cleared}
+use Rattle.xf_form_machine.specs.Update.{reindex, due_revalidation, refresh_cleared}
 use Rattle.xf_form_machine.specs.Events.{Fired, Tell, fired_at}
 use Rattle.xf_form_machine.specs.Submit as submit
 use Rattle.xf_form_machine.specs.Exchange as exchange
@@ -65,12 +72,15 @@ behaved-told p tell model s =
 
 put_tree-told : (p : Profile) (tell : Tell) (lit : Lit) (n : ℕ) (s : State) → submit.put_tree p tell lit n s ≡ put_tree p lit n s >>= told tell
 put_tree-told p tell lit n s =
-    then-same _ _ _ (λ t. where-told tell _ _ (model_holding s n) t (behaved-told p tell)) ∙ sym (bind-assoc _ _ (told tell))
+    let put = replace p n (contents_of s.form.bindings lit 0 0) s >>= reindex p [] in
+    then-same put _ _ (λ t. where-told tell (submit.behave_all p tell) (behaved p) (model_holding s n) t (behaved-told p tell))
+    ∙ sym (bind-assoc put _ (told tell))
 
 put_text-told : (p : Profile) (tell : Tell) (text : List ℕ) (n : ℕ) (s : State)
     → submit.put_text p tell text n s ≡ put_text p text n s >>= told tell
 put_text-told p tell text n s =
-    then-same _ _ _ (λ t. where-told tell _ _ (model_holding s n) t (behaved-told p tell)) ∙ sym (bind-assoc _ _ (told tell))
+    then-same (set_text p n text s) _ _ (λ t. where-told tell (submit.behave_all p tell) (behaved p) (model_holding s n) t (behaved-told p tell))
+    ∙ sym (bind-assoc (set_text p n text s) _ (told tell))
 
 on_target-told : (tell : Tell) (takes : State → ℕ → Bool) (put : ℕ → Run) (puts : ℕ → Telling) (target : Option ℕ) (s : State)
     → ((n : ℕ) (t : State) → put n t ≡ puts n t >>= told tell) → submit.on_target takes put target s ≡ on_target takes puts target s >>= told_then tell
@@ -82,18 +92,23 @@ with_tree-told : (p : Profile) (tell : Tell) (sub : Submission) (n : ℕ) (lit :
 with_tree-told p tell sub n (Err fault) s = refl
 with_tree-told p tell sub n (Ok lit) s =
     if-told (submit.has_fault s lit) _ _ _ _ (told_then tell) refl
-        (then-same _ _ _ (λ target. on_target-told tell _ _ _ target s (put_tree-told p tell lit)) ∙ sym (bind-assoc _ _ (told_then tell)))
+        (then-same (submit.target_by p sub n s sub.target sub.instance) _ _
+            (λ target. on_target-told tell submit.takes_tree (submit.put_tree p tell lit) (put_tree p lit) target s (put_tree-told p tell lit))
+            ∙ sym (bind-assoc (submit.target_by p sub n s sub.target sub.instance) _ (told_then tell)))
 
 with_text-told : (p : Profile) (tell : Tell) (sub : Submission) (n : ℕ) (bytes : List ℕ) (s : State)
     → submit.with_text p tell sub n s bytes ≡ with_text p sub n bytes s >>= told_then tell
 with_text-told p tell sub n bytes s =
     if-told (is_utf8 bytes) _ _ _ _ (told_then tell)
-        (then-same _ _ _ (λ target. on_target-told tell _ _ _ target s (put_text-told p tell bytes)) ∙ sym (bind-assoc _ _ (told_then tell)))
+        (then-same (submit.target_by p sub n s sub.target sub.instance) _ _
+            (λ target. on_target-told tell submit.takes_text (submit.put_text p tell bytes) (put_text p bytes) target s (put_text-told p tell bytes))
+            ∙ sym (bind-assoc (submit.target_by p sub n s sub.target sub.instance) _ (told_then tell)))
         refl
 
 responded-told : (p : Profile) (tell : Tell) (sub : Submission) (n : ℕ) (bytes : List ℕ) (how : Replace) (s : State)
     → submit.respond p tell sub n s bytes how ≡ responded p sub n bytes how s >>= told_then tell
-responded-told p tell sub n bytes instead.All s = done-told tell _ _ (untold-told tell _)
+responded-told p tell sub n bytes instead.All s =
+    let noted = add_note p (note.All sub.resource (length bytes)) s in done-told tell noted (untold noted) (untold-told tell noted)
 responded-told p tell sub n bytes instead.Nothing s = refl
 responded-told p tell sub n [] instead.Instance s = refl
 responded-told p tell sub n [] instead.Text s = refl
@@ -111,7 +126,10 @@ answered-told p tell sub n TooLong s = refl
 exchanged-told : (p : Profile) (tell : Tell) (sub : Submission) (n : ℕ) (asked : Asked) (s : State)
     → exchange.exchange p tell sub n asked s ≡ exchanged p sub n asked s >>= told_then tell
 exchanged-told p tell sub n asked s =
-    then-same _ _ _ (λ t. answered-told p tell sub n _ _) ∙ sym (bind-assoc _ _ (told_then tell))
+    let asking = exchange.unless_many (nat_le p.sends (length s.calls)) s in
+    then-same asking _ _
+        (λ t. answered-told p tell sub n (reply (exchange.fits asked) t.to_come) (exchange.with_call sub.resource asked (reply (exchange.fits asked) t.to_come) t))
+    ∙ sym (bind-assoc asking _ (told_then tell))
 
 selected-told : (p : Profile) (tell : Tell) (sub : Submission) (found : Submitted) (s : State)
     → exchange.selected p tell sub s found ≡ selected p sub found s >>= told_then tell
@@ -123,7 +141,8 @@ selected-told p tell sub (left n kept) s =
 attempted-told : (p : Profile) (tell : Tell) (sub : Submission) (s : State)
     → exchange.attempt p tell sub s ≡ attempted p sub s >>= told_then tell
 attempted-told p tell sub s =
-    then-same _ _ _ (λ found. selected-told p tell sub found s) ∙ sym (bind-assoc _ _ (told_then tell))
+    let found = or_long s (model.submitted (scope p s sub.model) (relevant_in s) (valid_in s) s.forest.nodes sub) in
+    then-same found _ _ (λ f. selected-told p tell sub f s) ∙ sym (bind-assoc found _ (told_then tell))
 
 end-told : (tell : Tell) (k : ℕ) (sub : Submission) (end : End) (t : State)
     → exchange.told_end tell k sub (ending end t) ≡ tell (end_event k sub end t) t

@@ -1,5 +1,5 @@
 -- Dispatch and actions, step by step: what each step of the machine gives, once the steps before it are done.
-use Rattle.std.proofs.Common.{ℕ, zero, suc, ◌≡◌, ◌-◌, ◌<◌, List, Bool, true, false, Option, Some, None, is_some, Result, Ok, Err, refl, ap, sym, ◌∙◌, arith}
+use Rattle.std.proofs.Common.{ℕ, zero, suc, ◌≡◌, ◌-◌, ◌<◌, List, Bool, true, false, Option, Some, None, is_some, option_map, Result, Ok, Err, refl, ap, sym, ◌∙◌, arith}
 use Rattle.std.proofs.lemmas.Option.{none-some}
 use Rattle.xf_store.specs.declared.call.StoreCall.{StoreCall}
 use Rattle.xf_lang.specs.Setting.{Meaning, Focus}
@@ -26,7 +26,7 @@ use Rattle.xf_actions.specs.Performs.{Refuses}
 use Rattle.xf_actions.specs.Parts.{work_in, condition_in, repetition_in, is_block, holds, once_done, acted}
 use Rattle.xf_actions.specs.Changed.{changed}
 use Rattle.xf_actions.specs.Told.{told, round_begun}
-use Rattle.xf_actions.proofs.Flow.{bind-assoc, refuses-then, same-refuses}
+use Rattle.xf_actions.proofs.Flow.{fine, bind-assoc, refuses-then, same-refuses}
 use Rattle.xf_actions.proofs.Telling.{round-told}
 use Rattle.xf_actions.proofs.Works.{work-told}
 
@@ -34,13 +34,13 @@ true-false : true ≡ false → ⊥
 true-false h = cc
 
 -- a refusal that is told as it is
-pub refuses-depth : {X : Type 0} (told : Option Refusal) (s : State) → told ≡ Some depth → Refuses {X = X} told s.calls (refused depth s)
+pub refuses-depth : (X : Type 0) (told : Option Refusal) (s : State) → told ≡ Some depth → Refuses {X = X} told s.calls (refused depth s)
 unfolding Refuses
-refuses-depth told s e = rw e (refl, refl)
+refuses-depth X told s e = rw e (refl, refl)
 
-pub refuses-budget : {X : Type 0} (told : Option Refusal) (s : State) → told ≡ Some budget → Refuses {X = X} told s.calls (refused budget s)
+pub refuses-budget : (X : Type 0) (told : Option Refusal) (s : State) → told ≡ Some budget → Refuses {X = X} told s.calls (refused budget s)
 unfolding Refuses
-refuses-budget told s e = rw e (refl, refl)
+refuses-budget X told s e = rw e (refl, refl)
 
 -- ---- dispatch
 
@@ -63,21 +63,21 @@ dispatch-begins p (suc d) is_idle e s t h q =
 
 -- the handlers are known
 pub handled-by : (p : Profile) (further : Further) (is_idle : Bool) (e : Fired) (t : State) (called : CallList)
-    → Ok {E = Refused} (calls (interface t) e.event) ≡ Ok called
+    → fine (calls (interface t) e.event) ≡ Ok called
     → handled p further is_idle e t ≡ in_turn (handle p further is_idle e) called.handlers t >>= when called.with_default (after_all p further is_idle e)
 handled-by p further is_idle e t called h =
     let q : calls (interface t) e.event ≡ called = cc in
     ap (λ (c : CallList). in_turn (handle p further is_idle e) c.handlers t >>= when c.with_default (after_all p further is_idle e)) q
 
 pub dispatch-handles : (p : Profile) (d : ℕ) (is_idle : Bool) (e : Fired) (s t : State) (called : CallList)
-    → 0 < d → spend s ≡ Ok t → Ok {E = Refused} (calls (interface t) e.event) ≡ Ok called
+    → 0 < d → spend s ≡ Ok t → fine (calls (interface t) e.event) ≡ Ok called
     → dispatch p d is_idle e s
         ≡ in_turn (handle p (dispatch p (d - 1)) is_idle e) called.handlers t >>= when called.with_default (after_all p (dispatch p (d - 1)) is_idle e)
 dispatch-handles p d is_idle e s t called h q r =
     dispatch-begins p d is_idle e s t h q ∙ handled-by p (dispatch p (d - 1)) is_idle e t called r
 
 pub dispatch-after : (p : Profile) (d : ℕ) (is_idle : Bool) (e : Fired) (s t u : State) (called : CallList)
-    → 0 < d → spend s ≡ Ok t → Ok {E = Refused} (calls (interface t) e.event) ≡ Ok called
+    → 0 < d → spend s ≡ Ok t → fine (calls (interface t) e.event) ≡ Ok called
     → in_turn (handle p (dispatch p (d - 1)) is_idle e) called.handlers t ≡ Ok u
     → dispatch p d is_idle e s ≡ when called.with_default (after_all p (dispatch p (d - 1)) is_idle e) u
 dispatch-after p d is_idle e s t u called h q r k =
@@ -134,7 +134,7 @@ some-idle p tell e inner n (Some a) s h = ap (λ r. r >>= acts_with p tell inner
 
 some-acts : (p : Profile) (tell : Tell) (e : Fired) (inner : ℕ → Run) (n : ℕ) (o : Option Act) (x : Acting) (s : State)
     → is_some o ≡ true → acting p e n s ≡ Ok (Some x) → where_some o (begun p tell e inner n) s ≡ acted p tell inner x o s
-unfolding (acted, once_done)
+unfolding acted once_done
 some-acts p tell e inner n None x s k h = absurd (true-false (sym k))
 some-acts p tell e inner n (Some a) x s k h = ap (λ r. r >>= acts_with p tell inner a s) h
 
@@ -156,6 +156,11 @@ act-acts (suc left) p tell e n x s h k q =
     some-acts p tell e (act_within left p tell e) n (act_at s n) x s k q
     ∙ ap (λ k. acted p tell (act_within left p tell e) x (act_at s k) s) (sym (acting-element p e n s x q))
     ∙ ap (λ k. acted p tell (act_within k p tell e) x (act_at s x.element) s) (let k : left ≡ suc left - 1 = omega arith in k)
+
+pub act-acts-by : {A : Type 0} (left : ℕ) (p : Profile) (tell : Tell) (e : Fired) (n : ℕ) (f : A → Acting) (o : Option A) (a : A) (s : State)
+    → 0 < left → is_some (act_at s n) ≡ true → acting p e n s ≡ Ok (option_map f o) → o ≡ Some a
+    → act_within left p tell e n s ≡ acted p tell (act_within (left - 1) p tell e) (f a) (act_at s (f a).element) s
+act-acts-by left p tell e n f o a s h k q is = act-acts left p tell e n (f a) s h k (q ∙ ap (λ x. fine (option_map f x)) is)
 
 -- ---- `if`
 
@@ -327,17 +332,17 @@ once-works p tell inner x o s e = once-holds p tell inner x o s ∙ ap (λ r. r 
 block-works : (p : Profile) (tell : Tell) (inner : ℕ → Run) (x : Acting) (w : Work) (s : State)
     → is_block w ≡ true → done_by p tell inner x w s ≡ in_turn inner (actions_in (interface s) x.element) s
 block-works p tell inner x work.all_in_it s h = refl
-block-works p tell inner x (work.set_value value) s h = absurd (true-false h)
-block-works p tell inner x (work.insert w) s h = absurd (true-false h)
-block-works p tell inner x (work.delete w) s h = absurd (true-false h)
-block-works p tell inner x (work.set_index k m) s h = absurd (true-false h)
-block-works p tell inner x (work.toggle one) s h = absurd (true-false h)
-block-works p tell inner x (work.set_focus n) s h = absurd (true-false h)
-block-works p tell inner x (work.dispatch w) s h = absurd (true-false h)
-block-works p tell inner x (work.send target) s h = absurd (true-false h)
-block-works p tell inner x (work.load resource) s h = absurd (true-false h)
-block-works p tell inner x work.message s h = absurd (true-false h)
-block-works p tell inner x (work.on_model name) s h = absurd (true-false h)
+block-works p tell inner x (work.set_value value) s h = absurd (true-false (sym h))
+block-works p tell inner x (work.insert w) s h = absurd (true-false (sym h))
+block-works p tell inner x (work.delete w) s h = absurd (true-false (sym h))
+block-works p tell inner x (work.set_index k m) s h = absurd (true-false (sym h))
+block-works p tell inner x (work.toggle one) s h = absurd (true-false (sym h))
+block-works p tell inner x (work.set_focus n) s h = absurd (true-false (sym h))
+block-works p tell inner x (work.dispatch w) s h = absurd (true-false (sym h))
+block-works p tell inner x (work.send target) s h = absurd (true-false (sym h))
+block-works p tell inner x (work.load resource) s h = absurd (true-false (sym h))
+block-works p tell inner x work.message s h = absurd (true-false (sym h))
+block-works p tell inner x (work.on_model name) s h = absurd (true-false (sym h))
 
 pub once-block : (p : Profile) (tell : Tell) (inner : ℕ → Run) (x : Acting) (o : Option Act) (s : State)
     → holds p x (condition_in o) s ≡ Ok true → is_block (work_in o) ≡ true
@@ -349,3 +354,38 @@ pub once-changes : (p : Profile) (tell : Tell) (inner : ℕ → Run) (x : Acting
     → holds p x (condition_in o) s ≡ Ok true → is_block (work_in o) ≡ false
     → once_done p tell inner x o s ≡ changed p x (work_in o) s >>= told tell
 once-changes p tell inner x o s e k = once-works p tell inner x o s e ∙ work-told p tell inner x (work_in o) s k
+
+-- ---- the same, with what was read
+
+pub once-idle-by : (p : Profile) (tell : Tell) (inner : ℕ → Run) (x : Acting) (o : Option Act) (s : State) (b : Bool)
+    → holds p x (condition_in o) s ≡ Ok b → b ≡ false → once_done p tell inner x o s ≡ Ok s
+once-idle-by p tell inner x o s b h q = once-idle p tell inner x o s (h ∙ ap (λ v. fine v) q)
+
+pub once-block-by : (p : Profile) (tell : Tell) (inner : ℕ → Run) (x : Acting) (o : Option Act) (s : State) (b : Bool) (parts : List ℕ)
+    → holds p x (condition_in o) s ≡ Ok b → b ≡ true → is_block (work_in o) ≡ true → fine (actions_in (interface s) x.element) ≡ Ok parts
+    → once_done p tell inner x o s ≡ in_turn inner parts s
+once-block-by p tell inner x o s b parts h q k read =
+    let same : actions_in (interface s) x.element ≡ parts = cc in
+    once-block p tell inner x o s (h ∙ ap (λ v. fine v) q) k ∙ ap (λ ns. in_turn inner ns s) same
+
+pub once-changes-stop : (p : Profile) (tell : Tell) (inner : ℕ → Run) (x : Acting) (o : Option Act) (s : State) (b : Bool) (why : Option Refusal) (calls : List StoreCall)
+    → holds p x (condition_in o) s ≡ Ok b → b ≡ true → is_block (work_in o) ≡ false → Refuses why calls (changed p x (work_in o) s)
+    → Refuses why calls (once_done p tell inner x o s)
+once-changes-stop p tell inner x o s b why calls h q k r =
+    same-refuses why calls _ _ (once-changes p tell inner x o s (h ∙ ap (λ v. fine v) q) k) (refuses-then why calls (changed p x (work_in o) s) (told tell) r)
+
+pub once-changed : (p : Profile) (tell : Tell) (inner : ℕ → Run) (x : Acting) (o : Option Act) (s t : State) (b : Bool) (events : List Fired)
+    → holds p x (condition_in o) s ≡ Ok b → b ≡ true → is_block (work_in o) ≡ false → changed p x (work_in o) s ≡ Ok (events, t)
+    → once_done p tell inner x o s ≡ in_turn tell events t
+once-changed p tell inner x o s t b events h q k e =
+    once-changes p tell inner x o s (h ∙ ap (λ v. fine v) q) k ∙ ap (λ r. r >>= told tell) e
+
+-- a loop of tests begins
+pub acted-begins : (p : Profile) (tell : Tell) (inner : ℕ → Run) (x : Acting) (o : Option Act) (s : State) (most : ℕ)
+    → is_some (repetition_in o) ≡ true → suc s.turns ≡ most
+    → acted p tell inner x o s ≡ tested most p x (repetition_in o) (once_done p tell inner x o) s
+acted-begins p tell inner x o s most h k =
+    acted-tested p tell inner x o s h ∙ ap (λ n. tested n p x (repetition_in o) (once_done p tell inner x o) s) k
+
+pub update-begins : (p : Profile) (tell : Tell) (s : State) (most : ℕ) → suc s.turns ≡ most → update p tell s ≡ rounds most (round p tell) s
+update-begins p tell s most k = ap (λ n. rounds n (round p tell) s) k

@@ -1,8 +1,8 @@
 //! Dispatch (DOM Level 2 Events, section 1.2) and actions (XForms 1.1, section 10): by recursion on the depth of dispatch that is left, in it
 //! on the parts that are left, and in loops on the turns that are left.
 
-ghost use Rattle.std.specs.Prelude.{◌≡◌, false, map};
-ghost use Rattle.xf_form_machine.specs.Flow.{in_turn};
+ghost use Rattle.std.specs.Prelude.{◌≡◌, false, map, option_map};
+ghost use Rattle.xf_form_machine.specs.Flow.{in_turn, where_some};
 ghost use Rattle.xf_form_machine.specs.Acting.{act_at};
 ghost use Rattle.xf_form_machine.specs.Act.{act_within};
 ghost use Rattle.xf_form_machine.specs.Default.{default};
@@ -170,20 +170,20 @@ fn act_by_default<W: World>(world: &mut W, fired: &Fired, depth: u32, is_idle: b
 {
     let told = world.conclude(fired)?;
     tell_all(world, told.events.as_slice(), depth, is_idle)?;
-    match &told.ending {
-        None => Ok(()),
-        Some(ending) => tell_end(world, ending, depth, is_idle),
-    }
+    tell_end(world, &told.ending, depth, is_idle)
 }
 
-/// The end of a submission is told.
+/// The end of a submission is told, where there is one.
 #[cycle(act)]
-fn tell_end<W: World>(world: &mut W, ending: &Ending, depth: u32, is_idle: bool) -> Result<(), W::Fault>
-    ensures done { Runs W.Fault.means (W.state world.new) result (ended (dispatches W.profile depth is_idle) (ending_of (W.state world.old).form ending.now) (W.state world.old)) }
+fn tell_end<W: World>(world: &mut W, ending: &Option<Ending>, depth: u32, is_idle: bool) -> Result<(), W::Fault>
+    ensures done { Runs W.Fault.means (W.state world.new) result (where_some (option_map (ending_of (W.state world.old).form) ending.now) (ended (dispatches W.profile depth is_idle)) (W.state world.old)) }
     ensures form { (W.state world.new).form ≡ (W.state world.old).form }
 {
-    match world.end_event(ending)? {
+    match ending {
         None => Ok(()),
-        Some(fired) => dispatch(world, &fired, depth, is_idle),
+        Some(ending) => match world.end_event(ending)? {
+            None => Ok(()),
+            Some(fired) => dispatch(world, &fired, depth, is_idle),
+        },
     }
 }

@@ -55,7 +55,10 @@ some-chained change (Some k) s f h = changed-chained change k s.models f h
 
 -- ---- of a change that may be refused
 
-abbrev ends : {t : State} (s : State) → AreChained s → Ok {E = Refused} s ≡ Ok t → AreChained t
+abbrev fine : State → Result State Refused
+fine s = Ok s
+
+ends : {t : State} (s : State) → AreChained s → fine s ≡ Ok t → AreChained t
 ends {t} s h e = let q : s ≡ t = cc in subst (λ (u : State). AreChained u) q h
 
 spent-chained : (k : ℕ) (s t : State) → AreChained s → spent_from k s ≡ Ok t → AreChained t
