@@ -208,7 +208,7 @@ pub repeat-loop-test-preserved : goal.repeat-loop-test-preserved
 repeat-loop-test-preserved g t c = record {
   rest =
     c.loop-test.invariant.rest
-    ∙ tests-next _ _ g.W.World.profile (dispatch g.W.World.profile c.args.depth false) (act_within c.args.left g.W.World.profile (dispatch g.W.World.profile c.args.depth false) (fired_of c.args.fired.now)) (acting_of c.args.fired.now c.args.acting.now) (g.W.World.state c.args.world.now) c.args.acting.now.element (g.W.World.state c.loop-test.world) (g.W.World.state c.spend.new.self) (g.W.World.state c.once.new.world) c.in_ok-holds_repetition.field-0 (omega arith) (omega arith) c.loop-test.invariant.written
+    ∙ tests-next _ _ g.W.World.profile (dispatch g.W.World.profile c.args.depth false) (act_within c.args.left g.W.World.profile (dispatch g.W.World.profile c.args.depth false) (fired_of c.args.fired.now)) (acting_of c.args.fired.now c.args.acting.now) (g.W.World.state c.args.world.now) c.args.acting.now.element (g.W.World.state c.loop-test.world) (g.W.World.state c.spend.new.self) (g.W.World.state c.once-in-loop-test.new.world) c.in_ok-holds_repetition.field-0 (omega arith) (omega arith) c.loop-test.invariant.written
         (c.in_ok-spend.ensures.form ∙ c.loop-test.invariant.form) c.in_ok-spend.ensures.done c.in_ok-holds_repetition.ensures (search rules)
         c.in_ok-once.ensures.done;
   written = c.loop-test.invariant.written;
