@@ -1,21 +1,29 @@
 -- Each change keeps the chain of the behaviours that are due.
-use Rattle.std.proofs.Common.{ℕ, zero, suc, ◌≡◌, ◌+◌, Bool, true, false, List, [], ◌∷◌, get_or, Option, Some, None, Result, Ok, Err, refl, subst}
+use Rattle.std.proofs.Common.{ℕ, zero, suc, ◌≡◌, ◌+◌, Bool, true, false, List, [], ◌∷◌, ◌++◌, map, filter, length, nat_lt, get_or, Option, Some, None, Result, Ok, Err, refl, subst}
 use Rattle.xf_doc.specs.declared.fault.TreeFault.{TreeFault}
 use Rattle.xf_doc.specs.Forest.{Forest}
-use Rattle.xf_doc.specs.Visit.{parent_of}
-use Rattle.xf_model.specs.Applied.{Entry, Exception}
+use Rattle.xf_doc.specs.Visit.{parent_of, visits}
+use Rattle.xf_doc.specs.Shape.{shape, shape_of}
+use Rattle.xf_doc.specs.Limits.{passed_by_text, unless}
+use Rattle.xf_doc.specs.Changes.{attached}
+use Rattle.xf_doc.specs.Texts.{with_text, new_texts}
+use Rattle.xf_model.specs.Applied.{Entry, Exception, applied}
+use Rattle.xf_model.specs.Entries.{edge_count}
 use Rattle.xf_model.specs.Circular.{Reader}
-use Rattle.xf_model.specs.Pertinent.{AllOf}
-use Rattle.xf_model.specs.Settled.{Valued}
-use Rattle.xf_ui.specs.Index.{Index, Stop}
+use Rattle.xf_model.specs.Pertinent.{AllOf, pertinent_count}
+use Rattle.xf_model.specs.Settled.{Valued, calculates, settled_contents, values_over, passed}
+use Rattle.xf_ui.specs.Index.{Index, Stop, brought_up}
 use Rattle.xf_form_machine.specs.declared.limit.LimitWord.{LimitWord}
+use Rattle.xf_form_machine.specs.declared.limit.LimitWord.TheVariants.{Edges, Notes}
+use Rattle.xf_form_machine.specs.declared.note.Note.{Note}
+use Rattle.xf_form_machine.specs.NoteLines.{notes_size}
 use Rattle.xf_form_machine.specs.Profile.{Profile}
 use Rattle.xf_form_machine.specs.State.{Model, State}
-use Rattle.xf_form_machine.specs.Refusal.{Refused, unless_passed}
+use Rattle.xf_form_machine.specs.Refusal.{Refused, word_of, unless_passed, if_over}
 use Rattle.xf_form_machine.specs.Flow.{Run, ◌>>=◌}
-use Rattle.xf_form_machine.specs.Surround.{all_in, model_holding}
-use Rattle.xf_form_machine.specs.Primitives.{spent_from, changed_at, in_some_model, all_due, texts_due, refresh_due, with_list_mark, list_changed, with_forest, with_indexes, grown, grown_to, over_made}
-use Rattle.xf_form_machine.specs.Behave.{no_model, rebuilt_with, unless_cycle, no_cycle, by_applied, recalculated_with, revalidated_with}
+use Rattle.xf_form_machine.specs.Surround.{interface, scope, all_in, model_holding, quiet}
+use Rattle.xf_form_machine.specs.Primitives.{spent_from, changed_at, in_model, in_some_model, all_due, texts_due, refresh_due, with_text_mark, with_list_mark, list_changed, with_forest, with_indexes, grown, grown_to, over_made, is_other_text, if_other, set_text, detach, add_note}
+use Rattle.xf_form_machine.specs.Behave.{no_model, model_at, asked_by_all, rebuilt_with, unless_cycle, no_cycle, by_applied, changes_of, with_contents, recalculated_with, settled_in, evaluated_more, recalculate, is_invalid, revalidated_with, revalidate}
 use Rattle.xf_form_machine.specs.Update.{with_brought}
 use Rattle.xf_machine_laws.specs.Chain.{IsChained, AreChained, ChainLaws}
 
@@ -106,7 +114,10 @@ applied-chained : (p : Profile) (model : ℕ) (r : Result (List Entry) Exception
     → AreChained s → by_applied p model r s ≡ Ok t → AreChained t
 applied-chained p model (Err x) s t h e = cc
 applied-chained p model (Ok entries) s t h e =
-    edges-chained p model entries _ _ t (changed-chained _ model s.models (rebuilt-chained entries _) h) e
+    let change = rebuilt_with entries (edge_count (scope p s model) (shape_of s.forest.nodes) entries) in
+    let after = in_model change model s in
+    edges-chained p model entries (if_over (nat_lt p.edges (asked_by_all after)) Edges) after t
+        (changed-chained change model s.models (rebuilt-chained entries (edge_count (scope p s model) (shape_of s.forest.nodes) entries)) h) e
 
 recalculated-chained : (values : List Valued) (m : Model) → m.flags.rebuild ≡ false → Chained m → Chained (recalculated_with values m)
 recalculated-chained values m q c = record { rebuild = λ h. cc; recalculate = λ h. cc; revalidate = c.revalidate }
@@ -121,16 +132,47 @@ revalidated-chained ns m q c = record { rebuild = c.rebuild; recalculate = λ h.
 
 -- ---- all of them
 
+text-chained : (p : Profile) (n : ℕ) (text : List ℕ) (s t : State) → AreChained s → set_text p n text s ≡ Ok t → AreChained t
+text-chained p n text s t h e =
+    let after = with_text n text s.forest in
+    let change = λ (m : Model). texts_due (if_other (is_other_text s n text) (with_text_mark n) m) in
+    grown-chained p (length (new_texts n text s.forest)) (unless (passed_by_text p.bounds.limits (length text) after.nodes) after)
+        (in_some_model change (model_holding s n) s) t
+        (some-chained change (model_holding s n) s (λ m c. texts_due-chained (if_other (is_other_text s n text) (with_text_mark n) m)) h) e
+
+note-chained : (p : Profile) (note : Note) (s t : State) → AreChained s → add_note p note s ≡ Ok t → AreChained t
+note-chained p note s t h e =
+    let notes = s.notes ++ note ∷ [] in
+    passed-chained (if_over (nat_lt p.notes (notes_size notes)) Notes) s (record s { notes = notes }) t h e
+
+recalculate-chained : (p : Profile) (model : ℕ) (s t : State)
+    → (model_at s model).flags.rebuild ≡ false → AreChained s → recalculate p model s ≡ Ok t → AreChained t
+recalculate-chained p model s t q h e =
+    let m = model_at s model in
+    let made = length (calculates m.entries) in
+    let count = pertinent_count (scope p s model) (shape (all_in s)) m.entries (changes_of m) in
+    let contents = settled_contents p.bounds (scope p s model) m.entries (all_in s) in
+    let values = values_over p.bounds (scope p s model) m.entries (visits (with_contents contents s.forest).nodes) in
+    settled-chained (map word_of (passed p.bounds (scope p s model) m.entries (all_in s)) ++ over_made p (s.made + made)) s t
+        (λ u. evaluated_more made count (settled_in p model m.entries contents u))
+        (known-chained (recalculated_with values) model s.models (recalculated-chained values m q) h) e
+
+revalidate-chained : (p : Profile) (model : ℕ) (s : State) → (model_at s model).flags.recalculate ≡ false → AreChained s → AreChained (revalidate p model s)
+revalidate-chained p model s q h =
+    let ns = map (λ x. x.number) (filter (is_invalid p model s) (all_in s)) in
+    known-chained (revalidated_with ns) model s.models (revalidated-chained ns (model_at s model) q) h
+
 pub chain_laws : (p : Profile) → ChainLaws p
 chain_laws p = record {
   spend = λ s t h e. spent-chained s.turns s t h e;
-  set_text = λ n text s t h e. grown-chained p _ _ _ t (some-chained _ (model_holding s n) s (λ m c. texts_due-chained _) h) e;
-  attach = λ n parent place s t h e. grown-chained p 0 _ _ t (list-chained (Some parent) s h) e;
-  detach = λ n s t h e. ends _ (list-chained (parent_of n (all_in s)) s h) e;
-  add_note = λ note s t h e. passed-chained _ s _ t h e;
-  refresh_due = λ model s t h e. ends _ (changed-chained refresh_due model s.models refresh_due-chained h) e;
-  reindex = λ added s t h e. brought-chained _ s t h e;
-  rebuild = λ model s t h e. applied-chained p model _ s t h e;
-  recalculate = λ model s t q h e. settled-chained _ s t _ (known-chained _ model s.models (recalculated-chained _ _ q) h) e;
-  revalidate = λ model s t q h e. ends _ (known-chained _ model s.models (revalidated-chained _ _ q.recalculate) h) e;
+  set_text = λ n text s t h e. text-chained p n text s t h e;
+  attach = λ n parent place s t h e.
+      grown-chained p 0 (attached p.bounds.limits n parent place s.forest) (list_changed (Some parent) s) t (list-chained (Some parent) s h) e;
+  detach = λ n s t h e. ends (detach n s) (list-chained (parent_of n (all_in s)) s h) e;
+  add_note = λ note s t h e. note-chained p note s t h e;
+  refresh_due = λ model s t h e. ends (in_model refresh_due model s) (changed-chained refresh_due model s.models refresh_due-chained h) e;
+  reindex = λ added s t h e. brought-chained (brought_up p.passes (interface s) (quiet p s) added s.indexes) s t h e;
+  rebuild = λ model s t h e. applied-chained p model (applied (scope p s model) s.forest.nodes) s t h e;
+  recalculate = λ model s t q h e. recalculate-chained p model s t q h e;
+  revalidate = λ model s t q h e. ends (revalidate p model s) (revalidate-chained p model s q.recalculate h) e;
 }
