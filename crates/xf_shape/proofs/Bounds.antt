@@ -31,7 +31,7 @@ use Rattle.xf_eval.specs.Live.{AllLive}
 use Rattle.xf_eval.specs.Worth.{seen}
 use Rattle.xf_eval.proofs.Erased.{in_order-erased}
 use Rattle.xf_shape.specs.Bound.{bound_at, is_root_in}
-use Rattle.xf_shape.specs.Spots.{shaped, stands, is_leaf, is_element_in}
+use Rattle.xf_shape.specs.Spots.{shaped, stands, is_leaf, is_element_in, is_text_in}
 use Rattle.xf_shape.specs.Steps.{has_texts, has_list_in, if_so}
 use Rattle.xf_shape.specs.Woven.{is_shown}
 use Rattle.xf_shape.proofs.Shapes.{Sound, real, whole, real-visits, whole-visits, live-found, found-live, stands-is, stands-found, text-found, is_kept, texts_of, is_leaf_visit, shaped-is}
@@ -198,6 +198,35 @@ module _ (forest : Forest) (sound : Sound forest) (n : ℕ) (live : has_number n
       and-none : (b : Bool) → (b && false) ≡ false
       and-none true = refl
       and-none false = refl
+
+  -- ---- by what the calls test
+
+  pub bound-root_in : stands forest.nodes n ≡ true → is_root_in (content_at n forest.nodes) ≡ true → children_of n (shaped forest.nodes) ≡ bound_at forest.nodes n
+  bound-root_in s h = by about.0 about.1 (sym (ap is_root_in about.1) ∙ h)
+    where
+      by : (c : Content) → content_at n forest.nodes ≡ Some c → is_root c ≡ true → children_of n (shaped forest.nodes) ≡ bound_at forest.nodes n
+      by content.Root e i = bound-root s e
+      by (content.Element name) e i = no i
+      by (content.Attribute name text) e i = no i
+      by (content.Text text) e i = no i
+
+  pub bound-text_in : stands forest.nodes n ≡ true → is_text_in (content_at n forest.nodes) ≡ true → as_list (parent_of n (visits forest.nodes)) ≡ bound_at forest.nodes n
+  bound-text_in s h = by about.0 about.1 (sym (ap is_text_in about.1) ∙ h)
+    where
+      by : (c : Content) → content_at n forest.nodes ≡ Some c → is_text c ≡ true → as_list (parent_of n (visits forest.nodes)) ≡ bound_at forest.nodes n
+      by content.Root e i = no i
+      by (content.Element name) e i = no i
+      by (content.Attribute name text) e i = no i
+      by (content.Text text) e i = bound-parent s text e
+
+  pub bound-itself : stands forest.nodes n ≡ true → is_root_in (content_at n forest.nodes) ≡ false → is_text_in (content_at n forest.nodes) ≡ false → n ∷ [] ≡ bound_at forest.nodes n
+  bound-itself s h k = by about.0 about.1 (sym (ap is_root_in about.1) ∙ h) (sym (ap is_text_in about.1) ∙ k)
+    where
+      by : (c : Content) → content_at n forest.nodes ≡ Some c → is_root c ≡ false → is_text c ≡ false → n ∷ [] ≡ bound_at forest.nodes n
+      by content.Root e i j = no (sym i)
+      by (content.Element name) e i j = bound-element s name e
+      by (content.Attribute name text) e i j = bound-attribute s name text e
+      by (content.Text text) e i j = no (sym j)
 
 pub one-shown : (nodes : List Node) (n : ℕ) → is_shown nodes n ≡ true → list_all (is_shown nodes) (n ∷ []) ≡ true
 one-shown nodes n h = both-hold (is_shown nodes n) true h refl

@@ -1,6 +1,7 @@
 -- A set of nodes of the shape in document order is put together of those of the forest and of the owners of texts, each in their order.
-use Rattle.std.proofs.Common.{◌≡◌, ℕ, ◌==◌, ◌^◌, Bool, true, false, not, cond, ◌&&◌, ◌||◌, List, [], ◌∷◌, ◌++◌, map, nat_lt, Option, Some, None, option_map, refl, sym, ap, ◌∙◌, arith}
+use Rattle.std.proofs.Common.{◌≡◌, ℕ, ◌==◌, ◌^◌, Bool, true, false, not, cond, ◌&&◌, ◌||◌, List, [], ◌∷◌, ◌++◌, map, nat_lt, Option, Some, None, option_map, refl, sym, ap, ◌∙◌, arith, inl, inr}
 use Rattle.std.specs.Prelude.{filter}
+use Rattle.std.specs.List.{list_all}
 use Rattle.std.proofs.lemmas.Bool.{eqb-true}
 use Rattle.std.proofs.lemmas.Bool.Decides.{nat_tests}
 use Rattle.xf_doc.specs.declared.node.NodeId.{NodeId}
@@ -16,18 +17,19 @@ use Rattle.xf_doc.proofs.RenumberLaws.{filter-through, map-map}
 use Rattle.xf_lang.specs.Setting as setting
 use Rattle.xf_lang.specs.Asked.{found, has_list}
 use Rattle.xf_lang.specs.Agree.{numbers_of, are_apart}
-use Rattle.xf_lang.proofs.VisitFacts.{no, some-same, none-some, turned}
+use Rattle.xf_lang.proofs.VisitFacts.{no, some-same, none-some, or-cases, turned}
 use Rattle.xf_lang.proofs.ForestVisits.{Each, each-map, self-found, found-erased}
 use Rattle.xf_eval.specs.Worth.{seen}
 use Rattle.xf_shape.specs.declared.spot.Spot.{Spot}
 use Rattle.xf_shape.specs.declared.spot.Spot.TheVariants.{Node as Own, TextOf, Outside}
 use Rattle.xf_shape.specs.Spots.{number_at, numbers_at, shaped, stands, is_leaf, is_spot, AreSpots, is_element_in}
 use Rattle.xf_shape.specs.Steps.{if_so}
-use Rattle.xf_shape.specs.Woven.{own_number, owner_number, own_numbers, owner_numbers, all_number, all_numbers, is_attribute_in, is_attribute_of, woven}
+use Rattle.xf_shape.specs.Woven.{own_number, owner_number, own_numbers, owner_numbers, all_number, all_numbers, is_attribute_in, is_attribute_of, is_owner, is_shown, woven}
 use Rattle.xf_shape.proofs.Shapes.{Sound, given, given-is, is_kept, kept, texts_of, is_leaf_visit, text_in, real, whole, real-visits, shaped-is, live-below, found-live, stands-is, text-apart}
 use Rattle.xf_shape.proofs.Frames.{none-first}
 use Rattle.xf_shape.proofs.Plain.{content-of, element-erased}
 use Rattle.xf_shape.proofs.Texts.{text-element}
+use Rattle.xf_shape.proofs.Reached.{all-of}
 use Rattle.xf_shape.proofs.Runs.{runs}
 use Rattle.xf_shape.proofs.Weaving.{owns, over, woven-over, Fits, weave, none}
 
@@ -225,3 +227,38 @@ module _ (forest : Forest) (sound : Sound forest) where
         ∙ ap (λ l. woven (is_attribute_of forest.nodes) None l (filter p (numbers_of R)) (filter q (numbers_of R))) (filter-both (λ k. p k || q k) (λ k. has k (all_numbers spots)) (λ k. sym (all-has k spots)) (numbers_of R) ∙ in-forest (all_numbers spots))
         ∙ ap (λ l. woven (is_attribute_of forest.nodes) None (in_order (visits forest.nodes) (all_numbers spots)) l (filter q (numbers_of R))) (in-forest (own_numbers spots))
         ∙ ap (λ l. woven (is_attribute_of forest.nodes) None (in_order (visits forest.nodes) (all_numbers spots)) (in_order (visits forest.nodes) (own_numbers spots)) l) (in-forest (owner_numbers spots))
+
+  -- ---- the parts in order
+
+  order-has : (all : List Visit) (ns : List ℕ) (k : ℕ) → has k (map (λ (x : Visit). x.number) (filter (λ x. has x.number ns) all)) ≡ true → has k ns ≡ true
+  order-has [] ns k h = no h
+  order-has (x ∷ xs) ns k h = by (has x.number ns) refl h (order-has xs ns k)
+    where
+      by : (b : Bool) → has x.number ns ≡ b → has k (map (λ (z : Visit). z.number) (cond b (x ∷ filter (λ z. has z.number ns) xs) (filter (λ z. has z.number ns) xs))) ≡ true →
+          (has k (map (λ (z : Visit). z.number) (filter (λ z. has z.number ns) xs)) ≡ true → has k ns ≡ true) → has k ns ≡ true
+      by true e i below = elim (or-cases (k == x.number) _ i) [ inl a ↦ ap (λ j. has j ns) (eqb-true k x.number a) ∙ e | inr b ↦ below b ]
+      by false e i below = below i
+
+  own-shown : (k : ℕ) (spots : List Spot) → AreSpots forest.nodes spots → has k (own_numbers spots) ≡ true → is_shown forest.nodes k ≡ true
+  own-shown k [] h i = no i
+  own-shown k (spot ∷ spots) h i = elim (or-cases (has k (own_number spot)) (has k (own_numbers spots)) (sym (has-both k (own_number spot) (own_numbers spots)) ∙ i)) [ inl a ↦ by spot (and-true _ _ h).0 a | inr b ↦ own-shown k spots (and-true _ _ h).1 b ]
+    where
+      by : (spot : Spot) → is_spot forest.nodes spot ≡ true → has k (own_number spot) ≡ true → is_shown forest.nodes k ≡ true
+      by (Own node) j a = ap (is_shown forest.nodes) (eqb-true k node.number (sym (or-none (k == node.number)) ∙ a)) ∙ j
+      by (TextOf owner) j a = no a
+      by (Outside node) j a = no a
+
+  owner-is : (k : ℕ) (spots : List Spot) → AreSpots forest.nodes spots → has k (owner_numbers spots) ≡ true → is_owner forest.nodes k ≡ true
+  owner-is k [] h i = no i
+  owner-is k (spot ∷ spots) h i = elim (or-cases (has k (owner_number spot)) (has k (owner_numbers spots)) (sym (has-both k (owner_number spot) (owner_numbers spots)) ∙ i)) [ inl a ↦ by spot (and-true _ _ h).0 a | inr b ↦ owner-is k spots (and-true _ _ h).1 b ]
+    where
+      by : (spot : Spot) → is_spot forest.nodes spot ≡ true → has k (owner_number spot) ≡ true → is_owner forest.nodes k ≡ true
+      by (Own node) j a = no a
+      by (TextOf owner) j a = ap (is_owner forest.nodes) (eqb-true k owner.number (sym (or-none (k == owner.number)) ∙ a)) ∙ j
+      by (Outside node) j a = no a
+
+  pub own-order : (spots : List Spot) → AreSpots forest.nodes spots → list_all (is_shown forest.nodes) (in_order (visits forest.nodes) (own_numbers spots)) ≡ true
+  own-order spots h = all-of (is_shown forest.nodes) _ (λ k i. own-shown k spots h (order-has (visits forest.nodes) (own_numbers spots) k i))
+
+  pub owner-order : (spots : List Spot) → AreSpots forest.nodes spots → list_all (is_owner forest.nodes) (in_order (visits forest.nodes) (owner_numbers spots)) ≡ true
+  owner-order spots h = all-of (is_owner forest.nodes) _ (λ k i. owner-is k spots h (order-has (visits forest.nodes) (owner_numbers spots) k i))

@@ -3,6 +3,7 @@ use Rattle.std.proofs.Common.{◌≡◌, ℕ, ◌==◌, ◌^◌, Bool, true, fal
 use Rattle.std.specs.Prelude.{filter, find, is_some}
 use Rattle.std.specs.List.{flat_map, list_any, list_all}
 use Rattle.std.proofs.lemmas.Bool.{eqb-true}
+use Rattle.std.proofs.lemmas.List.{reverse-append}
 use Rattle.xf_name.specs.declared.axis.Axis.{Axis}
 use Rattle.xf_name.specs.declared.axis.Axis.TheVariants.{Child, Attribute, Self_, Parent, Ancestor, AncestorOrSelf, Descendant, DescendantOrSelf, FollowingSibling, PrecedingSibling}
 use Rattle.xf_ast.specs.declared.expr.Test.{Test}
@@ -259,3 +260,42 @@ spots-filter nodes p (x ∷ xs) h = by (p x) (spots-filter nodes p xs (and-true 
     by : (b : Bool) → AreSpots nodes (filter p xs) → AreSpots nodes (cond b (x ∷ filter p xs) (filter p xs))
     by true i = both-hold (is_spot nodes x) (list_all (is_spot nodes) (filter p xs)) (and-true _ _ h).0 i
     by false i = i
+
+-- texts stand in place of others on three axes alone
+pub texts-axis : (nodes : List Node) (n : ℕ) (axis : Axis) → (axis ≡ Child → ⊥) → (axis ≡ Descendant → ⊥) → has_texts nodes n axis ≡ true → axis ≡ DescendantOrSelf
+texts-axis nodes n Child h i j = absurd (h refl)
+texts-axis nodes n Descendant h i j = absurd (i refl)
+texts-axis nodes n DescendantOrSelf h i j = refl
+texts-axis nodes n Attribute h i j = no j
+texts-axis nodes n Self_ h i j = no j
+texts-axis nodes n Parent h i j = no j
+texts-axis nodes n Ancestor h i j = no j
+texts-axis nodes n AncestorOrSelf h i j = no j
+texts-axis nodes n FollowingSibling h i j = no j
+texts-axis nodes n PrecedingSibling h i j = no j
+
+-- an element right below, among those that came and this one
+pub any-here : (p : ℕ → Bool) (ns ms : List ℕ) (n : ℕ) → p n ≡ true → list_any p (ns ++ n ∷ ms) ≡ true
+any-here p [] ms n h = ap (λ b. b || list_any p ms) h
+any-here p (k ∷ ns) ms n h = or-right (p k) (list_any p (ns ++ n ∷ ms)) (any-here p ns ms n h)
+
+pub text-are : (nodes : List Node) (b : Bool) (owner : NodeId) → is_spot nodes (TextOf owner) ≡ true → AreSpots nodes (text_if b owner)
+text-are nodes true owner h = both-hold (is_spot nodes (TextOf owner)) true h refl
+text-are nodes false owner h = refl
+
+spots-some : (nodes : List Node) (xs ys : List Spot) → AreSpots nodes xs → AreSpots nodes ys → AreSpots nodes (xs ++ ys)
+spots-some nodes [] ys h i = i
+spots-some nodes (x ∷ xs) ys h i = both-hold (is_spot nodes x) (list_all (is_spot nodes) (xs ++ ys)) (and-true _ _ h).0 (spots-some nodes xs ys (and-true _ _ h).1 i)
+
+pub spots-reversed : (nodes : List Node) (xs : List Spot) → AreSpots nodes xs → AreSpots nodes (reverse xs)
+spots-reversed nodes [] h = refl
+spots-reversed nodes (x ∷ xs) h =
+    subst (AreSpots nodes) (sym (reverse-append (x ∷ []) xs)) (spots-some nodes (reverse xs) (x ∷ []) (spots-reversed nodes xs (and-true _ _ h).1) (both-hold (is_spot nodes x) true (and-true _ _ h).0 refl))
+
+pub numbers-reversed : (xs : List Spot) → numbers_at (reverse xs) ≡ reverse (numbers_at xs)
+numbers-reversed xs = map-reverse number_at xs
+
+-- what all of a list are is the one behind those that came
+pub all-behind : (p : ℕ → Bool) (ns ms : List ℕ) (n : ℕ) → list_all p (ns ++ n ∷ ms) ≡ true → p n ≡ true
+all-behind p [] ms n h = (and-true _ _ h).0
+all-behind p (k ∷ ns) ms n h = all-behind p ns ms n (and-true _ _ h).1

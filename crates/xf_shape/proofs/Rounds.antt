@@ -1,5 +1,5 @@
 -- One round of each loop over the shape, and its end.
-use Rattle.std.proofs.Common.{◌≡◌, ℕ, zero, suc, ◌+◌, ◌<◌, ◌≤◌, Bool, true, false, cond, ◌&&◌, List, [], ◌∷◌, ◌++◌, map, take, drop, length, get_or, Option, Some, None, option_map, refl, sym, ap, ◌∙◌, arith, append_assoc, slice_get}
+use Rattle.std.proofs.Common.{◌≡◌, ℕ, zero, suc, ◌+◌, ◌<◌, ◌≤◌, Bool, true, false, cond, ◌&&◌, List, [], ◌∷◌, ◌++◌, map, take, drop, length, get_or, Option, Some, None, option_map, refl, sym, ap, ◌∙◌, arith, append_assoc, subst}
 use Rattle.std.specs.List.{flat_map, list_all}
 use Rattle.std.proofs.lemmas.List.{at_drop_more, at_drop_all, take_more, take_all}
 use Rattle.xf_ast.specs.declared.expr.Expr.{Expr}
@@ -17,7 +17,7 @@ use Rattle.xf_lang.proofs.VisitFacts.{some-same}
 use Rattle.xf_shape.specs.Bound.{Gives}
 use Rattle.xf_shape.specs.Spots.{AreSpots, is_spot, number_at, numbers_at}
 use Rattle.xf_shape.specs.declared.spot.Spot.{Spot}
-use Rattle.xf_shape.specs.Steps.{if_so}
+use Rattle.xf_shape.specs.Steps.{if_so, spot_if}
 use Rattle.xf_shape.specs.Told.{IsTold}
 use Rattle.xf_shape.proofs.Loops.{onto, onto-start, onto-end, kept-more, gathered, gathered-start, gathered-end, gathered-more, gathered-whole, walked-more, kept-all_more, chained-more}
 
@@ -125,3 +125,27 @@ chained-round s c links i d ns ks ms l step same rest v e =
 pub chained-end : (s : Setting) (c : Focus) (links : List Link) (i : ℕ) (ks : List ℕ) → length links ≤ i → (w : Value) → nodes_of w ≡ ks → Gives ks (chained (map meaning_of_link (drop i links)) w s c)
 chained-end s c links i ks l w e =
     λ u h. ap nodes_of (sym (some-same (sym (at_drop_all (λ xs. chained (map meaning_of_link xs) w s c) links i l) ∙ h))) ∙ e
+
+-- ---- a predicate, by what its calls give
+
+pub kept-numbers : (b : Bool) (x : Spot) → numbers_at (spot_if b x) ≡ if_so b (number_at x)
+kept-numbers true x = refl
+kept-numbers false x = refl
+
+pub kept-are : (nodes : List Node) (b : Bool) (x : Spot) → is_spot nodes x ≡ true → AreSpots nodes (spot_if b x)
+kept-are nodes true x h = spots-one nodes x h
+kept-are nodes false x h = refl
+
+pub kept-left : (s : Setting) (m : Meaning) (spots : List Spot) (i size : ℕ) (d : Spot) (b : Bool) (left left' : List Spot) (worth : Option (List ℕ)) → size ≡ length spots →
+    onto (numbers_at left) (kept_from s m size (suc i) (numbers_at (drop i spots))) ≡ worth → i < size → IsTold s m (i + 1) size b → left' ≡ left ++ spot_if b (get_or spots i d) →
+    onto (numbers_at left') (kept_from s m size (suc (i + 1)) (numbers_at (drop (i + 1) spots))) ≡ worth
+kept-left s m spots i size d b left left' worth e inv l told h =
+    let next : i + 1 ≡ suc i = omega arith in
+    let inside : i < length spots = omega (arith, e, l) in
+    let first : onto (numbers_at left) (kept_from s m (length spots) (suc i) (numbers_at (drop i spots))) ≡ worth = ap (λ k. onto (numbers_at left) (kept_from s m k (suc i) (numbers_at (drop i spots)))) (sym e) ∙ inv in
+    let same : IsTold s m (suc i) (length spots) b = subst (λ k. IsTold s m k (length spots) b) next (subst (λ k. IsTold s m (i + 1) k b) e told) in
+    ap (λ x. onto (numbers_at x) (kept_from s m size (suc (i + 1)) (numbers_at (drop (i + 1) spots)))) h
+    ∙ ap (λ x. onto x (kept_from s m size (suc (i + 1)) (numbers_at (drop (i + 1) spots)))) (numbers-append left (spot_if b (get_or spots i d)) ∙ ap (λ x. numbers_at left ++ x) (kept-numbers b (get_or spots i d)))
+    ∙ ap (λ k. onto (numbers_at left ++ if_so b (number_at (get_or spots i d))) (kept_from s m k (suc (i + 1)) (numbers_at (drop (i + 1) spots)))) e
+    ∙ ap (λ k. onto (numbers_at left ++ if_so b (number_at (get_or spots i d))) (kept_from s m (length spots) (suc k) (numbers_at (drop k spots)))) next
+    ∙ kept-round s m spots i d b (numbers_at left) worth first inside same

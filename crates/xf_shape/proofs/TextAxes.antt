@@ -358,3 +358,16 @@ module _ (forest : Forest) (sound : Sound forest) (n : ℕ) (live : has_number n
   pub text-preceding : [] ≡ From PrecedingSibling
   text-preceding = sym (from-there PrecedingSibling ∙ ap (λ l. number (filter (Met PrecedingSibling) (reverse l)))
       (each-kept_none (are_siblings v) (before v.number W) (each-map _ _ (before v.number W) no-sibling (each-before (λ z. found z.number W ≡ Some z) v.number W (self-found W apart)))))
+
+  -- on the other axes nothing
+  pub text-default : (axis : Axis) → (axis ≡ Self_ → ⊥) → (axis ≡ DescendantOrSelf → ⊥) → (axis ≡ Parent → ⊥) → (axis ≡ Ancestor → ⊥) → (axis ≡ AncestorOrSelf → ⊥) → [] ≡ From axis
+  text-default Child a b d e f = text-child
+  text-default Attribute a b d e f = text-attribute
+  text-default Self_ a b d e f = absurd (a refl)
+  text-default Parent a b d e f = absurd (d refl)
+  text-default Ancestor a b d e f = absurd (e refl)
+  text-default AncestorOrSelf a b d e f = absurd (f refl)
+  text-default Descendant a b d e f = text-descendant
+  text-default DescendantOrSelf a b d e f = absurd (b refl)
+  text-default FollowingSibling a b d e f = text-following
+  text-default PrecedingSibling a b d e f = text-preceding

@@ -1,5 +1,5 @@
 -- One round of the loop that puts nodes and texts together.
-use Rattle.std.proofs.Common.{◌≡◌, ℕ, zero, suc, ◌==◌, ◌+◌, ◌<◌, ◌≤◌, Bool, true, false, cond, ◌&&◌, List, [], ◌∷◌, ◌++◌, map, drop, length, get_or, Option, Some, None, option_map, refl, sym, ap, ◌∙◌, arith, append_assoc}
+use Rattle.std.proofs.Common.{◌≡◌, ℕ, zero, suc, ◌==◌, ◌+◌, ◌<◌, ◌≤◌, Bool, true, false, cond, ◌&&◌, List, [], ◌∷◌, ◌++◌, map, drop, length, get_or, Option, Some, None, option_map, refl, sym, ap, ◌∙◌, arith, append_assoc, subst}
 use Rattle.std.specs.List.{list_all}
 use Rattle.std.proofs.lemmas.Bool.{eqb-true}
 use Rattle.std.proofs.lemmas.List.{at_drop_more, at_drop_all}
@@ -121,3 +121,36 @@ past-next n [] zero e = no e
 past-next n [] (suc at) e = no e
 past-next n (i ∷ ids) zero e = sym (ap (λ b. cond b (numbers ids) (i.number ∷ numbers ids)) e)
 past-next n (i ∷ ids) (suc at) e = let more : suc at + 1 ≡ suc (at + 1) = omega arith in ap (λ k. numbers (drop k (i ∷ ids))) more ∙ past-next n ids at e
+
+-- ---- one round, by what its calls give
+
+module _ (own : ℕ → ℕ → Bool) (forest_nodes : List Node) (all : List NodeId) (i : ℕ) (d : NodeId) (nodes owners : List NodeId) where
+  abbrev node : NodeId
+  node = get_or all i d
+
+  module _ (w w1 w2 : Option NodeId) (at at' ot ot' : ℕ) (found found1 found2 : List Spot)
+      (h1 : found1 ≡ found ++ flushed_spots own w node.number) (h2 : w1 ≡ still_owner own w node.number)
+      (h3 : found2 ≡ found1 ++ own_if (begins_with node.number (numbers (drop at nodes))) node) (h4 : numbers (drop at' nodes) ≡ past node.number (numbers (drop at nodes)))
+      (h5 : w2 ≡ cond (begins_with node.number (numbers (drop ot owners))) (Some node) w1) (h6 : numbers (drop ot' owners) ≡ past node.number (numbers (drop ot owners))) where
+    all-found : found2 ≡ (found ++ flushed_spots own w node.number) ++ own_if (begins_with node.number (numbers (drop at nodes))) node
+    all-found = h3 ∙ ap (λ x. x ++ own_if (begins_with node.number (numbers (drop at nodes))) node) h1
+
+    now-waits : w2 ≡ cond (begins_with node.number (numbers (drop ot owners))) (Some node) (still_owner own w node.number)
+    now-waits = h5 ∙ ap (cond (begins_with node.number (numbers (drop ot owners))) (Some node)) h2
+
+    pub weave-left : (whole : List ℕ) → numbers_at found ++ woven own (number_in w) (numbers (drop i all)) (numbers (drop at nodes)) (numbers (drop ot owners)) ≡ whole → i < length all →
+        numbers_at found2 ++ woven own (number_in w2) (numbers (drop (i + 1) all)) (numbers (drop at' nodes)) (numbers (drop ot' owners)) ≡ whole
+    weave-left whole inv l =
+        ap (λ x. numbers_at x ++ woven own (number_in w2) (numbers (drop (i + 1) all)) (numbers (drop at' nodes)) (numbers (drop ot' owners))) all-found
+        ∙ ap (λ x. numbers_at ((found ++ flushed_spots own w node.number) ++ own_if (begins_with node.number (numbers (drop at nodes))) node) ++ woven own (number_in x) (numbers (drop (i + 1) all)) (numbers (drop at' nodes)) (numbers (drop ot' owners))) now-waits
+        ∙ ap (λ x. numbers_at ((found ++ flushed_spots own w node.number) ++ own_if (begins_with node.number (numbers (drop at nodes))) node) ++ woven own (number_in (cond (begins_with node.number (numbers (drop ot owners))) (Some node) (still_owner own w node.number))) (numbers (drop (i + 1) all)) x (numbers (drop ot' owners))) h4
+        ∙ ap (λ x. numbers_at ((found ++ flushed_spots own w node.number) ++ own_if (begins_with node.number (numbers (drop at nodes))) node) ++ woven own (number_in (cond (begins_with node.number (numbers (drop ot owners))) (Some node) (still_owner own w node.number))) (numbers (drop (i + 1) all)) (past node.number (numbers (drop at nodes))) x) h6
+        ∙ weave-round own all i d w (numbers (drop at nodes)) (numbers (drop ot owners)) found whole inv l
+
+    pub weave-spots : AreSpots forest_nodes found → list_all (is_owner forest_nodes) (as_list (number_in w)) ≡ true → list_all (λ (n : NodeId). is_shown forest_nodes n.number) nodes ≡ true → AreSpots forest_nodes found2
+    weave-spots a b c =
+        subst (AreSpots forest_nodes) (sym all-found)
+        (spots-append forest_nodes (found ++ flushed_spots own w node.number) _ (spots-append forest_nodes found _ a (flushed-are own forest_nodes w node.number b)) (own-are own forest_nodes node nodes at c))
+
+    pub weave-waits : list_all (is_owner forest_nodes) (as_list (number_in w)) ≡ true → list_all (λ (n : NodeId). is_owner forest_nodes n.number) owners ≡ true → list_all (is_owner forest_nodes) (as_list (number_in w2)) ≡ true
+    weave-waits b c = subst (λ x. list_all (is_owner forest_nodes) (as_list (number_in x)) ≡ true) (sym now-waits) (now-are own forest_nodes node owners ot (still_owner own w node.number) c (still-are own forest_nodes w node.number b))

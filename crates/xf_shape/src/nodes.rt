@@ -3,8 +3,8 @@
 ghost use Rattle.std.specs.Prelude.{◌≡◌, true, List, map, option_map, Some, IfOk};
 ghost use Rattle.std.specs.List.{list_all};
 ghost use Rattle.xf_doc.specs.declared.content.Node.{Node};
-ghost use Rattle.xf_doc.specs.Forest.{content_at};
-ghost use Rattle.xf_doc.specs.Visit.{children_of};
+ghost use Rattle.xf_doc.specs.Forest.{IsLive, content_at};
+ghost use Rattle.xf_doc.specs.Visit.{children_of, parent_of, visits};
 ghost use Rattle.xf_lang.specs.declared.value.Value.{Value};
 ghost use Rattle.xf_lang.specs.Binding.{as_list};
 ghost use Rattle.xf_lang.specs.Conversions.{nodes_of};
@@ -17,7 +17,7 @@ ghost use Rattle.xf_shape.specs.Over.{nodes_at, set_over, shape_at};
 ghost use Rattle.xf_shape.specs.Spots.{AreSpots, is_spot, number_at, numbers_at, shaped};
 ghost use Rattle.xf_shape.specs.Woven.{is_shown};
 
-use crate::leaf::{entered, has_elements, is_sound};
+use crate::leaf::{entered, has_elements, is_sound, is_text};
 use crate::order::in_order;
 use crate::predicates::kept_by_all;
 use crate::spot::Spot;
@@ -73,13 +73,34 @@ fn bound_node(alloc: Global, forest: &Forest, node: NodeId) -> Result<NodeList, 
     ensures shown { IfOk result (λ nodes. list_all (is_shown forest.now.forest.nodes) nodes ≡ true) }
 {
     is_sound(forest);
+    if is_root(forest, node) {
+        return children(alloc, forest, node);
+    }
+    if is_text(forest, node) {
+        return parent_of(alloc, forest, node);
+    }
+    single(alloc, node)
+}
+
+fn is_root(forest: &Forest, node: NodeId) -> bool
+    ensures { result ≡ is_root_in (content_at node.number forest.now.forest.nodes) }
+{
     match forest.content(node) {
-        Some(Content::Root) => children(alloc, forest, node),
-        Some(Content::Text(_)) => match forest.parent(node) {
-            Some(parent) => single(alloc, parent),
-            None => Ok(NodeList::new(alloc)),
-        },
-        _ => single(alloc, node),
+        Some(Content::Root) => true,
+        _ => false,
+    }
+}
+
+/// The parent, where there is one.
+fn parent_of(alloc: Global, forest: &Forest, node: NodeId) -> Result<NodeList, AllocError>
+    requires { IsLive node.number forest.now.forest }
+    ensures value { IfOk result (λ nodes. nodes ≡ as_list (parent_of node.number (visits forest.now.forest.nodes))) }
+    ensures shown { IfOk result (λ nodes. list_all (is_shown forest.now.forest.nodes) nodes ≡ true) }
+{
+    is_sound(forest);
+    match forest.parent(node) {
+        Some(parent) => single(alloc, parent),
+        None => Ok(NodeList::new(alloc)),
     }
 }
 

@@ -1,16 +1,35 @@
+use Rattle.std.proofs.Common.{sym, ap, ◌∙◌}
+use Rattle.std.specs.List.{list_all}
+use Rattle.std.proofs.lemmas.Result.{IfOk-weaker}
+use Rattle.xf_doc.specs.Forest.{has_number}
+use Rattle.xf_doc.proofs.BackLaws.{and-true}
+use Rattle.xf_shape.specs.Spots.{stands}
+use Rattle.xf_shape.specs.Woven.{is_shown}
+use Rattle.xf_shape.proofs.Bounds.{bound-itself, bound-root_in, bound-text_in, one-shown}
 use Rattle.xf_shape.proofs.nodes.bound_node.Goals as goal
 
-pub returns-in-Some-Root-clause-value : goal.returns-in-Some-Root-clause-value
-returns-in-Some-Root-clause-value c = ?
+pub returns-then-is_root-clause-value : goal.returns-then-is_root-clause-value
+returns-then-is_root-clause-value c =
+    let f = c.args.forest.now.forest in
+    let n = c.args.node.number in
+    let p = and-true (has_number n f.nodes) (stands f.nodes n) c.requires in
+    IfOk-weaker c.children.result _ _ (λ nodes h. h ∙ bound-root_in f c.is_sound.ensures n p.0 p.1 (sym c.is_root.ensures ∙ c.if-is_root.true)) c.children.ensures.value
 
-pub returns-in-Some-clause-value : goal.returns-in-Some-clause-value
-returns-in-Some-clause-value c = ?
+pub returns-then-is_text-clause-value : goal.returns-then-is_text-clause-value
+returns-then-is_text-clause-value c =
+    let f = c.args.forest.now.forest in
+    let n = c.args.node.number in
+    let p = and-true (has_number n f.nodes) (stands f.nodes n) c.requires in
+    IfOk-weaker c.parent_of.result _ _ (λ nodes h. h ∙ bound-text_in f c.is_sound.ensures n p.0 p.1 (sym c.is_text.ensures ∙ c.if-is_text.true)) c.parent_of.ensures.value
 
-pub returns-in-Some-clause-shown : goal.returns-in-Some-clause-shown
-returns-in-Some-clause-shown c = ?
+pub returns-clause-value : goal.returns-clause-value
+returns-clause-value c =
+    let f = c.args.forest.now.forest in
+    let n = c.args.node.number in
+    let p = and-true (has_number n f.nodes) (stands f.nodes n) c.requires in
+    IfOk-weaker c.single.result _ _ (λ nodes h. h ∙ bound-itself f c.is_sound.ensures n p.0 p.1 (sym c.is_root.ensures ∙ c.if-is_root.false) (sym c.is_text.ensures ∙ c.if-is_text.false)) c.single.ensures
 
-pub returns-in-None-clause-value : goal.returns-in-None-clause-value
-returns-in-None-clause-value c = ?
-
-pub returns-in_default-clause-value : goal.returns-in_default-clause-value
-returns-in_default-clause-value c = ?
+pub returns-clause-shown : goal.returns-clause-shown
+returns-clause-shown c =
+    let f = c.args.forest.now.forest in
+    IfOk-weaker c.single.result _ _ (λ nodes h. ap (list_all (is_shown f.nodes)) h ∙ one-shown f.nodes c.args.node.number c.requires) c.single.ensures

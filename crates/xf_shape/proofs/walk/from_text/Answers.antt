@@ -7,7 +7,7 @@ use Rattle.xf_lang.specs.AskedSteps.{is_kind}
 use Rattle.xf_lang.specs.Steps.{reached}
 use Rattle.xf_shape.specs.Spots.{is_leaf, numbers_at, shaped}
 use Rattle.xf_shape.proofs.Reached.{owner-own, text-numbers}
-use Rattle.xf_shape.proofs.TextAxes.{text-ancestors, text-below, text-parent_of, text-self}
+use Rattle.xf_shape.proofs.TextAxes.{text-ancestors, text-below, text-default, text-parent_of, text-self}
 use Rattle.xf_shape.proofs.walk.from_text.Goals as goal
 
 pub plainly-requires-clause-spot : goal.plainly-requires-clause-spot
@@ -57,4 +57,10 @@ returns-in-Ancestor-clause-value c =
     c.plainly-in-Ancestor.ensures.value
 
 pub returns-in_default-clause-value : goal.returns-in_default-clause-value
-returns-in_default-clause-value c = ?
+returns-in_default-clause-value c =
+    let f = c.args.forest.now.forest in
+    let n = c.args.owner.number in
+    let t = c.args.test.now in
+    let p = and-true (has_number n f.nodes) (is_leaf f.nodes n) c.requires in
+    ap numbers_at c.new.ensures.items
+    ∙ text-default f c.is_sound.ensures n p.0 p.1 t c.args.axis c.in_default.not-Self_ c.in_default.not-DescendantOrSelf c.in_default.not-Parent c.in_default.not-Ancestor c.in_default.not-AncestorOrSelf
