@@ -10,7 +10,8 @@ use Rattle.xf_ast.specs.declared.expr.Expr.TheVariants.{Number, Literal, Call, N
 use Rattle.xf_plain_values.specs.Conversions.{Decimal}
 use Rattle.std.specs.Prelude.{Bool, true}
 use Rattle.std.specs.List.{list_all}
-use Rattle.xf_shape.specs.Fixed.{Fixed, LinkFixed, are_placed, expr_fixed, link_fixed, step_fixed, fixed_of, link_fixed_of, is_fixed_step}
+use Rattle.xf_shape.specs.Fixed.{Fixed, LinkFixed, are_placed, expr_fixed, link_fixed, step_fixed, fixed_of, link_fixed_of, is_fixed, is_fixed_link, is_fixed_step}
+use Rattle.xf_doc.proofs.BackLaws.{and-true}
 use Rattle.xf_shape.proofs.Results.{all-mapped}
 
 pub fixed-Number : (place : ℕ) (k : Decimal) → fixed_of (Number place k) ≡ expr_fixed (Expr-F.Number place k)
@@ -46,3 +47,28 @@ fixed-step s = fold_out-Step Fixed LinkFixed Bool expr_fixed link_fixed step_fix
 -- the predicates of a step
 pub step-placed : (s : Step) → is_fixed_step s ≡ true → are_placed s.predicates ≡ true
 step-placed s h = all-mapped (λ (x : Fixed). x.is_placed) fixed_of s.predicates ∙ sym (fixed-step s) ∙ h
+
+-- the parts of what is fixed
+pub links-fixed : (e first : Expr) (links ls : List Link) → e ≡ Chain first links → is_fixed e ≡ true → ls ≡ links → list_all is_fixed_link ls ≡ true
+links-fixed e first links ls i h same =
+    ap (list_all is_fixed_link) same
+    ∙ all-mapped (λ (x : LinkFixed). x.right.is_fixed) link_fixed_of links
+    ∙ (and-true (fixed_of first).is_fixed (list_all (λ (x : LinkFixed). x.right.is_fixed) (map link_fixed_of links)) (sym (ap is_fixed i ∙ ap (λ (x : Fixed). x.is_fixed) (fixed-Chain first links)) ∙ h)).1
+
+pub predicates-placed : (e first : Expr) (predicates ps : List Expr) → e ≡ Filter first predicates → is_fixed e ≡ true → ps ≡ predicates → are_placed ps ≡ true
+predicates-placed e first predicates ps i h same =
+    ap are_placed same
+    ∙ all-mapped (λ (x : Fixed). x.is_placed) fixed_of predicates
+    ∙ (and-true (fixed_of first).is_fixed (list_all (λ (x : Fixed). x.is_placed) (map fixed_of predicates)) (sym (ap is_fixed i ∙ ap (λ (x : Fixed). x.is_fixed) (fixed-Filter first predicates)) ∙ h)).1
+
+pub path-fixed : (e : Expr) (place : ℕ) (start : Start) (steps ss : List Step) → e ≡ Path place start steps → is_fixed e ≡ true → ss ≡ steps → list_all is_fixed_step ss ≡ true
+path-fixed e place start steps ss i h same =
+    ap (list_all is_fixed_step) same
+    ∙ all-mapped (λ (b : Bool). b) is_fixed_step steps
+    ∙ (sym (ap is_fixed i ∙ ap (λ (x : Fixed). x.is_fixed) (fixed-Path place start steps)) ∙ h)
+
+pub from-fixed : (e first : Expr) (steps ss : List Step) → e ≡ From first steps → is_fixed e ≡ true → ss ≡ steps → list_all is_fixed_step ss ≡ true
+from-fixed e first steps ss i h same =
+    ap (list_all is_fixed_step) same
+    ∙ all-mapped (λ (b : Bool). b) is_fixed_step steps
+    ∙ (and-true (fixed_of first).is_fixed (list_all (λ (b : Bool). b) (map is_fixed_step steps)) (sym (ap is_fixed i ∙ ap (λ (x : Fixed). x.is_fixed) (fixed-From first steps)) ∙ h)).1

@@ -262,3 +262,7 @@ module _ (forest : Forest) (sound : Sound forest) where
 
   pub owner-order : (spots : List Spot) → AreSpots forest.nodes spots → list_all (is_owner forest.nodes) (in_order (visits forest.nodes) (owner_numbers spots)) ≡ true
   owner-order spots h = all-of (is_owner forest.nodes) _ (λ k i. owner-is k spots h (order-has (visits forest.nodes) (owner_numbers spots) k i))
+
+-- what is woven of the same lists
+pub woven-same : (own : ℕ → ℕ → Bool) (all all' ns ns' os os' : List ℕ) → all ≡ all' → ns ≡ ns' → os ≡ os' → woven own None all ns os ≡ woven own None all' ns' os'
+woven-same own all all' ns ns' os os' a b c = ap (λ l. woven own None l ns os) a ∙ ap (λ l. woven own None all' l os) b ∙ ap (λ l. woven own None all' ns' l) c

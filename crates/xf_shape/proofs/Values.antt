@@ -11,7 +11,10 @@ use Rattle.xf_funcs.proofs.CallLaws.{without_a_limit}
 use Rattle.xf_lang.specs.declared.context.Context.{Context}
 use Rattle.xf_lang.specs.declared.value.Value.{Value}
 use Rattle.xf_lang.specs.declared.value.Value.TheVariants.{Nodes, Text}
-use Rattle.xf_lang.specs.Binding.{as_list}
+use Rattle.xf_lang.specs.Binding.{as_list, bound_nodes}
+use Rattle.xf_doc.specs.Shape.{shape_of}
+use Rattle.xf_funcs.specs.Called.{called as called_of}
+use Rattle.xf_lang.specs.Reads.{shape_setting}
 use Rattle.xf_lang.specs.Conversions.{nodes_of, string_of}
 use Rattle.xf_lang.specs.Functions.{called, instance_id, set_of, text_value}
 use Rattle.xf_lang.specs.Given.{Given, document_of}
@@ -38,7 +41,7 @@ use Rattle.xf_shape.specs.Fixed.{Fixed, LinkFixed, begins_literal, call_fixed, e
 use Rattle.xf_shape.proofs.FixedEquations.{fixed-Call, fixed-Literal, fixed-Negated, fixed-Number}
 use Rattle.xf_lang.proofs.WithoutLimit.{NoLimit, always}
 use Rattle.xf_shape.specs.Bound.{CallGives, Gives, document_by, literal_id}
-use Rattle.xf_shape.specs.Over.{nodes_at, shape_at}
+use Rattle.xf_shape.specs.Over.{nodes_at, set_over, shape_at}
 use Rattle.xf_shape.proofs.Plainly.{linked-empty, plain-nodes}
 
 pub no-limit : (given : Given) (nodes : List Node) (context : Context) → NoLimit (shape_at given nodes context)
@@ -199,3 +202,18 @@ module _ (given : Given) (nodes : List Node) (context : Context) where
       by kind.Index f i = plainly kind.Index f (λ xs. refl) i
       by kind.Last f i = plainly kind.Last f (λ xs. refl) i
       by kind.Position f i = plainly kind.Position f (λ xs. refl) i
+
+-- ---- what surrounds an expression, where numbers have six decimals
+
+pub six-same : (given : Given) → given.decimals ≡ 6 → given ≡ with_six given
+six-same given h = ap (λ d. record given { decimals = d }) h
+
+-- what a bind selects, by the nodes of its value
+pub set-of : (given : Given) (nodes : List Node) (x : Expr) (context : Context) (ns : List ℕ) → given.decimals ≡ 6 → nodes_at given nodes x context ≡ Some ns → set_over given nodes x context ≡ Some (bound_nodes (shape_of nodes) ns)
+set-of given nodes x context ns h i =
+    ap (λ g. option_map (λ v. bound_nodes (shape_of nodes) (nodes_of v)) (meaning x (shape_setting called_of g nodes context.model context.current.number) (focus_of context))) (six-same given h)
+    ∙ by (meaning x (shape_at given nodes context) (focus_of context)) i
+  where
+    by : (m : Option Value) → option_map nodes_of m ≡ Some ns → option_map (λ v. bound_nodes (shape_of nodes) (nodes_of v)) m ≡ Some (bound_nodes (shape_of nodes) ns)
+    by None j = none-some j
+    by (Some v) j = ap (λ k. Some (bound_nodes (shape_of nodes) k)) (some-same j)

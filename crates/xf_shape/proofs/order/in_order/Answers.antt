@@ -1,12 +1,12 @@
-use Rattle.std.proofs.Common.{◌≡◌, None, map, sym, ap, ◌∙◌}
+use Rattle.std.proofs.Common.{◌≡◌, sym, ap, ◌∙◌}
 use Rattle.std.specs.List.{list_all}
 use Rattle.std.proofs.lemmas.Result.{IfOk-weaker}
 use Rattle.xf_doc.specs.declared.node.NodeId.{NodeId}
 use Rattle.xf_doc.specs.Order.{in_order}
 use Rattle.xf_doc.specs.Visit.{visits}
 use Rattle.xf_eval.proofs.Lives.{live-is, live-in_order}
-use Rattle.xf_shape.specs.Woven.{is_attribute_of, is_owner, is_shown, woven}
-use Rattle.xf_shape.proofs.Ordered.{order-woven, own-order, owner-order}
+use Rattle.xf_shape.specs.Woven.{is_attribute_of, is_owner, is_shown}
+use Rattle.xf_shape.proofs.Ordered.{order-woven, own-order, owner-order, woven-same}
 use Rattle.xf_shape.proofs.Results.{all-mapped}
 use Rattle.xf_shape.proofs.order.in_order.Goals as goal
 
@@ -30,11 +30,8 @@ weave-requires-clause-owners c =
 pub returns-clause-value : goal.returns-clause-value
 returns-clause-value c =
     let f = c.args.forest.now.forest in
-    let own = is_attribute_of f.nodes in
-    IfOk-weaker c.weave.result _ _
-    (λ found h. h
-    ∙ ap (λ l. woven own None l (map (λ (n : NodeId). n.number) c.as_slice.result.now) (map (λ (n : NodeId). n.number) c.as_slice-2.result.now)) (c.in_ok-all.ensures ∙ ap (in_order (visits f.nodes)) c.in_ok-all_nodes.ensures)
-    ∙ ap (λ l. woven own None _ l (map (λ (n : NodeId). n.number) c.as_slice-2.result.now)) (c.as_slice.ensures ∙ c.in_ok-nodes.ensures ∙ ap (in_order (visits f.nodes)) c.in_ok-own_nodes.ensures)
-    ∙ ap (λ l. woven own None _ _ l) (c.as_slice-2.ensures ∙ c.in_ok-owners.ensures ∙ ap (in_order (visits f.nodes)) c.in_ok-owners_of.ensures)
-    ∙ sym (order-woven f c.is_sound.ensures c.args.spots.now c.requires))
-    c.weave.ensures.value
+    let same = woven-same (is_attribute_of f.nodes) _ _ _ _ _ _
+    (c.in_ok-all.ensures ∙ ap (in_order (visits f.nodes)) c.in_ok-all_nodes.ensures)
+    (c.as_slice.ensures ∙ c.in_ok-nodes.ensures ∙ ap (in_order (visits f.nodes)) c.in_ok-own_nodes.ensures)
+    (c.as_slice-2.ensures ∙ c.in_ok-owners.ensures ∙ ap (in_order (visits f.nodes)) c.in_ok-owners_of.ensures) in
+    IfOk-weaker c.weave.result _ _ (λ found h. h ∙ same ∙ sym (order-woven f c.is_sound.ensures c.args.spots.now c.requires)) c.weave.ensures.value
