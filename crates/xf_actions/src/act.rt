@@ -17,6 +17,7 @@ use crate::acting::Acting;
 use crate::fault::WorldFault;
 use crate::fired::{Ending, Fired};
 use crate::parts::{holds_condition, holds_repetition, is_action, is_block, is_repeated};
+use crate::round::begin_round;
 use crate::work::change;
 use crate::world::World;
 
@@ -147,7 +148,7 @@ fn update<W: World>(world: &mut W, depth: u32) -> Result<(), W::Fault>
         if !world.is_due() {
             return Ok(());
         }
-        let events = world.begin_round()?;
+        let events = begin_round(world)?;
         tell_all(world, events.as_slice(), depth, false)?;
     }
     Err(W::Fault::budget())

@@ -165,7 +165,7 @@ pub update-returns-in_err-tell_all-clause-done : goal.update-returns-in_err-tell
 update-returns-in_err-tell_all-clause-done g t c =
     stopped _ _ _ _ _ c.from_residual-in_err-tell_all.ensures.1
         (same-refuses _ _ _ _ c.loop-round.invariant.rest
-            (rounds-told_stop _ g.W.World.profile (dispatch g.W.World.profile c.args.depth false) (g.W.World.state c.loop-round.world) (g.W.World.state c.begin_round.new.self) _ _ _ (omega arith) (search rules) c.in_ok-events.ensures.done (rw c.as_slice.ensures at c.in_err-tell_all.ensures.done)))
+            (rounds-told_stop _ g.W.World.profile (dispatch g.W.World.profile c.args.depth false) (g.W.World.state c.loop-round.world) (g.W.World.state c.begin_round.new.world) _ _ _ (omega arith) (search rules) c.in_ok-events.ensures.done (rw c.as_slice.ensures at c.in_err-tell_all.ensures.done)))
 
 pub update-returns-clause-done : goal.update-returns-clause-done
 update-returns-clause-done g t c =
@@ -226,7 +226,7 @@ pub update-loop-round-preserved : goal.update-loop-round-preserved
 update-loop-round-preserved g t c = record {
   rest =
     c.loop-round.invariant.rest
-    ∙ rounds-on _ _ g.W.World.profile (dispatch g.W.World.profile c.args.depth false) (g.W.World.state c.loop-round.world) (g.W.World.state c.begin_round.new.self) (g.W.World.state c.tell_all.new.world) _ (omega arith) (omega arith) (search rules) c.in_ok-events.ensures.done
+    ∙ rounds-on _ _ g.W.World.profile (dispatch g.W.World.profile c.args.depth false) (g.W.World.state c.loop-round.world) (g.W.World.state c.begin_round.new.world) (g.W.World.state c.tell_all.new.world) _ (omega arith) (omega arith) (search rules) c.in_ok-events.ensures.done
         (rw c.as_slice.ensures at c.in_ok-tell_all.ensures.done);
   form = c.in_ok-tell_all.ensures.form ∙ (c.in_ok-events.ensures.form ∙ c.loop-round.invariant.form);
 }
