@@ -138,7 +138,13 @@ pub trait World {
         ensures { Reads Self.Fault.means (λ u. state self.now) (state self.now) result (settable node.number (state self.now)) };
 
     /// The value of an expression at a node, as a text.
-    fn text_at(&self, fired: &Fired, acting: &Acting, node: NodeId, expr: &Expr) -> Result<Word, Self::Fault>
+    fn text_at(
+        &self,
+        fired: &Fired,
+        acting: &Acting,
+        node: NodeId,
+        expr: &Expr,
+    ) -> Result<Word, Self::Fault>
         ensures { Reads Self.Fault.means (λ w. w) (state self.now) result (text_for profile (acting_of fired.now acting.now) (state self.now) (alone node.number) (meaning expr.now)) };
 
     /// The text that stands in an element.
