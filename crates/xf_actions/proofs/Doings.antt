@@ -1,5 +1,5 @@
 -- Setvalue and message as works.
-use Rattle.std.proofs.Common.{ℕ, ◌≡◌, List, [], Bool, true, false, not, Option, Some, None, Result, Ok, Err, refl, sym}
+use Rattle.std.proofs.Common.{ℕ, ◌≡◌, List, Bool, true, false, not, Option, Some, None, Result, Ok, Err, refl, sym}
 use Rattle.xf_store.specs.declared.call.StoreCall.{StoreCall}
 use Rattle.xf_form_machine.specs.Program.{Work}
 use Rattle.xf_form_machine.specs.Program as work
@@ -17,9 +17,7 @@ use Rattle.xf_form_machine.specs.Properties.{readonly_in, path_in}
 use Rattle.xf_form_machine.specs.Acting.{Acting}
 use Rattle.xf_form_machine.specs.SetValue.{set_value, set_open, unless_parent, value_asked}
 use Rattle.xf_form_machine.specs.Telling.{message}
-use Rattle.xf_form_machine.specs.Events.{Fired}
-use Rattle.xf_actions.specs.declared.work.Doing.{Doing}
-use Rattle.xf_actions.specs.declared.work.Doing.TheVariants.{Sets, Speaks, Other}
+use Rattle.xf_actions.specs.declared.work.Doing.TheVariants.{Sets, Speaks}
 use Rattle.xf_actions.specs.Performs.{Refuses, RefusedAs}
 use Rattle.xf_actions.specs.Parts.{value_of_work}
 use Rattle.xf_actions.specs.Texts.{bound_for, message_text, settable}

@@ -1,11 +1,11 @@
 -- How one change follows another, and what a refusal of the first means for both.
-use Rattle.std.proofs.Common.{ℕ, suc, ◌≡◌, ◌+◌, ◌<◌, List, [], ◌∷◌, length, map, drop, get_or, Bool, true, false, Option, Some, None, Result, Ok, Err, refl, ap, sym, ◌∙◌, subst}
+use Rattle.std.proofs.Common.{ℕ, ◌≡◌, ◌+◌, ◌<◌, List, ◌∷◌, length, map, drop, get_or, Option, Some, None, Result, Ok, Err, refl, ap, sym, ◌∙◌, subst}
 use Rattle.std.proofs.lemmas.List.{at_drop_more, get_or-map, length-map}
 use Rattle.std.specs.Result.{IsErrAnd}
 use Rattle.xf_store.specs.declared.call.StoreCall.{StoreCall}
 use Rattle.xf_form_machine.specs.Refusal.{Refusal, Refused}
 use Rattle.xf_form_machine.specs.State.{State}
-use Rattle.xf_form_machine.specs.Flow.{Run, ◌>>=◌, when, in_turn}
+use Rattle.xf_form_machine.specs.Flow.{Run, ◌>>=◌, in_turn}
 use Rattle.xf_actions.specs.Performs.{Refuses, RefusedAs, Runs, Makes}
 
 -- what is done, as a result that could be refused

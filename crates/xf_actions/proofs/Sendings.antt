@@ -1,5 +1,5 @@
 -- A default action is what it changes, then its events told one after the other, then the end of a submission.
-use Rattle.std.proofs.Common.{ℕ, ◌≡◌, List, [], ◌∷◌, map, length, nat_le, Bool, true, false, Option, Some, None, Result, Ok, Err, refl, ap, sym, ◌∙◌, codes, bytes_eq, slice_get, if◌then◌else◌}
+use Rattle.std.proofs.Common.{ℕ, ◌≡◌, List, [], ◌∷◌, length, nat_le, Bool, true, false, Option, Some, None, Result, Ok, Err, refl, ap, sym, ◌∙◌, codes, bytes_eq, slice_get, if◌then◌else◌}
 use Rattle.std.specs.Str.{is_utf8}
 use Rattle.xf_name.specs.declared.lit.Lit.{Lit}
 use Rattle.xf_json.specs.declared.fault.JsonFault.{JsonFault}
@@ -27,16 +27,14 @@ use Rattle.xf_form_machine.specs.Flow.{Run, ◌>>=◌, where_some, in_turn, when
 use Rattle.xf_form_machine.specs.Surround.{scope, model_holding}
 use Rattle.xf_form_machine.specs.Behave.{rebuild, recalculate, revalidate}
 use Rattle.xf_form_machine.specs.Update.{reindex, due_revalidation, refresh_cleared}
-use Rattle.xf_form_machine.specs.Events.{Fired, Tell, fired_at}
+use Rattle.xf_form_machine.specs.Events.{Fired, Tell}
 use Rattle.xf_form_machine.specs.Submit as submit
 use Rattle.xf_form_machine.specs.Exchange as exchange
 use Rattle.xf_form_machine.specs.Default as default
-use Rattle.xf_form_machine.specs.Choose.{act_send}
-use Rattle.xf_actions.specs.Told.{Telling, told, quietly}
-use Rattle.xf_actions.specs.Changed.{untold, where_told}
-use Rattle.xf_actions.specs.Changed as changed
+use Rattle.xf_actions.specs.Told.{Telling, told}
+use Rattle.xf_actions.specs.Changed.{untold}
 use Rattle.xf_actions.specs.Sent.{End, done, failed, Sent, end_event, then_done, behaved, put_tree, put_text, on_target, with_tree, with_text, responded, answered, exchanged, selected, attempted, sent, told_sent}
-use Rattle.xf_actions.specs.Defaulted.{Defaulted, Defaults, Ending, nothing, telling, with_end, concluded, refreshed_now, of_model, of_role, submitted, defaulted}
+use Rattle.xf_actions.specs.Defaulted.{Defaulted, nothing, telling, with_end, concluded, refreshed_now, of_model, of_role, submitted, defaulted}
 use Rattle.xf_actions.proofs.Flow.{bind-assoc, then-same, then-ok}
 use Rattle.xf_actions.proofs.Telling.{untold-told, where-told, one-told, refresh-told}
 

@@ -1,9 +1,8 @@
 -- Dispatch and actions, step by step: what each step of the machine gives, once the steps before it are done.
-use Rattle.std.proofs.Common.{ℕ, zero, suc, ◌≡◌, ◌-◌, ◌<◌, List, Bool, true, false, Option, Some, None, is_some, option_map, Result, Ok, Err, refl, ap, sym, ◌∙◌, arith}
+use Rattle.std.proofs.Common.{ℕ, zero, suc, ◌≡◌, ◌-◌, ◌<◌, List, Bool, true, false, Option, Some, None, is_some, option_map, Result, Ok, refl, ap, sym, ◌∙◌, arith}
 use Rattle.std.proofs.lemmas.Option.{none-some}
 use Rattle.xf_store.specs.declared.call.StoreCall.{StoreCall}
 use Rattle.xf_lang.specs.Setting.{Meaning, Focus}
-use Rattle.xf_ui.specs.Interface.{Interface}
 use Rattle.xf_ui.specs.Context.{Context, context_of}
 use Rattle.xf_ui.specs.Named.{handler_rows}
 use Rattle.xf_ui.specs.Calls.{calls}

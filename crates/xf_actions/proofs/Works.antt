@@ -1,6 +1,5 @@
 -- The work of an action is what it changes, and then the events told one after the other.
-use Rattle.std.proofs.Common.{ℕ, ◌≡◌, List, [], ◌∷◌, map, zip, Bool, true, false, Option, Some, None, Result, Ok, Err, refl, ap, sym, ◌∙◌, ◌==◌, get_or, codes, ℤ, if◌then◌else◌}
-use Rattle.xf_ast.specs.declared.action.DispatchWork.{DispatchWork}
+use Rattle.std.proofs.Common.{ℕ, ◌≡◌, List, [], ◌∷◌, map, zip, Bool, true, false, Option, Ok, refl, sym, ◌∙◌, ◌==◌, get_or, codes, if◌then◌else◌}
 use Rattle.xf_lang.specs.Setting.{Focus}
 use Rattle.xf_model.specs.Places.{Place, planned_insert}
 use Rattle.xf_model.specs.Taken.{planned_delete}
@@ -11,21 +10,20 @@ use Rattle.xf_form_machine.specs.Program.{Work, InsertBy, DeleteBy}
 use Rattle.xf_form_machine.specs.Program as work
 use Rattle.xf_form_machine.specs.Profile.{Profile}
 use Rattle.xf_form_machine.specs.State.{State}
-use Rattle.xf_form_machine.specs.Refusal.{Refused}
 use Rattle.xf_form_machine.specs.Flow.{Run, ◌>>=◌, where_some, in_turn}
 use Rattle.xf_form_machine.specs.Surround.{Told, interface, instance_holding}
 use Rattle.xf_form_machine.specs.Primitives.{detach}
 use Rattle.xf_form_machine.specs.Update.{reindex}
-use Rattle.xf_form_machine.specs.Events.{Fired, Tell, fired_at}
+use Rattle.xf_form_machine.specs.Events.{Tell}
 use Rattle.xf_form_machine.specs.Acting.{Acting}
 use Rattle.xf_form_machine.specs.Act.{done_by}
 use Rattle.xf_form_machine.specs.Insert as machine
 use Rattle.xf_form_machine.specs.Delete as deletes
 use Rattle.xf_form_machine.specs.Choose as choose
 use Rattle.xf_actions.specs.Told.{Telling, told, quietly}
-use Rattle.xf_actions.specs.Changed.{untold, where_told, tells, tells_instance, inserted, insert_at, insert, deleted, delete_at, delete, toggled, toggle_in, toggle, changed}
+use Rattle.xf_actions.specs.Changed.{where_told, tells_instance, inserted, insert_at, insert, deleted, delete_at, delete, toggled, toggle_in, toggle, changed}
 use Rattle.xf_actions.specs.Parts.{is_block}
-use Rattle.xf_actions.proofs.Flow.{bind-assoc, then-same, then-ok}
+use Rattle.xf_actions.proofs.Flow.{bind-assoc, then-same}
 use Rattle.xf_actions.proofs.Telling.{untold-told, where-told, one-told, two-told}
 
 -- ---- insert and delete

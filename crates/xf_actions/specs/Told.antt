@@ -1,6 +1,6 @@
 -- What is done before events are told, apart from telling them: each change of the machine that tells events is one that gives these events,
 -- and then tells them one after the other.
-use Rattle.std.specs.Prelude.{ℕ, Bool, true, false, List, [], ◌∷◌, map, length, Option, Some, None, Result, Ok, Err}
+use Rattle.std.specs.Prelude.{ℕ, Bool, true, false, List, [], map, length, Option, Some, None, Result, Ok}
 use Rattle.xf_ui.specs.Notifications.{notifications}
 use Rattle.xf_actions.specs.declared.world.Flag.{Flag}
 use Rattle.xf_actions.specs.declared.world.Flag.TheVariants.{Rebuild, Recalculate, Revalidate, Refresh}

@@ -12,7 +12,7 @@ ghost use Rattle.xf_form_machine.specs.Properties.{readonly_in};
 ghost use Rattle.xf_form_machine.specs.Acting.{acting as acts, act_at, truth_for, text_for};
 ghost use Rattle.xf_form_machine.specs.Behave.{model_at, rebuild as rebuilt, recalculate as recalculated, revalidate as revalidated};
 ghost use Rattle.xf_form_machine.specs.Update.{is_due as due, is_refresh_due as refresh_is_due};
-ghost use Rattle.xf_actions.specs.Performs.{Runs, Makes, Gives, Reads};
+ghost use Rattle.xf_actions.specs.Performs.{Runs, Makes, Leaves, Reads};
 ghost use Rattle.xf_actions.specs.Seen.{IsProgram, fired_of, acting_of, concluded_of, ending_of};
 ghost use Rattle.xf_actions.specs.Told.{cleared_by, is_set, refreshed};
 ghost use Rattle.xf_actions.specs.Changed.{changed};
@@ -117,7 +117,7 @@ pub trait World {
 
     /// The default action of an event.
     fn conclude(&mut self, fired: &Fired) -> Result<Concluded, Self::Fault>
-        ensures done { Gives Self.Fault.means (concluded_of (state self.old).form (state self.new)) (state self.new) result (defaulted profile (fired_of fired.now) (state self.old)) }
+        ensures done { Leaves Self.Fault.means (concluded_of (state self.old).form (state self.new)) (state self.new) result (defaulted profile (fired_of fired.now) (state self.old)) }
         ensures form { (state self.new).form ≡ (state self.old).form };
 
     /// The event that tells the end of a submission: none where there is no such submission.

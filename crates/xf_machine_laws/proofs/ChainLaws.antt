@@ -1,5 +1,5 @@
 -- Each change keeps the chain of the behaviours that are due.
-use Rattle.std.proofs.Common.{ℕ, zero, suc, ◌≡◌, ◌+◌, Bool, true, false, List, [], ◌∷◌, ◌++◌, map, filter, length, nat_lt, get_or, Option, Some, None, Result, Ok, Err, refl, subst}
+use Rattle.std.proofs.Common.{ℕ, zero, suc, ◌≡◌, ◌+◌, false, List, [], ◌∷◌, ◌++◌, map, filter, length, nat_lt, get_or, Option, Some, None, Result, Ok, Err, refl, subst}
 use Rattle.xf_doc.specs.declared.fault.TreeFault.{TreeFault}
 use Rattle.xf_doc.specs.Forest.{Forest}
 use Rattle.xf_doc.specs.Visit.{parent_of, visits}
@@ -20,7 +20,7 @@ use Rattle.xf_form_machine.specs.NoteLines.{notes_size}
 use Rattle.xf_form_machine.specs.Profile.{Profile}
 use Rattle.xf_form_machine.specs.State.{Model, State}
 use Rattle.xf_form_machine.specs.Refusal.{Refused, word_of, unless_passed, if_over}
-use Rattle.xf_form_machine.specs.Flow.{Run, ◌>>=◌}
+use Rattle.xf_form_machine.specs.Flow.{◌>>=◌}
 use Rattle.xf_form_machine.specs.Surround.{interface, scope, all_in, model_holding, quiet}
 use Rattle.xf_form_machine.specs.Primitives.{spent_from, changed_at, in_model, in_some_model, all_due, texts_due, refresh_due, with_text_mark, with_list_mark, list_changed, with_forest, with_indexes, grown, grown_to, over_made, is_other_text, if_other, set_text, detach, add_note}
 use Rattle.xf_form_machine.specs.Behave.{no_model, model_at, asked_by_all, rebuilt_with, unless_cycle, no_cycle, by_applied, changes_of, with_contents, recalculated_with, settled_in, evaluated_more, recalculate, is_invalid, revalidated_with, revalidate}

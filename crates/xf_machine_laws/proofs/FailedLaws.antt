@@ -1,5 +1,5 @@
 -- A submission that fails keeps the data.
-use Rattle.std.proofs.Common.{ℕ, ◌≡◌, List, [], ◌∷◌, length, nat_le, Bool, true, false, Option, Some, None, Result, Ok, Err, refl, ap, sym, ◌∙◌, subst, codes, if◌then◌else◌}
+use Rattle.std.proofs.Common.{ℕ, ◌≡◌, List, [], ◌∷◌, length, nat_le, Bool, true, false, Option, Some, None, Result, Ok, Err, refl, sym, subst, if◌then◌else◌}
 use Rattle.std.specs.Str.{is_utf8}
 use Rattle.xf_name.specs.declared.lit.Lit.{Lit}
 use Rattle.xf_json.specs.declared.fault.JsonFault.{JsonFault}
@@ -19,8 +19,8 @@ use Rattle.xf_form_machine.specs.Flow.{Run, ◌>>=◌}
 use Rattle.xf_form_machine.specs.Events.{Tell}
 use Rattle.xf_form_machine.specs.Properties.{relevant_in, valid_in}
 use Rattle.xf_form_machine.specs.Surround.{scope}
-use Rattle.xf_form_machine.specs.Submit.{Ended, done, failed, Sending, then_done, target_by, takes_tree, takes_text, put_tree, put_text, on_target, has_fault, with_tree, with_text, respond, answered}
-use Rattle.xf_form_machine.specs.Exchange.{fits, with_call, unless_many, exchange, asked_by, is_store_name, selected, attempt}
+use Rattle.xf_form_machine.specs.Submit.{failed, Sending, then_done, target_by, takes_tree, takes_text, put_tree, put_text, on_target, has_fault, with_tree, with_text, respond, answered}
+use Rattle.xf_form_machine.specs.Exchange.{fits, with_call, unless_many, asked_by, is_store_name, selected}
 use Rattle.xf_machine_laws.specs.Failed.{KeepsAllButCalls, FailedKeeps}
 
 -- ---- what is done does not fail, and what fails is as it was

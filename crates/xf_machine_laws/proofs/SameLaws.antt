@@ -1,5 +1,5 @@
 -- States that are the same but for the numbers of nodes stay so.
-use Rattle.std.proofs.Common.{ℕ, zero, suc, ◌≡◌, List, [], ◌∷◌, ◌++◌, map, nat_lt, slice_set, Result, Ok, Err, refl, ap, ◌∙◌, subst}
+use Rattle.std.proofs.Common.{ℕ, zero, suc, ◌≡◌, List, [], ◌∷◌, ◌++◌, map, nat_lt, slice_set, Result, Ok, refl, ap, ◌∙◌, subst}
 use Rattle.xf_form_machine.specs.declared.limit.LimitWord.{LimitWord}
 use Rattle.xf_form_machine.specs.declared.limit.LimitWord.TheVariants.{Notes}
 use Rattle.xf_form_machine.specs.declared.note.Note.{Note}
