@@ -1,0 +1,6 @@
+pub mod AnswerLaws
+pub mod ControlLaws
+pub mod LineLaws
+pub mod NamedLemmas
+pub mod NodeLaws
+pub mod WordLemmas
