@@ -8,13 +8,12 @@ use Rattle.xf_ui.specs.Elements.{element_at}
 use Rattle.xf_ui.specs.Index.{index_of, rows_now}
 use Rattle.xf_ui.specs.Cases.{cases_of}
 use Rattle.xf_ui.specs.Copies.{Copy}
-use Rattle.xf_ui.specs.Items.{is_chosen}
 use Rattle.xf_form_machine.specs.Profile.{Profile}
 use Rattle.xf_form_machine.specs.State.{State}
 use Rattle.xf_form_machine.specs.Surround.{interface, quiet}
 use Rattle.xf_form_machine.specs.NoteLines.{quoted}
 use Rattle.xf_form_machine.specs.StateText.{spaced, line_of, marks_text, name_by, name_of, repeat_line, switch_line}
-use Rattle.xf_form_machine.specs.ControlText.{joined, rows_text, marks_of, value_part, sign_if, item_line, item_lines, copy_lines}
+use Rattle.xf_form_machine.specs.ControlText.{joined, rows_text, marks_of, value_part, sign_if, is_chosen_in, item_line, item_lines, copy_lines}
 use Rattle.xf_report.specs.Controls.{behind_comma, IsRepeat, IsCopy, Seen, repeat_text, switch_text, rows_in, many_in, item_text, item_texts, copy_text}
 use Rattle.xf_report.specs.Named.{name_with, name_in}
 
@@ -74,15 +73,15 @@ module _ (p : Profile) (s : State) (f : Interface) (c : Copy) (x : Seen) (is : I
       ∙ ap (λ m. line_of (codes "control " ++ (name_in f x.element ++ rows_in x.rows) ++ spaced (marks_text m) ++ value_part c.value)) is.marks
       ∙ ap (λ v. line_of (codes "control " ++ (name_in f x.element ++ rows_in x.rows) ++ spaced (marks_text x.marks) ++ value_part v)) is.value
 
-  item : (many : Bool) (i : Item) → item_line p s c many i ≡ item_text (name_in f x.element ++ rows_in x.rows) many (unwrap_or x.value []) i
+  item : (many : Bool) (i : Item) → item_line p s c many i ≡ item_text (name_in f x.element ++ rows_in x.rows) many x.value i
   item many i =
-      ap (λ l. line_of (l ++ spaced (quoted i.value) ++ sign_if (is_chosen many (unwrap_or c.value []) i))) (joined-name (codes "item ") (spaced (quoted i.label)))
-      ∙ ap (λ v. line_of (codes "item " ++ (name_in f x.element ++ rows_in x.rows) ++ spaced (quoted i.label) ++ spaced (quoted i.value) ++ sign_if (is_chosen many (unwrap_or v []) i))) is.value
+      ap (λ l. line_of (l ++ spaced (quoted i.value) ++ sign_if (is_chosen_in many c.value i))) (joined-name (codes "item ") (spaced (quoted i.label)))
+      ∙ ap (λ v. line_of (codes "item " ++ (name_in f x.element ++ rows_in x.rows) ++ spaced (quoted i.label) ++ spaced (quoted i.value) ++ sign_if (is_chosen_in many v i))) is.value
 
-  items : (sort : Sort) → item_lines p s c sort ≡ item_texts (name_in f x.element ++ rows_in x.rows) (many_in sort) (unwrap_or x.value []) x.items
+  items : (sort : Sort) → item_lines p s c sort ≡ item_texts (name_in f x.element ++ rows_in x.rows) (many_in sort) x.value x.items
   items (select many is_free) =
-      flat-same (item_line p s c many) (item_text (name_in f x.element ++ rows_in x.rows) many (unwrap_or x.value [])) (item many) c.items
-      ∙ ap (flat_map (item_text (name_in f x.element ++ rows_in x.rows) many (unwrap_or x.value []))) is.items
+      flat-same (item_line p s c many) (item_text (name_in f x.element ++ rows_in x.rows) many x.value) (item many) c.items
+      ∙ ap (flat_map (item_text (name_in f x.element ++ rows_in x.rows) many x.value)) is.items
   items sort = refl
 
   pub copy-is : copy_lines p s c ≡ copy_text f x
@@ -90,5 +89,5 @@ module _ (p : Profile) (s : State) (f : Interface) (c : Copy) (x : Seen) (is : I
       ap (λ l. l ++ item_lines p s c (element_at (interface s) c.element).sort) line
       ∙ ap (λ l. line_of (codes "control " ++ (name_in f x.element ++ rows_in x.rows) ++ spaced (marks_text x.marks) ++ value_part x.value) ++ l)
       (items (element_at (interface s) c.element).sort
-        ∙ ap (λ (g : Interface). item_texts (name_in f x.element ++ rows_in x.rows) (many_in (element_at g c.element).sort) (unwrap_or x.value []) x.items) is.form
-        ∙ ap (λ n. item_texts (name_in f x.element ++ rows_in x.rows) (many_in (element_at f n).sort) (unwrap_or x.value []) x.items) is.element)
+        ∙ ap (λ (g : Interface). item_texts (name_in f x.element ++ rows_in x.rows) (many_in (element_at g c.element).sort) x.value x.items) is.form
+        ∙ ap (λ n. item_texts (name_in f x.element ++ rows_in x.rows) (many_in (element_at f n).sort) x.value x.items) is.element)

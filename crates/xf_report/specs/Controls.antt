@@ -8,13 +8,12 @@ use Rattle.xf_ui.specs.Elements.{element_at, repeats_around}
 use Rattle.xf_ui.specs.Index.{index_of, rows_now}
 use Rattle.xf_ui.specs.Cases.{cases_of}
 use Rattle.xf_ui.specs.Copies.{Copy, Marks}
-use Rattle.xf_ui.specs.Items.{is_chosen}
 use Rattle.xf_form_machine.specs.Profile.{Profile}
 use Rattle.xf_form_machine.specs.State.{State}
 use Rattle.xf_form_machine.specs.Surround.{interface, quiet}
 use Rattle.xf_form_machine.specs.NoteLines.{quoted}
 use Rattle.xf_form_machine.specs.StateText.{spaced, line_of, marks_text}
-use Rattle.xf_form_machine.specs.ControlText.{joined, row_numbers, marks_of, value_part, sign_if}
+use Rattle.xf_form_machine.specs.ControlText.{joined, row_numbers, marks_of, value_part, sign_if, is_chosen_in}
 use Rattle.xf_report.specs.declared.control.ShownCopy.{ShownCopy}
 use Rattle.xf_report.specs.Marked.{seen_marks}
 use Rattle.xf_report.specs.Named.{name_in}
@@ -74,10 +73,10 @@ many_in (select many is_free) = Some many
 many_in sort = None
 
 -- with the name and the rows of the select
-abbrev pub item_text : List ℕ → Bool → List ℕ → Item → List ℕ
-item_text name many value i = line_of (codes "item " ++ name ++ spaced (quoted i.label) ++ spaced (quoted i.value) ++ sign_if (is_chosen many value i))
+abbrev pub item_text : List ℕ → Bool → Option (List ℕ) → Item → List ℕ
+item_text name many value i = line_of (codes "item " ++ name ++ spaced (quoted i.label) ++ spaced (quoted i.value) ++ sign_if (is_chosen_in many value i))
 
-abbrev pub item_texts : List ℕ → Option Bool → List ℕ → List Item → List ℕ
+abbrev pub item_texts : List ℕ → Option Bool → Option (List ℕ) → List Item → List ℕ
 item_texts name None value items = []
 item_texts name (Some many) value items = flat_map (item_text name many value) items
 
@@ -87,4 +86,4 @@ control_line name marks value = line_of (codes "control " ++ name ++ spaced (mar
 abbrev pub copy_text : Interface → Seen → List ℕ
 copy_text f x =
     let name = name_in f x.element ++ rows_in x.rows in
-    control_line name x.marks x.value ++ item_texts name (many_in (element_at f x.element).sort) (unwrap_or x.value []) x.items
+    control_line name x.marks x.value ++ item_texts name (many_in (element_at f x.element).sort) x.value x.items

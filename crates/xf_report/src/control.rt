@@ -2,7 +2,7 @@
 ghost use Rattle.std.specs.Prelude.{◌≡◌, ◌++◌, IfOk, OnOk, option_map, string_bytes};
 ghost use Rattle.std.specs.List.{flat_map, list_any};
 ghost use Rattle.std.specs.Str.{bytes_eq};
-ghost use Rattle.xf_form_machine.specs.ControlText.{joined, sign_if, value_part};
+ghost use Rattle.xf_form_machine.specs.ControlText.{is_chosen_in, joined, sign_if, value_part};
 ghost use Rattle.xf_ui.specs.Elements.{element_at};
 ghost use Rattle.xf_ui.specs.Interface.{interface_of, sort_of};
 ghost use Rattle.xf_ui.specs.Items.{is_chosen, words};
@@ -89,7 +89,7 @@ pub fn push_copy(
         text,
         many_of(form, copy.element),
         name.as_str(),
-        copy.value.unwrap_or(""),
+        copy.value,
         copy.items,
     )
 }
@@ -135,10 +135,10 @@ fn push_chosen(
     text: &mut String,
     many: Option<bool>,
     name: &str,
-    value: &str,
+    value: Option<&str>,
     items: &[Item],
 ) -> Result<(), AllocError>
-    ensures { OnOk result (string_bytes text.new ≡ string_bytes text.old ++ item_texts name.now many value.now items.now) }
+    ensures { OnOk result (string_bytes text.new ≡ string_bytes text.old ++ item_texts name.now many (option_map (λ v. v.now) value.entry) items.now) }
 {
     match many {
         Some(many) => push_items(alloc, text, name, many, value, items),
@@ -215,10 +215,10 @@ fn push_items(
     text: &mut String,
     name: &str,
     many: bool,
-    value: &str,
+    value: Option<&str>,
     items: &[Item],
 ) -> Result<(), AllocError>
-    ensures { OnOk result (string_bytes text.new ≡ string_bytes text.old ++ flat_map (item_text name.now many value.now) items.now) }
+    ensures { OnOk result (string_bytes text.new ≡ string_bytes text.old ++ flat_map (item_text name.now many (option_map (λ v. v.now) value.entry)) items.now) }
 {
     for item in items {
         push_item(alloc, text, name, many, value, item)?;
@@ -231,10 +231,10 @@ fn push_item(
     text: &mut String,
     name: &str,
     many: bool,
-    value: &str,
+    value: Option<&str>,
     item: &Item,
 ) -> Result<(), AllocError>
-    ensures { OnOk result (string_bytes text.new ≡ string_bytes text.old ++ item_text name.now many value.now item.now) }
+    ensures { OnOk result (string_bytes text.new ≡ string_bytes text.old ++ item_text name.now many (option_map (λ v. v.now) value.entry) item.now) }
 {
     text.push_str("item ")?;
     text.push_str(name)?;
@@ -242,7 +242,7 @@ fn push_item(
     push_quoted(alloc, text, item.label.as_str())?;
     text.push_str(" ")?;
     push_quoted(alloc, text, item.value.as_str())?;
-    text.push_str(sign(is_chosen(many, value, item)))?;
+    text.push_str(sign(is_chosen_in(many, value, item)))?;
     text.push_str("\n")
 }
 
@@ -250,6 +250,16 @@ fn sign(is_chosen: bool) -> &'static str
     ensures { result.now ≡ sign_if is_chosen }
 {
     if is_chosen { " +" } else { " -" }
+}
+
+/// Whether an item is chosen: without a value none is.
+fn is_chosen_in(many: bool, value: Option<&str>, item: &Item) -> bool
+    ensures { result ≡ is_chosen_in many (option_map (λ v. v.now) value.entry) item.now }
+{
+    match value {
+        Some(text) => is_chosen(many, text, item),
+        None => false,
+    }
 }
 
 /// Whether an item is chosen by a value: by one of its words, where several items may be.
