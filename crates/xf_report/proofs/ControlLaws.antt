@@ -49,7 +49,7 @@ pub joined-split : (rows : List ℕ) → 0 < length rows → joined rows ≡ dec
 joined-split [] h = absurd (omega arith)
 joined-split (k ∷ ks) h = joined-from k ks
 
-flat-same : {X : Type 0} (f g : X → List ℕ) → ((x : X) → f x ≡ g x) → (xs : List X) → flat_map f xs ≡ flat_map g xs
+pub flat-same : {X : Type 0} (f g : X → List ℕ) → ((x : X) → f x ≡ g x) → (xs : List X) → flat_map f xs ≡ flat_map g xs
 flat-same f g h [] = refl
 flat-same f g h (x ∷ xs) = ap (λ l. l ++ flat_map f xs) (h x) ∙ ap (λ l. g x ++ l) (flat-same f g h xs)
 

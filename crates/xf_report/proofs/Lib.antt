@@ -3,4 +3,5 @@ pub mod ControlLaws
 pub mod LineLaws
 pub mod NamedLemmas
 pub mod NodeLaws
+pub mod StateLaws
 pub mod WordLemmas

@@ -72,3 +72,7 @@ pair_for instances place (Some i) = (suc i.model, suc (count_by (λ j. j.model =
 
 abbrev pub pair_among : List Instance → ℕ → ℕ × ℕ
 pair_among instances place = pair_for instances place (slice_get instances place)
+
+-- of the instance with a place
+abbrev pub block_of : (ℕ → Marks) → List Node → List Instance → ℕ → List ℕ
+block_of marks nodes instances place = block_text marks nodes place (pair_among instances place)

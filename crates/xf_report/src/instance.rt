@@ -37,7 +37,7 @@ pub fn push_instance<M: NodeMarks>(
 }
 
 /// Appends the lines of the instance with this place, which has these numbers.
-fn push_block<M: NodeMarks>(
+pub(crate) fn push_block<M: NodeMarks>(
     alloc: Global,
     text: &mut String,
     forest: &Forest,
@@ -88,7 +88,7 @@ fn push_nodes<M: NodeMarks>(
 }
 
 /// The number of the model of an instance, and its own among those of the model, both from 1.
-fn pair_among(instances: &[Instance], place: usize) -> (u64, u64)
+pub(crate) fn pair_among(instances: &[Instance], place: usize) -> (u64, u64)
     ensures { result ≡ pair_among instances.now place }
 {
     if place >= instances.len() {
