@@ -15,11 +15,11 @@ use Rattle.xf_doc.specs.declared.content.Content.TheVariants.{Root, Element, Att
 use Rattle.xf_doc.specs.Forest.{Forest, is_element, is_attribute, is_text, name_in, written, written_in, content_at, has_number}
 use Rattle.xf_doc.specs.Visit.{Visit, visits, has, is_first, same_parent}
 use Rattle.xf_doc.specs.Axis.{before, is_on, axis_from, axis_of}
-use Rattle.xf_doc.specs.Path.{is_namesake, is_text_beside, bracketed}
+use Rattle.xf_doc.specs.Path.{is_namesake, bracketed}
 use Rattle.xf_doc.specs.Shape.{has_elements}
 use Rattle.xf_doc.specs.WellFormed.{HasTrees}
 use Rattle.xf_doc.proofs.BackLaws.{and-true, or-false, not-true}
-use Rattle.xf_doc.proofs.OrderLaws.{Sub, map-sub, filter-sub, sub-has, sub-different}
+use Rattle.xf_doc.proofs.OrderLaws.{map-sub, filter-sub, sub-has, sub-different}
 use Rattle.xf_lang.specs.Asked.{found}
 use Rattle.xf_lang.specs.Agree.{numbers_of, are_apart}
 use Rattle.xf_lang.proofs.VisitFacts.{self-same, turned, or-left, or-right, no, some-same, none-some, filter-and, filter-same, found-number}
@@ -163,9 +163,9 @@ counts q forest p n at x plain sound e f = by (found p (visits forest.nodes)) e
         ∙ sym (one-test (is_first px.number y.above) (not (is_attribute y.content)) (q y.content) (λ k. ap not (plain y.content k))) in
         record {
           whole = ap length (filter-same (beside q x) (λ y. r y && q y.content) tests all ∙ filter-and (λ y. q y.content) r all)
-          ∙ sym (count-visits q nodes (filter r all) (each-filter (Linked nodes) r all (all-linked forest sound)));
+              ∙ sym (count-visits q nodes (filter r all) (each-filter (Linked nodes) r all (all-linked forest sound)));
           earlier = ap length (ap (λ k. filter (beside q x) (before k all)) is ∙ filter-same (beside q x) (λ y. r y && q y.content) tests (before n all))
-          ∙ sym (ahead-count r q nodes n all (all-linked forest sound) at_n) ∙ sym (ap (count_in q nodes) (ahead-taken n at cs different i));
+              ∙ sym (ahead-count r q nodes n all (all-linked forest sound) at_n) ∙ sym (ap (count_in q nodes) (ahead-taken n at cs different i));
         }
 
 named-plain : (w : List ℕ) → Plain (is_named w)

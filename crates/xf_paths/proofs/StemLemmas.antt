@@ -1,6 +1,5 @@
 -- The path of a node by that of its parent.
 use Rattle.std.proofs.Common.{◌≡◌, ℕ, ◌==◌, Bool, true, false, cond, not, ◌&&◌, ◌||◌, List, [], ◌∷◌, ◌++◌, map, nat_lt, reverse, codes, Option, Some, None, option_map, refl, sym, ap, ◌∙◌, append-nil, arith}
-use Rattle.std.specs.Prelude.{filter}
 use Rattle.std.specs.List.{flat_map, list_all, list_any}
 use Rattle.std.proofs.lemmas.List.{reverse-append}
 use Rattle.std.proofs.lemmas.List.Concat.{flat_map-append}
@@ -12,12 +11,12 @@ use Rattle.xf_doc.specs.declared.content.Content.TheVariants.{Root, Element, Att
 use Rattle.std.proofs.lemmas.Bool.{eqb-true}
 use Rattle.xf_doc.specs.Forest.{Forest, is_root, is_element, is_attribute, is_text, has_number, node_at, content_at, written}
 use Rattle.xf_doc.specs.Visit.{Visit, is_first, visit, visits, visits_from, still_above, numbers, first_of, above_in, ancestors_of, parent_of}
-use Rattle.xf_doc.specs.Path.{step_of, step_in, step_by, or_slash, path_of, bracketed}
+use Rattle.xf_doc.specs.Path.{step_of, step_in, step_by, or_slash, path_of}
 use Rattle.xf_doc.specs.Shape.{erased, has_elements, without_text}
 use Rattle.xf_doc.specs.WellFormed.{HasTrees}
 use Rattle.xf_doc.proofs.BackLaws.{and-true}
 use Rattle.xf_lang.specs.Asked.{found, has_list}
-use Rattle.xf_lang.specs.Agree.{numbers_of, are_apart, untexted, AreVisits}
+use Rattle.xf_lang.specs.Agree.{untexted, AreVisits}
 use Rattle.xf_lang.proofs.VisitFacts.{no, some-same, none-some, found-out}
 use Rattle.xf_lang.proofs.ForestVisits.{Each, self-found, found-erased, forest-visits}
 use Rattle.xf_paths.specs.Family.{index_of, index_by, index_in, index_text, meets, step_with}

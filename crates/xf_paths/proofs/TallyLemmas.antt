@@ -1,7 +1,7 @@
 -- A tally of names, one name more.
-use Rattle.std.proofs.Common.{◌≡◌, ℕ, ◌+◌, List, Some, Bool, true, false, cond, refl, ap, sym, ◌∙◌, arith, inl, inr}
+use Rattle.std.proofs.Common.{◌≡◌, ℕ, ◌+◌, List, Some, true, false, cond, ap, sym, ◌∙◌, arith, inl, inr}
 use Rattle.std.specs.Prelude.{String, string_bytes, unwrap_or}
-use Rattle.std.specs.HashMap.{HashMap, UpdatesBy, get_by_text}
+use Rattle.std.specs.HashMap.{HashMap, UpdatesBy}
 use Rattle.std.specs.Str.{bytes_eq}
 use Rattle.std.specs.String.{string_eq}
 use Rattle.std.proofs.lemmas.Map.Text.{hash_map_updates_text}

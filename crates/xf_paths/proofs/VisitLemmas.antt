@@ -8,7 +8,7 @@ use Rattle.xf_doc.specs.WellFormed.{HasTrees}
 use Rattle.xf_doc.proofs.OrderLaws.{visits-different}
 use Rattle.xf_lang.specs.Asked.{found}
 use Rattle.xf_lang.specs.Agree.{numbers_of, are_apart}
-use Rattle.xf_lang.proofs.VisitFacts.{no, some-same, none-some}
+use Rattle.xf_lang.proofs.VisitFacts.{some-same, none-some}
 use Rattle.xf_lang.proofs.ForestVisits.{Each, each-map, self-found}
 
 pub content-seen : (n : ℕ) (above xs : List Node) → option_map (λ (v : Visit). v.content) (found n (visits_from above xs)) ≡ content_at n xs

@@ -1,5 +1,5 @@
 -- The places of the children of a node among those of their kind, as a path has them.
-use Rattle.std.specs.Prelude.{ℕ, suc, String, ◌≡◌, Bool, true, false, ◌&&◌, List, [], ◌∷◌, ◌++◌, length, codes, find, filter, count_by, unwrap_or, Option, Some, None, ◌==◌}
+use Rattle.std.specs.Prelude.{ℕ, suc, String, ◌≡◌, Bool, false, ◌&&◌, List, [], ◌∷◌, ◌++◌, length, codes, find, filter, count_by, unwrap_or, Option, Some, None, ◌==◌}
 use Rattle.std.specs.HashMap.{HashMap, get_by_text}
 use Rattle.std.specs.Str.{bytes_eq}
 use Rattle.xf_doc.specs.declared.content.Node.{Node}

@@ -1,5 +1,5 @@
 -- The nodes whose paths are at hand.
-use Rattle.std.specs.Prelude.{ℕ, ◌≡◌, Bool, List, [], ◌∷◌, reverse, string_bytes}
+use Rattle.std.specs.Prelude.{ℕ, ◌≡◌, List, ◌∷◌, reverse, string_bytes}
 use Rattle.std.specs.List.{All, flat_map}
 use Rattle.xf_doc.specs.Visit.{Visit, ancestors_of}
 use Rattle.xf_doc.specs.Path.{step_of}

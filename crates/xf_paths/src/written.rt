@@ -33,7 +33,11 @@ fn push_name(text: &mut String, name: &Name) -> Result<(), AllocError>
 }
 
 /// Appends what a path has for a node, with this in brackets.
-pub fn push_step(text: &mut String, content: &Content, index: Option<usize>) -> Result<(), AllocError>
+pub fn push_step(
+    text: &mut String,
+    content: &Content,
+    index: Option<usize>,
+) -> Result<(), AllocError>
     ensures { OnOk result (string_bytes text.new ≡ string_bytes text.old ++ step_with content.now (index_text index)) }
 {
     match content {

@@ -32,7 +32,6 @@ pub then-ok : {T E P Q : Type 0} (r : Result T E) → (P → Q) → OnOk r P →
 then-ok (Ok x) f h = f h
 then-ok (Err e) f h = tt
 
-
 -- ---- a refusal of the machine is told by one of its texts
 
 contains-map : {X Y : Type 0} (f : X → Y) (xs : List X) (x : X) → Contains xs x → Contains (map f xs) (f x)

@@ -89,5 +89,5 @@ module _ (p : Profile) (s : State) (f : Interface) (c : Copy) (x : Seen) (is : I
       ap (λ l. l ++ item_lines p s c (element_at (interface s) c.element).sort) line
       ∙ ap (λ l. line_of (codes "control " ++ (name_in f x.element ++ rows_in x.rows) ++ spaced (marks_text x.marks) ++ value_part x.value) ++ l)
       (items (element_at (interface s) c.element).sort
-        ∙ ap (λ (g : Interface). item_texts (name_in f x.element ++ rows_in x.rows) (many_in (element_at g c.element).sort) x.value x.items) is.form
-        ∙ ap (λ n. item_texts (name_in f x.element ++ rows_in x.rows) (many_in (element_at f n).sort) x.value x.items) is.element)
+      ∙ ap (λ (g : Interface). item_texts (name_in f x.element ++ rows_in x.rows) (many_in (element_at g c.element).sort) x.value x.items) is.form
+      ∙ ap (λ n. item_texts (name_in f x.element ++ rows_in x.rows) (many_in (element_at f n).sort) x.value x.items) is.element)

@@ -95,8 +95,8 @@ pub within-part : (word value : List ℕ) (start at : ℕ) → start ≤ at → 
     → list_any (is_word word) (parts_after (part_to value start at) (drop at value)) ≡ list_any (is_word word) (parts_after (part_to value start (at + 1)) (drop (at + 1) value))
 within-part word value start at h l s =
     ap (list_any (is_word word)) (parts-at value (part_to value start at) at l
-      ∙ ap (λ b. cond b (part_to value start at ∷ parts_after [] (drop (at + 1) value)) (parts_after (part_to value start at ++ get_or value at 0 ∷ []) (drop (at + 1) value))) s
-      ∙ ap (λ p. parts_after p (drop (at + 1) value)) (sym (part-more value start at h l)))
+    ∙ ap (λ b. cond b (part_to value start at ∷ parts_after [] (drop (at + 1) value)) (parts_after (part_to value start at ++ get_or value at 0 ∷ []) (drop (at + 1) value))) s
+    ∙ ap (λ p. parts_after p (drop (at + 1) value)) (sym (part-more value start at h l)))
 
 -- at the beginning, and at the end
 pub at-start : (word value : List ℕ) → list_any (is_word word) (parts_after (part_to value 0 0) (drop 0 value)) ≡ list_any (is_word word) (parts_after [] value)

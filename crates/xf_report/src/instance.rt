@@ -74,15 +74,7 @@ fn push_nodes<M: NodeMarks>(
 {
     let mut paths = Paths::new(alloc, forest);
     for at in 0..nodes.len() {
-        push_node(
-            alloc,
-            text,
-            forest,
-            marks,
-            &mut paths,
-            braces,
-            nodes.at(at),
-        )?;
+        push_node(alloc, text, forest, marks, &mut paths, braces, nodes.at(at))?;
     }
     Ok(())
 }

@@ -18,5 +18,5 @@ pub use instance::push_instance;
 pub use marks::{Marks, NodeMarks};
 pub use names::numbers_of;
 pub use note::push_notes;
-pub use state::{ShownControls, ShownRepeat, ShownSwitch, push_state};
 pub use refusal::{PathList, Refusal, push_construct_refusal, push_ready_refusal, push_refusal};
+pub use state::{ShownControls, ShownRepeat, ShownSwitch, push_state};

@@ -36,11 +36,7 @@ fn nodes_under(alloc: Global, forest: &Forest, root: NodeId) -> Result<NodeList,
     forest.in_order(&nodes)
 }
 
-fn push_attributes(
-    forest: &Forest,
-    node: NodeId,
-    nodes: &mut NodeList,
-) -> Result<(), AllocError>
+fn push_attributes(forest: &Forest, node: NodeId, nodes: &mut NodeList) -> Result<(), AllocError>
     requires { IsLive node.number forest.now.forest }
     ensures { OnOk result (nodes.new ≡ nodes.old ++ axis_of Axis.Attribute node.number (visits forest.now.forest.nodes)) }
 {

@@ -1,4 +1,4 @@
-use Rattle.std.proofs.Common.{ℕ, ◌<◌, length, ap, sym, arith}
+use Rattle.std.proofs.Common.{◌<◌, length, ap, sym, arith}
 use Rattle.xf_doc.specs.Forest.{content_at, is_element}
 use Rattle.xf_paths.specs.Family.{meets}
 use Rattle.xf_paths.proofs.FamilyLemmas.{any-at, any-more}

@@ -1,4 +1,3 @@
-use Rattle.std.proofs.Common.{sym, refl}
 use Rattle.xf_doc.proofs.TextLaws.{in_forest}
 use Rattle.xf_paths.proofs.StemLemmas.{childless-attribute, childless-text}
 use Rattle.xf_paths.proofs.opened.has_elements.Goals as goal

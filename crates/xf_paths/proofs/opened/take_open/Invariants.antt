@@ -1,4 +1,4 @@
-use Rattle.std.proofs.Common.{◌≡◌, length}
+use Rattle.std.proofs.Common.{length}
 use Rattle.xf_doc.specs.Visit.{visits}
 use Rattle.xf_paths.specs.Opened.{AllOpen}
 use Rattle.xf_paths.proofs.opened.take_open.Given as goal

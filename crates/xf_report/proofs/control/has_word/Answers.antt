@@ -35,7 +35,7 @@ returns-then-is_word c =
     let at = c.loop-at.at in
     let later = list_any (is_word word) (parts_after (part_to value (at + 1) (at + 1)) (drop (at + 1) value)) in
     sym (words-are word value ∙ sym c.loop-at.invariant.rest ∙ at-space word value c.loop-at.start at c.loop-at-test.true (sym c.is_space.ensures ∙ c.if-is_space.true)
-      ∙ ap (λ b. b || later) (sym c.is_word.ensures ∙ c.if-is_word.true))
+    ∙ ap (λ b. b || later) (sym c.is_word.ensures ∙ c.if-is_word.true))
 
 pub returns : goal.returns
 returns c =

@@ -15,7 +15,7 @@ returns c =
     let some : 0 < length rows = grind (arith, nat_tests, c.is_empty.ensures, c.if-is_empty.false) in
     let rest = take (length rows - 1) (drop 1 rows) in
     then-ok c.push_more.result (λ e.
-        e ∙ ap (λ l. l ++ flat_map behind_comma rest) c.in_ok-push_number.ensures
-        ∙ append_assoc old (decimal (get_or rows 0 0)) (flat_map behind_comma rest)
-        ∙ ap (λ l. old ++ (decimal (get_or rows 0 0) ++ flat_map behind_comma l)) (whole-rest rows 1)
-        ∙ ap (λ l. old ++ l) (sym (joined-split rows some))) c.push_more.ensures
+    e ∙ ap (λ l. l ++ flat_map behind_comma rest) c.in_ok-push_number.ensures
+    ∙ append_assoc old (decimal (get_or rows 0 0)) (flat_map behind_comma rest)
+    ∙ ap (λ l. old ++ (decimal (get_or rows 0 0) ++ flat_map behind_comma l)) (whole-rest rows 1)
+    ∙ ap (λ l. old ++ l) (sym (joined-split rows some))) c.push_more.ensures

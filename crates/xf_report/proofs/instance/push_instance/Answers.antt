@@ -12,5 +12,5 @@ returns g c =
     let m = g.M.NodeMarks.marks_of c.args.marks.now in
     let forest = c.args.forest.now.forest in
     then-ok c.push_block.result (λ e s is.
-        e ∙ ap (λ p. old ++ block_text m forest.nodes c.args.place p) c.pair_among-pair.ensures
-        ∙ ap (λ l. old ++ l) (sym (instance-lines s forest c.args.instances.now m c.args.place (in_forest c.are_trees.ensures) is))) c.push_block.ensures
+    e ∙ ap (λ p. old ++ block_text m forest.nodes c.args.place p) c.pair_among-pair.ensures
+    ∙ ap (λ l. old ++ l) (sym (instance-lines s forest c.args.instances.now m c.args.place (in_forest c.are_trees.ensures) is))) c.push_block.ensures

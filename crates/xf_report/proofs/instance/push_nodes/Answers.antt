@@ -9,6 +9,6 @@ loop-at-preserved g c =
     let h : c.loop-at.at < length c.args.nodes.now = omega arith in
     record {
       so_far = lines-more (line_at c.args.braces.now (g.M.NodeMarks.marks_of c.args.marks.now) c.args.forest.now.forest.nodes) (string_bytes c.loop-at.text) (string_bytes c.push_node.new.text) _ c.args.nodes.now c.loop-at.at c.at.result.number
-      h c.at.ensures c.in_ok-push_node.ensures.text c.loop-at.invariant.so_far;
+          h c.at.ensures c.in_ok-push_node.ensures.text c.loop-at.invariant.so_far;
       same = c.in_ok-push_node.ensures.forest ∙ c.loop-at.invariant.same;
     }
