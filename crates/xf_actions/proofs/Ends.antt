@@ -37,7 +37,7 @@ pub handle-stops : (p : Profile) (further : Further) (is_idle : Bool) (e : Fired
     → Refuses why calls (handle p further is_idle e n s)
 handle-stops p further is_idle e n s f left why calls h q r =
     same-refuses why calls _ _ (ap (λ g. g >>= update_if p further is_idle) (act-left p (further false) e n s f left h q))
-        (refuses-then why calls _ (update_if p further is_idle) r)
+    (refuses-then why calls _ (update_if p further is_idle) r)
 
 pub handle-acted : (p : Profile) (further : Further) (is_idle : Bool) (e : Fired) (n : ℕ) (s t : State) (f : Form) (left : ℕ)
     → IsProgram f s.form → left ≡ length f.elements → act_within left p (further false) e n s ≡ Ok t

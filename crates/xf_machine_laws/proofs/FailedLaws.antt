@@ -53,14 +53,14 @@ tree-fails : (p : Profile) (tell : Tell) (sub : Submission) (n : ℕ) (error : L
 tree-fails p tell sub n error s t (Err fault) h = same-fails error _ s t h
 tree-fails p tell sub n error s t (Ok lit) h =
     if-fails error s t (has_fault s lit) _ _ (same-fails error _ s t)
-        (then-fails error s t (target_by p sub n s sub.target sub.instance) _ (λ target. target-fails error s t takes_tree (put_tree p tell lit) target)) h
+    (then-fails error s t (target_by p sub n s sub.target sub.instance) _ (λ target. target-fails error s t takes_tree (put_tree p tell lit) target)) h
 
 text-fails : (p : Profile) (tell : Tell) (sub : Submission) (n : ℕ) (error : List ℕ) (s t : State) (bytes : List ℕ)
     → Fails error s t (with_text p tell sub n s bytes)
 text-fails p tell sub n error s t bytes h =
     if-fails error s t (is_utf8 bytes) _ _
-        (then-fails error s t (target_by p sub n s sub.target sub.instance) _ (λ target. target-fails error s t takes_text (put_text p tell bytes) target))
-        (same-fails error _ s t) h
+    (then-fails error s t (target_by p sub n s sub.target sub.instance) _ (λ target. target-fails error s t takes_text (put_text p tell bytes) target))
+    (same-fails error _ s t) h
 
 respond-fails : (p : Profile) (tell : Tell) (sub : Submission) (n : ℕ) (error : List ℕ) (s t : State) (bytes : List ℕ) (how : Replace)
     → Fails error s t (respond p tell sub n s bytes how)
@@ -104,7 +104,7 @@ selected-keeps p tell sub s no_data = same-keeps s _
 selected-keeps p tell sub s (invalid n) = same-keeps s _
 selected-keeps p tell sub s (left n kept) =
     if-keeps s (is_store_name sub.resource) _ _
-        (call-keeps p tell sub n (asked_by sub n kept s sub.method) (nat_le p.sends (length s.calls)) s) (same-keeps s _)
+    (call-keeps p tell sub n (asked_by sub n kept s sub.method) (nat_le p.sends (length s.calls)) s) (same-keeps s _)
 
 long-keeps : (p : Profile) (tell : Tell) (sub : Submission) (s : State) (o : Option Submitted) → Keeps s (or_long s o >>= selected p tell sub s)
 long-keeps p tell sub s None error t h = cc
