@@ -1,5 +1,5 @@
 -- The items of a list of entries, and what is looked up among them.
-use Rattle.std.proofs.Common.{◌≡◌, ℕ, Bool, true, false, cond, not, ◌&&◌, ◌<◌, List, [], ◌∷◌, ◌++◌, map, find, length, get_or, Option, Some, None, option_map, option_and_then, is_some, slice_get, nat_eq, ◌==◌, refl, sym, ap, ◌∙◌, subst, arith}
+use Rattle.std.proofs.Common.{◌≡◌, ℕ, true, false, cond, not, ◌<◌, List, [], ◌∷◌, ◌++◌, find, length, get_or, Option, Some, None, option_map, option_and_then, is_some, slice_get, nat_eq, ◌==◌, refl, sym, ap, ◌∙◌, subst}
 use Rattle.std.specs.List.{list_any}
 use Rattle.std.proofs.lemmas.Option.{slice_get-map, slice_get_read}
 use Rattle.std.proofs.lemmas.List.{length-map, map-append}
@@ -14,10 +14,10 @@ use Rattle.xf_model.specs.Properties.{sets_on}
 use Rattle.xf_binds.specs.declared.entry.Entry.{Entry}
 use Rattle.xf_binds.specs.declared.entry.Item.{Item}
 use Rattle.xf_binds.specs.declared.entry.Seats.{Seats}
-use Rattle.xf_binds.specs.Held.{Held, IsSeated, entries_in, entry_of, held_at, held_of, held_on, held_same, holds, is_seat, newly_held, passes, seat_in, seat_of, seats_or, seats_with}
+use Rattle.xf_binds.specs.Held.{Held, IsSeated, entries_in, entry_of, held_at, held_of, held_on, held_same, holds, is_seat, passes, seat_in, seat_of, seats_or, seats_with}
 use Rattle.xf_binds.specs.Kept.{truth_from, valued_in}
 use Rattle.xf_binds.proofs.Finds.{false-true, find-map, find-passes}
-use Rattle.xf_binds.proofs.Places.{held-none, held-some, same-none, same-some, seat-or, seat-within, seated-more, set-already, set-not}
+use Rattle.xf_binds.proofs.Places.{held-some, same-some, seat-or, seat-within, seated-more, set-already, set-not}
 use Rattle.xf_binds.proofs.Truths.{computed-on, truth-stood}
 
 -- ---- an item at a place

@@ -1,5 +1,5 @@
 -- The entries and types that the binds of a model set, each with the truth that its value had, and where those of a node stand among them.
-use Rattle.std.specs.Prelude.{ℕ, ◌≡◌, Bool, true, false, List, map, find, Option, Some, None, slice_get, nat_eq, ◌==◌}
+use Rattle.std.specs.Prelude.{ℕ, ◌≡◌, Bool, false, List, map, find, Option, Some, None, slice_get, nat_eq, ◌==◌}
 use Rattle.indexmap.specs.IndexMap.{IndexMap, get}
 use Rattle.xf_model.specs.declared.property.Property.{Property}
 use Rattle.xf_model.specs.declared.property.Property.TheVariants.{Kind, Calculate, Relevant, Readonly, Required, Constraint}

@@ -1,5 +1,5 @@
 -- What is kept of the binds of each model from one recalculation to the next (XForms 1.1, sections 4.3.1 to 4.3.3).
-use Rattle.std.specs.Prelude.{ℕ, Bool, not, List, [], map, filter, find, Option, Some, None, option_map, option_and_then}
+use Rattle.std.specs.Prelude.{ℕ, Bool, List, [], map, filter, find, Option, Some, None, option_map, option_and_then}
 use Rattle.std.specs.List.{flat_map}
 use Rattle.xf_lang.specs.declared.value.Value.TheVariants.{Truth}
 use Rattle.xf_lang.specs.Conversions.{truth_of}

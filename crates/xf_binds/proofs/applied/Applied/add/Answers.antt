@@ -1,4 +1,4 @@
-use Rattle.std.proofs.Common.{◌≡◌, true, false, is_some, length, sym, ◌∙◌, ap, arith}
+use Rattle.std.proofs.Common.{◌≡◌, length, sym, ◌∙◌, ap, arith}
 use Rattle.xf_binds.specs.Held.{entry_of, seats_with}
 use Rattle.xf_binds.proofs.Items.{added, added-not, added-new}
 use Rattle.xf_binds.proofs.applied.Applied.add.Goals as goal
