@@ -20,9 +20,8 @@ closure() {
         END { n = split(wanted, names, " "); for (i = 1; i <= n; i++) visit(names[i]) }' "$top/crates.txt"
 }
 
-# make_bench NAME CRATE..: proves and builds the program of main.rt.txt beside copies of these crates and of those below them, and
-# the plain program of plain.rs, where there is one. They are then "$ours" and "$plain".
-make_bench() {
+# copy_bench NAME CRATE..: puts the program of main.rt.txt beside copies of these crates and of those below them.
+copy_bench() {
     local name=$1 crate
     shift
     git init -q "$work"
@@ -34,6 +33,13 @@ make_bench() {
     echo "$name: $*" >> "$work/crates.txt"
     cp "$here/main.rt.txt" "$work/crates/$name/src/main.rt"
     : > "$work/crates/$name/specs/Lib.antt"
+}
+
+# make_bench NAME CRATE..: proves and builds this program, and the plain program of plain.rs, where there is one. They are then "$ours"
+# and "$plain".
+make_bench() {
+    local name=$1
+    copy_bench "$@"
     (cd "$work/crates/$name" && rt run > "$work/built" 2>&1) || true
     ours=$work/crates/$name/out/$name
     [ -x "$ours" ] || { tail -n 20 "$work/built" >&2; exit 1; }

@@ -37,6 +37,18 @@ the_state : seen (state_text profile) (start profile nameless [])
 unfolding escape_byte digits
 the_state = refl
 
+-- a select of nothing, with an item that says nothing
+abbrev choiceless : Program
+choiceless = form
+    (element None (1 ∷ 3 ∷ []) sort.host role.other ∷ model (2 ∷ []) ∷ instance
+    ∷ bound (to (codes "c")) (element (Some 0) (4 ∷ []) (sort.select false false) role.entry) ∷ element (Some 3) [] sort.item role.other ∷ []) [] [] [] pair
+
+-- without a value no item is chosen
+not_chosen : seen (state_text profile) (start profile choiceless [])
+    ≡ Some (codes "instance 1.1\n/d ew-v\n/d/a ew-v \"1\"\n/d/b ew-v \"2\"\ncontrol #1 [] -w-v\nitem #1 [] \"\" \"\" -\nend\n")
+unfolding escape_byte digits
+not_chosen = refl
+
 accepted : (reply_outcome true no_state (then first (Set (codes "i") [] (codes "5")))).texts ≡ codes "ok 1 1\n" ∷ []
 unfolding digits
 accepted = refl

@@ -1,12 +1,29 @@
 -- What an accepted event leaves.
-use Rattle.std.proofs.Common.{◌≡◌, true, false, [], length, Some, refl, codes}
+use Rattle.std.proofs.Common.{◌≡◌, ◌∙◌, sym, ap, zero, suc, true, false, [], ◌∷◌, ◌++◌, length, Some, None, refl, codes}
+use Rattle.std.specs.List.{list_all}
 use Rattle.xf_num.specs.Number.{scale}
+use Rattle.xf_name.specs.Bindings.{no_bindings}
+use Rattle.xf_doc.specs.declared.bare.Bare.{Bare}
+use Rattle.xf_doc.specs.declared.bare.Bare.TheVariants as bare
+use Rattle.xf_doc.specs.declared.bare.Bare.TheOpen.{Bare-F, BareElement-F}
+use Rattle.xf_doc.specs.declared.bare.Bare.TheFolds.{fold-roll-Bare, fold-roll-BareElement}
+use Rattle.xf_doc.specs.declared.bare.Bare.TheViews.{roll-BareElement}
+use Rattle.xf_doc.specs.declared.bare.BareElement.{BareElement}
+use Rattle.xf_doc.specs.declared.content.Content.TheVariants.{Root, Element}
+use Rattle.xf_doc.specs.Examples.{qname, plain}
+use Rattle.xf_doc.specs.Plant.{Contents}
+use Rattle.xf_doc.specs.Planted.{contents_of_bare, bare_contents, bare_element_contents}
 use Rattle.xf_line.specs.declared.event.Event.TheVariants.{Activate}
-use Rattle.xf_form_machine.specs.AtRest.{are_placed}
-use Rattle.xf_form_machine.specs.Step.{Outcome}
+use Rattle.xf_ui.specs.Interface as sort
+use Rattle.xf_form_machine.specs.AtRest.{IsAtRest, HasDocuments, is_well_named, are_placed}
+use Rattle.xf_form_machine.specs.Program.{Program}
+use Rattle.xf_form_machine.specs.Program as role
+use Rattle.xf_form_machine.specs.State.{State}
+use Rattle.xf_form_machine.specs.Construct.{unbuilt}
+use Rattle.xf_form_machine.specs.Step.{Outcome, accepted, refused}
 use Rattle.xf_form_machine.specs.Start.{start}
 use Rattle.xf_form_machine.specs.Update.{is_due}
-use Rattle.xf_form_machine.specs.Examples.{profile}
+use Rattle.xf_form_machine.specs.Examples.{profile, form, element, model, instance, element_at}
 use Rattle.xf_form_machine.specs.ExampleOutcomes.{seen, then}
 use Rattle.xf_form_machine.specs.ExampleRows.{rows}
 
@@ -26,3 +43,43 @@ all_placed = refl
 the_controls : seen (λ s. length s.controls) later ≡ Some 3
 unfolding scale
 the_controls = refl
+
+-- ---- a form that says nothing, of ["d"]
+
+abbrev silent : Program
+silent = form (element None (1 ∷ []) sort.host role.other ∷ model (2 ∷ []) ∷ instance ∷ []) [] [] [] (element_at 0 (codes "d") ∷ [])
+
+-- the state before it where the start is refused
+abbrev state_of : Outcome → State
+state_of (accepted s posted) = s
+state_of (refused why calls) = unbuilt profile silent None
+
+abbrev begun : State
+begun = state_of (start profile silent [])
+
+-- its document
+abbrev inside : BareElement-F Bare BareElement
+inside = record { name = qname 0 0 (codes "d"); attributes = []; children = [] }
+
+abbrev document : BareElement
+document = roll-BareElement inside
+
+the_contents : contents_of_bare no_bindings (bare.Element document) ≡ (λ space depth. (depth, Element (plain (codes "d"))) ∷ [])
+the_contents =
+    ap (contents_of_bare no_bindings) (sym (bare.rolls-Element document))
+    ∙ fold-roll-Bare Contents Contents bare_contents (bare_element_contents no_bindings) (Bare-F.Element document)
+    ∙ fold-roll-BareElement Contents Contents bare_contents (bare_element_contents no_bindings) inside
+
+-- where `d` is a name
+its_documents : is_well_named no_bindings document ≡ true → HasDocuments begun
+its_documents named = (
+  document ∷ [],
+  refl,
+  ap (λ holds. list_all (λ e. holds) (document ∷ [])) named,
+  ap (λ made. (0, Root) ∷ made 0 1 ++ []) (sym the_contents),
+)
+
+-- ---- what is no state at rest: one in which a model is missing
+
+no_models : IsAtRest profile (record begun { models = [] }) → zero ≡ suc zero
+no_models rests = rests.model_count

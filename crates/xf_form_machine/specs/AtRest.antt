@@ -2,14 +2,18 @@
 -- These are conditions on the state alone, whatever way it was reached.
 use Rattle.std.specs.Prelude.{ℕ, suc, ◌≡◌, Bool, true, false, ◌&&◌, List, [], ◌∷◌, map, filter, length, zip, is_none, Option, Some, None, option_and_then, Ok, nat_lt, nat_le, ◌==◌, if◌then◌else◌}
 use Rattle.std.specs.List.{list_any, list_all, flat_map}
+use Rattle.xf_name.specs.Bindings.{Bindings}
+use Rattle.xf_doc.specs.declared.bare.Bare.TheVariants as bare
+use Rattle.xf_doc.specs.declared.bare.BareElement.{BareElement}
 use Rattle.xf_doc.specs.declared.content.Content.{Content}
-use Rattle.xf_doc.specs.declared.content.Content.TheVariants.{Attribute}
+use Rattle.xf_doc.specs.declared.content.Content.TheVariants.{Root, Attribute}
 use Rattle.xf_doc.specs.declared.content.Node.{Node}
 use Rattle.xf_doc.specs.Forest.{is_text, own_text, content_at}
 use Rattle.xf_doc.specs.Visit.{Visit, is_first}
 use Rattle.xf_doc.specs.Limits.{passed_by_all, has_long_text, is_too_deep}
 use Rattle.xf_doc.specs.Changes.{in_instances}
 use Rattle.xf_doc.specs.Shape.{shape_of, as_texts}
+use Rattle.xf_doc.specs.Planted.{contents_of_bare, elements_of_bare, bare_fault, first_fault}
 use Rattle.xf_doc.specs.WellFormed.{HasTrees}
 use Rattle.xf_model.specs.Applied.{Entry, applied}
 use Rattle.xf_model.specs.Circular.{graph_over}
@@ -22,7 +26,7 @@ use Rattle.xf_form_machine.specs.Profile.{Profile}
 use Rattle.xf_form_machine.specs.Program.{Program}
 use Rattle.xf_form_machine.specs.State.{State}
 use Rattle.xf_form_machine.specs.Data.{Data, data_of}
-use Rattle.xf_form_machine.specs.Surround.{interface, scope, all_in, quiet}
+use Rattle.xf_form_machine.specs.Surround.{interface, instances_in, scope, all_in, quiet}
 use Rattle.xf_form_machine.specs.Cycles.{counted_from, reported_cycle}
 use Rattle.xf_form_machine.specs.Behave.{model_at, asked_by_all, truly, is_invalid}
 use Rattle.xf_form_machine.specs.Update.{is_due, shown}
@@ -43,6 +47,20 @@ texts_by s n content = flat_map (text_below n) (all_in s)
 
 abbrev pub texts_at : State → ℕ → List (List ℕ)
 texts_at s n = texts_by s n (content_at n s.forest.nodes)
+
+-- the names of an element and of what is in it are the form's (Namespaces in XML 1.0, sections 3 to 6)
+abbrev pub is_well_named : Bindings → BareElement → Bool
+is_well_named b e = is_none (first_fault (bare_fault b) (elements_of_bare (bare.Element e)))
+
+-- a root over this element
+abbrev pub rooted_contents : Bindings → BareElement → List (ℕ × Content)
+rooted_contents b e = (0, Root) ∷ contents_of_bare b (bare.Element e) 0 1
+
+-- each instance is a root over one element, and nothing else stands
+abbrev pub HasDocuments : State → Type 0
+HasDocuments s =
+    (documents : List BareElement) × (length documents ≡ length (instances_in s)) × (list_all (is_well_named s.form.bindings) documents ≡ true)
+    × (map (λ x. (x.depth, x.content)) s.forest.nodes ≡ flat_map (rooted_contents s.form.bindings) documents)
 
 -- ---- a model
 
@@ -91,6 +109,7 @@ are_cases s = (length s.cases == length (interface s).switches) && list_all (λ 
 
 pub record IsAtRest (p : Profile) (s : State) : Type 0 where
   pub trees : HasTrees s.forest
+  pub documents : HasDocuments s
   pub is_due : is_due s ≡ false
   -- no tree is detached, and no text is empty
   pub attached : in_instances s.forest.nodes ≡ s.forest.nodes
@@ -99,6 +118,8 @@ pub record IsAtRest (p : Profile) (s : State) : Type 0 where
   pub texts : has_long_text p.bounds.limits.text s.forest.nodes ≡ false
   -- a root stands above the elements of its tree, and is none
   pub depths : is_too_deep (suc p.bounds.limits.depth) 0 s.forest.nodes ≡ false
+  -- every model of the form rests
+  pub model_count : length s.models ≡ length s.form.model_elements
   pub models : AllOf (RestsModel p s) (counted_from 0 (length s.models))
   pub edges : nat_le (asked_by_all s) p.edges ≡ true
   pub placed : are_placed p s ≡ true

@@ -46,9 +46,14 @@ abbrev pub sign_if : Bool → List ℕ
 sign_if true = codes " +"
 sign_if false = codes " -"
 
+-- without a value none is, not even one whose value is empty
+abbrev pub is_chosen_in : Bool → Option (List ℕ) → Item → Bool
+is_chosen_in many None i = false
+is_chosen_in many (Some text) i = is_chosen many text i
+
 abbrev pub item_line : Profile → State → Copy → Bool → Item → List ℕ
 item_line p s c many i = line_of (codes "item " ++ name_of s c.element ++ spaced (rows_text p s c) ++ spaced (quoted i.label) ++ spaced (quoted i.value)
-    ++ sign_if (is_chosen many (unwrap_or c.value []) i))
+    ++ sign_if (is_chosen_in many c.value i))
 
 abbrev pub item_lines : Profile → State → Copy → Sort → List ℕ
 item_lines p s c (select many is_free) = flat_map (item_line p s c many) c.items

@@ -1,12 +1,11 @@
 //! Calls of functions.
 
-ghost use Rattle.std.specs.Prelude.{◌≡◌, length, true, Some};
+ghost use Rattle.std.specs.Prelude.{◌≡◌, Some};
 ghost use Rattle.xf_base.specs.Limits.{string_limit};
 ghost use Rattle.xf_table.specs.Contents.{function_entries};
 ghost use Rattle.xf_table.specs.Places.{name_at};
 ghost use Rattle.xf_plain_values.specs.Bounded.{GivesBounded};
 ghost use Rattle.xf_funcs.specs.Called.{by_name, called};
-ghost use Rattle.xf_funcs.specs.Served.{is_served};
 
 use crate::dates::by_dates;
 use crate::fault::FuncFault;
@@ -17,10 +16,7 @@ use xf_plain_values::Plain;
 use xf_table::functions::rows;
 
 /// The value of a function on plain values, which is known by its code in the table of functions, at these arguments.
-///
-/// `string-length` and `normalize-space` are given one argument.
 pub fn call(alloc: Global, code: u16, given: &[Plain]) -> Result<Plain, FuncFault>
-    requires { is_served code (length given.now) ≡ true }
     ensures { GivesBounded FuncFault.Memory FuncFault.Long (λ value. value) result (called (Some string_limit) 6 code given.now) }
 {
     by_name(alloc, name_of(code), given)

@@ -54,6 +54,23 @@ a_row = refl
 an_inner_row : focus_at (2 ∷ 5 ∷ []) 4 ≡ Some (Some (record { node = 5; position = 2; size = 2 }))
 an_inner_row = refl
 
+-- a group on e holds a model with a submission of s, in which an action stands
+abbrev sending : Interface
+sending = Examples.interface
+    (Examples.top (1 ∷ [])
+    ∷ Examples.by (Examples.to (codes "e")) (Examples.inside 0 (2 ∷ []) sort.group)
+    ∷ Examples.inside 1 (3 ∷ []) sort.other
+    ∷ Examples.by (Examples.to (codes "s")) (Examples.inside 2 (4 ∷ []) sort.other)
+    ∷ Examples.inside 3 [] (sort.action None)
+    ∷ []) [] []
+
+-- what stands in the model has the node of the group, what stands in the submission the node that is sent
+in_such_a_model : option_map (λ c. c.focus) (context_of sending (Examples.around Examples.two_lists) [] 3) ≡ Some (Some (alone 10))
+in_such_a_model = refl
+
+in_its_submission : option_map (λ c. c.focus) (context_of sending (Examples.around Examples.two_lists) [] 4) ≡ Some (Some (alone 2))
+in_its_submission = refl
+
 -- a node that is no row any more stands alone
 no_row_any_more : focus_at (10 ∷ []) 2 ≡ Some (Some (alone 10))
 no_row_any_more = refl

@@ -5,7 +5,7 @@ use Rattle.std.specs.List.{position_or_len}
 use Rattle.xf_doc.specs.Visit.{has}
 use Rattle.xf_lang.specs.Given.{first_document}
 use Rattle.xf_lang.specs.Setting.{Focus, Meaning, ◌>>=◌}
-use Rattle.xf_ui.specs.Interface.{Bound, unbound, nodes, by_bind, Sort, repeated, Element, Interface}
+use Rattle.xf_ui.specs.Interface.{Bound, unbound, nodes, by_bind, Sort, other, repeated, Element, Interface}
 use Rattle.xf_ui.specs.Elements.{element_at, path_to, elements_on}
 use Rattle.xf_ui.specs.Around.{Around, alone, all_bound, first_bound}
 
@@ -62,12 +62,18 @@ enter_bound a s model unbound = Some (record s { model = model })
 enter_bound a s model binding =
     option_map (λ n. record { model = model; place = place_of n; rows = s.rows }) (first_bound a model binding (focus_in a model s.place))
 
+-- a submission selects from the document element of its model's first instance, whatever stands around the model
+abbrev pub enter_sent : Around → Inside → ℕ → Bound → Option Inside
+enter_sent a s model unbound = Some (record s { model = model })
+enter_sent a s model binding = enter_bound a (record s { place = free }) model binding
+
 abbrev pub enter_row : Around → Inside → ℕ → Bound → Option Inside
 enter_row a s model binding =
     option_map (λ rows. record { model = model; place = row_place rows s.rows; rows = rest s.rows }) (all_bound a model binding (focus_in a model s.place))
 
 abbrev pub enter_by : Around → Inside → ℕ → Bound → Sort → Option Inside
 enter_by a s model binding (repeated k start) = enter_row a s model binding
+enter_by a s model binding other = enter_sent a s model binding
 enter_by a s model binding sort = enter_bound a s model binding
 
 -- what an element gives to what stands in it

@@ -1,0 +1,97 @@
+-- How one change follows another, and what a refusal of the first means for both.
+use Rattle.std.proofs.Common.{ℕ, ◌≡◌, ◌+◌, ◌<◌, List, ◌∷◌, length, map, drop, get_or, Option, Some, None, Result, Ok, Err, refl, ap, sym, ◌∙◌, subst}
+use Rattle.std.proofs.lemmas.List.{at_drop_more, get_or-map, length-map}
+use Rattle.std.specs.Result.{IsErrAnd}
+use Rattle.xf_store.specs.declared.call.StoreCall.{StoreCall}
+use Rattle.xf_form_machine.specs.Refusal.{Refusal, Refused}
+use Rattle.xf_form_machine.specs.State.{State}
+use Rattle.xf_form_machine.specs.Flow.{Run, ◌>>=◌, in_turn}
+use Rattle.xf_actions.specs.Performs.{Refuses, RefusedAs, Runs, Makes}
+
+-- what is done, as a result that could be refused
+abbrev pub fine : {X : Type 0} → X → Result X Refused
+fine x = Ok x
+
+pub bind-assoc : {A B C : Type 0} (g : Result A Refused) (f : A → Result B Refused) (h : B → Result C Refused)
+    → (g >>= f) >>= h ≡ g >>= (λ x. f x >>= h)
+bind-assoc (Err r) f h = refl
+bind-assoc (Ok x) f h = refl
+
+pub refused-then : {A B : Type 0} (told : Refusal) (calls : List StoreCall) (g : Result A Refused) (next : A → Result B Refused)
+    → RefusedAs told calls g → RefusedAs told calls (g >>= next)
+refused-then told calls (Err r) next h = h
+refused-then told calls (Ok x) next h = absurd h
+
+-- what refuses the first refuses both
+pub refuses-then : {A B : Type 0} (told : Option Refusal) (calls : List StoreCall) (g : Result A Refused) (next : A → Result B Refused)
+    → Refuses told calls g → Refuses told calls (g >>= next)
+unfolding Refuses
+refuses-then None calls g next h = tt
+refuses-then (Some told) calls g next h = refused-then told calls g next h
+
+-- where the first is done, the rest begins in the state that it left
+pub in_turn-next : {X : Type 0} (run : X → Run) (x : X) (xs : List X) (s t : State)
+    → run x s ≡ Ok t → in_turn run (x ∷ xs) s ≡ in_turn run xs t
+in_turn-next run x xs s t e = ap (λ r. r >>= in_turn run xs) e
+
+-- the rest counts at the states where it begins
+pub then-same : {A B : Type 0} (g : Result A Refused) (h k : A → Result B Refused) → ((x : A) → h x ≡ k x) → g >>= h ≡ g >>= k
+then-same (Err r) h k e = refl
+then-same (Ok x) h k e = e x
+
+pub then-ok : {A : Type 0} (g : Result A Refused) → g >>= (λ x. Ok x) ≡ g
+then-ok (Err r) = refl
+then-ok (Ok x) = refl
+
+-- ---- a loop over a list: what is left of it from here gives what the whole list gives
+
+pub in_turn-step : {X : Type 0} (run : X → Run) (xs : List X) (i : ℕ) (d : X) (s t : State)
+    → i < length xs → run (get_or xs i d) s ≡ Ok t → in_turn run (drop i xs) s ≡ in_turn run (drop (i + 1) xs) t
+in_turn-step run xs i d s t h e = at_drop_more (λ ys. in_turn run ys s) xs i d h ∙ in_turn-next run (get_or xs i d) (drop (i + 1) xs) s t e
+
+pub in_turn-stop : {X : Type 0} (run : X → Run) (xs : List X) (i : ℕ) (d : X) (s : State) (told : Option Refusal) (calls : List StoreCall)
+    → i < length xs → Refuses told calls (run (get_or xs i d) s) → Refuses told calls (in_turn run (drop i xs) s)
+in_turn-stop run xs i d s told calls h r =
+    rw (at_drop_more (λ ys. in_turn run ys s) xs i d h) (refuses-then told calls (run (get_or xs i d) s) (in_turn run (drop (i + 1) xs)) r)
+
+-- ---- the same in other words
+
+pub same-refuses : {X : Type 0} (told : Option Refusal) (calls : List StoreCall) (g h : Result X Refused)
+    → g ≡ h → Refuses told calls h → Refuses told calls g
+same-refuses told calls g h e r = subst (λ (k : Result _ Refused). Refuses told calls k) (sym e) r
+
+pub same-runs : {F T : Type 0} (means : F → Option Refusal) (new : State) (r : Result T F) (g h : Result State Refused)
+    → g ≡ h → Runs means new r h → Runs means new r g
+same-runs means new r g h e q = subst (λ (k : Result State Refused). Runs means new r k) (sym e) q
+
+-- what cannot be refused is refused for want of memory alone
+pub refuses-any : {X Y : Type 0} (told : Option Refusal) (calls : List StoreCall) (x : X) (g : Result Y Refused)
+    → Refuses {X = X} told calls (Ok x) → Refuses told calls g
+unfolding Refuses
+refuses-any None calls x g h = tt
+refuses-any (Some told) calls x g h = absurd h
+
+-- what a call passes on by `?`
+pub stopped : {F T : Type 0} (means : F → Option Refusal) (new : State) (r : Result T F) (e : F) (given : Result State Refused)
+    → IsErrAnd r (λ y. y ≡ e) → Refuses (means e) new.calls given → Runs means new r given
+stopped means new (Ok x) e given is q = absurd is
+stopped means new (Err y) e given is q = subst (λ f. Refuses (means f) new.calls given) (sym is) q
+
+pub makes-stopped : {F T X : Type 0} (means : F → Option Refusal) (view : T → X) (new : State) (r : Result T F) (e : F) (given : Result (X × State) Refused)
+    → IsErrAnd r (λ y. y ≡ e) → Refuses (means e) new.calls given → Makes means view new r given
+makes-stopped means view new (Ok x) e given is q = absurd is
+makes-stopped means view new (Err y) e given is q = subst (λ f. Refuses (means f) new.calls given) (sym is) q
+
+-- ---- the same loop, over what a list stands for
+
+pub told-step : {A X : Type 0} (run : X → Run) (f : A → X) (xs : List A) (i : ℕ) (x : A) (s t : State)
+    → i < length xs → x ≡ get_or xs i x → run (f x) s ≡ Ok t → in_turn run (drop i (map f xs)) s ≡ in_turn run (drop (i + 1) (map f xs)) t
+told-step run f xs i x s t h is e =
+    in_turn-step run (map f xs) i (f x) s t (rw (length-map xs f) h)
+    (ap (λ y. run y s) (get_or-map f xs i x (f x) h ∙ ap f (sym is)) ∙ e)
+
+pub told-stop : {A X : Type 0} (run : X → Run) (f : A → X) (xs : List A) (i : ℕ) (x : A) (s : State) (told : Option Refusal) (calls : List StoreCall)
+    → i < length xs → x ≡ get_or xs i x → Refuses told calls (run (f x) s) → Refuses told calls (in_turn run (drop i (map f xs)) s)
+told-stop run f xs i x s told calls h is r =
+    in_turn-stop run (map f xs) i (f x) s told calls (rw (length-map xs f) h)
+    (same-refuses told calls _ _ (ap (λ y. run y s) (get_or-map f xs i x (f x) h ∙ ap f (sym is))) r)

@@ -1,0 +1,89 @@
+use Rattle.std.proofs.Common.{◌≡◌, ◌+◌, ◌-◌, ◌*◌, ◌^◌, true, false, drop, map, is_some}
+use Rattle.xf_form_machine.specs.Flow.{in_turn}
+use Rattle.xf_form_machine.specs.Acting.{act_at}
+use Rattle.xf_form_machine.specs.Act.{act_within}
+use Rattle.xf_form_machine.specs.Update.{rounds, round, update}
+use Rattle.xf_form_machine.specs.Dispatch.{handle, dispatch}
+use Rattle.xf_actions.specs.Seen.{fired_of, acting_of}
+use Rattle.xf_actions.specs.Parts.{repetition_in, once_done, acted}
+use Rattle.xf_actions.proofs.Steps.{tested}
+use Rattle.xf_actions.proofs.act.+act.Given as goal
+
+-- the depth first, then the parts that are left, then the way down to them
+abbrev pub decreases-dispatch : goal.decreases-dispatch
+decreases-dispatch g l = l.depth * 2 ^ 80
+
+abbrev pub decreases-tell_all : goal.decreases-tell_all
+decreases-tell_all g l = l.depth * 2 ^ 80 + 1
+
+abbrev pub decreases-update : goal.decreases-update
+decreases-update g l = l.depth * 2 ^ 80 + 2
+
+abbrev pub decreases-tell_end : goal.decreases-tell_end
+decreases-tell_end g l = l.depth * 2 ^ 80 + 1
+
+abbrev pub decreases-act_by_default : goal.decreases-act_by_default
+decreases-act_by_default g l = l.depth * 2 ^ 80 + 2
+
+abbrev pub decreases-conclude : goal.decreases-conclude
+decreases-conclude g l = l.depth * 2 ^ 80 + 3
+
+abbrev pub decreases-act : goal.decreases-act
+decreases-act g l = l.depth * 2 ^ 80 + l.left * 16 + 4
+
+abbrev pub decreases-act_all : goal.decreases-act_all
+decreases-act_all g l = l.depth * 2 ^ 80 + l.left * 16 + 5
+
+abbrev pub decreases-once : goal.decreases-once
+decreases-once g l = l.depth * 2 ^ 80 + l.left * 16 + 6
+
+abbrev pub decreases-repeat : goal.decreases-repeat
+decreases-repeat g l = l.depth * 2 ^ 80 + l.left * 16 + 7
+
+abbrev pub decreases-handle_all : goal.decreases-handle_all
+decreases-handle_all g l = l.depth * 2 ^ 80 + 2 ^ 79 + 1
+
+abbrev pub decreases-handle : goal.decreases-handle
+decreases-handle g l = l.depth * 2 ^ 80 + 2 ^ 79
+
+-- ---- loops: what is left from here gives what the whole gives
+
+abbrev pub invariant-handle_all-loop-handler : goal.invariant-handle_all-loop-handler
+invariant-handle_all-loop-handler g l =
+    let run = handle g.W.World.profile (dispatch g.W.World.profile l.depth) l.is_idle (fired_of l.fired) in record {
+      rest : in_turn run l.handlers (g.W.World.state l.initial.world) ≡ in_turn run (drop l.handler-index l.handlers) (g.W.World.state l.world);
+      form : (g.W.World.state l.world).form ≡ (g.W.World.state l.initial.world).form;
+    }
+
+abbrev pub invariant-act_all-loop-part : goal.invariant-act_all-loop-part
+invariant-act_all-loop-part g l =
+    let run = act_within l.left g.W.World.profile (dispatch g.W.World.profile l.depth false) (fired_of l.fired) in record {
+      rest : in_turn run l.parts (g.W.World.state l.initial.world) ≡ in_turn run (drop l.part-index l.parts) (g.W.World.state l.world);
+      form : (g.W.World.state l.world).form ≡ (g.W.World.state l.initial.world).form;
+    }
+
+abbrev pub invariant-tell_all-loop-fired : goal.invariant-tell_all-loop-fired
+invariant-tell_all-loop-fired g l =
+    let run = dispatch g.W.World.profile l.depth l.is_idle in record {
+      rest : in_turn run (map fired_of l.events) (g.W.World.state l.initial.world) ≡ in_turn run (drop l.fired-index (map fired_of l.events)) (g.W.World.state l.world);
+      form : (g.W.World.state l.world).form ≡ (g.W.World.state l.initial.world).form;
+    }
+
+abbrev pub invariant-update-loop-round : goal.invariant-update-loop-round
+invariant-update-loop-round g l =
+    let tell = dispatch g.W.World.profile l.depth false in record {
+      rest : update g.W.World.profile tell (g.W.World.state l.initial.world) ≡ rounds (l.most - l.round) (round g.W.World.profile tell) (g.W.World.state l.world);
+      form : (g.W.World.state l.world).form ≡ (g.W.World.state l.initial.world).form;
+    }
+
+abbrev pub invariant-repeat-loop-test : goal.invariant-repeat-loop-test
+invariant-repeat-loop-test g l =
+    let p = g.W.World.profile in
+    let tell = dispatch p l.depth false in
+    let x = acting_of l.fired l.acting in
+    let a = act_at (g.W.World.state l.initial.world) l.acting.element in
+    let once = once_done p tell (act_within l.left p tell (fired_of l.fired)) x a in record {
+      rest : acted p tell (act_within l.left p tell (fired_of l.fired)) x a (g.W.World.state l.initial.world) ≡ tested (l.most - l.test) p x (repetition_in a) once (g.W.World.state l.world);
+      written : is_some (repetition_in a) ≡ true;
+      form : (g.W.World.state l.world).form ≡ (g.W.World.state l.initial.world).form;
+    }

@@ -1,0 +1,87 @@
+-- The default action of an event apart from telling its events: what it changes, the events that are told, and the end of a submission, which
+-- is told after them.
+use Rattle.std.specs.Prelude.{ℕ, List, [], Option, Some, None, option_map, bytes_eq, codes, slice_get, Result, Ok, Err, if◌then◌else◌}
+use Rattle.xf_ast.specs.declared.form.Submission.{Submission}
+use Rattle.xf_form_machine.specs.Program.{Role, role_at}
+use Rattle.xf_form_machine.specs.Program as role
+use Rattle.xf_form_machine.specs.Profile.{Profile}
+use Rattle.xf_form_machine.specs.State.{State}
+use Rattle.xf_form_machine.specs.Refusal.{Refused}
+use Rattle.xf_form_machine.specs.Flow.{Run, ◌>>=◌, in_turn, where_some}
+use Rattle.xf_form_machine.specs.Behave.{rebuild}
+use Rattle.xf_form_machine.specs.Update.{due_revalidation, refresh_cleared}
+use Rattle.xf_form_machine.specs.Construct.{reset}
+use Rattle.xf_form_machine.specs.Default.{recalculate_now, revalidate_now}
+use Rattle.xf_form_machine.specs.Events.{Fired, Tell}
+use Rattle.xf_actions.specs.Told.{Telling, refreshed}
+use Rattle.xf_actions.specs.Changed as work
+use Rattle.xf_actions.specs.Changed.{untold}
+use Rattle.xf_actions.specs.Sent.{End, Sent, sent, end_event}
+
+-- how the submission of this number ended
+pub record Ending : Type 0 where
+  pub number : ℕ
+  pub of : Option Submission
+  pub end : End
+
+pub record Defaulted : Type 0 where
+  -- those that are told first
+  pub events : List Fired
+  pub ending : Option Ending
+  pub state : State
+
+abbrev pub told_by_end : Ending → State → Option Fired
+told_by_end x s = option_map (λ sub. end_event x.number sub x.end s) x.of
+
+abbrev pub ended : Tell → Ending → Run
+ended tell x s = where_some (told_by_end x s) tell s
+
+-- the events are told, and then the end
+abbrev pub concluded : Tell → Defaulted → Result State Refused
+concluded tell d = in_turn tell d.events d.state >>= where_some d.ending (ended tell)
+
+abbrev pub Defaults : Type 0
+Defaults = State → Result Defaulted Refused
+
+abbrev pub nothing : Defaults
+nothing s = Ok (record { events = []; ending = None; state = s })
+
+abbrev pub telling : Result (List Fired × State) Refused → Result Defaulted Refused
+telling (Err refusal) = Err refusal
+telling (Ok (events, s)) = Ok (record { events = events; ending = None; state = s })
+
+abbrev pub with_end : ℕ → Option Submission → Result Sent Refused → Result Defaulted Refused
+with_end k sub (Err refusal) = Err refusal
+with_end k sub (Ok w) = Ok (record { events = w.events; ending = Some (record { number = k; of = sub; end = w.end }); state = w.state })
+
+-- ---- of a model
+
+abbrev pub refreshed_now : Profile → ℕ → Telling
+refreshed_now p model s = due_revalidation p model s >>= refreshed p (refresh_cleared model)
+
+abbrev pub of_model : Profile → ℕ → List ℕ → Defaults
+of_model p model name s =
+    if bytes_eq name (codes "xforms-rebuild") then telling (untold (rebuild p model s))
+    else if bytes_eq name (codes "xforms-recalculate") then telling (untold (recalculate_now p model s))
+    else if bytes_eq name (codes "xforms-revalidate") then telling (untold (revalidate_now p model s))
+    else if bytes_eq name (codes "xforms-refresh") then telling (refreshed_now p model s)
+    else if bytes_eq name (codes "xforms-reset") then telling (untold (reset p model s))
+    else nothing s
+
+-- ---- of a submission
+
+abbrev pub submitted : Profile → ℕ → Option Submission → Defaults
+submitted p k None s = nothing s
+submitted p k (Some sub) s = with_end k (Some sub) (sent p sub s)
+
+-- ---- by the target
+
+abbrev pub of_role : Profile → List ℕ → Role → Defaults
+of_role p name (role.model k) s = of_model p k name s
+of_role p name (role.submission k) s = if bytes_eq name (codes "xforms-submit") then submitted p k (slice_get s.form.submissions k) s else nothing s
+of_role p name (role.submit target) s = if bytes_eq name (codes "DOMActivate") then telling (work.sent target s) else nothing s
+of_role p name role s = nothing s
+
+-- that of an event
+abbrev pub defaulted : Profile → Fired → Defaults
+defaulted p e s = of_role p e.event.name (role_at s.form e.event.target) s

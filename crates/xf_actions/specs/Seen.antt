@@ -1,0 +1,56 @@
+-- What the types of the code stand for in the machine.
+use Rattle.std.specs.Prelude.{ℕ, ◌≡◌, List, map, Option, Some, None, option_map, slice_get}
+use Rattle.xf_ast.specs.declared.form.Form.{Form}
+use Rattle.xf_ui.specs.Interface.{interface_of}
+use Rattle.xf_form_machine.specs.Program.{Program}
+use Rattle.xf_form_machine.specs.Tables.{role_of}
+use Rattle.xf_form_machine.specs.Surround.{Told}
+use Rattle.xf_form_machine.specs.State.{State}
+use Rattle.xf_form_machine.specs.Events as machine
+use Rattle.xf_form_machine.specs.Acting as machine_acting
+use Rattle.xf_actions.specs.declared.fired.Fired.{Fired}
+use Rattle.xf_actions.specs.declared.fired.Property.{Property}
+use Rattle.xf_actions.specs.declared.acting.Acting.{Acting}
+use Rattle.xf_actions.specs.declared.fired.Ending.{Ending}
+use Rattle.xf_actions.specs.declared.fired.Concluded.{Concluded}
+use Rattle.xf_actions.specs.Sent.{End, done, failed}
+use Rattle.xf_actions.specs.Defaulted as defaulted
+
+-- the tables of a form, and the form as the machine sees it
+pub record IsProgram (form : Form) (program : Program) : Type 0 where
+  pub interface : program.interface ≡ interface_of form
+  pub roles : program.roles ≡ map (λ e. role_of e.kind) form.elements
+  pub submissions : program.submissions ≡ form.tables.submissions
+  pub model_elements : program.model_elements ≡ form.models
+  pub submission_elements : program.submission_elements ≡ form.submissions
+
+abbrev pub told_of : List Property → Told
+told_of properties = map (λ q. (q.name, q.value)) properties
+
+abbrev pub fired_of : Fired → machine.Fired
+fired_of f = record {
+  event = record { name = f.name; target = f.target; bubbles = f.bubbles; is_cancelable = f.is_cancelable };
+  rows = f.rows;
+  told = told_of f.properties;
+}
+
+-- an action that is called for an event
+abbrev pub acting_of : Fired → Acting → machine_acting.Acting
+acting_of f a = record {
+  element = a.element;
+  rows = a.rows;
+  model = a.model;
+  focus = record { node = a.node.number; position = a.position; size = a.size };
+  told = told_of f.properties;
+}
+
+abbrev pub end_of : Option (List ℕ) → End
+end_of None = done
+end_of (Some error) = failed error
+
+-- in a form, the end of a submission
+abbrev pub ending_of : Program → Ending → defaulted.Ending
+ending_of form x = record { number = x.submission; of = slice_get form.submissions x.submission; end = end_of x.failure }
+
+abbrev pub concluded_of : Program → State → Concluded → defaulted.Defaulted
+concluded_of form s c = record { events = map fired_of c.events; ending = option_map (ending_of form) c.ending; state = s }

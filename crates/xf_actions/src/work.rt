@@ -1,0 +1,120 @@
+//! The work of actions (XForms 1.1, section 10).
+
+ghost use Rattle.std.specs.Prelude.{◌≡◌, map};
+ghost use Rattle.xf_form_machine.specs.Acting.{act_at};
+ghost use Rattle.xf_form_machine.specs.SetValue.{set_value as value_set, set_open, value_asked};
+ghost use Rattle.xf_form_machine.specs.Telling.{message as messages};
+ghost use Rattle.xf_actions.specs.Performs.{Runs, Makes, Reads};
+ghost use Rattle.xf_actions.specs.Seen.{fired_of, acting_of};
+ghost use Rattle.xf_actions.specs.Parts.{work_in, value_in};
+ghost use Rattle.xf_actions.specs.Changed.{changed, doing_of};
+
+use crate::acting::Acting;
+use crate::fired::{Fired, FiredList};
+use crate::parts::action_of;
+use crate::world::World;
+use xf_ast::Work;
+use xf_base::Items;
+use xf_doc::NodeId;
+use xf_form_machine::Note;
+use xf_name::Word;
+
+/// Which work an action has.
+#[derive(Clone, Copy, Debug, PartialEq, Eq)]
+pub enum Doing {
+    Sets,
+    Speaks,
+    /// Any other.
+    Other,
+}
+
+fn which<W: World>(world: &W, element: u32) -> Doing
+    ensures { result ≡ doing_of (work_in (act_at (W.state world.now) element)) }
+{
+    match action_of(world.form(), element) {
+        Some(action) => match &action.work {
+            Work::SetValue(_) => Doing::Sets,
+            Work::Message => Doing::Speaks,
+            _ => Doing::Other,
+        },
+        None => Doing::Other,
+    }
+}
+
+/// What the work of an action changes. It gives the events that are told after it.
+pub fn change<W: World>(
+    world: &mut W,
+    fired: &Fired,
+    acting: &Acting,
+) -> Result<FiredList, W::Fault>
+    ensures done { Makes W.Fault.means (map fired_of) (W.state world.new) result (changed W.profile (acting_of fired.now acting.now) (work_in (act_at (W.state world.old) acting.now.element)) (W.state world.old)) }
+    ensures form { (W.state world.new).form ≡ (W.state world.old).form }
+{
+    match which(world, acting.element) {
+        Doing::Sets => {
+            set_value(world, fired, acting)?;
+            Ok(Items::new(world.alloc()))
+        }
+        Doing::Speaks => {
+            message(world, fired, acting)?;
+            Ok(Items::new(world.alloc()))
+        }
+        Doing::Other => world.change(fired, acting),
+    }
+}
+
+/// Has no effect where nothing is bound or the node is readonly.
+fn set_value<W: World>(world: &mut W, fired: &Fired, acting: &Acting) -> Result<(), W::Fault>
+    ensures done { Runs W.Fault.means (W.state world.new) result (value_set W.profile (acting_of fired.now acting.now) (value_in (act_at (W.state world.old) acting.now.element)) (W.state world.old)) }
+    ensures form { (W.state world.new).form ≡ (W.state world.old).form }
+{
+    match world.bound(fired, acting)? {
+        None => Ok(()),
+        Some(node) => {
+            if world.is_readonly(node) {
+                return Ok(());
+            }
+            set_node(world, fired, acting, node)
+        }
+    }
+}
+
+fn set_node<W: World>(
+    world: &mut W,
+    fired: &Fired,
+    acting: &Acting,
+    node: NodeId,
+) -> Result<(), W::Fault>
+    ensures done { Runs W.Fault.means (W.state world.new) result (set_open W.profile (acting_of fired.now acting.now) (value_in (act_at (W.state world.old) acting.now.element)) node.number (W.state world.old)) }
+    ensures form { (W.state world.new).form ≡ (W.state world.old).form }
+{
+    world.may_set(node)?;
+    let text = value_text(world, fired, acting, node)?;
+    world.set_text(node, text.as_str())
+}
+
+fn value_text<W: World>(
+    world: &W,
+    fired: &Fired,
+    acting: &Acting,
+    node: NodeId,
+) -> Result<Word, W::Fault>
+    ensures { Reads W.Fault.means (λ w. w) (W.state world.now) result (value_asked W.profile (acting_of fired.now acting.now) (W.state world.now) node.number (value_in (act_at (W.state world.now) acting.now.element))) }
+{
+    match action_of(world.form(), acting.element) {
+        Some(action) => match &action.work {
+            Work::SetValue(Some(expr)) => world.text_at(fired, acting, node, expr),
+            _ => world.words(acting.element),
+        },
+        None => world.words(acting.element),
+    }
+}
+
+/// A note with the text of the message.
+fn message<W: World>(world: &mut W, fired: &Fired, acting: &Acting) -> Result<(), W::Fault>
+    ensures done { Runs W.Fault.means (W.state world.new) result (messages W.profile (acting_of fired.now acting.now) (W.state world.old)) }
+    ensures form { (W.state world.new).form ≡ (W.state world.old).form }
+{
+    let text = world.message(fired, acting)?;
+    world.add_note(Note::Message(text))
+}

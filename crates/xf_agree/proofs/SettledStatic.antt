@@ -1,0 +1,40 @@
+-- Static calculates agree, so that one settled state exists and no other.
+use Rattle.std.proofs.Common.{◌≡◌, ℕ, Bool, List, Some, refl, sym, ap, ◌∙◌}
+use Rattle.xf_doc.specs.Forest.{Forest}
+use Rattle.xf_doc.specs.Visit.{visits}
+use Rattle.xf_lang.specs.Setting.{◌>>=◌}
+use Rattle.xf_lang.specs.Conversions.{string_of}
+use Rattle.xf_lang.proofs.TraceKeeps.{meaning-of_trace}
+use Rattle.xf_model.specs.Rules.{Scope}
+use Rattle.xf_model.specs.Applied.{Entry}
+use Rattle.xf_model.specs.Entries.{focus_of, value_by, text_of}
+use Rattle.xf_model.specs.Nested.{setting_for}
+use Rattle.xf_model.specs.Settled.{Bounds, Contents, holding, calculates, fitting}
+use Rattle.xf_model.specs.Pertinent.{AllOf}
+use Rattle.xf_model.specs.Stands.{AreCalculated, AgreeFor}
+use Rattle.xf_model.proofs.EachLemmas.{each_then}
+use Rattle.xf_model.proofs.SettledLaws.{settled-unique, settled-stands}
+use Rattle.xf_agree.specs.Settles.{Surrounds, IsStatic, CalculatesAgree, SettlesOnce, Settles}
+use Rattle.xf_agree.proofs.HeldMeets.{text_same}
+
+module _ {is_strict : Bool} (b : Bounds) (scope : Scope) (entries : List Entry) (forest : Forest) (around : Surrounds is_strict scope b.string forest) (static : AllOf (IsStatic is_strict scope forest) (calculates entries)) where
+  one-text : (e : Entry) → IsStatic is_strict scope forest e → (one other : Contents) → AreCalculated entries one → AreCalculated entries other → AgreeFor scope (visits forest.nodes) e one other →
+      text_of (Some b.string) scope (holding (visits forest.nodes) one) e ≡ text_of (Some b.string) scope (holding (visits forest.nodes) other) e
+  one-text e is_static one other of_one of_other agree =
+      let c = focus_of e in
+      let all = visits forest.nodes in
+      ap (λ x. value_by (Some b.string) scope (holding all one) e x >>= string_of (setting_for (Some b.string) scope (holding all one) e.node)) is_static.expression
+      ∙ ap (λ m. m (setting_for (Some b.string) scope (holding all one) e.node) c >>= string_of (setting_for (Some b.string) scope (holding all one) e.node)) (meaning-of_trace is_static.expr)
+      ∙ text_same scope b forest entries around static e is_static one other of_one of_other agree
+      ∙ sym (ap (λ m. m (setting_for (Some b.string) scope (holding all other) e.node) c >>= string_of (setting_for (Some b.string) scope (holding all other) e.node)) (meaning-of_trace is_static.expr))
+      ∙ sym (ap (λ x. value_by (Some b.string) scope (holding all other) e x >>= string_of (setting_for (Some b.string) scope (holding all other) e.node)) is_static.expression)
+
+pub calculates_agree : CalculatesAgree
+calculates_agree is_strict b scope entries forest around static =
+    each_then _ _ (λ e is_static one other of_one of_other agree. ap (λ t. (e.node, fitting b.limits.text t)) (one-text b scope entries forest around static e is_static one other of_one of_other agree)) (calculates entries) static
+
+pub settles_once : SettlesOnce
+settles_once is_strict b scope entries forest around static standing acyclic = settled-unique b scope entries (visits forest.nodes) standing acyclic (calculates_agree is_strict b scope entries forest around static)
+
+pub settles : Settles
+settles is_strict b scope entries forest around static standing acyclic = settled-stands b scope entries (visits forest.nodes) standing acyclic (calculates_agree is_strict b scope entries forest around static)

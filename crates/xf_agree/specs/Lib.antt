@@ -1,0 +1,5 @@
+pub mod Covered
+pub mod Kept
+pub mod Settles
+pub mod FormSettles
+pub mod Forests

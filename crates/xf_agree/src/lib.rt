@@ -1,0 +1,36 @@
+//! The law on which recalculating only what a change can reach rests: two forests that agree on what an expression reads and looks at give
+//! it one value, for every static expression. Each function does nothing: its contract is a law.
+#![tactic(auto)]
+
+ghost use Rattle.xf_agree.specs.Settles.{CalculatesAgree, SettlesOnce, Settles};
+ghost use Rattle.xf_agree.specs.Forests.{TwoForestsValue, TwoForests, TwoForestsButNumbers};
+ghost use Rattle.xf_agree.specs.FormSettles.{FormAgrees, FormSettlesOnce, FormSettles};
+
+/// Two forests that agree on what a covered expression reads and looks at, texts counted, give it one value, and one text.
+pub fn two_forests()
+    ensures value { TwoForestsValue }
+    ensures text { TwoForests }
+    ensures but_numbers { TwoForestsButNumbers }
+{}
+
+/// Data that hold the same contents at the nodes that a static calculate reads give it one text.
+pub fn calculates_agree()
+    ensures { CalculatesAgree }
+{}
+
+/// Where no cycle of static calculates stands, there is one settled state and no other.
+pub fn settles()
+    ensures once { SettlesOnce }
+    ensures settled { Settles }
+{}
+
+/// So do the calculates of a form, as its binds apply them.
+pub fn form_agrees()
+    ensures { FormAgrees }
+{}
+
+/// Where no cycle of a form's calculates stands, there is one settled state and no other.
+pub fn form_settles()
+    ensures once { FormSettlesOnce }
+    ensures settled { FormSettles }
+{}

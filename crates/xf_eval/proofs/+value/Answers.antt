@@ -1,0 +1,242 @@
+use Rattle.std.proofs.Common.{◌≡◌, ◌*◌, suc, ◌+◌, ◌<◌, ◌≤◌, [], drop, Some, true, false, length, map, sym, ap, ◌∙◌, arith, rules, tests}
+use denote.Param.Weighed.{most}
+use Rattle.std.proofs.lemmas.Result.{err_from_is_err_and}
+use Rattle.xf_ast.specs.declared.expr.Expr.{size-Expr}
+use Rattle.xf_ast.specs.declared.expr.Link.{size-Link}
+use Rattle.xf_ast.specs.declared.expr.Step.{size-Step}
+use Rattle.xf_lang.specs.declared.fault.EvalFault.TheVariants.{Long, Memory}
+use Rattle.xf_lang.specs.declared.value.Value.TheVariants.{Nodes}
+use Rattle.xf_lang.specs.Conversions.{truth_of}
+use Rattle.xf_lang.specs.Functions.{branched, plain_arguments}
+use Rattle.xf_lang.specs.Meaning.{focus_of, meaning}
+use Rattle.xf_doc.specs.Forest.{has_number}
+use Rattle.xf_plain_values.specs.Bounded.{◌>>=◌}
+use Rattle.xf_lang.specs.Steps.{from_one, kept_from}
+use Rattle.xf_eval.specs.Answered.{decides}
+use Rattle.xf_eval.specs.ByKind.{argument_or, by_kind}
+use Rattle.xf_eval.specs.OfOne.{one_worth}
+use Rattle.xf_eval.specs.Worth.{setting_at}
+use Rattle.xf_eval.proofs.Arguments.{branched-long, branched-then, branched-else, one_plain, plain-long, plain-of-value, plains-done, plains-more, plains-stuck}
+use Rattle.xf_eval.proofs.Falls.{chain-falls, filter-falls, from-falls}
+use Rattle.xf_eval.proofs.Kept.{kept-long, kept-next, live-added, taken-done}
+use Rattle.xf_eval.proofs.Lists.{onto, onto-start}
+use Rattle.xf_eval.proofs.Lives.{live-get, live-in_order, live-is, live-item}
+use Rattle.xf_eval.proofs.Parts.{argument-past, argument-within, by-other, call-worth, linked-both}
+use Rattle.xf_eval.proofs.Runs.{added}
+use Rattle.xf_eval.proofs.Bounded.{gives-same, part-long}
+use Rattle.xf_eval.proofs.+value.Goals as goal
+use Rattle.xf_eval.proofs.+value.Goals.{calls::branched-then-truth_of, calls::branched-else-truth_of, steps::kept_by-then-is_true_at+in_ok-push, steps::kept_by-else-is_true_at}
+
+-- ---- calls
+
+pub calls::argument-returns-in-Some-clause-value : goal.calls::argument-returns-in-Some-clause-value
+calls::argument-returns-in-Some-clause-value g t c =
+    let s = setting_at (g.A.Around.given c.args.around.now) c.args.forest.now.forest.nodes c.args.context.now in
+    let f = focus_of c.args.context.now in
+    let es = c.args.arguments.now in
+    let small : c.args.at < length es = search (rules, tests) in
+    gives-same Memory Long (λ v. v) c.value_at.result (meaning c.in-Some.argument.now s f) _
+    (ap (λ e. meaning e s f) c.in-Some.ensures.lookup.1 ∙ sym (argument-within es c.args.at _ c.in-Some.argument.now s f small)) c.value_at.ensures.value
+
+pub calls::argument-returns-in_ok-listed-in-None-clause-value : goal.calls::argument-returns-in_ok-listed-in-None-clause-value
+calls::argument-returns-in_ok-listed-in-None-clause-value g t c =
+    let s = setting_at (g.A.Around.given c.args.around.now) c.args.forest.now.forest.nodes c.args.context.now in
+    let f = focus_of c.args.context.now in
+    let large : length c.args.arguments.now ≤ c.args.at = omega (arith, c.in-None.ensures.lookup.3) in
+    argument-past c.args.arguments.now c.args.at _ s f large ∙ ap (λ l. Some (Nodes l)) (sym c.in_ok-listed-in-None.ensures)
+
+pub calls::branched-returns-in_err-condition-clause-value : goal.calls::branched-returns-in_err-condition-clause-value
+calls::branched-returns-in_err-condition-clause-value g t c =
+    let s = setting_at (g.A.Around.given c.args.around.now) c.args.forest.now.forest.nodes c.args.context.now in
+    let f = focus_of c.args.context.now in
+    let ms = map meaning c.args.arguments.now in
+    let p = err_from_is_err_and c.from_residual.result c.from_residual.ensures.1 in
+    rw (p.1, p.2) (part-long Memory Long _ (argument_or 0 [] ms s f) (branched ms s f) c.in_err-condition.ensures.value (branched-long ms s f))
+
+pub calls::branched-returns-clause-value : goal.calls::branched-returns-clause-value
+calls::branched-returns-clause-value g t c =
+    let s = setting_at (g.A.Around.given c.args.around.now) c.args.forest.now.forest.nodes c.args.context.now in
+    let f = focus_of c.args.context.now in
+    let ms = map meaning c.args.arguments.now in
+    let chosen : branched ms s f ≡ argument_or c.if-truth_of.at [] ms s f =
+    elim c.if-truth_of.branch [
+      | calls::branched-then-truth_of w ↦
+          branched-then ms s f c.in_ok-condition.condition c.in_ok-condition.ensures.value (sym c.truth_of.ensures ∙ w.if-truth_of.true) ∙ ap (λ a. argument_or a [] ms s f) (sym w.at-is)
+      | calls::branched-else-truth_of w ↦
+          branched-else ms s f c.in_ok-condition.condition c.in_ok-condition.ensures.value (sym c.truth_of.ensures ∙ w.if-truth_of.false) ∙ ap (λ a. argument_or a [] ms s f) (sym w.at-is)
+    ] in
+    gives-same Memory Long (λ v. v) c.argument-2.result _ _ (sym chosen) c.argument-2.ensures.value
+
+pub calls::call_value-returns-in_ok-value-in_default-clause-value : goal.calls::call_value-returns-in_ok-value-in_default-clause-value
+calls::call_value-returns-in_ok-value-in_default-clause-value g t c =
+    let given = g.A.Around.given c.args.around.now in
+    let nodes = c.args.forest.now.forest.nodes in
+    let context = c.args.context.now in
+    let ms = map meaning c.args.arguments.now in
+    let o = c.in_default in
+    let worth : by_kind c.args.kind c.args.code given nodes context ms ≡ one_worth c.args.kind context.model given nodes c.in_ok-value-in_default.value =
+    by-other c.args.kind c.args.code given nodes context ms
+    o.not-Asking o.not-Plainly o.not-Owning o.not-Truth o.not-Choosing o.not-Branching o.not-LocalName o.not-Name o.not-Namespace o.not-Number o.not-Text o.not-Current o.not-Last o.not-Position
+    ∙ ap (λ m. m >>= one_worth c.args.kind context.model given nodes) c.in_ok-value-in_default.ensures.value in
+    gives-same Memory Long (λ v. v) c.of_one.result _ _ (sym worth) c.of_one.ensures.value
+
+pub calls::plain_arguments-loop-argument-init : goal.calls::plain_arguments-loop-argument-init
+calls::plain_arguments-loop-argument-init g t c =
+    let s = setting_at (g.A.Around.given c.args.around.now) c.args.forest.now.forest.nodes c.args.context.now in
+    let f = focus_of c.args.context.now in
+    let ms = map meaning c.args.arguments.now in
+    ap (λ l. onto l (plain_arguments ms s f)) c.new-given.ensures.items ∙ onto-start (plain_arguments ms s f)
+
+pub calls::plain_arguments-returns-in_err-value : goal.calls::plain_arguments-returns-in_err-value
+calls::plain_arguments-returns-in_err-value g t c =
+    let given = g.A.Around.given c.args.around.now in
+    let nodes = c.args.forest.now.forest.nodes in
+    let s = setting_at given nodes c.args.context.now in
+    let f = focus_of c.args.context.now in
+    let es = c.args.arguments.now in
+    let p = err_from_is_err_and c.from_residual.result c.from_residual.ensures.1 in
+    rw (p.1, p.2) (part-long Memory Long _ (meaning c.argument-item.result s f) (plain_arguments (map meaning es) s f) c.in_err-value.ensures.value
+    (λ h. plains-stuck s f c.loop-argument.given.items es c.loop-argument.argument-index c.argument-item.result c.loop-argument.invariant c.loop-argument-test.true
+    (ap (λ e. one_plain s f (meaning e)) (sym c.argument-item.is) ∙ plain-long given nodes c.args.context.now c.argument-item.result h)))
+
+pub calls::plain_arguments-returns-in_err-plain_of : goal.calls::plain_arguments-returns-in_err-plain_of
+calls::plain_arguments-returns-in_err-plain_of g t c =
+    let given = g.A.Around.given c.args.around.now in
+    let nodes = c.args.forest.now.forest.nodes in
+    let s = setting_at given nodes c.args.context.now in
+    let f = focus_of c.args.context.now in
+    let es = c.args.arguments.now in
+    let p = err_from_is_err_and c.from_residual-in_err-plain_of.result c.from_residual-in_err-plain_of.ensures.1 in
+    rw (p.1, p.2) (part-long Memory Long _ _ (plain_arguments (map meaning es) s f) c.in_err-plain_of.ensures
+    (λ h. plains-stuck s f c.loop-argument.given.items es c.loop-argument.argument-index c.argument-item.result c.loop-argument.invariant c.loop-argument-test.true
+    (ap (λ e. one_plain s f (meaning e)) (sym c.argument-item.is) ∙ plain-of-value given nodes c.args.context.now c.argument-item.result c.in_ok-value.value c.in_ok-value.ensures.value ∙ h)))
+
+pub calls::plain_arguments-loop-argument-preserved : goal.calls::plain_arguments-loop-argument-preserved
+calls::plain_arguments-loop-argument-preserved g t c =
+    let given = g.A.Around.given c.args.around.now in
+    let nodes = c.args.forest.now.forest.nodes in
+    let s = setting_at given nodes c.args.context.now in
+    let f = focus_of c.args.context.now in
+    let es = c.args.arguments.now in
+    ap (λ l. onto l (plain_arguments (map meaning (drop (c.loop-argument.argument-index + 1) es)) s f)) c.in_ok-push.ensures.items
+    ∙ plains-more s f c.loop-argument.given.items es c.loop-argument.argument-index c.argument-item.result c.in_ok-plain_of.field-0 c.loop-argument.invariant c.loop-argument-test.true
+    (ap (λ e. one_plain s f (meaning e)) (sym c.argument-item.is) ∙ plain-of-value given nodes c.args.context.now c.argument-item.result c.in_ok-value.value c.in_ok-value.ensures.value ∙ c.in_ok-plain_of.ensures)
+
+pub calls::plain_arguments-returns : goal.calls::plain_arguments-returns
+calls::plain_arguments-returns g t c =
+    let s = setting_at (g.A.Around.given c.args.around.now) c.args.forest.now.forest.nodes c.args.context.now in
+    plains-done s (focus_of c.args.context.now) c.loop-argument.given.items c.args.arguments.now c.loop-argument.argument-index c.loop-argument.invariant c.loop-argument-test.false
+
+-- ---- expressions
+
+pub expression::value_at-chained-requires : goal.expression::value_at-chained-requires
+expression::value_at-chained-requires g t c =
+    let ls = c.as_slice-in-Chain.result.now in
+    let less : most size-Link ls < size-Expr c.args.expr.now = chain-falls c.args.expr.now c.in-Chain.first c.in-Chain.links ls c.in-Chain.is c.as_slice-in-Chain.ensures in
+    let falls : 4 * most size-Link ls + 1 < t = omega (arith, c.decreases, less) in
+    λ κs h. (falls, (search rules, (c.requires, c.in_ok-left-in-Chain.ensures.live)))
+
+pub expression::value_at-kept_by_all-requires : goal.expression::value_at-kept_by_all-requires
+expression::value_at-kept_by_all-requires g t c =
+    let ps = c.as_slice-in-Filter.result.now in
+    let less : most size-Expr ps < size-Expr c.args.expr.now = filter-falls c.args.expr.now c.in-Filter.first c.in-Filter.predicates ps c.in-Filter.is c.as_slice-in-Filter.ensures in
+    let falls : 4 * most size-Expr ps + 2 < t = omega (arith, c.decreases, less) in
+    λ κs h. (falls, (search rules, (c.requires, live-is c.args.forest.now.forest.nodes c.nodes_in-nodes.ensures c.in_ok-value-in-Filter.ensures.live)))
+
+pub expression::value_at-walked-requires-in-From : goal.expression::value_at-walked-requires-in-From
+expression::value_at-walked-requires-in-From g t c =
+    let ss = c.as_slice-in-From.result.now in
+    let less : most size-Step ss < size-Expr c.args.expr.now = from-falls c.args.expr.now c.in-From.first c.in-From.steps ss c.in-From.is c.as_slice-in-From.ensures in
+    let falls : 4 * most size-Step ss + 1 < t = omega (arith, c.decreases, less) in
+    λ κs h. (falls, (search rules, (c.requires, live-is c.args.forest.now.forest.nodes c.nodes_in-from.ensures c.in_ok-value-in-From.ensures.live)))
+
+pub expression::value_at-returns-in-Call-clause-value : goal.expression::value_at-returns-in-Call-clause-value
+expression::value_at-returns-in-Call-clause-value g t c =
+    let given = g.A.Around.given c.args.around.now in
+    let nodes = c.args.forest.now.forest.nodes in
+    let context = c.args.context.now in
+    let s = setting_at given nodes context in
+    let f = focus_of context in
+    gives-same Memory Long (λ v. v) c.call_value.result _ (meaning c.args.expr.now s f)
+    (ap (λ es. by_kind c.kind_of-kind.result c.in-Call.code given nodes context (map meaning es)) c.as_slice.ensures
+    ∙ sym (ap (λ e. meaning e s f) c.in-Call.is ∙ call-worth c.in-Call.field-0 c.in-Call.code c.in-Call.arguments c.kind_of-kind.result given nodes context c.kind_of-kind.ensures))
+    c.call_value.ensures.value
+
+-- ---- operators
+
+pub operators::linked-returns-clause-value : goal.operators::linked-returns-clause-value
+operators::linked-returns-clause-value g t c =
+    let given = g.A.Around.given c.args.around.now in
+    let nodes = c.args.forest.now.forest.nodes in
+    let context = c.args.context.now in
+    let o = c.args.link.now.operator in
+    let undecided : decides o (truth_of c.args.left) ≡ false = ap (decides o) (sym c.truth_of.ensures) ∙ sym c.decides.ensures ∙ c.if-decides.false in
+    gives-same Memory Long (λ v. v) c.combined.result _ _
+    (sym (linked-both o c.args.left c.in_ok-right.right (meaning c.args.link.now.right) given nodes context (focus_of context) undecided c.in_ok-right.ensures.value))
+    c.combined.ensures.value
+
+-- ---- steps
+
+pub steps::kept_by-value_at-requires : goal.steps::kept_by-value_at-requires
+steps::kept_by-value_at-requires g t c = λ κs h. (
+  search rules,
+  (
+    search rules,
+    record {
+      around = c.requires.ready.around;
+      node = live-get c.args.nodes.now c.loop-at.at c.at-node.result.number c.args.forest.now.forest.nodes c.requires.from c.at-node.ensures;
+      current = c.requires.ready.current;
+    },
+  ),
+)
+
+pub steps::kept_by-returns-in_err-value-clause-value : goal.steps::kept_by-returns-in_err-value-clause-value
+steps::kept_by-returns-in_err-value-clause-value g t c =
+    let s = setting_at (g.A.Around.given c.args.around.now) c.args.forest.now.forest.nodes c.args.context.now in
+    let m = meaning c.args.predicate.now in
+    let ns = c.args.nodes.now in
+    let all : c.in-Ok.size ≡ length ns = c.loop-at.invariant.all in
+    let within : c.loop-at.at < length ns = omega arith in
+    let p = err_from_is_err_and c.from_residual.result c.from_residual.ensures.1 in
+    rw (p.1, p.2) (part-long Memory Long _ _ (kept_from s m (length ns) 1 ns) c.in_err-value.ensures.value
+    (λ h. ap (λ k. kept_from s m k 1 ns) (sym all) ∙ kept-long s m c.in-Ok.size c.loop-at.at c.at-node.result.number c.loop-at.kept ns c.loop-at.invariant.left within c.at-node.ensures h))
+
+pub steps::kept_by-loop-at-preserved : goal.steps::kept_by-loop-at-preserved
+steps::kept_by-loop-at-preserved g t c =
+    let nodes = c.args.forest.now.forest.nodes in
+    let s = setting_at (g.A.Around.given c.args.around.now) nodes c.args.context.now in
+    let m = meaning c.args.predicate.now in
+    let ns = c.args.nodes.now in
+    let n = c.at-node.result.number in
+    let all : c.in-Ok.size ≡ length ns = c.loop-at.invariant.all in
+    let within : c.loop-at.at < length ns = omega arith in
+    let kept : c.if-is_true_at.kept ≡ added c.loop-at.kept n c.is_true_at.result =
+    elim c.if-is_true_at.branch [
+      | steps::kept_by-then-is_true_at+in_ok-push w ↦ w.kept-is ∙ w.in_ok-push.ensures.ok ∙ ap (added c.loop-at.kept n) (sym w.if-is_true_at.true)
+      | steps::kept_by-else-is_true_at w ↦ w.kept-is ∙ ap (added c.loop-at.kept n) (sym w.if-is_true_at.false)
+    ] in
+    let live : has_number n nodes ≡ true = live-get ns c.loop-at.at n nodes c.requires.from c.at-node.ensures in
+    record {
+      all = all;
+      live = live-is nodes kept (live-added c.loop-at.kept n c.is_true_at.result nodes c.loop-at.invariant.live live);
+      left = ap (λ l. onto l (kept_from s m c.in-Ok.size (suc (c.loop-at.at + 1)) (drop (c.loop-at.at + 1) ns))) kept
+          ∙ kept-next s m c.in-Ok.size c.loop-at.at n c.loop-at.kept ns c.in_ok-value.value c.is_true_at.result c.loop-at.invariant.left within c.at-node.ensures c.in_ok-value.ensures.value (sym c.is_true_at.ensures);
+    }
+
+pub steps::taken-reached-requires : goal.steps::taken-reached-requires
+steps::taken-reached-requires g t c =
+    let nodes = c.args.forest.now.forest.nodes in
+    live-item c.as_slice-node-items.result.now c.loop-node.node-index _ nodes (live-is nodes c.as_slice-node-items.ensures c.requires.from) c.loop-node-test.true
+
+pub steps::taken-returns-clause-value : goal.steps::taken-returns-clause-value
+steps::taken-returns-clause-value g t c =
+    let nodes = c.args.forest.now.forest.nodes in
+    let s = setting_at (g.A.Around.given c.args.around.now) nodes c.args.context.now in
+    let step = c.args.step.now in
+    taken-done nodes (from_one step.axis step.test (map meaning step.predicates) s) c.loop-node.found c.in_ok-in_order.field-0 c.args.from.now c.as_slice-node-items.result.now c.loop-node.node-index
+    c.as_slice-node-items.ensures c.loop-node.invariant.left c.loop-node-test.false c.in_ok-in_order.ensures
+
+pub steps::taken-returns-clause-live : goal.steps::taken-returns-clause-live
+steps::taken-returns-clause-live g t c =
+    let nodes = c.args.forest.now.forest.nodes in
+    live-is nodes c.in_ok-in_order.ensures (live-in_order _ nodes)

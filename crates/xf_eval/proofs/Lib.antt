@@ -1,0 +1,13 @@
+pub mod Lists
+pub mod Loops
+pub mod Made
+pub mod Erased
+pub mod Lives
+pub mod Settings
+pub mod Called
+pub mod Parts
+pub mod Runs
+pub mod Bounded
+pub mod Arguments
+pub mod Kept
+pub mod Falls

@@ -1,0 +1,30 @@
+-- An operator whose sides are both evaluated, `or` and `and` among them where the left side did not decide (XPath 1.0, sections 3.3 to 3.5).
+use Rattle.std.specs.Prelude.{Bool, false, not, Option, Some}
+use Rattle.xf_num.specs.Number.{sum, difference, product, quotient, remainder}
+use Rattle.xf_ast.specs.declared.expr.Operator.{Operator}
+use Rattle.xf_ast.specs.declared.expr.Operator.TheVariants.{Or, And, Add, Subtract, Multiply, Divide}
+use Rattle.xf_lang.specs.declared.value.Value.{Value}
+use Rattle.xf_lang.specs.declared.value.Value.TheVariants.{Truth}
+use Rattle.xf_lang.specs.Setting.{Setting}
+use Rattle.xf_lang.specs.Conversions.{truth_of}
+use Rattle.xf_lang.specs.Operators.{combined}
+use Rattle.xf_plain_values.specs.Conversions.{Decimal}
+
+-- the left side alone decides
+abbrev pub decides : Operator → Bool → Bool
+decides Or left = left
+decides And left = not left
+decides operator left = false
+
+abbrev pub answered : Operator → Setting → Value → Value → Option Value
+answered Or s left right = Some (Truth (truth_of right))
+answered And s left right = Some (Truth (truth_of right))
+answered operator s left right = combined operator s left right
+
+-- of six decimals
+abbrev pub arithmetic : Operator → Decimal → Decimal → Decimal
+arithmetic Add j k = sum j k
+arithmetic Subtract j k = difference j k
+arithmetic Multiply j k = product 6 j k
+arithmetic Divide j k = quotient 6 j k
+arithmetic other j k = remainder j k

@@ -1,0 +1,9 @@
+pub mod Live
+pub mod Worth
+pub mod Kinds
+pub mod Taken
+pub mod Met
+pub mod Answered
+pub mod OfNodes
+pub mod OfOne
+pub mod ByKind

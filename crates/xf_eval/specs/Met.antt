@@ -1,0 +1,11 @@
+-- Whether a node meets a test on an axis, by what it is (XPath 1.0, section 2.3).
+use Rattle.std.specs.Prelude.{Bool, false, Option, Some, None}
+use Rattle.xf_name.specs.declared.axis.Axis.{Axis}
+use Rattle.xf_ast.specs.declared.expr.Test.{Test}
+use Rattle.xf_doc.specs.declared.content.Content.{Content}
+use Rattle.xf_lang.specs.Tests.{meets}
+
+-- one that does not stand in the forest meets none
+abbrev pub is_met : Axis → Test → Option Content → Bool
+is_met axis asked None = false
+is_met axis asked (Some content) = meets axis asked content

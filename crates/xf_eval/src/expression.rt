@@ -1,0 +1,112 @@
+//! The value of an expression: one level of the syntax tree over the values of its parts (XPath 1.0, section 3).
+
+ghost use Rattle.std.specs.Prelude.{◌≡◌, ◌+◌, IfOk};
+ghost use Rattle.xf_base.specs.Gives.{Gives};
+ghost use Rattle.xf_plain_values.specs.Bounded.{GivesBounded};
+ghost use Rattle.xf_funcs.specs.Called.{called};
+ghost use Rattle.xf_lang.specs.Conversions.{nodes_of};
+ghost use Rattle.xf_lang.specs.Operators.{signed};
+ghost use Rattle.xf_lang.specs.Meaning.{focus_of, meaning, value_of};
+ghost use Rattle.xf_eval.specs.Live.{AllLive, IsReady};
+ghost use Rattle.xf_eval.specs.Worth.{setting_at};
+
+use crate::around::Around;
+use crate::calls::call_value;
+use crate::convert::{kept_text, number_of};
+use crate::kinds::kind_of;
+use crate::operators::chained;
+use crate::sets::nodes_in;
+use crate::steps::{begun, kept_by_all, walked};
+use std::alloc::Global;
+use std::sync::ledger::Ledger;
+use xf_ast::Expr;
+use xf_lang::{Context, EvalFault, Value};
+use xf_num::{Num, Steps};
+use xf_tree::Forest;
+
+/// The value of an expression over a forest (XPath 1.0, section 3); `Long` where a string that is made on the way has more than 4 MiB.
+/// Counts one step.
+pub fn evaluate<A: Around, L: Ledger>(
+    alloc: Global,
+    forest: &Forest,
+    expr: &Expr,
+    context: &Context,
+    around: &A,
+    steps: &mut Steps<L>,
+) -> Result<Value, EvalFault>
+    requires { IsReady (A.given around.now) forest.now.forest.nodes context.now }
+    ensures value { Gives EvalFault.Memory (λ value. value) result (value_of called (A.given around.now) forest.now.forest.nodes expr.now context.now) }
+    ensures live { IfOk result (λ value. AllLive (nodes_of value) forest.now.forest.nodes) }
+    ensures steps { steps.new ≡ steps.old + 1 }
+{
+    steps.tick();
+    value_at(alloc, forest, around, expr, context)
+}
+
+/// The value of an expression over a forest, as by `evaluate`, without a step.
+#[cycle(value)]
+pub fn value_at<A: Around>(
+    alloc: Global,
+    forest: &Forest,
+    around: &A,
+    expr: &Expr,
+    context: &Context,
+) -> Result<Value, EvalFault>
+    requires { IsReady (A.given around.now) forest.now.forest.nodes context.now }
+    ensures value { GivesBounded EvalFault.Memory EvalFault.Long (λ value. value) result (meaning expr.now (setting_at (A.given around.now) forest.now.forest.nodes context.now) (focus_of context.now)) }
+    ensures live { IfOk result (λ value. AllLive (nodes_of value) forest.now.forest.nodes) }
+{
+    match expr {
+        Expr::Number(_, number) => Ok(Value::Number(*number)),
+        Expr::Literal(_, text) => Ok(Value::Text(kept_text(alloc, text.as_str())?)),
+        Expr::Call(_, code, arguments) => {
+            let kind = kind_of(*code);
+            call_value(
+                alloc,
+                forest,
+                around,
+                kind,
+                *code,
+                arguments.as_slice(),
+                context,
+            )
+        }
+        Expr::Negated(_, signs, operand) => {
+            let value = value_at(alloc, forest, around, operand.get(), context)?;
+            let number = number_of(alloc, forest, &value)?;
+            Ok(Value::Number(signed(*signs, number)))
+        }
+        Expr::Chain(first, links) => {
+            let left = value_at(alloc, forest, around, first.get(), context)?;
+            chained(alloc, forest, around, links.as_slice(), left, context)
+        }
+        Expr::Filter(first, predicates) => {
+            let value = value_at(alloc, forest, around, first.get(), context)?;
+            let nodes = nodes_in(alloc, value);
+            let kept = kept_by_all(alloc, forest, around, predicates.as_slice(), nodes, context)?;
+            Ok(Value::Nodes(kept))
+        }
+        Expr::Path(_, start, steps) => {
+            let from = begun(alloc, forest, *start, context)?;
+            let nodes = walked(alloc, forest, around, steps.as_slice(), from, context)?;
+            Ok(Value::Nodes(nodes))
+        }
+        Expr::From(first, steps) => {
+            let value = value_at(alloc, forest, around, first.get(), context)?;
+            let from = nodes_in(alloc, value);
+            let nodes = walked(alloc, forest, around, steps.as_slice(), from, context)?;
+            Ok(Value::Nodes(nodes))
+        }
+    }
+}
+
+/// The number behind so many signs.
+fn signed(signs: u32, number: Num) -> Num
+    ensures { result ≡ signed signs number }
+{
+    if signs % 2 == 0 {
+        number
+    } else {
+        Num::of_units(0).sub(number)
+    }
+}

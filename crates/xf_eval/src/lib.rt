@@ -1,0 +1,23 @@
+//! The evaluator: the value of an expression over a forest.
+#![tactic(auto)]
+
+mod around;
+mod calls;
+mod compare;
+mod convert;
+mod expression;
+mod kinds;
+mod node_test;
+mod of_nodes;
+mod operators;
+mod sets;
+mod steps;
+
+pub use around::Around;
+pub use convert::{number_of, text_of, truth_of};
+pub use expression::{evaluate, value_at};
+pub use kinds::{Kind, kind_of};
+pub use node_test::meets;
+pub use sets::{append, nodes_in, reached, single};
+pub use steps::is_true_at;
+pub use xf_lang::{Context, EvalFault, Value};

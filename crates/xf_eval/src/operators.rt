@@ -1,0 +1,131 @@
+//! Operators (XPath 1.0, sections 3.3 to 3.5).
+
+ghost use Rattle.std.specs.Prelude.{◌≡◌, ◌++◌, IfOk, map};
+ghost use Rattle.xf_doc.specs.Order.{in_order};
+ghost use Rattle.xf_plain_values.specs.Bounded.{GivesBounded};
+ghost use Rattle.xf_lang.specs.Conversions.{nodes_of};
+ghost use Rattle.xf_lang.specs.Operators.{chained, linked};
+ghost use Rattle.xf_lang.specs.Meaning.{focus_of, meaning, meaning_of_link};
+ghost use Rattle.xf_eval.specs.Live.{AllLive, IsReady};
+ghost use Rattle.xf_eval.specs.Worth.{seen, setting_at, setting_in};
+ghost use Rattle.xf_eval.specs.Answered.{answered, arithmetic, decides};
+
+use crate::around::Around;
+use crate::compare::compared;
+use crate::convert::{number_of, truth_of};
+use crate::expression::value_at;
+use crate::sets::{append, nodes_in};
+use std::alloc::{AllocError, Global};
+use xf_ast::{Link, Operator};
+use xf_doc::NodeList;
+use xf_lang::{Context, EvalFault, Value};
+use xf_num::Num;
+use xf_tree::Forest;
+
+/// A chain of operators from left to right.
+#[cycle(value)]
+pub(crate) fn chained<A: Around>(
+    alloc: Global,
+    forest: &Forest,
+    around: &A,
+    links: &[Link],
+    first: Value,
+    context: &Context,
+) -> Result<Value, EvalFault>
+    requires ready { IsReady (A.given around.now) forest.now.forest.nodes context.now }
+    requires left { AllLive (nodes_of first) forest.now.forest.nodes }
+    ensures value { GivesBounded EvalFault.Memory EvalFault.Long (λ value. value) result (chained (map meaning_of_link links.now) first (setting_at (A.given around.now) forest.now.forest.nodes context.now) (focus_of context.now)) }
+    ensures live { IfOk result (λ value. AllLive (nodes_of value) forest.now.forest.nodes) }
+{
+    let mut left = first;
+    for link in links {
+        left = linked(alloc, forest, around, link, left, context)?;
+    }
+    Ok(left)
+}
+
+/// One operator: the right side of `or` and `and` is evaluated only where the left one does not decide.
+#[cycle(value)]
+fn linked<A: Around>(
+    alloc: Global,
+    forest: &Forest,
+    around: &A,
+    link: &Link,
+    left: Value,
+    context: &Context,
+) -> Result<Value, EvalFault>
+    requires ready { IsReady (A.given around.now) forest.now.forest.nodes context.now }
+    requires left { AllLive (nodes_of left) forest.now.forest.nodes }
+    ensures value { GivesBounded EvalFault.Memory EvalFault.Long (λ value. value) result (linked link.now.operator left (meaning link.now.right) (setting_at (A.given around.now) forest.now.forest.nodes context.now) (focus_of context.now)) }
+    ensures live { IfOk result (λ value. AllLive (nodes_of value) forest.now.forest.nodes) }
+{
+    if decides(link.operator, truth_of(&left)) {
+        return Ok(Value::Truth(truth_of(&left)));
+    }
+    let right = value_at(alloc, forest, around, &link.right, context)?;
+    combined(alloc, forest, link.operator, left, right)
+}
+
+/// Whether the left side alone decides.
+fn decides(operator: Operator, left: bool) -> bool
+    ensures { result ≡ decides operator left }
+{
+    match operator {
+        Operator::Or => left,
+        Operator::And => !left,
+        _ => false,
+    }
+}
+
+fn combined(
+    alloc: Global,
+    forest: &Forest,
+    operator: Operator,
+    left: Value,
+    right: Value,
+) -> Result<Value, EvalFault>
+    requires left { AllLive (nodes_of left) forest.now.forest.nodes }
+    requires right { AllLive (nodes_of right) forest.now.forest.nodes }
+    ensures value { GivesBounded EvalFault.Memory EvalFault.Long (λ value. value) result (answered operator (setting_in forest.now.forest.nodes) left right) }
+    ensures live { IfOk result (λ value. AllLive (nodes_of value) forest.now.forest.nodes) }
+{
+    match operator {
+        Operator::Or | Operator::And => Ok(Value::Truth(truth_of(&right))),
+        Operator::Union => Ok(Value::Nodes(united(alloc, forest, left, right)?)),
+        Operator::Add
+        | Operator::Subtract
+        | Operator::Multiply
+        | Operator::Divide
+        | Operator::Modulo => {
+            let one = number_of(alloc, forest, &left)?;
+            let other = number_of(alloc, forest, &right)?;
+            Ok(Value::Number(computed(operator, one, other)))
+        }
+        _ => Ok(Value::Truth(compared(alloc, forest, operator, &left, &right)?)),
+    }
+}
+
+fn computed(operator: Operator, left: Num, right: Num) -> Num
+    ensures { result ≡ arithmetic operator left right }
+{
+    match operator {
+        Operator::Add => left.add(right),
+        Operator::Subtract => left.sub(right),
+        Operator::Multiply => left.mul(right),
+        Operator::Divide => left.div(right),
+        _ => left.rem(right),
+    }
+}
+
+/// The nodes of both, in document order, each once.
+fn united(alloc: Global, forest: &Forest, left: Value, right: Value) -> Result<NodeList, AllocError>
+    requires left { AllLive (nodes_of left) forest.now.forest.nodes }
+    requires right { AllLive (nodes_of right) forest.now.forest.nodes }
+    ensures value { IfOk result (λ nodes. nodes ≡ in_order (seen forest.now.forest.nodes) (nodes_of left ++ nodes_of right)) }
+    ensures live { IfOk result (λ nodes. AllLive nodes forest.now.forest.nodes) }
+{
+    let mut nodes = nodes_in(alloc, left);
+    let more = nodes_in(alloc, right);
+    append(&mut nodes, &more)?;
+    forest.in_order(&nodes)
+}

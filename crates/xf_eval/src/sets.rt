@@ -1,0 +1,138 @@
+//! Sets of nodes.
+
+ghost use Rattle.std.specs.Prelude.{◌≡◌, [], ◌∷◌, ◌++◌, true, option_map, IfOk, OnOk};
+ghost use Rattle.xf_name.specs.declared.axis.Axis.TheVariants.{DescendantOrSelf};
+ghost use Rattle.xf_ast.specs.declared.expr.Test.TheVariants.{Node};
+ghost use Rattle.xf_doc.specs.Forest.{IsLive, content_at};
+ghost use Rattle.xf_lang.specs.Binding.{as_list};
+ghost use Rattle.xf_lang.specs.Conversions.{nodes_of};
+ghost use Rattle.xf_lang.specs.Steps.{reached, begun_at};
+ghost use Rattle.xf_eval.specs.Live.{AllLive};
+ghost use Rattle.xf_eval.specs.Met.{is_met};
+ghost use Rattle.xf_eval.specs.Worth.{seen};
+
+use crate::node_test::meets;
+use std::alloc::{AllocError, Global};
+use xf_ast::Test;
+use xf_doc::{NodeId, NodeList};
+use xf_lang::Value;
+use xf_name::{Axis, Word};
+use xf_tree::Forest;
+
+/// What the axis and the test select from a node, in the order of the axis (XPath 1.0, section 2.1).
+pub fn reached(
+    alloc: Global,
+    forest: &Forest,
+    node: NodeId,
+    axis: Axis,
+    test: &Test,
+) -> Result<NodeList, AllocError>
+    requires { IsLive node.number forest.now.forest }
+    ensures value { IfOk result (λ found. found ≡ reached axis test.now (seen forest.now.forest.nodes) node.number) }
+    ensures live { IfOk result (λ found. AllLive found forest.now.forest.nodes) }
+{
+    forest.are_trees();
+    let mut found = NodeList::new(alloc);
+    for other in forest.axis(node, axis) {
+        if is_met(forest, other, axis, test) {
+            found.push(other)?;
+        }
+    }
+    Ok(found)
+}
+
+/// Whether a node meets the test on an axis.
+fn is_met(forest: &Forest, node: NodeId, axis: Axis, test: &Test) -> bool
+    ensures { result ≡ is_met axis test.now (content_at node.number forest.now.forest.nodes) }
+{
+    match forest.content(node) {
+        Some(content) => meets(axis, test, content),
+        None => false,
+    }
+}
+
+/// All nodes from these down, in document order, each once: where a step behind `//` begins (XPath 1.0, section 2.5).
+fn all_below(alloc: Global, forest: &Forest, nodes: &NodeList) -> Result<NodeList, AllocError>
+    requires { AllLive nodes.now forest.now.forest.nodes }
+    ensures value { IfOk result (λ found. found ≡ begun_at true (seen forest.now.forest.nodes) nodes.now) }
+    ensures live { IfOk result (λ found. AllLive found forest.now.forest.nodes) }
+{
+    let mut found = NodeList::new(alloc);
+    for node in nodes.as_slice() {
+        let more = reached(alloc, forest, *node, Axis::DescendantOrSelf, &Test::Node)?;
+        append(&mut found, &more)?;
+    }
+    forest.in_order(&found)
+}
+
+/// Where a step begins: at these nodes, behind `//` at all nodes from these down.
+pub(crate) fn started(
+    alloc: Global,
+    forest: &Forest,
+    is_below: bool,
+    nodes: NodeList,
+) -> Result<NodeList, AllocError>
+    requires { AllLive nodes forest.now.forest.nodes }
+    ensures value { IfOk result (λ start. start ≡ begun_at is_below (seen forest.now.forest.nodes) nodes) }
+    ensures live { IfOk result (λ start. AllLive start forest.now.forest.nodes) }
+{
+    if is_below {
+        return all_below(alloc, forest, &nodes);
+    }
+    Ok(nodes)
+}
+
+/// Puts nodes behind others.
+pub fn append(nodes: &mut NodeList, more: &NodeList) -> Result<(), AllocError>
+    ensures { OnOk result (nodes.new ≡ nodes.old ++ more.now) }
+{
+    for node in more.as_slice() {
+        nodes.push(*node)?;
+    }
+    Ok(())
+}
+
+/// One node alone.
+pub fn single(alloc: Global, node: NodeId) -> Result<NodeList, AllocError>
+    ensures { IfOk result (λ nodes. nodes ≡ node.number ∷ []) }
+{
+    let mut nodes = NodeList::new(alloc);
+    nodes.push(node)?;
+    Ok(nodes)
+}
+
+/// The node that is given, alone, or none.
+pub(crate) fn listed(alloc: Global, node: Option<NodeId>) -> Result<NodeList, AllocError>
+    ensures { IfOk result (λ nodes. nodes ≡ as_list (option_map (λ n. n.number) node)) }
+{
+    match node {
+        Some(node) => single(alloc, node),
+        None => Ok(NodeList::new(alloc)),
+    }
+}
+
+/// The nodes of a value: a plain value has none.
+pub fn nodes_in(alloc: Global, value: Value) -> NodeList
+    ensures { result ≡ nodes_of value }
+{
+    match value {
+        Value::Nodes(nodes) => nodes,
+        _ => NodeList::new(alloc),
+    }
+}
+
+/// A copy of a value.
+pub(crate) fn copied(alloc: Global, value: &Value) -> Result<Value, AllocError>
+    ensures { IfOk result (λ copy. copy ≡ value.now) }
+{
+    match value {
+        Value::Nodes(nodes) => {
+            let mut copy = NodeList::with_capacity(alloc, nodes.len())?;
+            append(&mut copy, nodes)?;
+            Ok(Value::Nodes(copy))
+        }
+        Value::Text(text) => Ok(Value::Text(Word::from_str(alloc, text.as_str())?)),
+        Value::Number(number) => Ok(Value::Number(*number)),
+        Value::Truth(truth) => Ok(Value::Truth(*truth)),
+    }
+}

@@ -1,0 +1,162 @@
+//! Location paths: steps and predicates (XPath 1.0, sections 2 to 2.5).
+
+ghost use Rattle.std.specs.Prelude.{◌≡◌, IfOk, length, map};
+ghost use Rattle.xf_doc.specs.Forest.{IsLive};
+ghost use Rattle.xf_plain_values.specs.Bounded.{GivesBounded};
+ghost use Rattle.xf_plain_values.specs.Conversions.{whole};
+ghost use Rattle.xf_lang.specs.Steps.{begun, is_true_at, kept_from, kept_by_all, walked};
+ghost use Rattle.xf_lang.specs.Meaning.{focus_of, meaning, walk_of};
+ghost use Rattle.xf_eval.specs.Live.{AllLive, IsReady};
+ghost use Rattle.xf_eval.specs.Worth.{setting_at, setting_in};
+ghost use Rattle.xf_eval.specs.Taken.{taken};
+
+use crate::around::Around;
+use crate::convert::{truth_of, whole};
+use crate::expression::value_at;
+use crate::sets::{append, reached, single, started};
+use std::alloc::{AllocError, Global};
+use std::cmp::Ordering;
+use xf_ast::{Expr, Start, Step};
+use xf_doc::NodeList;
+use xf_lang::{Context, EvalFault, Value};
+use xf_tree::Forest;
+
+/// The nodes that a chain of steps reaches from these.
+#[cycle(value)]
+pub(crate) fn walked<A: Around>(
+    alloc: Global,
+    forest: &Forest,
+    around: &A,
+    steps: &[Step],
+    from: NodeList,
+    context: &Context,
+) -> Result<NodeList, EvalFault>
+    requires ready { IsReady (A.given around.now) forest.now.forest.nodes context.now }
+    requires from { AllLive from forest.now.forest.nodes }
+    ensures value { GivesBounded EvalFault.Memory EvalFault.Long (λ found. found) result (walked (setting_at (A.given around.now) forest.now.forest.nodes context.now) (map walk_of steps.now) from) }
+    ensures live { IfOk result (λ found. AllLive found forest.now.forest.nodes) }
+{
+    let mut nodes = from;
+    for step in steps {
+        let start = started(alloc, forest, step.is_below, nodes)?;
+        nodes = taken(alloc, forest, around, step, &start, context)?;
+    }
+    Ok(nodes)
+}
+
+/// What the axis, the test and the predicates of a step select from each of these nodes, in document order, each once.
+#[cycle(value)]
+fn taken<A: Around>(
+    alloc: Global,
+    forest: &Forest,
+    around: &A,
+    step: &Step,
+    from: &NodeList,
+    context: &Context,
+) -> Result<NodeList, EvalFault>
+    requires ready { IsReady (A.given around.now) forest.now.forest.nodes context.now }
+    requires from { AllLive from.now forest.now.forest.nodes }
+    ensures value { GivesBounded EvalFault.Memory EvalFault.Long (λ found. found) result (taken step.now.axis step.now.test (map meaning step.now.predicates) (setting_at (A.given around.now) forest.now.forest.nodes context.now) from.now) }
+    ensures live { IfOk result (λ found. AllLive found forest.now.forest.nodes) }
+{
+    let mut found = NodeList::new(alloc);
+    for node in from.as_slice() {
+        let nodes = reached(alloc, forest, *node, step.axis, &step.test)?;
+        let kept = kept_by_all(
+            alloc,
+            forest,
+            around,
+            step.predicates.as_slice(),
+            nodes,
+            context,
+        )?;
+        append(&mut found, &kept)?;
+    }
+    Ok(forest.in_order(&found)?)
+}
+
+/// The nodes that all predicates keep, each asked of those that the one before left.
+#[cycle(value)]
+pub(crate) fn kept_by_all<A: Around>(
+    alloc: Global,
+    forest: &Forest,
+    around: &A,
+    predicates: &[Expr],
+    nodes: NodeList,
+    context: &Context,
+) -> Result<NodeList, EvalFault>
+    requires ready { IsReady (A.given around.now) forest.now.forest.nodes context.now }
+    requires from { AllLive nodes forest.now.forest.nodes }
+    ensures value { GivesBounded EvalFault.Memory EvalFault.Long (λ found. found) result (kept_by_all (setting_at (A.given around.now) forest.now.forest.nodes context.now) (map meaning predicates.now) nodes) }
+    ensures live { IfOk result (λ found. AllLive found forest.now.forest.nodes) }
+{
+    let mut left = nodes;
+    for predicate in predicates {
+        left = kept_by(alloc, forest, around, predicate, &left, context)?;
+    }
+    Ok(left)
+}
+
+/// The nodes at which a predicate is true: each has its position among them.
+#[cycle(value)]
+fn kept_by<A: Around>(
+    alloc: Global,
+    forest: &Forest,
+    around: &A,
+    predicate: &Expr,
+    nodes: &NodeList,
+    context: &Context,
+) -> Result<NodeList, EvalFault>
+    requires ready { IsReady (A.given around.now) forest.now.forest.nodes context.now }
+    requires from { AllLive nodes.now forest.now.forest.nodes }
+    ensures value { GivesBounded EvalFault.Memory EvalFault.Long (λ found. found) result (kept_from (setting_at (A.given around.now) forest.now.forest.nodes context.now) (meaning predicate.now) (length nodes.now) 1 nodes.now) }
+    ensures live { IfOk result (λ found. AllLive found forest.now.forest.nodes) }
+{
+    // No memory holds a list that a position cannot count.
+    let Ok(size) = u32::try_from(nodes.len()) else {
+        return Err(EvalFault::Memory);
+    };
+    let mut kept = NodeList::new(alloc);
+    for at in 0..size {
+        let node = nodes.at(at as usize);
+        let place = Context {
+            model: context.model,
+            node,
+            position: at + 1,
+            size,
+            current: context.current,
+        };
+        let value = value_at(alloc, forest, around, predicate, &place)?;
+        if is_true_at(&value, at + 1) {
+            kept.push(node)?;
+        }
+    }
+    Ok(kept)
+}
+
+/// Whether a predicate with this value keeps the node at a position: a number is true at its own (XPath 1.0, section 2.4).
+pub fn is_true_at(value: &Value, position: u32) -> bool
+    ensures { result ≡ is_true_at 6 position value.now }
+{
+    match value {
+        Value::Number(number) => number.order(whole(position as usize)) == Some(Ordering::Equal),
+        _ => truth_of(value),
+    }
+}
+
+/// Where a path begins: at the top of the context node's tree, or at the context node.
+pub(crate) fn begun(
+    alloc: Global,
+    forest: &Forest,
+    start: Start,
+    context: &Context,
+) -> Result<NodeList, AllocError>
+    requires node { IsLive context.now.node.number forest.now.forest }
+    ensures value { IfOk result (λ found. found ≡ begun start (setting_in forest.now.forest.nodes) (focus_of context.now)) }
+    ensures live { IfOk result (λ found. AllLive found forest.now.forest.nodes) }
+{
+    match start {
+        Start::Root => single(alloc, forest.top(context.node)),
+        Start::Context => single(alloc, context.node),
+    }
+}

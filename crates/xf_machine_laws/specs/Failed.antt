@@ -1,0 +1,16 @@
+-- A submission that fails (XForms 1.1, section 11.2) changes nothing between the end of its first step, in which what is due is done, and the
+-- event that tells its error: but for the calls of the store that were made and the answers that are still to come.
+use Rattle.std.specs.Prelude.{◌≡◌, List, ℕ, Ok}
+use Rattle.xf_ast.specs.declared.form.Submission.{Submission}
+use Rattle.xf_form_machine.specs.Profile.{Profile}
+use Rattle.xf_form_machine.specs.State.{State}
+use Rattle.xf_form_machine.specs.Events.{Tell}
+use Rattle.xf_form_machine.specs.Submit.{failed}
+use Rattle.xf_form_machine.specs.Exchange.{attempt}
+
+abbrev pub KeepsAllButCalls : State → State → Type 0
+KeepsAllButCalls s t = t ≡ record s { calls = t.calls; to_come = t.to_come }
+
+-- whatever the events do that are told on the way
+abbrev pub FailedKeeps : Type 0
+FailedKeeps = (p : Profile) (tell : Tell) (sub : Submission) (s t : State) (error : List ℕ) → attempt p tell sub s ≡ Ok (failed error t) → KeepsAllButCalls s t
