@@ -1,5 +1,5 @@
 -- Setvalue and message as works.
-use Rattle.std.proofs.Common.{ℕ, ◌≡◌, List, [], Bool, true, false, not, Option, Some, None, Result, Ok, Err, refl, sym}
+use Rattle.std.proofs.Common.{ℕ, ◌≡◌, List, Bool, true, false, not, Option, Some, None, Result, Ok, Err, refl, sym}
 use Rattle.xf_store.specs.declared.call.StoreCall.{StoreCall}
 use Rattle.xf_form_machine.specs.Program.{Work}
 use Rattle.xf_form_machine.specs.Program as work
@@ -17,9 +17,7 @@ use Rattle.xf_form_machine.specs.Properties.{readonly_in, path_in}
 use Rattle.xf_form_machine.specs.Acting.{Acting}
 use Rattle.xf_form_machine.specs.SetValue.{set_value, set_open, unless_parent, value_asked}
 use Rattle.xf_form_machine.specs.Telling.{message}
-use Rattle.xf_form_machine.specs.Events.{Fired}
-use Rattle.xf_actions.specs.declared.work.Doing.{Doing}
-use Rattle.xf_actions.specs.declared.work.Doing.TheVariants.{Sets, Speaks, Other}
+use Rattle.xf_actions.specs.declared.work.Doing.TheVariants.{Sets, Speaks}
 use Rattle.xf_actions.specs.Performs.{Refuses, RefusedAs}
 use Rattle.xf_actions.specs.Parts.{value_of_work}
 use Rattle.xf_actions.specs.Texts.{bound_for, message_text, settable}
@@ -70,8 +68,8 @@ pub message-stops : (p : Profile) (x : Acting) (s : State) (why : Option Refusal
     → Refuses why calls (message_text p x s) → Refuses why calls (message p x s)
 message-stops p x s why calls r =
     same-refuses why calls (message p x s) (message_text p x s >>= λ text. add_note p (Message text) s)
-        (sym (bind-assoc (or_long s (inside (interface s) (quiet p s) x.rows x.element)) _ (λ text. add_note p (Message text) s)))
-        (refuses-then why calls (message_text p x s) (λ text. add_note p (Message text) s) r)
+    (sym (bind-assoc (or_long s (inside (interface s) (quiet p s) x.rows x.element)) _ (λ text. add_note p (Message text) s)))
+    (refuses-then why calls (message_text p x s) (λ text. add_note p (Message text) s) r)
 
 -- ---- a setvalue
 
@@ -102,7 +100,7 @@ pub set_open-unread : (p : Profile) (x : Acting) (value : Option Meaning) (n : �
     → settable n s ≡ Ok s → Refuses why calls (value_asked p x s n value) → Refuses why calls (set_open p x value n s)
 set_open-unread p x value n s why calls h r =
     unless-runs (has_elements (all_in s) n) n (λ t. value_asked p x t n value >>= λ text. set_text p n text t) s why calls h
-        (refuses-then why calls (value_asked p x s n value) (λ text. set_text p n text s) r)
+    (refuses-then why calls (value_asked p x s n value) (λ text. set_text p n text s) r)
 
 -- ---- as works
 

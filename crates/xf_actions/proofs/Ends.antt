@@ -1,12 +1,12 @@
 -- Handlers with the updates after them, and default actions, step by step.
-use Rattle.std.proofs.Common.{ℕ, ◌≡◌, List, Bool, true, false, length, map, Option, Some, None, option_map, Result, Ok, Err, refl, ap, sym, ◌∙◌}
+use Rattle.std.proofs.Common.{ℕ, ◌≡◌, List, Bool, false, length, map, Option, Some, None, option_map, Ok, ap, sym, ◌∙◌}
 use Rattle.std.proofs.lemmas.List.{length-map}
 use Rattle.xf_store.specs.declared.call.StoreCall.{StoreCall}
 use Rattle.xf_ast.specs.declared.form.Form.{Form}
 use Rattle.xf_form_machine.specs.Program.{Program}
 use Rattle.xf_form_machine.specs.Profile.{Profile}
 use Rattle.xf_form_machine.specs.State.{State}
-use Rattle.xf_form_machine.specs.Refusal.{Refusal, Refused}
+use Rattle.xf_form_machine.specs.Refusal.{Refusal}
 use Rattle.xf_form_machine.specs.Flow.{Run, ◌>>=◌, when, where_some, in_turn}
 use Rattle.xf_form_machine.specs.Events.{Fired, Tell}
 use Rattle.xf_form_machine.specs.Act.{act, act_within}
@@ -37,7 +37,7 @@ pub handle-stops : (p : Profile) (further : Further) (is_idle : Bool) (e : Fired
     → Refuses why calls (handle p further is_idle e n s)
 handle-stops p further is_idle e n s f left why calls h q r =
     same-refuses why calls _ _ (ap (λ g. g >>= update_if p further is_idle) (act-left p (further false) e n s f left h q))
-        (refuses-then why calls _ (update_if p further is_idle) r)
+    (refuses-then why calls _ (update_if p further is_idle) r)
 
 pub handle-acted : (p : Profile) (further : Further) (is_idle : Bool) (e : Fired) (n : ℕ) (s t : State) (f : Form) (left : ℕ)
     → IsProgram f s.form → left ≡ length f.elements → act_within left p (further false) e n s ≡ Ok t

@@ -1,11 +1,11 @@
 -- How one change follows another, and what a refusal of the first means for both.
-use Rattle.std.proofs.Common.{ℕ, suc, ◌≡◌, ◌+◌, ◌<◌, List, [], ◌∷◌, length, map, drop, get_or, Bool, true, false, Option, Some, None, Result, Ok, Err, refl, ap, sym, ◌∙◌, subst}
+use Rattle.std.proofs.Common.{ℕ, ◌≡◌, ◌+◌, ◌<◌, List, ◌∷◌, length, map, drop, get_or, Option, Some, None, Result, Ok, Err, refl, ap, sym, ◌∙◌, subst}
 use Rattle.std.proofs.lemmas.List.{at_drop_more, get_or-map, length-map}
 use Rattle.std.specs.Result.{IsErrAnd}
 use Rattle.xf_store.specs.declared.call.StoreCall.{StoreCall}
 use Rattle.xf_form_machine.specs.Refusal.{Refusal, Refused}
 use Rattle.xf_form_machine.specs.State.{State}
-use Rattle.xf_form_machine.specs.Flow.{Run, ◌>>=◌, when, in_turn}
+use Rattle.xf_form_machine.specs.Flow.{Run, ◌>>=◌, in_turn}
 use Rattle.xf_actions.specs.Performs.{Refuses, RefusedAs, Runs, Makes}
 
 -- what is done, as a result that could be refused
@@ -88,10 +88,10 @@ pub told-step : {A X : Type 0} (run : X → Run) (f : A → X) (xs : List A) (i 
     → i < length xs → x ≡ get_or xs i x → run (f x) s ≡ Ok t → in_turn run (drop i (map f xs)) s ≡ in_turn run (drop (i + 1) (map f xs)) t
 told-step run f xs i x s t h is e =
     in_turn-step run (map f xs) i (f x) s t (rw (length-map xs f) h)
-        (ap (λ y. run y s) (get_or-map f xs i x (f x) h ∙ ap f (sym is)) ∙ e)
+    (ap (λ y. run y s) (get_or-map f xs i x (f x) h ∙ ap f (sym is)) ∙ e)
 
 pub told-stop : {A X : Type 0} (run : X → Run) (f : A → X) (xs : List A) (i : ℕ) (x : A) (s : State) (told : Option Refusal) (calls : List StoreCall)
     → i < length xs → x ≡ get_or xs i x → Refuses told calls (run (f x) s) → Refuses told calls (in_turn run (drop i (map f xs)) s)
 told-stop run f xs i x s told calls h is r =
     in_turn-stop run (map f xs) i (f x) s told calls (rw (length-map xs f) h)
-        (same-refuses told calls _ _ (ap (λ y. run y s) (get_or-map f xs i x (f x) h ∙ ap f (sym is))) r)
+    (same-refuses told calls _ _ (ap (λ y. run y s) (get_or-map f xs i x (f x) h ∙ ap f (sym is))) r)

@@ -7,3 +7,4 @@ pub mod Ends
 pub mod Doings
 pub mod Roles
 pub mod Tests
+pub mod Rounds

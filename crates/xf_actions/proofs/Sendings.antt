@@ -1,5 +1,5 @@
 -- A default action is what it changes, then its events told one after the other, then the end of a submission.
-use Rattle.std.proofs.Common.{ℕ, ◌≡◌, List, [], ◌∷◌, map, length, nat_le, Bool, true, false, Option, Some, None, Result, Ok, Err, refl, ap, sym, ◌∙◌, codes, bytes_eq, slice_get, if◌then◌else◌}
+use Rattle.std.proofs.Common.{ℕ, ◌≡◌, List, [], ◌∷◌, length, nat_le, Bool, true, false, Option, Some, None, Result, Ok, Err, refl, ap, sym, ◌∙◌, codes, bytes_eq, slice_get, if◌then◌else◌}
 use Rattle.std.specs.Str.{is_utf8}
 use Rattle.xf_name.specs.declared.lit.Lit.{Lit}
 use Rattle.xf_json.specs.declared.fault.JsonFault.{JsonFault}
@@ -27,16 +27,14 @@ use Rattle.xf_form_machine.specs.Flow.{Run, ◌>>=◌, where_some, in_turn, when
 use Rattle.xf_form_machine.specs.Surround.{scope, model_holding}
 use Rattle.xf_form_machine.specs.Behave.{rebuild, recalculate, revalidate}
 use Rattle.xf_form_machine.specs.Update.{reindex, due_revalidation, refresh_cleared}
-use Rattle.xf_form_machine.specs.Events.{Fired, Tell, fired_at}
+use Rattle.xf_form_machine.specs.Events.{Fired, Tell}
 use Rattle.xf_form_machine.specs.Submit as submit
 use Rattle.xf_form_machine.specs.Exchange as exchange
 use Rattle.xf_form_machine.specs.Default as default
-use Rattle.xf_form_machine.specs.Choose.{act_send}
-use Rattle.xf_actions.specs.Told.{Telling, told, quietly}
-use Rattle.xf_actions.specs.Changed.{untold, where_told}
-use Rattle.xf_actions.specs.Changed as changed
+use Rattle.xf_actions.specs.Told.{Telling, told}
+use Rattle.xf_actions.specs.Changed.{untold}
 use Rattle.xf_actions.specs.Sent.{End, done, failed, Sent, end_event, then_done, behaved, put_tree, put_text, on_target, with_tree, with_text, responded, answered, exchanged, selected, attempted, sent, told_sent}
-use Rattle.xf_actions.specs.Defaulted.{Defaulted, Defaults, Ending, nothing, telling, with_end, concluded, refreshed_now, of_model, of_role, submitted, defaulted}
+use Rattle.xf_actions.specs.Defaulted.{Defaulted, nothing, telling, with_end, concluded, refreshed_now, of_model, of_role, submitted, defaulted}
 use Rattle.xf_actions.proofs.Flow.{bind-assoc, then-same, then-ok}
 use Rattle.xf_actions.proofs.Telling.{untold-told, where-told, one-told, refresh-told}
 
@@ -92,18 +90,18 @@ with_tree-told : (p : Profile) (tell : Tell) (sub : Submission) (n : ℕ) (lit :
 with_tree-told p tell sub n (Err fault) s = refl
 with_tree-told p tell sub n (Ok lit) s =
     if-told (submit.has_fault s lit) _ _ _ _ (told_then tell) refl
-        (then-same (submit.target_by p sub n s sub.target sub.instance) _ _
-            (λ target. on_target-told tell submit.takes_tree (submit.put_tree p tell lit) (put_tree p lit) target s (put_tree-told p tell lit))
-            ∙ sym (bind-assoc (submit.target_by p sub n s sub.target sub.instance) _ (told_then tell)))
+    (then-same (submit.target_by p sub n s sub.target sub.instance) _ _
+    (λ target. on_target-told tell submit.takes_tree (submit.put_tree p tell lit) (put_tree p lit) target s (put_tree-told p tell lit))
+    ∙ sym (bind-assoc (submit.target_by p sub n s sub.target sub.instance) _ (told_then tell)))
 
 with_text-told : (p : Profile) (tell : Tell) (sub : Submission) (n : ℕ) (bytes : List ℕ) (s : State)
     → submit.with_text p tell sub n s bytes ≡ with_text p sub n bytes s >>= told_then tell
 with_text-told p tell sub n bytes s =
     if-told (is_utf8 bytes) _ _ _ _ (told_then tell)
-        (then-same (submit.target_by p sub n s sub.target sub.instance) _ _
-            (λ target. on_target-told tell submit.takes_text (submit.put_text p tell bytes) (put_text p bytes) target s (put_text-told p tell bytes))
-            ∙ sym (bind-assoc (submit.target_by p sub n s sub.target sub.instance) _ (told_then tell)))
-        refl
+    (then-same (submit.target_by p sub n s sub.target sub.instance) _ _
+    (λ target. on_target-told tell submit.takes_text (submit.put_text p tell bytes) (put_text p bytes) target s (put_text-told p tell bytes))
+    ∙ sym (bind-assoc (submit.target_by p sub n s sub.target sub.instance) _ (told_then tell)))
+    refl
 
 responded-told : (p : Profile) (tell : Tell) (sub : Submission) (n : ℕ) (bytes : List ℕ) (how : Replace) (s : State)
     → submit.respond p tell sub n s bytes how ≡ responded p sub n bytes how s >>= told_then tell
@@ -128,7 +126,7 @@ exchanged-told : (p : Profile) (tell : Tell) (sub : Submission) (n : ℕ) (asked
 exchanged-told p tell sub n asked s =
     let asking = exchange.unless_many (nat_le p.sends (length s.calls)) s in
     then-same asking _ _
-        (λ t. answered-told p tell sub n (reply (exchange.fits asked) t.to_come) (exchange.with_call sub.resource asked (reply (exchange.fits asked) t.to_come) t))
+    (λ t. answered-told p tell sub n (reply (exchange.fits asked) t.to_come) (exchange.with_call sub.resource asked (reply (exchange.fits asked) t.to_come) t))
     ∙ sym (bind-assoc asking _ (told_then tell))
 
 selected-told : (p : Profile) (tell : Tell) (sub : Submission) (found : Submitted) (s : State)
@@ -217,7 +215,7 @@ of_role-told p tell name (role.submission k) s =
     when-told tell (bytes_eq name (codes "xforms-submit")) _ _ s (submitted-told p tell k (slice_get s.form.submissions k) s)
 of_role-told p tell name (role.submit target) s =
     when-told tell (bytes_eq name (codes "DOMActivate")) _ _ s
-        (telling-told tell _ _ (where-told tell _ _ target s (λ k t. one-told tell _ t)))
+    (telling-told tell _ _ (where-told tell _ _ target s (λ k t. one-told tell _ t)))
 of_role-told p tell name (role.action a) s = refl
 of_role-told p tell name role.entry s = refl
 of_role-told p tell name role.trigger s = refl

@@ -1,9 +1,8 @@
 -- Dispatch and actions, step by step: what each step of the machine gives, once the steps before it are done.
-use Rattle.std.proofs.Common.{ℕ, zero, suc, ◌≡◌, ◌-◌, ◌<◌, List, Bool, true, false, Option, Some, None, is_some, option_map, Result, Ok, Err, refl, ap, sym, ◌∙◌, arith}
+use Rattle.std.proofs.Common.{ℕ, zero, suc, ◌≡◌, ◌-◌, ◌<◌, List, Bool, true, false, Option, Some, None, is_some, option_map, Result, Ok, refl, ap, sym, ◌∙◌, arith}
 use Rattle.std.proofs.lemmas.Option.{none-some}
 use Rattle.xf_store.specs.declared.call.StoreCall.{StoreCall}
 use Rattle.xf_lang.specs.Setting.{Meaning, Focus}
-use Rattle.xf_ui.specs.Interface.{Interface}
 use Rattle.xf_ui.specs.Context.{Context, context_of}
 use Rattle.xf_ui.specs.Named.{handler_rows}
 use Rattle.xf_ui.specs.Calls.{calls}
@@ -72,7 +71,7 @@ handled-by p further is_idle e t called h =
 pub dispatch-handles : (p : Profile) (d : ℕ) (is_idle : Bool) (e : Fired) (s t : State) (called : CallList)
     → 0 < d → spend s ≡ Ok t → fine (calls (interface t) e.event) ≡ Ok called
     → dispatch p d is_idle e s
-        ≡ in_turn (handle p (dispatch p (d - 1)) is_idle e) called.handlers t >>= when called.with_default (after_all p (dispatch p (d - 1)) is_idle e)
+    ≡ in_turn (handle p (dispatch p (d - 1)) is_idle e) called.handlers t >>= when called.with_default (after_all p (dispatch p (d - 1)) is_idle e)
 dispatch-handles p d is_idle e s t called h q r =
     dispatch-begins p d is_idle e s t h q ∙ handled-by p (dispatch p (d - 1)) is_idle e t called r
 
@@ -282,7 +281,7 @@ pub rounds-told_stop : (left : ℕ) (p : Profile) (tell : Tell) (s t : State) (e
     → Refuses why calls (rounds left (round p tell) s)
 rounds-told_stop left p tell s t events why calls h q e r =
     same-refuses why calls _ _ (rounds-told left p tell s t events h q e)
-        (refuses-then why calls (in_turn tell events t) (rounds (left - 1) (round p tell)) r)
+    (refuses-then why calls (in_turn tell events t) (rounds (left - 1) (round p tell)) r)
 
 -- ---- a test of a `while`, and the work after it
 
@@ -319,7 +318,7 @@ pub once-unread : (p : Profile) (tell : Tell) (inner : ℕ → Run) (x : Acting)
     → Refuses why calls (holds p x (condition_in o) s) → Refuses why calls (once_done p tell inner x o s)
 once-unread p tell inner x o s why calls r =
     same-refuses why calls _ _ (once-holds p tell inner x o s)
-        (refuses-then why calls (holds p x (condition_in o) s) (work_if p tell inner x o s) r)
+    (refuses-then why calls (holds p x (condition_in o) s) (work_if p tell inner x o s) r)
 
 pub once-idle : (p : Profile) (tell : Tell) (inner : ℕ → Run) (x : Acting) (o : Option Act) (s : State)
     → holds p x (condition_in o) s ≡ Ok false → once_done p tell inner x o s ≡ Ok s

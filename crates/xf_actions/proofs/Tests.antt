@@ -1,10 +1,10 @@
 -- The tests of a `while`, one after the other: the action is the one that stood when it began, since no change touches the form.
-use Rattle.std.proofs.Common.{ℕ, ◌≡◌, ◌-◌, ◌<◌, List, Bool, true, false, Option, is_some, Result, Ok, ap, sym, ◌∙◌, subst}
+use Rattle.std.proofs.Common.{ℕ, ◌≡◌, ◌-◌, ◌<◌, List, Bool, true, false, Option, is_some, Ok, ap, sym, ◌∙◌, subst}
 use Rattle.xf_store.specs.declared.call.StoreCall.{StoreCall}
 use Rattle.xf_form_machine.specs.Program.{Act, role_at}
 use Rattle.xf_form_machine.specs.Profile.{Profile}
 use Rattle.xf_form_machine.specs.State.{State}
-use Rattle.xf_form_machine.specs.Refusal.{Refusal, Refused}
+use Rattle.xf_form_machine.specs.Refusal.{Refusal}
 use Rattle.xf_form_machine.specs.Flow.{Run, in_turn}
 use Rattle.xf_form_machine.specs.Primitives.{spend}
 use Rattle.xf_form_machine.specs.Events.{Fired, Tell}
@@ -29,14 +29,14 @@ pub tests-unread : (left : ℕ) (p : Profile) (tell : Tell) (inner : ℕ → Run
     → Refuses why calls (holds p x (repetition_in (act_at t n)) t) → Refuses why calls (tests left p tell inner x before n s)
 tests-unread left p tell inner x before n s t why calls h q same e r =
     tested-unread left p x (repetition_in (act_at before n)) (once_done p tell inner x (act_at before n)) s t why calls h q e
-        (subst (λ (o : Option Act). Refuses why calls (holds p x (repetition_in o) t)) (same-act before t n same) r)
+    (subst (λ (o : Option Act). Refuses why calls (holds p x (repetition_in o) t)) (same-act before t n same) r)
 
 pub tests-done : (left : ℕ) (p : Profile) (tell : Tell) (inner : ℕ → Run) (x : Acting) (before : State) (n : ℕ) (s t : State) (b : Bool)
     → 0 < left → is_some (repetition_in (act_at before n)) ≡ true → t.form ≡ before.form → spend s ≡ Ok t
     → holds p x (repetition_in (act_at t n)) t ≡ Ok b → b ≡ false → tests left p tell inner x before n s ≡ Ok t
 tests-done left p tell inner x before n s t b h q same e r k =
     tested-done left p x (repetition_in (act_at before n)) (once_done p tell inner x (act_at before n)) s t h q e
-        (ap (λ (o : Option Act). holds p x (repetition_in o) t) (sym (same-act before t n same)) ∙ r ∙ ap (λ v. fine v) k)
+    (ap (λ (o : Option Act). holds p x (repetition_in o) t) (sym (same-act before t n same)) ∙ r ∙ ap (λ v. fine v) k)
 
 pub tests-work_stops : (left : ℕ) (p : Profile) (tell : Tell) (inner : ℕ → Run) (x : Acting) (before : State) (n : ℕ) (s t : State) (b : Bool)
     (why : Option Refusal) (calls : List StoreCall)
@@ -45,8 +45,8 @@ pub tests-work_stops : (left : ℕ) (p : Profile) (tell : Tell) (inner : ℕ →
     → Refuses why calls (once_done p tell inner x (act_at t n) t) → Refuses why calls (tests left p tell inner x before n s)
 tests-work_stops left p tell inner x before n s t b why calls h q same e r k w =
     tested-work_stops left p x (repetition_in (act_at before n)) (once_done p tell inner x (act_at before n)) s t why calls h q e
-        (ap (λ (o : Option Act). holds p x (repetition_in o) t) (sym (same-act before t n same)) ∙ r ∙ ap (λ v. fine v) k)
-        (subst (λ (o : Option Act). Refuses why calls (once_done p tell inner x o t)) (same-act before t n same) w)
+    (ap (λ (o : Option Act). holds p x (repetition_in o) t) (sym (same-act before t n same)) ∙ r ∙ ap (λ v. fine v) k)
+    (subst (λ (o : Option Act). Refuses why calls (once_done p tell inner x o t)) (same-act before t n same) w)
 
 pub tests-next : (left next : ℕ) (p : Profile) (tell : Tell) (inner : ℕ → Run) (x : Acting) (before : State) (n : ℕ) (s t u : State) (b : Bool)
     → 0 < left → left - 1 ≡ next → is_some (repetition_in (act_at before n)) ≡ true → t.form ≡ before.form → spend s ≡ Ok t
@@ -54,8 +54,8 @@ pub tests-next : (left next : ℕ) (p : Profile) (tell : Tell) (inner : ℕ → 
     → tests left p tell inner x before n s ≡ tests next p tell inner x before n u
 tests-next left next p tell inner x before n s t u b h less q same e r k w =
     tested-next left p x (repetition_in (act_at before n)) (once_done p tell inner x (act_at before n)) s t u h q e
-        (ap (λ (o : Option Act). holds p x (repetition_in o) t) (sym (same-act before t n same)) ∙ r ∙ ap (λ v. fine v) k)
-        (ap (λ (o : Option Act). once_done p tell inner x o t) (sym (same-act before t n same)) ∙ w)
+    (ap (λ (o : Option Act). holds p x (repetition_in o) t) (sym (same-act before t n same)) ∙ r ∙ ap (λ v. fine v) k)
+    (ap (λ (o : Option Act). once_done p tell inner x o t) (sym (same-act before t n same)) ∙ w)
     ∙ ap (λ m. tests m p tell inner x before n u) less
 
 -- ---- a round of an update

@@ -1,6 +1,5 @@
 -- The work of an action is what it changes, and then the events told one after the other.
-use Rattle.std.proofs.Common.{ℕ, ◌≡◌, List, [], ◌∷◌, map, zip, Bool, true, false, Option, Some, None, Result, Ok, Err, refl, ap, sym, ◌∙◌, ◌==◌, get_or, codes, ℤ, if◌then◌else◌}
-use Rattle.xf_ast.specs.declared.action.DispatchWork.{DispatchWork}
+use Rattle.std.proofs.Common.{ℕ, ◌≡◌, List, [], ◌∷◌, map, zip, Bool, true, false, Option, Ok, refl, sym, ◌∙◌, ◌==◌, get_or, codes, if◌then◌else◌}
 use Rattle.xf_lang.specs.Setting.{Focus}
 use Rattle.xf_model.specs.Places.{Place, planned_insert}
 use Rattle.xf_model.specs.Taken.{planned_delete}
@@ -11,21 +10,20 @@ use Rattle.xf_form_machine.specs.Program.{Work, InsertBy, DeleteBy}
 use Rattle.xf_form_machine.specs.Program as work
 use Rattle.xf_form_machine.specs.Profile.{Profile}
 use Rattle.xf_form_machine.specs.State.{State}
-use Rattle.xf_form_machine.specs.Refusal.{Refused}
 use Rattle.xf_form_machine.specs.Flow.{Run, ◌>>=◌, where_some, in_turn}
 use Rattle.xf_form_machine.specs.Surround.{Told, interface, instance_holding}
 use Rattle.xf_form_machine.specs.Primitives.{detach}
 use Rattle.xf_form_machine.specs.Update.{reindex}
-use Rattle.xf_form_machine.specs.Events.{Fired, Tell, fired_at}
+use Rattle.xf_form_machine.specs.Events.{Tell}
 use Rattle.xf_form_machine.specs.Acting.{Acting}
 use Rattle.xf_form_machine.specs.Act.{done_by}
 use Rattle.xf_form_machine.specs.Insert as machine
 use Rattle.xf_form_machine.specs.Delete as deletes
 use Rattle.xf_form_machine.specs.Choose as choose
 use Rattle.xf_actions.specs.Told.{Telling, told, quietly}
-use Rattle.xf_actions.specs.Changed.{untold, where_told, tells, tells_instance, inserted, insert_at, insert, deleted, delete_at, delete, toggled, toggle_in, toggle, changed}
+use Rattle.xf_actions.specs.Changed.{where_told, tells_instance, inserted, insert_at, insert, deleted, delete_at, delete, toggled, toggle_in, toggle, changed}
 use Rattle.xf_actions.specs.Parts.{is_block}
-use Rattle.xf_actions.proofs.Flow.{bind-assoc, then-same, then-ok}
+use Rattle.xf_actions.proofs.Flow.{bind-assoc, then-same}
 use Rattle.xf_actions.proofs.Telling.{untold-told, where-told, one-told, two-told}
 
 -- ---- insert and delete
@@ -41,20 +39,20 @@ inserted-told p tell w location (place ∷ places) s =
     let origins = map (λ (q : Place). q.origin) (place ∷ places) in
     let all_put = λ (made : List ℕ × State). in_turn (machine.put_copy p made.0) (zip (place ∷ places) made.0) made.1 >>= reindex p made.0 in
     then-same (machine.copies_of p origins s) _ _ (λ made.
-        then-same (all_put made) _ _
-            (λ t. instance-told tell (codes "xforms-insert") (λ u. machine.insert_told u w.is_before made.0 origins location) (instance_holding s place.parent) t)
-        ∙ sym (bind-assoc (all_put made) _ (told tell)))
+    then-same (all_put made) _ _
+    (λ t. instance-told tell (codes "xforms-insert") (λ u. machine.insert_told u w.is_before made.0 origins location) (instance_holding s place.parent) t)
+    ∙ sym (bind-assoc (all_put made) _ (told tell)))
     ∙ sym (bind-assoc (machine.copies_of p origins s) _ (told tell))
 
 pub insert_at-told : (p : Profile) (tell : Tell) (x : Acting) (w : InsertBy) (c : Focus) (s : State)
     → machine.insert_at p tell x w c s ≡ insert_at p x w c s >>= told tell
 insert_at-told p tell x w c s =
     then-same (machine.set_asked p x c s) _ _ (λ set.
-        then-same (machine.origin_asked p x c w.origin set s) _ _ (λ origin.
-            then-same (machine.at_asked p x w.at set s) _ _ (λ at.
-                inserted-told p tell w (machine.location_of at c set) (planned_insert s.forest.nodes (machine.asked_with w s c set origin at)) s)
-            ∙ sym (bind-assoc (machine.at_asked p x w.at set s) _ (told tell)))
-        ∙ sym (bind-assoc (machine.origin_asked p x c w.origin set s) _ (told tell)))
+    then-same (machine.origin_asked p x c w.origin set s) _ _ (λ origin.
+    then-same (machine.at_asked p x w.at set s) _ _ (λ at.
+    inserted-told p tell w (machine.location_of at c set) (planned_insert s.forest.nodes (machine.asked_with w s c set origin at)) s)
+    ∙ sym (bind-assoc (machine.at_asked p x w.at set s) _ (told tell)))
+    ∙ sym (bind-assoc (machine.origin_asked p x c w.origin set s) _ (told tell)))
     ∙ sym (bind-assoc (machine.set_asked p x c s) _ (told tell))
 
 pub insert-told : (p : Profile) (tell : Tell) (x : Acting) (w : InsertBy) (s : State)
@@ -69,16 +67,16 @@ deleted-told p tell location [] s = refl
 deleted-told p tell location (n ∷ ns) s =
     let all_cut = in_turn (λ m t. Ok (detach m t)) (n ∷ ns) s >>= reindex p [] in
     then-same all_cut _ _
-        (λ t. instance-told tell (codes "xforms-delete") (λ u. deletes.delete_told u (n ∷ ns) location) (instance_holding s n) t)
+    (λ t. instance-told tell (codes "xforms-delete") (λ u. deletes.delete_told u (n ∷ ns) location) (instance_holding s n) t)
     ∙ sym (bind-assoc all_cut _ (told tell))
 
 pub delete_at-told : (p : Profile) (tell : Tell) (x : Acting) (w : DeleteBy) (c : Focus) (s : State)
     → deletes.delete_at p tell x w c s ≡ delete_at p x w c s >>= told tell
 delete_at-told p tell x w c s =
     then-same (machine.set_asked p x c s) _ _ (λ set.
-        then-same (deletes.at_asked p x w.at set s) _ _ (λ at.
-            deleted-told p tell (deletes.location_of p.decimals set at) (planned_delete s.forest.nodes (deletes.asked_with s set at)) s)
-        ∙ sym (bind-assoc (deletes.at_asked p x w.at set s) _ (told tell)))
+    then-same (deletes.at_asked p x w.at set s) _ _ (λ at.
+    deleted-told p tell (deletes.location_of p.decimals set at) (planned_delete s.forest.nodes (deletes.asked_with s set at)) s)
+    ∙ sym (bind-assoc (deletes.at_asked p x w.at set s) _ (told tell)))
     ∙ sym (bind-assoc (machine.set_asked p x c s) _ (told tell))
 
 pub delete-told : (p : Profile) (tell : Tell) (x : Acting) (w : DeleteBy) (s : State)
@@ -104,10 +102,10 @@ toggle_in-told tell model one parent s =
     let k = choose.switch_number (element_at (interface s) parent).sort in
     let place = place_of_case (interface s) parent one in
     unless-told tell (place == get_or s.cases k 0)
-        (λ t. where_some (choose.named_copy t one) (choose.toggled tell model k place one) t)
-        (λ t. where_told (choose.named_copy t one) (toggled model k place one) t) s
-        (where-told tell (choose.toggled tell model k place one) (toggled model k place one) (choose.named_copy s one) s
-            (λ rows t. toggled-told tell model k place one rows t))
+    (λ t. where_some (choose.named_copy t one) (choose.toggled tell model k place one) t)
+    (λ t. where_told (choose.named_copy t one) (toggled model k place one) t) s
+    (where-told tell (choose.toggled tell model k place one) (toggled model k place one) (choose.named_copy s one) s
+    (λ rows t. toggled-told tell model k place one rows t))
 
 pub toggle-told : (tell : Tell) (model one : ℕ) (s : State) → choose.toggle tell model one s ≡ toggle model one s >>= told tell
 toggle-told tell model one s = where-told tell _ _ (element_at (interface s) one).parent s (λ parent t. toggle_in-told tell model one parent t)

@@ -12,7 +12,7 @@ use Rattle.xf_form_machine.specs.Program as work
 use Rattle.xf_form_machine.specs.Profile.{Profile}
 use Rattle.xf_form_machine.specs.State.{State}
 use Rattle.xf_form_machine.specs.Refusal.{Refused}
-use Rattle.xf_form_machine.specs.Flow.{◌>>=◌, where_some, in_turn}
+use Rattle.xf_form_machine.specs.Flow.{◌>>=◌, in_turn}
 use Rattle.xf_form_machine.specs.Surround.{Told, interface, instance_holding}
 use Rattle.xf_form_machine.specs.Primitives.{in_model, refresh_due, set_case, detach}
 use Rattle.xf_form_machine.specs.Update.{reindex}

@@ -1,6 +1,6 @@
 -- The default action of an event apart from telling its events: what it changes, the events that are told, and the end of a submission, which
 -- is told after them.
-use Rattle.std.specs.Prelude.{ℕ, Bool, List, [], ◌∷◌, Option, Some, None, option_map, bytes_eq, codes, slice_get, Result, Ok, Err, if◌then◌else◌}
+use Rattle.std.specs.Prelude.{ℕ, List, [], Option, Some, None, option_map, bytes_eq, codes, slice_get, Result, Ok, Err, if◌then◌else◌}
 use Rattle.xf_ast.specs.declared.form.Submission.{Submission}
 use Rattle.xf_form_machine.specs.Program.{Role, role_at}
 use Rattle.xf_form_machine.specs.Program as role
@@ -13,10 +13,10 @@ use Rattle.xf_form_machine.specs.Update.{due_revalidation, refresh_cleared}
 use Rattle.xf_form_machine.specs.Construct.{reset}
 use Rattle.xf_form_machine.specs.Default.{recalculate_now, revalidate_now}
 use Rattle.xf_form_machine.specs.Events.{Fired, Tell}
-use Rattle.xf_actions.specs.Told.{Telling, quietly, refreshed}
+use Rattle.xf_actions.specs.Told.{Telling, refreshed}
 use Rattle.xf_actions.specs.Changed as work
 use Rattle.xf_actions.specs.Changed.{untold}
-use Rattle.xf_actions.specs.Sent.{End, Sent, Sends, sent, end_event}
+use Rattle.xf_actions.specs.Sent.{End, Sent, sent, end_event}
 
 -- how the submission of this number ended
 pub record Ending : Type 0 where

@@ -39,9 +39,9 @@ Makes means view new (Ok x) given = given ≡ Ok (view x, new)
 Makes means view new (Err fault) given = Refuses (means fault) new.calls given
 
 -- one that changes the state and gives a value, both seen by view
-abbrev pub Gives : {F T X : Type 0} → (F → Option Refusal) → (T → X) → State → Result T F → Result X Refused → Type 0
-Gives means view new (Ok x) given = given ≡ Ok (view x)
-Gives means view new (Err fault) given = Refuses (means fault) new.calls given
+abbrev pub Leaves : {F T X : Type 0} → (F → Option Refusal) → (T → X) → State → Result T F → Result X Refused → Type 0
+Leaves means view new (Ok x) given = given ≡ Ok (view x)
+Leaves means view new (Err fault) given = Refuses (means fault) new.calls given
 
 -- one that only gives a value
 abbrev pub Reads : {F T X : Type 0} → (F → Option Refusal) → (T → X) → State → Result T F → Result X Refused → Type 0

@@ -1,6 +1,5 @@
 -- What the types of the code stand for in the machine.
 use Rattle.std.specs.Prelude.{ℕ, ◌≡◌, List, map, Option, Some, None, option_map, slice_get}
-use Rattle.xf_lang.specs.declared.value.Value.{Value}
 use Rattle.xf_ast.specs.declared.form.Form.{Form}
 use Rattle.xf_ui.specs.Interface.{interface_of}
 use Rattle.xf_form_machine.specs.Program.{Program}

@@ -1,6 +1,6 @@
 -- A submission (XForms 1.1, section 11.2) apart from telling its events: what it changes, the notifications that are told, and how it ended,
 -- which is told after them.
-use Rattle.std.specs.Prelude.{ℕ, Bool, List, [], ◌∷◌, length, codes, nat_le, Option, Some, None, slice_get, Result, Ok, Err, if◌then◌else◌}
+use Rattle.std.specs.Prelude.{ℕ, Bool, List, [], ◌∷◌, length, codes, nat_le, Option, Some, None, Result, Ok, Err, if◌then◌else◌}
 use Rattle.std.specs.Str.{is_utf8}
 use Rattle.xf_name.specs.declared.lit.Lit.{Lit}
 use Rattle.xf_json.specs.declared.fault.JsonFault.{JsonFault}
@@ -18,8 +18,8 @@ use Rattle.xf_form_machine.specs.declared.note.Note.TheVariants as note
 use Rattle.xf_form_machine.specs.Profile.{Profile}
 use Rattle.xf_form_machine.specs.State.{State}
 use Rattle.xf_form_machine.specs.Refusal.{Refused, or_long}
-use Rattle.xf_form_machine.specs.Flow.{Run, ◌>>=◌, in_turn, where_some}
-use Rattle.xf_form_machine.specs.Surround.{Told, scope, model_holding}
+use Rattle.xf_form_machine.specs.Flow.{◌>>=◌, in_turn}
+use Rattle.xf_form_machine.specs.Surround.{scope, model_holding}
 use Rattle.xf_form_machine.specs.Primitives.{set_text, add_note}
 use Rattle.xf_form_machine.specs.Properties.{relevant_in, valid_in}
 use Rattle.xf_form_machine.specs.Behave.{rebuild, recalculate, revalidate}
@@ -28,7 +28,7 @@ use Rattle.xf_form_machine.specs.Construct.{replace}
 use Rattle.xf_form_machine.specs.Events.{Fired, Tell, fired_at, submission_element}
 use Rattle.xf_form_machine.specs.Submit.{target_by, takes_tree, takes_text, has_fault}
 use Rattle.xf_form_machine.specs.Exchange.{fits, with_call, unless_many, asked_by, is_store_name, done_told, failed_told}
-use Rattle.xf_actions.specs.Told.{Telling, quietly, refreshed}
+use Rattle.xf_actions.specs.Told.{Telling, refreshed}
 use Rattle.xf_actions.specs.Changed.{untold, where_told}
 
 -- ---- how it ended

@@ -1,14 +1,16 @@
 -- What is done before events are told, apart from telling them: each change of the machine that tells events is one that gives these events,
 -- and then tells them one after the other.
-use Rattle.std.specs.Prelude.{ℕ, Bool, true, false, List, [], ◌∷◌, map, length, Option, Some, None, Result, Ok, Err}
+use Rattle.std.specs.Prelude.{ℕ, Bool, true, false, List, [], map, length, Option, Some, None, Result, Ok}
 use Rattle.xf_ui.specs.Notifications.{notifications}
+use Rattle.xf_actions.specs.declared.world.Flag.{Flag}
+use Rattle.xf_actions.specs.declared.world.Flag.TheVariants.{Rebuild, Recalculate, Revalidate, Refresh}
 use Rattle.xf_form_machine.specs.Profile.{Profile}
-use Rattle.xf_form_machine.specs.State.{State}
+use Rattle.xf_form_machine.specs.State.{Flags, State}
 use Rattle.xf_form_machine.specs.Refusal.{Refused}
 use Rattle.xf_form_machine.specs.Flow.{Run, ◌>>=◌, in_turn}
 use Rattle.xf_form_machine.specs.Primitives.{spend}
 use Rattle.xf_form_machine.specs.Cycles.{counted_from}
-use Rattle.xf_form_machine.specs.Update.{reindex, shown, due_revalidation, is_refresh_due, all_cleared}
+use Rattle.xf_form_machine.specs.Update.{reindex, shown, due_revalidation, is_refresh_due, all_cleared, refresh_cleared}
 use Rattle.xf_form_machine.specs.Events.{Fired, Tell, told_by}
 
 -- a change with the events that are told after it
@@ -21,6 +23,19 @@ told tell (events, s) = in_turn tell events s
 -- nothing is told
 abbrev pub quietly : State → List Fired × State
 quietly s = ([], s)
+
+-- ---- flags
+
+abbrev pub is_set : Flag → Flags → Bool
+is_set Rebuild f = f.rebuild
+is_set Recalculate f = f.recalculate
+is_set Revalidate f = f.revalidate
+is_set Refresh f = f.refresh
+
+-- the refresh of one model, or of all, is no longer due
+abbrev pub cleared_by : Option ℕ → State → State
+cleared_by None s = all_cleared s
+cleared_by (Some model) s = refresh_cleared model s
 
 -- ---- a refresh
 

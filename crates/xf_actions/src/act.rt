@@ -17,13 +17,19 @@ use crate::acting::Acting;
 use crate::fault::WorldFault;
 use crate::fired::{Ending, Fired};
 use crate::parts::{holds_condition, holds_repetition, is_action, is_block, is_repeated};
+use crate::round::begin_round;
 use crate::work::change;
 use crate::world::World;
 
 /// Dispatches an event, where so many dispatches may stand one in the other. Where no action and no update is running, an update falls due
 /// after each handler and after the default action.
 #[cycle(act)]
-pub fn dispatch<W: World>(world: &mut W, fired: &Fired, depth: u32, is_idle: bool) -> Result<(), W::Fault>
+pub fn dispatch<W: World>(
+    world: &mut W,
+    fired: &Fired,
+    depth: u32,
+    is_idle: bool,
+) -> Result<(), W::Fault>
     ensures done { Runs W.Fault.means (W.state world.new) result (dispatches W.profile depth is_idle (fired_of fired.now) (W.state world.old)) }
     ensures form { (W.state world.new).form ≡ (W.state world.old).form }
 {
@@ -41,7 +47,13 @@ pub fn dispatch<W: World>(world: &mut W, fired: &Fired, depth: u32, is_idle: boo
 }
 
 #[cycle(act)]
-fn handle_all<W: World>(world: &mut W, fired: &Fired, handlers: &[u32], depth: u32, is_idle: bool) -> Result<(), W::Fault>
+fn handle_all<W: World>(
+    world: &mut W,
+    fired: &Fired,
+    handlers: &[u32],
+    depth: u32,
+    is_idle: bool,
+) -> Result<(), W::Fault>
     ensures done { Runs W.Fault.means (W.state world.new) result (in_turn (handles W.profile (dispatches W.profile depth) is_idle (fired_of fired.now)) handlers.now (W.state world.old)) }
     ensures form { (W.state world.new).form ≡ (W.state world.old).form }
 {
@@ -53,18 +65,34 @@ fn handle_all<W: World>(world: &mut W, fired: &Fired, handlers: &[u32], depth: u
 
 /// A handler acts, and where none is running the update after it.
 #[cycle(act)]
-fn handle<W: World>(world: &mut W, fired: &Fired, handler: u32, depth: u32, is_idle: bool) -> Result<(), W::Fault>
+fn handle<W: World>(
+    world: &mut W,
+    fired: &Fired,
+    handler: u32,
+    depth: u32,
+    is_idle: bool,
+) -> Result<(), W::Fault>
     ensures done { Runs W.Fault.means (W.state world.new) result (handles W.profile (dispatches W.profile depth) is_idle (fired_of fired.now) handler (W.state world.old)) }
     ensures form { (W.state world.new).form ≡ (W.state world.old).form }
 {
     let left = world.form().elements.len();
     act(world, fired, handler, depth, left)?;
-    if is_idle { update(world, depth) } else { Ok(()) }
+    if is_idle {
+        update(world, depth)
+    } else {
+        Ok(())
+    }
 }
 
 /// The action that is this element, of which at most so many stand one in the other.
 #[cycle(act)]
-fn act<W: World>(world: &mut W, fired: &Fired, element: u32, depth: u32, left: usize) -> Result<(), W::Fault>
+fn act<W: World>(
+    world: &mut W,
+    fired: &Fired,
+    element: u32,
+    depth: u32,
+    left: usize,
+) -> Result<(), W::Fault>
     ensures done { Runs W.Fault.means (W.state world.new) result (act_within left W.profile (dispatches W.profile depth false) (fired_of fired.now) element (W.state world.old)) }
     ensures form { (W.state world.new).form ≡ (W.state world.old).form }
 {
@@ -79,7 +107,13 @@ fn act<W: World>(world: &mut W, fired: &Fired, element: u32, depth: u32, left: u
 
 /// As often as its `while` holds: each test spends a turn.
 #[cycle(act)]
-fn repeat<W: World>(world: &mut W, fired: &Fired, acting: &Acting, depth: u32, left: usize) -> Result<(), W::Fault>
+fn repeat<W: World>(
+    world: &mut W,
+    fired: &Fired,
+    acting: &Acting,
+    depth: u32,
+    left: usize,
+) -> Result<(), W::Fault>
     ensures done { Runs W.Fault.means (W.state world.new) result (acted W.profile (dispatches W.profile depth false) (act_within left W.profile (dispatches W.profile depth false) (fired_of fired.now)) (acting_of fired.now acting.now) (act_at (W.state world.old) acting.now.element) (W.state world.old)) }
     ensures form { (W.state world.new).form ≡ (W.state world.old).form }
 {
@@ -98,7 +132,13 @@ fn repeat<W: World>(world: &mut W, fired: &Fired, acting: &Acting, depth: u32, l
 }
 
 #[cycle(act)]
-fn once<W: World>(world: &mut W, fired: &Fired, acting: &Acting, depth: u32, left: usize) -> Result<(), W::Fault>
+fn once<W: World>(
+    world: &mut W,
+    fired: &Fired,
+    acting: &Acting,
+    depth: u32,
+    left: usize,
+) -> Result<(), W::Fault>
     ensures done { Runs W.Fault.means (W.state world.new) result (once_done W.profile (dispatches W.profile depth false) (act_within left W.profile (dispatches W.profile depth false) (fired_of fired.now)) (acting_of fired.now acting.now) (act_at (W.state world.old) acting.now.element) (W.state world.old)) }
     ensures form { (W.state world.new).form ≡ (W.state world.old).form }
 {
@@ -114,7 +154,13 @@ fn once<W: World>(world: &mut W, fired: &Fired, acting: &Acting, depth: u32, lef
 }
 
 #[cycle(act)]
-fn act_all<W: World>(world: &mut W, fired: &Fired, parts: &[u32], depth: u32, left: usize) -> Result<(), W::Fault>
+fn act_all<W: World>(
+    world: &mut W,
+    fired: &Fired,
+    parts: &[u32],
+    depth: u32,
+    left: usize,
+) -> Result<(), W::Fault>
     ensures done { Runs W.Fault.means (W.state world.new) result (in_turn (act_within left W.profile (dispatches W.profile depth false) (fired_of fired.now)) parts.now (W.state world.old)) }
     ensures form { (W.state world.new).form ≡ (W.state world.old).form }
 {
@@ -126,7 +172,12 @@ fn act_all<W: World>(world: &mut W, fired: &Fired, parts: &[u32], depth: u32, le
 
 /// Events are told one after the other.
 #[cycle(act)]
-fn tell_all<W: World>(world: &mut W, events: &[Fired], depth: u32, is_idle: bool) -> Result<(), W::Fault>
+fn tell_all<W: World>(
+    world: &mut W,
+    events: &[Fired],
+    depth: u32,
+    is_idle: bool,
+) -> Result<(), W::Fault>
     ensures done { Runs W.Fault.means (W.state world.new) result (in_turn (dispatches W.profile depth is_idle) (map fired_of events.now) (W.state world.old)) }
     ensures form { (W.state world.new).form ≡ (W.state world.old).form }
 {
@@ -147,7 +198,7 @@ fn update<W: World>(world: &mut W, depth: u32) -> Result<(), W::Fault>
         if !world.is_due() {
             return Ok(());
         }
-        let events = world.begin_round()?;
+        let events = begin_round(world)?;
         tell_all(world, events.as_slice(), depth, false)?;
     }
     Err(W::Fault::budget())
@@ -155,16 +206,30 @@ fn update<W: World>(world: &mut W, depth: u32) -> Result<(), W::Fault>
 
 /// The default action of an event, and where none is running the update after it.
 #[cycle(act)]
-fn conclude<W: World>(world: &mut W, fired: &Fired, depth: u32, is_idle: bool) -> Result<(), W::Fault>
+fn conclude<W: World>(
+    world: &mut W,
+    fired: &Fired,
+    depth: u32,
+    is_idle: bool,
+) -> Result<(), W::Fault>
     ensures done { Runs W.Fault.means (W.state world.new) result (after_all W.profile (dispatches W.profile depth) is_idle (fired_of fired.now) (W.state world.old)) }
     ensures form { (W.state world.new).form ≡ (W.state world.old).form }
 {
     act_by_default(world, fired, depth, is_idle)?;
-    if is_idle { update(world, depth) } else { Ok(()) }
+    if is_idle {
+        update(world, depth)
+    } else {
+        Ok(())
+    }
 }
 
 #[cycle(act)]
-fn act_by_default<W: World>(world: &mut W, fired: &Fired, depth: u32, is_idle: bool) -> Result<(), W::Fault>
+fn act_by_default<W: World>(
+    world: &mut W,
+    fired: &Fired,
+    depth: u32,
+    is_idle: bool,
+) -> Result<(), W::Fault>
     ensures done { Runs W.Fault.means (W.state world.new) result (default W.profile (dispatches W.profile depth is_idle) (fired_of fired.now) (W.state world.old)) }
     ensures form { (W.state world.new).form ≡ (W.state world.old).form }
 {
@@ -175,7 +240,12 @@ fn act_by_default<W: World>(world: &mut W, fired: &Fired, depth: u32, is_idle: b
 
 /// The end of a submission is told, where there is one.
 #[cycle(act)]
-fn tell_end<W: World>(world: &mut W, ending: &Option<Ending>, depth: u32, is_idle: bool) -> Result<(), W::Fault>
+fn tell_end<W: World>(
+    world: &mut W,
+    ending: &Option<Ending>,
+    depth: u32,
+    is_idle: bool,
+) -> Result<(), W::Fault>
     ensures done { Runs W.Fault.means (W.state world.new) result (where_some (option_map (ending_of (W.state world.old).form) ending.now) (ended (dispatches W.profile depth is_idle)) (W.state world.old)) }
     ensures form { (W.state world.new).form ≡ (W.state world.old).form }
 {

@@ -6,6 +6,7 @@ mod acting;
 mod fault;
 mod fired;
 mod parts;
+mod round;
 mod work;
 mod world;
 
@@ -13,4 +14,4 @@ pub use act::dispatch;
 pub use acting::Acting;
 pub use fault::WorldFault;
 pub use fired::{Concluded, Ending, Fired, FiredList, Property, PropertyList};
-pub use world::World;
+pub use world::{Flag, World};

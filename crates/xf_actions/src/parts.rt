@@ -18,9 +18,15 @@ fn action_in(kind: &Kind) -> Option<&Action>
 {
     match kind {
         Kind::Action(action) => Some(action),
-        Kind::Host | Kind::Model(_) | Kind::Instance(_) | Kind::Bind(_) | Kind::Submission(_) => None,
+        Kind::Host | Kind::Model(_) | Kind::Instance(_) | Kind::Bind(_) | Kind::Submission(_) =>
+            None,
         Kind::Control(_, _) => None,
-        Kind::Item | Kind::Itemset | Kind::Choices | Kind::Label | Kind::Value(_) | Kind::Output(_) => None,
+        Kind::Item
+        | Kind::Itemset
+        | Kind::Choices
+        | Kind::Label
+        | Kind::Value(_)
+        | Kind::Output(_) => None,
     }
 }
 
@@ -58,7 +64,11 @@ pub fn is_repeated<W: World>(world: &W, element: u32) -> bool
     }
 }
 
-pub fn holds_condition<W: World>(world: &W, fired: &Fired, acting: &Acting) -> Result<bool, W::Fault>
+pub fn holds_condition<W: World>(
+    world: &W,
+    fired: &Fired,
+    acting: &Acting,
+) -> Result<bool, W::Fault>
     ensures { Reads W.Fault.means (λ b. b) (W.state world.now) result (holds W.profile (acting_of fired.now acting.now) (condition_in (act_at (W.state world.now) acting.now.element)) (W.state world.now)) }
 {
     match action_of(world.form(), acting.element) {
@@ -70,7 +80,11 @@ pub fn holds_condition<W: World>(world: &W, fired: &Fired, acting: &Acting) -> R
     }
 }
 
-pub fn holds_repetition<W: World>(world: &W, fired: &Fired, acting: &Acting) -> Result<bool, W::Fault>
+pub fn holds_repetition<W: World>(
+    world: &W,
+    fired: &Fired,
+    acting: &Acting,
+) -> Result<bool, W::Fault>
     ensures { Reads W.Fault.means (λ b. b) (W.state world.now) result (holds W.profile (acting_of fired.now acting.now) (repetition_in (act_at (W.state world.now) acting.now.element)) (W.state world.now)) }
 {
     match action_of(world.form(), acting.element) {

@@ -42,7 +42,11 @@ fn which<W: World>(world: &W, element: u32) -> Doing
 }
 
 /// What the work of an action changes. It gives the events that are told after it.
-pub fn change<W: World>(world: &mut W, fired: &Fired, acting: &Acting) -> Result<FiredList, W::Fault>
+pub fn change<W: World>(
+    world: &mut W,
+    fired: &Fired,
+    acting: &Acting,
+) -> Result<FiredList, W::Fault>
     ensures done { Makes W.Fault.means (map fired_of) (W.state world.new) result (changed W.profile (acting_of fired.now acting.now) (work_in (act_at (W.state world.old) acting.now.element)) (W.state world.old)) }
     ensures form { (W.state world.new).form ≡ (W.state world.old).form }
 {
@@ -75,7 +79,12 @@ fn set_value<W: World>(world: &mut W, fired: &Fired, acting: &Acting) -> Result<
     }
 }
 
-fn set_node<W: World>(world: &mut W, fired: &Fired, acting: &Acting, node: NodeId) -> Result<(), W::Fault>
+fn set_node<W: World>(
+    world: &mut W,
+    fired: &Fired,
+    acting: &Acting,
+    node: NodeId,
+) -> Result<(), W::Fault>
     ensures done { Runs W.Fault.means (W.state world.new) result (set_open W.profile (acting_of fired.now acting.now) (value_in (act_at (W.state world.old) acting.now.element)) node.number (W.state world.old)) }
     ensures form { (W.state world.new).form ≡ (W.state world.old).form }
 {
@@ -84,7 +93,12 @@ fn set_node<W: World>(world: &mut W, fired: &Fired, acting: &Acting, node: NodeI
     world.set_text(node, text.as_str())
 }
 
-fn value_text<W: World>(world: &W, fired: &Fired, acting: &Acting, node: NodeId) -> Result<Word, W::Fault>
+fn value_text<W: World>(
+    world: &W,
+    fired: &Fired,
+    acting: &Acting,
+    node: NodeId,
+) -> Result<Word, W::Fault>
     ensures { Reads W.Fault.means (λ w. w) (W.state world.now) result (value_asked W.profile (acting_of fired.now acting.now) (W.state world.now) node.number (value_in (act_at (W.state world.now) acting.now.element))) }
 {
     match action_of(world.form(), acting.element) {

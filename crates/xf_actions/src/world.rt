@@ -10,10 +10,11 @@ ghost use Rattle.xf_ui.specs.Labels.{words_of};
 ghost use Rattle.xf_form_machine.specs.Primitives.{spend as spent, set_text as text_set, add_note as noted};
 ghost use Rattle.xf_form_machine.specs.Properties.{readonly_in};
 ghost use Rattle.xf_form_machine.specs.Acting.{acting as acts, act_at, truth_for, text_for};
-ghost use Rattle.xf_form_machine.specs.Update.{is_due as due};
-ghost use Rattle.xf_actions.specs.Performs.{Runs, Makes, Gives, Reads};
+ghost use Rattle.xf_form_machine.specs.Behave.{model_at, rebuild as rebuilt, recalculate as recalculated, revalidate as revalidated};
+ghost use Rattle.xf_form_machine.specs.Update.{is_due as due, is_refresh_due as refresh_is_due};
+ghost use Rattle.xf_actions.specs.Performs.{Runs, Makes, Leaves, Reads};
 ghost use Rattle.xf_actions.specs.Seen.{IsProgram, fired_of, acting_of, concluded_of, ending_of};
-ghost use Rattle.xf_actions.specs.Told.{round_begun};
+ghost use Rattle.xf_actions.specs.Told.{cleared_by, is_set, refreshed};
 ghost use Rattle.xf_actions.specs.Changed.{changed};
 ghost use Rattle.xf_actions.specs.Defaulted.{defaulted, told_by_end};
 ghost use Rattle.xf_actions.specs.Parts.{work_in};
@@ -28,6 +29,15 @@ use xf_doc::NodeId;
 use xf_form_machine::Note;
 use xf_name::Word;
 use xf_ui::CallList;
+
+/// A behaviour of a model (XForms 1.1, section 4.3).
+#[derive(Clone, Copy, Debug, PartialEq, Eq)]
+pub enum Flag {
+    Rebuild,
+    Recalculate,
+    Revalidate,
+    Refresh,
+}
 
 /// The form machine, whoever keeps its state.
 pub trait World {
@@ -68,6 +78,7 @@ pub trait World {
     fn truth(&self, fired: &Fired, acting: &Acting, expr: &Expr) -> Result<bool, Self::Fault>
         ensures { Reads Self.Fault.means (λ b. b) (state self.now) result (truth_for profile (acting_of fired.now acting.now) (state self.now) (meaning expr.now)) };
 
+    /// The work of an action but for its parts, a setvalue and a message. It gives the events that are told after it.
     fn change(&mut self, fired: &Fired, acting: &Acting) -> Result<FiredList, Self::Fault>
         ensures done { Makes Self.Fault.means (map fired_of) (state self.new) result (changed profile (acting_of fired.now acting.now) (work_in (act_at (state self.old) acting.now.element)) (state self.old)) }
         ensures form { (state self.new).form ≡ (state self.old).form };
@@ -76,13 +87,37 @@ pub trait World {
     fn is_due(&self) -> bool
         ensures { result ≡ due (state self.now) };
 
-    fn begin_round(&mut self) -> Result<FiredList, Self::Fault>
-        ensures done { Makes Self.Fault.means (map fired_of) (state self.new) result (round_begun profile (state self.old)) }
+    /// Whether the refresh of a model is due.
+    fn is_refresh_due(&self) -> bool
+        ensures { result ≡ refresh_is_due (state self.now) };
+
+    fn model_count(&self) -> u32
+        ensures { result ≡ length (state self.now).models };
+
+    fn is_flagged(&self, model: u32, flag: Flag) -> bool
+        ensures { result ≡ is_set flag (model_at (state self.now) model).flags };
+
+    fn rebuild(&mut self, model: u32) -> Result<(), Self::Fault>
+        ensures done { Runs Self.Fault.means (state self.new) result (rebuilt profile model (state self.old)) }
+        ensures form { (state self.new).form ≡ (state self.old).form };
+
+    fn recalculate(&mut self, model: u32) -> Result<(), Self::Fault>
+        ensures done { Runs Self.Fault.means (state self.new) result (recalculated profile model (state self.old)) }
+        ensures form { (state self.new).form ≡ (state self.old).form };
+
+    fn revalidate(&mut self, model: u32) -> Result<(), Self::Fault>
+        ensures done { Runs Self.Fault.means (state self.new) result (Ok (revalidated profile model (state self.old))) }
+        ensures form { (state self.new).form ≡ (state self.old).form };
+
+    /// Brings the indexes up to date and makes the controls afresh. The refresh of one model is done with that, or that of all. It gives what is
+    /// told of the differences.
+    fn refresh(&mut self, model: Option<u32>) -> Result<FiredList, Self::Fault>
+        ensures done { Makes Self.Fault.means (map fired_of) (state self.new) result (refreshed profile (cleared_by model) (state self.old)) }
         ensures form { (state self.new).form ≡ (state self.old).form };
 
     /// The default action of an event.
     fn conclude(&mut self, fired: &Fired) -> Result<Concluded, Self::Fault>
-        ensures done { Gives Self.Fault.means (concluded_of (state self.old).form (state self.new)) (state self.new) result (defaulted profile (fired_of fired.now) (state self.old)) }
+        ensures done { Leaves Self.Fault.means (concluded_of (state self.old).form (state self.new)) (state self.new) result (defaulted profile (fired_of fired.now) (state self.old)) }
         ensures form { (state self.new).form ≡ (state self.old).form };
 
     /// The event that tells the end of a submission: none where there is no such submission.
@@ -103,7 +138,13 @@ pub trait World {
         ensures { Reads Self.Fault.means (λ u. state self.now) (state self.now) result (settable node.number (state self.now)) };
 
     /// The value of an expression at a node, as a text.
-    fn text_at(&self, fired: &Fired, acting: &Acting, node: NodeId, expr: &Expr) -> Result<Word, Self::Fault>
+    fn text_at(
+        &self,
+        fired: &Fired,
+        acting: &Acting,
+        node: NodeId,
+        expr: &Expr,
+    ) -> Result<Word, Self::Fault>
         ensures { Reads Self.Fault.means (λ w. w) (state self.now) result (text_for profile (acting_of fired.now acting.now) (state self.now) (alone node.number) (meaning expr.now)) };
 
     /// The text that stands in an element.

@@ -247,7 +247,7 @@ module _ (is_strict : Bool) (most : ℕ) (scope : Scope) (documents : List Docum
     lists = agree.lists;
     read = agree.read;
     looked = looked-known;
-    strings = λ n h i. agree.strings n i;
+    strings = agree.strings;
     texts_same = agree.texts;
     is_strict = is_strict;
     whole = lone;

@@ -327,8 +327,8 @@ module _ {is_strict : Bool} (scope : Scope) (b : Bounds) (forest : Forest) (entr
       lists = λ n h. ap (filter (λ (y : Visit). is_first n y.above)) kept_same;
       read = known-read;
       looked = λ p h none. known-looked p none;
-      strings = λ n h is_read. strings n is_read;
-      texts_same = λ k q x qs h t i is_read.
+      strings = λ n x h i t is_read l. strings n is_read;
+      texts_same = λ k q x qs h there t i is_read.
           kept-texts known all one other (forest-late forest.nodes around.trees.first) (λ p j. same-content (content_of one p) (content_of other p) j) va vb k x q qs h t i
           (let z = opened (found q (untexted A)) qs (va.closed k q qs x h i) in known-read q q z.0 is_read (solid-found A va q z.0 z.1).0 (not-of (is_text z.0.content) (solid-found A va q z.0 z.1).1) (or_left (q == q) (has q z.0.above) (eq-eqb q q refl)));
       is_strict = is_strict;

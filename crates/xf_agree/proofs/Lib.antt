@@ -20,6 +20,7 @@ pub mod LooseAgreement
 pub mod SettledStatic
 pub mod FormEntries
 pub mod FormSettled
+pub mod AskedStand
 pub mod ForestsMeet
 pub mod ForestNumbers
 pub mod OpenExamples

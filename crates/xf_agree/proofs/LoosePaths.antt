@@ -62,6 +62,17 @@ or-none : (a b : Bool) → (a || b) ≡ false → (a ≡ false) × (b ≡ false)
 or-none true b h = no (sym h)
 or-none false b h = (refl, h)
 
+untold : (written kind meets : Bool) → not (kind && meets) ≡ true → (written && kind && meets) ≡ false
+untold true true true h = sym h
+untold true true false h = refl
+untold true false meets h = refl
+untold false kind meets h = refl
+
+unpaired : (below up beside : Bool) → not (below && (up || beside)) ≡ true → (below && up) ≡ false
+unpaired true true beside h = sym h
+unpaired true false beside h = refl
+unpaired false up beside h = refl
+
 not-told : (written kind meets : Bool) → ((kind && meets) ≡ true → written ≡ true) → (written && kind && meets) ≡ false → not (kind && meets) ≡ true
 not-told true true true h i = no (sym i)
 not-told false true true h i = no (h refl)
@@ -143,13 +154,25 @@ module _ {w : Comparison} (m : Meeting w) (step : Step-F Trace LinkTrace WalkTra
       solid : AllSolid w a.set
       solid = (fit.tight tight).1
 
+      -- without what was read before; the step itself reads nothing
+      abbrev before : Asked
+      before = record a { reads = [] }
+
+      step-reads : not (step.is_below && (goes_up step.axis || is_sibling step.axis)) ≡ true → (n : ℕ) → has n (asked_at before).reads ≡ true → false ≡ true
+      step-reads down n h =
+          sym (ap (λ b. has n (read_if b (flat_map (kind_read step.axis (U m)) from) ++ read_if (is_pair step.is_below step.axis) (flat_map (read_for (U m)) a.set))) (untold step.is_written (is_kind step.test) (meets_texts step.axis) plain_test)
+          ∙ ap (λ b. has n (read_if b (flat_map (read_for (U m)) a.set))) (unpaired step.is_below (goes_up step.axis) (is_sibling step.axis) down)) ∙ h
+
+      step-premise : not (step.is_below && (goes_up step.axis || is_sibling step.axis)) ≡ true → Premise w (asked_at before)
+      step-premise down = premise m (asked_at before) (step-reads down) p.looks
+
       exact-fit : not (step.is_below && (goes_up step.axis || is_sibling step.axis)) ≡ true → Alike (NodesFit m (asked_at a)) (taken_over s (map (λ (t : Trace). t.meaning) step.predicates) ns) (taken_over t (map (λ (t : Trace). t.meaning) step.predicates) ns)
       exact-fit down =
           let law : WalkLaw w walk = step-law w step (at_one w ps) (same ∙ sym (at-plain w ps)) plain_test down in
           let law_too : WalkLaw (swapped w) walk = step-law (swapped w) step (at_one (swapped w) ps) (same ∙ sym (at-plain (swapped w) ps)) plain_test down in
           alike-at (ap (taken_over s (map (λ (t : Trace). t.meaning) step.predicates)) (fit.tight tight).0) (ap (taken_over t (map (λ (t : Trace). t.meaning) step.predicates)) (fit.tight tight).0)
           (alike-weaker (alike-of (taken_over s (map (λ (t : Trace). t.meaning) step.predicates) a.set) (taken_over t (map (λ (t : Trace). t.meaning) step.predicates) a.set)
-          (law.agrees a tight solid (premise m (asked_at a) p)) (law_too.agrees a tight (λ k h. solid-swapped w k (solid k h)) (premise-swapped w (asked_at a) (premise m (asked_at a) p))))
+          (law.agrees before tight solid (step-premise down)) (law_too.agrees before tight (λ k h. solid-swapped w k (solid k h)) (premise-swapped w (asked_at before) (step-premise down))))
           (λ ks k. nodes-fit m (asked_at a) ks k.0 k.1))
 
       -- after `//` a step to siblings

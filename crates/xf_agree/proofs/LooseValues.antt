@@ -13,7 +13,7 @@ use Rattle.xf_lang.specs.Conversions.{nodes_of, number_of}
 use Rattle.xf_lang.specs.Comparisons.{compared}
 use Rattle.xf_lang.specs.Operators.{computed, united}
 use Rattle.xf_lang.specs.Functions.{first_name}
-use Rattle.xf_lang.specs.Asked.{Asked, found, read_for, both, with_read, all_read, first_node, asked_first, converted}
+use Rattle.xf_lang.specs.Asked.{Asked, found, lists_below, read_for, both, with_read, all_read, first_node, asked_first, converted}
 use Rattle.xf_lang.specs.AskedCalls.{beside, asked_by_both, computed as asked_computed, either}
 use Rattle.xf_lang.proofs.VisitFacts.{self-same, or-cases, or-left, or-right, no, found-number, present}
 use Rattle.xf_lang.proofs.SameKept.{has-left, has-right, has-append}
@@ -55,8 +55,9 @@ module _ {w : Comparison} (m : Meeting w) where
   pub less : (a b : Asked) → Within a.reads b.reads → Within a.looks b.looks → Asks m b → Asks m a
   less a b r l p = record { reads = λ n h. p.reads n (r n h); looks = λ n h. p.looks n (l n h) }
 
-  pub premise : (a : Asked) → Asks m a → Premise w a
-  premise a p = record { lists = agree-less w p.looks m.agree; strings = read-less w a.reads m.reads p.reads m.strings }
+  -- of what reads nothing
+  pub premise : (a : Asked) → ((n : ℕ) → has n a.reads ≡ true → false ≡ true) → Within a.looks m.looks → Premise w a
+  premise a none p = record { lists = agree-less w p m.agree; strings = λ n i h. no (none n h) }
 
   pub left-both : (a b : Asked) → Asks m (both a b) → Asks m a
   left-both a b p = less a (both a b) (λ n h. has-left n a.reads b.reads h) (λ n h. has-left n a.looks b.looks h) p
@@ -109,8 +110,8 @@ module _ {w : Comparison} (m : Meeting w) where
 
   -- ---- strings
 
-  strings-good : (set : List ℕ) (k : ℕ) → Good m set k → Within (flat_map (read_for (U m)) set) m.reads → w.setting.strings k ≡ w.strings k
-  strings-good set k g reads = by (is_text g.visit.content) refl
+  strings-good : (set : List ℕ) (k : ℕ) → Good m set k → Within (flat_map (read_for (U m)) set) m.reads → Within (flat_map (lists_below (U m)) set) m.looks → w.setting.strings k ≡ w.strings k
+  strings-good set k g reads looks = by (is_text g.visit.content) refl
     where
       e : found k (A m) ≡ Some g.visit
       e = (kept-first m k g.visit g.in_first).0
@@ -118,10 +119,12 @@ module _ {w : Comparison} (m : Meeting w) where
       by : (b : Bool) → is_text g.visit.content ≡ b → w.setting.strings k ≡ w.strings k
       by true i =
           let p = m.shaped.hung k g.visit e i in
-          m.texts_same k p.0 g.visit p.1.above e i p.4 (reads p.0 (flat-within (read_for (U m)) (stand m g.visit) set g.asked p.0 (text-reader m.shaped k g.visit e i p.0 p.1.above p.4)))
+          m.texts_same k p.0 g.visit p.1.above e (kept-second m k g.visit g.in_second).0 i p.4 (reads p.0 (flat-within (read_for (U m)) (stand m g.visit) set g.asked p.0 (text-reader m.shaped k g.visit e i p.0 p.1.above p.4)))
       by false i =
-          m.strings k (present k (U m) g.visit (stays-found m.shaped k g.visit e (solid-stays m.shaped g.visit i)))
+          let own : stand m g.visit ≡ k = cov-solid m.shaped g.visit i ∙ found-number k (A m) g.visit e in
+          m.strings k g.visit e (kept-second m k g.visit g.in_second).0 i
           (reads k (flat-within (read_for (U m)) (stand m g.visit) set g.asked k (solid-reader m.shaped k g.visit e i)))
+          (λ j l. looks j (flat-within (lists_below (U m)) (stand m g.visit) set g.asked j (ap (λ n. has j (lists_below (U m) n)) own ∙ l)))
 
   first-of : (k : ℕ) (ns : List ℕ) → has k (first_node ns) ≡ true → has k ns ≡ true
   first-of k [] h = h
@@ -133,18 +136,21 @@ module _ {w : Comparison} (m : Meeting w) where
       reads : (b : Bool) → a.is_loose ≡ b → Within (flat_map (read_for (U m)) (asked_first b a.set)) m.reads
       reads b e j i = p.reads j (has-right j a.reads _ (ap (λ c. has j (flat_map (read_for (U m)) (asked_first c a.set))) e ∙ i))
 
+      looks : (b : Bool) → a.is_loose ≡ b → Within (flat_map (lists_below (U m)) (asked_first b a.set)) m.looks
+      looks b e j i = p.looks j (has-right j a.looks _ (ap (λ c. has j (flat_map (lists_below (U m)) (asked_first c a.set))) e ∙ i))
+
       by : (b : Bool) → a.is_loose ≡ b → w.setting.strings k ≡ w.strings k
-      by true e = strings-good a.set k (f.good k (first-of k (nodes_of v) h)) (reads true e)
+      by true e = strings-good a.set k (f.good k (first-of k (nodes_of v) h)) (reads true e) (looks true e)
       by false e =
           let tight = f.tight e in
           let i : has k (first_node a.set) ≡ true = ap (λ ns. has k (first_node ns)) (sym tight.0) ∙ h in
-          strings-good (first_node a.set) k (solid-good (first_node a.set) k (tight.1 k (first-of k a.set i)) i) (λ j l. reads false e j (same j a.set l))
+          strings-good (first_node a.set) k (solid-good (first_node a.set) k (tight.1 k (first-of k a.set i)) i) (λ j l. reads false e j (same (read_for (U m)) j a.set l)) (λ j l. looks false e j (same (lists_below (U m)) j a.set l))
         where
-          same : (j : ℕ) (set : List ℕ) → has j (flat_map (read_for (U m)) (first_node set)) ≡ true → has j (flat_map (read_for (U m)) (asked_first false set)) ≡ true
-          same j set l = l
+          same : (g : ℕ → List ℕ) (j : ℕ) (set : List ℕ) → has j (flat_map g (first_node set)) ≡ true → has j (flat_map g (asked_first false set)) ≡ true
+          same g j set l = l
 
   pub strings-all : (a : Asked) (v : Value) → Fits m a v → Asks m (all_read u a) → StringsOn w (nodes_of v)
-  strings-all a v f p k h = strings-good a.set k (f.good k h) (λ j i. p.reads j (has-right j a.reads _ i))
+  strings-all a v f p k h = strings-good a.set k (f.good k h) (λ j i. p.reads j (has-right j a.reads _ i)) (λ j i. p.looks j (has-right j a.looks _ i))
 
   -- what is made of a value by its first node
   pub made : {X : Type 0} (k k' : Value → Option X) → ((v : Value) → StringsOn w (first_node (nodes_of v)) → k' v ≡ k v) →

@@ -41,8 +41,9 @@ pub record Meeting (w : Comparison) : Type 0 where
   pub lists : SameLists looks (kept known w.setting.all) (kept known w.others)
   pub read : (n p : ℕ) (z : Visit) → has n reads ≡ true → found p w.setting.all ≡ Some z → is_text z.content ≡ false → has n (p ∷ z.above) ≡ true → known p ≡ true
   pub looked : (p : ℕ) → has p looks ≡ true → is_some (texts p) ≡ false → known p ≡ true
-  pub strings : AgreeOnStrings reads w.shape w.setting.strings w.strings
-  pub texts_same : (k q : ℕ) (x : Visit) (qs : List ℕ) → found k w.setting.all ≡ Some x → is_text x.content ≡ true → x.above ≡ q ∷ qs → has q reads ≡ true → w.setting.strings k ≡ w.strings k
+  -- a node whose string is asked, with the lists below it; a text in a node that is read
+  pub strings : (n : ℕ) (x : Visit) → found n w.setting.all ≡ Some x → found n w.others ≡ Some x → is_text x.content ≡ false → has n reads ≡ true → Within (lists_below w.shape n) looks → w.setting.strings n ≡ w.strings n
+  pub texts_same : (k q : ℕ) (x : Visit) (qs : List ℕ) → found k w.setting.all ≡ Some x → found k w.others ≡ Some x → is_text x.content ≡ true → x.above ≡ q ∷ qs → has q reads ≡ true → w.setting.strings k ≡ w.strings k
   -- steps from texts to texts beside them are ruled out, or no such texts stand side by side
   pub is_strict : Bool
   pub whole : is_strict ≡ false → (n : ℕ) (x : Visit) → found n w.setting.all ≡ Some x → is_gone texts x ≡ true → IsLone shaped x

@@ -12,7 +12,7 @@ use Rattle.xf_lang.specs.Given.{Document, Given, document_of}
 use Rattle.xf_lang.specs.Setting.{Setting, Focus, ◌>>=◌}
 use Rattle.xf_lang.specs.Conversions.{string_of}
 use Rattle.xf_lang.specs.Meaning.{meaning}
-use Rattle.xf_lang.specs.Asked.{Asked, found, list_around, converted}
+use Rattle.xf_lang.specs.Asked.{Asked, found, list_around, lists_below, converted}
 use Rattle.xf_lang.specs.Reads.{trace}
 use Rattle.xf_lang.specs.Same.{renumbered_document, renumbered_focus}
 use Rattle.xf_lang.specs.Agree.{numbers_of, untexted, HaveOneFrame}
@@ -40,10 +40,12 @@ pub record AgreeOn (known : ℕ → Bool) (reads looks : List ℕ) (scope : Scop
   -- the lists that are looked at are the same, and in those with elements the texts are known
   pub lists : (n : ℕ) → has n looks ≡ true → filter (λ y. is_first n y.above) (kept known (bare first)) ≡ filter (λ y. is_first n y.above) (kept known (bare second))
   pub looked : (p : ℕ) → has p looks ≡ true → has_elements (visits first.nodes) p ≡ true → known p ≡ true
-  -- the texts at and below the nodes that are read are known, and have the same characters
+  -- the texts at and below the nodes that are read are known; where they stand in both they have the same characters, and so have the nodes
+  -- whose lists from them down are looked at too
   pub read : (n p : ℕ) (z : Visit) → has n reads ≡ true → found p (bare first) ≡ Some z → is_text z.content ≡ false → has n (p ∷ z.above) ≡ true → known p ≡ true
-  pub strings : (n : ℕ) → has n reads ≡ true → string_value n (visits first.nodes) ≡ string_value n (visits second.nodes)
-  pub texts : (k q : ℕ) (x : Visit) (qs : List ℕ) → found k (bare first) ≡ Some x → is_text x.content ≡ true → x.above ≡ q ∷ qs → has q reads ≡ true → string_value k (visits first.nodes) ≡ string_value k (visits second.nodes)
+  pub strings : (n : ℕ) (z : Visit) → found n (bare first) ≡ Some z → found n (bare second) ≡ Some z → is_text z.content ≡ false → has n reads ≡ true →
+      ((m : ℕ) → has m (lists_below (map erased (shape (visits first.nodes))) n) ≡ true → has m looks ≡ true) → string_value n (visits first.nodes) ≡ string_value n (visits second.nodes)
+  pub texts : (k q : ℕ) (x : Visit) (qs : List ℕ) → found k (bare first) ≡ Some x → found k (bare second) ≡ Some x → is_text x.content ≡ true → x.above ≡ q ∷ qs → has q reads ≡ true → string_value k (visits first.nodes) ≡ string_value k (visits second.nodes)
   -- an instance has the same document element in both where the list around it is looked at, and is in both or in neither
   pub same : (id : List ℕ) (n : ℕ) → document_of scope.model id scope.given.documents ≡ Some n → ((m : ℕ) → has m (list_around (map erased (shape (visits first.nodes))) n) ≡ true → has m looks ≡ true) →
       (document_of scope.model id documents ≡ Some n) × InBoth first second n

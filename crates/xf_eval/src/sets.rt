@@ -112,7 +112,7 @@ pub(crate) fn listed(alloc: Global, node: Option<NodeId>) -> Result<NodeList, Al
 }
 
 /// The nodes of a value: a plain value has none.
-pub(crate) fn nodes_in(alloc: Global, value: Value) -> NodeList
+pub fn nodes_in(alloc: Global, value: Value) -> NodeList
     ensures { result ≡ nodes_of value }
 {
     match value {

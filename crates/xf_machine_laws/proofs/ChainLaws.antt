@@ -1,5 +1,5 @@
 -- Each change keeps the chain of the behaviours that are due.
-use Rattle.std.proofs.Common.{ℕ, zero, suc, ◌≡◌, ◌+◌, Bool, true, false, List, [], ◌∷◌, ◌++◌, map, filter, length, nat_lt, get_or, Option, Some, None, Result, Ok, Err, refl, subst}
+use Rattle.std.proofs.Common.{ℕ, zero, suc, ◌≡◌, ◌+◌, false, List, [], ◌∷◌, ◌++◌, map, filter, length, nat_lt, get_or, Option, Some, None, Result, Ok, Err, refl, subst}
 use Rattle.xf_doc.specs.declared.fault.TreeFault.{TreeFault}
 use Rattle.xf_doc.specs.Forest.{Forest}
 use Rattle.xf_doc.specs.Visit.{parent_of, visits}
@@ -20,7 +20,7 @@ use Rattle.xf_form_machine.specs.NoteLines.{notes_size}
 use Rattle.xf_form_machine.specs.Profile.{Profile}
 use Rattle.xf_form_machine.specs.State.{Model, State}
 use Rattle.xf_form_machine.specs.Refusal.{Refused, word_of, unless_passed, if_over}
-use Rattle.xf_form_machine.specs.Flow.{Run, ◌>>=◌}
+use Rattle.xf_form_machine.specs.Flow.{◌>>=◌}
 use Rattle.xf_form_machine.specs.Surround.{interface, scope, all_in, model_holding, quiet}
 use Rattle.xf_form_machine.specs.Primitives.{spent_from, changed_at, in_model, in_some_model, all_due, texts_due, refresh_due, with_text_mark, with_list_mark, list_changed, with_forest, with_indexes, grown, grown_to, over_made, is_other_text, if_other, set_text, detach, add_note}
 use Rattle.xf_form_machine.specs.Behave.{no_model, model_at, asked_by_all, rebuilt_with, unless_cycle, no_cycle, by_applied, changes_of, with_contents, recalculated_with, settled_in, evaluated_more, recalculate, is_invalid, revalidated_with, revalidate}
@@ -117,7 +117,7 @@ applied-chained p model (Ok entries) s t h e =
     let change = rebuilt_with entries (edge_count (scope p s model) (shape_of s.forest.nodes) entries) in
     let after = in_model change model s in
     edges-chained p model entries (if_over (nat_lt p.edges (asked_by_all after)) Edges) after t
-        (changed-chained change model s.models (rebuilt-chained entries (edge_count (scope p s model) (shape_of s.forest.nodes) entries)) h) e
+    (changed-chained change model s.models (rebuilt-chained entries (edge_count (scope p s model) (shape_of s.forest.nodes) entries)) h) e
 
 recalculated-chained : (values : List Valued) (m : Model) → m.flags.rebuild ≡ false → Chained m → Chained (recalculated_with values m)
 recalculated-chained values m q c = record { rebuild = λ h. cc; recalculate = λ h. cc; revalidate = c.revalidate }
@@ -137,8 +137,8 @@ text-chained p n text s t h e =
     let after = with_text n text s.forest in
     let change = λ (m : Model). texts_due (if_other (is_other_text s n text) (with_text_mark n) m) in
     grown-chained p (length (new_texts n text s.forest)) (unless (passed_by_text p.bounds.limits (length text) after.nodes) after)
-        (in_some_model change (model_holding s n) s) t
-        (some-chained change (model_holding s n) s (λ m c. texts_due-chained (if_other (is_other_text s n text) (with_text_mark n) m)) h) e
+    (in_some_model change (model_holding s n) s) t
+    (some-chained change (model_holding s n) s (λ m c. texts_due-chained (if_other (is_other_text s n text) (with_text_mark n) m)) h) e
 
 note-chained : (p : Profile) (note : Note) (s t : State) → AreChained s → add_note p note s ≡ Ok t → AreChained t
 note-chained p note s t h e =
@@ -154,8 +154,8 @@ recalculate-chained p model s t q h e =
     let contents = settled_contents p.bounds (scope p s model) m.entries (all_in s) in
     let values = values_over p.bounds (scope p s model) m.entries (visits (with_contents contents s.forest).nodes) in
     settled-chained (map word_of (passed p.bounds (scope p s model) m.entries (all_in s)) ++ over_made p (s.made + made)) s t
-        (λ u. evaluated_more made count (settled_in p model m.entries contents u))
-        (known-chained (recalculated_with values) model s.models (recalculated-chained values m q) h) e
+    (λ u. evaluated_more made count (settled_in p model m.entries contents u))
+    (known-chained (recalculated_with values) model s.models (recalculated-chained values m q) h) e
 
 revalidate-chained : (p : Profile) (model : ℕ) (s : State) → (model_at s model).flags.recalculate ≡ false → AreChained s → AreChained (revalidate p model s)
 revalidate-chained p model s q h =

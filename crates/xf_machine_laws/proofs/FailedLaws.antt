@@ -1,5 +1,5 @@
 -- A submission that fails keeps the data.
-use Rattle.std.proofs.Common.{ℕ, ◌≡◌, List, [], ◌∷◌, length, nat_le, Bool, true, false, Option, Some, None, Result, Ok, Err, refl, ap, sym, ◌∙◌, subst, codes, if◌then◌else◌}
+use Rattle.std.proofs.Common.{ℕ, ◌≡◌, List, [], ◌∷◌, length, nat_le, Bool, true, false, Option, Some, None, Result, Ok, Err, refl, sym, subst, if◌then◌else◌}
 use Rattle.std.specs.Str.{is_utf8}
 use Rattle.xf_name.specs.declared.lit.Lit.{Lit}
 use Rattle.xf_json.specs.declared.fault.JsonFault.{JsonFault}
@@ -19,8 +19,8 @@ use Rattle.xf_form_machine.specs.Flow.{Run, ◌>>=◌}
 use Rattle.xf_form_machine.specs.Events.{Tell}
 use Rattle.xf_form_machine.specs.Properties.{relevant_in, valid_in}
 use Rattle.xf_form_machine.specs.Surround.{scope}
-use Rattle.xf_form_machine.specs.Submit.{Ended, done, failed, Sending, then_done, target_by, takes_tree, takes_text, put_tree, put_text, on_target, has_fault, with_tree, with_text, respond, answered}
-use Rattle.xf_form_machine.specs.Exchange.{fits, with_call, unless_many, exchange, asked_by, is_store_name, selected, attempt}
+use Rattle.xf_form_machine.specs.Submit.{failed, Sending, then_done, target_by, takes_tree, takes_text, put_tree, put_text, on_target, has_fault, with_tree, with_text, respond, answered}
+use Rattle.xf_form_machine.specs.Exchange.{fits, with_call, unless_many, asked_by, is_store_name, selected}
 use Rattle.xf_machine_laws.specs.Failed.{KeepsAllButCalls, FailedKeeps}
 
 -- ---- what is done does not fail, and what fails is as it was
@@ -53,14 +53,14 @@ tree-fails : (p : Profile) (tell : Tell) (sub : Submission) (n : ℕ) (error : L
 tree-fails p tell sub n error s t (Err fault) h = same-fails error _ s t h
 tree-fails p tell sub n error s t (Ok lit) h =
     if-fails error s t (has_fault s lit) _ _ (same-fails error _ s t)
-        (then-fails error s t (target_by p sub n s sub.target sub.instance) _ (λ target. target-fails error s t takes_tree (put_tree p tell lit) target)) h
+    (then-fails error s t (target_by p sub n s sub.target sub.instance) _ (λ target. target-fails error s t takes_tree (put_tree p tell lit) target)) h
 
 text-fails : (p : Profile) (tell : Tell) (sub : Submission) (n : ℕ) (error : List ℕ) (s t : State) (bytes : List ℕ)
     → Fails error s t (with_text p tell sub n s bytes)
 text-fails p tell sub n error s t bytes h =
     if-fails error s t (is_utf8 bytes) _ _
-        (then-fails error s t (target_by p sub n s sub.target sub.instance) _ (λ target. target-fails error s t takes_text (put_text p tell bytes) target))
-        (same-fails error _ s t) h
+    (then-fails error s t (target_by p sub n s sub.target sub.instance) _ (λ target. target-fails error s t takes_text (put_text p tell bytes) target))
+    (same-fails error _ s t) h
 
 respond-fails : (p : Profile) (tell : Tell) (sub : Submission) (n : ℕ) (error : List ℕ) (s t : State) (bytes : List ℕ) (how : Replace)
     → Fails error s t (respond p tell sub n s bytes how)
@@ -104,7 +104,7 @@ selected-keeps p tell sub s no_data = same-keeps s _
 selected-keeps p tell sub s (invalid n) = same-keeps s _
 selected-keeps p tell sub s (left n kept) =
     if-keeps s (is_store_name sub.resource) _ _
-        (call-keeps p tell sub n (asked_by sub n kept s sub.method) (nat_le p.sends (length s.calls)) s) (same-keeps s _)
+    (call-keeps p tell sub n (asked_by sub n kept s sub.method) (nat_le p.sends (length s.calls)) s) (same-keeps s _)
 
 long-keeps : (p : Profile) (tell : Tell) (sub : Submission) (s : State) (o : Option Submitted) → Keeps s (or_long s o >>= selected p tell sub s)
 long-keeps p tell sub s None error t h = cc

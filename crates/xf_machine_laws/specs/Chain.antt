@@ -1,5 +1,5 @@
 -- The behaviours that are due (XForms 1.1, section 4.3): one that is due carries those after it, in each model and after each change.
-use Rattle.std.specs.Prelude.{ℕ, ◌≡◌, true, false, List, Result, Ok}
+use Rattle.std.specs.Prelude.{ℕ, ◌≡◌, true, false, List, Ok}
 use Rattle.xf_model.specs.Pertinent.{AllOf}
 use Rattle.xf_form_machine.specs.declared.note.Note.{Note}
 use Rattle.xf_form_machine.specs.Profile.{Profile}

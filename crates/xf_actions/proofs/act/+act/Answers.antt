@@ -26,21 +26,21 @@ dispatch-returns-in_err-called-clause-done g t c =
 pub dispatch-returns-in_err-handle_all-clause-done : goal.dispatch-returns-in_err-handle_all-clause-done
 dispatch-returns-in_err-handle_all-clause-done g t c =
     stopped _ _ _ _ _ c.from_residual-in_err-handle_all.ensures.1
-        (same-refuses _ _ _ _ (dispatch-handles _ _ _ _ _ _ c.in_ok-called.called (omega arith) c.in_ok-spend.ensures.done c.in_ok-called.ensures)
-            (refuses-then _ _ _ _ (rw c.as_slice.ensures at c.in_err-handle_all.ensures.done)))
+    (same-refuses _ _ _ _ (dispatch-handles _ _ _ _ _ _ c.in_ok-called.called (omega arith) c.in_ok-spend.ensures.done c.in_ok-called.ensures)
+    (refuses-then _ _ _ _ (rw c.as_slice.ensures at c.in_err-handle_all.ensures.done)))
 
 pub dispatch-returns-then-called-clause-done : goal.dispatch-returns-then-called-clause-done
 dispatch-returns-then-called-clause-done g t c =
     same-runs _ _ _ _ _
-        (dispatch-after _ _ _ _ _ _ _ c.in_ok-called.called (omega arith) c.in_ok-spend.ensures.done c.in_ok-called.ensures
-            (rw c.as_slice.ensures at c.in_ok-handle_all.ensures.done)
-            ∙ when-true _ _ _ c.if-called.true)
-        c.conclude.ensures.done
+    (dispatch-after _ _ _ _ _ _ _ c.in_ok-called.called (omega arith) c.in_ok-spend.ensures.done c.in_ok-called.ensures
+    (rw c.as_slice.ensures at c.in_ok-handle_all.ensures.done)
+    ∙ when-true _ _ _ c.if-called.true)
+    c.conclude.ensures.done
 
 pub dispatch-returns-clause-done : goal.dispatch-returns-clause-done
 dispatch-returns-clause-done g t c =
     dispatch-after _ _ _ _ _ _ _ c.in_ok-called.called (omega arith) c.in_ok-spend.ensures.done c.in_ok-called.ensures
-        (rw c.as_slice.ensures at c.in_ok-handle_all.ensures.done)
+    (rw c.as_slice.ensures at c.in_ok-handle_all.ensures.done)
     ∙ when-false _ _ _ c.if-called.false
 
 -- ---- handlers
@@ -48,7 +48,7 @@ dispatch-returns-clause-done g t c =
 pub handle_all-returns-in_err-handle-clause-done : goal.handle_all-returns-in_err-handle-clause-done
 handle_all-returns-in_err-handle-clause-done g t c =
     stopped _ _ _ _ _ c.from_residual.ensures.1
-        (same-refuses _ _ _ _ c.loop-handler.invariant.rest (in_turn-stop {X = ℕ} (handle g.W.World.profile (dispatch g.W.World.profile c.args.depth) c.args.is_idle (fired_of c.args.fired.now)) c.args.handlers.now c.loop-handler.handler-index 0 _ _ _ (omega arith) c.in_err-handle.ensures.done))
+    (same-refuses _ _ _ _ c.loop-handler.invariant.rest (in_turn-stop {X = ℕ} (handle g.W.World.profile (dispatch g.W.World.profile c.args.depth) c.args.is_idle (fired_of c.args.fired.now)) c.args.handlers.now c.loop-handler.handler-index 0 _ _ _ (omega arith) c.in_err-handle.ensures.done))
 
 pub handle-returns-in_err-act-clause-done : goal.handle-returns-in_err-act-clause-done
 handle-returns-in_err-act-clause-done g t c =
@@ -57,7 +57,7 @@ handle-returns-in_err-act-clause-done g t c =
 pub handle-returns-then-is_idle-clause-done : goal.handle-returns-then-is_idle-clause-done
 handle-returns-then-is_idle-clause-done g t c =
     same-runs _ _ _ _ _ (handle-acted g.W.World.profile (dispatch g.W.World.profile c.args.depth) c.args.is_idle (fired_of c.args.fired.now) c.args.handler (g.W.World.state c.args.world.now) (g.W.World.state c.act.new.world) c.form.result.now c.len-left.result c.form.ensures c.len-left.ensures c.in_ok-act.ensures.done ∙ when-true _ _ _ c.if-is_idle.true)
-        c.update.ensures.done
+    c.update.ensures.done
 
 -- ---- default actions
 
@@ -72,14 +72,14 @@ act_by_default-returns-in_err-told-clause-done g t c =
 pub act_by_default-returns-in_err-tell_all-clause-done : goal.act_by_default-returns-in_err-tell_all-clause-done
 act_by_default-returns-in_err-tell_all-clause-done g t c =
     stopped _ _ _ _ _ c.from_residual-in_err-tell_all.ensures.1
-        (default-told_stops g.W.World.profile (dispatch g.W.World.profile c.args.depth c.args.is_idle) (fired_of c.args.fired.now) (g.W.World.state c.args.world.now) (concluded_of (g.W.World.state c.args.world.now).form (g.W.World.state c.conclude.new.self) c.in_ok-told.told) _ _ c.in_ok-told.ensures.done (rw c.as_slice.ensures at c.in_err-tell_all.ensures.done))
+    (default-told_stops g.W.World.profile (dispatch g.W.World.profile c.args.depth c.args.is_idle) (fired_of c.args.fired.now) (g.W.World.state c.args.world.now) (concluded_of (g.W.World.state c.args.world.now).form (g.W.World.state c.conclude.new.self) c.in_ok-told.told) _ _ c.in_ok-told.ensures.done (rw c.as_slice.ensures at c.in_err-tell_all.ensures.done))
 
 pub act_by_default-returns-clause-done : goal.act_by_default-returns-clause-done
 act_by_default-returns-clause-done g t c =
     same-runs _ _ _ _ _
-        (default-end g.W.World.profile (dispatch g.W.World.profile c.args.depth c.args.is_idle) (fired_of c.args.fired.now) (g.W.World.state c.args.world.now) (g.W.World.state c.conclude.new.self) (g.W.World.state c.tell_all.new.world) (g.W.World.state c.args.world.now).form c.in_ok-told.told c.in_ok-told.ensures.done (rw c.as_slice.ensures at c.in_ok-tell_all.ensures.done)
-            (c.in_ok-tell_all.ensures.form ∙ c.in_ok-told.ensures.form))
-        c.tell_end.ensures.done
+    (default-end g.W.World.profile (dispatch g.W.World.profile c.args.depth c.args.is_idle) (fired_of c.args.fired.now) (g.W.World.state c.args.world.now) (g.W.World.state c.conclude.new.self) (g.W.World.state c.tell_all.new.world) (g.W.World.state c.args.world.now).form c.in_ok-told.told c.in_ok-told.ensures.done (rw c.as_slice.ensures at c.in_ok-tell_all.ensures.done)
+    (c.in_ok-tell_all.ensures.form ∙ c.in_ok-told.ensures.form))
+    c.tell_end.ensures.done
 
 pub tell_end-returns-in_err-end_event-in-Some-clause-done : goal.tell_end-returns-in_err-end_event-in-Some-clause-done
 tell_end-returns-in_err-end_event-in-Some-clause-done g t c =
@@ -96,13 +96,13 @@ pub act-returns-in-Some-clause-done : goal.act-returns-in-Some-clause-done
 act-returns-in-Some-clause-done g t c =
     let there : is_some (act_at (g.W.World.state c.args.world.now) c.args.element) ≡ true = search rules in
     same-runs _ _ _ _ _
-        (act-acts-by c.args.left g.W.World.profile (dispatch g.W.World.profile c.args.depth false) (fired_of c.args.fired.now) c.args.element (acting_of c.args.fired.now) c.in_ok-acting.field-0 c.in-Some.acting (g.W.World.state c.args.world.now) (omega arith) there c.in_ok-acting.ensures c.in-Some.is)
-        c.repeat.ensures.done
+    (act-acts-by c.args.left g.W.World.profile (dispatch g.W.World.profile c.args.depth false) (fired_of c.args.fired.now) c.args.element (acting_of c.args.fired.now) c.in_ok-acting.field-0 c.in-Some.acting (g.W.World.state c.args.world.now) (omega arith) there c.in_ok-acting.ensures c.in-Some.is)
+    c.repeat.ensures.done
 
 pub act_all-returns-in_err-act-clause-done : goal.act_all-returns-in_err-act-clause-done
 act_all-returns-in_err-act-clause-done g t c =
     stopped _ _ _ _ _ c.from_residual.ensures.1
-        (same-refuses _ _ _ _ c.loop-part.invariant.rest (in_turn-stop {X = ℕ} (act_within c.args.left g.W.World.profile (dispatch g.W.World.profile c.args.depth false) (fired_of c.args.fired.now)) c.args.parts.now c.loop-part.part-index 0 _ _ _ (omega arith) c.in_err-act.ensures.done))
+    (same-refuses _ _ _ _ c.loop-part.invariant.rest (in_turn-stop {X = ℕ} (act_within c.args.left g.W.World.profile (dispatch g.W.World.profile c.args.depth false) (fired_of c.args.fired.now)) c.args.parts.now c.loop-part.part-index 0 _ _ _ (omega arith) c.in_err-act.ensures.done))
 
 pub once-returns-in_err-holds_condition-clause-done : goal.once-returns-in_err-holds_condition-clause-done
 once-returns-in_err-holds_condition-clause-done g t c =
@@ -119,19 +119,19 @@ once-returns-in_err-parts-clause-done g t c =
 pub once-returns-then-is_block-clause-done : goal.once-returns-then-is_block-clause-done
 once-returns-then-is_block-clause-done g t c =
     same-runs _ _ _ _ _
-        (once-block-by g.W.World.profile (dispatch g.W.World.profile c.args.depth false) (act_within c.args.left g.W.World.profile (dispatch g.W.World.profile c.args.depth false) (fired_of c.args.fired.now)) (acting_of c.args.fired.now c.args.acting.now) (act_at (g.W.World.state c.args.world.now) c.args.acting.now.element) (g.W.World.state c.args.world.now) c.in_ok-holds_condition.field-0 c.in_ok-parts.parts c.in_ok-holds_condition.ensures (search rules) (search rules) c.in_ok-parts.ensures)
-        (rw c.as_slice.ensures at c.act_all.ensures.done)
+    (once-block-by g.W.World.profile (dispatch g.W.World.profile c.args.depth false) (act_within c.args.left g.W.World.profile (dispatch g.W.World.profile c.args.depth false) (fired_of c.args.fired.now)) (acting_of c.args.fired.now c.args.acting.now) (act_at (g.W.World.state c.args.world.now) c.args.acting.now.element) (g.W.World.state c.args.world.now) c.in_ok-holds_condition.field-0 c.in_ok-parts.parts c.in_ok-holds_condition.ensures (search rules) (search rules) c.in_ok-parts.ensures)
+    (rw c.as_slice.ensures at c.act_all.ensures.done)
 
 pub once-returns-in_err-events-clause-done : goal.once-returns-in_err-events-clause-done
 once-returns-in_err-events-clause-done g t c =
     stopped _ _ _ _ _ c.from_residual-in_err-events.ensures.1
-        (once-changes-stop g.W.World.profile (dispatch g.W.World.profile c.args.depth false) (act_within c.args.left g.W.World.profile (dispatch g.W.World.profile c.args.depth false) (fired_of c.args.fired.now)) (acting_of c.args.fired.now c.args.acting.now) (act_at (g.W.World.state c.args.world.now) c.args.acting.now.element) (g.W.World.state c.args.world.now) c.in_ok-holds_condition.field-0 _ _ c.in_ok-holds_condition.ensures (search rules) (search rules) c.in_err-events.ensures.done)
+    (once-changes-stop g.W.World.profile (dispatch g.W.World.profile c.args.depth false) (act_within c.args.left g.W.World.profile (dispatch g.W.World.profile c.args.depth false) (fired_of c.args.fired.now)) (acting_of c.args.fired.now c.args.acting.now) (act_at (g.W.World.state c.args.world.now) c.args.acting.now.element) (g.W.World.state c.args.world.now) c.in_ok-holds_condition.field-0 _ _ c.in_ok-holds_condition.ensures (search rules) (search rules) c.in_err-events.ensures.done)
 
 pub once-returns-clause-done : goal.once-returns-clause-done
 once-returns-clause-done g t c =
     same-runs _ _ _ _ _
-        (once-changed g.W.World.profile (dispatch g.W.World.profile c.args.depth false) (act_within c.args.left g.W.World.profile (dispatch g.W.World.profile c.args.depth false) (fired_of c.args.fired.now)) (acting_of c.args.fired.now c.args.acting.now) (act_at (g.W.World.state c.args.world.now) c.args.acting.now.element) (g.W.World.state c.args.world.now) (g.W.World.state c.change.new.world) c.in_ok-holds_condition.field-0 _ c.in_ok-holds_condition.ensures (search rules) (search rules) c.in_ok-events.ensures.done)
-        (rw c.as_slice-2.ensures at c.tell_all.ensures.done)
+    (once-changed g.W.World.profile (dispatch g.W.World.profile c.args.depth false) (act_within c.args.left g.W.World.profile (dispatch g.W.World.profile c.args.depth false) (fired_of c.args.fired.now)) (acting_of c.args.fired.now c.args.acting.now) (act_at (g.W.World.state c.args.world.now) c.args.acting.now.element) (g.W.World.state c.args.world.now) (g.W.World.state c.change.new.world) c.in_ok-holds_condition.field-0 _ c.in_ok-holds_condition.ensures (search rules) (search rules) c.in_ok-events.ensures.done)
+    (rw c.as_slice-2.ensures at c.tell_all.ensures.done)
 
 -- ---- a `while`
 
@@ -143,7 +143,7 @@ repeat-returns-then-not-is_repeated-clause-done g t c = same-runs _ _ _ _ _ (act
 pub tell_all-returns-in_err-dispatch-clause-done : goal.tell_all-returns-in_err-dispatch-clause-done
 tell_all-returns-in_err-dispatch-clause-done g t c =
     stopped _ _ _ _ _ c.from_residual.ensures.1
-        (same-refuses _ _ _ _ c.loop-fired.invariant.rest (told-stop (dispatch g.W.World.profile c.args.depth c.args.is_idle) fired_of c.args.events.now c.loop-fired.fired-index c.fired-item.result (g.W.World.state c.loop-fired.world) _ _ (omega arith) c.fired-item.is c.in_err-dispatch.ensures.done))
+    (same-refuses _ _ _ _ c.loop-fired.invariant.rest (told-stop (dispatch g.W.World.profile c.args.depth c.args.is_idle) fired_of c.args.events.now c.loop-fired.fired-index c.fired-item.result (g.W.World.state c.loop-fired.world) _ _ (omega arith) c.fired-item.is c.in_err-dispatch.ensures.done))
 
 pub tell_all-loop-fired-preserved : goal.tell_all-loop-fired-preserved
 tell_all-loop-fired-preserved g t c = record {
@@ -159,13 +159,13 @@ update-loop-round-init g t c = record { rest = update-begins g.W.World.profile (
 pub update-returns-in_err-events-clause-done : goal.update-returns-in_err-events-clause-done
 update-returns-in_err-events-clause-done g t c =
     stopped _ _ _ _ _ c.from_residual.ensures.1
-        (same-refuses _ _ _ _ c.loop-round.invariant.rest (rounds-stop _ g.W.World.profile (dispatch g.W.World.profile c.args.depth false) (g.W.World.state c.loop-round.world) _ _ (omega arith) (search rules) c.in_err-events.ensures.done))
+    (same-refuses _ _ _ _ c.loop-round.invariant.rest (rounds-stop _ g.W.World.profile (dispatch g.W.World.profile c.args.depth false) (g.W.World.state c.loop-round.world) _ _ (omega arith) (search rules) c.in_err-events.ensures.done))
 
 pub update-returns-in_err-tell_all-clause-done : goal.update-returns-in_err-tell_all-clause-done
 update-returns-in_err-tell_all-clause-done g t c =
     stopped _ _ _ _ _ c.from_residual-in_err-tell_all.ensures.1
-        (same-refuses _ _ _ _ c.loop-round.invariant.rest
-            (rounds-told_stop _ g.W.World.profile (dispatch g.W.World.profile c.args.depth false) (g.W.World.state c.loop-round.world) (g.W.World.state c.begin_round.new.self) _ _ _ (omega arith) (search rules) c.in_ok-events.ensures.done (rw c.as_slice.ensures at c.in_err-tell_all.ensures.done)))
+    (same-refuses _ _ _ _ c.loop-round.invariant.rest
+    (rounds-told_stop _ g.W.World.profile (dispatch g.W.World.profile c.args.depth false) (g.W.World.state c.loop-round.world) (g.W.World.state c.begin_round.new.world) _ _ _ (omega arith) (search rules) c.in_ok-events.ensures.done (rw c.as_slice.ensures at c.in_err-tell_all.ensures.done)))
 
 pub update-returns-clause-done : goal.update-returns-clause-done
 update-returns-clause-done g t c =
@@ -181,36 +181,36 @@ repeat-loop-test-init g t c =
 pub repeat-returns-in_err-spend-clause-done : goal.repeat-returns-in_err-spend-clause-done
 repeat-returns-in_err-spend-clause-done g t c =
     stopped _ _ _ _ _ c.from_residual.ensures.1
-        (same-refuses _ _ _ _ c.loop-test.invariant.rest (tested-stops _ g.W.World.profile (acting_of c.args.fired.now c.args.acting.now) (repetition_in (act_at (g.W.World.state c.args.world.now) c.args.acting.now.element)) (once_done g.W.World.profile (dispatch g.W.World.profile c.args.depth false) (act_within c.args.left g.W.World.profile (dispatch g.W.World.profile c.args.depth false) (fired_of c.args.fired.now)) (acting_of c.args.fired.now c.args.acting.now) (act_at (g.W.World.state c.args.world.now) c.args.acting.now.element)) (g.W.World.state c.loop-test.world) _ _ (omega arith) c.loop-test.invariant.written c.in_err-spend.ensures.done))
+    (same-refuses _ _ _ _ c.loop-test.invariant.rest (tested-stops _ g.W.World.profile (acting_of c.args.fired.now c.args.acting.now) (repetition_in (act_at (g.W.World.state c.args.world.now) c.args.acting.now.element)) (once_done g.W.World.profile (dispatch g.W.World.profile c.args.depth false) (act_within c.args.left g.W.World.profile (dispatch g.W.World.profile c.args.depth false) (fired_of c.args.fired.now)) (acting_of c.args.fired.now c.args.acting.now) (act_at (g.W.World.state c.args.world.now) c.args.acting.now.element)) (g.W.World.state c.loop-test.world) _ _ (omega arith) c.loop-test.invariant.written c.in_err-spend.ensures.done))
 
 pub repeat-returns-in_err-holds_repetition-clause-done : goal.repeat-returns-in_err-holds_repetition-clause-done
 repeat-returns-in_err-holds_repetition-clause-done g t c =
     stopped _ _ _ _ _ c.from_residual-in_err-holds_repetition.ensures.1
-        (same-refuses _ _ _ _ c.loop-test.invariant.rest
-            (tests-unread _ g.W.World.profile (dispatch g.W.World.profile c.args.depth false) (act_within c.args.left g.W.World.profile (dispatch g.W.World.profile c.args.depth false) (fired_of c.args.fired.now)) (acting_of c.args.fired.now c.args.acting.now) (g.W.World.state c.args.world.now) c.args.acting.now.element (g.W.World.state c.loop-test.world) (g.W.World.state c.spend.new.self) _ _ (omega arith) c.loop-test.invariant.written (c.in_ok-spend.ensures.form ∙ c.loop-test.invariant.form)
-                c.in_ok-spend.ensures.done c.in_err-holds_repetition.ensures))
+    (same-refuses _ _ _ _ c.loop-test.invariant.rest
+    (tests-unread _ g.W.World.profile (dispatch g.W.World.profile c.args.depth false) (act_within c.args.left g.W.World.profile (dispatch g.W.World.profile c.args.depth false) (fired_of c.args.fired.now)) (acting_of c.args.fired.now c.args.acting.now) (g.W.World.state c.args.world.now) c.args.acting.now.element (g.W.World.state c.loop-test.world) (g.W.World.state c.spend.new.self) _ _ (omega arith) c.loop-test.invariant.written (c.in_ok-spend.ensures.form ∙ c.loop-test.invariant.form)
+    c.in_ok-spend.ensures.done c.in_err-holds_repetition.ensures))
 
 pub repeat-returns-then-not-branch-clause-done : goal.repeat-returns-then-not-branch-clause-done
 repeat-returns-then-not-branch-clause-done g t c =
     c.loop-test.invariant.rest
     ∙ tests-done _ g.W.World.profile (dispatch g.W.World.profile c.args.depth false) (act_within c.args.left g.W.World.profile (dispatch g.W.World.profile c.args.depth false) (fired_of c.args.fired.now)) (acting_of c.args.fired.now c.args.acting.now) (g.W.World.state c.args.world.now) c.args.acting.now.element (g.W.World.state c.loop-test.world) (g.W.World.state c.spend.new.self) c.in_ok-holds_repetition.field-0 (omega arith) c.loop-test.invariant.written
-        (c.in_ok-spend.ensures.form ∙ c.loop-test.invariant.form) c.in_ok-spend.ensures.done c.in_ok-holds_repetition.ensures (search rules)
+    (c.in_ok-spend.ensures.form ∙ c.loop-test.invariant.form) c.in_ok-spend.ensures.done c.in_ok-holds_repetition.ensures (search rules)
 
 pub repeat-returns-in_err-once-clause-done : goal.repeat-returns-in_err-once-clause-done
 repeat-returns-in_err-once-clause-done g t c =
     stopped _ _ _ _ _ c.from_residual-in_err-once.ensures.1
-        (same-refuses _ _ _ _ c.loop-test.invariant.rest
-            (tests-work_stops _ g.W.World.profile (dispatch g.W.World.profile c.args.depth false) (act_within c.args.left g.W.World.profile (dispatch g.W.World.profile c.args.depth false) (fired_of c.args.fired.now)) (acting_of c.args.fired.now c.args.acting.now) (g.W.World.state c.args.world.now) c.args.acting.now.element (g.W.World.state c.loop-test.world) (g.W.World.state c.spend.new.self) c.in_ok-holds_repetition.field-0 _ _ (omega arith) c.loop-test.invariant.written
-                (c.in_ok-spend.ensures.form ∙ c.loop-test.invariant.form) c.in_ok-spend.ensures.done c.in_ok-holds_repetition.ensures (search rules)
-                c.in_err-once.ensures.done))
+    (same-refuses _ _ _ _ c.loop-test.invariant.rest
+    (tests-work_stops _ g.W.World.profile (dispatch g.W.World.profile c.args.depth false) (act_within c.args.left g.W.World.profile (dispatch g.W.World.profile c.args.depth false) (fired_of c.args.fired.now)) (acting_of c.args.fired.now c.args.acting.now) (g.W.World.state c.args.world.now) c.args.acting.now.element (g.W.World.state c.loop-test.world) (g.W.World.state c.spend.new.self) c.in_ok-holds_repetition.field-0 _ _ (omega arith) c.loop-test.invariant.written
+    (c.in_ok-spend.ensures.form ∙ c.loop-test.invariant.form) c.in_ok-spend.ensures.done c.in_ok-holds_repetition.ensures (search rules)
+    c.in_err-once.ensures.done))
 
 pub repeat-loop-test-preserved : goal.repeat-loop-test-preserved
 repeat-loop-test-preserved g t c = record {
   rest =
-    c.loop-test.invariant.rest
-    ∙ tests-next _ _ g.W.World.profile (dispatch g.W.World.profile c.args.depth false) (act_within c.args.left g.W.World.profile (dispatch g.W.World.profile c.args.depth false) (fired_of c.args.fired.now)) (acting_of c.args.fired.now c.args.acting.now) (g.W.World.state c.args.world.now) c.args.acting.now.element (g.W.World.state c.loop-test.world) (g.W.World.state c.spend.new.self) (g.W.World.state c.once-in-loop-test.new.world) c.in_ok-holds_repetition.field-0 (omega arith) (omega arith) c.loop-test.invariant.written
-        (c.in_ok-spend.ensures.form ∙ c.loop-test.invariant.form) c.in_ok-spend.ensures.done c.in_ok-holds_repetition.ensures (search rules)
-        c.in_ok-once.ensures.done;
+      c.loop-test.invariant.rest
+      ∙ tests-next _ _ g.W.World.profile (dispatch g.W.World.profile c.args.depth false) (act_within c.args.left g.W.World.profile (dispatch g.W.World.profile c.args.depth false) (fired_of c.args.fired.now)) (acting_of c.args.fired.now c.args.acting.now) (g.W.World.state c.args.world.now) c.args.acting.now.element (g.W.World.state c.loop-test.world) (g.W.World.state c.spend.new.self) (g.W.World.state c.once-in-loop-test.new.world) c.in_ok-holds_repetition.field-0 (omega arith) (omega arith) c.loop-test.invariant.written
+      (c.in_ok-spend.ensures.form ∙ c.loop-test.invariant.form) c.in_ok-spend.ensures.done c.in_ok-holds_repetition.ensures (search rules)
+      c.in_ok-once.ensures.done;
   written = c.loop-test.invariant.written;
   form = c.in_ok-once.ensures.form ∙ (c.in_ok-spend.ensures.form ∙ c.loop-test.invariant.form);
 }
@@ -218,15 +218,15 @@ repeat-loop-test-preserved g t c = record {
 pub repeat-returns-clause-done : goal.repeat-returns-clause-done
 repeat-returns-clause-done g t c =
     same-refuses _ _ _ _ (c.loop-test.invariant.rest ∙ tested-end _ g.W.World.profile (acting_of c.args.fired.now c.args.acting.now) (repetition_in (act_at (g.W.World.state c.args.world.now) c.args.acting.now.element)) (once_done g.W.World.profile (dispatch g.W.World.profile c.args.depth false) (act_within c.args.left g.W.World.profile (dispatch g.W.World.profile c.args.depth false) (fired_of c.args.fired.now)) (acting_of c.args.fired.now c.args.acting.now) (act_at (g.W.World.state c.args.world.now) c.args.acting.now.element)) (g.W.World.state c.loop-test.world) (omega arith) c.loop-test.invariant.written)
-        (refuses-budget _ _ (g.W.World.state c.loop-test.world) c.budget.ensures)
+    (refuses-budget _ _ (g.W.World.state c.loop-test.world) c.budget.ensures)
 
 -- ---- the rounds of an update
 
 pub update-loop-round-preserved : goal.update-loop-round-preserved
 update-loop-round-preserved g t c = record {
   rest =
-    c.loop-round.invariant.rest
-    ∙ rounds-on _ _ g.W.World.profile (dispatch g.W.World.profile c.args.depth false) (g.W.World.state c.loop-round.world) (g.W.World.state c.begin_round.new.self) (g.W.World.state c.tell_all.new.world) _ (omega arith) (omega arith) (search rules) c.in_ok-events.ensures.done
-        (rw c.as_slice.ensures at c.in_ok-tell_all.ensures.done);
+      c.loop-round.invariant.rest
+      ∙ rounds-on _ _ g.W.World.profile (dispatch g.W.World.profile c.args.depth false) (g.W.World.state c.loop-round.world) (g.W.World.state c.begin_round.new.world) (g.W.World.state c.tell_all.new.world) _ (omega arith) (omega arith) (search rules) c.in_ok-events.ensures.done
+      (rw c.as_slice.ensures at c.in_ok-tell_all.ensures.done);
   form = c.in_ok-tell_all.ensures.form ∙ (c.in_ok-events.ensures.form ∙ c.loop-round.invariant.form);
 }

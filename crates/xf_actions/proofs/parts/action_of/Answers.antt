@@ -1,4 +1,4 @@
-use Rattle.std.proofs.Common.{◌≡◌, sym}
+use Rattle.std.proofs.Common.{sym}
 use Rattle.xf_actions.proofs.Roles.{role-missing}
 use Rattle.xf_actions.proofs.parts.action_of.Goals as goal
 

@@ -13,4 +13,4 @@ returns-in_err-set_value-in-Sets-clause-done g c =
 pub returns-in_err-message-in-Speaks-clause-done : goal.returns-in_err-message-in-Speaks-clause-done
 returns-in_err-message-in-Speaks-clause-done g c =
     makes-stopped _ _ _ _ _ _ c.from_residual-in_err-message-in-Speaks.ensures.1
-        (speaks-stops g.W.World.profile (acting_of c.args.fired.now c.args.acting.now) (work_in (act_at (g.W.World.state c.args.world.now) c.args.acting.now.element)) (g.W.World.state c.args.world.now) _ _ (search rules) c.in_err-message-in-Speaks.ensures.done)
+    (speaks-stops g.W.World.profile (acting_of c.args.fired.now c.args.acting.now) (work_in (act_at (g.W.World.state c.args.world.now) c.args.acting.now.element)) (g.W.World.state c.args.world.now) _ _ (search rules) c.in_err-message-in-Speaks.ensures.done)

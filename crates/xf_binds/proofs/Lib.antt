@@ -1,0 +1,5 @@
+pub mod Finds
+pub mod Places
+pub mod Truths
+pub mod Items
+pub mod NodeSets

@@ -1,0 +1,73 @@
+-- What is kept of the binds of each model from one recalculation to the next (XForms 1.1, sections 4.3.1 to 4.3.3).
+use Rattle.std.specs.Prelude.{ℕ, Bool, List, [], map, filter, find, Option, Some, None, option_map, option_and_then}
+use Rattle.std.specs.List.{flat_map}
+use Rattle.xf_lang.specs.declared.value.Value.TheVariants.{Truth}
+use Rattle.xf_lang.specs.Conversions.{truth_of}
+use Rattle.xf_model.specs.declared.property.Property.{Property}
+use Rattle.xf_model.specs.Applied.{Entry}
+use Rattle.xf_model.specs.Entries.{is_computed}
+use Rattle.xf_model.specs.Settled.{Valued}
+use Rattle.xf_model.specs.Pertinent.{is_same}
+use Rattle.xf_model.specs.Properties.{sets_on}
+use Rattle.xf_binds.specs.declared.web.Asks.{Asks}
+use Rattle.xf_binds.specs.Held.{Held, entries_in}
+
+pub record Kept : Type 0 where
+  -- the entries and types that the last rebuild gave
+  pub entries : List Entry
+  -- what each of them asks of the data
+  pub asks : List Asks
+  -- the entries that stood at the last recalculation, each with the truth of its value
+  pub stood : List Valued
+  -- the nodes that the last revalidation found not valid
+  pub invalid : List ℕ
+  -- since the last recalculation: the nodes with another text, and those in whose list of attributes and children one came or went
+  pub texts : List ℕ
+  pub lists : List ℕ
+
+abbrev pub no_kept : Kept
+no_kept = record { entries = []; asks = []; stood = []; invalid = []; texts = []; lists = [] }
+
+-- ---- values
+
+abbrev pub valued_of : Held → Valued
+valued_of h = record { entry = h.entry; value = option_map Truth h.truth }
+
+-- a type has no value
+abbrev pub valued_in : List Held → List Valued
+valued_in held = map valued_of (filter (λ h. is_computed h.entry) held)
+
+-- those that stood, where the present ones may be the same
+abbrev pub stood_of : List Held → Option (List Held) → List Held
+stood_of present None = present
+stood_of present (Some stood) = stood
+
+abbrev pub kept_of : List Held → List Asks → Option (List Held) → List ℕ → List ℕ → List ℕ → Kept
+kept_of present asks stood invalid texts lists = record {
+  entries = entries_in present;
+  asks = asks;
+  stood = valued_in (stood_of present stood);
+  invalid = invalid;
+  texts = texts;
+  lists = lists;
+}
+
+-- the value that an entry had, where it stood; its position and size do not count
+abbrev pub value_from : List Valued → Entry → Valued
+value_from stood e = record { entry = e; value = option_and_then (λ v. v.value) (find (λ v. is_same e v.entry) stood) }
+
+-- of the present entries: those that came with a rebuild have none yet
+abbrev pub values_of : Kept → List Valued
+values_of k = map (value_from k.stood) (filter is_computed k.entries)
+
+-- of all models
+abbrev pub values_in : List Kept → List Valued
+values_in table = flat_map values_of table
+
+-- ---- the truth of one property of one node: None where the node has no such entry, Some None where that has no value yet
+
+abbrev pub truth_from : List Valued → Entry → Option Bool
+truth_from stood e = option_map truth_of (value_from stood e).value
+
+abbrev pub truth_in : Kept → Property → ℕ → Option (Option Bool)
+truth_in k p n = option_map (truth_from k.stood) (find (sets_on n p) k.entries)

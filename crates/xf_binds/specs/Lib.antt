@@ -1,0 +1,4 @@
+pub mod NodeSet
+pub mod Held
+pub mod Kept
+pub mod Table

@@ -1,0 +1,26 @@
+-- What is kept of all models, each by its number.
+use Rattle.std.specs.Prelude.{ℕ, Bool, List, [], ◌∷◌, get_or, slice_set, Option, Some, None}
+use Rattle.xf_model.specs.declared.property.Property.{Property}
+use Rattle.xf_binds.specs.Kept.{Kept, no_kept, truth_in}
+
+abbrev pub kept_at : List Kept → ℕ → Kept
+kept_at table model = get_or table model no_kept
+
+-- another is kept of one model
+abbrev pub with_kept : List Kept → ℕ → Kept → List Kept
+with_kept table model kept = slice_set table model kept
+
+abbrev pub unless_told : Option (Option Bool) → Option (Option Bool) → Option (Option Bool)
+unless_told None other = other
+unless_told (Some truth) other = Some truth
+
+-- that of the first model in which the node has such an entry
+abbrev pub truth_among : List Kept → Property → ℕ → Option (Option Bool)
+truth_among [] p n = None
+truth_among (k ∷ ks) p n = unless_told (truth_in k p n) (truth_among ks p n)
+
+-- as a truth, where there is none the default
+abbrev pub truth_told : Bool → Option (Option Bool) → Bool
+truth_told default None = default
+truth_told default (Some None) = default
+truth_told default (Some (Some b)) = b

@@ -1,0 +1,141 @@
+//! The entries and types of a model, in the order in which its binds set them.
+
+ghost use Rattle.std.specs.Prelude.{◌≡◌, ℕ, nat_eq, ◌∷◌, [], ◌++◌, length, not, option_map, slice_get, IfOk, IsTrue, ◌↔◌};
+ghost use Rattle.std.specs.Bool.{OnTrue, OnFalse};
+ghost use Rattle.std.specs.List.{list_any};
+ghost use Rattle.xf_model.specs.Applied.{sets_same};
+ghost use Rattle.xf_binds.specs.Held.{entries_in, entry_of, held_at, held_of, held_on, held_same, is_seat, newly_held, passes, seats_or};
+ghost use Rattle.indexmap.specs.IndexMap.{get};
+
+use crate::entry::{Entry, Item, Seats};
+use indexmap::IndexMap;
+use std::alloc::{AllocError, Global};
+use std::marker::Model;
+use xf_doc::NodeId;
+use xf_model::Property;
+
+/// The entries and types that the binds of a model set: no property of a node is set twice. Contracts see them with the truths
+/// that their values had, where they had one.
+#[derive(Drop)]
+pub struct Applied {
+    items: Vec<Item>,
+    seats: IndexMap<u128, Seats>,
+}
+
+impl Model for Applied {
+    ghost use Rattle.std.specs.Prelude.{List};
+    ghost use Rattle.xf_binds.specs.Held.{Held, holds, IsSeated};
+
+    ghost Value = { List Held };
+
+    ghost view = { λ a. holds a.items.items };
+
+    ghost invariant = { λ a. IsSeated (holds a.items.items) a.seats };
+}
+
+impl Applied {
+    pub fn new(alloc: Global) -> Self
+        ensures { result ≡ [] }
+    {
+        Applied {
+            items: Vec::new(alloc),
+            seats: IndexMap::new(alloc),
+        }
+    }
+
+    pub fn len(&self) -> usize
+        ensures { result ≡ length self.now }
+    {
+        self.items.len()
+    }
+
+    pub fn is_empty(&self) -> bool
+        ensures { IsTrue result ↔ (self.now ≡ []) }
+    {
+        self.items.is_empty()
+    }
+
+    /// The entry at a place, from 0.
+    pub fn entry(&self, at: usize) -> Option<Entry>
+        ensures { option_map entry_of result ≡ slice_get (entries_in self.now) at }
+    {
+        match item_at(&self.items, at) {
+            Some(item) => Some(item.entry),
+            None => None,
+        }
+    }
+
+    /// Where the property of the node is set.
+    fn seat(&self, node: NodeId, property: Property) -> Option<usize>
+        ensures { (i : ℕ) → is_seat result i ≡ passes (held_on node.number property) (slice_get self.now i) }
+    {
+        match self.seats.get(&node.number) {
+            Some(seats) => seats.at(property),
+            None => None,
+        }
+    }
+
+    /// The entry at the node that sets the property.
+    pub(crate) fn at(&self, node: NodeId, property: Property) -> Option<Item>
+        ensures { option_map held_of result ≡ held_at self.now node.number property }
+    {
+        match self.seat(node, property) {
+            Some(seat) => Some(self.items[seat]),
+            None => None,
+        }
+    }
+
+    /// The entry that the same attribute of the same bind gives to the same node.
+    pub(crate) fn same(&self, entry: &Entry) -> Option<Item>
+        ensures { option_map held_of result ≡ held_same self.now (entry_of entry.now) }
+    {
+        match self.seat(entry.node, entry.property) {
+            Some(seat) => {
+                let item = self.items[seat];
+                if item.entry.bind == entry.bind {
+                    Some(item)
+                } else {
+                    None
+                }
+            }
+            None => None,
+        }
+    }
+
+    /// Adds an entry behind the others, unless the property of the node is set already. The answer is whether it was added.
+    pub fn add(&mut self, entry: Entry) -> Result<bool, AllocError>
+        ensures new { IfOk result (λ is_new. is_new ≡ not (list_any (sets_same (entry_of entry)) (entries_in self.old))) }
+        ensures added { IfOk result (λ is_new. OnTrue is_new (self.new ≡ self.old ++ newly_held (entry_of entry) ∷ [])) }
+        ensures kept { IfOk result (λ is_new. OnFalse is_new (self.new ≡ self.old)) }
+    {
+        let mut seats = seats_in(&self.seats, entry.node.number);
+        if seats.at(entry.property).is_some() {
+            return Ok(false);
+        }
+        seats.set(entry.property, self.items.len());
+        self.items.push(Item { entry, truth: None })?;
+        match self.seats.insert(entry.node.number, seats) {
+            Ok(_) => Ok(true),
+            Err(_) => {
+                let _ = self.items.pop();
+                Err(AllocError)
+            }
+        }
+    }
+}
+
+fn item_at(items: &[Item], at: usize) -> Option<&Item>
+    ensures { option_map (λ i. i.now) result ≡ slice_get items.now at }
+{
+    items.get(at)
+}
+
+/// Where the entries of a node stand.
+fn seats_in(seats: &IndexMap<u128, Seats>, number: u128) -> Seats
+    ensures { result ≡ seats_or (get nat_eq seats.now number) }
+{
+    match seats.get(&number) {
+        Some(seats) => *seats,
+        None => Seats::none(),
+    }
+}

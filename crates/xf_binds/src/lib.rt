@@ -1,0 +1,15 @@
+//! What the binds of a model set on its nodes, and what is kept of it from one recalculation to the next.
+#![tactic(auto)]
+
+mod applied;
+mod entry;
+mod kept;
+mod node_set;
+mod table;
+mod web;
+
+pub use applied::Applied;
+pub use entry::Entry;
+pub use node_set::NodeSet;
+pub use table::Table;
+pub use web::{Asks, Web};

@@ -1,0 +1,55 @@
+//! Lists of nodes in which each is found at once.
+
+ghost use Rattle.std.specs.Prelude.{◌≡◌, [], IfOk};
+ghost use Rattle.xf_doc.specs.Visit.{has};
+
+use indexmap::IndexSet;
+use std::alloc::{AllocError, Global};
+use std::marker::Model;
+use xf_doc::{NodeId, NodeList};
+
+/// Nodes, which contracts see as the list of their numbers. To look for one costs no more for a long list than for a short one.
+#[derive(Drop)]
+pub struct NodeSet {
+    nodes: NodeList,
+    numbers: IndexSet<u128>,
+}
+
+impl Model for NodeSet {
+    ghost use Rattle.std.specs.Prelude.{ℕ, List};
+    ghost use Rattle.xf_binds.specs.NodeSet.{IsIndexed};
+
+    ghost Value = { List ℕ };
+
+    ghost view = { λ s. s.nodes };
+
+    ghost invariant = { λ s. IsIndexed s.nodes s.numbers };
+}
+
+impl NodeSet {
+    pub fn new(alloc: Global) -> Self
+        ensures { result ≡ [] }
+    {
+        NodeSet {
+            nodes: NodeList::new(alloc),
+            numbers: IndexSet::new(alloc),
+        }
+    }
+
+    /// The nodes of a list.
+    pub fn of(alloc: Global, nodes: NodeList) -> Result<Self, AllocError>
+        ensures { IfOk result (λ set. set ≡ nodes) }
+    {
+        let mut numbers = IndexSet::new(alloc);
+        for node in nodes.as_slice() {
+            numbers.insert(node.number)?;
+        }
+        Ok(NodeSet { nodes, numbers })
+    }
+
+    pub fn has(&self, node: NodeId) -> bool
+        ensures { result ≡ has node.number self.now }
+    {
+        self.numbers.contains(&node.number)
+    }
+}

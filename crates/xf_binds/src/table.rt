@@ -1,0 +1,164 @@
+//! What is kept of all models.
+
+ghost use Rattle.std.specs.Prelude.{◌≡◌, ◌<◌, [], ◌∷◌, ◌++◌, false, find, length, replicate, option_map, slice_get, IfOk, OnOk, OnErr};
+ghost use Rattle.std.specs.List.{list_any};
+ghost use Rattle.xf_doc.specs.Visit.{has};
+ghost use Rattle.xf_model.specs.Applied.{is_property};
+ghost use Rattle.xf_model.specs.Properties.{sets_on};
+ghost use Rattle.xf_binds.specs.Held.{entries_in, entry_of};
+ghost use Rattle.xf_binds.specs.Kept.{no_kept, truth_in};
+ghost use Rattle.xf_binds.specs.Table.{kept_at, truth_among, with_kept};
+
+use crate::applied::Applied;
+use crate::entry::Entry;
+use crate::kept::Kept;
+use crate::node_set::NodeSet;
+use crate::web::{Asks, Web};
+use std::alloc::{AllocError, Global};
+use std::marker::Model;
+use xf_doc::NodeId;
+use xf_model::Property;
+
+/// What the binds of each model set, the values of these entries, the nodes that are not valid, and the marks of what has changed
+/// since the last recalculation.
+#[derive(Drop)]
+pub struct Table {
+    models: Vec<Kept>,
+}
+
+impl Model for Table {
+    ghost use Rattle.std.specs.Prelude.{List};
+    ghost use Rattle.xf_binds.specs.Kept.{Kept};
+
+    ghost Value = { List Kept };
+
+    ghost view = { λ t. t.models.items };
+}
+
+impl Table {
+    /// A table of so many models, nothing of which was computed.
+    pub fn new(alloc: Global, models: u32) -> Result<Self, AllocError>
+        ensures { IfOk result (λ table. table ≡ replicate models no_kept) }
+    {
+        let count = models as usize;
+        let mut kept = Vec::new(alloc);
+        while kept.len() < count {
+            kept.push(Kept::new(alloc))?;
+        }
+        Ok(Table { models: kept })
+    }
+
+    /// How many entries and types a model has.
+    pub fn len(&self, model: u32) -> usize
+        ensures { result ≡ length (kept_at self.now model).entries }
+    {
+        match self.models.get(model as usize) {
+            Some(kept) => kept.present().len(),
+            None => 0,
+        }
+    }
+
+    /// An entry of a model by its place, from 0.
+    pub fn entry(&self, model: u32, at: usize) -> Option<Entry>
+        ensures { option_map entry_of result ≡ slice_get (kept_at self.now model).entries at }
+    {
+        match self.models.get(model as usize) {
+            Some(kept) => kept.present().entry(at),
+            None => None,
+        }
+    }
+
+    /// What an entry of a model asks of the data.
+    pub fn asks(&self, model: u32, at: usize) -> Option<&Asks>
+        ensures { option_map (λ a. a.now) result ≡ slice_get (kept_at self.now model).asks at }
+    {
+        match self.models.get(model as usize) {
+            Some(kept) => kept.web().get(at),
+            None => None,
+        }
+    }
+
+    /// The truth that the node's entry of this property has, of the first model in which it has one; `None` where it has no such
+    /// entry, `Some(None)` where that has no value yet.
+    pub fn truth(&self, node: NodeId, property: Property) -> Option<Option<bool>>
+        requires { is_property property Property.Kind ≡ false }
+        ensures { result ≡ truth_among self.now property node.number }
+    {
+        truth_among(&self.models, node, property)
+    }
+
+    /// The same of one model alone.
+    pub fn truth_in(&self, model: u32, node: NodeId, property: Property) -> Option<Option<bool>>
+        requires { is_property property Property.Kind ≡ false }
+        ensures { result ≡ truth_in (kept_at self.now model) property node.number }
+    {
+        match self.models.get(model as usize) {
+            Some(kept) => kept.truth(node, property),
+            None => None,
+        }
+    }
+
+    /// The entry of a model that sets a property of a node.
+    pub fn entry_on(&self, model: u32, node: NodeId, property: Property) -> Option<Entry>
+        ensures { option_map entry_of result ≡ find (sets_on node.number property) (kept_at self.now model).entries }
+    {
+        match self.models.get(model as usize) {
+            Some(kept) => kept.entry_on(node, property),
+            None => None,
+        }
+    }
+
+    /// Whether the last revalidation of a model found the node not valid.
+    pub fn is_invalid(&self, node: NodeId) -> bool
+        ensures { result ≡ list_any (λ k. has node.number k.invalid) self.now }
+    {
+        self.models.iter().any(|kept| kept.is_invalid(node))
+    }
+
+    /// Keeps the nodes that were found not valid in place of those before. Takes no memory.
+    pub fn set_invalid(&mut self, model: u32, invalid: NodeSet)
+        requires { model < length self.old }
+        ensures { self.new ≡ with_kept self.old model (record (kept_at self.old model) { invalid = invalid }) }
+    {
+        self.models[model as usize].set_invalid(invalid);
+    }
+
+    /// Keeps the entries of a rebuild. Takes no memory.
+    pub fn rebuild(&mut self, model: u32, present: Applied, web: Web)
+        requires { model < length self.old }
+        ensures { self.new ≡ with_kept self.old model (record (kept_at self.old model) { entries = entries_in present; asks = web }) }
+    {
+        self.models[model as usize].rebuild(present, web);
+    }
+
+    /// Marks a node that has another text.
+    pub fn mark_text(&mut self, model: u32, node: NodeId) -> Result<(), AllocError>
+        requires { model < length self.old }
+        ensures ok { OnOk result (self.new ≡ with_kept self.old model (record (kept_at self.old model) { texts = (kept_at self.old model).texts ++ node.number ∷ [] })) }
+        ensures err { OnErr result (self.new ≡ self.old) }
+    {
+        self.models[model as usize].mark_text(node)
+    }
+
+    /// Marks a node in whose list of attributes and children one came or went.
+    pub fn mark_list(&mut self, model: u32, node: NodeId) -> Result<(), AllocError>
+        requires { model < length self.old }
+        ensures ok { OnOk result (self.new ≡ with_kept self.old model (record (kept_at self.old model) { lists = (kept_at self.old model).lists ++ node.number ∷ [] })) }
+        ensures err { OnErr result (self.new ≡ self.old) }
+    {
+        self.models[model as usize].mark_list(node)
+    }
+}
+
+/// The truth of the first of these models in which the node has such an entry.
+fn truth_among(models: &[Kept], node: NodeId, property: Property) -> Option<Option<bool>>
+    requires { is_property property Property.Kind ≡ false }
+    ensures { result ≡ truth_among models.now property node.number }
+{
+    for kept in models {
+        if let Some(truth) = kept.truth(node, property) {
+            return Some(truth);
+        }
+    }
+    None
+}

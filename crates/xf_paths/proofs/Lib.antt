@@ -1,0 +1,4 @@
+pub mod TallyLemmas
+pub mod VisitLemmas
+pub mod FamilyLemmas
+pub mod StemLemmas

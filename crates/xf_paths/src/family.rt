@@ -1,0 +1,166 @@
+//! The children of a node, each with its place among those of its kind.
+ghost use Rattle.std.specs.Prelude.{◌≡◌, ◌+◌, ◌<◌, ◌^◌, ℕ, suc, List, [], IfOk, OnOk, nat_lt, if◌then◌else◌};
+ghost use Rattle.std.specs.List.{All, list_any};
+ghost use Rattle.std.specs.Str.{bytes_eq};
+ghost use Rattle.xf_doc.specs.Axis.{axis_of};
+ghost use Rattle.xf_doc.specs.Forest.{IsLive, content_at, is_element, written};
+ghost use Rattle.xf_doc.specs.Path.{bracketed};
+ghost use Rattle.xf_doc.specs.Shape.{has_elements};
+ghost use Rattle.xf_doc.specs.Visit.{visits};
+ghost use Rattle.xf_doc.specs.WellFormed.{HasTrees};
+ghost use Rattle.xf_paths.specs.Family.{IsKid, IsSort, count_in, index_text, is_named, meets, tallied};
+
+use crate::written::{Tally, add, tallied, written};
+use std::alloc::{AllocError, Global};
+use std::collections::HashMap;
+use xf_doc::{Content, Name, NodeId, NodeList};
+use xf_name::Axis;
+use xf_tree::Forest;
+
+/// A child, and what its path has in brackets: for an element its place among the elements beside it whose names are written
+/// alike, where there are others, for a text that among the texts beside it.
+#[derive(Clone, Copy, Debug)]
+pub struct Kid {
+    pub number: u128,
+    pub index: Option<usize>,
+}
+
+/// The children of a node.
+#[derive(Drop)]
+pub struct Family {
+    /// From the last one back.
+    pub kids: Vec<Kid>,
+    /// Whether one is an element.
+    pub has_elements: bool,
+}
+
+/// The children of a node.
+pub fn family_of(alloc: Global, forest: &Forest, node: NodeId) -> Result<Family, AllocError>
+    requires { IsLive node.number forest.now.forest }
+    ensures kids { IfOk result (λ family. All (IsKid (visits forest.now.forest.nodes)) family.kids.items) }
+    ensures elements { IfOk result (λ family. family.has_elements ≡ has_elements (visits forest.now.forest.nodes) node.number) }
+{
+    forest.are_trees();
+    let children = children_of(alloc, forest, node)?;
+    let mut kids = kids_of(alloc, forest, node, &children)?;
+    kids.reverse();
+    Ok(Family {
+        kids,
+        has_elements: has_element(forest, &children),
+    })
+}
+
+fn children_of(alloc: Global, forest: &Forest, node: NodeId) -> Result<NodeList, AllocError>
+    requires { IsLive node.number forest.now.forest }
+    ensures { IfOk result (λ children. children ≡ axis_of Axis.Child node.number (visits forest.now.forest.nodes)) }
+{
+    let mut children = NodeList::new(alloc);
+    let mut walk = forest.axis(node, Axis::Child);
+    while let Some(child) = walk.next() {
+        children.push(child)?;
+    }
+    Ok(children)
+}
+
+/// What a node is, as far as it is counted.
+enum Sort<'a> {
+    Element(&'a Name),
+    Text,
+    Other,
+}
+
+fn sort_of(forest: &Forest, node: NodeId) -> Sort<'_>
+    ensures { IsSort (content_at node.number forest.now.forest.nodes) result }
+{
+    match forest.content(node) {
+        Some(content) => match content {
+            Content::Element(name) => Sort::Element(name),
+            Content::Text(_) => Sort::Text,
+            _ => Sort::Other,
+        },
+        None => Sort::Other,
+    }
+}
+
+/// Whether one of these nodes is an element.
+fn has_element(forest: &Forest, nodes: &NodeList) -> bool
+    ensures { result ≡ list_any (λ n. meets is_element (content_at n forest.now.forest.nodes)) nodes.now }
+{
+    for at in 0..nodes.len() {
+        match sort_of(forest, nodes.at(at)) {
+            Sort::Element(_) => return true,
+            Sort::Text => continue,
+            Sort::Other => continue,
+        }
+    }
+    false
+}
+
+/// The children in document order, with their indexes.
+fn kids_of(
+    alloc: Global,
+    forest: &Forest,
+    node: NodeId,
+    children: &NodeList,
+) -> Result<Vec<Kid>, AllocError>
+    requires trees { HasTrees forest.now.forest }
+    requires children { children.now ≡ axis_of Axis.Child node.number (visits forest.now.forest.nodes) }
+    ensures { IfOk result (λ kids. All (IsKid (visits forest.now.forest.nodes)) kids.items) }
+{
+    let totals = totals_of(alloc, forest, children)?;
+    let mut seen = HashMap::new(alloc);
+    let mut texts = 0;
+    let mut kids = Vec::with_capacity(alloc, children.len())?;
+    for at in 0..children.len() {
+        let child = children.at(at);
+        let index = match sort_of(forest, child) {
+            Sort::Element(name) => next_place(alloc, &totals, &mut seen, name)?,
+            Sort::Text => {
+                texts += 1;
+                Some(texts)
+            }
+            Sort::Other => None,
+        };
+        kids.push(Kid {
+            number: child.number,
+            index,
+        })?;
+    }
+    Ok(kids)
+}
+
+/// How often each written name is there among these nodes.
+fn totals_of(alloc: Global, forest: &Forest, nodes: &NodeList) -> Result<Tally, AllocError>
+    ensures { IfOk result (λ tally. (w : List ℕ) → tallied tally w ≡ count_in (is_named w) forest.now.forest.nodes nodes.now) }
+{
+    let mut tally = HashMap::new(alloc);
+    for at in 0..nodes.len() {
+        match sort_of(forest, nodes.at(at)) {
+            Sort::Element(name) => add(&mut tally, written(alloc, name)?)?,
+            Sort::Text => continue,
+            Sort::Other => continue,
+        }
+    }
+    Ok(tally)
+}
+
+/// The place of the next element with this name, where there are several. It is counted.
+fn next_place(
+    alloc: Global,
+    totals: &Tally,
+    seen: &mut Tally,
+    name: &Name,
+) -> Result<Option<usize>, AllocError>
+    requires { tallied seen.old (written name.now) + 1 < 2 ^ 64 }
+    ensures place { IfOk result (λ place. index_text place ≡ (if nat_lt 1 (tallied totals.now (written name.now)) then bracketed (suc (tallied seen.old (written name.now))) else [])) }
+    ensures seen { OnOk result ((w : List ℕ) → tallied seen.new w ≡ (if bytes_eq w (written name.now) then 1 else 0) + tallied seen.old w) }
+{
+    let name = written(alloc, name)?;
+    let place = tallied(seen, name.as_str()) + 1;
+    let is_one_of_many = tallied(totals, name.as_str()) > 1;
+    add(seen, name)?;
+    if is_one_of_many {
+        return Ok(Some(place));
+    }
+    Ok(None)
+}

@@ -1,0 +1,290 @@
+//! Paths of nodes, by what is open.
+ghost use Rattle.std.specs.Prelude.{◌≡◌, ◌++◌, List, IfOk, IfSome, OnOk, string_bytes, true, false};
+ghost use Rattle.std.specs.List.{All};
+ghost use Rattle.xf_doc.specs.Forest.{IsLive, content_at, is_attribute, is_root};
+ghost use Rattle.xf_doc.specs.Path.{or_slash, path_of};
+ghost use Rattle.xf_doc.specs.Shape.{has_elements};
+ghost use Rattle.xf_doc.specs.Visit.{Visit, visits, parent_of};
+ghost use Rattle.xf_paths.specs.Opened.{stem_of, IsOpen, AllOpen};
+ghost use Rattle.xf_paths.specs.Family.{IsKid, index_of, index_text, meets};
+
+use crate::family::{Family, Kid, family_of};
+use crate::written::push_step;
+use std::alloc::{AllocError, Global};
+use std::marker::Model;
+use xf_doc::{Content, Kind, NodeId};
+use xf_tree::Forest;
+
+/// A node whose path is at hand, with its children that did not come yet.
+#[derive(Drop)]
+pub struct OpenNode {
+    pub number: u128,
+    /// Its path, empty for a root.
+    pub stem: String,
+    pub family: Family,
+}
+
+/// The paths of nodes of a forest. Where they are asked for in document order, each costs what it prints, and a look at each child;
+/// elsewhere it costs a look at all siblings on the way up. Contracts see the forest.
+#[derive(Drop)]
+pub struct Paths<'a> {
+    alloc: Global,
+    forest: &'a Forest,
+    // Each one below the one before it.
+    nodes: Vec<OpenNode>,
+}
+
+impl<'a> Model for Paths<'a> {
+    ghost use Rattle.xf_doc.specs.Texts.{Keeping};
+
+    ghost Value = { Keeping };
+
+    ghost use Rattle.xf_doc.specs.Visit.{visits};
+    ghost use Rattle.xf_paths.specs.Opened.{AllOpen};
+
+    ghost view = { λ p. p.forest.now };
+
+    ghost invariant = { λ p. AllOpen (visits p.forest.now.forest.nodes) p.nodes.items };
+}
+
+impl<'a> Paths<'a> {
+    /// Takes no memory.
+    pub fn new(alloc: Global, forest: &'a Forest) -> Self
+        ensures { result ≡ forest.now }
+    {
+        Paths {
+            alloc,
+            forest,
+            nodes: Vec::new(alloc),
+        }
+    }
+
+    /// Appends the path of a node, from the top of its tree.
+    pub fn push_path(&mut self, text: &mut String, node: NodeId) -> Result<(), AllocError>
+        requires live { IsLive node.number self.old.forest }
+        ensures text { OnOk result (string_bytes text.new ≡ string_bytes text.old ++ path_of node.number (visits self.old.forest.nodes)) }
+        ensures forest { self.new ≡ self.old }
+    {
+        let stem = stem(self.alloc, self.forest, &mut self.nodes, node)?;
+        push_stem(text, &stem)?;
+        match self.forest.kind(node) {
+            Kind::Element => push_open(self.alloc, self.forest, &mut self.nodes, node, stem),
+            _ => Ok(()),
+        }
+    }
+
+    /// Whether the node has element children. It is at hand where the node's path came last, or that of a node below it.
+    pub fn has_elements(&mut self, node: NodeId) -> Result<bool, AllocError>
+        requires live { IsLive node.number self.old.forest }
+        ensures answer { IfOk result (λ answer. answer ≡ has_elements (visits self.old.forest.nodes) node.number) }
+        ensures forest { self.new ≡ self.old }
+    {
+        has_elements(self.alloc, self.forest, &mut self.nodes, node)
+    }
+}
+
+/// Appends a path that is at hand: a root's is a slash.
+fn push_stem(text: &mut String, stem: &String) -> Result<(), AllocError>
+    ensures { OnOk result (string_bytes text.new ≡ string_bytes text.old ++ or_slash (string_bytes stem.now)) }
+{
+    if stem.is_empty() {
+        return text.push_str("/");
+    }
+    text.push_str(stem.as_str())
+}
+
+fn has_elements(
+    alloc: Global,
+    forest: &Forest,
+    nodes: &mut Vec<OpenNode>,
+    node: NodeId,
+) -> Result<bool, AllocError>
+    requires live { IsLive node.number forest.now.forest }
+    requires nodes { AllOpen (visits forest.now.forest.nodes) nodes.old.items }
+    ensures nodes { AllOpen (visits forest.now.forest.nodes) nodes.new.items }
+    ensures answer { IfOk result (λ answer. answer ≡ has_elements (visits forest.now.forest.nodes) node.number) }
+{
+    forest.are_trees();
+    match forest.content(node) {
+        // Nothing stands below these, and they are never open.
+        Some(Content::Attribute(_, _)) => Ok(false),
+        Some(Content::Text(_)) => Ok(false),
+        _ => has_open_elements(alloc, forest, nodes, node),
+    }
+}
+
+fn has_open_elements(
+    alloc: Global,
+    forest: &Forest,
+    nodes: &mut Vec<OpenNode>,
+    node: NodeId,
+) -> Result<bool, AllocError>
+    requires live { IsLive node.number forest.now.forest }
+    requires nodes { AllOpen (visits forest.now.forest.nodes) nodes.old.items }
+    ensures nodes { AllOpen (visits forest.now.forest.nodes) nodes.new.items }
+    ensures answer { IfOk result (λ answer. answer ≡ has_elements (visits forest.now.forest.nodes) node.number) }
+{
+    let one = take_open(alloc, forest, nodes, node)?;
+    let answer = one.family.has_elements;
+    nodes.push(one)?;
+    Ok(answer)
+}
+
+/// The path of a node, empty for a root.
+fn stem(
+    alloc: Global,
+    forest: &Forest,
+    nodes: &mut Vec<OpenNode>,
+    node: NodeId,
+) -> Result<String, AllocError>
+    requires live { IsLive node.number forest.now.forest }
+    requires nodes { AllOpen (visits forest.now.forest.nodes) nodes.old.items }
+    ensures nodes { AllOpen (visits forest.now.forest.nodes) nodes.new.items }
+    ensures stem { IfOk result (λ stem. string_bytes stem ≡ stem_of (visits forest.now.forest.nodes) node.number) }
+{
+    let Some(parent) = forest.parent(node) else {
+        return fresh_stem(alloc, forest, node);
+    };
+    let mut one = take_open(alloc, forest, nodes, parent)?;
+    let stem = stem_below(alloc, forest, &mut one, node);
+    nodes.push(one)?;
+    stem
+}
+
+/// Closes what is open down to this node, and takes it out.
+fn take_open(
+    alloc: Global,
+    forest: &Forest,
+    nodes: &mut Vec<OpenNode>,
+    node: NodeId,
+) -> Result<OpenNode, AllocError>
+    requires live { IsLive node.number forest.now.forest }
+    requires nodes { AllOpen (visits forest.now.forest.nodes) nodes.old.items }
+    ensures nodes { AllOpen (visits forest.now.forest.nodes) nodes.new.items }
+    ensures one { IfOk result (λ one. IsOpen (visits forest.now.forest.nodes) one) }
+    ensures number { IfOk result (λ one. one.number ≡ node.number) }
+{
+    while let Some(one) = nodes.pop() {
+        if one.number == node.number {
+            return Ok(one);
+        }
+    }
+    let stem = fresh_stem(alloc, forest, node)?;
+    with_children(alloc, forest, node, stem)
+}
+
+/// Opens a node below those that are open.
+fn push_open(
+    alloc: Global,
+    forest: &Forest,
+    nodes: &mut Vec<OpenNode>,
+    node: NodeId,
+    stem: String,
+) -> Result<(), AllocError>
+    requires live { IsLive node.number forest.now.forest }
+    requires stem { string_bytes stem ≡ stem_of (visits forest.now.forest.nodes) node.number }
+    requires nodes { AllOpen (visits forest.now.forest.nodes) nodes.old.items }
+    ensures nodes { AllOpen (visits forest.now.forest.nodes) nodes.new.items }
+{
+    let one = with_children(alloc, forest, node, stem)?;
+    nodes.push(one)?;
+    Ok(())
+}
+
+/// A node with its children.
+fn with_children(
+    alloc: Global,
+    forest: &Forest,
+    node: NodeId,
+    stem: String,
+) -> Result<OpenNode, AllocError>
+    requires live { IsLive node.number forest.now.forest }
+    requires stem { string_bytes stem ≡ stem_of (visits forest.now.forest.nodes) node.number }
+    ensures one { IfOk result (λ one. IsOpen (visits forest.now.forest.nodes) one) }
+    ensures number { IfOk result (λ one. one.number ≡ node.number) }
+{
+    let family = family_of(alloc, forest, node)?;
+    Ok(OpenNode {
+        number: node.number,
+        stem,
+        family,
+    })
+}
+
+/// The path of a node of which nothing is at hand, empty for a root.
+fn fresh_stem(alloc: Global, forest: &Forest, node: NodeId) -> Result<String, AllocError>
+    requires live { IsLive node.number forest.now.forest }
+    ensures { IfOk result (λ stem. string_bytes stem ≡ stem_of (visits forest.now.forest.nodes) node.number) }
+{
+    forest.are_trees();
+    if is_root(forest, node) {
+        return Ok(String::new(alloc));
+    }
+    let path = forest.path(node)?;
+    String::from_str(alloc, path.as_str())
+}
+
+fn is_root(forest: &Forest, node: NodeId) -> bool
+    ensures { result ≡ meets is_root (content_at node.number forest.now.forest.nodes) }
+{
+    match forest.content(node) {
+        Some(content) => match content {
+            Content::Root => true,
+            _ => false,
+        },
+        None => false,
+    }
+}
+
+/// The path of a node by that of its parent. A child that comes in turn has its index at hand.
+fn stem_below(
+    alloc: Global,
+    forest: &Forest,
+    parent: &mut OpenNode,
+    node: NodeId,
+) -> Result<String, AllocError>
+    requires live { IsLive node.number forest.now.forest }
+    requires one { IsOpen (visits forest.now.forest.nodes) parent.old }
+    requires parent { parent_of node.number (visits forest.now.forest.nodes) ≡ Some parent.old.number }
+    ensures stem { IfOk result (λ stem. string_bytes stem ≡ stem_of (visits forest.now.forest.nodes) node.number) }
+    ensures one { IsOpen (visits forest.now.forest.nodes) parent.new }
+    ensures number { parent.new.number ≡ parent.old.number }
+{
+    forest.are_trees();
+    let Some(content) = forest.content(node) else {
+        return fresh_stem(alloc, forest, node);
+    };
+    let Some(index) = next_index(&mut parent.family.kids, content, node) else {
+        return fresh_stem(alloc, forest, node);
+    };
+    let mut stem = String::from_str(alloc, parent.stem.as_str())?;
+    push_step(&mut stem, content, index)?;
+    Ok(stem)
+}
+
+/// What the path of a node has in brackets: `None` where the node is not the child that comes next.
+fn next_index(kids: &mut Vec<Kid>, content: &Content, node: NodeId) -> Option<Option<usize>>
+    ensures kids { (all : List Visit) → All (IsKid all) kids.old.items → All (IsKid all) kids.new.items }
+    ensures index { (all : List Visit) → All (IsKid all) kids.old.items → IfSome result (λ index. is_attribute content.now ≡ false → index_text index ≡ index_of all node.number) }
+    ensures attribute { IfSome result (λ index. is_attribute content.now ≡ true → index ≡ None) }
+{
+    match content {
+        Content::Attribute(_, _) => Some(None),
+        _ => match next_kid(kids, node) {
+            Some(kid) => Some(kid.index),
+            None => None,
+        },
+    }
+}
+
+/// The next child, where it is this node.
+fn next_kid(kids: &mut Vec<Kid>, node: NodeId) -> Option<Kid>
+    ensures kids { (all : List Visit) → All (IsKid all) kids.old.items → All (IsKid all) kids.new.items }
+    ensures kid { (all : List Visit) → All (IsKid all) kids.old.items → IfSome result (λ kid. index_text kid.index ≡ index_of all node.number) }
+{
+    let kid = kids.pop()?;
+    if kid.number == node.number {
+        return Some(kid);
+    }
+    None
+}

@@ -1,0 +1,90 @@
+//! Names as they are written, and how often each is there.
+ghost use Rattle.std.specs.Prelude.{◌≡◌, ◌+◌, ◌<◌, ◌^◌, ◌++◌, ℕ, List, IfOk, OnOk, string_bytes, if◌then◌else◌};
+ghost use Rattle.std.specs.Str.{bytes_eq};
+ghost use Rattle.xf_doc.specs.Forest.{written};
+ghost use Rattle.xf_paths.specs.Family.{index_text, step_with, tallied};
+
+use itoa::Buffer;
+use std::alloc::{AllocError, Global};
+use std::collections::HashMap;
+use xf_doc::{Content, Name};
+
+/// How often each name is there.
+pub type Tally = HashMap<String, usize>;
+
+/// A name as it is written.
+pub fn written(alloc: Global, name: &Name) -> Result<String, AllocError>
+    ensures { IfOk result (λ text. string_bytes text ≡ written name.now) }
+{
+    let mut text = String::new(alloc);
+    push_name(&mut text, name)?;
+    Ok(text)
+}
+
+/// Appends a name as it is written.
+fn push_name(text: &mut String, name: &Name) -> Result<(), AllocError>
+    ensures { OnOk result (string_bytes text.new ≡ string_bytes text.old ++ written name.now) }
+{
+    if !name.prefix.is_empty() {
+        text.push_str(name.prefix.as_str())?;
+        text.push(':')?;
+    }
+    text.push_str(name.meaning.local.as_str())
+}
+
+/// Appends what a path has for a node, with this in brackets.
+pub fn push_step(
+    text: &mut String,
+    content: &Content,
+    index: Option<usize>,
+) -> Result<(), AllocError>
+    ensures { OnOk result (string_bytes text.new ≡ string_bytes text.old ++ step_with content.now (index_text index)) }
+{
+    match content {
+        Content::Root => Ok(()),
+        Content::Element(name) => {
+            text.push('/')?;
+            push_name(text, name)?;
+            push_index(text, index)
+        }
+        Content::Attribute(name, _) => {
+            text.push_str("/@")?;
+            push_name(text, name)
+        }
+        Content::Text(_) => {
+            text.push_str("/text()")?;
+            push_index(text, index)
+        }
+    }
+}
+
+/// Appends an index in brackets, where there is one.
+fn push_index(text: &mut String, index: Option<usize>) -> Result<(), AllocError>
+    ensures { OnOk result (string_bytes text.new ≡ string_bytes text.old ++ index_text index) }
+{
+    let Some(index) = index else {
+        return Ok(());
+    };
+    let mut buffer = Buffer::new();
+    text.push('[')?;
+    text.push_str(buffer.format(index))?;
+    text.push(']')?;
+    Ok(())
+}
+
+/// How often a name is there.
+pub fn tallied(tally: &Tally, name: &str) -> usize
+    ensures { result ≡ tallied tally.now name.now }
+{
+    tally.get(name).copied().unwrap_or(0)
+}
+
+/// Counts a name once more.
+pub fn add(tally: &mut Tally, name: String) -> Result<(), AllocError>
+    requires { tallied tally.old (string_bytes name) + 1 < 2 ^ 64 }
+    ensures { OnOk result ((w : List ℕ) → tallied tally.new w ≡ (if bytes_eq w (string_bytes name) then 1 else 0) + tallied tally.old w) }
+{
+    let count = tallied(tally, name.as_str()) + 1;
+    tally.insert(name, count)?;
+    Ok(())
+}

@@ -1,0 +1,7 @@
+pub mod AnswerLaws
+pub mod ControlLaws
+pub mod LineLaws
+pub mod NamedLemmas
+pub mod NodeLaws
+pub mod StateLaws
+pub mod WordLemmas

@@ -1,0 +1,21 @@
+use Rattle.std.proofs.Common.{◌++◌, codes, ap, sym, ◌∙◌}
+use Rattle.std.specs.Prelude.{string_bytes}
+use Rattle.xf_form_machine.specs.StateText.{line_of}
+use Rattle.xf_report.specs.Refusals.{construct_text, details}
+use Rattle.xf_report.proofs.AnswerLaws.{then-ok}
+use Rattle.xf_report.proofs.refusal.push_construct_refusal.Goals as goal
+
+pub returns-in-Circular : goal.returns-in-Circular
+returns-in-Circular c =
+    let old = string_bytes c.args.text.now in
+    then-ok c.push_named-in-Circular.result (λ e. e ∙ ap (λ r. old ++ line_of (codes "form F15 Circular" ++ details r)) c.in-Circular.is ∙ sym (ap (λ r. old ++ construct_text r) c.in-Circular.is)) c.push_named-in-Circular.ensures
+
+pub returns-in-OnParent : goal.returns-in-OnParent
+returns-in-OnParent c =
+    let old = string_bytes c.args.text.now in
+    then-ok c.push_named-in-OnParent.result (λ e. e ∙ ap (λ r. old ++ line_of (codes "form F16 CalculateOnParent" ++ details r)) c.in-OnParent.is ∙ sym (ap (λ r. old ++ construct_text r) c.in-OnParent.is)) c.push_named-in-OnParent.ensures
+
+pub returns-in-Limit : goal.returns-in-Limit
+returns-in-Limit c =
+    let old = string_bytes c.args.text.now in
+    then-ok c.push_named-in-Limit.result (λ e. e ∙ ap (λ r. old ++ line_of (codes "form F17 Limit" ++ details r)) c.in-Limit.is ∙ sym (ap (λ r. old ++ construct_text r) c.in-Limit.is)) c.push_named-in-Limit.ensures

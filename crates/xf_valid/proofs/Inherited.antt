@@ -1,0 +1,52 @@
+-- What a node has from its parent: that it is relevant, and that it is readonly.
+use Rattle.std.proofs.Common.{◌≡◌, ℕ, Bool, true, false, ◌&&◌, ◌||◌, List, Some, None, refl, sym, ap, ◌∙◌}
+use Rattle.std.specs.List.{list_all, list_any}
+use Rattle.xf_doc.specs.declared.content.Node.{Node}
+use Rattle.xf_doc.specs.Forest.{has_number}
+use Rattle.xf_doc.specs.Visit.{visits, parent_of}
+use Rattle.xf_doc.specs.WellFormed.{are_apart}
+use Rattle.xf_model.specs.declared.property.Property.TheVariants.{Relevant}
+use Rattle.xf_model.specs.Properties.{own, own_readonly}
+use Rattle.xf_binds.specs.Kept.{Kept, values_in}
+use Rattle.xf_valid.specs.Nodes.{relevant_in, readonly_in}
+use Rattle.xf_valid.proofs.Chains.{parent-chain, no-parent}
+
+pub relevant-up : (table : List Kept) (nodes : List Node) (n p : ℕ) → are_apart nodes ≡ true → has_number n nodes ≡ true → parent_of n (visits nodes) ≡ Some p
+    → relevant_in table nodes n ≡ (own (values_in table) Relevant true n && relevant_in table nodes p)
+relevant-up table nodes n p a h e = ap (λ ns. own (values_in table) Relevant true n && list_all (own (values_in table) Relevant true) ns) (parent-chain nodes n p a h e)
+
+pub relevant-top : (table : List Kept) (nodes : List Node) (n : ℕ) → parent_of n (visits nodes) ≡ None → relevant_in table nodes n ≡ own (values_in table) Relevant true n
+relevant-top table nodes n e =
+    ap (λ ns. own (values_in table) Relevant true n && list_all (own (values_in table) Relevant true) ns) (no-parent (visits nodes) n e) ∙ and-true (own (values_in table) Relevant true n)
+  where
+    and-true : (b : Bool) → (b && true) ≡ b
+    and-true true = refl
+    and-true false = refl
+
+pub readonly-up : (table : List Kept) (nodes : List Node) (n p : ℕ) → are_apart nodes ≡ true → has_number n nodes ≡ true → parent_of n (visits nodes) ≡ Some p
+    → readonly_in table nodes n ≡ (own_readonly (values_in table) n || readonly_in table nodes p)
+readonly-up table nodes n p a h e = ap (λ ns. own_readonly (values_in table) n || list_any (own_readonly (values_in table)) ns) (parent-chain nodes n p a h e)
+
+pub readonly-top : (table : List Kept) (nodes : List Node) (n : ℕ) → parent_of n (visits nodes) ≡ None → readonly_in table nodes n ≡ own_readonly (values_in table) n
+readonly-top table nodes n e =
+    ap (λ ns. own_readonly (values_in table) n || list_any (own_readonly (values_in table)) ns) (no-parent (visits nodes) n e) ∙ or-false (own_readonly (values_in table) n)
+  where
+    or-false : (b : Bool) → (b || false) ≡ b
+    or-false true = refl
+    or-false false = refl
+
+-- one step up changes nothing where the node itself does not decide
+pub relevant-same : (table : List Kept) (nodes : List Node) (n p : ℕ) → are_apart nodes ≡ true → has_number n nodes ≡ true → parent_of n (visits nodes) ≡ Some p
+    → own (values_in table) Relevant true n ≡ true → relevant_in table nodes p ≡ relevant_in table nodes n
+relevant-same table nodes n p a h e is = sym (relevant-up table nodes n p a h e ∙ ap (λ b. b && relevant_in table nodes p) is)
+
+pub readonly-same : (table : List Kept) (nodes : List Node) (n p : ℕ) → are_apart nodes ≡ true → has_number n nodes ≡ true → parent_of n (visits nodes) ≡ Some p
+    → own_readonly (values_in table) n ≡ false → readonly_in table nodes p ≡ readonly_in table nodes n
+readonly-same table nodes n p a h e is = sym (readonly-up table nodes n p a h e ∙ ap (λ b. b || readonly_in table nodes p) is)
+
+-- the node itself decides
+pub relevant-not : (table : List Kept) (nodes : List Node) (n : ℕ) → own (values_in table) Relevant true n ≡ false → relevant_in table nodes n ≡ false
+relevant-not table nodes n is = rw is refl
+
+pub readonly-is : (table : List Kept) (nodes : List Node) (n : ℕ) → own_readonly (values_in table) n ≡ true → readonly_in table nodes n ≡ true
+readonly-is table nodes n is = rw is refl

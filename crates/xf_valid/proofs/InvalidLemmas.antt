@@ -1,0 +1,360 @@
+-- The nodes that are not valid are those of entries that are not, in the trees of the model's instances.
+use Rattle.std.proofs.Common.{◌≡◌, ℕ, zero, suc, ◌+◌, ◌<◌, ◌==◌, Bool, true, false, cond, not, ◌&&◌, ◌||◌, List, [], ◌∷◌, ◌++◌, map, filter, find, drop, length, get_or, append_assoc, append-nil, ◌≤◌, Result, Ok, Err, OnOk, Option, Some, None, option_map, option_and_then, slice_get, refl, sym, ap, ◌∙◌, arith}
+use Rattle.std.specs.List.{list_any}
+use Rattle.std.proofs.lemmas.Bool.{eqb-true}
+use Rattle.std.proofs.lemmas.Bool.Decides.{nat_tests}
+use Rattle.std.proofs.lemmas.Option.{slice_get-map, slice_get_read}
+use Rattle.xf_num.specs.Written.{is_empty}
+use Rattle.xf_types.specs.Meets.{meets_type}
+use Rattle.xf_ast.specs.declared.form.Bind.{Bind}
+use Rattle.xf_ast.specs.declared.form.Instance.{Instance}
+use Rattle.xf_doc.specs.declared.content.Node.{Node}
+use Rattle.xf_doc.specs.Changes.{root_of}
+use Rattle.xf_doc.specs.Forest.{has_number, is_root}
+use Rattle.xf_doc.specs.Order.{in_order, instance_of}
+use Rattle.xf_doc.specs.StringValue.{string_value}
+use Rattle.xf_doc.specs.Visit.{Visit, visit, visits, visits_from, still_above, has, top_of}
+use Rattle.xf_doc.specs.WellFormed.{are_apart}
+use Rattle.xf_lang.specs.Binding.{as_list}
+use Rattle.xf_model.specs.declared.property.Property.{Property}
+use Rattle.xf_model.specs.declared.property.Property.TheVariants.{Kind, Required, Constraint}
+use Rattle.xf_model.specs.Applied.{Entry, is_property}
+use Rattle.xf_model.specs.Rules.{Rule, Scope, rule_of}
+use Rattle.xf_model.specs.Properties.{kind_of, meets_kind, sets_on, own}
+use Rattle.xf_binds.specs.Held.{is_seat}
+use Rattle.xf_binds.specs.Kept.{Kept, truth_from, values_of}
+use Rattle.xf_binds.specs.Table.{truth_told}
+use Rattle.xf_binds.proofs.Truths.{own-in}
+use Rattle.xf_valid.specs.Failed.{failed_among, failed_at, failed_by, is_failed, fails, kind_in, roots_from}
+use Rattle.xf_valid.specs.Invalid.{invalid_in, is_held, is_invalid, is_model, model_of}
+
+none : {P : Type 0} → false ≡ true → P
+none e = cc e
+
+turned : (a b : ℕ) → (a == b) ≡ (b == a)
+turned a b = grind (arith, nat_tests)
+
+same : (n : ℕ) → (n == n) ≡ true
+same n = grind (arith, nat_tests)
+
+not-same : (n : ℕ) → (suc n == zero) ≡ false
+not-same n = grind (arith, nat_tests)
+
+apart-suc : (a b : ℕ) → (suc a == suc b) ≡ (a == b)
+apart-suc a b = grind (arith, nat_tests)
+
+or-none : (b : Bool) → (b || false) ≡ b
+or-none true = refl
+or-none false = refl
+
+and-none : (b : Bool) → (b && false) ≡ false
+and-none true = refl
+and-none false = refl
+
+and-some : (b : Bool) → (b && true) ≡ b
+and-some true = refl
+and-some false = refl
+
+or-parts : (a b : Bool) → (a || b) ≡ false → (a ≡ false) × (b ≡ false)
+or-parts true b h = none (sym h)
+or-parts false b h = (refl, h)
+
+-- ---- the type of a node
+
+pub kind-in : (scope : Scope) (binds : List Bind) (entries : List Entry) (n : ℕ) → scope.rules ≡ map rule_of binds → kind_of scope entries n ≡ kind_in binds (find (sets_on n Kind) entries)
+kind-in scope binds entries n e = by (find (sets_on n Kind) entries)
+  where
+    given : (o : Option Bind) → option_and_then (λ (r : Rule). r.kind) (option_map rule_of o) ≡ option_and_then (λ (b : Bind). b.properties.kind) o
+    given None = refl
+    given (Some b) = refl
+
+    by : (o : Option Entry) → option_and_then (λ e. option_and_then (λ r. r.kind) (slice_get scope.rules e.bind)) o ≡ kind_in binds o
+    by None = refl
+    by (Some x) =
+        ap (λ rs. option_and_then (λ (r : Rule). r.kind) (slice_get rs x.bind)) e
+        ∙ ap (option_and_then (λ (r : Rule). r.kind)) (slice_get-map rule_of binds x.bind)
+        ∙ given (slice_get binds x.bind)
+
+-- ---- roots
+
+absent : (n : ℕ) (xs : List Node) → has_number n xs ≡ false → instance_of n xs ≡ None
+absent n [] h = refl
+absent n (x ∷ xs) h = by (is_root x.content) (absent n xs (or-parts (x.number == n) (has_number n xs) h).1)
+  where
+    is : (x.number == n) ≡ false
+    is = (or-parts (x.number == n) (has_number n xs) h).0
+
+    by : (r : Bool) → instance_of n xs ≡ None → cond r (cond (x.number == n) (Some 0) (option_map suc (instance_of n xs))) (instance_of n xs) ≡ None
+    by true rest = rw (is, rest) refl
+    by false rest = rest
+
+and-parts : (a b : Bool) → (a && b) ≡ true → (a ≡ true) × (b ≡ true)
+and-parts true b h = (refl, h)
+and-parts false b h = none h
+
+not-true : (b : Bool) → not b ≡ true → b ≡ false
+not-true true h = none h
+not-true false h = refl
+
+first-seat : (o : Option ℕ) → is_seat (option_map suc o) zero ≡ false
+first-seat None = refl
+first-seat (Some i) = not-same i
+
+next-seat : (o : Option ℕ) (j : ℕ) → is_seat (option_map suc o) (suc j) ≡ is_seat o j
+next-seat None j = refl
+next-seat (Some i) j = apart-suc i j
+
+root-there : (n k : ℕ) (xs : List Node) → are_apart xs ≡ true → has n (as_list (root_of k xs)) ≡ is_seat (instance_of n xs) k
+root-there n zero [] a = refl
+root-there n (suc k) [] a = refl
+root-there n zero (x ∷ xs) a = by (is_root x.content) (x.number == n) refl (root-there n zero xs (and-parts (not (has_number x.number xs)) (are_apart xs) a).1)
+  where
+    by : (r b : Bool) → (x.number == n) ≡ b → has n (as_list (root_of zero xs)) ≡ is_seat (instance_of n xs) zero
+        → has n (as_list (cond r (Some x.number) (root_of zero xs))) ≡ is_seat (cond r (cond b (Some 0) (option_map suc (instance_of n xs))) (instance_of n xs)) zero
+    by false b e rest = rest
+    by true true e rest = ap (λ b. b || false) (turned n x.number ∙ e)
+    by true false e rest = ap (λ b. b || false) (turned n x.number ∙ e) ∙ sym (first-seat (instance_of n xs))
+root-there n (suc k) (x ∷ xs) a =
+    by (is_root x.content) (x.number == n) refl (root-there n (suc k) xs (and-parts (not (has_number x.number xs)) (are_apart xs) a).1)
+    (root-there n k xs (and-parts (not (has_number x.number xs)) (are_apart xs) a).1)
+  where
+    is-absent : (x.number == n) ≡ true → instance_of n xs ≡ None
+    is-absent e =
+        absent n xs (ap (λ m. has_number m xs) (sym (eqb-true x.number n e)) ∙ not-true (has_number x.number xs) (and-parts (not (has_number x.number xs)) (are_apart xs) a).0)
+
+    by : (r b : Bool) → (x.number == n) ≡ b → has n (as_list (root_of (suc k) xs)) ≡ is_seat (instance_of n xs) (suc k) → has n (as_list (root_of k xs)) ≡ is_seat (instance_of n xs) k
+        → has n (as_list (cond r (root_of k xs) (root_of (suc k) xs))) ≡ is_seat (cond r (cond b (Some 0) (option_map suc (instance_of n xs))) (instance_of n xs)) (suc k)
+    by false b e same before = same
+    by true true e same before = before ∙ ap (λ o. is_seat o k) (is-absent e) ∙ sym (turned zero (suc k) ∙ not-same k)
+    by true false e same before = before ∙ sym (next-seat (instance_of n xs) k)
+
+-- ---- those of the model
+
+pub has-append : (n : ℕ) (xs ys : List ℕ) → has n (xs ++ ys) ≡ (has n xs || has n ys)
+has-append n [] ys = refl
+has-append n (x ∷ xs) ys = ap (λ b. (n == x) || b) (has-append n xs ys) ∙ grouped (n == x) (has n xs) (has n ys)
+  where
+    grouped : (a b c : Bool) → (a || (b || c)) ≡ ((a || b) || c)
+    grouped true b c = refl
+    grouped false b c = refl
+
+here : (n model : ℕ) (nodes : List Node) (k : ℕ) (x : Instance) → are_apart nodes ≡ true
+    → has n (cond (x.model == model) (as_list (root_of k nodes)) []) ≡ ((x.model == model) && is_seat (instance_of n nodes) k)
+here n model nodes k x a = by (x.model == model)
+  where
+    by : (b : Bool) → has n (cond b (as_list (root_of k nodes)) []) ≡ (b && is_seat (instance_of n nodes) k)
+    by true = root-there n k nodes a
+    by false = refl
+
+roots-none : (n model : ℕ) (nodes : List Node) (k : ℕ) (is : List Instance) → are_apart nodes ≡ true → ((i : ℕ) → is_seat (instance_of n nodes) (i + k) ≡ false) → has n (roots_from model nodes k is) ≡ false
+roots-none n model nodes k [] a h = refl
+roots-none n model nodes k (x ∷ xs) a h =
+    let none-here : is_seat (instance_of n nodes) k ≡ false = ap (is_seat (instance_of n nodes)) (let e : k ≡ 0 + k = omega arith in e) ∙ h 0 in
+    has-append n (cond (x.model == model) (as_list (root_of k nodes)) []) (roots_from model nodes (suc k) xs)
+    ∙ ap (λ b. b || has n (roots_from model nodes (suc k) xs)) (here n model nodes k x a ∙ ap (λ b. (x.model == model) && b) none-here ∙ and-none (x.model == model))
+    ∙ roots-none n model nodes (suc k) xs a (λ i. ap (is_seat (instance_of n nodes)) (let e : i + suc k ≡ suc i + k = omega arith in e) ∙ h (suc i))
+
+roots-some : (n model : ℕ) (nodes : List Node) (k : ℕ) (is : List Instance) (d : ℕ) → are_apart nodes ≡ true → instance_of n nodes ≡ Some (d + k)
+    → has n (roots_from model nodes k is) ≡ is_model model (option_map (λ i. i.model) (slice_get is d))
+roots-some n model nodes k [] d a h = refl
+roots-some n model nodes k (x ∷ xs) zero a h =
+    let stands : is_seat (instance_of n nodes) k ≡ true = ap (λ o. is_seat o k) h ∙ at-k k in
+    let rest : has n (roots_from model nodes (suc k) xs) ≡ false = roots-none n model nodes (suc k) xs a (λ i. ap (λ o. is_seat o (i + suc k)) h ∙ past i k) in
+    has-append n (cond (x.model == model) (as_list (root_of k nodes)) []) (roots_from model nodes (suc k) xs)
+    ∙ ap (λ b. has n (cond (x.model == model) (as_list (root_of k nodes)) []) || b) rest
+    ∙ or-none (has n (cond (x.model == model) (as_list (root_of k nodes)) []))
+    ∙ here n model nodes k x a ∙ ap (λ b. (x.model == model) && b) stands ∙ and-some (x.model == model) ∙ turned x.model model
+  where
+    at-k : (k : ℕ) → (zero + k == k) ≡ true
+    at-k k = grind (arith, nat_tests)
+
+    past : (i k : ℕ) → (zero + k == i + suc k) ≡ false
+    past i k = grind (arith, nat_tests)
+roots-some n model nodes k (x ∷ xs) (suc d) a h =
+    let later : is_seat (instance_of n nodes) k ≡ false = ap (λ o. is_seat o k) h ∙ past d k in
+    has-append n (cond (x.model == model) (as_list (root_of k nodes)) []) (roots_from model nodes (suc k) xs)
+    ∙ ap (λ b. b || has n (roots_from model nodes (suc k) xs)) (here n model nodes k x a ∙ ap (λ b. (x.model == model) && b) later ∙ and-none (x.model == model))
+    ∙ roots-some n model nodes (suc k) xs d a (h ∙ ap Some (let e : suc d + k ≡ d + suc k = omega arith in e))
+  where
+    past : (d k : ℕ) → (suc d + k == k) ≡ false
+    past d k = grind (arith, nat_tests)
+
+pub roots-held : (n model : ℕ) (nodes : List Node) (is : List Instance) → are_apart nodes ≡ true → has n (roots_from model nodes 0 is) ≡ is_model model (model_of is nodes n)
+roots-held n model nodes is a = by (instance_of n nodes) refl
+  where
+    by : (o : Option ℕ) → instance_of n nodes ≡ o → has n (roots_from model nodes 0 is) ≡ is_model model (option_and_then (λ k. option_map (λ i. i.model) (slice_get is k)) (instance_of n nodes))
+    by None e =
+        roots-none n model nodes 0 is a (λ i. ap (λ o. is_seat o (i + 0)) e)
+        ∙ ap (λ o. is_model model (option_and_then (λ k. option_map (λ i. i.model) (slice_get is k)) o)) (sym e)
+    by (Some j) e =
+        roots-some n model nodes 0 is j a (e ∙ ap Some (let e : j ≡ j + 0 = omega arith in e))
+        ∙ ap (λ o. is_model model (option_and_then (λ k. option_map (λ i. i.model) (slice_get is k)) o)) (sym e)
+
+-- ---- among the nodes of entries
+
+has-failed : (scope : Scope) (nodes : List Node) (roots : List ℕ) (k : Kept) (n : ℕ) (es : List Entry)
+    → has n (failed_among scope nodes roots k es) ≡ (is_failed scope nodes roots k n && list_any (λ e. n == e.node) es)
+has-failed scope nodes roots k n [] = sym (and-none (is_failed scope nodes roots k n))
+has-failed scope nodes roots k n (x ∷ xs) =
+    has-append n (failed_by scope nodes roots k x) (failed_among scope nodes roots k xs)
+    ∙ ap (λ b. has n (failed_by scope nodes roots k x) || b) (has-failed scope nodes roots k n xs)
+    ∙ by (n == x.node) refl
+  where
+    one : (f : Bool) → has n (cond f (x.node ∷ []) []) ≡ (f && ((n == x.node) || false))
+    one true = refl
+    one false = refl
+
+    joined : (f r : Bool) → ((f && true) || (f && r)) ≡ (f && true)
+    joined true r = refl
+    joined false r = refl
+
+    by : (c : Bool) → (n == x.node) ≡ c
+        → (has n (failed_by scope nodes roots k x) || (is_failed scope nodes roots k n && list_any (λ e. n == e.node) xs)) ≡ (is_failed scope nodes roots k n && ((n == x.node) || list_any (λ e. n == e.node) xs))
+    by true c =
+        ap (λ b. b || (is_failed scope nodes roots k n && list_any (λ e. n == e.node) xs))
+        (one (is_failed scope nodes roots k x.node) ∙ ap (λ b. is_failed scope nodes roots k x.node && (b || false)) c ∙ ap (λ m. is_failed scope nodes roots k m && true) (sym (eqb-true n x.node c)))
+        ∙ joined (is_failed scope nodes roots k n) (list_any (λ e. n == e.node) xs)
+        ∙ ap (λ b. is_failed scope nodes roots k n && (b || list_any (λ e. n == e.node) xs)) (sym c)
+    by false c =
+        ap (λ b. b || (is_failed scope nodes roots k n && list_any (λ e. n == e.node) xs))
+        (one (is_failed scope nodes roots k x.node) ∙ ap (λ b. is_failed scope nodes roots k x.node && (b || false)) c ∙ and-none (is_failed scope nodes roots k x.node))
+        ∙ ap (λ b. is_failed scope nodes roots k n && (b || list_any (λ e. n == e.node) xs)) (sym c)
+
+-- a node without an entry is valid
+
+unset : (n : ℕ) (p : Property) (es : List Entry) → list_any (λ e. n == e.node) es ≡ false → find (sets_on n p) es ≡ None
+unset n p [] h = refl
+unset n p (x ∷ xs) h = let q = or-parts (n == x.node) (list_any (λ e. n == e.node) xs) h in let is : (x.node == n) ≡ false = turned x.node n ∙ q.0 in rw is (unset n p xs q.1)
+
+own-none : (k : Kept) (n : ℕ) (p : Property) (d : Bool) → is_property p Kind ≡ false → list_any (λ e. n == e.node) k.entries ≡ false → own (values_of k) p d n ≡ d
+own-none k n p d c h = own-in k n p d c ∙ ap (λ o. truth_told d (option_map (truth_from k.stood) o)) (unset n p k.entries h)
+
+valid-none : (scope : Scope) (nodes : List Node) (k : Kept) (n : ℕ) → list_any (λ e. n == e.node) k.entries ≡ false → fails scope nodes k n ≡ false
+valid-none scope nodes k n h =
+    ap not (ap (λ a. (a && not (own (values_of k) Required false n && is_empty s)) && meets_kind meets_type (kind_of scope k.entries n) s) (own-none k n Constraint true refl h)
+    ∙ ap (λ r. not (r && is_empty s) && meets_kind meets_type (kind_of scope k.entries n) s) (own-none k n Required false refl h)
+    ∙ ap (λ o. meets_kind meets_type (option_and_then (λ e. option_and_then (λ r. r.kind) (slice_get scope.rules e.bind)) o) s) (unset n Kind k.entries h))
+  where
+    s : List ℕ
+    s = string_value n (visits nodes)
+
+-- ---- in document order
+
+filter-visits : (p q : ℕ → Bool) (above xs : List Node) → ((n : ℕ) → has_number n xs ≡ true → p n ≡ q n) → filter (λ (v : Visit). p v.number) (visits_from above xs) ≡ filter (λ (v : Visit). q v.number) (visits_from above xs)
+filter-visits p q above [] h = refl
+filter-visits p q above (x ∷ xs) h =
+    ap (λ b. cond b (visit above x ∷ filter (λ (v : Visit). p v.number) (visits_from (x ∷ still_above x.depth above) xs)) (filter (λ (v : Visit). p v.number) (visits_from (x ∷ still_above x.depth above) xs)))
+    (h x.number (ap (λ b. b || has_number x.number xs) (same x.number)))
+    ∙ ap (λ l. cond (q x.number) (visit above x ∷ l) l) (filter-visits p q (x ∷ still_above x.depth above) xs (λ n i. h n (right (x.number == n) (has_number n xs) i)))
+  where
+    right : (a b : Bool) → b ≡ true → (a || b) ≡ true
+    right true b h = refl
+    right false b h = h
+
+pub invalid-found : (scope : Scope) (instances : List Instance) (nodes : List Node) (k : Kept) → are_apart nodes ≡ true
+    → in_order (visits nodes) (failed_among scope nodes (roots_from scope.model nodes 0 instances) k k.entries) ≡ invalid_in scope instances nodes k
+invalid-found scope instances nodes k a =
+    ap (map (λ (v : Visit). v.number)) (filter-visits (λ n. has n (failed_among scope nodes roots k k.entries)) (is_invalid scope instances nodes k) [] nodes at)
+  where
+    roots : List ℕ
+    roots = roots_from scope.model nodes 0 instances
+
+    at : (n : ℕ) → has_number n nodes ≡ true → has n (failed_among scope nodes roots k k.entries) ≡ is_invalid scope instances nodes k n
+    at n live = has-failed scope nodes roots k n k.entries ∙ by (list_any (λ e. n == e.node) k.entries) refl
+      where
+        failed : is_failed scope nodes roots k n ≡ (is_held instances scope.model nodes n && fails scope nodes k n)
+        failed =
+            ap (λ b. (b && has (top_of n (visits nodes)) roots) && fails scope nodes k n) live
+            ∙ ap (λ b. b && fails scope nodes k n) (roots-held (top_of n (visits nodes)) scope.model nodes instances a)
+
+        by : (b : Bool) → list_any (λ e. n == e.node) k.entries ≡ b → (is_failed scope nodes roots k n && list_any (λ e. n == e.node) k.entries) ≡ is_invalid scope instances nodes k n
+        by true e = ap (λ b. is_failed scope nodes roots k n && b) e ∙ and-some (is_failed scope nodes roots k n) ∙ failed
+        by false e =
+            ap (λ b. is_failed scope nodes roots k n && b) e ∙ and-none (is_failed scope nodes roots k n)
+            ∙ sym (and-none (is_held instances scope.model nodes n)) ∙ ap (λ b. is_held instances scope.model nodes n && b) (sym (valid-none scope nodes k n e))
+
+-- ---- what makes a node fail
+
+pub fails-by : (scope : Scope) (nodes : List Node) (k : Kept) (n : ℕ) (met missing fits : Bool) → own (values_of k) Constraint true n ≡ met
+    → (own (values_of k) Required false n && is_empty (string_value n (visits nodes))) ≡ missing → meets_kind meets_type (kind_of scope k.entries n) (string_value n (visits nodes)) ≡ fits
+    → fails scope nodes k n ≡ not ((met && not missing) && fits)
+fails-by scope nodes k n met missing fits a b d =
+    ap (λ m. not ((m && not (own (values_of k) Required false n && is_empty (string_value n (visits nodes)))) && meets_kind meets_type (kind_of scope k.entries n) (string_value n (visits nodes)))) a
+    ∙ ap (λ m. not ((met && not m) && meets_kind meets_type (kind_of scope k.entries n) (string_value n (visits nodes)))) b
+    ∙ ap (λ m. not ((met && not missing) && m)) d
+
+pub fails-unmet : (scope : Scope) (nodes : List Node) (k : Kept) (n : ℕ) → own (values_of k) Constraint true n ≡ false → true ≡ fails scope nodes k n
+fails-unmet scope nodes k n a =
+    sym (fails-by scope nodes k n false (own (values_of k) Required false n && is_empty (string_value n (visits nodes))) (meets_kind meets_type (kind_of scope k.entries n) (string_value n (visits nodes))) a refl refl)
+
+pub fails-missing : (scope : Scope) (nodes : List Node) (k : Kept) (n : ℕ) → own (values_of k) Constraint true n ≡ true → (own (values_of k) Required false n && is_empty (string_value n (visits nodes))) ≡ true → true ≡ fails scope nodes k n
+fails-missing scope nodes k n a b =
+    sym (fails-by scope nodes k n true true (meets_kind meets_type (kind_of scope k.entries n) (string_value n (visits nodes))) a b refl)
+
+pub fails-else : (scope : Scope) (nodes : List Node) (k : Kept) (n : ℕ) (fits : Bool) → own (values_of k) Constraint true n ≡ true → (own (values_of k) Required false n && is_empty (string_value n (visits nodes))) ≡ false
+    → fits ≡ meets_kind meets_type (kind_of scope k.entries n) (string_value n (visits nodes)) → not fits ≡ fails scope nodes k n
+fails-else scope nodes k n fits a b d = sym (fails-by scope nodes k n true false fits a b (sym d))
+
+pub failed-not : (scope : Scope) (nodes : List Node) (roots : List ℕ) (k : Kept) (n : ℕ) → has_number n nodes ≡ false → false ≡ is_failed scope nodes roots k n
+failed-not scope nodes roots k n h = sym (ap (λ b. (b && has (top_of n (visits nodes)) roots) && fails scope nodes k n) h)
+
+pub failed-outside : (scope : Scope) (nodes : List Node) (roots : List ℕ) (k : Kept) (n : ℕ) → has (top_of n (visits nodes)) roots ≡ false → false ≡ is_failed scope nodes roots k n
+failed-outside scope nodes roots k n h = sym (ap (λ b. (has_number n nodes && b) && fails scope nodes k n) h ∙ ap (λ b. b && fails scope nodes k n) (and-none (has_number n nodes)))
+
+pub failed-inside : (scope : Scope) (nodes : List Node) (roots : List ℕ) (k : Kept) (n : ℕ) → has_number n nodes ≡ true → has (top_of n (visits nodes)) roots ≡ true → fails scope nodes k n ≡ is_failed scope nodes roots k n
+failed-inside scope nodes roots k n h i = sym (ap (λ b. (b && has (top_of n (visits nodes)) roots) && fails scope nodes k n) h ∙ ap (λ b. b && fails scope nodes k n) i)
+
+-- ---- for loops over entries and instances
+
+pub failed-step : (scope : Scope) (nodes : List Node) (roots : List ℕ) (k : Kept) (es : List Entry) (at : ℕ)
+    → failed_at scope nodes roots k (slice_get es at) ++ failed_among scope nodes roots k (drop (suc at) es) ≡ failed_among scope nodes roots k (drop at es)
+failed-step scope nodes roots k [] zero = refl
+failed-step scope nodes roots k [] (suc at) = refl
+failed-step scope nodes roots k (x ∷ xs) zero = refl
+failed-step scope nodes roots k (x ∷ xs) (suc at) = failed-step scope nodes roots k xs at
+
+pub failed-more : (scope : Scope) (nodes : List Node) (roots : List ℕ) (k : Kept) (es : List Entry) (at : ℕ) (old new : List ℕ)
+    → old ++ failed_among scope nodes roots k (drop at es) ≡ failed_among scope nodes roots k es → new ≡ old ++ failed_at scope nodes roots k (slice_get es at)
+    → new ++ failed_among scope nodes roots k (drop (at + 1) es) ≡ failed_among scope nodes roots k es
+failed-more scope nodes roots k es at old new so_far added =
+    ap (λ j. new ++ failed_among scope nodes roots k (drop j es)) (let e : at + 1 ≡ suc at = omega arith in e)
+    ∙ ap (λ l. l ++ failed_among scope nodes roots k (drop (suc at) es)) added
+    ∙ append_assoc old (failed_at scope nodes roots k (slice_get es at)) (failed_among scope nodes roots k (drop (suc at) es))
+    ∙ ap (λ l. old ++ l) (failed-step scope nodes roots k es at) ∙ so_far
+
+pub drop-get : {X : Type 0} (xs : List X) (i : ℕ) (x : X) → slice_get xs i ≡ Some x → drop i xs ≡ x ∷ drop (i + 1) xs
+drop-get [] i x e = cc e
+drop-get (y ∷ ys) zero x e = let is : y ≡ x = cc e in ap (λ z. z ∷ ys) is
+drop-get (y ∷ ys) (suc i) x e = drop-get ys i x e ∙ ap (λ l. x ∷ l) (let s : i + 1 ≡ suc i = omega arith in ap (λ j. drop j ys) s ∙ next i)
+  where
+    next : (i : ℕ) → drop (suc i) ys ≡ drop (suc i + 1) (y ∷ ys)
+    next i = let s : suc i + 1 ≡ suc (suc i) = omega arith in rw s refl
+
+drop-past : {X : Type 0} (xs : List X) (at : ℕ) → length xs ≤ at → drop at xs ≡ []
+drop-past [] zero h = refl
+drop-past [] (suc at) h = refl
+drop-past (x ∷ xs) zero h = absurd (let z : suc (length xs) ≤ 0 = h in omega (arith, z))
+drop-past (x ∷ xs) (suc at) h = drop-past xs at (let z : suc (length xs) ≤ suc at = h in omega (arith, z))
+
+pub failed-all : (scope : Scope) (nodes : List Node) (roots : List ℕ) (k : Kept) (es : List Entry) (at : ℕ) (found : List ℕ)
+    → found ++ failed_among scope nodes roots k (drop at es) ≡ failed_among scope nodes roots k es → length es ≤ at → found ≡ failed_among scope nodes roots k es
+failed-all scope nodes roots k es at found so_far past =
+    sym (append-nil found) ∙ ap (λ l. found ++ failed_among scope nodes roots k l) (sym (drop-past es at past)) ∙ so_far
+
+pub roots-more : (model : ℕ) (nodes : List Node) (is : List Instance) (place : ℕ) (x : Instance) (old new all : List ℕ) → place < length is → x ≡ get_or is place x
+    → old ++ roots_from model nodes place (drop place is) ≡ all → new ≡ old ++ cond (x.model == model) (as_list (root_of place nodes)) []
+    → new ++ roots_from model nodes (place + 1) (drop (place + 1) is) ≡ all
+roots-more model nodes is place x old new all within here so_far added =
+    ap (λ l. l ++ roots_from model nodes (place + 1) (drop (place + 1) is)) added
+    ∙ append_assoc old (cond (x.model == model) (as_list (root_of place nodes)) []) (roots_from model nodes (place + 1) (drop (place + 1) is))
+    ∙ ap (λ j. old ++ (cond (x.model == model) (as_list (root_of place nodes)) [] ++ roots_from model nodes j (drop (place + 1) is))) (let e : place + 1 ≡ suc place = omega arith in e)
+    ∙ ap (λ l. old ++ roots_from model nodes place l) (sym (drop-get is place x (slice_get_read is (length is) place x refl within here)))
+    ∙ so_far
+
+pub roots-all : (model : ℕ) (nodes : List Node) (is : List Instance) (place : ℕ) (roots all : List ℕ) → length is ≤ place → roots ++ roots_from model nodes place (drop place is) ≡ all → roots ≡ all
+roots-all model nodes is place roots all past so_far = sym (append-nil roots) ∙ ap (λ l. roots ++ roots_from model nodes place l) (sym (drop-past is place past)) ∙ so_far
+
+-- what follows from an Ok
+pub on-ok : {A E : Type 0} (r : Result A E) (P Q : Type 0) → (P → Q) → OnOk r P → OnOk r Q
+on-ok (Ok x) P Q f h = f h
+on-ok (Err e) P Q f h = h

@@ -1,0 +1,5 @@
+pub mod Chains
+pub mod Inherited
+pub mod InvalidLemmas
+pub mod Told
+pub mod Pieces

@@ -1,0 +1,45 @@
+-- How the nodes that are not valid are found: among those of entries, by the roots of their trees.
+use Rattle.std.specs.Prelude.{ℕ, suc, Bool, not, ◌&&◌, List, [], ◌∷◌, ◌++◌, Option, Some, None, option_and_then, slice_get, ◌==◌, if◌then◌else◌}
+use Rattle.std.specs.List.{flat_map}
+use Rattle.xf_types.specs.declared.kind.SimpleType.{SimpleType}
+use Rattle.xf_types.specs.Meets.{meets_type}
+use Rattle.xf_ast.specs.declared.form.Bind.{Bind}
+use Rattle.xf_ast.specs.declared.form.Instance.{Instance}
+use Rattle.xf_doc.specs.declared.content.Node.{Node}
+use Rattle.xf_doc.specs.Changes.{root_of}
+use Rattle.xf_doc.specs.Forest.{has_number}
+use Rattle.xf_doc.specs.Visit.{visits, has, top_of}
+use Rattle.xf_lang.specs.Binding.{as_list}
+use Rattle.xf_model.specs.Applied.{Entry}
+use Rattle.xf_model.specs.Rules.{Scope}
+use Rattle.xf_model.specs.Properties.{is_valid}
+use Rattle.xf_binds.specs.Kept.{Kept, values_of}
+
+-- the roots of the model's instances, where the first of these has this place among all
+abbrev pub roots_from : ℕ → List Node → ℕ → List Instance → List ℕ
+roots_from model nodes place [] = []
+roots_from model nodes place (i ∷ is) = (if i.model == model then as_list (root_of place nodes) else []) ++ roots_from model nodes (suc place) is
+
+-- the node stands in the tree of one of these roots
+abbrev pub is_under : List Node → List ℕ → ℕ → Bool
+is_under nodes roots n = has_number n nodes && has (top_of n (visits nodes)) roots
+
+abbrev pub fails : Scope → List Node → Kept → ℕ → Bool
+fails scope nodes k n = not (is_valid meets_type scope (visits nodes) k.entries (values_of k) n)
+
+abbrev pub is_failed : Scope → List Node → List ℕ → Kept → ℕ → Bool
+is_failed scope nodes roots k n = is_under nodes roots n && fails scope nodes k n
+
+abbrev pub failed_by : Scope → List Node → List ℕ → Kept → Entry → List ℕ
+failed_by scope nodes roots k e = if is_failed scope nodes roots k e.node then e.node ∷ [] else []
+
+abbrev pub failed_at : Scope → List Node → List ℕ → Kept → Option Entry → List ℕ
+failed_at scope nodes roots k None = []
+failed_at scope nodes roots k (Some e) = failed_by scope nodes roots k e
+
+abbrev pub failed_among : Scope → List Node → List ℕ → Kept → List Entry → List ℕ
+failed_among scope nodes roots k es = flat_map (failed_by scope nodes roots k) es
+
+-- the type that an entry gives
+abbrev pub kind_in : List Bind → Option Entry → Option SimpleType
+kind_in binds e = option_and_then (λ e. option_and_then (λ b. b.properties.kind) (slice_get binds e.bind)) e

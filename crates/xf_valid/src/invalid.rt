@@ -1,0 +1,268 @@
+//! The nodes that are not valid (XForms 1.1, section 4.3.3).
+
+ghost use Rattle.std.specs.Prelude.{◌≡◌, ◌<◌, ◌==◌, ◌&&◌, ◌++◌, ◌∷◌, [], if◌then◌else◌, length, false, find, IfOk, OnOk, OnErr, option_map, slice_get};
+ghost use Rattle.xf_num.specs.Written.{is_empty};
+ghost use Rattle.xf_types.specs.Meets.{meets_type};
+ghost use Rattle.xf_plain_values.specs.Functions.{Functions};
+ghost use Rattle.xf_doc.specs.Changes.{root_of};
+ghost use Rattle.xf_doc.specs.Forest.{IsLive};
+ghost use Rattle.xf_doc.specs.StringValue.{string_value};
+ghost use Rattle.xf_doc.specs.Visit.{visits};
+ghost use Rattle.xf_lang.specs.Binding.{as_list};
+ghost use Rattle.xf_lang.specs.Given.{Given};
+ghost use Rattle.xf_model.specs.Applied.{is_property};
+ghost use Rattle.xf_model.specs.Properties.{meets_kind, own, sets_on};
+ghost use Rattle.xf_model.specs.Rules.{scope_of};
+ghost use Rattle.xf_binds.specs.Held.{entry_of};
+ghost use Rattle.xf_binds.specs.Kept.{values_of};
+ghost use Rattle.xf_binds.specs.Table.{kept_at, with_kept};
+ghost use Rattle.xf_valid.specs.Failed.{failed_among, failed_at, fails, is_failed, kind_in, roots_from};
+ghost use Rattle.xf_valid.specs.Invalid.{revalidated};
+
+use crate::nodes::truth_or;
+use std::alloc::{AllocError, Global};
+use xf_ast::{Bind, Instance, Tables};
+use xf_binds::{Entry, NodeSet, Table};
+use xf_doc::{NodeId, NodeList};
+use xf_model::Property;
+use xf_tree::Forest;
+use xf_types::{SimpleType, meets};
+
+/// Finds the nodes of the model's instances that are not valid, and keeps them in the table.
+pub fn revalidate(
+    alloc: Global,
+    tables: &Tables,
+    forest: &Forest,
+    model: u32,
+    table: &mut Table,
+) -> Result<(), AllocError>
+    requires { model < length table.old }
+    ensures ok { OnOk result ((functions : Functions) (given : Given)
+        → table.new ≡ with_kept table.old model (revalidated (scope_of functions given tables.now model) tables.now.instances forest.now.forest.nodes (kept_at table.old model))) }
+    ensures err { OnErr result (table.new ≡ table.old) }
+{
+    forest.are_trees();
+    let roots = roots_of(alloc, tables.instances.as_slice(), forest, model)?;
+    let found = all_failed(alloc, tables, forest, model, table, &roots)?;
+    let ordered = forest.in_order(&found)?;
+    let invalid = NodeSet::of(alloc, ordered)?;
+    table.set_invalid(model, invalid);
+    Ok(())
+}
+
+/// The nodes of entries that stand in an instance with one of these roots and are not valid.
+fn all_failed(
+    alloc: Global,
+    tables: &Tables,
+    forest: &Forest,
+    model: u32,
+    table: &Table,
+    roots: &NodeSet,
+) -> Result<NodeList, AllocError>
+    ensures { IfOk result (λ found. (functions : Functions) (given : Given)
+        → found ≡ failed_among (scope_of functions given tables.now model) forest.now.forest.nodes roots.now (kept_at table.now model) (kept_at table.now model).entries) }
+{
+    let mut found = NodeList::new(alloc);
+    let count = table.len(model);
+    for at in 0..count {
+        push_failed(&mut found, tables, forest, model, table, roots, at)?;
+    }
+    Ok(found)
+}
+
+/// Adds the node of an entry, where it stands in an instance with one of these roots and is not valid.
+fn push_failed(
+    found: &mut NodeList,
+    tables: &Tables,
+    forest: &Forest,
+    model: u32,
+    table: &Table,
+    roots: &NodeSet,
+    at: usize,
+) -> Result<(), AllocError>
+    ensures { OnOk result ((functions : Functions) (given : Given) → found.new ≡ found.old
+        ++ failed_at (scope_of functions given tables.now model) forest.now.forest.nodes roots.now (kept_at table.now model) (slice_get (kept_at table.now model).entries at)) }
+{
+    let Some(entry) = table.entry(model, at) else {
+        return Ok(());
+    };
+    let failed = is_failed(tables, forest, model, table, roots, entry.node)?;
+    push_where(found, failed, entry.node)
+}
+
+fn push_where(found: &mut NodeList, is_wanted: bool, node: NodeId) -> Result<(), AllocError>
+    ensures { OnOk result (found.new ≡ found.old ++ (if is_wanted then node.number ∷ [] else [])) }
+{
+    if is_wanted {
+        found.push(node)?;
+    }
+    Ok(())
+}
+
+/// Whether a node stands in an instance with one of these roots and is not valid.
+fn is_failed(
+    tables: &Tables,
+    forest: &Forest,
+    model: u32,
+    table: &Table,
+    roots: &NodeSet,
+    node: NodeId,
+) -> Result<bool, AllocError>
+    ensures { IfOk result (λ failed. (functions : Functions) (given : Given)
+        → failed ≡ is_failed (scope_of functions given tables.now model) forest.now.forest.nodes roots.now (kept_at table.now model) node.number) }
+{
+    let stands = forest.is_live(node);
+    if !stands {
+        return Ok(false);
+    }
+    let is_under = roots.has(forest.top(node));
+    if !is_under {
+        return Ok(false);
+    }
+    fails(tables, forest, model, table, node)
+}
+
+/// Whether a node is not valid.
+fn fails(
+    tables: &Tables,
+    forest: &Forest,
+    model: u32,
+    table: &Table,
+    node: NodeId,
+) -> Result<bool, AllocError>
+    requires { IsLive node.number forest.now.forest }
+    ensures { IfOk result (λ failed. (functions : Functions) (given : Given)
+        → failed ≡ fails (scope_of functions given tables.now model) forest.now.forest.nodes (kept_at table.now model) node.number) }
+{
+    let is_met = own(table, model, node, Property::Constraint, true);
+    if !is_met {
+        return Ok(true);
+    }
+    let is_missing = is_missing(table, model, forest, node);
+    if is_missing {
+        return Ok(true);
+    }
+    let fits = is_of_kind(tables, forest, model, table, node)?;
+    Ok(!fits)
+}
+
+/// Whether a node is required and empty.
+fn is_missing(table: &Table, model: u32, forest: &Forest, node: NodeId) -> bool
+    requires { IsLive node.number forest.now.forest }
+    ensures { result ≡ (own (values_of (kept_at table.now model)) Property.Required false node.number && is_empty (string_value node.number (visits forest.now.forest.nodes))) }
+{
+    own(table, model, node, Property::Required, false) && is_empty(forest, node)
+}
+
+/// Whether the string value of a node meets its type.
+fn is_of_kind(
+    tables: &Tables,
+    forest: &Forest,
+    model: u32,
+    table: &Table,
+    node: NodeId,
+) -> Result<bool, AllocError>
+    requires { IsLive node.number forest.now.forest }
+    ensures { IfOk result (λ met. met ≡ meets_kind meets_type (kind_in tables.now.binds (find (sets_on node.number Property.Kind) (kept_at table.now model).entries)) (string_value node.number (visits forest.now.forest.nodes))) }
+{
+    match kind_in(
+        tables.binds.as_slice(),
+        table.entry_on(model, node, Property::Kind),
+    ) {
+        Some(kind) => meets_at(forest, kind, node),
+        None => Ok(true),
+    }
+}
+
+/// The roots of the model's instances.
+fn roots_of(
+    alloc: Global,
+    instances: &[Instance],
+    forest: &Forest,
+    model: u32,
+) -> Result<NodeSet, AllocError>
+    ensures { IfOk result (λ roots. roots ≡ roots_from model forest.now.forest.nodes 0 instances.now) }
+{
+    let mut roots = NodeList::new(alloc);
+    for place in 0..instances.len() {
+        push_root(&mut roots, forest, &instances[place], model, place)?;
+    }
+    NodeSet::of(alloc, roots)
+}
+
+/// Adds the root of an instance of the model. One past those that 32 bits count is told as want of memory: no memory holds so many.
+fn push_root(
+    roots: &mut NodeList,
+    forest: &Forest,
+    instance: &Instance,
+    model: u32,
+    place: usize,
+) -> Result<(), AllocError>
+    ensures { OnOk result (roots.new ≡ roots.old ++ (if instance.now.model == model then as_list (root_of place forest.now.forest.nodes) else [])) }
+{
+    if instance.model != model {
+        return Ok(());
+    }
+    if place > u32::MAX as usize {
+        return Err(AllocError);
+    }
+    match forest.root(place as u32) {
+        Some(root) => roots.push(root),
+        None => Ok(()),
+    }
+}
+
+/// The truth that the node's own entry of the model has.
+fn own(table: &Table, model: u32, node: NodeId, property: Property, default: bool) -> bool
+    requires { is_property property Property.Kind ≡ false }
+    ensures { result ≡ own (values_of (kept_at table.now model)) property default node.number }
+{
+    match table.truth_in(model, node, property) {
+        Some(truth) => truth_or(truth, default),
+        None => default,
+    }
+}
+
+/// The type that an entry gives.
+fn kind_in(binds: &[Bind], entry: Option<Entry>) -> Option<&SimpleType>
+    ensures { option_map (λ kind. kind.now) result ≡ kind_in binds.now (option_map entry_of entry) }
+{
+    match entry {
+        Some(entry) => match binds.get(entry.bind as usize) {
+            Some(bind) => bind.properties.kind.as_ref(),
+            None => None,
+        },
+        None => None,
+    }
+}
+
+/// Whether the string value of a node is empty.
+fn is_empty(forest: &Forest, node: NodeId) -> bool
+    requires { IsLive node.number forest.now.forest }
+    ensures { result ≡ is_empty (string_value node.number (visits forest.now.forest.nodes)) }
+{
+    match forest.whole_value(node) {
+        Some(text) => is_empty_text(text),
+        None => false,
+    }
+}
+
+fn is_empty_text(text: &str) -> bool
+    ensures { result ≡ is_empty text.now }
+{
+    text.is_empty()
+}
+
+/// Whether the string value of a node meets a type. One with more bytes than any memory has is told as want of memory.
+fn meets_at(forest: &Forest, kind: &SimpleType, node: NodeId) -> Result<bool, AllocError>
+    requires { IsLive node.number forest.now.forest }
+    ensures { IfOk result (λ met. met ≡ meets_type kind.now (string_value node.number (visits forest.now.forest.nodes))) }
+{
+    if let Some(text) = forest.whole_value(node) {
+        return Ok(meets(kind, text));
+    }
+    match forest.string_value(node, u32::MAX)? {
+        Some(text) => Ok(meets(kind, text.as_str())),
+        None => Err(AllocError),
+    }
+}

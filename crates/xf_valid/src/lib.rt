@@ -1,0 +1,10 @@
+//! The properties of nodes: relevant, readonly, required, valid.
+#![tactic(auto)]
+
+mod invalid;
+mod marks;
+mod nodes;
+
+pub use invalid::revalidate;
+pub use marks::{Marks, marks_of};
+pub use nodes::{is_readonly, is_relevant, is_required, is_valid};

@@ -1,0 +1,99 @@
+//! The properties of one node (XForms 1.1, section 6.1).
+
+ghost use Rattle.std.specs.Prelude.{◌≡◌, false, Some};
+ghost use Rattle.xf_doc.specs.Forest.{IsLive};
+ghost use Rattle.xf_model.specs.Applied.{is_property};
+ghost use Rattle.xf_model.specs.Properties.{own, own_readonly};
+ghost use Rattle.xf_binds.specs.Kept.{values_in};
+ghost use Rattle.xf_binds.specs.Table.{truth_told};
+ghost use Rattle.xf_valid.specs.Nodes.{readonly_in, relevant_in, required_in, valid_in};
+
+use xf_binds::Table;
+use xf_doc::NodeId;
+use xf_model::Property;
+use xf_tree::Forest;
+
+/// Whether it and all its ancestors are relevant (section 6.1.4). It costs one look for each of these.
+pub fn is_relevant(forest: &Forest, table: &Table, node: NodeId) -> bool
+    requires { IsLive node.number forest.now.forest }
+    ensures { result ≡ relevant_in table.now forest.now.forest.nodes node.number }
+{
+    forest.are_trees();
+    let mut at = node;
+    let is_first = own(table, at, Property::Relevant, true);
+    if !is_first {
+        return false;
+    }
+    while let Some(parent) = forest.parent(at) {
+        let is_next = own(table, parent, Property::Relevant, true);
+        if !is_next {
+            return false;
+        }
+        at = parent;
+    }
+    true
+}
+
+/// Whether it or an ancestor is readonly (section 6.1.2). It costs one look for each of these.
+pub fn is_readonly(forest: &Forest, table: &Table, node: NodeId) -> bool
+    requires { IsLive node.number forest.now.forest }
+    ensures { result ≡ readonly_in table.now forest.now.forest.nodes node.number }
+{
+    forest.are_trees();
+    let mut at = node;
+    let is_first = own_readonly(table, at);
+    if is_first {
+        return true;
+    }
+    while let Some(parent) = forest.parent(at) {
+        let is_next = own_readonly(table, parent);
+        if is_next {
+            return true;
+        }
+        at = parent;
+    }
+    false
+}
+
+/// Whether it is required (section 6.1.3).
+pub fn is_required(table: &Table, node: NodeId) -> bool
+    ensures { result ≡ required_in table.now node.number }
+{
+    own(table, node, Property::Required, false)
+}
+
+/// Whether the last revalidation found it valid, or it came since.
+pub fn is_valid(table: &Table, node: NodeId) -> bool
+    ensures { result ≡ valid_in table.now node.number }
+{
+    !table.is_invalid(node)
+}
+
+/// The truth that the node's own entry has.
+pub(crate) fn own(table: &Table, node: NodeId, property: Property, default: bool) -> bool
+    requires { is_property property Property.Kind ≡ false }
+    ensures { result ≡ own (values_in table.now) property default node.number }
+{
+    match table.truth(node, property) {
+        Some(truth) => truth_or(truth, default),
+        None => default,
+    }
+}
+
+/// The truth, where there is one.
+pub(crate) fn truth_or(truth: Option<bool>, default: bool) -> bool
+    ensures { result ≡ truth_told default (Some truth) }
+{
+    match truth {
+        Some(truth) => truth,
+        None => default,
+    }
+}
+
+/// A calculate makes its node readonly, unless the node has a readonly entry.
+pub(crate) fn own_readonly(table: &Table, node: NodeId) -> bool
+    ensures { result ≡ own_readonly (values_in table.now) node.number }
+{
+    let is_calculated = table.truth(node, Property::Calculate).is_some();
+    own(table, node, Property::Readonly, is_calculated)
+}

@@ -1,0 +1,95 @@
+-- The vocabulary at single elements and attributes.
+use Rattle.std.proofs.Common.{◌≡◌, ℕ, List, [], ◌∷◌, Some, None, Ok, Err, true, false, refl}
+use Rattle.std.specs.Prelude.{codes}
+use Rattle.xf_name.specs.Bindings.{Bindings}
+use Rattle.xf_name.specs.declared.fault.NameFault.TheVariants.{PrefixUnknown}
+use Rattle.xf_table.specs.Contents.{element_entries, attribute_entries}
+use Rattle.xf_vocabulary.specs.declared.attribute.TheConstants as at
+use Rattle.xf_vocabulary.specs.declared.rules.Wanted.TheVariants as wanted
+use Rattle.xf_vocabulary.specs.declared.tag.Tag.TheVariants as tag
+use Rattle.xf_vocabulary.specs.declared.texts.Choice.TheVariants as choice
+use Rattle.xf_vocabulary.specs.Attributes.{code_in}
+use Rattle.xf_vocabulary.specs.Faults.{is_bad_text, type_by}
+use Rattle.xf_vocabulary.specs.Needs.{lacks}
+use Rattle.xf_vocabulary.specs.Placement.{may_stand}
+use Rattle.xf_vocabulary.specs.Rules.{is_expression, is_computed, choice_of, wanted_of}
+use Rattle.xf_vocabulary.specs.Tags.{tag_by, forms_uri}
+use Rattle.xf_vocabulary.specs.Texts.{allows}
+
+abbrev b : Bindings
+b = record { spaces = forms_uri ∷ codes "urn:u" ∷ []; prefixes = (codes "xf", 1) ∷ (codes "u", 2) ∷ [] }
+
+-- ---- names
+
+select_one : tag_by b (Ok (record { space = 1; prefix = 1; local = codes "select1" })) ≡ tag.SelectOne
+unfolding element_entries
+select_one = refl
+
+no_element : tag_by b (Ok (record { space = 1; prefix = 1; local = codes "inpt" })) ≡ tag.Unknown
+unfolding element_entries
+no_element = refl
+
+other_space : tag_by b (Ok (record { space = 2; prefix = 2; local = codes "input" })) ≡ tag.Host
+other_space = refl
+
+target_of_events : code_in true (codes "target") ≡ Some at.EVENT_TARGET
+unfolding attribute_entries
+target_of_events = refl
+
+no_phase_of_xforms : code_in false (codes "phase") ≡ None
+unfolding attribute_entries
+no_phase_of_xforms = refl
+
+-- ---- places
+
+item_in_host : may_stand tag.Item tag.Host ≡ false
+item_in_host = refl
+
+message_in_switch : may_stand tag.Message tag.Switch ≡ false
+message_in_switch = refl
+
+help_in_item : may_stand tag.Help tag.Item ≡ true
+help_in_item = refl
+
+-- ---- attributes
+
+node_set_of_bind : is_computed tag.Bind at.NODESET ≡ true
+node_set_of_bind = refl
+
+node_set_of_repeat : is_computed tag.Repeat at.NODESET ≡ false
+node_set_of_repeat = refl
+
+resource_of_load : is_expression tag.Load at.RESOURCE ≡ false
+resource_of_load = refl
+
+no_model_of_output : wanted_of tag.Output false at.MODEL ≡ None
+no_model_of_output = refl
+
+phase_of_handler : choice_of tag.Message true at.PHASE ≡ Some choice.Phase
+phase_of_handler = refl
+
+phase_of_other : choice_of tag.Message false at.PHASE ≡ None
+phase_of_other = refl
+
+observer_of_handler : wanted_of tag.Message true at.OBSERVER ≡ Some wanted.Any
+observer_of_handler = refl
+
+-- ---- faults
+
+ten_digits : allows choice.Count (codes "0123456789") ≡ false
+ten_digits = refl
+
+selected_maybe : is_bad_text tag.Case false (at.SELECTED, codes "maybe") ≡ true
+selected_maybe = refl
+
+bound_input : lacks tag.Input false ((at.BIND, codes "k") ∷ []) ≡ false
+bound_input = refl
+
+unbound_input : lacks tag.Input false ((at.VALUE, codes "1") ∷ []) ≡ true
+unbound_input = refl
+
+message_without_event : lacks tag.Message true [] ≡ true
+message_without_event = refl
+
+unknown_prefix : type_by b (Err PrefixUnknown) ≡ None
+unknown_prefix = refl
