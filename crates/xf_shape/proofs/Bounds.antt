@@ -1,11 +1,10 @@
 -- What a binding takes in place of a node of the shape stands in the forest and in the shape, and a set of such has one order in both.
-use Rattle.std.proofs.Common.{◌≡◌, ℕ, ◌==◌, Bool, true, false, not, cond, ◌&&◌, List, [], ◌∷◌, ◌++◌, map, Option, Some, None, option_map, refl, sym, ap, ◌∙◌, inl, inr}
-use Rattle.std.specs.Prelude.{filter, find}
+use Rattle.std.proofs.Common.{◌≡◌, ℕ, ◌==◌, Bool, true, false, not, ◌&&◌, List, [], ◌∷◌, ◌++◌, map, Option, Some, None, option_map, refl, sym, ap, ◌∙◌, inl, inr}
+use Rattle.std.specs.Prelude.{filter}
 use Rattle.std.specs.List.{flat_map, list_all}
 use Rattle.std.proofs.lemmas.Bool.{eqb-true}
 use Rattle.xf_name.specs.declared.axis.Axis.TheVariants.{Child}
 use Rattle.xf_ast.specs.declared.expr.Test.TheVariants.{Node as AnyNode}
-use Rattle.xf_doc.specs.declared.node.NodeId.{NodeId}
 use Rattle.xf_doc.specs.declared.content.Node.{Node}
 use Rattle.xf_doc.specs.declared.content.Name.{Name}
 use Rattle.xf_doc.specs.declared.content.Content.{Content}
@@ -15,11 +14,11 @@ use Rattle.xf_doc.specs.Visit.{Visit, visits, has, is_first, first_of, children_
 use Rattle.xf_doc.specs.Axis.{is_on, axis_from}
 use Rattle.xf_doc.specs.Order.{in_order}
 use Rattle.xf_doc.specs.Shape.{has_elements, erased, without_text, shape_of, is_replaced, text_number}
-use Rattle.xf_doc.proofs.BackLaws.{and-true, not-true}
+use Rattle.xf_doc.proofs.BackLaws.{and-true}
 use Rattle.xf_doc.proofs.LiveLaws.{parent-live}
 use Rattle.xf_lang.specs.Setting as setting
 use Rattle.xf_lang.specs.Asked.{found, has_list}
-use Rattle.xf_lang.specs.Agree.{numbers_of, untexted}
+use Rattle.xf_lang.specs.Agree.{untexted}
 use Rattle.xf_lang.specs.Binding.{as_list, bound_nodes, stand_in, stand_ins}
 use Rattle.xf_lang.specs.Steps.{reached}
 use Rattle.xf_lang.proofs.AxisAgree.{AllStand}
@@ -32,9 +31,9 @@ use Rattle.xf_eval.specs.Worth.{seen}
 use Rattle.xf_eval.proofs.Erased.{in_order-erased}
 use Rattle.xf_shape.specs.Bound.{bound_at, is_root_in}
 use Rattle.xf_shape.specs.Spots.{shaped, stands, is_leaf, is_element_in, is_text_in}
-use Rattle.xf_shape.specs.Steps.{has_texts, has_list_in, if_so}
+use Rattle.xf_shape.specs.Steps.{has_list_in, if_so}
 use Rattle.xf_shape.specs.Woven.{is_shown}
-use Rattle.xf_shape.proofs.Shapes.{Sound, real, whole, real-visits, whole-visits, live-found, found-live, stands-is, stands-found, text-found, is_kept, texts_of, is_leaf_visit, shaped-is}
+use Rattle.xf_shape.proofs.Shapes.{Sound, real, whole, real-visits, live-found, stands-is, stands-found, text-found, texts_of, is_leaf_visit, shaped-is}
 use Rattle.xf_shape.proofs.Frames.{frame, opened}
 use Rattle.xf_shape.proofs.Plain.{content-of, element-erased}
 use Rattle.xf_shape.proofs.Reached.{plain-reached, child-reached, reached-stands}

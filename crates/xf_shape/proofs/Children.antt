@@ -1,14 +1,13 @@
 -- A node with a list and no elements in it has in the shape at most one child: its one text, where it is an element.
-use Rattle.std.proofs.Common.{◌≡◌, ℕ, ◌==◌, Bool, true, false, not, cond, ◌&&◌, ◌||◌, List, [], ◌∷◌, ◌++◌, map, Option, Some, None, refl, sym, ap, ◌∙◌, subst}
+use Rattle.std.proofs.Common.{◌≡◌, ℕ, ◌==◌, Bool, true, false, not, cond, ◌&&◌, List, [], ◌∷◌, map, Some, refl, sym, ap, ◌∙◌}
 use Rattle.std.specs.Prelude.{filter}
-use Rattle.std.specs.List.{flat_map}
 use Rattle.std.proofs.lemmas.Bool.{eqb-true}
 use Rattle.xf_name.specs.declared.axis.Axis.TheVariants.{Child}
 use Rattle.xf_ast.specs.declared.expr.Test.{Test}
 use Rattle.xf_doc.specs.declared.content.Content.{Content}
 use Rattle.xf_doc.specs.declared.content.Content.TheVariants as content
 use Rattle.xf_doc.specs.Forest.{Forest, is_text, is_element, is_attribute, is_root}
-use Rattle.xf_doc.specs.Visit.{Visit, visits, has, is_first}
+use Rattle.xf_doc.specs.Visit.{Visit, visits, is_first}
 use Rattle.xf_doc.specs.Axis.{axis_from, is_on}
 use Rattle.xf_doc.specs.Shape.{is_borne, has_elements, text_number}
 use Rattle.xf_doc.proofs.BackLaws.{and-true}
@@ -17,8 +16,8 @@ use Rattle.xf_lang.specs.Asked.{has_list, found}
 use Rattle.xf_lang.specs.AskedSteps.{is_kind}
 use Rattle.xf_lang.specs.Agree.{numbers_of, are_apart}
 use Rattle.xf_lang.specs.Steps.{reached}
-use Rattle.xf_lang.proofs.VisitFacts.{no, found-number, found-in, found-out}
-use Rattle.xf_lang.proofs.ForestVisits.{Each, each-map, self-found}
+use Rattle.xf_lang.proofs.VisitFacts.{no, found-in, found-out}
+use Rattle.xf_lang.proofs.ForestVisits.{each-map, self-found}
 use Rattle.xf_shape.specs.Spots.{stands, is_leaf}
 use Rattle.xf_shape.specs.Steps.{if_so}
 use Rattle.xf_shape.proofs.Filled.{filtered-filled, pieces}

@@ -1,11 +1,10 @@
 -- What a filter keeps of a list into which texts are put, and what is found there.
-use Rattle.std.proofs.Common.{◌≡◌, ℕ, ◌==◌, Bool, true, false, not, cond, ◌&&◌, ◌||◌, List, [], ◌∷◌, ◌++◌, map, Option, Some, None, refl, sym, ap, ◌∙◌, subst}
-use Rattle.std.specs.Prelude.{filter, ⊤}
+use Rattle.std.proofs.Common.{◌≡◌, ℕ, ◌==◌, Bool, true, false, cond, List, [], ◌∷◌, ◌++◌, Some, None, refl, sym, ap, ◌∙◌, subst}
+use Rattle.std.specs.Prelude.{filter}
 use Rattle.std.specs.List.{flat_map}
-use Rattle.xf_doc.specs.Visit.{Visit, has}
+use Rattle.xf_doc.specs.Visit.{Visit}
 use Rattle.xf_doc.specs.Shape.{is_borne, filled}
 use Rattle.xf_lang.specs.Asked.{found}
-use Rattle.xf_lang.specs.Agree.{numbers_of}
 use Rattle.xf_lang.proofs.VisitFacts.{filter-append}
 use Rattle.xf_lang.proofs.ForestVisits.{Each}
 

@@ -1,38 +1,25 @@
 -- What a step reaches from a node of the shape where no text stands in place of others: the same as in the forest.
-use Rattle.std.proofs.Common.{◌≡◌, ℕ, ◌==◌, ◌^◌, Bool, true, false, not, cond, ◌&&◌, ◌||◌, List, [], ◌∷◌, ◌++◌, map, nat_lt, Option, Some, None, option_map, refl, sym, ap, ◌∙◌, arith, subst, inl, inr}
-use Rattle.std.specs.Prelude.{filter, ⊤, is_some, reverse}
+use Rattle.std.proofs.Common.{◌≡◌, ℕ, ◌==◌, Bool, true, false, not, cond, ◌||◌, List, [], ◌∷◌, map, nat_lt, Option, Some, None, option_map, refl, sym, ap, ◌∙◌, arith, inl, inr}
+use Rattle.std.specs.Prelude.{filter}
 use Rattle.std.specs.List.{list_any}
 use Rattle.std.proofs.lemmas.Bool.{eqb-true}
 use Rattle.std.proofs.lemmas.Bool.Decides.{nat_tests}
-use Rattle.xf_name.specs.declared.axis.Axis.{Axis}
-use Rattle.xf_name.specs.declared.axis.Axis.TheVariants.{Child, Attribute, Self_, Parent, Ancestor, AncestorOrSelf, Descendant, DescendantOrSelf, FollowingSibling, PrecedingSibling}
-use Rattle.xf_ast.specs.declared.expr.Test.{Test}
 use Rattle.xf_doc.specs.declared.content.Node.{Node}
-use Rattle.xf_doc.specs.declared.content.Content.{Content}
-use Rattle.xf_doc.specs.declared.content.Content.TheVariants as content
-use Rattle.xf_doc.specs.Forest.{Forest, is_text, is_element, is_attribute, is_root, has_number, content_at}
-use Rattle.xf_doc.specs.Visit.{Visit, visit, visits, visits_from, still_above, numbers, has, is_first, same_parent, first_of}
-use Rattle.xf_doc.specs.Axis.{before, after, are_siblings, axis_from, is_on, is_reverse}
-use Rattle.xf_doc.specs.WellFormed.{HasTrees, are_tops}
-use Rattle.xf_doc.specs.Shape.{is_replaced, has_elements, erased, filled, text_number}
-use Rattle.xf_doc.proofs.BackLaws.{and-true, not-true}
-use Rattle.xf_doc.proofs.RenumberLaws.{filter-through, any-through}
-use Rattle.xf_lang.specs.Asked.{has_list, found, list_around, lists_below, parent_in}
-use Rattle.xf_lang.specs.AskedSteps.{is_kind, meets_texts, lists_of}
+use Rattle.xf_doc.specs.Forest.{Forest, is_root}
+use Rattle.xf_doc.specs.Visit.{Visit, visits_from, still_above, numbers, has, is_first}
+use Rattle.xf_doc.specs.WellFormed.{are_tops}
+use Rattle.xf_doc.specs.Shape.{text_number}
+use Rattle.xf_doc.proofs.BackLaws.{and-true}
+use Rattle.xf_doc.proofs.RenumberLaws.{filter-through}
+use Rattle.xf_lang.specs.Asked.{has_list, found, lists_below}
 use Rattle.xf_lang.specs.Agree.{numbers_of, untexted, AreVisits}
-use Rattle.xf_lang.specs.Steps.{reached}
-use Rattle.xf_lang.specs.Tests.{meets}
-use Rattle.xf_lang.proofs.VisitFacts.{no, some-same, none-some, self-same, or-cases, or-left, or-right, filter-none, found-number, found-in, present}
-use Rattle.xf_lang.proofs.ForestVisits.{Each, each-map, each-filter, each-found, self-found}
-use Rattle.xf_lang.proofs.UntextedLaws.{reached-untexted, solid-found}
-use Rattle.xf_lang.proofs.AxisAgree.{Frame, SameLists}
-use Rattle.xf_lang.proofs.ReachAgree.{reach}
-use Rattle.xf_eval.specs.Worth.{seen}
-use Rattle.xf_eval.proofs.Erased.{content-seen}
-use Rattle.xf_shape.specs.Spots.{shaped, stands}
-use Rattle.xf_shape.specs.Steps.{has_texts, has_list_in}
+use Rattle.xf_lang.proofs.VisitFacts.{some-same, none-some, or-cases, or-left, or-right, present}
+use Rattle.xf_lang.proofs.ForestVisits.{Each, each-map, each-filter, self-found}
+use Rattle.xf_lang.proofs.UntextedLaws.{solid-found}
+use Rattle.xf_lang.proofs.AxisAgree.{Frame}
+use Rattle.xf_shape.specs.Spots.{stands}
 use Rattle.xf_shape.proofs.Filled.{unfilled, each-kept_none}
-use Rattle.xf_shape.proofs.Shapes.{Sound, given, given-is, given-none, is_kept, kept, is_leaf_visit, text_in, real, whole, real-visits, whole-visits, same-bare, shaped-is, live-has, live-below, found-live, stands-is, stands-found, is-above, real-below, same-list}
+use Rattle.xf_shape.proofs.Shapes.{Sound, given, given-is, is_kept, kept, is_leaf_visit, text_in, real, whole, real-visits, whole-visits, shaped-is, stands-is, stands-found, is-above, real-below}
 
 -- ---- lists
 

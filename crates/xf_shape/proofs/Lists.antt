@@ -1,5 +1,5 @@
 -- Lists of pieces: what is made of each item, in turn.
-use Rattle.std.proofs.Common.{◌≡◌, ℕ, ◌==◌, Bool, true, false, not, cond, ◌&&◌, ◌||◌, List, [], ◌∷◌, ◌++◌, map, Option, Some, None, refl, sym, ap, ◌∙◌, append_assoc}
+use Rattle.std.proofs.Common.{◌≡◌, ℕ, ◌==◌, Bool, true, false, cond, ◌||◌, List, [], ◌∷◌, ◌++◌, map, Some, refl, sym, ap, ◌∙◌, append_assoc}
 use Rattle.std.specs.Prelude.{filter}
 use Rattle.std.specs.List.{flat_map}
 use Rattle.std.proofs.lemmas.Bool.{eqb-true}
@@ -7,7 +7,7 @@ use Rattle.xf_doc.specs.Visit.{Visit, has}
 use Rattle.xf_doc.proofs.BackLaws.{and-true, not-true}
 use Rattle.xf_lang.specs.Asked.{found}
 use Rattle.xf_lang.specs.Agree.{numbers_of, are_apart}
-use Rattle.xf_lang.proofs.VisitFacts.{some-same, none-some, filter-append, self-same, turned, or-left, or-right, or-cases, no}
+use Rattle.xf_lang.proofs.VisitFacts.{some-same, none-some, filter-append, turned, no}
 use Rattle.xf_lang.proofs.ForestVisits.{Each}
 use Rattle.xf_shape.proofs.Filled.{append-none}
 

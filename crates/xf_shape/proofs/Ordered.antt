@@ -4,34 +4,31 @@ use Rattle.std.specs.Prelude.{filter}
 use Rattle.std.specs.List.{list_all}
 use Rattle.std.proofs.lemmas.Bool.{eqb-true}
 use Rattle.std.proofs.lemmas.Bool.Decides.{nat_tests}
-use Rattle.xf_doc.specs.declared.node.NodeId.{NodeId}
 use Rattle.xf_doc.specs.declared.content.Content.{Content}
 use Rattle.xf_doc.specs.declared.content.Content.TheVariants as content
-use Rattle.xf_doc.specs.declared.content.Node.{Node}
-use Rattle.xf_doc.specs.Forest.{Forest, is_text, is_element, is_attribute, has_number, content_at}
+use Rattle.xf_doc.specs.Forest.{Forest, is_text, is_element, is_attribute, has_number}
 use Rattle.xf_doc.specs.Visit.{Visit, visits, has, is_first, above_in, ancestors_of}
 use Rattle.xf_doc.specs.Order.{in_order}
-use Rattle.xf_doc.specs.Shape.{is_borne, is_replaced, has_elements, erased, without_text, filled, text_number}
+use Rattle.xf_doc.specs.Shape.{is_replaced, has_elements, erased, without_text, text_number}
 use Rattle.xf_doc.proofs.BackLaws.{and-true, not-true}
 use Rattle.xf_doc.proofs.RenumberLaws.{filter-through, map-map}
 use Rattle.xf_lang.specs.Setting as setting
 use Rattle.xf_lang.specs.Asked.{found, has_list}
-use Rattle.xf_lang.specs.Agree.{numbers_of, are_apart}
+use Rattle.xf_lang.specs.Agree.{numbers_of}
 use Rattle.xf_lang.proofs.VisitFacts.{no, some-same, none-some, or-cases, turned}
 use Rattle.xf_lang.proofs.ForestVisits.{Each, each-map, self-found, found-erased}
-use Rattle.xf_eval.specs.Worth.{seen}
 use Rattle.xf_shape.specs.declared.spot.Spot.{Spot}
 use Rattle.xf_shape.specs.declared.spot.Spot.TheVariants.{Node as Own, TextOf, Outside}
 use Rattle.xf_shape.specs.Spots.{number_at, numbers_at, shaped, stands, is_leaf, is_spot, AreSpots, is_element_in}
 use Rattle.xf_shape.specs.Steps.{if_so}
 use Rattle.xf_shape.specs.Woven.{own_number, owner_number, own_numbers, owner_numbers, all_number, all_numbers, is_attribute_in, is_attribute_of, is_owner, is_shown, woven}
-use Rattle.xf_shape.proofs.Shapes.{Sound, given, given-is, is_kept, kept, texts_of, is_leaf_visit, text_in, real, whole, real-visits, shaped-is, live-below, found-live, stands-is, text-apart}
+use Rattle.xf_shape.proofs.Shapes.{Sound, given, given-is, is_kept, texts_of, is_leaf_visit, text_in, real, real-visits, shaped-is, live-below, found-live, stands-is, text-apart}
 use Rattle.xf_shape.proofs.Frames.{none-first}
 use Rattle.xf_shape.proofs.Plain.{content-of, element-erased}
 use Rattle.xf_shape.proofs.Texts.{text-element}
 use Rattle.xf_shape.proofs.Reached.{all-of}
 use Rattle.xf_shape.proofs.Runs.{runs}
-use Rattle.xf_shape.proofs.Weaving.{owns, over, woven-over, Fits, weave, none}
+use Rattle.xf_shape.proofs.Weaving.{owns, woven-over, Fits, weave, none}
 
 -- ---- members
 

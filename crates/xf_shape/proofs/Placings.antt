@@ -1,12 +1,11 @@
 -- A predicate that goes by position and size alone has over the shape the value that it has over the forest.
-use Rattle.std.proofs.Common.{◌≡◌, ℕ, Bool, true, false, not, ◌&&◌, List, [], ◌∷◌, map, Option, Some, None, option_map, refl, sym, ap, ◌∙◌, subst}
+use Rattle.std.proofs.Common.{◌≡◌, ℕ, Bool, true, false, not, List, [], ◌∷◌, map, Option, Some, None, refl, sym, ap, ◌∙◌, subst}
 use Rattle.xf_base.specs.Limits.{string_limit}
 use Rattle.xf_ast.specs.declared.expr.Expr.{Expr}
-use Rattle.xf_ast.specs.declared.expr.Expr.TheOpen.{Expr-F, Link-F, Step-F}
-use Rattle.xf_ast.specs.declared.expr.Expr.TheFolds.{map-Expr, map-Step}
+use Rattle.xf_ast.specs.declared.expr.Expr.TheOpen.{Expr-F}
+use Rattle.xf_ast.specs.declared.expr.Expr.TheFolds.{map-Expr}
 use Rattle.xf_doc.specs.Forest.{Forest}
 use Rattle.xf_doc.specs.StringValue.{string_value}
-use Rattle.xf_doc.specs.Visit.{visits}
 use Rattle.xf_doc.specs.Shape.{shape_of}
 use Rattle.xf_doc.proofs.BackLaws.{and-true, not-true}
 use Rattle.xf_funcs.specs.Called.{called}
@@ -30,11 +29,11 @@ use Rattle.xf_lang.proofs.AxisAgree.{Frame}
 use Rattle.xf_lang.proofs.Comparison.{Comparison, over_shape}
 use Rattle.xf_lang.proofs.Gives.{Gives, both, nothing, gives-then, gives-weaker, capped-gives}
 use Rattle.xf_lang.proofs.PairKeeps.{pair_keeps}
-use Rattle.xf_lang.proofs.PlacedLaws.{Placed, WithoutNodes, at, numbers, texts, mapped, chained-placed}
+use Rattle.xf_lang.proofs.PlacedLaws.{Placed, at, numbers, texts, mapped, chained-placed}
 use Rattle.xf_lang.proofs.TraceKeeps.{meaning-of_trace}
 use Rattle.xf_lang.proofs.UntextedLaws.{itself}
 use Rattle.xf_lang.proofs.VisitFacts.{no, some-same, none-some}
-use Rattle.xf_eval.specs.Worth.{setting_at, with_six}
+use Rattle.xf_eval.specs.Worth.{setting_at}
 use Rattle.xf_shape.specs.Fixed.{Fixed, LinkFixed, told, link_told, expr_fixed, link_fixed, step_fixed, fixed_of, is_placed}
 use Rattle.xf_shape.specs.Over.{shape_at}
 use Rattle.xf_shape.specs.Told.{IsTold}

@@ -1,7 +1,6 @@
 -- From a node of the shape a step reaches what it reaches in the forest, where no text stands in place of others.
-use Rattle.std.proofs.Common.{◌≡◌, ℕ, ◌==◌, Bool, true, false, not, cond, ◌&&◌, ◌||◌, List, [], ◌∷◌, map, Option, Some, None, option_map, refl, sym, ap, ◌∙◌, subst, inl, inr}
+use Rattle.std.proofs.Common.{◌≡◌, ℕ, ◌==◌, Bool, true, false, not, ◌&&◌, List, [], ◌∷◌, map, Option, Some, None, option_map, refl, sym, ap, ◌∙◌, inl, inr}
 use Rattle.std.specs.Prelude.{filter, is_some, reverse, ◌⊎◌}
-use Rattle.std.specs.List.{list_any}
 use Rattle.std.proofs.lemmas.Bool.{eqb-true}
 use Rattle.xf_name.specs.declared.axis.Axis.{Axis}
 use Rattle.xf_name.specs.declared.axis.Axis.TheVariants.{Child, Attribute, Self_, Parent, Ancestor, AncestorOrSelf, Descendant, DescendantOrSelf, FollowingSibling, PrecedingSibling}
@@ -13,7 +12,7 @@ use Rattle.xf_doc.specs.Forest.{Forest, is_text, is_element, is_attribute, is_ro
 use Rattle.xf_doc.specs.Visit.{Visit, visits, has, is_first, same_parent}
 use Rattle.xf_doc.specs.Axis.{before, after, are_siblings, axis_from}
 use Rattle.xf_doc.specs.Shape.{is_replaced, has_elements, erased, without_text}
-use Rattle.xf_doc.proofs.BackLaws.{and-true, not-true}
+use Rattle.xf_doc.proofs.BackLaws.{and-true}
 use Rattle.xf_doc.proofs.RenumberLaws.{any-through}
 use Rattle.xf_lang.specs.Asked.{has_list, found, list_around, parent_in}
 use Rattle.xf_lang.specs.AskedSteps.{is_kind, meets_texts, lists_of}
@@ -22,7 +21,7 @@ use Rattle.xf_lang.specs.Exact.{is_sibling}
 use Rattle.xf_lang.specs.Steps.{reached}
 use Rattle.xf_lang.specs.Tests.{meets}
 use Rattle.xf_lang.proofs.VisitFacts.{no, some-same, none-some, or-cases, self-same, filter-none, found-in, found-number}
-use Rattle.xf_lang.proofs.ForestVisits.{Each, each-found, found-erased}
+use Rattle.xf_lang.proofs.ForestVisits.{each-found, found-erased}
 use Rattle.xf_lang.proofs.UntextedLaws.{reached-untexted}
 use Rattle.xf_lang.proofs.ReachAgree.{reach}
 use Rattle.xf_eval.proofs.Erased.{content-seen}

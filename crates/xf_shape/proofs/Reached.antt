@@ -1,13 +1,12 @@
 -- What the calls find from a node of the shape is what a step reaches there, and stands in the shape.
-use Rattle.std.proofs.Common.{◌≡◌, ℕ, ◌==◌, ◌^◌, Bool, true, false, not, cond, ◌&&◌, ◌||◌, List, [], ◌∷◌, ◌++◌, map, reverse, nat_lt, Option, Some, None, option_map, refl, sym, ap, ◌∙◌, subst, inl, inr}
-use Rattle.std.specs.Prelude.{filter, find, is_some}
+use Rattle.std.proofs.Common.{◌≡◌, ℕ, ◌==◌, Bool, true, false, not, cond, ◌&&◌, ◌||◌, List, [], ◌∷◌, ◌++◌, map, reverse, Option, Some, None, option_map, refl, sym, ap, ◌∙◌, subst}
+use Rattle.std.specs.Prelude.{filter, is_some}
 use Rattle.std.specs.List.{flat_map, list_any, list_all}
 use Rattle.std.proofs.lemmas.Bool.{eqb-true}
 use Rattle.std.proofs.lemmas.List.{reverse-append}
 use Rattle.xf_name.specs.declared.axis.Axis.{Axis}
 use Rattle.xf_name.specs.declared.axis.Axis.TheVariants.{Child, Attribute, Self_, Parent, Ancestor, AncestorOrSelf, Descendant, DescendantOrSelf, FollowingSibling, PrecedingSibling}
 use Rattle.xf_ast.specs.declared.expr.Test.{Test}
-use Rattle.xf_ast.specs.declared.expr.Test.TheVariants as test
 use Rattle.xf_doc.specs.declared.node.NodeId.{NodeId}
 use Rattle.xf_doc.specs.declared.content.Node.{Node}
 use Rattle.xf_doc.specs.declared.content.Content.{Content}
@@ -17,7 +16,7 @@ use Rattle.xf_doc.specs.Visit.{Visit, visits, has, is_first, first_of, above_in,
 use Rattle.xf_doc.specs.Axis.{is_on, on_axis, axis_from, axis_of, is_reverse}
 use Rattle.xf_doc.specs.Shape.{is_replaced, has_elements, erased, without_text, text_number}
 use Rattle.xf_doc.proofs.BackLaws.{and-true, not-true}
-use Rattle.xf_doc.proofs.OrderLaws.{Sub, filter-sub, map-sub, sub-through, axis-in_order}
+use Rattle.xf_doc.proofs.OrderLaws.{filter-sub, map-sub, axis-in_order}
 use Rattle.xf_doc.proofs.OrderLaws.{visits-different}
 use Rattle.xf_doc.proofs.RenumberLaws.{map-reverse}
 use Rattle.xf_lang.specs.Asked.{found, has_list}
@@ -36,8 +35,8 @@ use Rattle.xf_shape.specs.declared.spot.Spot.{Spot}
 use Rattle.xf_shape.specs.declared.spot.Spot.TheVariants.{Node as Own, TextOf, Outside}
 use Rattle.xf_shape.specs.Spots.{number_at, numbers_at, shaped, stands, is_leaf, is_spot, AreSpots, is_element_in, is_filled, is_text_in}
 use Rattle.xf_shape.specs.Steps.{is_own, are_owned, is_other, has_texts, has_list_in, if_so, piece, text_if}
-use Rattle.xf_shape.proofs.Shapes.{Sound, real, whole, whole-visits, real-visits, is_kept, texts_of, text_or, live-found, live-below, found-live, stands-is, stands-found, absent-found, text-found, text-apart, text_in, is_leaf_visit}
-use Rattle.xf_shape.proofs.Plain.{content-of, element-erased, has-list-of, plain}
+use Rattle.xf_shape.proofs.Shapes.{Sound, real, texts_of, text_or, live-found, live-below, stands-is, text-apart}
+use Rattle.xf_shape.proofs.Plain.{content-of, has-list-of, plain}
 use Rattle.xf_shape.proofs.Texts.{below-pieces, strictly-below}
 use Rattle.xf_shape.proofs.Children.{child-alone}
 
@@ -225,7 +224,7 @@ module _ (forest : Forest) (sound : Sound forest) (n : ℕ) (live : has_number n
               list_any (λ k. is_element_in (content_at k forest.nodes)) (map (λ (z : Visit). z.number) (cond b (y ∷ filter (is_on Child x) ys) (filter (is_on Child x) ys))) ≡ ((is_element y.content && is_first n y.above) || list_any (λ z. is_element z.content && is_first n z.above) ys)
           of true i below =
               ap (λ b. b || list_any (λ k. is_element_in (content_at k forest.nodes)) (map (λ (z : Visit). z.number) (filter (is_on Child x) ys)))
-                (ap is_element_in h.0 ∙ and-one (is_element y.content) ∙ ap (λ b. is_element y.content && b) (sym (and-true (is_first x.number y.above) _ i).0 ∙ ap (λ k. is_first k y.above) e))
+              (ap is_element_in h.0 ∙ and-one (is_element y.content) ∙ ap (λ b. is_element y.content && b) (sym (and-true (is_first x.number y.above) _ i).0 ∙ ap (λ k. is_first k y.above) e))
               ∙ ap (λ b. (is_element y.content && is_first n y.above) || b) below
           of false i below = below ∙ ap (λ b. b || list_any (λ z. is_element z.content && is_first n z.above) ys) (sym (elements y.content (is_first n y.above) (sym (ap (λ k. is_first k y.above && not (is_attribute y.content)) e) ∙ i)))
 

@@ -1,7 +1,7 @@
 -- One round of each loop over the shape, and its end.
-use Rattle.std.proofs.Common.{◌≡◌, ℕ, zero, suc, ◌+◌, ◌<◌, ◌≤◌, Bool, true, false, cond, ◌&&◌, List, [], ◌∷◌, ◌++◌, map, take, drop, length, get_or, Option, Some, None, option_map, refl, sym, ap, ◌∙◌, arith, append_assoc, subst}
+use Rattle.std.proofs.Common.{◌≡◌, ℕ, zero, suc, ◌+◌, ◌<◌, ◌≤◌, Bool, true, false, ◌&&◌, List, [], ◌∷◌, ◌++◌, map, take, drop, length, get_or, Option, Some, option_map, refl, sym, ap, ◌∙◌, arith, append_assoc, subst}
 use Rattle.std.specs.List.{flat_map, list_all}
-use Rattle.std.proofs.lemmas.List.{at_drop_more, at_drop_all, take_more, take_all}
+use Rattle.std.proofs.lemmas.List.{at_drop_more, at_drop_all, take_more}
 use Rattle.xf_ast.specs.declared.expr.Expr.{Expr}
 use Rattle.xf_ast.specs.declared.expr.Link.{Link}
 use Rattle.xf_ast.specs.declared.expr.Step.{Step}
@@ -19,7 +19,7 @@ use Rattle.xf_shape.specs.Spots.{AreSpots, is_spot, number_at, numbers_at}
 use Rattle.xf_shape.specs.declared.spot.Spot.{Spot}
 use Rattle.xf_shape.specs.Steps.{if_so, spot_if}
 use Rattle.xf_shape.specs.Told.{IsTold}
-use Rattle.xf_shape.proofs.Loops.{onto, onto-start, onto-end, kept-more, gathered, gathered-start, gathered-end, gathered-more, gathered-whole, walked-more, kept-all_more, chained-more}
+use Rattle.xf_shape.proofs.Loops.{onto, onto-end, kept-more, gathered, gathered-end, gathered-more, gathered-whole, walked-more, kept-all_more, chained-more}
 
 -- ---- lists of nodes of the shape
 

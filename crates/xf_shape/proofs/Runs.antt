@@ -1,5 +1,5 @@
 -- Attributes stand right behind their element (XPath 1.0, section 5.3), so that the text of an element comes behind them in the shape.
-use Rattle.std.proofs.Common.{◌≡◌, ℕ, suc, ◌==◌, Bool, true, false, not, cond, ◌&&◌, ◌||◌, List, [], ◌∷◌, ◌++◌, map, nat_lt, Option, Some, None, refl, sym, ap, ◌∙◌, arith, subst, inl, inr}
+use Rattle.std.proofs.Common.{◌≡◌, ℕ, suc, ◌==◌, Bool, true, false, not, cond, ◌&&◌, ◌||◌, List, [], ◌∷◌, map, nat_lt, refl, sym, ap, ◌∙◌, arith, subst, inl, inr}
 use Rattle.std.specs.Prelude.{⊤, ◌⊎◌}
 use Rattle.std.proofs.lemmas.Bool.{eqb-true}
 use Rattle.std.proofs.lemmas.Bool.Decides.{nat_tests}
@@ -7,7 +7,7 @@ use Rattle.xf_doc.specs.declared.content.Node.{Node}
 use Rattle.xf_doc.specs.declared.content.Content.{Content}
 use Rattle.xf_doc.specs.declared.content.Content.TheVariants as content
 use Rattle.xf_doc.specs.Forest.{is_element, is_attribute}
-use Rattle.xf_doc.specs.Visit.{Visit, visit, visits, visits_from, still_above, numbers, has, has_parent, is_first}
+use Rattle.xf_doc.specs.Visit.{Visit, visit, visits, visits_from, still_above, numbers, has_parent, is_first}
 use Rattle.xf_doc.specs.WellFormed.{stands_first, are_first}
 use Rattle.xf_doc.specs.Shape.{is_borne, erased}
 use Rattle.xf_doc.proofs.BackLaws.{and-true}

@@ -1,29 +1,26 @@
 -- The shape of a forest beside the forest: which nodes stand in it, what is found there, and which lists are the same.
-use Rattle.std.proofs.Common.{◌≡◌, ℕ, ◌==◌, ◌^◌, ◌<◌, Bool, true, false, not, cond, ◌&&◌, ◌||◌, List, [], ◌∷◌, ◌++◌, map, nat_lt, Option, Some, None, option_map, refl, sym, ap, ◌∙◌, arith, subst, inl, inr}
-use Rattle.std.specs.Prelude.{filter, find, ⊤, is_some}
-use Rattle.std.specs.List.{list_any, list_all}
+use Rattle.std.proofs.Common.{◌≡◌, ℕ, ◌==◌, ◌^◌, Bool, true, false, not, cond, ◌&&◌, List, [], ◌∷◌, map, nat_lt, Option, Some, None, refl, sym, ap, ◌∙◌, arith, subst}
+use Rattle.std.specs.Prelude.{filter, is_some}
 use Rattle.std.proofs.lemmas.Bool.{eqb-true}
 use Rattle.std.proofs.lemmas.Bool.Decides.{nat_tests}
 use Rattle.xf_doc.specs.declared.content.Node.{Node}
 use Rattle.xf_doc.specs.declared.content.Content.{Content}
 use Rattle.xf_doc.specs.declared.content.Content.TheVariants as content
-use Rattle.xf_doc.specs.Forest.{Forest, is_text, is_element, is_attribute, is_root, has_number, content_at}
-use Rattle.xf_doc.specs.Visit.{Visit, visit, visits, visits_from, still_above, numbers, has, is_first, has_parent}
-use Rattle.xf_doc.specs.WellFormed.{HasTrees, are_below}
+use Rattle.xf_doc.specs.Forest.{Forest, is_text, is_element, is_attribute, has_number}
+use Rattle.xf_doc.specs.Visit.{Visit, visits, has, is_first}
 use Rattle.xf_doc.specs.Shape.{Texts, text_number, text_visit, given_visits, visits_in, is_borne, is_replaced, is_gone, filled, has_elements, only_text, erased, without_text, shape_of}
-use Rattle.xf_doc.proofs.BackLaws.{and-true, or-false, not-true}
-use Rattle.xf_doc.proofs.OrderLaws.{seen-has, visits-different}
+use Rattle.xf_doc.proofs.BackLaws.{and-true, not-true}
+use Rattle.xf_doc.proofs.OrderLaws.{seen-has}
 use Rattle.xf_doc.proofs.RenumberLaws.{map-map}
-use Rattle.xf_lang.specs.Asked.{has_list, found}
-use Rattle.xf_lang.specs.Agree.{numbers_of, are_apart, untexted, AreVisits}
-use Rattle.xf_lang.proofs.VisitFacts.{no, some-same, none-some, self-same, or-cases, or-left, or-right, filter-within, found-number, found-in, found-out, found-filter, kept_if, absent, present, has-found}
-use Rattle.xf_lang.proofs.ForestVisits.{Each, each-map, each-filter, each-found, self-found, forest-visits, found-erased}
-use Rattle.xf_lang.proofs.ShapeVisits.{AreBelow, shape-visits, shape-untexted, not-has}
+use Rattle.xf_lang.specs.Asked.{found}
+use Rattle.xf_lang.specs.Agree.{numbers_of, untexted, AreVisits}
+use Rattle.xf_lang.proofs.VisitFacts.{no, filter-within, found-number, found-in, found-filter, kept_if, absent, present, has-found}
+use Rattle.xf_lang.proofs.ForestVisits.{Each, each-map, each-filter, each-found, self-found, forest-visits}
+use Rattle.xf_lang.proofs.ShapeVisits.{shape-visits, shape-untexted, not-has}
 use Rattle.xf_eval.specs.Worth.{seen}
-use Rattle.xf_eval.proofs.Erased.{content-seen}
 pub use Rattle.xf_shape.specs.Sound.{Sound}
-use Rattle.xf_shape.specs.Spots.{shaped, stands, is_leaf, is_element_in}
-use Rattle.xf_shape.proofs.Filled.{unfilled, found-filled, each-filled, each-unfilled, each-kept_none}
+use Rattle.xf_shape.specs.Spots.{shaped, stands}
+use Rattle.xf_shape.proofs.Filled.{unfilled, found-filled, each-filled, each-unfilled}
 
 -- ---- the texts that are put in
 

@@ -1,10 +1,9 @@
 -- A forest whose next number fits 128 bits has no number that a text of its shape has.
-use Rattle.std.proofs.Common.{◌≡◌, ℕ, ◌==◌, ◌<◌, ◌≤◌, ◌^◌, Bool, true, false, ◌||◌, List, [], ◌∷◌, nat_lt, refl, sym, ap, ◌∙◌, arith}
-use Rattle.std.specs.List.{list_all}
+use Rattle.std.proofs.Common.{◌≡◌, ℕ, ◌==◌, ◌<◌, ◌^◌, Bool, true, false, ◌||◌, List, [], ◌∷◌, nat_lt, refl, sym, ap, ◌∙◌, arith}
 use Rattle.std.proofs.lemmas.Bool.{eqb-true}
 use Rattle.std.proofs.lemmas.Bool.Decides.{nat_tests}
 use Rattle.xf_doc.specs.declared.content.Node.{Node}
-use Rattle.xf_doc.specs.Forest.{Forest, has_number}
+use Rattle.xf_doc.specs.Forest.{has_number}
 use Rattle.xf_doc.specs.Texts.{Keeping}
 use Rattle.xf_doc.specs.WellFormed.{AreTrees, are_below}
 use Rattle.xf_doc.proofs.BackLaws.{and-true}

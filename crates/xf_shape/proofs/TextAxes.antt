@@ -1,5 +1,5 @@
 -- What a step reaches from the one text of an element: the text, the element and what stands above it.
-use Rattle.std.proofs.Common.{◌≡◌, ℕ, ◌==◌, ◌^◌, Bool, true, false, not, cond, ◌&&◌, ◌||◌, List, [], ◌∷◌, ◌++◌, map, reverse, Option, Some, None, refl, sym, ap, ◌∙◌, inl, inr}
+use Rattle.std.proofs.Common.{◌≡◌, ℕ, ◌==◌, Bool, true, false, not, cond, ◌&&◌, ◌||◌, List, [], ◌∷◌, ◌++◌, map, reverse, Some, None, refl, sym, ap, ◌∙◌, inl, inr}
 use Rattle.std.specs.Prelude.{filter, is_some}
 use Rattle.std.specs.List.{flat_map}
 use Rattle.std.proofs.lemmas.Bool.{eqb-true}
@@ -10,25 +10,25 @@ use Rattle.xf_ast.specs.declared.expr.Test.{Test}
 use Rattle.xf_ast.specs.declared.expr.Test.TheVariants as test
 use Rattle.xf_doc.specs.declared.content.Content.{Content}
 use Rattle.xf_doc.specs.declared.content.Content.TheVariants as content
-use Rattle.xf_doc.specs.Forest.{Forest, is_attribute, is_element, has_number}
-use Rattle.xf_doc.specs.Visit.{Visit, has, is_first, same_parent}
+use Rattle.xf_doc.specs.Forest.{Forest, is_attribute, has_number}
+use Rattle.xf_doc.specs.Visit.{Visit, has, is_first}
 use Rattle.xf_doc.specs.Axis.{after, before, are_siblings, axis_from, is_on}
 use Rattle.xf_doc.specs.Shape.{text_number}
 use Rattle.xf_doc.proofs.BackLaws.{and-true, not-true, or-false}
-use Rattle.xf_lang.specs.Asked.{found, has_list}
+use Rattle.xf_lang.specs.Asked.{found}
 use Rattle.xf_lang.specs.AskedSteps.{is_kind}
 use Rattle.xf_lang.specs.Agree.{numbers_of, are_apart}
 use Rattle.xf_lang.specs.Setting.{in_order}
 use Rattle.xf_lang.specs.Steps.{reached}
 use Rattle.xf_lang.specs.Tests.{is_principal, meets}
-use Rattle.xf_lang.proofs.VisitFacts.{no, some-same, none-some, self-same, turned, or-cases, filter-and, filter-none, filter-reverse, filter-same, found-number, has-found, found-filter, kept_if}
+use Rattle.xf_lang.proofs.VisitFacts.{no, some-same, turned, or-cases, filter-and, filter-reverse, filter-same, found-number, has-found, found-filter, kept_if}
 use Rattle.xf_lang.proofs.ForestVisits.{Each, each-map, self-found}
 use Rattle.xf_doc.proofs.RenumberLaws.{map-reverse}
-use Rattle.xf_shape.specs.Spots.{shaped, stands, is_leaf}
+use Rattle.xf_shape.specs.Spots.{stands, is_leaf}
 use Rattle.xf_shape.specs.Steps.{if_so}
 use Rattle.xf_shape.proofs.Filled.{each-kept_none}
 use Rattle.xf_shape.proofs.Lists.{flat-one}
-use Rattle.xf_shape.proofs.Shapes.{Sound, live-found, real, whole, whole-visits, stands-found, text-found, text_in, is_leaf_visit}
+use Rattle.xf_shape.proofs.Shapes.{Sound, live-found, real, whole, whole-visits, stands-found, text-found, text_in}
 use Rattle.xf_shape.proofs.Frames.{each-same, nothing-below}
 use Rattle.xf_shape.proofs.Plain.{leaf-visit}
 use Rattle.xf_shape.proofs.Children.{child-alone}
@@ -240,9 +240,9 @@ module _ (forest : Forest) (sound : Sound forest) (n : ℕ) (live : has_number n
   up-has z h =
       has-both z.number (if_so (is_kind t) (text_number n)) (reached AncestorOrSelf t W n)
       ∙ ap (λ b. has z.number (if_so (is_kind t) (text_number n)) || b)
-        (ap (has z.number) (from-here AncestorOrSelf ∙ turned-list (is_on AncestorOrSelf y))
-        ∙ has-turned z.number (number (filter (λ x. is_on AncestorOrSelf y x && Met AncestorOrSelf x) W))
-        ∙ has-kept (λ x. is_on AncestorOrSelf y x && Met AncestorOrSelf x) z h)
+      (ap (has z.number) (from-here AncestorOrSelf ∙ turned-list (is_on AncestorOrSelf y))
+      ∙ has-turned z.number (number (filter (λ x. is_on AncestorOrSelf y x && Met AncestorOrSelf x) W))
+      ∙ has-kept (λ x. is_on AncestorOrSelf y x && Met AncestorOrSelf x) z h)
       ∙ by (v.number == z.number) refl
     where
       one : (b : Bool) → has z.number (if_so b (text_number n)) ≡ (b && (v.number == z.number))

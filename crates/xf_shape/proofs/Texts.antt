@@ -1,39 +1,36 @@
 -- From a node of the shape a step reaches texts that stand in place of others: of each node of the forest on the axis a piece.
-use Rattle.std.proofs.Common.{◌≡◌, ℕ, ◌==◌, ◌^◌, Bool, true, false, not, cond, ◌&&◌, ◌||◌, List, [], ◌∷◌, ◌++◌, map, length, nat_lt, Option, Some, None, option_map, refl, sym, ap, ◌∙◌, arith, subst, inl, inr}
-use Rattle.std.specs.Prelude.{filter, find, is_some, ◌<◌}
-use Rattle.std.specs.List.{flat_map, list_any}
+use Rattle.std.proofs.Common.{◌≡◌, ℕ, ◌==◌, ◌^◌, Bool, true, false, not, cond, ◌&&◌, ◌||◌, List, [], ◌∷◌, ◌++◌, map, length, nat_lt, Some, refl, sym, ap, ◌∙◌, arith, inl, inr}
+use Rattle.std.specs.Prelude.{filter, ◌<◌}
+use Rattle.std.specs.List.{flat_map}
 use Rattle.std.proofs.lemmas.Bool.{eqb-true}
-use Rattle.std.proofs.lemmas.Bool.Decides.{nat_tests}
 use Rattle.xf_name.specs.declared.axis.Axis.{Axis}
-use Rattle.xf_name.specs.declared.axis.Axis.TheVariants.{Child, Descendant, DescendantOrSelf}
+use Rattle.xf_name.specs.declared.axis.Axis.TheVariants.{Descendant, DescendantOrSelf}
 use Rattle.xf_ast.specs.declared.expr.Test.{Test}
 use Rattle.xf_ast.specs.declared.expr.Test.TheVariants as test
-use Rattle.xf_doc.specs.declared.content.Node.{Node}
 use Rattle.xf_doc.specs.declared.content.Content.{Content}
 use Rattle.xf_doc.specs.declared.content.Content.TheVariants as content
-use Rattle.xf_doc.specs.Forest.{Forest, is_text, is_element, is_attribute, is_root, content_at}
-use Rattle.xf_doc.specs.Visit.{Visit, visits, has, is_first, has_parent}
+use Rattle.xf_doc.specs.Forest.{Forest, is_text, is_element, is_attribute, content_at}
+use Rattle.xf_doc.specs.Visit.{Visit, visits, has}
 use Rattle.xf_doc.specs.Axis.{is_on, axis_from, axis_of}
-use Rattle.xf_doc.specs.Shape.{is_borne, is_replaced, has_elements, erased, filled, without_text, text_number}
-use Rattle.xf_doc.proofs.BackLaws.{and-true, not-true}
-use Rattle.xf_doc.proofs.RenumberLaws.{map-map}
+use Rattle.xf_doc.specs.Shape.{is_borne, is_replaced, has_elements, without_text, text_number}
+use Rattle.xf_doc.proofs.BackLaws.{and-true}
 use Rattle.xf_lang.specs.Asked.{has_list, found}
 use Rattle.xf_lang.specs.AskedSteps.{is_kind}
-use Rattle.xf_lang.specs.Agree.{numbers_of, are_apart, untexted, AreVisits}
+use Rattle.xf_lang.specs.Agree.{untexted, AreVisits}
 use Rattle.xf_lang.specs.Steps.{reached}
 use Rattle.xf_lang.specs.Tests.{meets}
-use Rattle.xf_lang.proofs.VisitFacts.{no, some-same, none-some, self-same, turned, or-cases, or-left, or-right, filter-and, found-number, found-in}
-use Rattle.xf_lang.proofs.ForestVisits.{Each, each-map, each-filter, each-found, self-found, found-erased}
+use Rattle.xf_lang.proofs.VisitFacts.{no, some-same, turned, or-cases, filter-and, found-number}
+use Rattle.xf_lang.proofs.ForestVisits.{Each, each-map, self-found}
 use Rattle.xf_lang.proofs.UntextedLaws.{solid-found}
 use Rattle.xf_doc.proofs.RenumberLaws.{flat-through, filter-through}
 use Rattle.xf_eval.proofs.Erased.{reached-erased}
 use Rattle.xf_shape.specs.Spots.{stands, is_leaf, is_element_in}
-use Rattle.xf_shape.specs.Steps.{has_list_in, meets_in, if_so, piece, has_texts}
-use Rattle.xf_shape.proofs.Filled.{filtered-filled, pieces, append-none}
-use Rattle.xf_shape.proofs.Lists.{flat-each, filter-flat, map-flat, flat-filter, flat-one}
+use Rattle.xf_shape.specs.Steps.{meets_in, if_so, piece}
+use Rattle.xf_shape.proofs.Filled.{filtered-filled, pieces}
+use Rattle.xf_shape.proofs.Lists.{flat-each, filter-flat, map-flat, flat-filter}
 use Rattle.xf_shape.proofs.Shapes.{Sound, given, given-is, given-none, is_kept, kept, texts_of, is_leaf_visit, text_in, real, whole, real-visits, whole-visits, shaped-is, live-below, found-live, stands-is, stands-found, text-apart}
-use Rattle.xf_shape.proofs.Frames.{each-same, opened, any-found, roots-from}
-use Rattle.xf_shape.proofs.Plain.{content-of, element-erased, list-erased, root-erased, has-list-of, element-parent, root-parent, text-parent}
+use Rattle.xf_shape.proofs.Frames.{each-same, opened}
+use Rattle.xf_shape.proofs.Plain.{content-of, element-erased}
 
 -- ---- no node stands above itself
 

@@ -1,10 +1,8 @@
 -- The top of a node's tree in the shape.
-use Rattle.std.proofs.Common.{◌≡◌, ℕ, Bool, true, false, List, Option, Some, None, option_map, refl, sym, ap, ◌∙◌}
+use Rattle.std.proofs.Common.{◌≡◌, ℕ, true, false, List, sym, ap, ◌∙◌}
 use Rattle.xf_doc.specs.Forest.{Forest, has_number}
-use Rattle.xf_doc.specs.Visit.{Visit, visits, above_in, last_of, top_of}
+use Rattle.xf_doc.specs.Visit.{visits, above_in, last_of, top_of}
 use Rattle.xf_doc.specs.declared.content.Node.{Node}
-use Rattle.xf_doc.specs.Shape.{erased}
-use Rattle.xf_lang.specs.Asked.{found}
 use Rattle.xf_lang.proofs.VisitFacts.{absent}
 use Rattle.xf_eval.proofs.Erased.{top-erased}
 use Rattle.xf_shape.specs.Spots.{shaped, stands}

@@ -1,10 +1,9 @@
 -- The nodes of the value of an expression over the shape, one level of the syntax at a time.
-use Rattle.std.proofs.Common.{◌≡◌, ℕ, Bool, true, false, not, ◌&&◌, List, [], ◌∷◌, ◌++◌, map, Option, Some, None, option_map, refl, sym, ap, ◌∙◌, subst}
+use Rattle.std.proofs.Common.{◌≡◌, ℕ, Bool, true, List, [], ◌∷◌, ◌++◌, map, Option, Some, None, option_map, refl, sym, ap, ◌∙◌}
 use Rattle.std.specs.Prelude.{is_some}
 use Rattle.xf_ast.specs.declared.expr.Expr.{Expr}
 use Rattle.xf_ast.specs.declared.expr.Expr.TheVariants as e
 use Rattle.xf_ast.specs.declared.expr.Link.{Link}
-use Rattle.xf_ast.specs.declared.expr.Operator.{Operator}
 use Rattle.xf_ast.specs.declared.expr.Operator.TheVariants.{Union}
 use Rattle.xf_doc.specs.declared.content.Node.{Node}
 use Rattle.xf_funcs.proofs.CallLaws.{without_a_limit}
@@ -42,7 +41,7 @@ use Rattle.xf_shape.proofs.FixedEquations.{fixed-Call, fixed-Literal, fixed-Nega
 use Rattle.xf_lang.proofs.WithoutLimit.{NoLimit, always}
 use Rattle.xf_shape.specs.Bound.{CallGives, Gives, document_by, literal_id}
 use Rattle.xf_shape.specs.Over.{nodes_at, set_over, shape_at}
-use Rattle.xf_shape.proofs.Plainly.{linked-empty, plain-nodes}
+use Rattle.xf_shape.proofs.Plainly.{plain-nodes}
 
 pub no-limit : (given : Given) (nodes : List Node) (context : Context) → NoLimit (shape_at given nodes context)
 no-limit given nodes context = record { limit = refl; total = λ code ps. without_a_limit 6 code ps }

@@ -1,5 +1,5 @@
 -- One round of the loop that puts nodes and texts together.
-use Rattle.std.proofs.Common.{◌≡◌, ℕ, zero, suc, ◌==◌, ◌+◌, ◌<◌, ◌≤◌, Bool, true, false, cond, ◌&&◌, List, [], ◌∷◌, ◌++◌, map, drop, length, get_or, Option, Some, None, option_map, refl, sym, ap, ◌∙◌, arith, append_assoc, subst}
+use Rattle.std.proofs.Common.{◌≡◌, ℕ, zero, suc, ◌+◌, ◌<◌, ◌≤◌, Bool, true, false, cond, ◌&&◌, List, [], ◌∷◌, ◌++◌, map, drop, length, get_or, Option, Some, None, option_map, refl, sym, ap, ◌∙◌, arith, append_assoc, subst}
 use Rattle.std.specs.List.{list_all}
 use Rattle.std.proofs.lemmas.Bool.{eqb-true}
 use Rattle.std.proofs.lemmas.List.{at_drop_more, at_drop_all}
@@ -9,12 +9,11 @@ use Rattle.xf_doc.proofs.BackLaws.{and-true}
 use Rattle.xf_lang.specs.Binding.{as_list}
 use Rattle.xf_lang.proofs.VisitFacts.{no}
 use Rattle.xf_shape.specs.declared.spot.Spot.{Spot}
-use Rattle.xf_shape.specs.declared.spot.Spot.TheVariants.{Node as Own, TextOf}
-use Rattle.xf_shape.specs.Spots.{AreSpots, is_spot, numbers_at}
+use Rattle.xf_shape.specs.declared.spot.Spot.TheVariants.{TextOf}
+use Rattle.xf_shape.specs.Spots.{AreSpots, numbers_at}
 use Rattle.xf_shape.specs.Steps.{if_so}
 use Rattle.xf_shape.specs.Woven.{begins_with, flushed, flushed_spots, is_owner, is_shown, now_waiting, own_if, past, still_owner, still_waiting, waiting_text, woven}
-use Rattle.xf_shape.proofs.Rounds.{numbers-append, spots-append, spots-one}
-use Rattle.xf_shape.proofs.Filled.{append-none}
+use Rattle.xf_shape.proofs.Rounds.{numbers-append, spots-append}
 
 abbrev numbers : List NodeId → List ℕ
 numbers ids = map (λ (n : NodeId). n.number) ids
@@ -57,9 +56,9 @@ module _ (own : ℕ → ℕ → Bool) where
       let n : ℕ = node.number in
       let rest : Option ℕ → List ℕ = λ v. woven own v (numbers (drop (i + 1) all)) (past n nodes) (past n owners) in
       ap (λ x. x ++ rest (number_in (cond (begins_with n owners) (Some node) (still_owner own w n))))
-        (numbers-append (done ++ flushed_spots own w n) (own_if (begins_with n nodes) node)
-        ∙ ap (λ x. x ++ numbers_at (own_if (begins_with n nodes) node)) (numbers-append done (flushed_spots own w n) ∙ ap (λ x. numbers_at done ++ x) (flushed-numbers w n))
-        ∙ ap (λ x. (numbers_at done ++ flushed own (number_in w) n) ++ x) (own-numbers (begins_with n nodes) node))
+      (numbers-append (done ++ flushed_spots own w n) (own_if (begins_with n nodes) node)
+      ∙ ap (λ x. x ++ numbers_at (own_if (begins_with n nodes) node)) (numbers-append done (flushed_spots own w n) ∙ ap (λ x. numbers_at done ++ x) (flushed-numbers w n))
+      ∙ ap (λ x. (numbers_at done ++ flushed own (number_in w) n) ++ x) (own-numbers (begins_with n nodes) node))
       ∙ ap (λ v. ((numbers_at done ++ flushed own (number_in w) n) ++ if_so (begins_with n nodes) n) ++ rest v) (now-number (begins_with n owners) node (still_owner own w n) ∙ ap (now_waiting (begins_with n owners) n) (still-number w n))
       ∙ append_assoc (numbers_at done ++ flushed own (number_in w) n) (if_so (begins_with n nodes) n) (rest (now_waiting (begins_with n owners) n (still_waiting own (number_in w) n)))
       ∙ append_assoc (numbers_at done) (flushed own (number_in w) n) (if_so (begins_with n nodes) n ++ rest (now_waiting (begins_with n owners) n (still_waiting own (number_in w) n)))

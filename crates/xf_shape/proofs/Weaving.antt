@@ -1,20 +1,17 @@
 -- The nodes of the shape among a set in document order: those of the forest, and each text behind its element and its attributes.
-use Rattle.std.proofs.Common.{◌≡◌, ℕ, ◌==◌, Bool, true, false, not, cond, ◌&&◌, ◌||◌, List, [], ◌∷◌, ◌++◌, map, Option, Some, None, refl, sym, ap, ◌∙◌, subst, append_assoc}
+use Rattle.std.proofs.Common.{◌≡◌, ℕ, ◌==◌, Bool, true, false, not, cond, ◌&&◌, ◌||◌, List, [], ◌∷◌, ◌++◌, Option, Some, None, refl, sym, ap, ◌∙◌, subst}
 use Rattle.std.specs.Prelude.{filter, ⊤}
 use Rattle.std.proofs.lemmas.Bool.{eqb-true}
-use Rattle.xf_doc.specs.declared.node.NodeId.{NodeId}
-use Rattle.xf_doc.specs.declared.content.Content.{Content}
-use Rattle.xf_doc.specs.Forest.{Forest, is_attribute}
+use Rattle.xf_doc.specs.Forest.{is_attribute}
 use Rattle.xf_doc.specs.Visit.{Visit, has, has_parent, is_first}
 use Rattle.xf_doc.specs.Shape.{is_borne, filled, text_number}
 use Rattle.xf_doc.proofs.BackLaws.{and-true, or-false, not-true}
 use Rattle.xf_lang.specs.Asked.{found}
 use Rattle.xf_lang.specs.Agree.{numbers_of, are_apart}
-use Rattle.xf_lang.proofs.VisitFacts.{no, self-same, turned, filter-append}
-use Rattle.xf_lang.proofs.ForestVisits.{Each, each-map}
+use Rattle.xf_lang.proofs.VisitFacts.{no, self-same, filter-append}
+use Rattle.xf_lang.proofs.ForestVisits.{Each}
 use Rattle.xf_shape.specs.Steps.{if_so}
 use Rattle.xf_shape.specs.Woven.{waiting_text, flushed, still_waiting, now_waiting, begins_with, past, woven}
-use Rattle.xf_shape.proofs.Filled.{append-none}
 use Rattle.xf_shape.proofs.Runs.{AreRuns}
 
 -- ---- heads of lists

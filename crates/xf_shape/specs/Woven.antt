@@ -1,7 +1,7 @@
 -- Nodes of the shape in document order (XPath 1.0, section 5), as the calls put them together: the nodes of the forest in their order, and
 -- each text behind its element and the attributes of this.
-use Rattle.std.specs.Prelude.{ℕ, Bool, true, false, not, ◌&&◌, ◌||◌, ◌==◌, ◌++◌, List, [], ◌∷◌, Option, Some, None, if◌then◌else◌}
-use Rattle.std.specs.List.{flat_map, list_all}
+use Rattle.std.specs.Prelude.{ℕ, Bool, false, ◌&&◌, ◌==◌, ◌++◌, List, [], ◌∷◌, Option, Some, None, if◌then◌else◌}
+use Rattle.std.specs.List.{flat_map}
 use Rattle.xf_doc.specs.declared.content.Node.{Node}
 use Rattle.xf_doc.specs.declared.content.Content.{Content}
 use Rattle.xf_doc.specs.Forest.{content_at, is_attribute, has_number}
@@ -9,7 +9,7 @@ use Rattle.xf_doc.specs.Visit.{ancestors_of, is_first, visits}
 use Rattle.xf_doc.specs.Shape.{text_number}
 use Rattle.xf_doc.specs.declared.node.NodeId.{NodeId}
 use Rattle.xf_shape.specs.declared.spot.Spot.{Spot}
-use Rattle.xf_shape.specs.declared.spot.Spot.TheVariants.{Node as Own, TextOf, Outside}
+use Rattle.xf_shape.specs.declared.spot.Spot.TheVariants.{Node as Own, TextOf}
 use Rattle.xf_shape.specs.Spots.{is_leaf, stands}
 use Rattle.xf_shape.specs.Steps.{if_so}
 

@@ -66,9 +66,13 @@ fn stepped<A: Around>(
     let predicates = step.predicates.as_slice();
     if step.is_below {
         let below = all_below(alloc, forest, &from)?;
-        return taken(alloc, forest, around, step.axis, &step.test, predicates, &below, context);
+        return taken(
+            alloc, forest, around, step.axis, &step.test, predicates, &below, context,
+        );
     }
-    taken(alloc, forest, around, step.axis, &step.test, predicates, &from, context)
+    taken(
+        alloc, forest, around, step.axis, &step.test, predicates, &from, context,
+    )
 }
 
 /// All from these nodes down, where a step behind `//` begins.
@@ -108,7 +112,9 @@ pub(crate) fn taken<A: Around>(
 {
     let mut found = Vec::new(alloc);
     for spot in from {
-        let one = from_one(alloc, forest, around, axis, test, predicates, *spot, context)?;
+        let one = from_one(
+            alloc, forest, around, axis, test, predicates, *spot, context,
+        )?;
         found.extend_from_slice(&one)?;
     }
     in_order(alloc, forest, &found)

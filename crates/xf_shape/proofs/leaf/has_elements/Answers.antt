@@ -1,4 +1,4 @@
-use Rattle.std.proofs.Common.{◌≡◌, List, ℕ, [], ◌∷◌, ◌++◌, map, sym, ap, ◌∙◌}
+use Rattle.std.proofs.Common.{◌≡◌, List, ℕ, ◌++◌, map, sym, ap, ◌∙◌}
 use Rattle.std.specs.List.{list_any}
 use Rattle.xf_doc.specs.declared.node.NodeId.{NodeId}
 use Rattle.xf_doc.specs.Axis.{axis_of}

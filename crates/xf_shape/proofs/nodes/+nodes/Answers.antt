@@ -1,4 +1,4 @@
-use Rattle.std.proofs.Common.{rules, ◌≡◌, ℕ, ◌+◌, ◌*◌, ◌<◌, List, map, get_or, [], Some, inl, inr, sym, ap, ◌∙◌, subst, arith}
+use Rattle.std.proofs.Common.{rules, ◌≡◌, ◌+◌, ◌*◌, ◌<◌, List, map, get_or, [], Some, inl, inr, sym, ap, ◌∙◌, subst, arith}
 use denote.Param.Weighed.{most}
 use Rattle.std.proofs.lemmas.Result.{IfOk-weaker}
 use Rattle.xf_ast.specs.declared.expr.Expr.{Expr, size-Expr}
@@ -31,8 +31,8 @@ chained-loop-link-preserved g t c =
     let ms = numbers_at c.in_ok-nodes.nodes.items in record {
       spots = c.in_ok-nodes.ensures.spots;
       left = λ ns rest. c.loop-link.invariant.left ns (chained-round s f ls i d ns ks ms c.loop-link-test.true
-      (subst (λ (l : Link). (v : Value) → nodes_of v ≡ ks → Gives ms (linked l.operator v (meaning_of_link l).right s f)) c.link-item.is c.in_ok-nodes.ensures.value)
-      (ap (λ (m : LinkMeaning). m.operator) (meaning-link (get_or ls i d))) rest);
+          (subst (λ (l : Link). (v : Value) → nodes_of v ≡ ks → Gives ms (linked l.operator v (meaning_of_link l).right s f)) c.link-item.is c.in_ok-nodes.ensures.value)
+          (ap (λ (m : LinkMeaning). m.operator) (meaning-link (get_or ls i d))) rest);
     }
 
 pub chained-returns-clause-value : goal.chained-returns-clause-value

@@ -1,7 +1,7 @@
 use Rattle.xf_lang.specs.Meaning.{meaning}
 use Rattle.xf_shape.specs.Over.{shape_at}
 use Rattle.xf_shape.proofs.Rounds.{all-at, kept-are, kept-left, spots-append}
-use Rattle.std.proofs.Common.{subst, sym, ap, ◌∙◌, ◌<◌, length}
+use Rattle.std.proofs.Common.{subst, sym, ◌<◌, length}
 use Rattle.xf_shape.specs.Spots.{AreSpots, is_spot}
 use Rattle.xf_shape.proofs.predicates.kept_by.Goals as goal
 

@@ -1,4 +1,4 @@
-use Rattle.std.proofs.Common.{◌≡◌, ◌++◌, reverse, sym, ap, ◌∙◌, subst}
+use Rattle.std.proofs.Common.{◌++◌, reverse, sym, ap, ◌∙◌, subst}
 use Rattle.xf_doc.specs.Forest.{has_number}
 use Rattle.xf_doc.specs.Shape.{text_number}
 use Rattle.xf_doc.proofs.BackLaws.{and-true}
