@@ -1,5 +1,5 @@
 -- What one evaluation gives, the other gives, and neither gives anything where one does not.
-use Rattle.std.proofs.Common.{◌≡◌, ℕ, true, List, [], ◌∷◌, map, Option, Some, None, option_map, refl, sym, ap, subst, ◌∙◌}
+use Rattle.std.proofs.Common.{◌≡◌, ℕ, true, List, [], ◌∷◌, map, Option, Some, None, option_map, refl, sym, ap, subst}
 use Rattle.std.specs.Prelude.{⊤}
 use Rattle.xf_lang.specs.Setting.{Meaning, ◌>>=◌}
 use Rattle.xf_lang.specs.Steps.{kept_by_all}

@@ -1,6 +1,6 @@
 -- How a node of a forest stands in its shape: itself, or for a text of an element without element children the one text of that element.
 -- What a step reaches from a node, it reaches in the shape from what stands for it.
-use Rattle.std.proofs.Common.{◌≡◌, ℕ, ◌==◌, Bool, true, false, not, cond, ◌&&◌, ◌||◌, List, [], ◌∷◌, ◌++◌, map, reverse, Option, Some, None, option_map, unwrap_or, refl, sym, ap, ◌∙◌, subst, inl, inr}
+use Rattle.std.proofs.Common.{◌≡◌, ℕ, ◌==◌, Bool, true, false, not, cond, ◌&&◌, ◌||◌, List, [], ◌∷◌, map, reverse, Option, Some, None, option_map, unwrap_or, refl, sym, ap, ◌∙◌, subst, inl, inr}
 use Rattle.std.specs.Prelude.{filter, is_some}
 use Rattle.std.proofs.lemmas.List.{reverse-append}
 use Rattle.std.proofs.lemmas.Bool.{eqb-true}
@@ -25,9 +25,9 @@ use Rattle.xf_lang.specs.Agree.{numbers_of, are_apart, untexted, AreVisits}
 use Rattle.xf_lang.specs.Exact.{is_sibling}
 use Rattle.xf_lang.proofs.VisitFacts.{turned, self-same, or-cases, or-left, or-right, no, some-same, none-some, filter-reverse, found-number, present, found-in, found-out}
 use Rattle.xf_lang.proofs.SameKept.{kept-found, has-left, has-right, has-reverse}
-use Rattle.xf_lang.proofs.AxisAgree.{Stands, above-stands, filter-after, filter-before, after-sub, before-sub}
+use Rattle.xf_lang.proofs.AxisAgree.{above-stands, filter-after, filter-before, after-sub, before-sub}
 use Rattle.xf_lang.proofs.UntextedLaws.{itself, meets-solid, solid-found}
-use Rattle.xf_lang.proofs.ForestVisits.{Each, self-found, each-found}
+use Rattle.xf_lang.proofs.ForestVisits.{self-found, each-found}
 use Rattle.xf_agree.proofs.Parts.{each-range}
 
 -- ---- what a step reaches, by members

@@ -1,18 +1,17 @@
 -- The numbers of nodes do not count: two forests that agree but for these give an expression one text.
-use Rattle.std.proofs.Common.{◌≡◌, ℕ, List, map, Option, Some, None, option_map, refl, sym, ap, ◌∙◌}
+use Rattle.std.proofs.Common.{◌≡◌, ℕ, map, Option, Some, None, option_map, refl, ap, ◌∙◌}
 use Rattle.xf_ast.specs.declared.expr.Expr.{Expr}
 use Rattle.xf_doc.specs.Forest.{Forest}
-use Rattle.xf_doc.specs.Visit.{Visit, visits}
+use Rattle.xf_doc.specs.Visit.{visits}
 use Rattle.xf_doc.specs.StringValue.{string_value}
-use Rattle.xf_doc.specs.Same.{IsRenumbering, renumbered, renumbered_visit}
+use Rattle.xf_doc.specs.Same.{IsRenumbering, renumbered}
 use Rattle.xf_doc.proofs.RenumberLaws.{visits-renumbered, string_value-renumbered}
-use Rattle.xf_lang.specs.declared.value.Value.{Value}
 use Rattle.xf_lang.specs.Given.{Given}
 use Rattle.xf_plain_values.specs.Functions.{Functions}
 use Rattle.xf_lang.specs.Setting.{Setting, Focus, ◌>>=◌, setting_over}
 use Rattle.xf_lang.specs.Conversions.{string_of}
 use Rattle.xf_lang.specs.Meaning.{meaning}
-use Rattle.xf_lang.specs.Same.{renumbered_value, renumbered_document, renumbered_property, renumbered_given, renumbered_focus, renumbered_setting}
+use Rattle.xf_lang.specs.Same.{renumbered_value, renumbered_document, renumbered_property, renumbered_given, renumbered_focus}
 use Rattle.xf_lang.proofs.RenumberLaws.{string_of-renumbered}
 use Rattle.xf_lang.proofs.ForestLaws.{worth-of_renumbered}
 use Rattle.xf_agree.specs.Forests.{text_over, over_second, renumbered_forest, TwoForestsButNumbers}

@@ -1,7 +1,7 @@
 -- Two forests that agree on what an expression asks meet, so that they give it one text.
-use Rattle.std.proofs.Common.{◌≡◌, ℕ, ◌==◌, Bool, true, false, not, cond, ◌&&◌, ◌||◌, List, [], ◌∷◌, ◌++◌, map, Option, Some, None, option_map, refl, sym, ap, ◌∙◌, subst, inl, inr}
+use Rattle.std.proofs.Common.{◌≡◌, ℕ, Bool, true, false, not, cond, ◌&&◌, ◌||◌, List, [], ◌∷◌, ◌++◌, map, Option, Some, None, option_map, refl, sym, ap, ◌∙◌, subst}
 use Rattle.std.specs.Prelude.{filter, is_some}
-use Rattle.std.proofs.lemmas.Bool.{eqb-true, eq-eqb}
+use Rattle.std.proofs.lemmas.Bool.{eq-eqb}
 use Rattle.xf_ast.specs.declared.expr.Expr.{Expr}
 use Rattle.xf_doc.specs.declared.content.Content.{Content}
 use Rattle.xf_doc.specs.declared.content.Content.TheVariants as content
@@ -11,11 +11,11 @@ use Rattle.xf_doc.specs.StringValue.{string_value}
 use Rattle.xf_doc.specs.Shape.{Texts, is_replaced, is_gone, is_borne, given_visits, visits_in, filled, retexted, only_text, erased, without_text, has_elements, shape}
 use Rattle.xf_doc.proofs.BackLaws.{and-true}
 use Rattle.xf_lang.specs.declared.value.Value.{Value}
-use Rattle.xf_lang.specs.Given.{Document, document_of}
+use Rattle.xf_lang.specs.Given.{Document}
 use Rattle.xf_lang.specs.Setting.{Focus}
 use Rattle.xf_lang.specs.Meaning.{meaning}
 use Rattle.xf_lang.specs.Asked.{found}
-use Rattle.xf_lang.specs.Agree.{numbers_of, untexted, list_of, AreVisits, AgreeOnLists}
+use Rattle.xf_lang.specs.Agree.{untexted, list_of, AreVisits, AgreeOnLists}
 use Rattle.xf_lang.proofs.VisitFacts.{no, some-same, none-some, filter-within, filter-and, filter-same, found-number, found-in, found-out}
 use Rattle.xf_lang.proofs.AxisAgree.{Frame}
 use Rattle.xf_lang.proofs.UntextedLaws.{itself, bare-apart, bare-closed, solid-found}
@@ -26,14 +26,14 @@ use Rattle.xf_lang.proofs.ShapeVisits.{shape-untexted, shape-visits}
 use Rattle.xf_model.specs.Rules.{Scope}
 use Rattle.xf_model.specs.Nested.{setting_for}
 use Rattle.xf_model.specs.Settled.{bounds, holding}
-use Rattle.xf_model.proofs.HoldingVisits.{blanks_by, held-erased}
+use Rattle.xf_model.proofs.HoldingVisits.{held-erased}
 use Rattle.xf_agree.specs.Covered.{is_covered}
 use Rattle.xf_agree.specs.Settles.{AreHung, Surrounds}
 use Rattle.xf_agree.specs.Kept.{is_known, keeps, kept}
 use Rattle.xf_agree.specs.Forests.{bare, InBoth, AgreeOn, asked_alone, asked_whole, text_over, over_second, TwoForestsValue, TwoForests}
 use Rattle.xf_agree.proofs.Parts.{part-apart}
 use Rattle.xf_agree.proofs.Covers.{stays, IsShaped, IsLone}
-use Rattle.xf_agree.proofs.Meeting.{Meeting, Asks}
+use Rattle.xf_agree.proofs.Meeting.{Meeting}
 use Rattle.xf_agree.proofs.Known.{parent-of}
 use Rattle.xf_agree.proofs.HeldShape.{held-shaped, held-lone}
 use Rattle.xf_agree.proofs.LooseAgreement.{value-same, text-same}

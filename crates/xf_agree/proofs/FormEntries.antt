@@ -1,12 +1,12 @@
 -- The entries that the binds of a form apply: each has its expression, and stands at a node of the data that is no text.
-use Rattle.std.proofs.Common.{◌≡◌, ℕ, zero, suc, ◌+◌, ◌==◌, Bool, true, false, not, cond, ◌&&◌, ◌||◌, List, [], ◌∷◌, ◌++◌, map, length, Option, Some, None, option_map, unwrap_or, refl, sym, ap, ◌∙◌, arith, subst, inl, inr}
-use Rattle.std.specs.Prelude.{filter, is_some, slice_get, Result, Ok, Err, if◌then◌else◌}
+use Rattle.std.proofs.Common.{◌≡◌, ℕ, suc, ◌+◌, ◌==◌, Bool, true, false, not, cond, ◌&&◌, ◌||◌, List, [], ◌∷◌, ◌++◌, map, length, Option, Some, None, option_map, unwrap_or, refl, sym, ap, ◌∙◌, arith, subst, inl, inr}
+use Rattle.std.specs.Prelude.{filter, slice_get, if◌then◌else◌}
 use Rattle.std.specs.List.{list_any, flat_map}
 use Rattle.std.proofs.lemmas.Bool.{eqb-true}
 use Rattle.xf_doc.specs.declared.content.Content.{Content}
 use Rattle.xf_doc.specs.declared.content.Content.TheVariants as content
 use Rattle.xf_doc.specs.Forest.{is_text, is_element, is_attribute}
-use Rattle.xf_doc.specs.Visit.{Visit, has, is_first, first_of, children_of}
+use Rattle.xf_doc.specs.Visit.{Visit, has, is_first, first_of}
 use Rattle.xf_doc.specs.Shape.{erased, without_text, shape, has_elements}
 use Rattle.xf_lang.specs.declared.value.Value.{Value}
 use Rattle.xf_lang.specs.Setting.{◌>>=◌, each, in_order, joined}
@@ -14,17 +14,15 @@ use Rattle.xf_lang.specs.Binding.{as_list, stand_in, stand_ins, bound_nodes}
 use Rattle.xf_lang.specs.Conversions.{nodes_of}
 use Rattle.xf_lang.specs.Asked.{found}
 use Rattle.xf_lang.specs.Agree.{numbers_of, are_apart, untexted, AreVisits}
-use Rattle.xf_lang.proofs.VisitFacts.{turned, self-same, or-cases, or-left, or-right, no, some-same, none-some, found-number, has-found, found-in}
+use Rattle.xf_lang.proofs.VisitFacts.{self-same, or-cases, or-left, or-right, no, some-same, none-some, found-number, found-in}
 use Rattle.xf_lang.proofs.SameKept.{kept-found, has-append}
 use Rattle.xf_lang.proofs.BelowAgree.{flat-has}
-use Rattle.xf_lang.proofs.ForestVisits.{found-erased}
 use Rattle.xf_lang.proofs.ShapeVisits.{shape-untexted}
 use Rattle.xf_doc.proofs.BackLaws.{and-true, not-true}
-use Rattle.xf_model.specs.declared.property.Property.{Property}
 use Rattle.xf_model.specs.declared.property.Property.TheVariants.{Kind, Calculate, Relevant, Readonly, Required, Constraint}
-use Rattle.xf_model.specs.Rules.{Rule, Computed, Scope, chains, chain_around}
+use Rattle.xf_model.specs.Rules.{Rule, Scope, chains, chain_around}
 use Rattle.xf_model.specs.Nested.{alone, setting_for, set_from, reached_through, begun, sets_of}
-use Rattle.xf_model.specs.Applied.{Entry, Exception, twice, on_parent, is_property, sets, properties_of, standing_in, entry_of, entries_at, entries_on, entries_by, entries_from, all_entries, is_calculate, sets_same, exception_at, or_later, exception_from}
+use Rattle.xf_model.specs.Applied.{Entry, Exception, twice, on_parent, sets, properties_of, standing_in, entry_of, entries_at, entries_on, entries_by, entries_from, all_entries, is_calculate, sets_same, exception_at, or_later, exception_from}
 use Rattle.xf_model.specs.Pertinent.{AllOf}
 use Rattle.xf_model.proofs.EachLemmas.{each_then}
 use Rattle.xf_agree.proofs.Known.{first-same}

@@ -1,26 +1,25 @@
 -- The calculates of a form agree, so that one settled state exists and no other.
 use Rattle.std.proofs.Common.{◌≡◌, ℕ, zero, suc, ◌+◌, ◌==◌, Bool, true, false, List, [], ◌∷◌, map, length, Option, Some, None, option_map, refl, sym, ap, ◌∙◌, arith, subst}
-use Rattle.std.specs.Prelude.{filter, is_some, slice_get, option_and_then, Result, Ok, Err}
+use Rattle.std.specs.Prelude.{filter, is_some, slice_get, option_and_then, Ok}
 use Rattle.xf_ast.specs.declared.expr.Expr.{Expr}
 use Rattle.xf_ast.specs.declared.form.Bind.{Bind}
 use Rattle.xf_ast.specs.declared.form.Tables.{Tables}
 use Rattle.xf_doc.specs.Forest.{Forest}
-use Rattle.xf_doc.specs.Visit.{Visit, visits, has}
+use Rattle.xf_doc.specs.Visit.{Visit, visits}
 use Rattle.xf_doc.specs.Shape.{erased, shape, has_elements}
-use Rattle.xf_doc.proofs.RenumberLaws.{map-map}
 use Rattle.xf_plain_values.specs.Functions.{Functions}
 use Rattle.xf_lang.specs.Given.{Given}
 use Rattle.xf_lang.specs.Asked.{found}
-use Rattle.xf_lang.specs.Agree.{numbers_of, are_apart, untexted, AreVisits}
+use Rattle.xf_lang.specs.Agree.{untexted, AreVisits}
 use Rattle.xf_lang.proofs.VisitFacts.{no, some-same, none-some, present}
 use Rattle.xf_lang.proofs.UntextedLaws.{solid-found}
 use Rattle.xf_lang.proofs.ShapeVisits.{shape-untexted, shape-visits}
 use Rattle.xf_model.specs.declared.property.Property.{Property}
 use Rattle.xf_model.specs.declared.property.Property.TheVariants.{Kind, Calculate, Relevant, Readonly, Required, Constraint}
-use Rattle.xf_model.specs.Rules.{Rule, Computed, Scope, computed_of, rule_of, scope_of}
-use Rattle.xf_model.specs.Entries.{expression_in, expression_of}
+use Rattle.xf_model.specs.Rules.{Rule, Scope, computed_of, rule_of, scope_of}
+use Rattle.xf_model.specs.Entries.{expression_in}
 use Rattle.xf_model.specs.Applied.{Entry, Exception, sets, all_entries, is_property, is_calculate, exception_from, unless}
-use Rattle.xf_model.specs.Settled.{Bounds, Contents, calculates}
+use Rattle.xf_model.specs.Settled.{Bounds, calculates}
 use Rattle.xf_model.specs.Pertinent.{AllOf}
 use Rattle.xf_model.specs.Stands.{AreStanding}
 use Rattle.xf_model.proofs.EachLemmas.{each_then, each_both}

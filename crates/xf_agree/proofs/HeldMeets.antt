@@ -1,22 +1,21 @@
 -- Data that hold two contents at static calculates meet, where the contents are the same at what is read.
-use Rattle.std.proofs.Common.{◌≡◌, ℕ, ◌==◌, ◌^◌, Bool, true, false, not, cond, ◌&&◌, ◌||◌, List, [], ◌∷◌, ◌++◌, map, is_some, Option, Some, None, option_map, refl, sym, ap, ◌∙◌, subst, inl, inr, arith}
+use Rattle.std.proofs.Common.{◌≡◌, ℕ, ◌==◌, ◌^◌, Bool, true, false, not, ◌&&◌, List, [], ◌∷◌, map, is_some, Option, Some, None, option_map, refl, sym, ap, ◌∙◌, subst, inl, inr, arith}
 use Rattle.std.specs.Prelude.{filter}
-use Rattle.std.specs.List.{list_any, flat_map}
+use Rattle.std.specs.List.{list_any}
 use Rattle.std.proofs.lemmas.Bool.{cases_Bool, eqb-true, eq-eqb, or_cases, or_left, or_right, false≢true, ltb-true}
-use Rattle.xf_ast.specs.declared.expr.Expr.{Expr}
 use Rattle.xf_doc.specs.declared.content.Content.{Content}
 use Rattle.xf_doc.specs.declared.content.Content.TheVariants as content
-use Rattle.xf_doc.specs.Forest.{Forest, is_text, own_text}
+use Rattle.xf_doc.specs.Forest.{Forest, is_text}
 use Rattle.xf_doc.specs.Visit.{Visit, visits, has, is_first, ancestors_of, above_in}
-use Rattle.xf_doc.specs.StringValue.{string_value, value_in, text_below, characters}
+use Rattle.xf_doc.specs.StringValue.{string_value}
 use Rattle.xf_doc.specs.Shape.{text_number, is_replaced, erased, without_text, shape, only_text, texts_given}
 use Rattle.xf_doc.proofs.BackLaws.{and-true}
 use Rattle.xf_lang.specs.Given.{document_of}
-use Rattle.xf_lang.specs.Setting.{Setting, ◌>>=◌}
+use Rattle.xf_lang.specs.Setting.{◌>>=◌}
 use Rattle.xf_lang.specs.Conversions.{string_of}
 use Rattle.xf_lang.specs.Meaning.{meaning}
 use Rattle.xf_lang.specs.Asked.{Asked, found, converted}
-use Rattle.xf_lang.specs.Agree.{numbers_of, untexted, AreVisits}
+use Rattle.xf_lang.specs.Agree.{untexted, AreVisits}
 use Rattle.xf_lang.specs.Reads.{trace}
 use Rattle.xf_lang.proofs.VisitFacts.{some-same, none-some, found-number, found-in, found-out, present}
 use Rattle.xf_lang.proofs.AxisAgree.{Frame}

@@ -1,6 +1,6 @@
 -- Data that hold contents at static calculates, beside the shape of the data.
-use Rattle.std.proofs.Common.{◌≡◌, ℕ, ◌==◌, ◌^◌, Bool, true, false, not, cond, ◌&&◌, ◌||◌, List, [], ◌∷◌, ◌++◌, map, Option, Some, None, option_map, refl, sym, ap, ◌∙◌, arith, subst, inl, inr}
-use Rattle.std.specs.Prelude.{filter, is_some, nat_lt, ⊤, ◌⊎◌}
+use Rattle.std.proofs.Common.{◌≡◌, ℕ, ◌==◌, Bool, true, false, not, cond, ◌&&◌, ◌||◌, List, [], ◌∷◌, ◌++◌, map, Option, Some, None, option_map, refl, sym, ap, ◌∙◌, arith, subst, inl, inr}
+use Rattle.std.specs.Prelude.{filter, is_some, nat_lt, ◌⊎◌}
 use Rattle.std.specs.List.{list_any, list_all}
 use Rattle.std.proofs.lemmas.Bool.{cases_Bool, eqb-true}
 use Rattle.std.proofs.lemmas.Bool.Decides.{nat_tests}
@@ -8,13 +8,13 @@ use Rattle.xf_doc.specs.declared.content.Content.{Content}
 use Rattle.xf_doc.specs.declared.content.Content.TheVariants as content
 use Rattle.xf_doc.specs.declared.content.Node.{Node}
 use Rattle.xf_doc.specs.Forest.{Forest, is_root, is_text, is_element, is_attribute}
-use Rattle.xf_doc.specs.Visit.{Visit, visits, visits_from, visit, still_above, numbers, has, has_parent, is_first}
-use Rattle.xf_doc.specs.Shape.{Texts, text_number, text_visit, given_visits, visits_in, is_borne, is_replaced, is_gone, filled, retexted, has_elements, only_text, erased, without_text, shape, texts_given}
+use Rattle.xf_doc.specs.Visit.{Visit, visits, visits_from, still_above, numbers, has, has_parent, is_first}
+use Rattle.xf_doc.specs.Shape.{Texts, text_number, text_visit, given_visits, visits_in, is_borne, is_replaced, filled, retexted, has_elements, only_text, erased, without_text, shape, texts_given}
 use Rattle.xf_doc.proofs.BackLaws.{and-true}
 use Rattle.xf_doc.proofs.RenumberLaws.{map-map, filter-through}
 use Rattle.xf_lang.specs.Asked.{found}
-use Rattle.xf_lang.specs.Agree.{numbers_of, are_apart, untexted, AreVisits}
-use Rattle.xf_lang.proofs.VisitFacts.{no, some-same, none-some, self-same, or-cases, or-left, or-right, found-number, found-in, found-out}
+use Rattle.xf_lang.specs.Agree.{numbers_of, untexted, AreVisits}
+use Rattle.xf_lang.proofs.VisitFacts.{no, some-same, none-some, or-left, or-right, found-number, found-in}
 use Rattle.xf_lang.proofs.UntextedLaws.{solid-found}
 use Rattle.xf_lang.proofs.ForestVisits.{Each, each-map, each-filter, each-found, self-found, found-erased, forest-visits}
 use Rattle.xf_lang.proofs.ShapeVisits.{AreBelow, shape-untexted, shape-visits}
@@ -25,9 +25,9 @@ use Rattle.xf_model.specs.Pertinent.{AllOf}
 use Rattle.xf_model.specs.Stands.{AreCalculated}
 use Rattle.xf_model.proofs.EachLemmas.{each_one}
 use Rattle.xf_model.proofs.ReadSolid as model
-use Rattle.xf_model.proofs.HoldingLaws.{structure-kept, texts_by}
+use Rattle.xf_model.proofs.HoldingLaws.{structure-kept}
 use Rattle.xf_model.proofs.HoldingVisits.{blanks_by, held-erased, held-visits}
-use Rattle.xf_agree.specs.Settles.{IsSolid, AreHung, AreWhole, Surrounds, IsStatic}
+use Rattle.xf_agree.specs.Settles.{AreHung, AreWhole, Surrounds, IsStatic}
 use Rattle.xf_agree.proofs.Covers.{stays, IsShaped}
 use Rattle.xf_agree.proofs.Retexted.{stays-retexted}
 

@@ -7,12 +7,12 @@ use Rattle.xf_doc.specs.declared.content.Content.TheVariants as content
 use Rattle.xf_doc.specs.Forest.{is_text, is_element, is_attribute, own_text}
 use Rattle.xf_doc.specs.Visit.{Visit, has, has_parent}
 use Rattle.xf_doc.specs.StringValue.{string_value, value_in, text_below, characters}
-use Rattle.xf_doc.specs.Shape.{Texts, text_visit, given_visits, visits_in, is_borne, is_replaced, is_gone, filled, retexted, erased, without_text, texts_given, value_given, with_value}
+use Rattle.xf_doc.specs.Shape.{Texts, text_visit, given_visits, visits_in, is_borne, is_replaced, filled, retexted, erased, without_text, texts_given, value_given, with_value}
 use Rattle.xf_doc.proofs.RenumberLaws.{map-cond, filter-through, find-through}
 use Rattle.xf_lang.specs.Asked.{found}
 use Rattle.xf_lang.specs.Agree.{numbers_of, are_apart, AreVisits}
 use Rattle.xf_lang.proofs.VisitFacts.{no, some-same, none-some, found-number, found-in, found-out}
-use Rattle.xf_lang.proofs.ForestVisits.{Each, each-map, self-found, found-erased}
+use Rattle.xf_lang.proofs.ForestVisits.{Each, self-found, found-erased}
 use Rattle.xf_model.specs.Settled.{Contents, content_of, holding}
 use Rattle.xf_model.proofs.HoldingLaws.{texts_by}
 use Rattle.xf_agree.proofs.Covers.{stays}

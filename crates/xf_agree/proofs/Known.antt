@@ -1,5 +1,5 @@
 -- Which nodes a step meets: where it tells texts apart, known ones alone; and nothing from a text that is not known.
-use Rattle.std.proofs.Common.{◌≡◌, ℕ, ◌==◌, Bool, true, false, not, cond, ◌&&◌, ◌||◌, List, [], ◌∷◌, Option, Some, None, unwrap_or, refl, sym, ap, ◌∙◌, subst, inl, inr}
+use Rattle.std.proofs.Common.{◌≡◌, ℕ, ◌==◌, Bool, true, false, not, cond, ◌&&◌, ◌||◌, List, [], ◌∷◌, Some, None, unwrap_or, refl, sym, ap, ◌∙◌, inl, inr}
 use Rattle.std.specs.Prelude.{filter, is_some}
 use Rattle.std.proofs.lemmas.Bool.{eqb-true}
 use Rattle.xf_name.specs.declared.axis.Axis.{Axis}
@@ -16,7 +16,7 @@ use Rattle.xf_lang.specs.Tests.{meets}
 use Rattle.xf_lang.specs.Asked.{found, as_list, parent_in, list_around, lists_below, reader_of, read_for}
 use Rattle.xf_lang.specs.AskedSteps.{lists_of, kind_read, is_kind, meets_texts, goes_up}
 use Rattle.xf_lang.specs.Steps.{reached}
-use Rattle.xf_lang.specs.Agree.{untexted, AreVisits}
+use Rattle.xf_lang.specs.Agree.{AreVisits}
 use Rattle.xf_lang.proofs.VisitFacts.{self-same, or-cases, or-left, or-right, no, some-same, none-some, found-number, present, found-in, found-out}
 use Rattle.xf_lang.proofs.UntextedLaws.{meets-solid, solid-found}
 use Rattle.xf_lang.proofs.Comparison.{Comparison, Within}

@@ -1,5 +1,5 @@
 -- Two forests that meet give a covered expression one value and one text.
-use Rattle.std.proofs.Common.{◌≡◌, ℕ, true, Option, refl, sym, ap, ◌∙◌}
+use Rattle.std.proofs.Common.{◌≡◌, true, sym, ap, ◌∙◌}
 use Rattle.xf_ast.specs.declared.expr.Expr.{Expr}
 use Rattle.xf_lang.specs.Setting.{Focus, ◌>>=◌}
 use Rattle.xf_lang.specs.Conversions.{string_of}

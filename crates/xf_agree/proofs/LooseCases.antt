@@ -1,21 +1,19 @@
 -- Calls of functions over two forests that meet.
-use Rattle.std.proofs.Common.{◌≡◌, ℕ, zero, suc, ◌==◌, Bool, true, false, not, ◌&&◌, List, [], ◌∷◌, ◌++◌, map, Option, Some, None, option_map, refl, sym, ap, ◌∙◌, subst, inl, inr}
-use Rattle.std.specs.Prelude as std
+use Rattle.std.proofs.Common.{◌≡◌, ℕ, zero, suc, ◌==◌, true, false, List, [], ◌∷◌, ◌++◌, map, Option, Some, None, option_map, refl, sym, ap, ◌∙◌, subst, inl, inr}
 use Rattle.std.specs.List.{list_all, flat_map}
 use Rattle.std.proofs.lemmas.Bool.{eqb-true}
 use Rattle.xf_doc.specs.Visit.{Visit, has}
 use Rattle.xf_doc.proofs.BackLaws.{and-true}
-use Rattle.xf_lang.specs.declared.value.Value.TheVariants.{Number}
 use Rattle.xf_lang.specs.Given.{document_of}
-use Rattle.xf_lang.specs.Setting.{Setting, Focus, Meaning, ◌>>=◌, in_order}
-use Rattle.xf_lang.specs.Conversions.{nodes_of, value_of_plain}
+use Rattle.xf_lang.specs.Setting.{Setting, Focus, Meaning, in_order}
+use Rattle.xf_lang.specs.Conversions.{nodes_of}
 use Rattle.xf_lang.specs.Functions.{set_of, instance_id, called}
 use Rattle.xf_lang.specs.Table.{Function, function_at}
 use Rattle.xf_lang.specs.Table as of
-use Rattle.xf_lang.specs.Asked.{Trace, LinkTrace, WalkTrace, list_around}
+use Rattle.xf_lang.specs.Asked.{Trace, list_around}
 use Rattle.xf_lang.specs.AskedCalls as asked
 use Rattle.xf_lang.specs.Reads.{meaning_in}
-use Rattle.xf_lang.specs.Exact.{Facts, LinkFacts, all_placed, all_exact, are_filled, branches, call_facts}
+use Rattle.xf_lang.specs.Exact.{Facts, all_placed, all_exact, branches, call_facts}
 use Rattle.xf_lang.proofs.VisitFacts.{or-cases, or-left, self-same, no, filter-none}
 use Rattle.xf_lang.proofs.SameKept.{has-right}
 use Rattle.xf_lang.proofs.BelowAgree.{flat-within}

@@ -1,5 +1,5 @@
 -- Functions over two forests that meet.
-use Rattle.std.proofs.Common.{◌≡◌, ℕ, zero, suc, ◌==◌, Bool, true, false, not, ◌||◌, List, [], ◌∷◌, ◌++◌, map, length, Option, Some, None, option_map, refl, sym, ap, ◌∙◌, inl, inr}
+use Rattle.std.proofs.Common.{◌≡◌, ℕ, zero, suc, ◌==◌, Bool, true, false, not, List, [], ◌∷◌, ◌++◌, map, length, Option, Some, None, option_map, refl, sym, ap, ◌∙◌, inl, inr}
 use Rattle.std.specs.Prelude.{⊤, filter}
 use Rattle.std.specs.Prelude as std
 use Rattle.xf_num.specs.Written.{read_at}
@@ -27,7 +27,6 @@ use Rattle.xf_lang.proofs.AgreeCalls.{Standing}
 use Rattle.xf_lang.proofs.AgreeFunctions.{is_common}
 use Rattle.xf_agree.proofs.Alike.{Alike, both as gives, alike-map, alike-then, alike-weaker, alike-same, alike-equal, alike-at}
 use Rattle.xf_agree.proofs.Meeting.{Meeting, Asks}
-use Rattle.xf_agree.proofs.LooseStep.{AllGood}
 use Rattle.xf_agree.proofs.LooseValues.{Fits, Agreed, tight-fits, none-solid, fits-none, left-both, right-both, in-converted, in-all_read, strings-all, made, name-same}
 use Rattle.xf_agree.proofs.LooseCalls.{MeetLaw, plain-agreed, truth-agreed, plain-mapped, truly-given}
 

@@ -1,15 +1,12 @@
 -- Two forests that meet give an expression one value: by one induction over the syntax.
-use Rattle.std.proofs.Common.{◌≡◌, ℕ, ◌==◌, Bool, true, false, not, ◌&&◌, ◌||◌, List, [], ◌∷◌, map, Option, Some, None, option_map, unwrap_or, refl, sym, ap, ◌∙◌, subst, inl, inr}
+use Rattle.std.proofs.Common.{◌≡◌, ℕ, Bool, true, false, not, ◌&&◌, ◌||◌, List, [], ◌∷◌, map, Option, Some, None, option_map, unwrap_or, refl, sym, ap, ◌∙◌, subst}
 use Rattle.std.specs.List.{list_all}
-use Rattle.std.proofs.lemmas.Bool.{eqb-true}
 use Rattle.xf_ast.specs.declared.expr.Expr.{Expr}
 use Rattle.xf_ast.specs.declared.expr.Expr.TheOpen.{Expr-F, Step-F}
 use Rattle.xf_ast.specs.declared.expr.Expr.TheFolds.{map-Expr, map-Step}
 use Rattle.xf_ast.specs.declared.expr.Operator.{Operator}
 use Rattle.xf_ast.specs.declared.expr.Operator.TheVariants.{Or, And, Equal, NotEqual, Less, LessOrEqual, Greater, GreaterOrEqual, Add, Subtract, Multiply, Divide, Modulo, Union}
-use Rattle.xf_ast.specs.declared.expr.Start.{Start}
-use Rattle.xf_ast.specs.declared.expr.Start.TheVariants.{Root, Context}
-use Rattle.xf_doc.specs.Visit.{Visit, has, above_in, last_of, top_of}
+use Rattle.xf_doc.specs.Visit.{has}
 use Rattle.xf_doc.proofs.BackLaws.{and-true}
 use Rattle.xf_lang.specs.declared.value.Value.{Value}
 use Rattle.xf_lang.specs.declared.value.Value.TheVariants.{Nodes, Text, Number}
@@ -18,8 +15,8 @@ use Rattle.xf_lang.specs.Conversions.{nodes_of, number_of}
 use Rattle.xf_lang.specs.Operators.{linked, chained, signed}
 use Rattle.xf_lang.specs.Steps.{kept_by_all, walked, begun}
 use Rattle.xf_lang.specs.Table.{function_at}
-use Rattle.xf_lang.specs.Asked.{Asked, Trace, LinkTrace, WalkTrace, found, tightly}
-use Rattle.xf_lang.specs.AskedSteps.{is_kind, meets_texts, goes_up, if_tight, filtered, walks_asked}
+use Rattle.xf_lang.specs.Asked.{Asked, Trace, LinkTrace, WalkTrace, tightly}
+use Rattle.xf_lang.specs.AskedSteps.{is_kind, meets_texts, if_tight, filtered, walks_asked}
 use Rattle.xf_lang.specs.AskedCalls as asked
 use Rattle.xf_lang.specs.Reads.{meaning_in, link_meaning_in, walk_in, expr_trace, link_trace, step_trace, trace}
 use Rattle.xf_lang.specs.Exact.{Facts, LinkFacts, all_placed, is_union, links_placed, links_plain, links_exact, is_sibling, expr_facts, link_facts}

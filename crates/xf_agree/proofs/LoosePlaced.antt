@@ -1,27 +1,22 @@
 -- Calls by position alone, whatever forests are compared.
-use Rattle.std.proofs.Common.{◌≡◌, ℕ, zero, suc, ◌==◌, Bool, true, false, not, ◌&&◌, List, [], ◌∷◌, ◌++◌, map, Option, Some, None, option_map, refl, sym, ap, ◌∙◌, subst, inl, inr}
+use Rattle.std.proofs.Common.{◌≡◌, ℕ, Bool, true, not, ◌&&◌, List, [], ◌∷◌, map, refl, ap, ◌∙◌, subst}
 use Rattle.std.specs.Prelude as std
-use Rattle.std.specs.List.{list_all, flat_map}
-use Rattle.std.proofs.lemmas.Bool.{eqb-true}
-use Rattle.xf_doc.specs.Visit.{Visit, has}
 use Rattle.xf_doc.proofs.BackLaws.{and-true}
 use Rattle.xf_lang.specs.declared.value.Value.TheVariants.{Number}
-use Rattle.xf_lang.specs.Given.{document_of}
-use Rattle.xf_lang.specs.Setting.{Setting, Focus, Meaning, ◌>>=◌, in_order}
-use Rattle.xf_lang.specs.Conversions.{nodes_of, value_of_plain}
-use Rattle.xf_lang.specs.Functions.{set_of, instance_id, called}
+use Rattle.xf_lang.specs.Setting.{Setting, Focus, Meaning, ◌>>=◌}
+use Rattle.xf_lang.specs.Conversions.{value_of_plain}
+use Rattle.xf_lang.specs.Functions.{called}
 use Rattle.xf_lang.specs.Table.{Function, function_at}
 use Rattle.xf_lang.specs.Table as of
-use Rattle.xf_lang.specs.Asked.{Trace, LinkTrace, WalkTrace, list_around}
-use Rattle.xf_lang.specs.AskedCalls as asked
+use Rattle.xf_lang.specs.Asked.{Trace, LinkTrace, WalkTrace}
 use Rattle.xf_lang.specs.Reads.{meaning_in}
-use Rattle.xf_lang.specs.Exact.{Facts, LinkFacts, all_placed, all_exact, are_filled, branches, call_facts}
+use Rattle.xf_lang.specs.Exact.{Facts, LinkFacts, all_placed, are_filled, call_facts}
 use Rattle.xf_lang.proofs.VisitFacts.{no}
 use Rattle.xf_lang.proofs.Comparison.{Comparison, other, over_shape}
-use Rattle.xf_lang.proofs.Gives.{Gives, gives-map_too, both, gives-then, gives-same}
+use Rattle.xf_lang.proofs.Gives.{both, gives-then, gives-same}
 use Rattle.xf_lang.proofs.PlacedLaws.{Placed, strings, numbers, texts, plains, mapped, truths, argument-placed, plains-placed, answers, branched-placed, plain-without}
 use Rattle.xf_agree.proofs.Alike.{ByPlace, Placing, meanings_of, at_one, at-plain}
-use Rattle.xf_agree.proofs.Meeting.{Meeting, Asks}
+use Rattle.xf_agree.proofs.Meeting.{Meeting}
 use Rattle.xf_agree.proofs.LooseCalls.{MeetLaw}
 use Rattle.xf_agree.proofs.LoosePaths.{WalkMeets}
 

@@ -1,5 +1,5 @@
 -- A step over two forests that meet: it gives the same known nodes in both, and for each of them stands one that is asked.
-use Rattle.std.proofs.Common.{◌≡◌, ℕ, ◌==◌, Bool, true, false, not, cond, ◌&&◌, List, [], ◌∷◌, ◌++◌, map, Option, Some, None, option_map, refl, sym, ap, ◌∙◌, subst, inl, inr}
+use Rattle.std.proofs.Common.{◌≡◌, ℕ, ◌==◌, Bool, true, false, not, ◌&&◌, List, [], ◌∷◌, ◌++◌, Option, Some, None, option_map, refl, sym, ap, ◌∙◌, inl, inr}
 use Rattle.std.specs.Prelude.{filter, is_some}
 use Rattle.std.specs.List.{flat_map}
 use Rattle.std.proofs.lemmas.Bool.{eqb-true}
@@ -25,7 +25,7 @@ use Rattle.xf_lang.proofs.VisitFacts.{self-same, or-cases, or-left, or-right, no
 use Rattle.xf_lang.proofs.SameKept.{region, has-append, kept-found}
 use Rattle.xf_lang.proofs.ReachAgree.{Reach}
 use Rattle.xf_lang.proofs.UntextedLaws.{part-order}
-use Rattle.xf_lang.proofs.Comparison.{Comparison, other, over_shape, Within, in_order-framed}
+use Rattle.xf_lang.proofs.Comparison.{Comparison, other, Within, in_order-framed}
 use Rattle.xf_lang.proofs.StepAgree.{gathered, gathered-without}
 use Rattle.xf_lang.proofs.BelowAgree.{flat-has, flat-within}
 use Rattle.xf_lang.proofs.ReadsAgree.{in-order_has}

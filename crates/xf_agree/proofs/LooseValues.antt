@@ -13,16 +13,16 @@ use Rattle.xf_lang.specs.Conversions.{nodes_of, number_of}
 use Rattle.xf_lang.specs.Comparisons.{compared}
 use Rattle.xf_lang.specs.Operators.{computed, united}
 use Rattle.xf_lang.specs.Functions.{first_name}
-use Rattle.xf_lang.specs.Asked.{Asked, found, lists_below, read_for, both, with_read, all_read, first_node, asked_first, converted}
+use Rattle.xf_lang.specs.Asked.{Asked, found, lists_below, read_for, both, all_read, first_node, asked_first, converted}
 use Rattle.xf_lang.specs.AskedCalls.{beside, asked_by_both, computed as asked_computed, either}
-use Rattle.xf_lang.proofs.VisitFacts.{self-same, or-cases, or-left, or-right, no, found-number, present}
+use Rattle.xf_lang.proofs.VisitFacts.{self-same, or-cases, or-left, no, found-number}
 use Rattle.xf_lang.proofs.SameKept.{has-left, has-right, has-append}
 use Rattle.xf_lang.proofs.UntextedLaws.{solid-found}
 use Rattle.xf_lang.proofs.Comparison.{Comparison, other, over_shape, Solid, AllSolid, Within, agree-less, first-order, order-solid}
 use Rattle.xf_lang.proofs.BelowAgree.{flat-within}
-use Rattle.xf_lang.proofs.ValueAgree.{IsTruth, Premise, StringsOn, read-less, number-same, compared-same}
+use Rattle.xf_lang.proofs.ValueAgree.{IsTruth, Premise, StringsOn, number-same, compared-same}
 use Rattle.xf_agree.proofs.Alike.{Alike, both as gives, alike-map, alike-then, alike-equal, alike-at}
-use Rattle.xf_agree.proofs.Covers.{cov-solid, solid-stays, stays-found, text-reader, solid-reader}
+use Rattle.xf_agree.proofs.Covers.{cov-solid, text-reader, solid-reader}
 use Rattle.xf_agree.proofs.Meeting.{Meeting, Asks, is_known, keeps, A, B, U, stand, kept-first, kept-second, in-first, in-second}
 use Rattle.xf_agree.proofs.Known.{nil-of}
 use Rattle.xf_agree.proofs.LooseStep.{Good, AllGood, good-more, in-order_of, in-set, ordered}

@@ -1,29 +1,28 @@
 -- Two forests that agree, with the texts that are the same in both: those of known elements. What a step reaches among known nodes, it
 -- reaches in both.
-use Rattle.std.proofs.Common.{◌≡◌, ℕ, ◌==◌, Bool, true, false, not, cond, ◌&&◌, ◌||◌, List, [], ◌∷◌, ◌++◌, Option, Some, None, option_map, refl, sym, ap, ◌∙◌, subst, inl, inr}
+use Rattle.std.proofs.Common.{◌≡◌, ℕ, ◌==◌, Bool, true, false, not, cond, ◌||◌, List, [], ◌∷◌, ◌++◌, Some, refl, sym, ap, ◌∙◌, inl, inr}
 use Rattle.std.specs.Prelude.{filter, is_some}
 use Rattle.std.proofs.lemmas.Bool.{eqb-true}
 use Rattle.xf_name.specs.declared.axis.Axis.{Axis}
 use Rattle.xf_name.specs.declared.axis.Axis.TheVariants.{Child, Attribute, Self_, Parent, Ancestor, AncestorOrSelf, Descendant, DescendantOrSelf, FollowingSibling, PrecedingSibling}
 use Rattle.xf_ast.specs.declared.expr.Test.{Test}
-use Rattle.xf_doc.specs.Forest.{is_text, is_element}
+use Rattle.xf_doc.specs.Forest.{is_text}
 use Rattle.xf_doc.specs.Visit.{Visit, has, is_first, first_of}
 use Rattle.xf_doc.specs.Shape.{Texts, is_gone}
 use Rattle.xf_lang.specs.Tests.{meets}
 use Rattle.xf_lang.specs.Asked.{Asked, found, as_list, parent_in, list_around, lists_below}
 use Rattle.xf_lang.specs.AskedSteps.{lists_of}
 use Rattle.xf_lang.specs.Steps.{reached}
-use Rattle.xf_lang.specs.Agree.{numbers_of, are_apart, untexted, AreVisits, AgreeOnStrings}
-use Rattle.xf_lang.proofs.VisitFacts.{self-same, or-cases, or-left, or-right, no, some-same, none-some, found-number, present, found-in, found-out}
+use Rattle.xf_lang.specs.Agree.{numbers_of, are_apart, AreVisits}
+use Rattle.xf_lang.proofs.VisitFacts.{self-same, or-cases, or-left, or-right, no, some-same, found-number, present, found-in, found-out}
 use Rattle.xf_lang.proofs.SameKept.{has-append, has-left, has-right, kept-found}
-use Rattle.xf_lang.proofs.AxisAgree.{Frame, SameLists, LookedBelow, below-back, flipped, child-there}
+use Rattle.xf_lang.proofs.AxisAgree.{Frame, SameLists, below-back, flipped, child-there}
 use Rattle.xf_lang.proofs.ReachAgree.{Reach, reach}
 use Rattle.xf_lang.proofs.UntextedLaws.{solid-found}
 use Rattle.xf_lang.proofs.Comparison.{Comparison, Agree, Within}
 use Rattle.xf_lang.proofs.ForestVisits.{Each, self-found}
 use Rattle.xf_agree.specs.Settles.{AreHung}
 pub use Rattle.xf_agree.specs.Kept.{is_known, keeps, kept}
-use Rattle.xf_agree.proofs.Parts.{part-apart}
 use Rattle.xf_agree.proofs.Covers.{IsShaped, IsLone, stand_in, has-head, above-solid, cov-above, cov-solid, solid-stays, stays-found, around-has}
 
 pub record Meeting (w : Comparison) : Type 0 where

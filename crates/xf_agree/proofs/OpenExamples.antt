@@ -1,5 +1,5 @@
 -- What the definitions of what is asked leave open: a step from a text to texts beside it, where an element without elements has two.
-use Rattle.std.proofs.Common.{◌≡◌, ℕ, false, List, [], ◌∷◌, Option, Some, refl, codes}
+use Rattle.std.proofs.Common.{◌≡◌, false, List, [], ◌∷◌, Option, Some, refl, codes}
 use Rattle.xf_base.specs.Limits.{string_limit}
 use Rattle.xf_name.specs.declared.axis.Axis.TheVariants as axis
 use Rattle.xf_ast.specs.declared.expr.Test.TheVariants as test

@@ -15,7 +15,7 @@ use Rattle.xf_lang.specs.Tests.{meets}
 use Rattle.xf_lang.specs.Asked.{found}
 use Rattle.xf_lang.specs.Steps.{reached, begun_at}
 use Rattle.xf_lang.specs.Agree.{numbers_of, are_apart}
-use Rattle.xf_lang.proofs.VisitFacts.{self-same, or-left, or-right, no, some-same, filter-and, filter-same, filter-reverse, found-number, has-found, kept_if, found-filter, found-in, found-out}
+use Rattle.xf_lang.proofs.VisitFacts.{self-same, or-left, or-right, no, filter-and, filter-same, filter-reverse, found-number, has-found, kept_if, found-filter, found-in, found-out}
 use Rattle.xf_lang.proofs.SameKept.{on, numbers-filter}
 use Rattle.xf_lang.proofs.AxisAgree.{filter-after, filter-before}
 use Rattle.xf_lang.proofs.ForestVisits.{Each, self-found}

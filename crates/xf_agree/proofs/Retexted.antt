@@ -7,12 +7,12 @@ use Rattle.std.proofs.lemmas.Bool.{eqb-true}
 use Rattle.xf_doc.specs.declared.content.Content.{Content}
 use Rattle.xf_doc.specs.declared.content.Content.TheVariants as content
 use Rattle.xf_doc.specs.declared.content.Node.{Node}
-use Rattle.xf_doc.specs.Forest.{Forest, is_text, is_element, is_attribute}
+use Rattle.xf_doc.specs.Forest.{is_text, is_element, is_attribute}
 use Rattle.xf_doc.specs.Visit.{Visit, still_above, numbers, visits_from, visits, visit, has_parent}
 use Rattle.xf_doc.specs.WellFormed.{are_first, stands_first}
 use Rattle.xf_doc.specs.Shape.{Texts, text_visit, given_visits, visits_in, is_borne, is_replaced, is_gone, filled, retexted, erased, without_text}
 use Rattle.xf_doc.proofs.BackLaws.{and-true}
-use Rattle.xf_lang.proofs.VisitFacts.{no, or-cases, filter-append, filter-within}
+use Rattle.xf_lang.proofs.VisitFacts.{no, filter-append, filter-within}
 use Rattle.xf_agree.proofs.Covers.{stays}
 use Rattle.xf_agree.proofs.Meeting.{is_known, keeps, kept}
 

@@ -1,5 +1,5 @@
 -- Static calculates agree, so that one settled state exists and no other.
-use Rattle.std.proofs.Common.{◌≡◌, ℕ, Bool, List, Some, refl, sym, ap, ◌∙◌}
+use Rattle.std.proofs.Common.{◌≡◌, Bool, List, Some, sym, ap, ◌∙◌}
 use Rattle.xf_doc.specs.Forest.{Forest}
 use Rattle.xf_doc.specs.Visit.{visits}
 use Rattle.xf_lang.specs.Setting.{◌>>=◌}

@@ -1,14 +1,13 @@
 -- `//` before a step to siblings that meets no texts: what it gives is what is asked, if it begins at what is asked.
-use Rattle.std.proofs.Common.{◌≡◌, ℕ, ◌==◌, Bool, true, false, not, ◌&&◌, ◌||◌, List, [], ◌∷◌, ◌++◌, map, Option, Some, None, unwrap_or, refl, sym, ap, ◌∙◌, subst, inl, inr}
+use Rattle.std.proofs.Common.{◌≡◌, ℕ, ◌==◌, Bool, true, false, not, ◌&&◌, List, [], ◌∷◌, ◌++◌, map, Option, Some, None, unwrap_or, refl, sym, ap, ◌∙◌, inl, inr}
 use Rattle.std.specs.Prelude.{filter, is_some}
 use Rattle.std.specs.List.{flat_map}
-use Rattle.std.proofs.lemmas.Bool.{eqb-true}
 use Rattle.xf_name.specs.declared.axis.Axis.{Axis}
 use Rattle.xf_name.specs.declared.axis.Axis.TheVariants.{Child, Attribute, Self_, Parent, Ancestor, AncestorOrSelf, Descendant, DescendantOrSelf, FollowingSibling, PrecedingSibling}
 use Rattle.xf_ast.specs.declared.expr.Test.{Test}
 use Rattle.xf_ast.specs.declared.expr.Test.TheVariants.{Node}
 use Rattle.xf_doc.specs.Forest.{is_text, is_attribute}
-use Rattle.xf_doc.specs.Visit.{Visit, has, is_first, same_parent}
+use Rattle.xf_doc.specs.Visit.{Visit, has, same_parent}
 use Rattle.xf_doc.specs.Axis.{is_on, axis_from}
 use Rattle.xf_doc.specs.Shape.{is_replaced, is_gone}
 use Rattle.xf_doc.proofs.BackLaws.{and-true}
@@ -19,17 +18,17 @@ use Rattle.xf_lang.specs.AskedSteps.{is_kind}
 use Rattle.xf_lang.specs.Steps.{reached, kept_by_all, from_one, begun_at}
 use Rattle.xf_lang.specs.Agree.{numbers_of, are_apart, untexted}
 use Rattle.xf_lang.specs.Exact.{is_sibling}
-use Rattle.xf_lang.proofs.VisitFacts.{self-same, or-cases, or-left, or-right, no, some-same, none-some, filter-within, found-number, found-in, found-out}
+use Rattle.xf_lang.proofs.VisitFacts.{self-same, or-cases, or-left, or-right, no, some-same, none-some, filter-within, found-in}
 use Rattle.xf_lang.proofs.SameKept.{kept-found, has-append}
 use Rattle.xf_lang.proofs.UntextedLaws.{is_solid, meets-solid, solid-found}
-use Rattle.xf_lang.proofs.Comparison.{Comparison, other, over_shape, AllSolid}
+use Rattle.xf_lang.proofs.Comparison.{Comparison, over_shape, AllSolid}
 use Rattle.xf_lang.proofs.StepAgree.{gathered, gathered-without, flat-without}
 use Rattle.xf_agree.proofs.Alike.{given-one, Placing, meanings_of, kept-one}
 use Rattle.xf_agree.proofs.Parts.{part-apart, in_part, reached-part, part-starts}
 use Rattle.xf_agree.proofs.Covers.{stays, reached-in, range-found}
 use Rattle.xf_agree.proofs.Meeting.{Meeting, A, U}
 use Rattle.xf_agree.proofs.Known.{nil-of, parent-of}
-use Rattle.xf_agree.proofs.LooseStep.{in-order_of, part-order_of}
+use Rattle.xf_agree.proofs.LooseStep.{part-order_of}
 
 -- ---- what one forest gives
 

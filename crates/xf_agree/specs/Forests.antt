@@ -1,5 +1,5 @@
 -- The law of two forests: where they agree on what an expression reads and looks at, texts counted, they give it one text.
-use Rattle.std.specs.Prelude.{ℕ, ◌≡◌, Bool, true, false, List, [], ◌∷◌, map, filter, Option, Some, None}
+use Rattle.std.specs.Prelude.{ℕ, ◌≡◌, Bool, true, false, List, ◌∷◌, map, filter, Option, Some, None}
 use Rattle.xf_ast.specs.declared.expr.Expr.{Expr}
 use Rattle.xf_doc.specs.Forest.{Forest, is_text}
 use Rattle.xf_doc.specs.Visit.{Visit, visits, has, is_first}
@@ -8,7 +8,7 @@ use Rattle.xf_doc.specs.Shape.{erased, has_elements, shape}
 use Rattle.xf_doc.specs.WellFormed.{HasTrees}
 use Rattle.xf_doc.specs.Same.{IsRenumbering, renumbered}
 use Rattle.xf_lang.specs.declared.value.Value.{Value}
-use Rattle.xf_lang.specs.Given.{Document, Given, document_of}
+use Rattle.xf_lang.specs.Given.{Document, document_of}
 use Rattle.xf_lang.specs.Setting.{Setting, Focus, ◌>>=◌}
 use Rattle.xf_lang.specs.Conversions.{string_of}
 use Rattle.xf_lang.specs.Meaning.{meaning}

@@ -1,6 +1,6 @@
 -- The laws of settled contents for a form whose calculates the law of two forests covers: what its binds apply, without an exception and
 -- without a cycle, has one settled state.
-use Rattle.std.specs.Prelude.{◌≡◌, Bool, true, ℕ, List, Option, Some, None, Result, Ok}
+use Rattle.std.specs.Prelude.{◌≡◌, Bool, true, ℕ, List, Option, Some, None, Ok}
 use Rattle.xf_ast.specs.declared.expr.Expr.{Expr}
 use Rattle.xf_ast.specs.declared.form.Bind.{Bind}
 use Rattle.xf_ast.specs.declared.form.Tables.{Tables}

@@ -1,6 +1,6 @@
 -- The laws of settled contents for static calculates: data that hold the same contents at the nodes that one reads give it one text, and
 -- where no cycle stands one settled state exists and no other.
-use Rattle.std.specs.Prelude.{ℕ, ◌≡◌, ◌^◌, Bool, true, false, List, ◌∷◌, map, nat_lt, Option, Some, None}
+use Rattle.std.specs.Prelude.{ℕ, ◌≡◌, ◌^◌, Bool, true, false, List, ◌∷◌, map, nat_lt, Some, None}
 use Rattle.xf_ast.specs.declared.expr.Expr.{Expr}
 use Rattle.xf_doc.specs.Forest.{Forest, is_text, is_element}
 use Rattle.xf_doc.specs.Visit.{Visit, visits, has, is_first}

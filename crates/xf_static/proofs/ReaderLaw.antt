@@ -1,6 +1,6 @@
 -- Every expression that is read is as the reader makes it.
-use Rattle.std.proofs.Common.{◌≡◌, ℕ, zero, suc, ◌==◌, ◌<◌, Bool, true, false, not, cond, ◌&&◌, ◌||◌, List, [], ◌∷◌, ◌++◌, map, length, Option, Some, None, refl, sym, ap, ◌∙◌, arith, subst}
-use Rattle.std.specs.Prelude.{nat_le, nat_lt, get_or, bytes_eq, codes, Result, Ok, Err, if◌then◌else◌}
+use Rattle.std.proofs.Common.{◌≡◌, ℕ, zero, suc, ◌==◌, Bool, true, false, not, ◌&&◌, ◌||◌, List, [], ◌∷◌, ◌++◌, map, length, Option, Some, None, refl, sym, ap, ◌∙◌, arith, subst}
+use Rattle.std.specs.Prelude.{nat_le, nat_lt, get_or, Ok, Err, if◌then◌else◌}
 use Rattle.std.specs.List.{list_all}
 use Rattle.std.proofs.lemmas.Bool.Decides.{nat_tests}
 use Rattle.std.proofs.lemmas.Bool.{eqb-true}
@@ -11,7 +11,6 @@ use Rattle.xf_table.specs.Contents.{function_entries}
 use Rattle.xf_name.specs.Bindings.{Bindings}
 use Rattle.xf_name.specs.declared.axis.Axis.{Axis}
 use Rattle.xf_name.specs.declared.axis.Axis.TheVariants as axis
-use Rattle.xf_ast.specs.declared.expr.Test.{Test}
 use Rattle.xf_ast.specs.declared.expr.Test.TheVariants as test
 use Rattle.xf_ast.specs.declared.expr.Start.{Start}
 use Rattle.xf_ast.specs.declared.expr.Start.TheVariants as start
@@ -23,12 +22,11 @@ use Rattle.xf_ast.specs.declared.expr.Expr.TheOpen.{Expr-F, Link-F, Step-F}
 use Rattle.xf_ast.specs.declared.expr.Expr.TheFolds.{fold-Link, fold-Step, fold-roll-Expr, fold-roll-Link, fold-roll-Step}
 use Rattle.xf_ast.specs.declared.expr.Expr.TheVariants.{Number, Literal, Call, Negated, Chain, Filter, Path, From, rolls-Number, rolls-Literal, rolls-Call, rolls-Negated, rolls-Chain, rolls-Filter, rolls-Path, rolls-From}
 use Rattle.xf_path.specs.declared.fault.ExprKind.TheVariants.{Long, Deep}
-use Rattle.xf_path.specs.declared.fault.ParseFault.{ParseFault}
 use Rattle.xf_path.specs.declared.fault.ParseFault.TheVariants as fault
 use Rattle.xf_path.specs.declared.token.Kind.{Kind}
 use Rattle.xf_path.specs.declared.token.Kind.TheVariants as k
 use Rattle.xf_path.specs.Tokens.{Token, tokens_of}
-use Rattle.xf_path.specs.Reading.{Outcome, Rule, kind_of, place_of, text_of, ◌>>=◌, ◌>>◌, pure, next_kind, next_place, take_next, pass_next, and_then, close, close_square, open_bracket, refuse, refuse_at}
+use Rattle.xf_path.specs.Reading.{Outcome, Rule, kind_of, place_of, text_of, ◌>>=◌, ◌>>◌, pure, next_kind, next_place, take_next, pass_next, and_then, close, close_square, open_bracket, refuse}
 use Rattle.xf_path.specs.Steps.{axis_rule, node_test, predicate, opens_predicate, predicates_by, more_predicates, predicates, abbreviated, written, step_by, step}
 use Rattle.xf_path.specs.Paths as paths
 use Rattle.xf_path.specs.Calls as calls
@@ -38,7 +36,7 @@ use Rattle.xf_path.specs.Grammar as grammar
 use Rattle.xf_lang.specs.Table.{Function, functions, function_at}
 use Rattle.xf_lang.specs.Table as of
 use Rattle.xf_agree.specs.Covered.{is_told}
-use Rattle.xf_static.specs.AsRead.{all_of, has_links, few_arguments, expr_as_read, link_as_read, step_as_read, is_as_read, ReadAsMade}
+use Rattle.xf_static.specs.AsRead.{all_of, few_arguments, expr_as_read, link_as_read, step_as_read, is_as_read, ReadAsMade}
 
 -- ---- what a rule makes
 

@@ -1,20 +1,20 @@
 -- Static expressions, as they are read, are covered by the law of two forests.
-use Rattle.std.proofs.Common.{◌≡◌, ℕ, ◌==◌, Bool, true, false, not, cond, ◌&&◌, ◌||◌, List, [], ◌∷◌, map, length, Option, Some, None, refl, sym, ap, ◌∙◌, subst}
+use Rattle.std.proofs.Common.{◌≡◌, ℕ, ◌==◌, Bool, true, false, not, ◌&&◌, ◌||◌, List, [], ◌∷◌, map, length, Option, Some, None, refl, sym, ap, ◌∙◌}
 use Rattle.std.specs.Prelude.{if◌then◌else◌}
 use Rattle.std.specs.List.{list_any, list_all}
 use Rattle.xf_ast.specs.declared.expr.Expr.{Expr}
-use Rattle.xf_ast.specs.declared.expr.Expr.TheOpen.{Expr-F, Link-F, Step-F}
-use Rattle.xf_ast.specs.declared.expr.Expr.TheFolds.{map-Expr, map-Link, map-Step}
+use Rattle.xf_ast.specs.declared.expr.Expr.TheOpen.{Expr-F, Step-F}
+use Rattle.xf_ast.specs.declared.expr.Expr.TheFolds.{map-Expr, map-Step}
 use Rattle.xf_ast.specs.declared.expr.Operator.{Operator}
 use Rattle.xf_ast.specs.declared.expr.Operator.TheVariants.{Or, And, Equal, NotEqual, Less, LessOrEqual, Greater, GreaterOrEqual, Add, Subtract, Multiply, Divide, Modulo, Union}
 use Rattle.xf_table.specs.Contents.{function_entries}
 use Rattle.xf_table.specs.Places.{name_at}
-use Rattle.xf_path.specs.StaticParts.{Static, LinkStatic, or_else, place_if, first_of, first_fault, first_in_predicates, first_in_links, first_in_steps, is_literal_call, node_branch, first_of_nodes, call_fault, call_gives_nodes, is_plain_call, asks_more, asks_context}
-use Rattle.xf_path.specs.Static.{is_union as is_union_link, any_union, link_in_predicate, expr_static, link_static, step_static, static_of, static_fault}
+use Rattle.xf_path.specs.StaticParts.{Static, LinkStatic, or_else, place_if, first_of, first_fault, first_in_predicates, first_in_links, first_in_steps, is_literal_call, node_branch, first_of_nodes, call_fault, call_gives_nodes, is_plain_call}
+use Rattle.xf_path.specs.Static.{is_union as is_union_link, any_union, link_in_predicate, expr_static, link_static, step_static, static_of}
 use Rattle.xf_lang.specs.Table.{Function, function_at}
 use Rattle.xf_lang.specs.Table as of
 use Rattle.xf_lang.specs.Exact.{Facts, LinkFacts, is_union, all_placed, all_exact, are_filled, branches, call_facts, links_placed, links_plain, links_exact, expr_facts, link_facts}
-use Rattle.xf_agree.specs.Covered.{is_told, step_facts, facts_of, is_covered}
+use Rattle.xf_agree.specs.Covered.{is_told, step_facts, facts_of}
 use Rattle.xf_static.specs.AsRead.{all_of, has_links, few_arguments, expr_as_read, link_as_read, step_as_read, is_as_read, StaticCovered}
 use Rattle.xf_static.proofs.TripleKeeps.{triple_keeps}
 use Rattle.xf_static.proofs.Words.{Word, word_of, fits, word-fits}

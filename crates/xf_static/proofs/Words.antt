@@ -1,5 +1,5 @@
 -- The functions of the table by their names: what is static of a call, by what its meaning needs.
-use Rattle.std.proofs.Common.{◌≡◌, ℕ, zero, suc, Bool, true, false, not, cond, ◌&&◌, ◌||◌, List, [], ◌∷◌, refl, sym, ap, ◌∙◌}
+use Rattle.std.proofs.Common.{◌≡◌, ℕ, zero, suc, Bool, true, false, not, ◌&&◌, List, [], ◌∷◌, refl}
 use Rattle.std.specs.Prelude.{get_or, bytes_eq, codes}
 use Rattle.std.specs.List.{list_any}
 use Rattle.xf_table.specs.Rows.{Entry}

@@ -1,6 +1,6 @@
 -- Syntax trees as the reader makes them: a step that is not written out is `.` or `..`, a chain has links, and `instance` has one argument
 -- at most. And the laws that what is read is so, and that the static ones are covered by the law of two forests.
-use Rattle.std.specs.Prelude.{◌≡◌, ℕ, Bool, true, false, not, ◌&&◌, List, [], ◌∷◌, Option, Some, None, Result, Ok}
+use Rattle.std.specs.Prelude.{◌≡◌, ℕ, Bool, true, false, ◌&&◌, List, [], ◌∷◌, Option, Some, None, Ok}
 use Rattle.std.specs.List.{list_all}
 use Rattle.xf_ast.specs.declared.expr.Expr.{Expr}
 use Rattle.xf_ast.specs.declared.expr.Expr.TheOpen.{Expr-F, Link-F, Step-F}
