@@ -1,0 +1,4 @@
+pub mod RowLemmas
+pub mod WalkLemmas
+pub mod TallyLemmas
+pub mod RefusalLemmas

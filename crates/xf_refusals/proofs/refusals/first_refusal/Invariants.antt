@@ -1,0 +1,9 @@
+use Rattle.std.proofs.Common.{◌≡◌, map, drop}
+use Rattle.xf_refusals.specs.Refusals.{first_from, has_model}
+use Rattle.xf_refusals.specs.Rows.{shown}
+use Rattle.xf_refusals.proofs.refusals.first_refusal.Given as goal
+
+abbrev pub invariant-loop-place : goal.invariant-loop-place
+invariant-loop-place l =
+    let all = map shown l.rows in
+    first_from l.prefixes all (has_model all) 0 all ≡ first_from l.prefixes all (has_model all) l.place (map shown (drop l.place l.rows))

@@ -1,0 +1,9 @@
+pub mod Standing
+pub mod Rows
+pub mod Walk
+pub mod Classes
+pub mod Tally
+pub mod Refusals
+pub mod Paths
+pub mod Limits
+pub mod Refused

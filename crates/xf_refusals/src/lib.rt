@@ -1,0 +1,19 @@
+//! The elements of a form in document order, and its first refusal.
+#![tactic(auto)]
+
+mod built;
+mod classes;
+mod ids;
+mod limits;
+mod paths;
+mod refusals;
+mod rows;
+mod space;
+mod standing;
+mod walk;
+
+pub use classes::{Class, is_of};
+pub use refusals::refusal_of;
+pub use rows::{Row, id_in, is_control_row, is_handler, is_inline, is_numbered};
+pub use standing::{Standing, Zone, is_outside};
+pub use walk::{rows_of, small};

@@ -1,0 +1,61 @@
+//! The limits of a form.
+
+ghost use Rattle.std.specs.Prelude.{◌≡◌, option_map, count_by, map};
+ghost use Rattle.std.specs.List.{list_any};
+ghost use Rattle.xf_refusals.specs.Classes.{is_of};
+ghost use Rattle.xf_refusals.specs.Limits as limits;
+ghost use Rattle.xf_refusals.specs.Rows.{shown};
+
+use crate::classes::{Class, is_of};
+use crate::rows::Row;
+use crate::standing::DEPTH_LIMIT;
+
+const MODEL_LIMIT: usize = 16;
+
+const INSTANCE_LIMIT: usize = 64;
+
+const BIND_LIMIT: usize = 4096;
+
+const CONTROL_LIMIT: usize = 4096;
+
+/// How many elements of a kind there are.
+fn count_of(rows: &[Row<'_>], class: Class) -> usize
+    ensures { result ≡ count_by (λ row. is_of class (shown row)) rows.now }
+{
+    rows.iter().filter(|row| is_of(class, row)).count()
+}
+
+/// Whether there are too many elements of a kind.
+fn has_too_many(rows: &[Row<'_>]) -> bool
+    ensures { result ≡ limits.has_too_many (map shown rows.now) }
+{
+    count_of(rows, Class::Model) > MODEL_LIMIT
+        || count_of(rows, Class::Instance) > INSTANCE_LIMIT
+        || count_of(rows, Class::Bind) > BIND_LIMIT
+        || count_of(rows, Class::Control) > CONTROL_LIMIT
+}
+
+/// Whether an instance has too many elements one in another.
+fn is_too_deep(rows: &[Row<'_>]) -> bool
+    ensures { result ≡ list_any limits.is_too_deep (map shown rows.now) }
+{
+    for row in rows {
+        if row.standing.depth > DEPTH_LIMIT {
+            return true;
+        }
+    }
+    false
+}
+
+/// The word of the first limit that is passed.
+pub fn limit_of(rows: &[Row<'_>]) -> Option<&'static str>
+    ensures { option_map (λ word. word.now) result ≡ limits.limit_of (map shown rows.now) }
+{
+    if has_too_many(rows) {
+        return Some("counts");
+    }
+    if is_too_deep(rows) {
+        return Some("depth");
+    }
+    None
+}
