@@ -2,6 +2,7 @@
 use Rattle.std.proofs.Common.{◌≡◌, ℕ, Bool, true, false, cond, ◌&&◌, List, [], ◌∷◌, map, length, Option, Some, None, option_map, refl, sym, ap, ◌∙◌}
 use Rattle.std.specs.Prelude.{filter}
 use Rattle.std.specs.List.{list_all}
+use Rattle.xf_ui.specs.declared.answers.Item.{Item}
 use Rattle.xf_lang.specs.Setting.{Focus, ◌>>=◌, each}
 use Rattle.xf_ui.specs.Interface.{Bound, unbound, nodes, by_bind, Sort, Element, Interface, host, other, group, switch, one_case, repeated, field, output, select, item, itemset, choices, label, item_value, inline, action}
 use Rattle.xf_ui.specs.Elements.{element_at, ancestors, is_container, is_control}
@@ -18,7 +19,7 @@ use Rattle.xf_controls.proofs.PlaceLaws.{plain-at}
 -- ---- what stands in it is evaluated there
 
 abbrev below : ℕ → Place → Bound → Option ℕ → Inside
-below model place binding node = record { model = model; place = place_below place binding node; rows = [] }
+below model place binding selected = record { model = model; place = place_below place binding selected; rows = [] }
 
 bound-is : (a : Around) (outer model : ℕ) (place : Place) (binding : Bound) →
     enter_bound a (record { model = outer; place = place; rows = [] }) model binding ≡ option_map (below model place binding) (first_bound a model binding (focus_in a model place))
@@ -47,7 +48,7 @@ enter-by a outer model place binding other h = sent-is a outer model place bindi
 enter-by a outer model place binding sort h = bound-is a outer model place binding
 
 pub enter-is : (f : Interface) (a : Around) (marks : ℕ → Marks) (h : Handed) (e : Element) → is_plain_sort e.sort ≡ true →
-    enter f a (inside_of h) e ≡ option_map (λ node. inside_of (handed_by f marks h e node)) (node_in f a h e)
+    enter f a (inside_of h) e ≡ option_map (λ selected. inside_of (handed_by f marks h e selected)) (node_in f a h e)
 enter-is f a marks h e plain = enter-by a h.model (scope_of f h.model e) h.place e.binding e.sort plain
 
 -- ---- what it binds
@@ -77,9 +78,9 @@ node-is f a n h plain control stands =
     ∙ ap (λ b. first_bound a model b (focus_in a model h.place)) (own-plain e e.sort (plain-at f n plain))
     ∙ ap (λ p. first_bound a model e.binding (focus_in a model p)) (sym (control-place e.sort h.place control))
 
-pub open-is : (f : Interface) (a : Around) (marks : ℕ → Marks) (n : ℕ) (h : Handed) (node : Option ℕ) → is_plain f ≡ true → is_control (element_at f n).sort ≡ true → inside f a [] n ≡ Some (inside_of h)
-    → node_in f a h (element_at f n) ≡ Some node → is_open f a marks [] n ≡ Some (is_open_by marks (element_at f n).binding node)
-open-is f a marks n h node plain control stands bound =
+pub open-is : (f : Interface) (a : Around) (marks : ℕ → Marks) (n : ℕ) (h : Handed) (selected : Option ℕ) → is_plain f ≡ true → is_control (element_at f n).sort ≡ true → inside f a [] n ≡ Some (inside_of h)
+    → node_in f a h (element_at f n) ≡ Some selected → is_open f a marks [] n ≡ Some (is_open_by marks (element_at f n).binding selected)
+open-is f a marks n h selected plain control stands bound =
     let e = element_at f n in
     ap (λ b. option_map (is_open_by marks b) (node_of f a [] n)) (own-plain e e.sort (plain-at f n plain))
     ∙ ap (option_map (is_open_by marks e.binding)) (node-is f a n h plain control stands ∙ bound)
@@ -98,7 +99,7 @@ all-selected f cases plain (n ∷ ns) =
 selected-plain : (f : Interface) (cases : List ℕ) (n : ℕ) → is_plain f ≡ true → is_in_selected f cases n ≡ true
 selected-plain f cases n plain = all-selected f cases plain (ancestors f n)
 
--- the containers among these, each of which binds nothing or a relevant node
+-- the containers among these, each of which binds nothing or a relevant selected
 abbrev pub open_all : Interface → Around → (ℕ → Marks) → List ℕ → Option Bool
 open_all f a marks ns = option_map (list_all (λ b. b)) (each (is_open f a marks []) (filter (λ m. is_container (element_at f m).sort) ns))
 
@@ -125,17 +126,17 @@ open-more : (one b : Bool) (bs : Option (List Bool)) → option_map (list_all (�
 open-more one b None h = cc h
 open-more one b (Some bs) h = let is : list_all (λ x. x) bs ≡ b = cc h in ap (λ x. Some (one && x)) is
 
-pub open-below : (f : Interface) (a : Around) (marks : ℕ → Marks) (n : ℕ) (h : Handed) (node : Option ℕ) → is_plain f ≡ true → inside f a [] n ≡ Some (inside_of h) → node_in f a h (element_at f n) ≡ Some node
-    → open_all f a marks (ancestors f n) ≡ Some h.is_open → open_all f a marks (n ∷ ancestors f n) ≡ Some (open_below marks (is_container (element_at f n).sort) (element_at f n).binding h.is_open node)
-open-below f a marks n h node plain stands bound around = by (is_container (element_at f n).sort) refl
+pub open-below : (f : Interface) (a : Around) (marks : ℕ → Marks) (n : ℕ) (h : Handed) (selected : Option ℕ) → is_plain f ≡ true → inside f a [] n ≡ Some (inside_of h) → node_in f a h (element_at f n) ≡ Some selected
+    → open_all f a marks (ancestors f n) ≡ Some h.is_open → open_all f a marks (n ∷ ancestors f n) ≡ Some (open_below marks (is_container (element_at f n).sort) (element_at f n).binding h.is_open selected)
+open-below f a marks n h selected plain stands bound around = by (is_container (element_at f n).sort) refl
   where
     by : (b : Bool) → is_container (element_at f n).sort ≡ b →
         option_map (list_all (λ x. x)) (each (is_open f a marks []) (cond b (n ∷ filter (λ m. is_container (element_at f m).sort) (ancestors f n)) (filter (λ m. is_container (element_at f m).sort) (ancestors f n))))
-        ≡ Some (open_below marks b (element_at f n).binding h.is_open node)
+        ≡ Some (open_below marks b (element_at f n).binding h.is_open selected)
     by true c =
         let rest = each (is_open f a marks []) (filter (λ m. is_container (element_at f m).sort) (ancestors f n)) in
-        let one = is_open_by marks (element_at f n).binding node in
-        ap (λ m. option_map (list_all (λ x. x)) (m >>= λ y. rest >>= λ ys. Some (y ∷ ys))) (open-is f a marks n h node plain (container-control (element_at f n).sort c) stands bound)
+        let one = is_open_by marks (element_at f n).binding selected in
+        ap (λ m. option_map (list_all (λ x. x)) (m >>= λ y. rest >>= λ ys. Some (y ∷ ys))) (open-is f a marks n h selected plain (container-control (element_at f n).sort c) stands bound)
         ∙ open-more one h.is_open rest around
     by false c = around
 
@@ -145,18 +146,18 @@ items-plain : (f : Interface) (a : Around) (n : ℕ) (sort : Sort) → is_plain_
 items-plain f a n (select many is_free) h = cc h
 items-plain f a n sort h = refl
 
-pub copy-is : (f : Interface) (a : Around) (marks : ℕ → Marks) (cases : List ℕ) (n : ℕ) (h : Handed) (node : Option ℕ) → is_plain f ≡ true → is_control (element_at f n).sort ≡ true → inside f a [] n ≡ Some (inside_of h)
-    → node_in f a h (element_at f n) ≡ Some node → open_all f a marks (ancestors f n) ≡ Some h.is_open → copy_of f a marks cases [] n ≡ copy_by f a marks h n (element_at f n) node
-copy-is f a marks cases n h node plain control stands bound around =
+pub copy-is : (f : Interface) (a : Around) (marks : ℕ → Marks) (cases : List ℕ) (n : ℕ) (h : Handed) (selected : Option ℕ) → is_plain f ≡ true → is_control (element_at f n).sort ≡ true → inside f a [] n ≡ Some (inside_of h)
+    → node_in f a h (element_at f n) ≡ Some selected → open_all f a marks (ancestors f n) ≡ Some h.is_open → copy_of f a marks cases [] n ≡ copy_by f a marks h n (element_at f n) selected
+copy-is f a marks cases n h selected plain control stands bound around =
     let e = element_at f n in
     let c = context_in f a (inside_of h) e in
-    let one = is_open_by marks e.binding node in
-    let copy = λ node text enabled items. copy_with n [] node text enabled (marks_if marks node) items in
+    let one = is_open_by marks e.binding selected in
+    let copy : Option ℕ → Option (List ℕ) → Bool → List Item → Copy = λ k text enabled items. copy_with n [] k text enabled (marks_if marks k) items in
     ap (λ m. m >>= λ (d : Context). node_of f a [] n >>= λ k. value_by a d (own_binding e e.sort) e.sort k >>= λ text. is_enabled f a marks cases [] n >>= λ b. items_if f a [] n e.sort >>= λ items. Some (copy k text b items)) (context-is f a n h stands)
     ∙ ap (λ m. m >>= λ k. value_by a c (own_binding e e.sort) e.sort k >>= λ text. is_enabled f a marks cases [] n >>= λ b. items_if f a [] n e.sort >>= λ items. Some (copy k text b items)) (node-is f a n h plain control stands ∙ bound)
-    ∙ ap (λ x. value_by a c x e.sort node >>= λ text. is_enabled f a marks cases [] n >>= λ b. items_if f a [] n e.sort >>= λ items. Some (copy node text b items)) (own-plain e e.sort (plain-at f n plain))
-    ∙ ap (λ m. value_by a c e.binding e.sort node >>= λ text. m >>= λ b. items_if f a [] n e.sort >>= λ items. Some (copy node text b items)) (enabled-is f a marks cases n one h.is_open plain (open-is f a marks n h node plain control stands bound) around)
-    ∙ ap (λ m. value_by a c e.binding e.sort node >>= λ text. m >>= λ items. Some (copy node text (one && h.is_open) items)) (items-plain f a n e.sort (plain-at f n plain))
+    ∙ ap (λ x. value_by a c x e.sort selected >>= λ text. is_enabled f a marks cases [] n >>= λ b. items_if f a [] n e.sort >>= λ items. Some (copy selected text b items)) (own-plain e e.sort (plain-at f n plain))
+    ∙ ap (λ m. value_by a c e.binding e.sort selected >>= λ text. m >>= λ b. items_if f a [] n e.sort >>= λ items. Some (copy selected text b items)) (enabled-is f a marks cases n one h.is_open plain (open-is f a marks n h selected plain control stands bound) around)
+    ∙ ap (λ m. value_by a c e.binding e.sort selected >>= λ text. m >>= λ items. Some (copy selected text (one && h.is_open) items)) (items-plain f a n e.sort (plain-at f n plain))
 
 -- where what it binds is too long, and where what is around is
 pub copy-lost : (f : Interface) (a : Around) (marks : ℕ → Marks) (cases : List ℕ) (n : ℕ) (h : Handed) → is_plain f ≡ true → is_control (element_at f n).sort ≡ true → inside f a [] n ≡ Some (inside_of h)
@@ -164,12 +165,12 @@ pub copy-lost : (f : Interface) (a : Around) (marks : ℕ → Marks) (cases : Li
 copy-lost f a marks cases n h plain control stands bound =
     let e = element_at f n in
     let c = context_in f a (inside_of h) e in
-    let copy = λ node text enabled items. copy_with n [] node text enabled (marks_if marks node) items in
+    let copy : Option ℕ → Option (List ℕ) → Bool → List Item → Copy = λ k text enabled items. copy_with n [] k text enabled (marks_if marks k) items in
     ap (λ m. m >>= λ (d : Context). node_of f a [] n >>= λ k. value_by a d (own_binding e e.sort) e.sort k >>= λ text. is_enabled f a marks cases [] n >>= λ b. items_if f a [] n e.sort >>= λ items. Some (copy k text b items)) (context-is f a n h stands)
     ∙ ap (λ m. m >>= λ k. value_by a c (own_binding e e.sort) e.sort k >>= λ text. is_enabled f a marks cases [] n >>= λ b. items_if f a [] n e.sort >>= λ items. Some (copy k text b items)) (node-is f a n h plain control stands ∙ bound)
 
 pub copy-out : (f : Interface) (a : Around) (marks : ℕ → Marks) (cases : List ℕ) (n : ℕ) → inside f a [] n ≡ None → copy_of f a marks cases [] n ≡ None
 copy-out f a marks cases n lost =
     let e = element_at f n in
-    let copy = λ node text enabled items. copy_with n [] node text enabled (marks_if marks node) items in
+    let copy : Option ℕ → Option (List ℕ) → Bool → List Item → Copy = λ k text enabled items. copy_with n [] k text enabled (marks_if marks k) items in
     ap (λ s. option_map (λ t. context_in f a t e) s >>= λ (d : Context). node_of f a [] n >>= λ k. value_by a d (own_binding e e.sort) e.sort k >>= λ text. is_enabled f a marks cases [] n >>= λ b. items_if f a [] n e.sort >>= λ items. Some (copy k text b items)) lost

@@ -5,3 +5,7 @@ pub mod HandedLaws
 pub mod BelowLaws
 pub mod FormLaws
 pub mod WholeLaws
+pub mod CodeLaws
+pub mod NodeLaws
+pub mod WalkLaws
+pub mod ToldLaws

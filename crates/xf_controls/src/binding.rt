@@ -2,6 +2,8 @@
 
 ghost use Rattle.std.specs.Prelude.{◌≡◌, IfOk, map, option_map, slice_get, unwrap_or};
 ghost use Rattle.xf_plain_values.specs.Bounded.{GivesBounded};
+ghost use Rattle.xf_name.specs.declared.axis.Axis.TheVariants.{Child};
+ghost use Rattle.xf_doc.specs.Axis.{axis_of};
 ghost use Rattle.xf_doc.specs.Forest.{IsLive};
 ghost use Rattle.xf_doc.specs.Visit.{first_of, visits};
 ghost use Rattle.xf_lang.specs.Meaning.{meaning};
@@ -153,8 +155,16 @@ fn stands_for(forest: &Forest, node: NodeId) -> Option<NodeId>
     ensures live { IsThere result forest.now.forest.nodes }
 {
     match forest.kind(node) {
-        NodeKind::Root => forest.axis(node, Axis::Child).next(),
+        NodeKind::Root => first_child(forest, node),
         NodeKind::Text => forest.parent(node),
         NodeKind::Element | NodeKind::Attribute => Some(node),
     }
+}
+
+fn first_child(forest: &Forest, node: NodeId) -> Option<NodeId>
+    requires live { IsLive node.number forest.now.forest }
+    ensures { option_map number result ≡ first_of (axis_of Child node.number (visits forest.now.forest.nodes)) }
+{
+    let mut walk = forest.axis(node, Axis::Child);
+    walk.next()
 }

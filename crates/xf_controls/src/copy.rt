@@ -33,8 +33,19 @@ pub type ControlList = Items<ControlCopy>;
 pub fn control_of(controls: &ControlList, element: u32) -> Option<&ControlCopy>
     ensures { option_map (λ c. seen_copy c.now) result ≡ find (is_copy_at element []) (map seen_copy controls.now) }
 {
-    controls
-        .as_slice()
-        .iter()
-        .find(|copy| copy.element == element && copy.rows.is_empty())
+    for copy in controls.as_slice() {
+        if is_alone_at(copy, element) {
+            return Some(copy);
+        }
+    }
+    None
+}
+
+fn is_alone_at(copy: &ControlCopy, element: u32) -> bool
+    ensures { result ≡ is_copy_at element [] (seen_copy copy.now) }
+{
+    if copy.element != element {
+        return false;
+    }
+    copy.rows.is_empty()
 }

@@ -140,13 +140,26 @@ fn push_differences(
 ) -> Result<(), AllocError>
     ensures { OnOk result (map seen_notification all.new ≡ map seen_notification all.old ++ told.told (seen_copy new.now) (told.names_of (seen_copy old.now) (seen_copy new.now))) }
 {
-    if !same_value(&old.value, &new.value) {
-        push_told(alloc, "xforms-value-changed", new, all)?;
-    }
+    push_value(alloc, old, new, all)?;
     push_state(alloc, "xforms-valid", "xforms-invalid", old.valid, new.valid, new, all)?;
     push_state(alloc, "xforms-readwrite", "xforms-readonly", old.readwrite, new.readwrite, new, all)?;
     push_state(alloc, "xforms-required", "xforms-optional", old.required, new.required, new, all)?;
     push_state(alloc, "xforms-enabled", "xforms-disabled", old.enabled, new.enabled, new, all)
+}
+
+/// Where the value is another one, tells so.
+fn push_value(
+    alloc: Global,
+    old: &ControlCopy,
+    new: &ControlCopy,
+    all: &mut NotificationList,
+) -> Result<(), AllocError>
+    ensures { OnOk result (map seen_notification all.new ≡ map seen_notification all.old ++ told.told (seen_copy new.now) (told.value_names (seen_copy old.now) (seen_copy new.now))) }
+{
+    if same_value(&old.value, &new.value) {
+        return Ok(());
+    }
+    push_told(alloc, "xforms-value-changed", new, all)
 }
 
 fn same_value(old: &Option<Word>, new: &Option<Word>) -> bool

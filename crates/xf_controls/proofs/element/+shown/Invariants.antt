@@ -13,4 +13,4 @@ abbrev pub decreases-some_shown : goal.decreases-some_shown
 decreases-some_shown l = 3 * l.most + 2
 
 abbrev pub invariant-some_shown-loop-part : goal.invariant-some_shown-loop-part
-invariant-some_shown-loop-part l = some_shown (shows l.most (interface_of l.form)) (drop l.part-index l.part-items) ≡ some_shown (shows l.most (interface_of l.form)) l.part-items
+invariant-some_shown-loop-part l = some_shown (shows l.most (interface_of l.form)) l.parts ≡ some_shown (shows l.most (interface_of l.form)) (drop l.part-index l.parts)
