@@ -20,6 +20,8 @@ pub mod LooseAgreement
 pub mod SettledStatic
 pub mod FormEntries
 pub mod FormSettled
+pub mod TurnLists
+pub mod InTurnLaws
 pub mod AskedStand
 pub mod ForestsMeet
 pub mod ForestNumbers

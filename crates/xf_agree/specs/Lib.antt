@@ -2,4 +2,5 @@ pub mod Covered
 pub mod Kept
 pub mod Settles
 pub mod FormSettles
+pub mod InTurn
 pub mod Forests
