@@ -22,6 +22,9 @@ pub mod FormEntries
 pub mod FormSettled
 pub mod TurnLists
 pub mod InTurnLaws
+pub mod InTurnLimits
+pub mod FormInTurn
+pub mod EvaluatedLaws
 pub mod AskedStand
 pub mod ForestsMeet
 pub mod ForestNumbers

@@ -3,4 +3,5 @@ pub mod Kept
 pub mod Settles
 pub mod FormSettles
 pub mod InTurn
+pub mod Evaluated
 pub mod Forests
