@@ -93,7 +93,8 @@ settled_in p model entries contents s =
 abbrev pub evaluated_more : ℕ → ℕ → State → State
 evaluated_more made count s = record s { made = s.made + made; evaluated = s.evaluated + count }
 
--- each calculated node takes its settled text, and one number is reserved and one node made for each, whether it comes in or not; what the changes since the last recalculation concern is counted
+-- each calculated node takes its settled text; for each a number is reserved and a node counts as made, whether a text comes in or not; what
+-- the changes since the last recalculation concern is counted
 abbrev pub recalculate : Profile → ℕ → Run
 recalculate p model s =
     let m = model_at s model in

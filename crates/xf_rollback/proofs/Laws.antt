@@ -1,5 +1,5 @@
 -- The law of the ledger: rolling back gives the forest that was kept, and every step back may be made.
-use Rattle.std.proofs.Common.{◌≡◌, ℕ, true, false, List, [], refl, sym, ap, ◌∙◌, subst, arith}
+use Rattle.std.proofs.Common.{◌≡◌, ℕ, ◌+◌, true, false, List, [], refl, sym, ap, ◌∙◌, subst, arith}
 use Rattle.std.specs.Prelude.{◌≤◌}
 use Rattle.xf_doc.specs.Forest.{content_at}
 use Rattle.xf_doc.specs.Visit.{visits}

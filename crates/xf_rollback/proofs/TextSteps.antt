@@ -152,14 +152,14 @@ module _ (number more n : ℕ) (text : List ℕ) (k : Keeping) (sound : AreTrees
       once = λ p. subst (λ l. times p a.later + kept_times p l ≤ 1) kept-is (a.once p);
       like =
           subst (λ x. Moved x (blank ns a.later)) (blank-followed ns t a.extra ∙ ap (λ x. followed x (blank ns a.extra)) (ap (blank ns) after-is ∙ retexted-within n (lone new) ns s.trees within (one_text-texts number text) element-leaf) ∙ sym (blank-followed ns s.trees a.extra))
-          (moved-more (n ∷ ns) ns more (followed t a.extra) a.later a.like);
+          (moved-more (n ∷ ns) ns wider (followed t a.extra) a.later a.like);
     }
       where
         kept-is : without (numbers texts) (with_new_text number more n text k).kept ≡ k.kept
         kept-is = ap (λ x. x.kept) undone-is
 
-        more : (m : ℕ) → has m (n ∷ ns) ≡ true → has m ns ≡ true
-        more m h = elim (cases_Bool (m == n)) [ inl p ↦ subst (λ x. has x ns ≡ true) (sym (one_number m n p)) within | inr p ↦ (rw p at h) ]
+        wider : (m : ℕ) → has m (n ∷ ns) ≡ true → has m ns ≡ true
+        wider m h = elim (cases_Bool (m == n)) [ inl p ↦ subst (λ x. has x ns ≡ true) (sym (one_number m n p)) within | inr p ↦ (rw p at h) ]
 
     -- what was before is put back
     module _ (k2 : Keeping) (a : Alike (n ∷ ns) t (with_new_text number more n text k) k2) where

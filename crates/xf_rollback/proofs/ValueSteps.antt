@@ -135,11 +135,11 @@ module _ (number more n : ℕ) (text : List ℕ) (k : Keeping) (sound : AreTrees
       once = λ p. subst (λ l. times p a.later + kept_times p l ≤ 1) kept-same (a.once p);
       like =
           subst (λ x. Moved x (blank ns a.later)) (blank-followed ns t a.extra ∙ ap (λ x. followed x (blank ns a.extra)) (ap (blank ns) valued-is ∙ revalued-within n text ns s.trees within) ∙ sym (blank-followed ns s.trees a.extra))
-          (moved-more (n ∷ ns) ns more (followed t a.extra) a.later a.like);
+          (moved-more (n ∷ ns) ns wider (followed t a.extra) a.later a.like);
     }
       where
-        more : (m : ℕ) → has m (n ∷ ns) ≡ true → has m ns ≡ true
-        more m h = elim (cases_Bool (m == n)) [ inl p ↦ subst (λ x. has x ns ≡ true) (sym (one_number m n p)) within | inr p ↦ (rw p at h) ]
+        wider : (m : ℕ) → has m (n ∷ ns) ≡ true → has m ns ≡ true
+        wider m h = elim (cases_Bool (m == n)) [ inl p ↦ subst (λ x. has x ns ≡ true) (sym (one_number m n p)) within | inr p ↦ (rw p at h) ]
 
     pub attribute-may : MayPutBack n (attribute_text value) k2
     attribute-may = record {

@@ -1,6 +1,7 @@
 -- The text of an element is set: its texts go to the kept ones, and one text or none comes in their place.
 use Rattle.std.proofs.Common.{◌≡◌, ℕ, ◌+◌, ◌-◌, ◌<◌, ◌≤◌, ◌^◌, ◌==◌, ◌||◌, not, cond, if◌then◌else◌, Bool, true, false, List, [], ◌∷◌, ◌++◌, map, length, get_or, IsSome, Option, Some, None, nat_lt, refl, sym, ap, ◌∙◌, subst, inl, inr, arith}
 use Rattle.std.specs.Prelude.{is_some}
+use Rattle.std.specs.List.{list_any}
 use Rattle.std.proofs.lemmas.Bool.{cases_Bool, cases_lt, false≢true}
 use Rattle.std.proofs.lemmas.List.{length-map, get_or-map}
 use Rattle.slab.specs.Slab.{Slab, get, Updates}
@@ -14,7 +15,7 @@ use Rattle.xf_doc.specs.Forest.{is_root, is_element, is_attribute, is_text, kind
 use Rattle.xf_doc.specs.Visit.{visits, numbers}
 use Rattle.xf_doc.specs.Shape.{has_elements}
 use Rattle.xf_doc.specs.Limits.{limits, unless, node_count, all_size, passed_by_text}
-use Rattle.xf_doc.specs.Texts.{Keeping, at_depth, one_text, with_texts, kept_from, is_attribute_at, with_text, text_set, element_texts}
+use Rattle.xf_doc.specs.Texts.{Keeping, KeptText, at_depth, one_text, with_texts, kept_from, is_attribute_at, with_text, text_set, element_texts}
 use Rattle.xf_tree.specs.declared.rows.Row.{Row}
 use Rattle.xf_tree.specs.declared.slot.Slot.{Slot}
 use Rattle.xf_tree.specs.Tree.{AreSteps, depths, node_of, kept_of, number_in, content_in, times, kept_times, AllLive, StandsAt, no_row, IsState, keeping_of}
@@ -152,6 +153,13 @@ numbers-at : (s : Slab Slot) (rs : List Row) → numbers (map (node_of s) rs) �
 numbers-at s [] = refl
 numbers-at s (r ∷ rs) = ap (λ l. number_in (get s r.key) ∷ l) (numbers-at s rs)
 
+pub kept-absent : (n : ℕ) (ts : List KeptText) → list_any (λ (t : KeptText). t.number == n) ts ≡ false → kept_times n ts ≡ 0
+kept-absent n [] h = refl
+kept-absent n (t ∷ ts) h = elim (cases_Bool (t.number == n)) [
+  | inl e ↦ absurd (false≢true (sym (rw e at h)))
+  | inr e ↦ rw e (omega (arith, kept-absent n ts (rw e at h)))
+]
+
 -- an element's text is set as one that has the next number is written
 pub set-written : (n : ℕ) (text : List ℕ) (k : Keeping) → is_attribute_at n k.forest.nodes ≡ false
     → text_set limits n text k ≡ unless (passed_by_text limits (length text) (with_text n text k.forest).nodes) (text_written k.forest.next (k.forest.next + text_count text) n text k)
@@ -201,4 +209,4 @@ module _ (s : Slab Slot) (n at : ℕ) (text : List ℕ) (rows : List Row) (kept 
       let none = no-attribute s n at next text rows kept next total size room state here kind childless in
       let count = after-count s n at next text rows kept next total size room state here kind childless in
       let bytes = after-size s n at next text rows kept next total size room state here kind childless in
-      rw none (rw none (rw (count, bytes) refl))
+      rw none (rw (count, bytes) refl)

@@ -166,10 +166,10 @@ module _ (s s1 s2 s3 : Slab Slot) (n at place number : ℕ) (text : List ℕ) (r
   texts = take (text_count text) (record { number = number; place = place } ∷ [])
 
   news : map (node_of s3) (map (text_row (depth_at at rows + 1)) texts) ≡ map (at_depth (suc (depth_at at rows))) (one_text number text)
-  news = new-row s3 next place (depth_at at rows) text number3 place3
+  news = new-row s3 number place (depth_at at rows) text number3 place3
 
   news-live : AllLive s3 (map (text_row (depth_at at rows + 1)) texts)
-  news-live = new-live s3 next place (depth_at at rows + 1) text (λ some. subst IsSome (sym (owned place)) (owned-some (has_key place (keys_of (children s2 (run_of at rows)))) n (get s2 place) (subst IsSome (sym slot.changed) some)))
+  news-live = new-live s3 number place (depth_at at rows + 1) text (λ some. subst IsSome (sym (owned place)) (owned-some (has_key place (keys_of (children s2 (run_of at rows)))) n (get s2 place) (subst IsSome (sym slot.changed) some)))
 
   alike : attributes s3 (run_of at rows) ≡ attributes s (run_of at rows)
   alike = attributes-alike s s3 (run_of at rows) run-live content3

@@ -87,10 +87,10 @@ impl Draft {
         requires { self.old.now.next < 2 ^ 126 }
         ensures { self.new ≡ with_reserved count self.old }
     {
-        self.first = self.forest.next_number();
-        self.used.clear();
         self.forest.are_trees();
+        give_up_numbers(&mut self.first, &mut self.used, &self.forest);
         self.forest.reserve_numbers(count);
+        self.forest.are_trees();
     }
 
     /// Sets the text of an attribute, or of an element without element children: there it has this number. No limit is asked.

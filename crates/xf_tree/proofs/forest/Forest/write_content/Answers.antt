@@ -71,7 +71,7 @@ bytes-in c =
 
 -- a text in memory is not longer than a slot may be
 short-in : (c : Counted) → length c.args.text.now ≤ 2 ^ 66
-short-in c = omega (arith, c.args.text.len)
+short-in c = omega arith
 
 pub invariant_of-self : goal.invariant_of-self
 invariant_of-self c =
