@@ -1,2 +1,4 @@
 pub mod Put
 pub mod Spots
+pub mod Bridge
+pub mod WrittenLaws

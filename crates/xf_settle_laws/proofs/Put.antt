@@ -159,10 +159,10 @@ put_all done number ((n, text) ∷ contents) t = put_all done (suc number) conte
 -- one comes before those of other nodes as well as behind them
 put-past : (a n : ℕ) (text : List ℕ) (done : ℕ → Bool) (number : ℕ) (contents : Contents) (t : Trees) → has n (nodes_of contents) ≡ false
     → put a n text (put_all done number contents t) ≡ put_all done number contents (put a n text t)
-put-past a n text done number [] t none = refl
-put-past a n text done number ((m, u) ∷ rest) t none =
-    let other : (n == m) ≡ false = by (n == m) none in
-    let gone : has n (nodes_of rest) ≡ false = after (n == m) none in
+put-past a n text done number [] t out = refl
+put-past a n text done number ((m, u) ∷ rest) t out =
+    let other : (n == m) ≡ false = by (n == m) out in
+    let gone : has n (nodes_of rest) ≡ false = after (n == m) out in
     elim (cases_Bool (done m)) [
       | inl e ↦ rw e (put-past a n text done (suc number) rest (put number m u t) gone ∙ ap (put_all done (suc number) rest) (put-put a n text number m u t other))
       | inr e ↦ rw e (put-past a n text done (suc number) rest t gone)
@@ -182,9 +182,9 @@ or-parts false b h = (refl, h)
 
 -- of other nodes the same are done
 same-done : (n : ℕ) (done : ℕ → Bool) (number : ℕ) (contents : Contents) (t : Trees) → has n (nodes_of contents) ≡ false → put_all (and_one n done) number contents t ≡ put_all done number contents t
-same-done n done number [] t none = refl
-same-done n done number ((m, u) ∷ rest) t none =
-    let parts = or-parts (n == m) (has n (nodes_of rest)) none in
+same-done n done number [] t out = refl
+same-done n done number ((m, u) ∷ rest) t out =
+    let parts = or-parts (n == m) (has n (nodes_of rest)) out in
     let first = parts.0 in
     let other : (m == n) ≡ false = grind (arith, nat_tests, first) in
     rw other (same-done n done (suc number) rest (if done m then put number m u t else t) parts.1)
@@ -212,18 +212,24 @@ pub put-more : (done : ℕ → Bool) (number n : ℕ) (text : List ℕ) (front b
     → put (number + length front) n text (put_all done number (with_one front n text back) t) ≡ put_all (and_one n done) number (with_one front n text back) t
 put-more done number n text [] back t undone different =
     let parts = and-parts (not (has n (nodes_of back))) (are_different (nodes_of back)) different in
-    let none = not-true (has n (nodes_of back)) parts.0 in
+    let out = not-true (has n (nodes_of back)) parts.0 in
     let plus : number + 0 ≡ number = omega arith in
     let same : (n == n) ≡ true = grind (arith, nat_tests) in
-    rw (undone, same, plus) (put-past number n text done (suc number) back t none ∙ sym (same-done n done (suc number) back (put number n text t) none))
+    let skipped : put_all done number ((n, text) ∷ back) t ≡ put_all done (suc number) back t = ap (λ b. put_all done (suc number) back (if b then put number n text t else t)) undone in
+    let taken : put_all (and_one n done) number ((n, text) ∷ back) t ≡ put_all (and_one n done) (suc number) back (put number n text t) =
+    ap (λ b. put_all (and_one n done) (suc number) back (if b || done n then put number n text t else t)) same in
+    ap (λ a. put a n text (put_all done number ((n, text) ∷ back) t)) plus ∙ ap (put number n text) skipped ∙ put-past number n text done (suc number) back t out
+    ∙ sym (same-done n done (suc number) back (put number n text t) out) ∙ sym taken
 put-more done number n text ((m, u) ∷ front) back t undone different =
-    let rest = nodes_of (with_one front n text back) in
-    let parts = and-parts (not (has m rest)) (are_different rest) different in
-    let none = not-true (has m rest) parts.0 in
-    let other : (m == n) ≡ false = by (m == n) refl none in
+    let rest = with_one front n text back in
+    let parts = and-parts (not (has m (nodes_of rest))) (are_different (nodes_of rest)) different in
+    let out = not-true (has m (nodes_of rest)) parts.0 in
+    let other : (m == n) ≡ false = by (m == n) refl out in
     let plus : number + suc (length front) ≡ suc number + length front = omega arith in
-    rw other (ap (λ a. put a n text (put_all done (suc number) (with_one front n text back) (if done m then put number m u t else t))) plus
-    ∙ put-more done (suc number) n text front back (if done m then put number m u t else t) undone parts.1)
+    let then_ = if done m then put number m u t else t in
+    let step : put_all (and_one n done) number ((m, u) ∷ rest) t ≡ put_all (and_one n done) (suc number) rest then_ =
+    ap (λ b. put_all (and_one n done) (suc number) rest (if b || done m then put number m u t else t)) other in
+    ap (λ a. put a n text (put_all done (suc number) rest then_)) plus ∙ put-more done (suc number) n text front back then_ undone parts.1 ∙ sym step
   where
     by : (b : Bool) → (m == n) ≡ b → has m (nodes_of (with_one front n text back)) ≡ false → b ≡ false
     by false e h = refl

@@ -13,7 +13,7 @@ use Rattle.xf_doc.specs.Texts.{with_value, one_text, texts_in}
 use Rattle.xf_doc.specs.Settle.{are_texts}
 use Rattle.xf_rollback.proofs.Trees.{Trees, none, tree, onto, followed, times, StopsAt, stops-onto}
 use Rattle.xf_rollback.proofs.TreeTexts.{lone, attributes, retexted, revalued, below-onto, times-split, retexted-absent, Where, here, inside, later, where_is}
-use Rattle.xf_rollback.proofs.TreeBlank.{AreLeaves}
+use Rattle.xf_rollback.proofs.TreeBlank.{AreLeaves, LeafAt, leaf-absent}
 use Rattle.xf_rollback.proofs.TreeFacts.{is_at, at-absent}
 use Rattle.xf_settle_laws.proofs.Put.{texts_top, same_texts, content, valued, put}
 
@@ -55,12 +55,13 @@ pub record Spot (n d : ℕ) (t : Trees) (ys : List Node) : Type 0 where
   pub stands : first_tree (from_node n (onto d t ys)) ≡ record { number = n; depth = depth; content = held } ∷ onto (suc depth) below_it []
   pub attribute : is_at is_attribute n t ≡ is_attribute held
   pub fits : FitsHere held below_it
+  pub leaf : is_element held ≡ true → LeafAt n t
   pub value : (a : ℕ) (text : List ℕ) → is_attribute held ≡ true → put a n text t ≡ revalued n text t
   pub same_value : (text : List ℕ) → with_value text held ≡ held → revalued n text t ≡ t
   pub texts : (a : ℕ) (text : List ℕ) → is_element held ≡ true → same_texts (as_texts text) (texts_top below_it) ≡ false → put a n text t ≡ retexted n (lone (one_text a text)) t
   pub same : (a : ℕ) (text : List ℕ) → is_element held ≡ true → same_texts (as_texts text) (texts_top below_it) ≡ true → put a n text t ≡ t
 
-attribute-no_element : (c : Content) → is_attribute c ≡ true → is_element c ≡ false
+pub attribute-no_element : (c : Content) → is_attribute c ≡ true → is_element c ≡ false
 attribute-no_element Root e = refl
 attribute-no_element (Element name) e = let no : false ≡ true = e in cc
 attribute-no_element (Attribute name text) e = refl
@@ -71,6 +72,10 @@ element-value text Root e = refl
 element-value text (Element name) e = refl
 element-value text (Attribute name old) e = let no : false ≡ true = e in cc
 element-value text (Text old) e = refl
+
+leaves : (c : Content) (k : Trees) → is_element c ≡ true → FitsHere c k → AreLeaves k
+leaves c k is (inl e) = let no : false ≡ true = sym (attribute-no_element c e) ∙ is in cc
+leaves c k is (inr h) = h.1
 
 or-nothing : (b : Bool) → (b || (false || false)) ≡ b
 or-nothing true = refl
@@ -89,6 +94,9 @@ spot n d (tree m c k r) ys once fits stops =
     by (where_is n m c k r once) (λ p. spot n (suc d) k (onto d r ys) p fits.1 (stops-onto d r ys stops)) (λ q. spot n d r ys q fits.2 stops)
   where
     by : Where n m k r → (times n k ≡ 1 → Spot n (suc d) k (onto d r ys)) → (times n r ≡ 1 → Spot n d r ys) → Spot n d (tree m c k r) ys
+    other-than : (m == n) ≡ false → (m == n) ≡ true → (is_element c ≡ true) × AreLeaves k
+    other-than e f = let no : false ≡ true = sym e ∙ f in cc
+
     by (here e p q) _ _ =
         let number : m ≡ n = one n m e in
         let tree_here : first_tree (record { number = m; depth = d; content = c } ∷ onto (suc d) k (onto d r ys)) ≡ record { number = n; depth = d; content = c } ∷ onto (suc d) k [] =
@@ -103,6 +111,7 @@ spot n d (tree m c k r) ys once fits stops =
           stands = rw e tree_here;
           attribute = rw (e, in_k, in_r) (or-nothing (is_attribute c));
           fits = fits.0 e;
+          leaf = λ is. (λ f. (is, leaves c k is (fits.0 e)), leaf-absent n k p, leaf-absent n r q);
           value = λ a text is.
               let no = attribute-no_element c is in
               rw (e, no) (ap (λ x. tree m (with_value text c) x (put a n text r)) (put-absent a n text k p ∙ sym (revalued-absent n text k p))
@@ -123,6 +132,7 @@ spot n d (tree m c k r) ys once fits stops =
           stands = rw e s.stands;
           attribute = rw (e, in_r) (or-last (is_at is_attribute n k) ∙ s.attribute);
           fits = s.fits;
+          leaf = λ is. (λ f. other-than e f, s.leaf is, leaf-absent n r q);
           value = λ a text is. rw e (ap (λ x. tree m c x (put a n text r)) (s.value a text is) ∙ ap (tree m c (revalued n text k)) (put-absent a n text r q ∙ sym (revalued-absent n text r q)));
           same_value = λ text f. rw e (ap (λ x. tree m c x (revalued n text r)) (s.same_value text f) ∙ ap (tree m c k) (revalued-absent n text r q));
           texts = λ a text is other.
@@ -140,6 +150,7 @@ spot n d (tree m c k r) ys once fits stops =
           stands = rw e (ap first_tree (from-skip n (suc d) k (onto d r ys) p) ∙ s.stands);
           attribute = rw (e, in_k) s.attribute;
           fits = s.fits;
+          leaf = λ is. (λ f. other-than e f, leaf-absent n k p, s.leaf is);
           value = λ a text is. rw e (ap (λ x. tree m c x (put a n text r)) (put-absent a n text k p ∙ sym (revalued-absent n text k p)) ∙ ap (tree m c (revalued n text k)) (s.value a text is));
           same_value = λ text f. rw e (ap (λ x. tree m c x (revalued n text r)) (revalued-absent n text k p) ∙ ap (tree m c k) (s.same_value text f));
           texts = λ a text is other.
@@ -159,8 +170,9 @@ texts-same (t ∷ ts) (x ∷ xs) = ap (λ b. bytes_eq (own_text x.content) t && 
 pub leaf-texts : (d : ℕ) (k : Trees) → AreLeaves k → map (λ (x : Node). own_text x.content) (texts_in (onto d k [])) ≡ texts_top k
 leaf-texts d none h = refl
 leaf-texts d (tree m c k r) h =
-    subst (λ j. map (λ (x : Node). own_text x.content) (texts_in (onto d (tree m c j r) [])) ≡ texts_top (tree m c j r)) (sym h.1) (by (cases_Bool (is_text c)))
+    subst (λ j. map (λ (x : Node). own_text x.content) (texts_in (onto d (tree m c j r) [])) ≡ texts_top (tree m c j r)) (sym h.1) (by (cases_Bool (is_text c)) (leaf-texts d r h.2))
   where
-    by : (is_text c ≡ true) ⊎ (is_text c ≡ false) → map (λ (x : Node). own_text x.content) (texts_in (onto d (tree m c none r) [])) ≡ texts_top (tree m c none r)
-    by (inl e) = rw e (ap (λ l. own_text c ∷ l) (leaf-texts d r h.2))
-    by (inr e) = rw e (leaf-texts d r h.2)
+    by : (is_text c ≡ true) ⊎ (is_text c ≡ false) → map (λ (x : Node). own_text x.content) (texts_in (onto d r [])) ≡ texts_top r
+        → map (λ (x : Node). own_text x.content) (texts_in (onto d (tree m c none r) [])) ≡ texts_top (tree m c none r)
+    by (inl e) rest = rw e (ap (λ l. own_text c ∷ l) rest)
+    by (inr e) rest = rw e rest

@@ -1,16 +1,14 @@
 -- The text of an element is set: its texts go to the kept ones, and one text or none comes in their place.
-use Rattle.std.proofs.Common.{◌≡◌, ℕ, ◌+◌, ◌-◌, ◌<◌, ◌≤◌, ◌^◌, ◌==◌, ◌||◌, not, cond, if◌then◌else◌, Bool, true, false, List, [], ◌∷◌, ◌++◌, map, length, get_or, IsSome, Option, Some, None, nat_lt, refl, sym, ap, ◌∙◌, subst, inl, inr, arith}
+use Rattle.std.proofs.Common.{◌≡◌, ℕ, ◌+◌, ◌-◌, ◌<◌, ◌≤◌, ◌^◌, ◌==◌, ◌||◌, not, cond, if◌then◌else◌, Bool, true, false, List, [], ◌∷◌, ◌++◌, map, length, get_or, IsSome, Some, None, refl, sym, ap, ◌∙◌, subst, inl, inr, arith}
 use Rattle.std.specs.Prelude.{is_some}
 use Rattle.std.specs.List.{list_any}
-use Rattle.std.proofs.lemmas.Bool.{cases_Bool, cases_lt, false≢true}
+use Rattle.std.proofs.lemmas.Bool.{cases_Bool, false≢true}
 use Rattle.std.proofs.lemmas.List.{length-map, get_or-map}
 use Rattle.slab.specs.Slab.{Slab, get, Updates}
 use Rattle.xf_doc.specs.declared.content.Node.{Node}
 use Rattle.xf_doc.specs.declared.content.Content.{Content}
 use Rattle.xf_doc.specs.declared.content.Content.TheVariants.{Root, Element, Attribute, Text}
 use Rattle.xf_doc.specs.declared.content.Kind.TheVariants as kind
-use Rattle.xf_doc.specs.declared.fault.TreeFault.{TreeFault}
-use Rattle.xf_doc.specs.declared.fault.TreeFault.TheVariants.{Nodes, NodeText}
 use Rattle.xf_doc.specs.Forest.{is_root, is_element, is_attribute, is_text, kind_at}
 use Rattle.xf_doc.specs.Visit.{visits, numbers}
 use Rattle.xf_doc.specs.Shape.{has_elements}
@@ -22,7 +20,6 @@ use Rattle.xf_tree.specs.Tree.{AreSteps, depths, node_of, kept_of, number_in, co
 use Rattle.xf_tree.specs.Texts.{passed_by, text_slot, text_count, has_key, attributes, children, keys_of, numbers_at, depth_at, run_of}
 use Rattle.xf_tree.specs.Settled.{text_written}
 use Rattle.xf_tree.proofs.NodeLemmas.{eq-true, eq-false}
-use Rattle.xf_tree.proofs.SizedLemmas.{lt-true}
 use Rattle.xf_tree.proofs.FreeLemmas.{same-key}
 use Rattle.xf_tree.proofs.CountLemmas.{nodes-append, sizes-append, nodes-cons, sizes-cons, count-alike, size-alike}
 use Rattle.xf_tree.proofs.StepLemmas.{depth-bound}

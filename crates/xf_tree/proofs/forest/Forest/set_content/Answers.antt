@@ -1,6 +1,5 @@
-use Rattle.std.proofs.Common.{◌≡◌, ℕ, ◌+◌, ◌-◌, ◌≤◌, length, map, take, drop, List, false, Some, Result, Ok, inr, sym, ap, ◌∙◌, subst, arith}
+use Rattle.std.proofs.Common.{◌≡◌, ℕ, ◌+◌, ◌-◌, ◌≤◌, length, map, take, drop, List, false, Some, Ok, inr, sym, ap, ◌∙◌, subst, arith}
 use Rattle.std.proofs.lemmas.List.{length-map}
-use Rattle.xf_doc.specs.declared.fault.TreeFault.{TreeFault}
 use Rattle.xf_doc.specs.declared.content.Kind.TheVariants.{Element}
 use Rattle.xf_doc.specs.Forest.{kind_at}
 use Rattle.xf_doc.specs.Visit.{visits}
@@ -9,9 +8,9 @@ use Rattle.xf_doc.specs.Limits.{limits, unless, all_size}
 use Rattle.xf_doc.specs.Texts.{Before, Keeping, text_set}
 use Rattle.xf_tree.specs.declared.rows.Row.{Row}
 use Rattle.xf_tree.specs.Rows.{tree_of, deeper}
-use Rattle.xf_tree.specs.Tree.{StandsAt, node_of, kept_of, keeping_of, times, kept_times}
+use Rattle.xf_tree.specs.Tree.{StandsAt, node_of, keeping_of, times, kept_times}
 use Rattle.xf_tree.specs.Texts.{passed_by, text_count, children, run_of, depth_at}
-use Rattle.xf_tree.specs.Settled.{text_written, IsSpare}
+use Rattle.xf_tree.specs.Settled.{text_written}
 use Rattle.xf_tree.proofs.AddLemmas.{bytes-most}
 use Rattle.xf_tree.proofs.CountLemmas.{nodes-most}
 use Rattle.xf_tree.proofs.PlaceLemmas.{tree-size}
