@@ -5,6 +5,7 @@ use Rattle.std.specs.List.{list_any}
 use Rattle.std.specs.Str.{bytes_eq}
 use Rattle.std.proofs.lemmas.Bool.{cases_Bool}
 use Rattle.std.proofs.lemmas.Bool.Decides.{nat_tests}
+use Rattle.std.proofs.lemmas.Slice.Eq.{bytes_eq-Decides}
 use Rattle.xf_doc.specs.declared.content.Node.{Node}
 use Rattle.xf_doc.specs.declared.content.Content.{Content}
 use Rattle.xf_doc.specs.declared.content.Content.TheVariants.{Root, Element, Attribute, Text}
@@ -68,8 +69,8 @@ leaves-put b m u (tree p c k r) h =
     (valued-leaf m u p c ∙ h.0, below_it (p == m) no ∙ nothing, leaves-put b m u r h.2)
   where
     below_it : (x : Bool) → is_element c ≡ false → cond (x && is_element c) (content b u k) (put b m u k) ≡ put b m u k
-    below_it true no = rw no refl
-    below_it false no = refl
+    below_it true plain = rw plain refl
+    below_it false plain = refl
 
 fits-followed : (n : ℕ) (t s : Trees) → Fits n t → Fits n s → Fits n (followed t s)
 fits-followed n none s h g = g
@@ -148,14 +149,7 @@ times-put p b m u t other fits once = by (few (times m t) once)
 -- ---- nodes and trees
 
 same-bytes : (xs ys : List ℕ) → bytes_eq xs ys ≡ true → xs ≡ ys
-same-bytes [] [] e = refl
-same-bytes [] (y ∷ ys) e = let no : false ≡ true = e in cc
-same-bytes (x ∷ xs) [] e = let no : false ≡ true = e in cc
-same-bytes (x ∷ xs) (y ∷ ys) e = by (x == y) refl e
-  where
-    by : (b : Bool) → (x == y) ≡ b → (b && bytes_eq xs ys) ≡ true → x ∷ xs ≡ y ∷ ys
-    by true q h = let same : x ≡ y = grind (arith, nat_tests, q) in ap (λ l. x ∷ l) (same-bytes xs ys h) ∙ ap (λ k. k ∷ ys) same
-    by false q h = let no : false ≡ true = h in cc
+same-bytes xs ys e = grind (arith, bytes_eq-Decides)
 
 value-again : (c : Content) (text : List ℕ) → is_attribute c ≡ true → own_text c ≡ text → with_value text c ≡ c
 value-again Root text e f = refl

@@ -2,3 +2,4 @@ pub mod Put
 pub mod Spots
 pub mod Bridge
 pub mod WrittenLaws
+pub mod Held

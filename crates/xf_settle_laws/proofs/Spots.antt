@@ -39,7 +39,7 @@ revalued-absent n text (tree m c k r) h =
     let parts = times-split n m c k r h in
     rw parts.0 (ap (λ x. tree m c x (revalued n text r)) (revalued-absent n text k parts.1) ∙ ap (tree m c k) (revalued-absent n text r parts.2))
 
-from-skip : (n d : ℕ) (t : Trees) (ys : List Node) → times n t ≡ 0 → from_node n (onto d t ys) ≡ from_node n ys
+pub from-skip : (n d : ℕ) (t : Trees) (ys : List Node) → times n t ≡ 0 → from_node n (onto d t ys) ≡ from_node n ys
 from-skip n d none ys h = refl
 from-skip n d (tree m c k r) ys h =
     let parts = times-split n m c k r h in
@@ -93,10 +93,10 @@ spot n d none ys once fits stops = absurd (let no : ⊥ = omega (arith, once) in
 spot n d (tree m c k r) ys once fits stops =
     by (where_is n m c k r once) (λ p. spot n (suc d) k (onto d r ys) p fits.1 (stops-onto d r ys stops)) (λ q. spot n d r ys q fits.2 stops)
   where
-    by : Where n m k r → (times n k ≡ 1 → Spot n (suc d) k (onto d r ys)) → (times n r ≡ 1 → Spot n d r ys) → Spot n d (tree m c k r) ys
     other-than : (m == n) ≡ false → (m == n) ≡ true → (is_element c ≡ true) × AreLeaves k
     other-than e f = let no : false ≡ true = sym e ∙ f in cc
 
+    by : Where n m k r → (times n k ≡ 1 → Spot n (suc d) k (onto d r ys)) → (times n r ≡ 1 → Spot n d r ys) → Spot n d (tree m c k r) ys
     by (here e p q) _ _ =
         let number : m ≡ n = one n m e in
         let tree_here : first_tree (record { number = m; depth = d; content = c } ∷ onto (suc d) k (onto d r ys)) ≡ record { number = n; depth = d; content = c } ∷ onto (suc d) k [] =

@@ -120,11 +120,11 @@ with_kept k k2 e = ap (λ (l : List KeptText). record { forest = k2.forest; kept
 -- ---- numbers that are reserved
 
 -- none is
-pub none-free : {first : ℕ} {used : List ℕ} (k : Keeping) → first ≡ k.forest.next → AreFree first used k
-none-free k e m least less unused = absurd (let no : ⊥ = omega (arith, e, least, less) in no)
+pub none-free : (first : ℕ) (used : List ℕ) (k : Keeping) → first ≡ k.forest.next → AreFree first used k
+none-free first used k e m least less unused = absurd (let no : ⊥ = omega (arith, e, least, less) in no)
 
-pub free-as : {first : ℕ} {used : List ℕ} {k k2 : Keeping} → AreFree first used k → k2 ≡ k → AreFree first used k2
-free-as {first = first} {used = used} free e = subst (AreFree first used) (sym e) free
+pub free-as : (first : ℕ) (used : List ℕ) {k k2 : Keeping} → AreFree first used k → k2 ≡ k → AreFree first used k2
+free-as first used free e = subst (AreFree first used) (sym e) free
 
 -- those from the next one on are
 pub next-free : (count : ℕ) (k : Keeping) → AreTrees k → AreFree k.forest.next [] (record k { forest = reserved count k.forest })
@@ -151,9 +151,9 @@ text-made {start = start} {l = l} {after = after} number more n text before m tr
     subst (λ (p : Ledger × Keeping). Made start p.0 p.1) (sym whole) (texts number more n text m trees able)
 
 -- the ledger does not change what the setting leaves
-filled-forest : {l l1 l2 : Ledger} {after k2 : Keeping} (n : ℕ) (before : Before) → l1 ≡ with_note (of_text n) l → (l2, k2) ≡ text_filled before l1 after → k2.forest ≡ after.forest
-filled-forest {l = l} {after = after} n before noted_ filled =
-    ap (λ (p : Ledger × Keeping). p.1.forest) (filled ∙ ap (λ l. text_filled before l after) noted_) ∙ set-forest n before l.entries l.next after
+filled-forest : {l l1 l2 : Ledger} {k2 : Keeping} (later : Keeping) (n : ℕ) (before : Before) → l1 ≡ with_note (of_text n) l → (l2, k2) ≡ text_filled before l1 later → k2.forest ≡ later.forest
+filled-forest {l = l} later n before noted_ filled =
+    ap (λ (p : Ledger × Keeping). p.1.forest) (filled ∙ ap (λ l. text_filled before l later) noted_) ∙ set-forest n before l.entries l.next later
 
 pub text-drafted : {start : Keeping} {l l1 l2 : Ledger} {k after k2 : Keeping} {first first2 : ℕ} {used used2 : List ℕ} (d : Draft) (n : ℕ) (text : List ℕ) (before : Before)
     → draft_of l k first used ≡ d → Made start l k → AreTrees k → IsSettable n k.forest
@@ -162,7 +162,7 @@ pub text-drafted : {start : Keeping} {l l1 l2 : Ledger} {k after k2 : Keeping} {
 text-drafted {l = l} {k = k} {after = after} {k2 = k2} d n text before view m trees able e noted_ filled trees2 none gone =
     let m2 = text-made k.forest.next (length (new_texts n text k.forest)) n text before m trees able (set-is n text k after before e) noted_ filled in
     ap (λ (e : Draft). with_text d (text_set limits n text (alone e.now))) (sym view) ∙ set-alone limits d n text k ∙ ap (with_text d) e
-    ∙ ap (λ (f : Forest). Ok (changed d f)) (sym (filled-forest n before noted_ filled)) ∙ ap Ok (sym (drafted d view m trees m2 trees2 none gone))
+    ∙ ap (λ (f : Forest). Ok (changed d f)) (sym (filled-forest after n before noted_ filled)) ∙ ap Ok (sym (drafted d view m trees m2 trees2 none gone))
 
 -- ---- a text that was settled
 
@@ -177,26 +177,26 @@ pub settled-kept : (number n : ℕ) (text : List ℕ) (k after : Keeping) (befor
 settled-kept number n text k after before e = subst (λ (p : Before × Keeping). MayGiveUp p.0 p.1) (sym e) (before-kept n k (record k.forest { nodes = with_numbered_text number n text k.forest.nodes }))
 
 -- a number that is free stays so where a text with another one comes in
-set-free : (m number n : ℕ) (text : List ℕ) (k : Keeping) (entries : List Entry) (next : ℕ) → (number == m) ≡ false → IsFree m k
-    → IsFree m (with_set n (before_of n k.forest.nodes) entries next (numbered_text_set number n text k).1).1
-set-free m number n text k entries next other free = by (is_known n after entries)
-  where
-    abbrev after : Keeping
-    after = (numbered_text_set number n text k).1
+module _ (m number n : ℕ) (text : List ℕ) (k : Keeping) (other : (number == m) ≡ false) (free : IsFree m k) where
+  abbrev settled_at : Keeping
+  settled_at = (numbered_text_set number n text k).1
 
-    kept-free : list_any (is_numbered m) after.kept ≡ false
-    kept-free = both-kept m k.kept (taken_from n k.forest.nodes) free.unkept (taken-none m n k.forest.nodes free.unused)
+  kept-free : list_any (is_numbered m) settled_at.kept ≡ false
+  kept-free = both-kept m k.kept (taken_from n k.forest.nodes) free.unkept (taken-none m n k.forest.nodes free.unused)
 
-    nodes-free : has_number m after.forest.nodes ≡ false
-    nodes-free = numbered-none m number n text k.forest.nodes other free.unused
+  nodes-free : has_number m settled_at.forest.nodes ≡ false
+  nodes-free = numbered-none m number n text k.forest.nodes other free.unused
 
-    given : (before : Before) → IsFree m (given_up before after)
-    given (attribute_text t) = record { reserved = free.reserved; unused = nodes-free; unkept = kept-free }
-    given (element_texts ns) = record { reserved = free.reserved; unused = nodes-free; unkept = left-kept m (element_texts ns) after kept-free }
+  given-free : (before : Before) → IsFree m (given_up before settled_at)
+  given-free (attribute_text t) = record { reserved = free.reserved; unused = nodes-free; unkept = kept-free }
+  given-free (element_texts ns) = record { reserved = free.reserved; unused = nodes-free; unkept = left-kept m (element_texts ns) settled_at kept-free }
 
-    by : (b : Bool) → IsFree m (cond {A = Ledger × Keeping} b (record { entries = entries; next = next }, given_up (before_of n k.forest.nodes) after) (record { entries = undo.set n (before_of n k.forest.nodes) ∷ entries; next = next }, after)).1
-    by true = given (before_of n k.forest.nodes)
-    by false = record { reserved = free.reserved; unused = nodes-free; unkept = kept-free }
+  set-free : (entries : List Entry) (next : ℕ) → IsFree m (with_set n (before_of n k.forest.nodes) entries next settled_at).1
+  set-free entries next = by (is_known n settled_at entries)
+    where
+      by : (b : Bool) → IsFree m (cond {A = Ledger × Keeping} b (record { entries = entries; next = next }, given_up (before_of n k.forest.nodes) settled_at) (record { entries = undo.set n (before_of n k.forest.nodes) ∷ entries; next = next }, settled_at)).1
+      by true = given-free (before_of n k.forest.nodes)
+      by false = record { reserved = free.reserved; unused = nodes-free; unkept = kept-free }
 
 has-last : (m number : ℕ) (ns : List ℕ) → has m (ns ++ number ∷ []) ≡ false → (has m ns ≡ false) × ((number == m) ≡ false)
 has-last m number [] h =
@@ -207,22 +207,22 @@ has-last m number (n ∷ ns) h =
     let rest = has-last m number ns parts.1 in
     (rw parts.0 rest.0, rest.1)
 
-pub settled-free : {l l1 l2 : Ledger} {k after k2 : Keeping} {first : ℕ} {used : List ℕ} (number n : ℕ) (text : List ℕ) (before : Before) → AreFree first used k
-    → (before, after) ≡ numbered_text_set number n text k → l1 ≡ with_note (of_text n) l → (l2, k2) ≡ text_filled before l1 after → AreFree first (used ++ number ∷ []) k2
-settled-free {l = l} {k = k} {after = after} {k2 = k2} {used = used} number n text before free e noted_ filled m least less unused =
-    let whole = filled ∙ ap (λ l. text_filled before l after) noted_ ∙ ap (λ (p : Before × Keeping). text_filled p.0 (with_note (of_text n) l) p.1) e in
-    let stands_ : k2.forest.next ≡ k.forest.next = ap (λ (f : Forest). f.next) (filled-forest n before noted_ filled) ∙ ap (λ (p : Before × Keeping). p.1.forest.next) e in
+pub settled-free : {l l1 l2 : Ledger} {k later k2 : Keeping} (first : ℕ) (used : List ℕ) (number n : ℕ) (text : List ℕ) (before : Before) → AreFree first used k
+    → (before, later) ≡ numbered_text_set number n text k → l1 ≡ with_note (of_text n) l → (l2, k2) ≡ text_filled before l1 later → AreFree first (used ++ number ∷ []) k2
+settled-free {l = l} {k = k} {later = later} {k2 = k2} first used number n text before free e noted_ filled m least less unused =
+    let whole = filled ∙ ap (λ l. text_filled before l later) noted_ ∙ ap (λ (p : Before × Keeping). text_filled p.0 (with_note (of_text n) l) p.1) e in
+    let stands_ : k2.forest.next ≡ k.forest.next = ap (λ (f : Forest). f.next) (filled-forest later n before noted_ filled) ∙ ap (λ (p : Before × Keeping). p.1.forest.next) e in
     let parts = has-last m number used unused in
     let old : IsFree m k = free m least (omega (arith, less, stands_)) parts.0 in
-    subst (λ (p : Ledger × Keeping). IsFree m p.1) (sym whole) (set-free m number n text k l.entries l.next parts.1 old)
+    subst (λ (p : Ledger × Keeping). IsFree m p.1) (sym whole) (set-free m number n text k parts.1 old l.entries l.next)
 
-pub settled-draft : {start : Keeping} {l l1 l2 : Ledger} {k after k2 : Keeping} {first : ℕ} {used used2 : List ℕ} (d : Draft) (number n : ℕ) (text : List ℕ) (before : Before)
+pub settled-draft : {start : Keeping} {l l1 l2 : Ledger} {k later k2 : Keeping} {first : ℕ} {used used2 : List ℕ} (d : Draft) (number n : ℕ) (text : List ℕ) (before : Before)
     → draft_of l k first used ≡ d → Made start l k → AreTrees k → IsSettable n k.forest
-    → (before, after) ≡ numbered_text_set number n text k → l1 ≡ with_note (of_text n) l → (l2, k2) ≡ text_filled before l1 after → AreTrees k2 → used2 ≡ used ++ number ∷ []
+    → (before, later) ≡ numbered_text_set number n text k → l1 ≡ with_note (of_text n) l → (l2, k2) ≡ text_filled before l1 later → AreTrees k2 → used2 ≡ used ++ number ∷ []
     → draft_of l2 k2 first used2 ≡ with_settled number n text d
-settled-draft {l = l} {k = k} {after = after} {k2 = k2} {first = first} {used = used} {used2 = used2} d number n text before view m trees able e noted_ filled trees2 more =
+settled-draft {l = l} {k = k} {later = later} {k2 = k2} {first = first} {used = used} {used2 = used2} d number n text before view m trees able e noted_ filled trees2 more =
     let m2 = text-made number 0 n text before m trees able (e ∙ settled-is number n text k) noted_ filled in
-    let stands_ : k2.forest ≡ record k.forest { nodes = with_numbered_text number n text k.forest.nodes } = filled-forest n before noted_ filled ∙ ap (λ (p : Before × Keeping). p.1.forest) e in
+    let stands_ : k2.forest ≡ record k.forest { nodes = with_numbered_text number n text k.forest.nodes } = filled-forest later n before noted_ filled ∙ ap (λ (p : Before × Keeping). p.1.forest) e in
     numbered-draft d first used2 view m trees m2 trees2
     ∙ ap (λ (f : Forest). record { kept = d.kept; now = f; first = first; used = used2 }) stands_
     ∙ ap (λ ns. record { kept = d.kept; now = record k.forest { nodes = with_numbered_text number n text k.forest.nodes }; first = first; used = ns }) more

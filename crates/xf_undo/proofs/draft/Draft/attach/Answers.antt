@@ -14,7 +14,7 @@ pub invariant_of-self-in_err-attach : goal.invariant_of-self-in_err-attach
 invariant_of-self-in_err-attach c = record {
   start = c.self.invariant.start;
   made = made-as (noted (of_attach c.args.node.number) c.self.invariant.made) c.in_ok-note.ensures.ok c.in_err-attach.ensures.err;
-  free = free-as c.self.invariant.free c.in_err-attach.ensures.err;
+  free = free-as _ _ c.self.invariant.free c.in_err-attach.ensures.err;
 }
 
 made-then : (c : After-are_trees-2) → Made c.self.invariant.start c.fill_attach.new.self c.attach.new.self
@@ -26,7 +26,7 @@ made-then c =
     (c.fill_attach.ensures ∙ ap attach_filled c.in_ok-note.ensures.ok) (with_kept c.self.inside.forest c.attach.new.self c.in_ok-attach.ensures.kept)
 
 pub invariant_of-self-2 : goal.invariant_of-self-2
-invariant_of-self-2 c = record { start = c.self.invariant.start; made = made-then (goal.at.invariant_of-self-2 c).After-are_trees-2; free = none-free c.attach.new.self c.give_up_numbers.ensures.first }
+invariant_of-self-2 c = record { start = c.self.invariant.start; made = made-then (goal.at.invariant_of-self-2 c).After-are_trees-2; free = none-free _ _ c.attach.new.self c.give_up_numbers.ensures.first }
 
 pub returns-clause-answer : goal.returns-clause-answer
 returns-clause-answer c =

@@ -12,7 +12,7 @@ invariant_of-self c =
     record {
       start = without_detached c.self.inside.forest;
       made = made-as (keeps c.self.inside.forest trees) (c.commit.ensures ∙ ap (λ (k : Keeping). kept_at k.forest) c.drop_detached.ensures) c.drop_detached.ensures;
-      free = none-free c.drop_detached.new.self c.give_up_numbers.ensures.first;
+      free = none-free _ _ c.drop_detached.new.self c.give_up_numbers.ensures.first;
     }
 
 pub returns : goal.returns

@@ -16,7 +16,7 @@ made-then c =
     made-as (copied-made limits c.args.node.number c.in_ok-copied.copied.number c.copy.new.self.forest c.self.invariant.made c.are_trees.ensures (subst (λ (d : Draft). MayCopy c.args.node.number d.now) (sym c.self.view_is) c.requires.may) c.in_ok-copied.ensures.answer (trees-as c.are_trees-2.ensures (sym beside))) refl beside
 
 pub invariant_of-self-2 : goal.invariant_of-self-2
-invariant_of-self-2 c = record { start = c.self.invariant.start; made = made-then (goal.at.invariant_of-self-2 c).After-are_trees-2; free = none-free c.copy.new.self c.give_up_numbers.ensures.first }
+invariant_of-self-2 c = record { start = c.self.invariant.start; made = made-then (goal.at.invariant_of-self-2 c).After-are_trees-2; free = none-free _ _ c.copy.new.self c.give_up_numbers.ensures.first }
 
 pub returns-clause-answer : goal.returns-clause-answer
 returns-clause-answer c =

@@ -17,7 +17,7 @@ made-then c =
     (c.fill_place.ensures ∙ ap (place_filled c.detach-place.result.0.number c.detach-place.result.1) c.in_ok-note.ensures.ok) c.detach-place.ensures.moved
 
 pub invariant_of-self-2 : goal.invariant_of-self-2
-invariant_of-self-2 c = record { start = c.self.invariant.start; made = made-then (goal.at.invariant_of-self-2 c).After-are_trees-2; free = none-free c.detach-place.new.self c.give_up_numbers.ensures.first }
+invariant_of-self-2 c = record { start = c.self.invariant.start; made = made-then (goal.at.invariant_of-self-2 c).After-are_trees-2; free = none-free _ _ c.detach-place.new.self c.give_up_numbers.ensures.first }
 
 pub returns-clause-ok : goal.returns-clause-ok
 returns-clause-ok c =

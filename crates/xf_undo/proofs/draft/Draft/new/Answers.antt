@@ -12,7 +12,7 @@ invariant_of-result c =
     record {
       start = without_detached c.args.forest;
       made = made-as (keeps c.args.forest trees) (c.new-ledger.ensures ∙ ap (λ (k : Keeping). kept_at k.forest) c.drop_detached.ensures) c.drop_detached.ensures;
-      free = none-free c.drop_detached.new.self c.next_number-first.ensures;
+      free = none-free _ _ c.drop_detached.new.self c.next_number-first.ensures;
     }
 
 pub returns : goal.returns
@@ -22,4 +22,4 @@ returns c =
     let used = c.new-used.result.items in
     let next : first ≡ (without_detached c.args.forest).forest.next = c.next_number-first.ensures ∙ ap (λ (k : Keeping). k.forest.next) c.drop_detached.ensures in
     ap (λ l. draft_of l c.drop_detached.new.self first used) c.new-ledger.ensures ∙ ap (λ (k : Keeping). draft_of (kept_at k.forest) k first used) c.drop_detached.ensures
-    ∙ kept-draft (without_detached c.args.forest) (keeps c.args.forest trees) trees next c.new-used.ensures
+    ∙ kept-draft (without_detached c.args.forest) (keeps c.args.forest trees) trees next c.new-used.ensures.items

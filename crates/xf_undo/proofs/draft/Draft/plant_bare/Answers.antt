@@ -15,7 +15,7 @@ made-then c =
     made-as (planted_bare-made limits c.args.prefixes.now c.args.tree.now c.in_ok-top.top.number c.plant_bare.new.self.forest c.self.invariant.made c.are_trees.ensures c.in_ok-top.ensures.answer (trees-as c.are_trees-2.ensures (sym beside))) refl beside
 
 pub invariant_of-self-2 : goal.invariant_of-self-2
-invariant_of-self-2 c = record { start = c.self.invariant.start; made = made-then (goal.at.invariant_of-self-2 c).After-are_trees-2; free = none-free c.plant_bare.new.self c.give_up_numbers.ensures.first }
+invariant_of-self-2 c = record { start = c.self.invariant.start; made = made-then (goal.at.invariant_of-self-2 c).After-are_trees-2; free = none-free _ _ c.plant_bare.new.self c.give_up_numbers.ensures.first }
 
 pub returns-clause-answer : goal.returns-clause-answer
 returns-clause-answer c =

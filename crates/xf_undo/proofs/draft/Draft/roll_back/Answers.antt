@@ -19,7 +19,7 @@ made-then : (c : After-are_trees-2) → Made c.self.invariant.start c.roll_back.
 made-then c = made-as (keeps-again c.self.invariant.made) c.roll_back.ensures.none (back-is c)
 
 pub invariant_of-self : goal.invariant_of-self
-invariant_of-self c = record { start = c.self.invariant.start; made = made-then (goal.at.invariant_of-self c).After-are_trees-2; free = none-free c.roll_back.new.forest c.give_up_numbers.ensures.first }
+invariant_of-self c = record { start = c.self.invariant.start; made = made-then (goal.at.invariant_of-self c).After-are_trees-2; free = none-free _ _ c.roll_back.new.forest c.give_up_numbers.ensures.first }
 
 pub returns : goal.returns
 returns c =

@@ -13,7 +13,7 @@ pub invariant_of-self-in_err-before : goal.invariant_of-self-in_err-before
 invariant_of-self-in_err-before c = record {
   start = c.self.invariant.start;
   made = made-as (noted (of_text c.args.node.number) c.self.invariant.made) c.in_ok-note.ensures.ok c.in_err-before.ensures.err;
-  free = free-as c.self.invariant.free c.in_err-before.ensures.err;
+  free = free-as _ _ c.self.invariant.free c.in_err-before.ensures.err;
 }
 
 pub fill_text-requires : goal.fill_text-requires
@@ -28,7 +28,7 @@ invariant_of-self-2 c =
       start = c.self.invariant.start;
       made = text-made k.forest.next (length (new_texts n c.args.text.now k.forest)) n c.args.text.now c.in_ok-before.before c.self.invariant.made c.are_trees.ensures may
           (set-is n c.args.text.now k c.set_text.new.self c.in_ok-before.before c.in_ok-before.ensures.answer) c.in_ok-note.ensures.ok c.fill_text.ensures;
-      free = none-free c.fill_text.new.forest c.give_up_numbers.ensures.first;
+      free = none-free _ _ c.fill_text.new.forest c.give_up_numbers.ensures.first;
     }
 
 pub returns-clause-answer : goal.returns-clause-answer
