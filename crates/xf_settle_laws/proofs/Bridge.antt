@@ -111,7 +111,7 @@ fits-put n b m u (tree p c k r) other h = (
     inner true i = fits-content n b u k other h.1
     inner false i = i
 
-lone-other : (p a : ℕ) (text : List ℕ) → (a == p) ≡ false → times p (lone (one_text a text)) ≡ 0
+pub lone-other : (p a : ℕ) (text : List ℕ) → (a == p) ≡ false → times p (lone (one_text a text)) ≡ 0
 lone-other p a [] other = refl
 lone-other p a (c ∷ cs) other = rw other (omega arith)
 

@@ -27,10 +27,10 @@ use Rattle.xf_settle_laws.proofs.Bridge.{AreReady, settled-onto, written-onto, f
 
 -- ---- a forest by itself
 
-abbrev alone : Forest → Keeping
+abbrev pub alone : Forest → Keeping
 alone forest = record { forest = forest; kept = [] }
 
-alone-trees : (forest : Forest) → HasTrees forest → AreTrees (alone forest)
+pub alone-trees : (forest : Forest) → HasTrees forest → AreTrees (alone forest)
 alone-trees forest h = record {
   apart = h.apart;
   below = h.below;
@@ -79,7 +79,7 @@ module _ (forest : Forest) (s : Stands (alone forest)) where
       by (inl h) = old (at-times is_attribute n s.trees (at-node is_attribute n (kind-any kind.Attribute is_attribute attribute-test n forest.nodes h)))
       by (inr h) = old (at-times is_element n s.trees (at-node is_element n (kind-any kind.Element is_element element-test n forest.nodes h)))
 
-  ready : (number : ℕ) → forest.next ≤ number → (contents : Contents) → AreSettable contents forest → AreReady number contents s.trees
+  pub ready : (number : ℕ) → forest.next ≤ number → (contents : Contents) → AreSettable contents forest → AreReady number contents s.trees
   ready number later [] h = tt
   ready number later (p ∷ ps) h = let old = settable-old p.0 h.0 in (settable-fits p.0 h.0, once p.0, omega (arith, old, later), ready number later ps h.1)
 

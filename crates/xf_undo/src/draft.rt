@@ -94,12 +94,7 @@ impl Draft {
     }
 
     /// Sets the text of an attribute, or of an element without element children: there it has this number. No limit is asked.
-    pub fn settle_text(
-        &mut self,
-        node: NodeId,
-        text: &str,
-        number: u128,
-    ) -> Result<(), AllocError>
+    pub fn settle_text(&mut self, node: NodeId, text: &str, number: u128) -> Result<(), AllocError>
         requires may { IsSettable node.number self.old.now }
         requires number { IsUnused number self.old }
         ensures ok { OnOk result (self.new ≡ with_settled number node.number text.now self.old) }

@@ -69,7 +69,6 @@ passed-in c =
     c.passed.ensures ∙ ap (λ k. passed_by k (length c.args.text.now) c.saturating_add-bytes.result) (count-in c)
     ∙ ap (λ b. passed_by (c.self.inside.count - length (children c.self.inside.slots (run_of c.in-Some.at c.self.inside.rows.items)) + text_count c.args.text.now) (length c.args.text.now) b) (bytes-in c)
 
-
 -- the text has the next number, and the one behind it is next then
 set-in : (c : Passed) → text_set limits c.args.node.number c.args.text.now c.args.self.now
     ≡ unless c.passed.result (text_written c.self.inside.next (c.self.inside.next + text_count c.args.text.now) c.args.node.number c.args.text.now c.args.self.now)
