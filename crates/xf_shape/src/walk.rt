@@ -22,7 +22,7 @@ use xf_name::Axis;
 use xf_tree::Forest;
 
 /// What the axis and the test select from a node, in the order of the axis.
-pub(crate) fn reached(
+pub fn reached(
     alloc: Global,
     forest: &Forest,
     spot: Spot,
@@ -90,7 +90,7 @@ fn in_texts(
 }
 
 /// Whether the test tells texts apart.
-pub(crate) fn is_kind(test: &Test) -> bool
+pub fn is_kind(test: &Test) -> bool
     ensures { result ≡ is_kind test.now }
 {
     match test {
@@ -130,7 +130,7 @@ fn plainly(
 }
 
 /// Nodes that stand in the shape.
-pub(crate) fn owned(alloc: Global, nodes: &NodeList) -> Result<Vec<Spot>, AllocError>
+pub fn owned(alloc: Global, nodes: &NodeList) -> Result<Vec<Spot>, AllocError>
     ensures numbers { IfOk result (λ spots. numbers_at spots.items ≡ nodes.now) }
     ensures owned { IfOk result (λ spots. are_owned spots.items ≡ true) }
 {
