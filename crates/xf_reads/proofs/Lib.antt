@@ -1,4 +1,6 @@
 pub mod Levels
 pub mod Calls
 pub mod Rounds
+pub mod Around
+pub mod Ends
 pub mod Whole

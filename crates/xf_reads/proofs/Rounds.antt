@@ -16,7 +16,7 @@ append-none (x ∷ xs) = ap (λ l. x ∷ l) (append-none xs)
 module _ (s : Setting) (c : Focus) where
   -- ---- a chain of operators
 
-  abbrev link-of : Link → Asked → Asked
+  abbrev pub link-of : Link → Asked → Asked
   link-of l a = link_asked l.operator s a ((trace l.right).asked s c)
 
   pub links-round : (links : List Link) (i : ℕ) (d : Link) (a w : Asked) → links_asked (map trace_of_link (drop i links)) s c a ≡ w → i < length links →
@@ -34,7 +34,7 @@ module _ (s : Setting) (c : Focus) where
   abbrev all-of : List Expr → Asked
   all-of es = all_converted (map trace es) s c
 
-  abbrev one-of : Expr → Asked
+  abbrev pub one-of : Expr → Asked
   one-of x = converted s ((trace x).asked s c)
 
   -- a plain value stays beside nothing

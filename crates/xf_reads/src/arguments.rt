@@ -1,10 +1,10 @@
 //! What a call asks: its arguments, by the function.
 
-ghost use Rattle.std.specs.Prelude.{◌≡◌, ◌∷◌, [], true, IfOk, map, option_map};
-ghost use Rattle.std.specs.List.{list_all};
+ghost use Rattle.std.specs.Prelude.{◌≡◌, ◌∷◌, ◌++◌, [], true, IfOk, OnOk, map, option_map};
+ghost use Rattle.std.specs.List.{flat_map, list_all};
 ghost use Rattle.xf_doc.specs.Forest.{IsLive};
 ghost use Rattle.xf_lang.specs.Asked as lang;
-ghost use Rattle.xf_lang.specs.Asked.{converted, tightly};
+ghost use Rattle.xf_lang.specs.Asked.{converted, list_around, tightly};
 ghost use Rattle.xf_lang.specs.AskedCalls.{all_converted, argument, own_argument};
 ghost use Rattle.xf_lang.specs.Binding.{as_list};
 ghost use Rattle.xf_lang.specs.Meaning.{focus_of};
@@ -20,12 +20,15 @@ ghost use Rattle.xf_reads.specs.Ways.{asked_by, part_asked, with_lists};
 use crate::expression::asked_of;
 use crate::ways::{Part, Way};
 use std::alloc::{AllocError, Global};
-use xf_asked::{Asked, all_read, as_plain, as_truth, both, computed, converted, either, nothing, push_around, tightly};
+use xf_asked::{
+    Asked, all_read, as_plain, as_truth, both, computed, converted, either, nothing, push_around,
+    tightly,
+};
 use xf_ast::Expr;
-use xf_doc::NodeId;
+use xf_doc::{NodeId, NodeList};
 use xf_eval::Around;
 use xf_lang::Context;
-use xf_shape::{alone, document, entered};
+use xf_shape::{alone, document, entered, is_sound};
 use xf_tree::Forest;
 
 /// What a call asks.
@@ -40,8 +43,8 @@ pub(crate) fn call_asked<A: Around>(
 ) -> Result<Asked, AllocError>
     requires fixed { list_all is_fixed arguments.now ≡ true }
     requires ready { IsReady (A.given around.now) forest.now.forest.nodes context.now }
+    ensures tells { IfOk result (λ told. Tells forest.now.forest.nodes told (asked_by way (A.given around.now) context.now arguments.now (shape_at (A.given around.now) forest.now.forest.nodes context.now) (focus_of context.now))) }
     ensures stands { IfOk result (λ told. Stands forest.now.forest.nodes told) }
-    ensures told { IfOk result (λ told. Tells forest.now.forest.nodes told (asked_by way (A.given around.now) context.now arguments.now (shape_at (A.given around.now) forest.now.forest.nodes context.now) (focus_of context.now))) }
 {
     match way {
         Way::Nothing => Ok(nothing(alloc)),
@@ -72,8 +75,8 @@ pub(crate) fn call_asked<A: Around>(
 /// Exactly this node.
 fn node_asked(alloc: Global, forest: &Forest, node: NodeId) -> Result<Asked, AllocError>
     requires { IsLive node.number forest.now.forest }
+    ensures tells { IfOk result (λ told. Tells forest.now.forest.nodes told (tightly (node.number ∷ []))) }
     ensures stands { IfOk result (λ told. Stands forest.now.forest.nodes told) }
-    ensures told { IfOk result (λ told. Tells forest.now.forest.nodes told (tightly (node.number ∷ []))) }
 {
     let set = alone(alloc, forest, Some(node))?;
     Ok(tightly(alloc, set))
@@ -88,13 +91,13 @@ fn with_document(
 ) -> Result<Asked, AllocError>
     requires live { AllLive (as_list (option_map (λ n. n.number) element)) forest.now.forest.nodes }
     requires stands { Stands forest.now.forest.nodes asked }
+    ensures tells { IfOk result (λ told. (s : Setting) → s.all ≡ shaped forest.now.forest.nodes → (a : lang.Asked) → Tells forest.now.forest.nodes asked a → Tells forest.now.forest.nodes told (with_lists s (as_list (option_map (λ n. n.number) element)) a)) }
     ensures stands { IfOk result (λ told. Stands forest.now.forest.nodes told) }
-    ensures told { IfOk result (λ told. (s : Setting) → s.all ≡ shaped forest.now.forest.nodes → (a : lang.Asked) → Tells forest.now.forest.nodes asked a → Tells forest.now.forest.nodes told (with_lists s (as_list (option_map (λ n. n.number) element)) a)) }
 {
-    let Asked { reads, mut looks, .. } = asked;
-    if let Some(node) = element {
-        push_around(forest, entered(forest, node), &mut looks)?;
-    }
+    is_sound(forest);
+    let reads = asked.reads;
+    let mut looks = asked.looks;
+    push_lists(forest, element, &mut looks)?;
     Ok(Asked {
         set: alone(alloc, forest, element)?,
         is_loose: false,
@@ -104,16 +107,22 @@ fn with_document(
     })
 }
 
+/// Puts the list in which the node stands behind the others, where there is one.
+fn push_lists(forest: &Forest, node: Option<NodeId>, looks: &mut NodeList) -> Result<(), AllocError>
+    requires { AllLive (as_list (option_map (λ n. n.number) node)) forest.now.forest.nodes }
+    ensures { OnOk result (looks.new ≡ looks.old ++ flat_map (list_around (shaped forest.now.forest.nodes)) (as_list (option_map (λ n. n.number) node))) }
+{
+    match node {
+        Some(node) => push_around(forest, entered(forest, node), looks),
+        None => Ok(()),
+    }
+}
+
 /// What is made of what one argument asks.
-fn part_asked(
-    alloc: Global,
-    forest: &Forest,
-    made: Part,
-    asked: Asked,
-) -> Result<Asked, AllocError>
+fn part_asked(alloc: Global, forest: &Forest, made: Part, asked: Asked) -> Result<Asked, AllocError>
     requires { Stands forest.now.forest.nodes asked }
+    ensures tells { IfOk result (λ told. (s : Setting) → s.all ≡ shaped forest.now.forest.nodes → (a : lang.Asked) → Tells forest.now.forest.nodes asked a → Tells forest.now.forest.nodes told (part_asked made s a)) }
     ensures stands { IfOk result (λ told. Stands forest.now.forest.nodes told) }
-    ensures told { IfOk result (λ told. (s : Setting) → s.all ≡ shaped forest.now.forest.nodes → (a : lang.Asked) → Tells forest.now.forest.nodes asked a → Tells forest.now.forest.nodes told (part_asked made s a)) }
 {
     match made {
         Part::Truth => Ok(as_truth(alloc, asked)),
@@ -134,8 +143,8 @@ fn chosen<A: Around>(
 ) -> Result<Asked, AllocError>
     requires fixed { list_all is_fixed arguments.now ≡ true }
     requires ready { IsReady (A.given around.now) forest.now.forest.nodes context.now }
+    ensures tells { IfOk result (λ told. Tells forest.now.forest.nodes told (asked_by Way.Choosing (A.given around.now) context.now arguments.now (shape_at (A.given around.now) forest.now.forest.nodes context.now) (focus_of context.now))) }
     ensures stands { IfOk result (λ told. Stands forest.now.forest.nodes told) }
-    ensures told { IfOk result (λ told. Tells forest.now.forest.nodes told (asked_by Way.Choosing (A.given around.now) context.now arguments.now (shape_at (A.given around.now) forest.now.forest.nodes context.now) (focus_of context.now))) }
 {
     let condition = argument(alloc, forest, around, arguments, 0, context)?;
     let one = argument(alloc, forest, around, arguments, 1, context)?;
@@ -155,8 +164,8 @@ fn branched<A: Around>(
 ) -> Result<Asked, AllocError>
     requires fixed { list_all is_fixed arguments.now ≡ true }
     requires ready { IsReady (A.given around.now) forest.now.forest.nodes context.now }
+    ensures tells { IfOk result (λ told. Tells forest.now.forest.nodes told (asked_by Way.Branching (A.given around.now) context.now arguments.now (shape_at (A.given around.now) forest.now.forest.nodes context.now) (focus_of context.now))) }
     ensures stands { IfOk result (λ told. Stands forest.now.forest.nodes told) }
-    ensures told { IfOk result (λ told. Tells forest.now.forest.nodes told (asked_by Way.Branching (A.given around.now) context.now arguments.now (shape_at (A.given around.now) forest.now.forest.nodes context.now) (focus_of context.now))) }
 {
     let condition = argument(alloc, forest, around, arguments, 0, context)?;
     let one = argument(alloc, forest, around, arguments, 1, context)?;
@@ -177,8 +186,8 @@ fn argument<A: Around>(
 ) -> Result<Asked, AllocError>
     requires fixed { list_all is_fixed arguments.now ≡ true }
     requires ready { IsReady (A.given around.now) forest.now.forest.nodes context.now }
+    ensures tells { IfOk result (λ told. Tells forest.now.forest.nodes told (argument at (map trace arguments.now) (shape_at (A.given around.now) forest.now.forest.nodes context.now) (focus_of context.now))) }
     ensures stands { IfOk result (λ told. Stands forest.now.forest.nodes told) }
-    ensures told { IfOk result (λ told. Tells forest.now.forest.nodes told (argument at (map trace arguments.now) (shape_at (A.given around.now) forest.now.forest.nodes context.now) (focus_of context.now))) }
 {
     match arguments.get(at) {
         Some(argument) => asked_of(alloc, forest, around, argument, context),
@@ -197,8 +206,8 @@ fn own_argument<A: Around>(
 ) -> Result<Asked, AllocError>
     requires fixed { list_all is_fixed arguments.now ≡ true }
     requires ready { IsReady (A.given around.now) forest.now.forest.nodes context.now }
+    ensures tells { IfOk result (λ told. Tells forest.now.forest.nodes told (own_argument (map trace arguments.now) (shape_at (A.given around.now) forest.now.forest.nodes context.now) (focus_of context.now))) }
     ensures stands { IfOk result (λ told. Stands forest.now.forest.nodes told) }
-    ensures told { IfOk result (λ told. Tells forest.now.forest.nodes told (own_argument (map trace arguments.now) (shape_at (A.given around.now) forest.now.forest.nodes context.now) (focus_of context.now))) }
 {
     match arguments.first() {
         Some(argument) => asked_of(alloc, forest, around, argument, context),
@@ -217,8 +226,8 @@ fn all_converted<A: Around>(
 ) -> Result<Asked, AllocError>
     requires fixed { list_all is_fixed arguments.now ≡ true }
     requires ready { IsReady (A.given around.now) forest.now.forest.nodes context.now }
+    ensures tells { IfOk result (λ told. Tells forest.now.forest.nodes told (all_converted (map trace arguments.now) (shape_at (A.given around.now) forest.now.forest.nodes context.now) (focus_of context.now))) }
     ensures stands { IfOk result (λ told. Stands forest.now.forest.nodes told) }
-    ensures told { IfOk result (λ told. Tells forest.now.forest.nodes told (all_converted (map trace arguments.now) (shape_at (A.given around.now) forest.now.forest.nodes context.now) (focus_of context.now))) }
 {
     let mut all = nothing(alloc);
     for argument in arguments {
@@ -239,8 +248,8 @@ fn one_converted<A: Around>(
 ) -> Result<Asked, AllocError>
     requires fixed { is_fixed argument.now ≡ true }
     requires ready { IsReady (A.given around.now) forest.now.forest.nodes context.now }
+    ensures tells { IfOk result (λ told. Tells forest.now.forest.nodes told (converted (shape_at (A.given around.now) forest.now.forest.nodes context.now) ((trace argument.now).asked (shape_at (A.given around.now) forest.now.forest.nodes context.now) (focus_of context.now)))) }
     ensures stands { IfOk result (λ told. Stands forest.now.forest.nodes told) }
-    ensures told { IfOk result (λ told. Tells forest.now.forest.nodes told (converted (shape_at (A.given around.now) forest.now.forest.nodes context.now) ((trace argument.now).asked (shape_at (A.given around.now) forest.now.forest.nodes context.now) (focus_of context.now)))) }
 {
     let asked = asked_of(alloc, forest, around, argument, context)?;
     converted(alloc, forest, asked)

@@ -16,7 +16,10 @@ ghost use Rattle.xf_asked.specs.Tells.{Stands, Tells};
 use crate::arguments::call_asked;
 use crate::ways::way_of;
 use std::alloc::{AllocError, Global};
-use xf_asked::{Asked, as_truth, both, compared, computed, converted, either, filtered, nothing, tightly, walks_asked};
+use xf_asked::{
+    Asked, as_truth, both, compared, computed, converted, either, filtered, nothing, tightly,
+    walks_asked,
+};
 use xf_ast::{Expr, Link, Operator};
 use xf_eval::{Around, kind_of};
 use xf_lang::Context;
@@ -34,13 +37,14 @@ pub(crate) fn asked_of<A: Around>(
 ) -> Result<Asked, AllocError>
     requires fixed { is_fixed expr.now ≡ true }
     requires ready { IsReady (A.given around.now) forest.now.forest.nodes context.now }
+    ensures tells { IfOk result (λ told. Tells forest.now.forest.nodes told ((trace expr.now).asked (shape_at (A.given around.now) forest.now.forest.nodes context.now) (focus_of context.now))) }
     ensures stands { IfOk result (λ told. Stands forest.now.forest.nodes told) }
-    ensures told { IfOk result (λ told. Tells forest.now.forest.nodes told ((trace expr.now).asked (shape_at (A.given around.now) forest.now.forest.nodes context.now) (focus_of context.now))) }
 {
     match expr {
         Expr::Number(_, _) | Expr::Literal(_, _) => Ok(nothing(alloc)),
         Expr::Call(_, code, arguments) => {
-            let way = way_of(kind_of(*code));
+            let kind = kind_of(*code);
+            let way = way_of(kind);
             call_asked(alloc, forest, around, way, arguments.as_slice(), context)
         }
         Expr::Negated(_, _, operand) => {
@@ -80,8 +84,8 @@ fn links_asked<A: Around>(
     requires fixed { list_all is_fixed_link links.now ≡ true }
     requires ready { IsReady (A.given around.now) forest.now.forest.nodes context.now }
     requires first { Stands forest.now.forest.nodes first }
+    ensures tells { IfOk result (λ told. (a : lang.Asked) → Tells forest.now.forest.nodes first a → Tells forest.now.forest.nodes told (links_asked (map trace_of_link links.now) (shape_at (A.given around.now) forest.now.forest.nodes context.now) (focus_of context.now) a)) }
     ensures stands { IfOk result (λ told. Stands forest.now.forest.nodes told) }
-    ensures told { IfOk result (λ told. (a : lang.Asked) → Tells forest.now.forest.nodes first a → Tells forest.now.forest.nodes told (links_asked (map trace_of_link links.now) (shape_at (A.given around.now) forest.now.forest.nodes context.now) (focus_of context.now) a)) }
 {
     let mut left = first;
     for link in links {
@@ -103,8 +107,8 @@ fn linked<A: Around>(
     requires fixed { is_fixed_link link.now ≡ true }
     requires ready { IsReady (A.given around.now) forest.now.forest.nodes context.now }
     requires left { Stands forest.now.forest.nodes left }
+    ensures tells { IfOk result (λ told. (a : lang.Asked) → Tells forest.now.forest.nodes left a → Tells forest.now.forest.nodes told (link_asked link.now.operator (shape_at (A.given around.now) forest.now.forest.nodes context.now) a ((trace link.now.right).asked (shape_at (A.given around.now) forest.now.forest.nodes context.now) (focus_of context.now)))) }
     ensures stands { IfOk result (λ told. Stands forest.now.forest.nodes told) }
-    ensures told { IfOk result (λ told. (a : lang.Asked) → Tells forest.now.forest.nodes left a → Tells forest.now.forest.nodes told (link_asked link.now.operator (shape_at (A.given around.now) forest.now.forest.nodes context.now) a ((trace link.now.right).asked (shape_at (A.given around.now) forest.now.forest.nodes context.now) (focus_of context.now)))) }
 {
     let right = asked_of(alloc, forest, around, &link.right, context)?;
     operated(alloc, forest, link.operator, left, right)
@@ -120,8 +124,8 @@ fn operated(
 ) -> Result<Asked, AllocError>
     requires left { Stands forest.now.forest.nodes left }
     requires right { Stands forest.now.forest.nodes right }
+    ensures tells { IfOk result (λ told. (s : Setting) → s.all ≡ shaped forest.now.forest.nodes → (a b : lang.Asked) → Tells forest.now.forest.nodes left a → Tells forest.now.forest.nodes right b → Tells forest.now.forest.nodes told (link_asked operator s a b)) }
     ensures stands { IfOk result (λ told. Stands forest.now.forest.nodes told) }
-    ensures told { IfOk result (λ told. (s : Setting) → s.all ≡ shaped forest.now.forest.nodes → (a b : lang.Asked) → Tells forest.now.forest.nodes left a → Tells forest.now.forest.nodes right b → Tells forest.now.forest.nodes told (link_asked operator s a b)) }
 {
     match operator {
         Operator::Or | Operator::And => Ok(as_truth(alloc, both(alloc, left, right)?)),

@@ -1,6 +1,6 @@
 //! What a whole expression reads and looks at over the shape of a forest (XForms 1.1, appendix C): nodes in document order, each once.
 
-ghost use Rattle.std.specs.Prelude.{◌≡◌, ◌++◌, true, IfOk};
+ghost use Rattle.std.specs.Prelude.{◌≡◌, true, IfOk};
 ghost use Rattle.xf_funcs.specs.Called.{called};
 ghost use Rattle.xf_lang.specs.Asked.{converted};
 ghost use Rattle.xf_lang.specs.Meaning.{focus_of};
@@ -68,7 +68,8 @@ pub fn asks<A: Around>(
     requires ready { IsReady (A.given around.now) forest.now.forest.nodes context.now }
     ensures reads { IfOk result (λ lists. lists.0 ≡ reads_of called (A.given around.now) forest.now.forest.nodes expr.now context.now) }
     ensures looks { IfOk result (λ lists. lists.1 ≡ looks_of called (A.given around.now) forest.now.forest.nodes expr.now context.now) }
-    ensures live { IfOk result (λ lists. AllLive (lists.0 ++ lists.1) forest.now.forest.nodes) }
+    ensures reads_live { IfOk result (λ lists. AllLive lists.0 forest.now.forest.nodes) }
+    ensures looks_live { IfOk result (λ lists. AllLive lists.1 forest.now.forest.nodes) }
 {
     is_sound(forest);
     let told = text_asked(alloc, forest, around, expr, context)?;
@@ -87,8 +88,8 @@ fn text_asked<A: Around>(
 ) -> Result<Asked, AllocError>
     requires fixed { is_fixed expr.now ≡ true }
     requires ready { IsReady (A.given around.now) forest.now.forest.nodes context.now }
+    ensures tells { IfOk result (λ told. Tells forest.now.forest.nodes told (converted (shape_at (A.given around.now) forest.now.forest.nodes context.now) ((trace expr.now).asked (shape_at (A.given around.now) forest.now.forest.nodes context.now) (focus_of context.now)))) }
     ensures stands { IfOk result (λ told. Stands forest.now.forest.nodes told) }
-    ensures told { IfOk result (λ told. Tells forest.now.forest.nodes told (converted (shape_at (A.given around.now) forest.now.forest.nodes context.now) ((trace expr.now).asked (shape_at (A.given around.now) forest.now.forest.nodes context.now) (focus_of context.now)))) }
 {
     let asked = asked_of(alloc, forest, around, expr, context)?;
     converted(alloc, forest, asked)

@@ -1,0 +1,308 @@
+use Rattle.std.proofs.Common.{rules, tests, ◌≡◌, ◌≤◌, ◌+◌, ◌*◌, ◌<◌, ◌++◌, List, [], map, get_or, length, refl, sym, ap, ◌∙◌, subst, arith, inl, inr}
+use denote.Param.Weighed.{most}
+use Rattle.std.proofs.lemmas.Result.{IfOk-weaker}
+use Rattle.xf_ast.specs.declared.expr.Expr.{size-Expr}
+use Rattle.xf_ast.specs.declared.expr.Link.{Link, size-Link}
+use Rattle.xf_lang.specs.Asked.{both, plainly, tightly}
+use Rattle.xf_lang.specs.AskedCalls.{all_converted, links_asked}
+use Rattle.xf_lang.specs.AskedSteps.{filtered, walks_asked}
+use Rattle.xf_lang.specs.Binding.{as_list}
+use Rattle.xf_lang.specs.Meaning.{focus_of}
+use Rattle.xf_lang.specs.Reads.{trace, trace_of_link, trace_of_step}
+use Rattle.xf_eval.proofs.Falls.{chain-falls}
+use Rattle.xf_shape.specs.Fixed.{is_fixed}
+use Rattle.xf_shape.specs.Over.{shape_at}
+use Rattle.xf_shape.specs.Spots.{numbers_at}
+use Rattle.xf_shape.proofs.FixedEquations.{links-fixed, predicates-placed, path-fixed, from-fixed}
+use Rattle.xf_asked.specs.Tells.{Tells}
+use Rattle.xf_reads.specs.Ways.{asked_by, way_in, with_lists}
+use Rattle.xf_reads.proofs.Calls.{call-fixed-parts, way-asks}
+use Rattle.xf_reads.proofs.Levels.{number-asks, literal-asks, call-asks, negated-asks, chain-asks, filter-asks, path-asks, from-asks}
+use Rattle.xf_reads.proofs.Rounds.{link-of, links-round, links-end, one-of, all-start, all-round, all-end, argument-within, argument-past}
+use Rattle.xf_reads.proofs.+asks.Goals as goal
+
+pub expression::asked_of-returns-in-Number-clause-tells : goal.expression::asked_of-returns-in-Number-clause-tells
+expression::asked_of-returns-in-Number-clause-tells g t c =
+    let given = g.A.Around.given c.args.around.now in
+    let nodes = c.args.forest.now.forest.nodes in
+    let context = c.args.context.now in
+    let s = shape_at given nodes context in
+    let f = focus_of context in
+    let plain : (trace c.args.expr.now).asked s f ≡ plainly [] [] =
+    elim c.in-Number.is [
+      | inl a ↦ number-asks s f c.args.expr.now a.0 a.1 a.2
+      | inr b ↦ literal-asks s f c.args.expr.now b.0 b.1 b.2
+    ] in
+    subst (Tells nodes c.nothing.result) (sym plain) (c.nothing.ensures.tells nodes)
+
+pub expression::asked_of-returns-in-Call-clause-tells : goal.expression::asked_of-returns-in-Call-clause-tells
+expression::asked_of-returns-in-Call-clause-tells g t c =
+    let given = g.A.Around.given c.args.around.now in
+    let nodes = c.args.forest.now.forest.nodes in
+    let context = c.args.context.now in
+    let s = shape_at given nodes context in
+    let f = focus_of context in
+    let k = c.kind_of-kind.result in
+    let es = c.as_slice.result.now in
+    let fixed = sym (ap is_fixed c.in-Call.is) ∙ c.requires.fixed in
+    let same =
+    ap (λ w. asked_by w given context es s f) c.way_of-way.ensures
+    ∙ ap (λ l. asked_by (way_in k) given context l s f) c.as_slice.ensures
+    ∙ sym (call-asks s f c.args.expr.now c.in-Call.field-0 c.in-Call.code c.in-Call.arguments c.in-Call.is ∙ way-asks given nodes context k c.in-Call.field-0 c.in-Call.code c.in-Call.arguments c.kind_of-kind.ensures fixed) in
+    IfOk-weaker c.call_asked.result _ _ (λ told h. subst (Tells nodes told) same h) c.call_asked.ensures.tells
+
+pub expression::asked_of-returns-in_ok-asked-in-Negated-clause-tells : goal.expression::asked_of-returns-in_ok-asked-in-Negated-clause-tells
+expression::asked_of-returns-in_ok-asked-in-Negated-clause-tells g t c =
+    let given = g.A.Around.given c.args.around.now in
+    let nodes = c.args.forest.now.forest.nodes in
+    let context = c.args.context.now in
+    let s = shape_at given nodes context in
+    let f = focus_of context in
+    let part = subst (λ x. Tells nodes c.in_ok-asked-in-Negated.asked ((trace x).asked s f)) c.get.ensures c.in_ok-asked-in-Negated.ensures.tells in
+    IfOk-weaker c.converted.result _ _ (λ told h. subst (Tells nodes told) (sym (negated-asks s f c.args.expr.now c.in-Negated.field-0 c.in-Negated.field-1 c.in-Negated.operand c.in-Negated.is)) (h _ part)) c.converted.ensures.tells
+
+pub expression::asked_of-returns-in_ok-asked-in-Chain-clause-tells : goal.expression::asked_of-returns-in_ok-asked-in-Chain-clause-tells
+expression::asked_of-returns-in_ok-asked-in-Chain-clause-tells g t c =
+    let given = g.A.Around.given c.args.around.now in
+    let nodes = c.args.forest.now.forest.nodes in
+    let context = c.args.context.now in
+    let s = shape_at given nodes context in
+    let f = focus_of context in
+    let part = subst (λ x. Tells nodes c.in_ok-asked-in-Chain.asked ((trace x).asked s f)) c.get.ensures c.in_ok-asked-in-Chain.ensures.tells in
+    let same = ap (λ ls. links_asked (map trace_of_link ls) s f ((trace c.in-Chain.first).asked s f)) c.as_slice-in-Chain.ensures ∙ sym (chain-asks s f c.args.expr.now c.in-Chain.first c.in-Chain.links c.in-Chain.is) in
+    IfOk-weaker c.links_asked.result _ _ (λ told h. subst (Tells nodes told) same (h _ part)) c.links_asked.ensures.tells
+
+pub expression::asked_of-returns-in_ok-asked-in-Filter-clause-tells : goal.expression::asked_of-returns-in_ok-asked-in-Filter-clause-tells
+expression::asked_of-returns-in_ok-asked-in-Filter-clause-tells g t c =
+    let given = g.A.Around.given c.args.around.now in
+    let nodes = c.args.forest.now.forest.nodes in
+    let context = c.args.context.now in
+    let s = shape_at given nodes context in
+    let f = focus_of context in
+    let part = subst (λ x. Tells nodes c.in_ok-asked-in-Filter.asked ((trace x).asked s f)) c.get.ensures c.in_ok-asked-in-Filter.ensures.tells in
+    let same = ap (λ ps. filtered s (map trace ps) ((trace c.in-Filter.first).asked s f)) c.as_slice-in-Filter.ensures ∙ sym (filter-asks s f c.args.expr.now c.in-Filter.first c.in-Filter.predicates c.in-Filter.is) in
+    IfOk-weaker c.filtered.result _ _ (λ told h. subst (Tells nodes told) same (h _ part)) c.filtered.ensures.tells
+
+pub expression::asked_of-returns-in_ok-from-in-Path-clause-tells : goal.expression::asked_of-returns-in_ok-from-in-Path-clause-tells
+expression::asked_of-returns-in_ok-from-in-Path-clause-tells g t c =
+    let given = g.A.Around.given c.args.around.now in
+    let nodes = c.args.forest.now.forest.nodes in
+    let context = c.args.context.now in
+    let s = shape_at given nodes context in
+    let f = focus_of context in
+    let ns = numbers_at c.in_ok-from-in-Path.from.items in
+    let same =
+    ap (λ ss. walks_asked s (map trace_of_step ss) (tightly ns)) c.as_slice-in-Path.ensures
+    ∙ ap (λ l. walks_asked s (map trace_of_step c.in-Path.steps) (tightly l)) (c.in_ok-from-in-Path.ensures.value given)
+    ∙ sym (path-asks s f c.args.expr.now c.in-Path.field-0 c.in-Path.start c.in-Path.steps c.in-Path.is) in
+    IfOk-weaker c.walks_asked.result _ _ (λ told h. subst (Tells nodes told) same (h _ (c.tightly-asked.ensures.tells nodes))) c.walks_asked.ensures.tells
+
+pub expression::asked_of-returns-in_ok-asked-in-From-clause-tells : goal.expression::asked_of-returns-in_ok-asked-in-From-clause-tells
+expression::asked_of-returns-in_ok-asked-in-From-clause-tells g t c =
+    let given = g.A.Around.given c.args.around.now in
+    let nodes = c.args.forest.now.forest.nodes in
+    let context = c.args.context.now in
+    let s = shape_at given nodes context in
+    let f = focus_of context in
+    let part = subst (λ x. Tells nodes c.in_ok-asked-in-From.asked ((trace x).asked s f)) c.get.ensures c.in_ok-asked-in-From.ensures.tells in
+    let same = ap (λ ss. walks_asked s (map trace_of_step ss) ((trace c.in-From.first).asked s f)) c.as_slice-in-From.ensures ∙ sym (from-asks s f c.args.expr.now c.in-From.first c.in-From.steps c.in-From.is) in
+    IfOk-weaker c.walks_asked-in-From.result _ _ (λ told h. subst (Tells nodes told) same (h _ part)) c.walks_asked-in-From.ensures.tells
+
+pub expression::asked_of-links_asked-requires : goal.expression::asked_of-links_asked-requires
+expression::asked_of-links_asked-requires g t c =
+    let ls = c.as_slice-in-Chain.result.now in
+    let less : most size-Link ls < size-Expr c.args.expr.now = chain-falls c.args.expr.now c.in-Chain.first c.in-Chain.links ls c.in-Chain.is c.as_slice-in-Chain.ensures in
+    let falls : 4 * most size-Link ls + 1 < t = omega (arith, c.decreases, less) in
+    λ κs h. (falls, (search rules, (links-fixed c.args.expr.now c.in-Chain.first c.in-Chain.links ls c.in-Chain.is c.requires.fixed c.as_slice-in-Chain.ensures, (c.requires.ready, c.in_ok-asked-in-Chain.ensures.stands))))
+
+pub expression::asked_of-call_asked-requires : goal.expression::asked_of-call_asked-requires
+expression::asked_of-call_asked-requires g t c =
+    λ κs h. (search rules, (search rules, (call-fixed-parts c.args.expr.now c.in-Call.field-0 c.in-Call.code c.in-Call.arguments c.as_slice.result.now c.in-Call.is c.requires.fixed c.as_slice.ensures, c.requires.ready)))
+
+pub expression::asked_of-filtered-requires-clause-placed : goal.expression::asked_of-filtered-requires-clause-placed
+expression::asked_of-filtered-requires-clause-placed g t c =
+    predicates-placed c.args.expr.now c.in-Filter.first c.in-Filter.predicates c.as_slice-in-Filter.result.now c.in-Filter.is c.requires.fixed c.as_slice-in-Filter.ensures
+
+pub expression::asked_of-walks_asked-requires-clause-fixed : goal.expression::asked_of-walks_asked-requires-clause-fixed
+expression::asked_of-walks_asked-requires-clause-fixed g t c =
+    path-fixed c.args.expr.now c.in-Path.field-0 c.in-Path.start c.in-Path.steps c.as_slice-in-Path.result.now c.in-Path.is c.requires.fixed c.as_slice-in-Path.ensures
+
+pub expression::asked_of-walks_asked-requires-in-From-clause-fixed : goal.expression::asked_of-walks_asked-requires-in-From-clause-fixed
+expression::asked_of-walks_asked-requires-in-From-clause-fixed g t c =
+    from-fixed c.args.expr.now c.in-From.first c.in-From.steps c.as_slice-in-From.result.now c.in-From.is c.requires.fixed c.as_slice-in-From.ensures
+
+pub expression::links_asked-loop-link-preserved : goal.expression::links_asked-loop-link-preserved
+expression::links_asked-loop-link-preserved g t c =
+    let given = g.A.Around.given c.args.around.now in
+    let nodes = c.args.forest.now.forest.nodes in
+    let context = c.args.context.now in
+    let s = shape_at given nodes context in
+    let f = focus_of context in
+    let ls = c.args.links.now in
+    let i = c.loop-link.link-index in
+    let d = c.link-item.result in record {
+      stands = c.in_ok-left.ensures.stands;
+      tells = λ a h.
+          let p = c.loop-link.invariant.tells a h in (
+            link-of s f (get_or ls i d) p.0,
+            (
+              subst (λ (l : Link). Tells nodes c.in_ok-left.left (link-of s f l p.0)) c.link-item.is (c.in_ok-left.ensures.tells p.0 p.1),
+              links-round s f ls i d p.0 _ p.2 c.loop-link-test.true,
+            ),
+          );
+    }
+
+pub expression::links_asked-returns-clause-tells : goal.expression::links_asked-returns-clause-tells
+expression::links_asked-returns-clause-tells g t c =
+    let given = g.A.Around.given c.args.around.now in
+    let nodes = c.args.forest.now.forest.nodes in
+    let context = c.args.context.now in
+    let s = shape_at given nodes context in
+    let f = focus_of context in
+    λ a h.
+    let p = c.loop-link.invariant.tells a h in
+    subst (Tells nodes c.loop-link.left) (links-end s f c.args.links.now c.loop-link.link-index p.0 _ p.2 c.loop-link-test.false) p.1
+
+pub expression::linked-returns-in_ok-right-clause-tells : goal.expression::linked-returns-in_ok-right-clause-tells
+expression::linked-returns-in_ok-right-clause-tells g t c =
+    let given = g.A.Around.given c.args.around.now in
+    let nodes = c.args.forest.now.forest.nodes in
+    let context = c.args.context.now in
+    let s = shape_at given nodes context in
+    let f = focus_of context in
+    IfOk-weaker c.operated.result _ _ (λ told h a i. h s refl a _ i c.in_ok-right.ensures.tells) c.operated.ensures.tells
+
+pub arguments::call_asked-returns-in_ok-asked-in-Asking-clause-tells : goal.arguments::call_asked-returns-in_ok-asked-in-Asking-clause-tells
+arguments::call_asked-returns-in_ok-asked-in-Asking-clause-tells g t c =
+    let given = g.A.Around.given c.args.around.now in
+    let nodes = c.args.forest.now.forest.nodes in
+    let context = c.args.context.now in
+    let s = shape_at given nodes context in
+    let f = focus_of context in
+    subst (λ w. Tells nodes c.as_truth.result (asked_by w given context c.args.arguments.now s f)) (sym c.in-Asking.is) (c.as_truth.ensures.tells nodes _ c.in_ok-asked-in-Asking.ensures.tells)
+
+pub arguments::call_asked-returns-in_ok-asked-in-Instance-clause-tells : goal.arguments::call_asked-returns-in_ok-asked-in-Instance-clause-tells
+arguments::call_asked-returns-in_ok-asked-in-Instance-clause-tells g t c =
+    let given = g.A.Around.given c.args.around.now in
+    let nodes = c.args.forest.now.forest.nodes in
+    let context = c.args.context.now in
+    let s = shape_at given nodes context in
+    let f = focus_of context in
+    let es = c.args.arguments.now in
+    let same =
+    ap (λ m. with_lists s (as_list m) (all_converted (map trace es) s f)) (sym c.document.ensures.value)
+    ∙ ap (λ w. asked_by w given context es s f) (sym c.in-Instance.is) in
+    IfOk-weaker c.with_document.result _ _ (λ told h. subst (Tells nodes told) same (h s refl _ c.in_ok-asked-in-Instance.ensures.tells)) c.with_document.ensures.tells
+
+pub arguments::call_asked-returns-in_ok-asked-in-Own-clause-tells : goal.arguments::call_asked-returns-in_ok-asked-in-Own-clause-tells
+arguments::call_asked-returns-in_ok-asked-in-Own-clause-tells g t c =
+    let given = g.A.Around.given c.args.around.now in
+    let nodes = c.args.forest.now.forest.nodes in
+    let context = c.args.context.now in
+    let s = shape_at given nodes context in
+    let f = focus_of context in
+    IfOk-weaker c.part_asked.result _ _ (λ told h. subst (λ w. Tells nodes told (asked_by w given context c.args.arguments.now s f)) (sym c.in-Own.is) (h s refl _ c.in_ok-asked-in-Own.ensures.tells)) c.part_asked.ensures.tells
+
+pub arguments::call_asked-returns-in_ok-asked-in-One-clause-tells : goal.arguments::call_asked-returns-in_ok-asked-in-One-clause-tells
+arguments::call_asked-returns-in_ok-asked-in-One-clause-tells g t c =
+    let given = g.A.Around.given c.args.around.now in
+    let nodes = c.args.forest.now.forest.nodes in
+    let context = c.args.context.now in
+    let s = shape_at given nodes context in
+    let f = focus_of context in
+    IfOk-weaker c.part_asked.result _ _ (λ told h. subst (λ w. Tells nodes told (asked_by w given context c.args.arguments.now s f)) (sym c.in-One.is) (h s refl _ c.in_ok-asked-in-One.ensures.tells)) c.part_asked.ensures.tells
+
+pub arguments::chosen-returns-clause-tells : goal.arguments::chosen-returns-clause-tells
+arguments::chosen-returns-clause-tells g t c =
+    let given = g.A.Around.given c.args.around.now in
+    let nodes = c.args.forest.now.forest.nodes in
+    let context = c.args.context.now in
+    let s = shape_at given nodes context in
+    let f = focus_of context in
+    IfOk-weaker c.either-2.result _ _ (λ told h. h s refl _ _ (c.as_plain.ensures.tells nodes _ c.in_ok-condition.ensures.tells) (c.in_ok-branches.ensures.tells s refl _ _ c.in_ok-one.ensures.tells c.in_ok-other.ensures.tells)) c.either-2.ensures.tells
+
+pub arguments::branched-returns-clause-tells : goal.arguments::branched-returns-clause-tells
+arguments::branched-returns-clause-tells g t c =
+    let given = g.A.Around.given c.args.around.now in
+    let nodes = c.args.forest.now.forest.nodes in
+    let context = c.args.context.now in
+    let s = shape_at given nodes context in
+    let f = focus_of context in
+    IfOk-weaker c.both.result _ _ (λ told h. h nodes _ _ c.in_ok-condition.ensures.tells (c.in_ok-branches.ensures.tells s refl _ _ c.in_ok-one.ensures.tells c.in_ok-other.ensures.tells)) c.both.ensures.tells
+
+pub arguments::argument-returns-in-Some-clause-tells : goal.arguments::argument-returns-in-Some-clause-tells
+arguments::argument-returns-in-Some-clause-tells g t c =
+    let given = g.A.Around.given c.args.around.now in
+    let nodes = c.args.forest.now.forest.nodes in
+    let context = c.args.context.now in
+    let s = shape_at given nodes context in
+    let f = focus_of context in
+    let es = c.args.arguments.now in
+    let small : c.args.at < length es = search (rules, tests) in
+    let same = ap (λ x. (trace x).asked s f) c.in-Some.ensures.lookup.1 ∙ sym (argument-within s f es c.args.at _ small) in
+    IfOk-weaker c.asked_of.result _ _ (λ told h. subst (Tells nodes told) same h) c.asked_of.ensures.tells
+
+pub arguments::argument-returns-in-None-clause-tells : goal.arguments::argument-returns-in-None-clause-tells
+arguments::argument-returns-in-None-clause-tells g t c =
+    let given = g.A.Around.given c.args.around.now in
+    let nodes = c.args.forest.now.forest.nodes in
+    let context = c.args.context.now in
+    let s = shape_at given nodes context in
+    let f = focus_of context in
+    let large : length c.args.arguments.now ≤ c.args.at = omega (arith, c.in-None.ensures.lookup.3) in
+    subst (Tells nodes c.nothing.result) (sym (argument-past s f c.args.arguments.now c.args.at large)) (c.nothing.ensures.tells nodes)
+
+pub arguments::all_converted-loop-argument-init : goal.arguments::all_converted-loop-argument-init
+arguments::all_converted-loop-argument-init g t c =
+    let given = g.A.Around.given c.args.around.now in
+    let nodes = c.args.forest.now.forest.nodes in
+    let context = c.args.context.now in
+    let s = shape_at given nodes context in
+    let f = focus_of context in
+    record {
+      stands = c.nothing-all.ensures.stands nodes;
+      tells = ([], ([], (c.nothing-all.ensures.tells nodes, all-start s f c.args.arguments.now)));
+    }
+
+pub arguments::all_converted-loop-argument-preserved : goal.arguments::all_converted-loop-argument-preserved
+arguments::all_converted-loop-argument-preserved g t c =
+    let given = g.A.Around.given c.args.around.now in
+    let nodes = c.args.forest.now.forest.nodes in
+    let context = c.args.context.now in
+    let s = shape_at given nodes context in
+    let f = focus_of context in
+    let es = c.args.arguments.now in
+    let i = c.loop-argument.argument-index in
+    let d = c.argument-item.result in
+    let p = c.loop-argument.invariant.tells in record {
+      stands = c.in_ok-all.ensures.stands nodes c.loop-argument.invariant.stands c.in_ok-one.ensures.stands;
+      tells = (
+        p.0 ++ (one-of s f (get_or es i d)).reads,
+        (
+          p.1 ++ (one-of s f (get_or es i d)).looks,
+          (
+            subst (λ x. Tells nodes c.in_ok-all.all (both (plainly p.0 p.1) (one-of s f x))) c.argument-item.is (c.in_ok-all.ensures.tells nodes _ _ p.2 c.in_ok-one.ensures.tells),
+            all-round s f es i d p.0 p.1 _ p.3 c.loop-argument-test.true,
+          ),
+        ),
+      );
+    }
+
+pub arguments::all_converted-returns-clause-tells : goal.arguments::all_converted-returns-clause-tells
+arguments::all_converted-returns-clause-tells g t c =
+    let given = g.A.Around.given c.args.around.now in
+    let nodes = c.args.forest.now.forest.nodes in
+    let context = c.args.context.now in
+    let s = shape_at given nodes context in
+    let f = focus_of context in
+    let p = c.loop-argument.invariant.tells in
+    subst (Tells nodes c.loop-argument.all) (all-end s f c.args.arguments.now c.loop-argument.argument-index p.0 p.1 _ p.3 c.loop-argument-test.false) p.2
+
+pub arguments::one_converted-returns-clause-tells : goal.arguments::one_converted-returns-clause-tells
+arguments::one_converted-returns-clause-tells g t c =
+    let given = g.A.Around.given c.args.around.now in
+    let nodes = c.args.forest.now.forest.nodes in
+    let context = c.args.context.now in
+    let s = shape_at given nodes context in
+    let f = focus_of context in
+    IfOk-weaker c.converted.result _ _ (λ told h. h _ c.in_ok-asked.ensures.tells) c.converted.ensures.tells
