@@ -5,7 +5,7 @@ ghost use Rattle.xf_doc.specs.Axis.{axis_of};
 ghost use Rattle.xf_doc.specs.Forest.{IsLive};
 ghost use Rattle.xf_doc.specs.Visit.{parent_of, visits};
 ghost use Rattle.xf_lang.specs.Asked.{as_list, list_around, lists_below, read_for};
-ghost use Rattle.xf_lang.specs.AskedSteps.{kind_read, lists_of};
+ghost use Rattle.xf_lang.specs.AskedSteps.{kind_read, lists_of, read_if};
 ghost use Rattle.xf_shape.specs.Spots.{is_spot, number_at, shaped};
 ghost use Rattle.xf_asked.specs.Lists.{has_list_of, reader_at};
 ghost use Rattle.xf_asked.specs.Tells.{is_list};
@@ -135,19 +135,40 @@ pub(crate) fn push_looks(
     }
 }
 
-/// Puts what a written `text()` or `node()` reads from a node on an axis behind the others.
+/// Puts what a `text()` or `node()` reads from a node on an axis behind the others, where it is written and can meet texts.
 pub(crate) fn push_kind_read(
     forest: &Forest,
+    tells_kinds: bool,
     axis: Axis,
     spot: Spot,
     reads: &mut NodeList,
 ) -> Result<(), AllocError>
     requires { is_spot forest.now.forest.nodes spot ≡ true }
-    ensures { OnOk result (reads.new ≡ reads.old ++ kind_read axis (shaped forest.now.forest.nodes) (number_at spot)) }
+    ensures { OnOk result (reads.new ≡ reads.old ++ read_if tells_kinds (kind_read axis (shaped forest.now.forest.nodes) (number_at spot))) }
 {
+    if !tells_kinds {
+        return Ok(());
+    }
     match axis {
         Axis::Child | Axis::Descendant | Axis::DescendantOrSelf => push_read(forest, spot, reads),
         Axis::FollowingSibling | Axis::PrecedingSibling => push_around(forest, spot, reads),
         _ => Ok(()),
+    }
+}
+
+/// Puts the node that is read for a node behind the others, where it is asked for.
+pub(crate) fn push_read_if(
+    forest: &Forest,
+    is_asked: bool,
+    spot: Spot,
+    reads: &mut NodeList,
+) -> Result<(), AllocError>
+    requires { is_spot forest.now.forest.nodes spot ≡ true }
+    ensures { OnOk result (reads.new ≡ reads.old ++ read_if is_asked (read_for (shaped forest.now.forest.nodes) (number_at spot))) }
+{
+    if is_asked {
+        push_read(forest, spot, reads)
+    } else {
+        Ok(())
     }
 }

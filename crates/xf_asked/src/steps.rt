@@ -13,7 +13,7 @@ ghost use Rattle.xf_shape.specs.Spots.{AreSpots, numbers_at, shaped};
 ghost use Rattle.xf_asked.specs.Tells.{Stands, Tells, is_list};
 
 use crate::asked::{Asked, as_set};
-use crate::lists::{push_below, push_kind_read, push_looks, push_read};
+use crate::lists::{push_below, push_kind_read, push_looks, push_read_if};
 use std::alloc::{AllocError, Global};
 use xf_ast::{Expr, Step};
 use xf_doc::NodeList;
@@ -38,11 +38,11 @@ pub fn walks_asked<A: Around>(
     ensures tells { IfOk result (λ told. (a : lang.Asked) → Tells forest.now.forest.nodes asked a → Tells forest.now.forest.nodes told (walks_asked (shape_at (A.given around.now) forest.now.forest.nodes context.now) (map trace_of_step steps.now) a)) }
     ensures stands { IfOk result (λ told. Stands forest.now.forest.nodes told) }
 {
-    let mut left = as_set(asked);
+    let mut left = asked;
     for step in steps {
         left = step_asked(alloc, forest, around, step, left, context)?;
     }
-    Ok(left)
+    Ok(as_set(left))
 }
 
 /// What a step asks from what was asked before.
@@ -138,9 +138,7 @@ fn push_from(
 {
     let tells_kinds = tells_kinds(step);
     for spot in from {
-        if tells_kinds {
-            push_kind_read(forest, step.axis, *spot, reads)?;
-        }
+        push_kind_read(forest, tells_kinds, step.axis, *spot, reads)?;
         push_looks(forest, step.axis, *spot, looks)?;
     }
     Ok(())
@@ -160,9 +158,7 @@ fn push_above(
 {
     let is_pair = is_pair(step);
     for spot in set {
-        if is_pair {
-            push_read(forest, *spot, reads)?;
-        }
+        push_read_if(forest, is_pair, *spot, reads)?;
         push_below(forest, *spot, looks)?;
     }
     Ok(())
