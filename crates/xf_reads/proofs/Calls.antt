@@ -1,7 +1,8 @@
 -- What a call asks by the table of functions is what it asks as the walk tells functions apart.
-use Rattle.std.proofs.Common.{◌≡◌, ℕ, List, [], ◌∷◌, map, Option, Some, None, option_map, refl, sym, ap, ◌∙◌, true}
+use Rattle.std.proofs.Common.{rules, ◌≡◌, ◌<◌, ℕ, List, [], ◌∷◌, map, Option, Some, None, option_map, refl, sym, ap, ◌∙◌, true}
 use Rattle.std.specs.List.{list_all}
-use Rattle.xf_ast.specs.declared.expr.Expr.{Expr}
+use denote.Param.Weighed.{most}
+use Rattle.xf_ast.specs.declared.expr.Expr.{Expr, size-Expr, the_lemmas}
 use Rattle.xf_ast.specs.declared.expr.Expr.TheVariants as e
 use Rattle.xf_doc.specs.declared.content.Node.{Node}
 use Rattle.xf_doc.proofs.BackLaws.{and-true}
@@ -31,7 +32,9 @@ use Rattle.xf_shape.specs.Over.{nodes_at, shape_at}
 use Rattle.xf_shape.proofs.FixedEquations.{fixed-Call}
 use Rattle.xf_shape.proofs.Results.{all-mapped}
 use Rattle.xf_shape.proofs.Values.{call-are}
+use Rattle.xf_reads.specs.declared.ways.Way.{Way}
 use Rattle.xf_reads.specs.Ways.{asked_by, way_in, with_lists}
+use Rattle.xf_reads.proofs.Levels.{call-asks}
 
 -- the meanings beside what is asked
 traced-meanings : (es : List Expr) → meanings (map trace es) ≡ map meaning es
@@ -97,6 +100,14 @@ module _ (given : Given) (nodes : List Node) (context : Context) where
       by kind.Last i = refl
       by kind.Position i = refl
 
+  -- the whole, by what the calls give
+  pub call-told : (k : Kind) (w : Way) (x : Expr) (place code : ℕ) (arguments es : List Expr) → w ≡ way_in k → function_in k ≡ function_at code → x ≡ e.Call place code arguments → is_fixed x ≡ true → es ≡ arguments →
+      asked_by w given context es s c ≡ (trace x).asked s c
+  call-told k w x place code arguments es h f i fixed same =
+      ap (λ v. asked_by v given context es s c) h
+      ∙ ap (λ l. asked_by (way_in k) given context l s c) same
+      ∙ sym (call-asks s c x place code arguments i ∙ way-asks k place code arguments f (sym (ap is_fixed i) ∙ fixed))
+
 -- the arguments of a fixed call are fixed
 fixed-parts : (function : Function) (xs : List Fixed) → call_fixed function xs ≡ true → all_fixed xs ≡ true
 fixed-parts of.asking xs h = h
@@ -130,3 +141,7 @@ call-fixed-parts x place code arguments es i h same =
     ap (list_all is_fixed) same
     ∙ all-mapped (λ (f : Fixed). f.is_fixed) fixed_of arguments
     ∙ fixed-parts (function_at code) (map fixed_of arguments) (sym (ap is_fixed i ∙ ap (λ (f : Fixed). f.is_fixed) (fixed-Call place code arguments)) ∙ h)
+
+-- and less deep than the call
+pub call-falls : (x : Expr) (place code : ℕ) (arguments es : List Expr) → x ≡ e.Call place code arguments → es ≡ arguments → most size-Expr es < size-Expr x
+call-falls x place code arguments es h i = search (rules, the_lemmas)

@@ -3,4 +3,4 @@ pub mod Calls
 pub mod Rounds
 pub mod Around
 pub mod Ends
-pub mod Whole
+pub mod Wholes

@@ -237,9 +237,9 @@ fn all_converted<A: Around>(
     Ok(all)
 }
 
-/// An argument of which a text or number is made.
+/// A part of which a text or number is made.
 #[cycle(asks)]
-fn one_converted<A: Around>(
+pub(crate) fn one_converted<A: Around>(
     alloc: Global,
     forest: &Forest,
     around: &A,

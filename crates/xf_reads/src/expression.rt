@@ -13,12 +13,11 @@ ghost use Rattle.xf_shape.specs.Over.{shape_at};
 ghost use Rattle.xf_shape.specs.Spots.{shaped};
 ghost use Rattle.xf_asked.specs.Tells.{Stands, Tells};
 
-use crate::arguments::call_asked;
+use crate::arguments::{call_asked, one_converted};
 use crate::ways::way_of;
 use std::alloc::{AllocError, Global};
 use xf_asked::{
-    Asked, as_truth, both, compared, computed, converted, either, filtered, nothing, tightly,
-    walks_asked,
+    Asked, as_truth, both, compared, computed, either, filtered, nothing, tightly, walks_asked,
 };
 use xf_ast::{Expr, Link, Operator};
 use xf_eval::{Around, kind_of};
@@ -48,8 +47,7 @@ pub(crate) fn asked_of<A: Around>(
             call_asked(alloc, forest, around, way, arguments.as_slice(), context)
         }
         Expr::Negated(_, _, operand) => {
-            let asked = asked_of(alloc, forest, around, operand.get(), context)?;
-            converted(alloc, forest, asked)
+            one_converted(alloc, forest, around, operand.get(), context)
         }
         Expr::Chain(first, links) => {
             let asked = asked_of(alloc, forest, around, first.get(), context)?;

@@ -3,21 +3,20 @@ use denote.Param.Weighed.{most}
 use Rattle.std.proofs.lemmas.Result.{IfOk-weaker}
 use Rattle.xf_ast.specs.declared.expr.Expr.{size-Expr}
 use Rattle.xf_ast.specs.declared.expr.Link.{Link, size-Link}
-use Rattle.xf_lang.specs.Asked.{both, plainly, tightly}
+use Rattle.xf_lang.specs.Asked.{both, converted, plainly, tightly}
 use Rattle.xf_lang.specs.AskedCalls.{all_converted, links_asked}
 use Rattle.xf_lang.specs.AskedSteps.{filtered, walks_asked}
 use Rattle.xf_lang.specs.Binding.{as_list}
 use Rattle.xf_lang.specs.Meaning.{focus_of}
 use Rattle.xf_lang.specs.Reads.{trace, trace_of_link, trace_of_step}
 use Rattle.xf_eval.proofs.Falls.{chain-falls}
-use Rattle.xf_shape.specs.Fixed.{is_fixed}
 use Rattle.xf_shape.specs.Over.{shape_at}
 use Rattle.xf_shape.specs.Spots.{numbers_at}
 use Rattle.xf_shape.proofs.FixedEquations.{links-fixed, predicates-placed, path-fixed, from-fixed}
 use Rattle.xf_asked.specs.Tells.{Tells}
-use Rattle.xf_reads.specs.Ways.{asked_by, way_in, with_lists}
-use Rattle.xf_reads.proofs.Calls.{call-fixed-parts, way-asks}
-use Rattle.xf_reads.proofs.Levels.{number-asks, literal-asks, call-asks, negated-asks, chain-asks, filter-asks, path-asks, from-asks}
+use Rattle.xf_reads.specs.Ways.{asked_by, with_lists}
+use Rattle.xf_reads.proofs.Calls.{call-falls, call-fixed-parts, call-told}
+use Rattle.xf_reads.proofs.Levels.{number-asks, literal-asks, negated-asks, chain-asks, filter-asks, path-asks, from-asks}
 use Rattle.xf_reads.proofs.Rounds.{link-of, links-round, links-end, one-of, all-start, all-round, all-end, argument-within, argument-past}
 use Rattle.xf_reads.proofs.+asks.Goals as goal
 
@@ -42,24 +41,26 @@ expression::asked_of-returns-in-Call-clause-tells g t c =
     let context = c.args.context.now in
     let s = shape_at given nodes context in
     let f = focus_of context in
-    let k = c.kind_of-kind.result in
-    let es = c.as_slice.result.now in
-    let fixed = sym (ap is_fixed c.in-Call.is) ∙ c.requires.fixed in
-    let same =
-    ap (λ w. asked_by w given context es s f) c.way_of-way.ensures
-    ∙ ap (λ l. asked_by (way_in k) given context l s f) c.as_slice.ensures
-    ∙ sym (call-asks s f c.args.expr.now c.in-Call.field-0 c.in-Call.code c.in-Call.arguments c.in-Call.is ∙ way-asks given nodes context k c.in-Call.field-0 c.in-Call.code c.in-Call.arguments c.kind_of-kind.ensures fixed) in
+    let same = call-told given nodes context c.kind_of-kind.result c.way_of-way.result c.args.expr.now c.in-Call.field-0 c.in-Call.code c.in-Call.arguments c.as_slice.result.now c.way_of-way.ensures c.kind_of-kind.ensures c.in-Call.is c.requires.fixed c.as_slice.ensures in
     IfOk-weaker c.call_asked.result _ _ (λ told h. subst (Tells nodes told) same h) c.call_asked.ensures.tells
 
-pub expression::asked_of-returns-in_ok-asked-in-Negated-clause-tells : goal.expression::asked_of-returns-in_ok-asked-in-Negated-clause-tells
-expression::asked_of-returns-in_ok-asked-in-Negated-clause-tells g t c =
+pub expression::asked_of-returns-in-Number-clause-stands : goal.expression::asked_of-returns-in-Number-clause-stands
+expression::asked_of-returns-in-Number-clause-stands g t c =
+    c.nothing.ensures.stands c.args.forest.now.forest.nodes
+
+pub expression::asked_of-walks_asked-requires-clause-stands : goal.expression::asked_of-walks_asked-requires-clause-stands
+expression::asked_of-walks_asked-requires-clause-stands g t c =
+    c.tightly-asked.ensures.stands c.args.forest.now.forest.nodes c.in_ok-from-in-Path.ensures.spots
+
+pub expression::asked_of-returns-in-Negated-clause-tells : goal.expression::asked_of-returns-in-Negated-clause-tells
+expression::asked_of-returns-in-Negated-clause-tells g t c =
     let given = g.A.Around.given c.args.around.now in
     let nodes = c.args.forest.now.forest.nodes in
     let context = c.args.context.now in
     let s = shape_at given nodes context in
     let f = focus_of context in
-    let part = subst (λ x. Tells nodes c.in_ok-asked-in-Negated.asked ((trace x).asked s f)) c.get.ensures c.in_ok-asked-in-Negated.ensures.tells in
-    IfOk-weaker c.converted.result _ _ (λ told h. subst (Tells nodes told) (sym (negated-asks s f c.args.expr.now c.in-Negated.field-0 c.in-Negated.field-1 c.in-Negated.operand c.in-Negated.is)) (h _ part)) c.converted.ensures.tells
+    let same = ap (λ y. converted s ((trace y).asked s f)) c.get.ensures ∙ sym (negated-asks s f c.args.expr.now c.in-Negated.field-0 c.in-Negated.field-1 c.in-Negated.operand c.in-Negated.is) in
+    IfOk-weaker c.one_converted.result _ _ (λ told h. subst (Tells nodes told) same h) c.one_converted.ensures.tells
 
 pub expression::asked_of-returns-in_ok-asked-in-Chain-clause-tells : goal.expression::asked_of-returns-in_ok-asked-in-Chain-clause-tells
 expression::asked_of-returns-in_ok-asked-in-Chain-clause-tells g t c =
@@ -68,7 +69,7 @@ expression::asked_of-returns-in_ok-asked-in-Chain-clause-tells g t c =
     let context = c.args.context.now in
     let s = shape_at given nodes context in
     let f = focus_of context in
-    let part = subst (λ x. Tells nodes c.in_ok-asked-in-Chain.asked ((trace x).asked s f)) c.get.ensures c.in_ok-asked-in-Chain.ensures.tells in
+    let part = subst (λ x. Tells nodes c.in_ok-asked-in-Chain.asked ((trace x).asked s f)) c.get-in-Chain.ensures c.in_ok-asked-in-Chain.ensures.tells in
     let same = ap (λ ls. links_asked (map trace_of_link ls) s f ((trace c.in-Chain.first).asked s f)) c.as_slice-in-Chain.ensures ∙ sym (chain-asks s f c.args.expr.now c.in-Chain.first c.in-Chain.links c.in-Chain.is) in
     IfOk-weaker c.links_asked.result _ _ (λ told h. subst (Tells nodes told) same (h _ part)) c.links_asked.ensures.tells
 
@@ -79,7 +80,7 @@ expression::asked_of-returns-in_ok-asked-in-Filter-clause-tells g t c =
     let context = c.args.context.now in
     let s = shape_at given nodes context in
     let f = focus_of context in
-    let part = subst (λ x. Tells nodes c.in_ok-asked-in-Filter.asked ((trace x).asked s f)) c.get.ensures c.in_ok-asked-in-Filter.ensures.tells in
+    let part = subst (λ x. Tells nodes c.in_ok-asked-in-Filter.asked ((trace x).asked s f)) c.get-in-Filter.ensures c.in_ok-asked-in-Filter.ensures.tells in
     let same = ap (λ ps. filtered s (map trace ps) ((trace c.in-Filter.first).asked s f)) c.as_slice-in-Filter.ensures ∙ sym (filter-asks s f c.args.expr.now c.in-Filter.first c.in-Filter.predicates c.in-Filter.is) in
     IfOk-weaker c.filtered.result _ _ (λ told h. subst (Tells nodes told) same (h _ part)) c.filtered.ensures.tells
 
@@ -104,7 +105,7 @@ expression::asked_of-returns-in_ok-asked-in-From-clause-tells g t c =
     let context = c.args.context.now in
     let s = shape_at given nodes context in
     let f = focus_of context in
-    let part = subst (λ x. Tells nodes c.in_ok-asked-in-From.asked ((trace x).asked s f)) c.get.ensures c.in_ok-asked-in-From.ensures.tells in
+    let part = subst (λ x. Tells nodes c.in_ok-asked-in-From.asked ((trace x).asked s f)) c.get-in-From.ensures c.in_ok-asked-in-From.ensures.tells in
     let same = ap (λ ss. walks_asked s (map trace_of_step ss) ((trace c.in-From.first).asked s f)) c.as_slice-in-From.ensures ∙ sym (from-asks s f c.args.expr.now c.in-From.first c.in-From.steps c.in-From.is) in
     IfOk-weaker c.walks_asked-in-From.result _ _ (λ told h. subst (Tells nodes told) same (h _ part)) c.walks_asked-in-From.ensures.tells
 
@@ -117,7 +118,10 @@ expression::asked_of-links_asked-requires g t c =
 
 pub expression::asked_of-call_asked-requires : goal.expression::asked_of-call_asked-requires
 expression::asked_of-call_asked-requires g t c =
-    λ κs h. (search rules, (search rules, (call-fixed-parts c.args.expr.now c.in-Call.field-0 c.in-Call.code c.in-Call.arguments c.as_slice.result.now c.in-Call.is c.requires.fixed c.as_slice.ensures, c.requires.ready)))
+    let es = c.as_slice.result.now in
+    let less : most size-Expr es < size-Expr c.args.expr.now = call-falls c.args.expr.now c.in-Call.field-0 c.in-Call.code c.in-Call.arguments es c.in-Call.is c.as_slice.ensures in
+    let falls : 4 * most size-Expr es + 3 < t = omega (arith, c.decreases, less) in
+    λ κs h. (falls, (search rules, (call-fixed-parts c.args.expr.now c.in-Call.field-0 c.in-Call.code c.in-Call.arguments es c.in-Call.is c.requires.fixed c.as_slice.ensures, c.requires.ready)))
 
 pub expression::asked_of-filtered-requires-clause-placed : goal.expression::asked_of-filtered-requires-clause-placed
 expression::asked_of-filtered-requires-clause-placed g t c =
@@ -145,10 +149,8 @@ expression::links_asked-loop-link-preserved g t c =
       tells = λ a h.
           let p = c.loop-link.invariant.tells a h in (
             link-of s f (get_or ls i d) p.0,
-            (
-              subst (λ (l : Link). Tells nodes c.in_ok-left.left (link-of s f l p.0)) c.link-item.is (c.in_ok-left.ensures.tells p.0 p.1),
-              links-round s f ls i d p.0 _ p.2 c.loop-link-test.true,
-            ),
+            subst (λ (l : Link). Tells nodes c.in_ok-left.left (link-of s f l p.0)) c.link-item.is (c.in_ok-left.ensures.tells p.0 p.1),
+            links-round s f ls i d p.0 _ p.2 c.loop-link-test.true,
           );
     }
 
@@ -163,14 +165,40 @@ expression::links_asked-returns-clause-tells g t c =
     let p = c.loop-link.invariant.tells a h in
     subst (Tells nodes c.loop-link.left) (links-end s f c.args.links.now c.loop-link.link-index p.0 _ p.2 c.loop-link-test.false) p.1
 
-pub expression::linked-returns-in_ok-right-clause-tells : goal.expression::linked-returns-in_ok-right-clause-tells
-expression::linked-returns-in_ok-right-clause-tells g t c =
+pub expression::linked-returns-clause-tells : goal.expression::linked-returns-clause-tells
+expression::linked-returns-clause-tells g t c =
     let given = g.A.Around.given c.args.around.now in
     let nodes = c.args.forest.now.forest.nodes in
     let context = c.args.context.now in
     let s = shape_at given nodes context in
     let f = focus_of context in
     IfOk-weaker c.operated.result _ _ (λ told h a i. h s refl a _ i c.in_ok-right.ensures.tells) c.operated.ensures.tells
+
+pub arguments::call_asked-returns-in-Nothing-clause-tells : goal.arguments::call_asked-returns-in-Nothing-clause-tells
+arguments::call_asked-returns-in-Nothing-clause-tells g t c =
+    let given = g.A.Around.given c.args.around.now in
+    let nodes = c.args.forest.now.forest.nodes in
+    let context = c.args.context.now in
+    let s = shape_at given nodes context in
+    let f = focus_of context in
+    subst (λ w. Tells nodes c.nothing.result (asked_by w given context c.args.arguments.now s f)) (sym c.in-Nothing.is) (c.nothing.ensures.tells nodes)
+
+pub arguments::call_asked-returns-in-Nothing-clause-stands : goal.arguments::call_asked-returns-in-Nothing-clause-stands
+arguments::call_asked-returns-in-Nothing-clause-stands g t c =
+    c.nothing.ensures.stands c.args.forest.now.forest.nodes
+
+pub arguments::call_asked-returns-in-Truth-clause-tells : goal.arguments::call_asked-returns-in-Truth-clause-tells
+arguments::call_asked-returns-in-Truth-clause-tells g t c =
+    let given = g.A.Around.given c.args.around.now in
+    let nodes = c.args.forest.now.forest.nodes in
+    let context = c.args.context.now in
+    let s = shape_at given nodes context in
+    let f = focus_of context in
+    subst (λ w. Tells nodes c.as_truth.result (asked_by w given context c.args.arguments.now s f)) (sym c.in-Truth.is) (c.as_truth.ensures.tells nodes _ (c.nothing-in-Truth.ensures.tells nodes))
+
+pub arguments::call_asked-returns-in-Truth-clause-stands : goal.arguments::call_asked-returns-in-Truth-clause-stands
+arguments::call_asked-returns-in-Truth-clause-stands g t c =
+    let nodes = c.args.forest.now.forest.nodes in c.as_truth.ensures.stands nodes (c.nothing-in-Truth.ensures.stands nodes)
 
 pub arguments::call_asked-returns-in_ok-asked-in-Asking-clause-tells : goal.arguments::call_asked-returns-in_ok-asked-in-Asking-clause-tells
 arguments::call_asked-returns-in_ok-asked-in-Asking-clause-tells g t c =
@@ -179,7 +207,7 @@ arguments::call_asked-returns-in_ok-asked-in-Asking-clause-tells g t c =
     let context = c.args.context.now in
     let s = shape_at given nodes context in
     let f = focus_of context in
-    subst (λ w. Tells nodes c.as_truth.result (asked_by w given context c.args.arguments.now s f)) (sym c.in-Asking.is) (c.as_truth.ensures.tells nodes _ c.in_ok-asked-in-Asking.ensures.tells)
+    subst (λ w. Tells nodes c.as_truth-in-Asking.result (asked_by w given context c.args.arguments.now s f)) (sym c.in-Asking.is) (c.as_truth-in-Asking.ensures.tells nodes _ c.in_ok-asked-in-Asking.ensures.tells)
 
 pub arguments::call_asked-returns-in_ok-asked-in-Instance-clause-tells : goal.arguments::call_asked-returns-in_ok-asked-in-Instance-clause-tells
 arguments::call_asked-returns-in_ok-asked-in-Instance-clause-tells g t c =
@@ -210,7 +238,7 @@ arguments::call_asked-returns-in_ok-asked-in-One-clause-tells g t c =
     let context = c.args.context.now in
     let s = shape_at given nodes context in
     let f = focus_of context in
-    IfOk-weaker c.part_asked.result _ _ (λ told h. subst (λ w. Tells nodes told (asked_by w given context c.args.arguments.now s f)) (sym c.in-One.is) (h s refl _ c.in_ok-asked-in-One.ensures.tells)) c.part_asked.ensures.tells
+    IfOk-weaker c.part_asked-in-One.result _ _ (λ told h. subst (λ w. Tells nodes told (asked_by w given context c.args.arguments.now s f)) (sym c.in-One.is) (h s refl _ c.in_ok-asked-in-One.ensures.tells)) c.part_asked-in-One.ensures.tells
 
 pub arguments::chosen-returns-clause-tells : goal.arguments::chosen-returns-clause-tells
 arguments::chosen-returns-clause-tells g t c =
@@ -252,6 +280,10 @@ arguments::argument-returns-in-None-clause-tells g t c =
     let large : length c.args.arguments.now ≤ c.args.at = omega (arith, c.in-None.ensures.lookup.3) in
     subst (Tells nodes c.nothing.result) (sym (argument-past s f c.args.arguments.now c.args.at large)) (c.nothing.ensures.tells nodes)
 
+pub arguments::argument-returns-in-None-clause-stands : goal.arguments::argument-returns-in-None-clause-stands
+arguments::argument-returns-in-None-clause-stands g t c =
+    c.nothing.ensures.stands c.args.forest.now.forest.nodes
+
 pub arguments::all_converted-loop-argument-init : goal.arguments::all_converted-loop-argument-init
 arguments::all_converted-loop-argument-init g t c =
     let given = g.A.Around.given c.args.around.now in
@@ -261,7 +293,7 @@ arguments::all_converted-loop-argument-init g t c =
     let f = focus_of context in
     record {
       stands = c.nothing-all.ensures.stands nodes;
-      tells = ([], ([], (c.nothing-all.ensures.tells nodes, all-start s f c.args.arguments.now)));
+      tells = ([], [], c.nothing-all.ensures.tells nodes, all-start s f c.args.arguments.now);
     }
 
 pub arguments::all_converted-loop-argument-preserved : goal.arguments::all_converted-loop-argument-preserved
@@ -278,13 +310,9 @@ arguments::all_converted-loop-argument-preserved g t c =
       stands = c.in_ok-all.ensures.stands nodes c.loop-argument.invariant.stands c.in_ok-one.ensures.stands;
       tells = (
         p.0 ++ (one-of s f (get_or es i d)).reads,
-        (
-          p.1 ++ (one-of s f (get_or es i d)).looks,
-          (
-            subst (λ x. Tells nodes c.in_ok-all.all (both (plainly p.0 p.1) (one-of s f x))) c.argument-item.is (c.in_ok-all.ensures.tells nodes _ _ p.2 c.in_ok-one.ensures.tells),
-            all-round s f es i d p.0 p.1 _ p.3 c.loop-argument-test.true,
-          ),
-        ),
+        p.1 ++ (one-of s f (get_or es i d)).looks,
+        subst (λ x. Tells nodes c.in_ok-all.all (both (plainly p.0 p.1) (one-of s f x))) c.argument-item.is (c.in_ok-all.ensures.tells nodes _ _ p.2 c.in_ok-one.ensures.tells),
+        all-round s f es i d p.0 p.1 _ p.3 c.loop-argument-test.true,
       );
     }
 

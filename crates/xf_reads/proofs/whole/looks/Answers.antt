@@ -1,7 +1,7 @@
 use Rattle.std.proofs.Common.{◌∙◌}
 use Rattle.std.proofs.lemmas.Result.{IfOk-weaker}
 use Rattle.xf_eval.proofs.Lives.{live-is, live-in_order}
-use Rattle.xf_reads.proofs.Whole.{looks-are}
+use Rattle.xf_reads.proofs.Wholes.{looks-are}
 use Rattle.xf_reads.proofs.whole.looks.Goals as goal
 
 pub returns-clause-value : goal.returns-clause-value

@@ -1,7 +1,7 @@
 use Rattle.std.proofs.Common.{◌∙◌}
 use Rattle.std.proofs.lemmas.Result.{IfOk-weaker}
 use Rattle.xf_eval.proofs.Lives.{live-is, live-in_order}
-use Rattle.xf_reads.proofs.Whole.{reads-are}
+use Rattle.xf_reads.proofs.Wholes.{reads-are}
 use Rattle.xf_reads.proofs.whole.reads.Goals as goal
 
 pub returns-clause-value : goal.returns-clause-value
