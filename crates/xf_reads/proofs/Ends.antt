@@ -32,16 +32,16 @@ has-filter p k [] = none (p k)
     none : (b : Bool) → false ≡ (b && false)
     none true = refl
     none false = refl
-has-filter p k (n ∷ ns) = by (p n) refl (k == n) refl
+has-filter p k (n ∷ ns) = by (has-filter p k ns) (p n) refl (k == n) refl
   where
     here : (b : Bool) → p n ≡ b → (k == n) ≡ true → p k ≡ b
     here b e i = ap p (eqb-true k n i) ∙ e
 
-    by : (b : Bool) → p n ≡ b → (i : Bool) → (k == n) ≡ i → has k (cond b (n ∷ filter p ns) (filter p ns)) ≡ (p k && (i || has k ns))
-    by true e true i = ap (λ j. j || has k (filter p ns)) i ∙ sym (ap (λ j. j && true) (here true e i))
-    by true e false i = ap (λ j. j || has k (filter p ns)) i ∙ has-filter p k ns
-    by false e true i = has-filter p k ns ∙ ap (λ j. j && has k ns) (here false e i) ∙ sym (ap (λ j. j && true) (here false e i))
-    by false e false i = has-filter p k ns
+    by : has k (filter p ns) ≡ (p k && has k ns) → (b : Bool) → p n ≡ b → (i : Bool) → (k == n) ≡ i → has k (cond b (n ∷ filter p ns) (filter p ns)) ≡ (p k && (i || has k ns))
+    by rest true e true i = ap (λ j. j || has k (filter p ns)) i ∙ sym (ap (λ j. j && true) (here true e i))
+    by rest true e false i = ap (λ j. j || has k (filter p ns)) i ∙ rest
+    by rest false e true i = rest ∙ ap (λ j. j && has k ns) (here false e i) ∙ sym (ap (λ j. j && true) (here false e i))
+    by rest false e false i = rest
 
 module _ (forest : Forest) (sound : Sound forest) where
   -- a node of the shape with a list has a number in the forest
@@ -57,11 +57,11 @@ module _ (forest : Forest) (sound : Sound forest) where
 
   lists-shown : (ks : List ℕ) → list_all (is_shown forest.nodes) (filter (is_list forest.nodes) ks) ≡ true
   lists-shown [] = refl
-  lists-shown (k ∷ ks) = by (is_list forest.nodes k) refl
+  lists-shown (k ∷ ks) = by (lists-shown ks) (is_list forest.nodes k) refl
     where
-      by : (b : Bool) → is_list forest.nodes k ≡ b → list_all (is_shown forest.nodes) (cond b (k ∷ filter (is_list forest.nodes) ks) (filter (is_list forest.nodes) ks)) ≡ true
-      by true e = both-hold (is_shown forest.nodes k) (list_all (is_shown forest.nodes) (filter (is_list forest.nodes) ks)) (list-shown k e) (lists-shown ks)
-      by false e = lists-shown ks
+      by : list_all (is_shown forest.nodes) (filter (is_list forest.nodes) ks) ≡ true → (b : Bool) → is_list forest.nodes k ≡ b → list_all (is_shown forest.nodes) (cond b (k ∷ filter (is_list forest.nodes) ks) (filter (is_list forest.nodes) ks)) ≡ true
+      by rest true e = both-hold (is_shown forest.nodes k) (list_all (is_shown forest.nodes) (filter (is_list forest.nodes) ks)) (list-shown k e) rest
+      by rest false e = rest
 
   lists-order : (ks : List ℕ) → setting.in_order (whole forest sound) (filter (is_list forest.nodes) ks) ≡ listed (whole forest sound) ks
   lists-order ks =
