@@ -1,7 +1,8 @@
 -- What a step tells stands to what it asks as what was told before.
-use Rattle.std.proofs.Common.{◌≡◌, ℕ, ◌==◌, Bool, true, false, ◌&&◌, ◌||◌, List, [], ◌∷◌, ◌++◌, map, Option, Some, None, refl, sym, ap, ◌∙◌, subst, append_assoc}
+use Rattle.std.proofs.Common.{◌≡◌, ℕ, ◌+◌, ◌<◌, ◌≤◌, ◌==◌, Bool, true, false, ◌&&◌, ◌||◌, List, [], ◌∷◌, ◌++◌, map, drop, get_or, length, Option, Some, None, refl, sym, ap, ◌∙◌, subst, append_assoc}
 use Rattle.std.specs.Prelude.{filter, unwrap_or, option_map}
 use Rattle.std.specs.List.{flat_map}
+use Rattle.std.proofs.lemmas.List.{at_drop_all, at_drop_more}
 use Rattle.xf_name.specs.declared.axis.Axis.{Axis}
 use Rattle.xf_name.specs.declared.axis.Axis.TheVariants.{Child, Attribute, Self_, Parent, Ancestor, AncestorOrSelf, Descendant, DescendantOrSelf, FollowingSibling, PrecedingSibling}
 use Rattle.xf_ast.specs.declared.expr.Expr.{Expr}
@@ -12,9 +13,9 @@ use Rattle.xf_doc.specs.Visit.{Visit, has}
 use Rattle.xf_doc.proofs.BackLaws.{and-true}
 use Rattle.xf_doc.proofs.RenumberLaws.{filter-through}
 use Rattle.xf_lang.specs.Agree.{are_apart, numbers_of}
-use Rattle.xf_lang.specs.Asked.{found, lists_below, read_for}
+use Rattle.xf_lang.specs.Asked.{as_set, found, lists_below, read_for}
 use Rattle.xf_lang.specs.Asked as lang
-use Rattle.xf_lang.specs.AskedSteps.{asked_from, if_tight, is_pair, kind_read, lists_of, read_if, stepped, tells_kinds, text_beside}
+use Rattle.xf_lang.specs.AskedSteps.{asked_from, filtered, if_tight, is_pair, kind_read, lists_of, read_if, stepped, tells_kinds, text_beside, walks_asked}
 use Rattle.xf_lang.specs.Meaning.{meaning}
 use Rattle.xf_lang.specs.Reads.{trace, trace_of_step}
 use Rattle.xf_lang.specs.Setting.{Setting, Meaning, ◌>>=◌, each, in_order, joined}
@@ -183,3 +184,41 @@ module _ (nodes : List Node) (s : Setting) (same : s.all ≡ shaped nodes) (step
 
       loose : told.is_loose ≡ (a.is_loose || tells_kinds step.is_written step.axis step.test || is_pair step.is_below step.axis)
       loose = l ∙ ap (λ b. b || tells_kinds step.is_written step.axis step.test || is_pair step.is_below step.axis) t.is_loose
+
+-- ---- a chain of steps
+
+pub walks-round : (s : Setting) (steps : List Step) (i : ℕ) (step : Step) (b whole : lang.Asked) → i < length steps → step ≡ get_or steps i step → walks_asked s (map trace_of_step (drop i steps)) b ≡ whole →
+    walks_asked s (map trace_of_step (drop (i + 1) steps)) ((trace_of_step step).asked s b) ≡ whole
+walks-round s steps i step b whole l e h =
+    ap (λ x. walks_asked s (map trace_of_step (drop (i + 1) steps)) ((trace_of_step x).asked s b)) e
+    ∙ sym (at_drop_more (λ xs. walks_asked s (map trace_of_step xs) b) steps i step l)
+    ∙ h
+
+pub walks-end : (s : Setting) (steps : List Step) (i : ℕ) (b whole : lang.Asked) → length steps ≤ i → walks_asked s (map trace_of_step (drop i steps)) b ≡ whole → as_set b ≡ whole
+walks-end s steps i b whole l h = sym (at_drop_all (λ xs. walks_asked s (map trace_of_step xs) b) steps i l) ∙ h
+
+-- ---- predicates
+
+pub filtered-loose : (nodes : List Node) (s : Setting) (exprs : List Expr) (asked told : Asked) (a : lang.Asked) → Tells nodes asked a → asked.is_loose ≡ true → Tells nodes told (as_set a) → Tells nodes told (filtered s (map trace exprs) a)
+filtered-loose nodes s exprs asked told a t l u = record {
+  set = u.set ∙ sym (ap (λ b. unwrap_or (kept_by_all s (if_tight b (map trace exprs)) a.set) []) (sym t.is_loose ∙ l));
+  is_loose = u.is_loose;
+  is_truth = u.is_truth;
+  reads = u.reads;
+  looks = u.looks;
+}
+
+pub filtered-tight : (nodes : List Node) (s : Setting) (exprs : List Expr) (asked told : Asked) (a : lang.Asked) → Tells nodes asked a → asked.is_loose ≡ false →
+    kept_by_all s (map meaning exprs) (numbers_at asked.set.items) ≡ Some (numbers_at told.set.items) → told.is_loose ≡ asked.is_loose → told.is_truth ≡ false → told.reads ≡ asked.reads → told.looks ≡ asked.looks →
+    Tells nodes told (filtered s (map trace exprs) a)
+filtered-tight nodes s exprs asked told a t l e i h r k = record {
+  set = sym (
+      ap (λ b. unwrap_or (kept_by_all s (if_tight b (map trace exprs)) a.set) []) (sym t.is_loose ∙ l)
+      ∙ ap (λ ms. unwrap_or (kept_by_all s ms a.set) []) (tight-meanings exprs)
+      ∙ ap (λ ns. unwrap_or (kept_by_all s (map meaning exprs) ns) []) (sym t.set)
+      ∙ ap (λ m. unwrap_or m []) e);
+  is_loose = i ∙ t.is_loose;
+  is_truth = h;
+  reads = r ∙ t.reads;
+  looks = k ∙ t.looks;
+}
