@@ -33,7 +33,7 @@ filter-shown p q h (n ∷ ns) = by (p n) refl
     by true e = both-hold (q n) (list_all q (filter p ns)) (h n e) (filter-shown p q h ns)
     by false e = filter-shown p q h ns
 
-has-filter : (p : ℕ → Bool) (k : ℕ) (ns : List ℕ) → has k (filter p ns) ≡ (p k && has k ns)
+pub has-filter : (p : ℕ → Bool) (k : ℕ) (ns : List ℕ) → has k (filter p ns) ≡ (p k && has k ns)
 has-filter p k [] = and-none (p k)
   where
     and-none : (b : Bool) → false ≡ (b && false)

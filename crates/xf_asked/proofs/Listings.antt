@@ -17,6 +17,7 @@ use Rattle.xf_doc.proofs.BackLaws.{and-true, not-true}
 use Rattle.xf_doc.proofs.RenumberLaws.{filter-through}
 use Rattle.xf_lang.specs.Agree.{untexted, AreVisits}
 use Rattle.xf_lang.specs.Asked.{as_list, found, has_list, list_around, lists_below, parent_in, read_for, reader_of}
+use Rattle.xf_lang.specs.AskedSteps.{if_text}
 use Rattle.xf_lang.proofs.VisitFacts.{no, some-same, none-some, or-cases, filter-and, filter-within, found-number, found-in, absent, present}
 use Rattle.xf_lang.proofs.ForestVisits.{Each, each-map, self-found, found-erased, list-solid}
 use Rattle.xf_lang.proofs.UntextedLaws.{solid-found}
@@ -24,7 +25,7 @@ use Rattle.xf_eval.proofs.Erased.{reached-erased}
 use Rattle.xf_shape.specs.declared.spot.Spot.{Spot}
 use Rattle.xf_shape.specs.declared.spot.Spot.TheVariants.{Node as Own, TextOf, Outside}
 use Rattle.xf_shape.specs.Spots.{AreSpots, is_leaf, is_spot, is_text_in, number_at, numbers_at, shaped, stands}
-use Rattle.xf_shape.specs.Steps.{has_list_in}
+use Rattle.xf_shape.specs.Steps.{has_list_in, if_so}
 use Rattle.xf_shape.specs.Woven.{is_shown}
 use Rattle.xf_shape.proofs.Bounds.{parent-shown}
 use Rattle.xf_shape.proofs.Frames.{each-same, opened}
@@ -32,6 +33,7 @@ use Rattle.xf_shape.proofs.Filled.{each-kept_none}
 use Rattle.xf_shape.proofs.Plain.{content-of, has-list-of, leaf-visit}
 use Rattle.xf_shape.proofs.Reached.{leaf-stands}
 use Rattle.xf_shape.proofs.Shapes.{Sound, real, whole, real-visits, whole-visits, same-bare, live-found, found-live, stands-found, text-found, text_in, is_leaf_visit}
+use Rattle.xf_asked.specs.Beside.{is_text_spot, text_of}
 use Rattle.xf_asked.specs.Lists.{has_list_of, reader_at}
 use Rattle.xf_asked.specs.Tells.{has_list_at, is_list}
 
@@ -155,6 +157,9 @@ module _ (forest : Forest) (sound : Sound forest) where
       pub text-read : n ∷ [] ≡ read_for (shaped forest.nodes) (text_number n)
       text-read = sym (ap reader_of text ∙ ap (λ k. k ∷ []) named)
 
+      pub text-itself : text_number n ∷ [] ≡ if_text (found (text_number n) (shaped forest.nodes))
+      text-itself = sym (ap if_text text ∙ ap (λ k. text_number k ∷ []) named)
+
       pub text-below : filter (is_list forest.nodes) (lists_below (shaped forest.nodes) (text_number n)) ≡ []
       text-below = none-below W (whole-visits forest sound) (is_list forest.nodes) (text_number n) text-list text-list
 
@@ -191,6 +196,13 @@ module _ (forest : Forest) (sound : Sound forest) where
 
       pub own-read : reader_at forest.nodes n ∷ [] ≡ read_for (shaped forest.nodes) n
       own-read = ap (λ k. k ∷ []) reader-is ∙ sym (ap reader_of here)
+
+      pub own-text : if_so (is_text_in (content_at n forest.nodes)) n ≡ if_text (found n (shaped forest.nodes))
+      own-text =
+          let c = content-of forest.nodes n x at in
+          ap (λ b. if_so b n) (ap is_text_in c.1 ∙ sym (text-erased c.0) ∙ ap is_text (sym c.2))
+          ∙ ap (λ k. if_so (is_text x.content) k) (sym named)
+          ∙ sym (ap if_text here)
 
       pub reader-shown : is_shown forest.nodes (reader_at forest.nodes n) ≡ true
       reader-shown = by (is_text_in (content_at n forest.nodes))
@@ -321,6 +333,11 @@ module _ (forest : Forest) (sound : Sound forest) where
   own-is (Own node) h = own-own forest sound node.number (owned node h).0 (owned node h).1
   own-is (TextOf owner) h = sym (text-own forest sound owner.number (leaf owner h).0 (leaf owner h).1)
   own-is (Outside node) h = sym (outside-own forest sound node.number (gone node h))
+
+  pub text-is : (spot : Spot) → is_spot forest.nodes spot ≡ true → if_so (is_text_spot forest.nodes spot) (number_at spot) ≡ text_of (shaped forest.nodes) (number_at spot)
+  text-is (Own node) h = own-text forest sound node.number (owned node h).0 (owned node h).1
+  text-is (TextOf owner) h = text-itself forest sound owner.number (leaf owner h).0 (leaf owner h).1
+  text-is (Outside node) h = sym (ap if_text (absent node.number (shaped forest.nodes) (gone node h)))
 
   -- what is read for nodes of the shape is shown
   pub read-shown : (spot : Spot) → is_spot forest.nodes spot ≡ true → list_all (is_shown forest.nodes) (read_of forest.nodes spot) ≡ true

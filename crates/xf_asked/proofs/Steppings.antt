@@ -1,28 +1,37 @@
 -- What a step tells stands to what it asks as what was told before.
-use Rattle.std.proofs.Common.{◌≡◌, ℕ, Bool, true, false, ◌||◌, List, [], ◌∷◌, ◌++◌, map, Option, Some, None, refl, sym, ap, ◌∙◌, subst, append_assoc}
+use Rattle.std.proofs.Common.{◌≡◌, ℕ, ◌+◌, ◌<◌, ◌≤◌, ◌==◌, Bool, true, false, ◌&&◌, ◌||◌, List, [], ◌∷◌, ◌++◌, map, drop, get_or, length, Option, Some, None, refl, sym, ap, ◌∙◌, subst, append_assoc}
 use Rattle.std.specs.Prelude.{filter, unwrap_or, option_map}
 use Rattle.std.specs.List.{flat_map}
+use Rattle.std.proofs.lemmas.List.{at_drop_all, at_drop_more}
 use Rattle.xf_name.specs.declared.axis.Axis.{Axis}
+use Rattle.xf_name.specs.declared.axis.Axis.TheVariants.{Child, Attribute, Self_, Parent, Ancestor, AncestorOrSelf, Descendant, DescendantOrSelf, FollowingSibling, PrecedingSibling}
 use Rattle.xf_ast.specs.declared.expr.Expr.{Expr}
 use Rattle.xf_ast.specs.declared.expr.Step.{Step}
 use Rattle.xf_ast.specs.declared.expr.Test.{Test}
 use Rattle.xf_doc.specs.declared.content.Node.{Node}
-use Rattle.xf_doc.proofs.RenumberLaws.{map-map}
-use Rattle.xf_lang.specs.Asked.{Trace, lists_below, read_for}
+use Rattle.xf_doc.specs.Visit.{Visit, has}
+use Rattle.xf_doc.proofs.BackLaws.{and-true}
+use Rattle.xf_doc.proofs.RenumberLaws.{filter-through}
+use Rattle.xf_lang.specs.Agree.{are_apart, numbers_of}
+use Rattle.xf_lang.specs.Asked.{as_set, found, lists_below, read_for}
 use Rattle.xf_lang.specs.Asked as lang
-use Rattle.xf_lang.specs.AskedSteps.{asked_from, if_tight, is_pair, kind_read, lists_of, read_if, stepped, tells_kinds}
+use Rattle.xf_lang.specs.AskedSteps.{asked_from, filtered, if_tight, is_pair, kind_read, lists_of, read_if, stepped, tells_kinds, text_beside, walks_asked}
 use Rattle.xf_lang.specs.Meaning.{meaning}
 use Rattle.xf_lang.specs.Reads.{trace, trace_of_step}
-use Rattle.xf_lang.specs.Setting.{Setting, Meaning, each, in_order, joined}
+use Rattle.xf_lang.specs.Setting.{Setting, Meaning, ◌>>=◌, each, in_order, joined}
 use Rattle.xf_lang.specs.Steps.{begun_at, from_one, kept_by_all}
 use Rattle.xf_lang.proofs.Equations.{trace-step}
 use Rattle.xf_lang.proofs.TraceKeeps.{meaning-of_trace}
-use Rattle.xf_lang.proofs.VisitFacts.{filter-append, some-same, none-some}
+use Rattle.xf_lang.proofs.VisitFacts.{filter-append, no, none-some, present, some-same}
+use Rattle.xf_lang.proofs.ForestVisits.{each-map, self-found}
 use Rattle.xf_eval.specs.Taken.{taken}
 use Rattle.xf_shape.specs.Spots.{numbers_at, shaped}
 use Rattle.xf_shape.proofs.Filled.{append-none}
+use Rattle.xf_shape.proofs.Frames.{each-same}
 use Rattle.xf_asked.specs.declared.asked.Asked.{Asked}
+use Rattle.xf_asked.specs.Beside.{goes_beside, text_of}
 use Rattle.xf_asked.specs.Tells.{Tells, is_list}
+use Rattle.xf_asked.proofs.Ends.{has-filter}
 
 -- ---- what a step reaches
 
@@ -38,13 +47,95 @@ each-flat f (n ∷ ns) sets e = by (f n) refl e
     by None i j = none-some j
     by (Some k) i j = ap (λ m. unwrap_or m [] ++ flat_map (λ i. unwrap_or (f i) []) ns) i ∙ of k (each f ns) refl j
 
-pub taken-flat : (axis : Axis) (test : Test) (ms : List Meaning) (s : Setting) (from ns : List ℕ) → taken axis test ms s from ≡ Some ns →
-    ns ≡ in_order s.all (flat_map (λ n. unwrap_or (from_one axis test ms s n) []) from)
+-- ---- sets in document order
+
+has-append : (k : ℕ) (ns ms : List ℕ) → has k (ns ++ ms) ≡ (has k ns || has k ms)
+has-append k [] ms = refl
+has-append k (n ∷ ns) ms = ap (λ b. (k == n) || b) (has-append k ns ms) ∙ by (k == n)
+  where
+    by : (b : Bool) → (b || (has k ns || has k ms)) ≡ ((b || has k ns) || has k ms)
+    by true = refl
+    by false = refl
+
+has-ordered : (all : List Visit) (ns : List ℕ) (k : ℕ) → has k (numbers_of all) ≡ true → has k (in_order all ns) ≡ has k ns
+has-ordered all ns k h =
+    ap (has k) (sym (filter-through (λ (x : Visit). x.number) (λ n. has n ns) (λ x. has x.number ns) (λ x. refl) all))
+    ∙ has-filter (λ n. has n ns) k (numbers_of all)
+    ∙ ap (λ b. has k ns && b) h
+    ∙ by (has k ns)
+  where
+    by : (b : Bool) → (b && true) ≡ b
+    by true = refl
+    by false = refl
+
+-- a set may be put in order before others come to it
+order-again : (all : List Visit) → are_apart (numbers_of all) ≡ true → (ns ms : List ℕ) → in_order all (in_order all ns ++ ms) ≡ in_order all (ns ++ ms)
+order-again all apart ns ms =
+    ap (map (λ (x : Visit). x.number)) (each-same (λ x. has x.number (in_order all ns ++ ms)) (λ x. has x.number (ns ++ ms)) all
+    (each-map (λ x. found x.number all ≡ Some x) _ all
+    (λ x e. has-append x.number (in_order all ns) ms ∙ ap (λ b. b || has x.number ms) (has-ordered all ns x.number (present x.number all x e)) ∙ sym (has-append x.number ns ms))
+    (self-found all apart)))
+
+-- ---- the set of a step
+
+abbrev reached_from : Axis → Test → List Meaning → Setting → List ℕ → List ℕ
+reached_from axis test ms s from = flat_map (λ n. unwrap_or (from_one axis test ms s n) []) from
+
+taken-flat : (axis : Axis) (test : Test) (ms : List Meaning) (s : Setting) (from ns : List ℕ) → taken axis test ms s from ≡ Some ns → ns ≡ in_order s.all (reached_from axis test ms s from)
 taken-flat axis test ms s from ns e = by (each (from_one axis test ms s) from) refl e
   where
-    by : (m : Option (List (List ℕ))) → each (from_one axis test ms s) from ≡ m → option_map (λ sets. in_order s.all (joined sets)) m ≡ Some ns → ns ≡ in_order s.all (flat_map (λ n. unwrap_or (from_one axis test ms s n) []) from)
+    by : (m : Option (List (List ℕ))) → each (from_one axis test ms s) from ≡ m → option_map (λ sets. in_order s.all (joined sets)) m ≡ Some ns → ns ≡ in_order s.all (reached_from axis test ms s from)
     by None i j = none-some j
     by (Some sets) i j = sym (some-same j) ∙ ap (in_order s.all) (sym (each-flat (from_one axis test ms s) from sets i))
+
+none-beside : (axis : Axis) (all : List Visit) → goes_beside axis ≡ false → (ns : List ℕ) → flat_map (text_beside axis all) ns ≡ []
+none-beside axis all h [] = refl
+none-beside axis all h (n ∷ ns) = ap (λ l. l ++ flat_map (text_beside axis all) ns) (by axis h) ∙ none-beside axis all h ns
+  where
+    by : (axis : Axis) → goes_beside axis ≡ false → text_beside axis all n ≡ []
+    by Child i = refl
+    by Attribute i = refl
+    by Self_ i = refl
+    by Parent i = refl
+    by Ancestor i = refl
+    by AncestorOrSelf i = refl
+    by Descendant i = refl
+    by DescendantOrSelf i = refl
+    by FollowingSibling i = no (sym i)
+    by PrecedingSibling i = no (sym i)
+
+all-beside : (axis : Axis) (all : List Visit) → goes_beside axis ≡ true → (ns : List ℕ) → flat_map (text_of all) ns ≡ flat_map (text_beside axis all) ns
+all-beside FollowingSibling all h ns = refl
+all-beside PrecedingSibling all h ns = refl
+all-beside Child all h ns = no h
+all-beside Attribute all h ns = no h
+all-beside Self_ all h ns = no h
+all-beside Parent all h ns = no h
+all-beside Ancestor all h ns = no h
+all-beside AncestorOrSelf all h ns = no h
+all-beside Descendant all h ns = no h
+all-beside DescendantOrSelf all h ns = no h
+
+-- without texts, and with them
+pub stepped-plain : (is_written : Bool) (axis : Axis) (test : Test) (ms : List Meaning) (s : Setting) (from ns : List ℕ) → taken axis test ms s from ≡ Some ns → (tells_kinds is_written axis test && goes_beside axis) ≡ false →
+    ns ≡ stepped is_written axis test ms s from
+stepped-plain is_written axis test ms s from ns e h =
+    taken-flat axis test ms s from ns e
+    ∙ ap (in_order s.all) (sym (append-none (reached_from axis test ms s from)) ∙ ap (λ l. reached_from axis test ms s from ++ l) (sym (by (tells_kinds is_written axis test) (goes_beside axis) refl h)))
+  where
+    by : (b c : Bool) → goes_beside axis ≡ c → (b && c) ≡ false → read_if b (flat_map (text_beside axis s.all) from) ≡ []
+    by false c i j = refl
+    by true true i j = no (sym j)
+    by true false i j = none-beside axis s.all i from
+
+pub stepped-texts : (is_written : Bool) (axis : Axis) (test : Test) (ms : List Meaning) (s : Setting) (from ns ks : List ℕ) → are_apart (numbers_of s.all) ≡ true → taken axis test ms s from ≡ Some ns → (tells_kinds is_written axis test && goes_beside axis) ≡ true →
+    ks ≡ in_order s.all (ns ++ flat_map (text_of s.all) from) → ks ≡ stepped is_written axis test ms s from
+stepped-texts is_written axis test ms s from ns ks apart e h k =
+    let p = and-true (tells_kinds is_written axis test) (goes_beside axis) h in
+    k
+    ∙ ap (λ l. in_order s.all (l ++ flat_map (text_of s.all) from)) (taken-flat axis test ms s from ns e)
+    ∙ order-again s.all apart (reached_from axis test ms s from) (flat_map (text_of s.all) from)
+    ∙ ap (λ l. in_order s.all (reached_from axis test ms s from ++ l)) (all-beside axis s.all p.1 from ∙ sym (ap (λ b. read_if b (flat_map (text_beside axis s.all) from)) p.0))
 
 pub tight-meanings : (exprs : List Expr) → if_tight false (map trace exprs) ≡ map meaning exprs
 tight-meanings [] = refl
@@ -61,13 +152,13 @@ module _ (nodes : List Node) (s : Setting) (same : s.all ≡ shaped nodes) (step
   is_loose = asked.is_loose || tells_kinds step.is_written step.axis step.test || is_pair step.is_below step.axis
 
   pub step-tells : from ≡ begun_at step.is_below (shaped nodes) (numbers_at asked.set.items) → told.is_loose ≡ is_loose → told.is_truth ≡ false →
-      numbers_at told.set.items ≡ stepped step.axis step.test (if_tight told.is_loose (map trace step.predicates)) s from →
+      numbers_at told.set.items ≡ stepped step.is_written step.axis step.test (if_tight told.is_loose (map trace step.predicates)) s from →
       told.reads ≡ asked.reads ++ read_if (tells_kinds step.is_written step.axis step.test) (flat_map (kind_read step.axis (shaped nodes)) from) ++ read_if (is_pair step.is_below step.axis) (flat_map (read_for (shaped nodes)) (numbers_at asked.set.items)) →
       told.looks ≡ asked.looks ++ filter (is_list nodes) (flat_map (lists_of step.axis (shaped nodes)) from) ++ read_if step.is_below (filter (is_list nodes) (flat_map (lists_below (shaped nodes)) (numbers_at asked.set.items))) →
       Tells nodes told ((trace_of_step step).asked s a)
   step-tells f l h e r k =
       subst (λ w. Tells nodes told (w.asked s a)) (sym (trace-step step)) (record {
-        set = e ∙ ap (λ b. stepped step.axis step.test (if_tight b (map trace step.predicates)) s from) loose ∙ ap (stepped step.axis step.test (if_tight (a.is_loose || tells_kinds step.is_written step.axis step.test || is_pair step.is_below step.axis) (map trace step.predicates)) s) begins;
+        set = e ∙ ap (λ b. stepped step.is_written step.axis step.test (if_tight b (map trace step.predicates)) s from) loose ∙ ap (stepped step.is_written step.axis step.test (if_tight (a.is_loose || tells_kinds step.is_written step.axis step.test || is_pair step.is_below step.axis) (map trace step.predicates)) s) begins;
         is_loose = loose;
         is_truth = h;
         reads = r
@@ -93,3 +184,41 @@ module _ (nodes : List Node) (s : Setting) (same : s.all ≡ shaped nodes) (step
 
       loose : told.is_loose ≡ (a.is_loose || tells_kinds step.is_written step.axis step.test || is_pair step.is_below step.axis)
       loose = l ∙ ap (λ b. b || tells_kinds step.is_written step.axis step.test || is_pair step.is_below step.axis) t.is_loose
+
+-- ---- a chain of steps
+
+pub walks-round : (s : Setting) (steps : List Step) (i : ℕ) (step : Step) (b whole : lang.Asked) → i < length steps → step ≡ get_or steps i step → walks_asked s (map trace_of_step (drop i steps)) b ≡ whole →
+    walks_asked s (map trace_of_step (drop (i + 1) steps)) ((trace_of_step step).asked s b) ≡ whole
+walks-round s steps i step b whole l e h =
+    ap (λ x. walks_asked s (map trace_of_step (drop (i + 1) steps)) ((trace_of_step x).asked s b)) e
+    ∙ sym (at_drop_more (λ xs. walks_asked s (map trace_of_step xs) b) steps i step l)
+    ∙ h
+
+pub walks-end : (s : Setting) (steps : List Step) (i : ℕ) (b whole : lang.Asked) → length steps ≤ i → walks_asked s (map trace_of_step (drop i steps)) b ≡ whole → as_set b ≡ whole
+walks-end s steps i b whole l h = sym (at_drop_all (λ xs. walks_asked s (map trace_of_step xs) b) steps i l) ∙ h
+
+-- ---- predicates
+
+pub filtered-loose : (nodes : List Node) (s : Setting) (exprs : List Expr) (asked told : Asked) (a : lang.Asked) → Tells nodes asked a → asked.is_loose ≡ true → Tells nodes told (as_set a) → Tells nodes told (filtered s (map trace exprs) a)
+filtered-loose nodes s exprs asked told a t l u = record {
+  set = u.set ∙ sym (ap (λ b. unwrap_or (kept_by_all s (if_tight b (map trace exprs)) a.set) []) (sym t.is_loose ∙ l));
+  is_loose = u.is_loose;
+  is_truth = u.is_truth;
+  reads = u.reads;
+  looks = u.looks;
+}
+
+pub filtered-tight : (nodes : List Node) (s : Setting) (exprs : List Expr) (asked told : Asked) (a : lang.Asked) → Tells nodes asked a → asked.is_loose ≡ false →
+    kept_by_all s (map meaning exprs) (numbers_at asked.set.items) ≡ Some (numbers_at told.set.items) → told.is_loose ≡ asked.is_loose → told.is_truth ≡ false → told.reads ≡ asked.reads → told.looks ≡ asked.looks →
+    Tells nodes told (filtered s (map trace exprs) a)
+filtered-tight nodes s exprs asked told a t l e i h r k = record {
+  set = sym (
+      ap (λ b. unwrap_or (kept_by_all s (if_tight b (map trace exprs)) a.set) []) (sym t.is_loose ∙ l)
+      ∙ ap (λ ms. unwrap_or (kept_by_all s ms a.set) []) (tight-meanings exprs)
+      ∙ ap (λ ns. unwrap_or (kept_by_all s (map meaning exprs) ns) []) (sym t.set)
+      ∙ ap (λ m. unwrap_or m []) e);
+  is_loose = i ∙ t.is_loose;
+  is_truth = h;
+  reads = r ∙ t.reads;
+  looks = k ∙ t.looks;
+}

@@ -63,3 +63,18 @@ pub read-if_flat : (b : Bool) (f : ℕ → List ℕ) (ns : List ℕ) → flat_ma
 read-if_flat true f ns = refl
 read-if_flat false f [] = refl
 read-if_flat false f (n ∷ ns) = read-if_flat false f ns
+
+-- what is read and looked at for these nodes comes behind
+pub read-tells : (nodes : List Node) (spots : List Spot) (told : Asked) (reads looks : List ℕ) (a : lang.Asked) → told.set.items ≡ [] → told.is_loose ≡ false → told.is_truth ≡ false →
+    told.reads ≡ reads ++ flat_map (read_for (shaped nodes)) (numbers_at spots) → told.looks ≡ looks ++ flat_map (λ n. filter (is_list nodes) (lists_below (shaped nodes) n)) (numbers_at spots) →
+    reads ≡ a.reads → looks ≡ filter (is_list nodes) a.looks → Tells nodes told (with_read (shaped nodes) (numbers_at spots) a)
+read-tells nodes spots told reads looks a s l t r k e f = record {
+  set = ap numbers_at s;
+  is_loose = l;
+  is_truth = t;
+  reads = r ∙ ap (λ x. x ++ flat_map (read_for (shaped nodes)) (numbers_at spots)) e;
+  looks = k
+      ∙ ap (λ x. x ++ flat_map (λ n. filter (is_list nodes) (lists_below (shaped nodes) n)) (numbers_at spots)) f
+      ∙ ap (λ x. filter (is_list nodes) a.looks ++ x) (sym (filter-flat (is_list nodes) (lists_below (shaped nodes)) (numbers_at spots)))
+      ∙ sym (filter-append (is_list nodes) a.looks (flat_map (lists_below (shaped nodes)) (numbers_at spots)));
+}

@@ -1,2 +1,3 @@
+pub mod Beside
 pub mod Lists
 pub mod Tells

@@ -1,15 +1,18 @@
 //! What steps and predicates ask.
 
-ghost use Rattle.std.specs.Prelude.{◌≡◌, ◌++◌, true, filter, map, IfOk, OnOk};
+ghost use Rattle.std.specs.Prelude.{◌≡◌, ◌++◌, true, Some, filter, map, IfOk, OnOk};
 ghost use Rattle.std.specs.List.{flat_map, list_all};
 ghost use Rattle.xf_eval.specs.Live.{IsReady};
+ghost use Rattle.xf_eval.specs.Taken.{taken};
 ghost use Rattle.xf_lang.specs.Asked.{lists_below, read_for};
 ghost use Rattle.xf_lang.specs.Asked as lang;
 ghost use Rattle.xf_lang.specs.AskedSteps.{filtered, goes_up, if_tight, is_pair, kind_read, lists_of, meets_texts, read_if, stepped, tells_kinds, walks_asked};
 ghost use Rattle.xf_lang.specs.Reads.{trace, trace_of_step};
+ghost use Rattle.xf_lang.specs.Setting.{in_order};
 ghost use Rattle.xf_shape.specs.Fixed.{are_placed, is_fixed_step};
 ghost use Rattle.xf_shape.specs.Over.{shape_at};
-ghost use Rattle.xf_shape.specs.Spots.{AreSpots, numbers_at, shaped};
+ghost use Rattle.xf_shape.specs.Spots.{AreSpots, is_spot, number_at, numbers_at, shaped};
+ghost use Rattle.xf_asked.specs.Beside.{goes_beside, is_text_spot, text_of};
 ghost use Rattle.xf_asked.specs.Tells.{Stands, Tells, is_list};
 
 use crate::asked::{Asked, as_set};
@@ -20,7 +23,7 @@ use xf_doc::NodeList;
 use xf_eval::Around;
 use xf_lang::Context;
 use xf_name::Axis;
-use xf_shape::{Spot, all_below, is_kind, is_sound, kept_by_all, taken};
+use xf_shape::{Spot, all_below, in_order, is_kind, is_sound, is_text, kept_by_all, taken};
 use xf_tree::Forest;
 
 /// What a chain of steps asks from what was asked before.
@@ -90,7 +93,8 @@ fn step_asked<A: Around>(
     })
 }
 
-/// The nodes that a step can reach from these; where it is loose its predicates keep every node.
+/// The nodes that a step can reach from these; where it is loose its predicates keep every node. A text that stands for several is reached
+/// from itself, too.
 fn stepped<A: Around>(
     alloc: Global,
     forest: &Forest,
@@ -103,7 +107,30 @@ fn stepped<A: Around>(
     requires ready { IsReady (A.given around.now) forest.now.forest.nodes context.now }
     requires fixed { is_fixed_step step.now ≡ true }
     requires spots { AreSpots forest.now.forest.nodes from.now }
-    ensures value { IfOk result (λ found. numbers_at found.items ≡ stepped step.now.axis step.now.test (if_tight is_loose (map trace step.now.predicates)) (shape_at (A.given around.now) forest.now.forest.nodes context.now) (numbers_at from.now)) }
+    ensures value { IfOk result (λ found. numbers_at found.items ≡ stepped step.now.is_written step.now.axis step.now.test (if_tight is_loose (map trace step.now.predicates)) (shape_at (A.given around.now) forest.now.forest.nodes context.now) (numbers_at from.now)) }
+    ensures spots { IfOk result (λ found. AreSpots forest.now.forest.nodes found.items) }
+{
+    let found = tried(alloc, forest, around, step, is_loose, from, context)?;
+    if tells_kinds(step) && goes_beside(step.axis) {
+        return with_texts(alloc, forest, found, from);
+    }
+    Ok(found)
+}
+
+/// The nodes that its axis, its test and its predicates reach.
+fn tried<A: Around>(
+    alloc: Global,
+    forest: &Forest,
+    around: &A,
+    step: &Step,
+    is_loose: bool,
+    from: &[Spot],
+    context: &Context,
+) -> Result<Vec<Spot>, AllocError>
+    requires ready { IsReady (A.given around.now) forest.now.forest.nodes context.now }
+    requires fixed { is_fixed_step step.now ≡ true }
+    requires spots { AreSpots forest.now.forest.nodes from.now }
+    ensures value { IfOk result (λ found. taken step.now.axis step.now.test (if_tight is_loose (map trace step.now.predicates)) (shape_at (A.given around.now) forest.now.forest.nodes context.now) (numbers_at from.now) ≡ Some (numbers_at found.items)) }
     ensures spots { IfOk result (λ found. AreSpots forest.now.forest.nodes found.items) }
 {
     if is_loose {
@@ -122,6 +149,50 @@ fn stepped<A: Around>(
     taken(
         alloc, forest, around, step.axis, &step.test, predicates, from, context,
     )
+}
+
+/// These nodes and the texts among those at which a step begins, in document order.
+fn with_texts(
+    alloc: Global,
+    forest: &Forest,
+    found: Vec<Spot>,
+    from: &[Spot],
+) -> Result<Vec<Spot>, AllocError>
+    requires found { AreSpots forest.now.forest.nodes found.items }
+    requires from { AreSpots forest.now.forest.nodes from.now }
+    ensures value { IfOk result (λ all. numbers_at all.items ≡ in_order (shaped forest.now.forest.nodes) (numbers_at found.items ++ flat_map (text_of (shaped forest.now.forest.nodes)) (numbers_at from.now))) }
+    ensures spots { IfOk result (λ all. AreSpots forest.now.forest.nodes all.items) }
+{
+    is_sound(forest);
+    let mut all = found;
+    for spot in from {
+        push_text(forest, *spot, &mut all)?;
+    }
+    in_order(alloc, forest, &all)
+}
+
+/// Puts a text behind the others.
+fn push_text(forest: &Forest, spot: Spot, spots: &mut Vec<Spot>) -> Result<(), AllocError>
+    requires { is_spot forest.now.forest.nodes spot ≡ true }
+    ensures value { OnOk result (numbers_at spots.new.items ≡ numbers_at spots.old.items ++ text_of (shaped forest.now.forest.nodes) (number_at spot)) }
+    ensures spots { OnOk result (AreSpots forest.now.forest.nodes spots.old.items → AreSpots forest.now.forest.nodes spots.new.items) }
+{
+    is_sound(forest);
+    if is_text_spot(forest, spot) {
+        spots.push(spot)?;
+    }
+    Ok(())
+}
+
+/// Whether the node is a text of the shape.
+fn is_text_spot(forest: &Forest, spot: Spot) -> bool
+    ensures { result ≡ is_text_spot forest.now.forest.nodes spot }
+{
+    match spot {
+        Spot::Node(node) => is_text(forest, node),
+        Spot::TextOf(_) => true,
+        Spot::Outside(_) => false,
+    }
 }
 
 /// Puts what is read and looked at from the nodes at which a step begins behind the others.
@@ -208,6 +279,16 @@ fn meets_texts(axis: Axis) -> bool
         | Axis::DescendantOrSelf
         | Axis::FollowingSibling
         | Axis::PrecedingSibling => true,
+        _ => false,
+    }
+}
+
+/// Whether the axis goes to siblings.
+fn goes_beside(axis: Axis) -> bool
+    ensures { result ≡ goes_beside axis }
+{
+    match axis {
+        Axis::FollowingSibling | Axis::PrecedingSibling => true,
         _ => false,
     }
 }

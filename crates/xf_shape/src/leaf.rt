@@ -29,7 +29,7 @@ fn fits(number: u128)
 }
 
 /// Whether an element stands right below the node. Looks no further than at the first.
-pub fn has_elements(forest: &Forest, node: NodeId) -> bool
+pub(crate) fn has_elements(forest: &Forest, node: NodeId) -> bool
     requires { IsLive node.number forest.now.forest }
     ensures { result ≡ has_elements (visits forest.now.forest.nodes) node.number }
 {
@@ -43,7 +43,7 @@ pub fn has_elements(forest: &Forest, node: NodeId) -> bool
 }
 
 /// Whether the node is an element.
-pub fn is_element(forest: &Forest, node: NodeId) -> bool
+pub(crate) fn is_element(forest: &Forest, node: NodeId) -> bool
     ensures { result ≡ is_element_in (content_at node.number forest.now.forest.nodes) }
 {
     match forest.content(node) {
@@ -63,7 +63,7 @@ pub fn has_list(forest: &Forest, node: NodeId) -> bool
 }
 
 /// Whether the node is an element without element children.
-pub fn is_leaf(forest: &Forest, node: NodeId) -> bool
+pub(crate) fn is_leaf(forest: &Forest, node: NodeId) -> bool
     requires { IsLive node.number forest.now.forest }
     ensures { result ≡ is_leaf forest.now.forest.nodes node.number }
 {
@@ -71,7 +71,7 @@ pub fn is_leaf(forest: &Forest, node: NodeId) -> bool
 }
 
 /// Whether the node stands in the shape: a text does where its parent has elements in it, or where it is a top.
-pub fn stands(forest: &Forest, node: NodeId) -> bool
+pub(crate) fn stands(forest: &Forest, node: NodeId) -> bool
     requires { IsLive node.number forest.now.forest }
     ensures { result ≡ stands forest.now.forest.nodes node.number }
 {

@@ -27,7 +27,7 @@ use xf_name::Axis;
 use xf_tree::Forest;
 
 /// The nodes that a chain of steps reaches from these.
-pub fn walked<A: Around>(
+pub(crate) fn walked<A: Around>(
     alloc: Global,
     forest: &Forest,
     around: &A,

@@ -22,7 +22,7 @@ use xf_name::Axis;
 use xf_tree::Forest;
 
 /// What the axis and the test select from a node, in the order of the axis.
-pub fn reached(
+pub(crate) fn reached(
     alloc: Global,
     forest: &Forest,
     spot: Spot,
@@ -130,7 +130,7 @@ fn plainly(
 }
 
 /// Nodes that stand in the shape.
-pub fn owned(alloc: Global, nodes: &NodeList) -> Result<Vec<Spot>, AllocError>
+pub(crate) fn owned(alloc: Global, nodes: &NodeList) -> Result<Vec<Spot>, AllocError>
     ensures numbers { IfOk result (λ spots. numbers_at spots.items ≡ nodes.now) }
     ensures owned { IfOk result (λ spots. are_owned spots.items ≡ true) }
 {
