@@ -1,5 +1,5 @@
 -- What is told, once it is in document order, is what is asked.
-use Rattle.std.proofs.Common.{◌≡◌, ℕ, ◌==◌, Bool, true, false, cond, ◌&&◌, ◌||◌, List, [], ◌∷◌, map, refl, sym, ap, ◌∙◌, inl, inr}
+use Rattle.std.proofs.Common.{◌≡◌, ℕ, ◌==◌, Bool, true, false, cond, ◌&&◌, ◌||◌, List, [], ◌∷◌, map, Some, refl, sym, ap, ◌∙◌}
 use Rattle.std.specs.Prelude.{filter}
 use Rattle.std.specs.List.{list_all}
 use Rattle.std.proofs.lemmas.Bool.{eqb-true}
@@ -27,11 +27,11 @@ both-hold false b h i = h
 
 filter-shown : (p q : ℕ → Bool) → ((n : ℕ) → p n ≡ true → q n ≡ true) → (ns : List ℕ) → list_all q (filter p ns) ≡ true
 filter-shown p q h [] = refl
-filter-shown p q h (n ∷ ns) = by (p n) refl
+filter-shown p q h (n ∷ ns) = by (p n) refl (filter-shown p q h ns)
   where
-    by : (b : Bool) → p n ≡ b → list_all q (cond b (n ∷ filter p ns) (filter p ns)) ≡ true
-    by true e = both-hold (q n) (list_all q (filter p ns)) (h n e) (filter-shown p q h ns)
-    by false e = filter-shown p q h ns
+    by : (b : Bool) → p n ≡ b → list_all q (filter p ns) ≡ true → list_all q (cond b (n ∷ filter p ns) (filter p ns)) ≡ true
+    by true e rest = both-hold (q n) (list_all q (filter p ns)) (h n e) rest
+    by false e rest = rest
 
 pub has-filter : (p : ℕ → Bool) (k : ℕ) (ns : List ℕ) → has k (filter p ns) ≡ (p k && has k ns)
 has-filter p k [] = and-none (p k)
@@ -39,16 +39,13 @@ has-filter p k [] = and-none (p k)
     and-none : (b : Bool) → false ≡ (b && false)
     and-none true = refl
     and-none false = refl
-has-filter p k (n ∷ ns) = by (p n) refl (k == n) refl
+has-filter p k (n ∷ ns) = by (p n) refl (k == n) refl (has-filter p k ns)
   where
-    rest : has k (filter p ns) ≡ (p k && has k ns)
-    rest = has-filter p k ns
-
-    by : (b : Bool) → p n ≡ b → (c : Bool) → (k == n) ≡ c → has k (cond b (n ∷ filter p ns) (filter p ns)) ≡ (p k && ((k == n) || has k ns))
-    by true e true i = ap (λ c. c || has k (filter p ns)) i ∙ sym (ap (λ b. b && ((k == n) || has k ns)) (ap p (eqb-true k n i) ∙ e) ∙ ap (λ c. c || has k ns) i)
-    by true e false i = ap (λ c. c || has k (filter p ns)) i ∙ rest ∙ sym (ap (λ c. p k && (c || has k ns)) i)
-    by false e true i = rest ∙ ap (λ b. b && has k ns) (ap p (eqb-true k n i) ∙ e) ∙ sym (ap (λ b. b && ((k == n) || has k ns)) (ap p (eqb-true k n i) ∙ e))
-    by false e false i = rest ∙ sym (ap (λ c. p k && (c || has k ns)) i)
+    by : (b : Bool) → p n ≡ b → (c : Bool) → (k == n) ≡ c → has k (filter p ns) ≡ (p k && has k ns) → has k (cond b (n ∷ filter p ns) (filter p ns)) ≡ (p k && ((k == n) || has k ns))
+    by true e true i rest = ap (λ c. c || has k (filter p ns)) i ∙ sym (ap (λ b. b && ((k == n) || has k ns)) (ap p (eqb-true k n i) ∙ e) ∙ ap (λ c. c || has k ns) i)
+    by true e false i rest = ap (λ c. c || has k (filter p ns)) i ∙ rest ∙ sym (ap (λ c. p k && (c || has k ns)) i)
+    by false e true i rest = rest ∙ ap (λ b. b && has k ns) (ap p (eqb-true k n i) ∙ e) ∙ sym (ap (λ b. b && ((k == n) || has k ns)) (ap p (eqb-true k n i) ∙ e))
+    by false e false i rest = rest ∙ sym (ap (λ c. p k && (c || has k ns)) i)
 
 module _ (forest : Forest) (sound : Sound forest) (told : Asked) (asked : lang.Asked) where
   pub told-reads : Stands forest.nodes told → Tells forest.nodes told asked → in_order (visits forest.nodes) told.reads ≡ setting.in_order (shaped forest.nodes) asked.reads

@@ -3,7 +3,8 @@ use Rattle.std.proofs.Common.{◌≡◌, ℕ, ◌==◌, Bool, true, false, not, 
 use Rattle.std.specs.Prelude.{filter, unwrap_or}
 use Rattle.std.specs.List.{flat_map, list_all}
 use Rattle.std.proofs.lemmas.Bool.{eqb-true}
-use Rattle.xf_name.specs.declared.axis.Axis.TheVariants.{Descendant}
+use Rattle.xf_name.specs.declared.axis.Axis.{Axis}
+use Rattle.xf_name.specs.declared.axis.Axis.TheVariants.{Child, Attribute, Self_, Parent, Ancestor, AncestorOrSelf, Descendant, DescendantOrSelf, FollowingSibling, PrecedingSibling}
 use Rattle.xf_ast.specs.declared.expr.Test.TheVariants as test
 use Rattle.xf_doc.specs.declared.node.NodeId.{NodeId}
 use Rattle.xf_doc.specs.declared.content.Node.{Node}
@@ -17,7 +18,7 @@ use Rattle.xf_doc.proofs.BackLaws.{and-true, not-true}
 use Rattle.xf_doc.proofs.RenumberLaws.{filter-through}
 use Rattle.xf_lang.specs.Agree.{untexted, AreVisits}
 use Rattle.xf_lang.specs.Asked.{as_list, found, has_list, list_around, lists_below, parent_in, read_for, reader_of}
-use Rattle.xf_lang.specs.AskedSteps.{if_text}
+use Rattle.xf_lang.specs.AskedSteps.{if_text, kind_read, read_if}
 use Rattle.xf_lang.proofs.VisitFacts.{no, some-same, none-some, or-cases, filter-and, filter-within, found-number, found-in, absent, present}
 use Rattle.xf_lang.proofs.ForestVisits.{Each, each-map, self-found, found-erased, list-solid}
 use Rattle.xf_lang.proofs.UntextedLaws.{solid-found}
@@ -83,10 +84,10 @@ module _ (all : List Visit) (v : AreVisits all) where
 -- ---- the shape
 
 module _ (forest : Forest) (sound : Sound forest) where
-  W : List Visit
+  abbrev W : List Visit
   W = whole forest sound
 
-  R : List Visit
+  abbrev R : List Visit
   R = real forest sound
 
   -- a node that is found has a list by what it is
@@ -184,8 +185,8 @@ module _ (forest : Forest) (sound : Sound forest) where
       text-erased : (c : Content) → is_text (without_text c) ≡ is_text c
       text-erased content.Root = refl
       text-erased (content.Element name) = refl
-      text-erased (content.Attribute name text) = refl
-      text-erased (content.Text text) = refl
+      text-erased (content.Attribute name value) = refl
+      text-erased (content.Text value) = refl
 
       reader-is : reader_at forest.nodes n ≡ cond (is_text x.content) (unwrap_or (first_of x.above) x.number) x.number
       reader-is =
@@ -256,8 +257,8 @@ module _ (forest : Forest) (sound : Sound forest) where
       no-attribute : (c : Content) → has_list c ≡ true → not (is_attribute c) ≡ true
       no-attribute content.Root h = refl
       no-attribute (content.Element name) h = refl
-      no-attribute (content.Attribute name text) h = no h
-      no-attribute (content.Text text) h = refl
+      no-attribute (content.Attribute name value) h = no h
+      no-attribute (content.Text value) h = refl
 
       both-same : (a b c : Bool) → (c ≡ true → b ≡ true) → ((a && b) && c) ≡ (a && c)
       both-same false b c h = refl
@@ -304,6 +305,16 @@ abbrev pub own_of : List Node → Spot → List ℕ
 own_of nodes (Own node) = filter (has_list_of nodes) (node.number ∷ [])
 own_of nodes other = []
 
+pub no-below : (nodes : List Node) (spot : Spot) → ((node : NodeId) → spot ≡ Own node → ⊥) → below_of nodes spot ≡ []
+no-below nodes (Own node) h = absurd (h node refl)
+no-below nodes (TextOf owner) h = refl
+no-below nodes (Outside node) h = refl
+
+pub no-own : (nodes : List Node) (spot : Spot) → ((node : NodeId) → spot ≡ Own node → ⊥) → own_of nodes spot ≡ []
+no-own nodes (Own node) h = absurd (h node refl)
+no-own nodes (TextOf owner) h = refl
+no-own nodes (Outside node) h = refl
+
 module _ (forest : Forest) (sound : Sound forest) where
   owned : (node : NodeId) → is_spot forest.nodes (Own node) ≡ true → (has_number node.number forest.nodes ≡ true) × (stands forest.nodes node.number ≡ true)
   owned node h = and-true (has_number node.number forest.nodes) (stands forest.nodes node.number) h
@@ -339,22 +350,62 @@ module _ (forest : Forest) (sound : Sound forest) where
   text-is (TextOf owner) h = text-itself forest sound owner.number (leaf owner h).0 (leaf owner h).1
   text-is (Outside node) h = sym (ap if_text (absent node.number (shaped forest.nodes) (gone node h)))
 
-  -- what is read for nodes of the shape is shown
-  pub read-shown : (spot : Spot) → is_spot forest.nodes spot ≡ true → list_all (is_shown forest.nodes) (read_of forest.nodes spot) ≡ true
-  read-shown (Own node) h = both-hold (is_shown forest.nodes (reader_at forest.nodes node.number)) true (reader-shown forest sound node.number (owned node h).0 (owned node h).1) refl
-  read-shown (TextOf owner) h =
+  owner-shown : (owner : NodeId) → is_spot forest.nodes (TextOf owner) ≡ true → list_all (is_shown forest.nodes) (owner.number ∷ []) ≡ true
+  owner-shown owner h =
       let p = leaf owner h in
       both-hold (is_shown forest.nodes owner.number) true (both-hold (has_number owner.number forest.nodes) (stands forest.nodes owner.number) p.0 (leaf-stands forest sound owner.number p.0 p.1)) refl
+
+  -- the parent of a node of the shape, and what is read for it, stand there and in the forest
+  pub around-shown : (spot : Spot) → is_spot forest.nodes spot ≡ true → list_all (is_shown forest.nodes) (around_of forest.nodes spot) ≡ true
+  around-shown (Own node) h = by (parent_of node.number (visits forest.nodes)) refl
+    where
+      by : (m : Option ℕ) → parent_of node.number (visits forest.nodes) ≡ m → list_all (is_shown forest.nodes) (as_list m) ≡ true
+      by None i = refl
+      by (Some p) i = both-hold (is_shown forest.nodes p) true (parent-shown forest sound node.number (owned node h).0 p i) refl
+  around-shown (TextOf owner) h = owner-shown owner h
+  around-shown (Outside node) h = refl
+
+  pub read-shown : (spot : Spot) → is_spot forest.nodes spot ≡ true → list_all (is_shown forest.nodes) (read_of forest.nodes spot) ≡ true
+  read-shown (Own node) h = both-hold (is_shown forest.nodes (reader_at forest.nodes node.number)) true (reader-shown forest sound node.number (owned node h).0 (owned node h).1) refl
+  read-shown (TextOf owner) h = owner-shown owner h
   read-shown (Outside node) h = refl
 
 pub all-append : (p : ℕ → Bool) (ns ms : List ℕ) → list_all p ns ≡ true → list_all p ms ≡ true → list_all p (ns ++ ms) ≡ true
 all-append p [] ms h i = i
 all-append p (n ∷ ns) ms h i = both-hold (p n) (list_all p (ns ++ ms)) (and-true _ _ h).0 (all-append p ns ms (and-true _ _ h).1 i)
 
-pub reads-shown : (forest : Forest) → Sound forest → (spots : List Spot) → AreSpots forest.nodes spots → list_all (is_shown forest.nodes) (flat_map (read_for (shaped forest.nodes)) (numbers_at spots)) ≡ true
-reads-shown forest sound [] h = refl
-reads-shown forest sound (spot ∷ spots) h =
-    let p = and-true (is_spot forest.nodes spot) (list_all (is_spot forest.nodes) spots) h in
-    all-append (is_shown forest.nodes) (read_for (shaped forest.nodes) (number_at spot)) (flat_map (read_for (shaped forest.nodes)) (numbers_at spots))
-    (ap (list_all (is_shown forest.nodes)) (sym (read-is forest sound spot p.0)) ∙ read-shown forest sound spot p.0)
-    (reads-shown forest sound spots p.1)
+module _ (forest : Forest) (sound : Sound forest) where
+  all-shown : (f : ℕ → List ℕ) → ((spot : Spot) → is_spot forest.nodes spot ≡ true → list_all (is_shown forest.nodes) (f (number_at spot)) ≡ true) → (spots : List Spot) → AreSpots forest.nodes spots →
+      list_all (is_shown forest.nodes) (flat_map f (numbers_at spots)) ≡ true
+  all-shown f h [] i = refl
+  all-shown f h (spot ∷ spots) i =
+      let p = and-true (is_spot forest.nodes spot) (list_all (is_spot forest.nodes) spots) i in
+      all-append (is_shown forest.nodes) (f (number_at spot)) (flat_map f (numbers_at spots)) (h spot p.0) (all-shown f h spots p.1)
+
+  read-there : (spot : Spot) → is_spot forest.nodes spot ≡ true → list_all (is_shown forest.nodes) (read_for (shaped forest.nodes) (number_at spot)) ≡ true
+  read-there spot h = ap (list_all (is_shown forest.nodes)) (sym (read-is forest sound spot h)) ∙ read-shown forest sound spot h
+
+  around-there : (spot : Spot) → is_spot forest.nodes spot ≡ true → list_all (is_shown forest.nodes) (list_around (shaped forest.nodes) (number_at spot)) ≡ true
+  around-there spot h = ap (list_all (is_shown forest.nodes)) (sym (around-is forest sound spot h)) ∙ around-shown forest sound spot h
+
+  pub reads-shown : (spots : List Spot) → AreSpots forest.nodes spots → list_all (is_shown forest.nodes) (flat_map (read_for (shaped forest.nodes)) (numbers_at spots)) ≡ true
+  reads-shown = all-shown (read_for (shaped forest.nodes)) read-there
+
+  pub kinds-shown : (axis : Axis) (spots : List Spot) → AreSpots forest.nodes spots → list_all (is_shown forest.nodes) (flat_map (kind_read axis (shaped forest.nodes)) (numbers_at spots)) ≡ true
+  kinds-shown axis = all-shown (kind_read axis (shaped forest.nodes)) (by axis)
+    where
+      by : (axis : Axis) (spot : Spot) → is_spot forest.nodes spot ≡ true → list_all (is_shown forest.nodes) (kind_read axis (shaped forest.nodes) (number_at spot)) ≡ true
+      by Child spot h = read-there spot h
+      by Descendant spot h = read-there spot h
+      by DescendantOrSelf spot h = read-there spot h
+      by FollowingSibling spot h = around-there spot h
+      by PrecedingSibling spot h = around-there spot h
+      by Attribute spot h = refl
+      by Self_ spot h = refl
+      by Parent spot h = refl
+      by Ancestor spot h = refl
+      by AncestorOrSelf spot h = refl
+
+pub if-shown : (nodes : List Node) (b : Bool) (ns : List ℕ) → list_all (is_shown nodes) ns ≡ true → list_all (is_shown nodes) (read_if b ns) ≡ true
+if-shown nodes true ns h = h
+if-shown nodes false ns h = refl

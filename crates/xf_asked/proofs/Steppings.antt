@@ -25,6 +25,7 @@ use Rattle.xf_lang.proofs.TraceKeeps.{meaning-of_trace}
 use Rattle.xf_lang.proofs.VisitFacts.{filter-append, no, none-some, present, some-same}
 use Rattle.xf_lang.proofs.ForestVisits.{each-map, self-found}
 use Rattle.xf_eval.specs.Taken.{taken}
+use Rattle.xf_shape.specs.declared.spot.Spot.{Spot}
 use Rattle.xf_shape.specs.Spots.{numbers_at, shaped}
 use Rattle.xf_shape.proofs.Filled.{append-none}
 use Rattle.xf_shape.proofs.Frames.{each-same}
@@ -37,15 +38,13 @@ use Rattle.xf_asked.proofs.Ends.{has-filter}
 
 each-flat : (f : ℕ → Option (List ℕ)) (ns : List ℕ) (sets : List (List ℕ)) → each f ns ≡ Some sets → flat_map (λ n. unwrap_or (f n) []) ns ≡ joined sets
 each-flat f [] sets e = ap joined (some-same e)
-each-flat f (n ∷ ns) sets e = by (f n) refl e
+each-flat f (n ∷ ns) sets e = by (f n) refl (each f ns) refl e (each-flat f ns)
   where
-    of : (k : List ℕ) (m : Option (List (List ℕ))) → each f ns ≡ m → (m >>= λ ys. Some (k ∷ ys)) ≡ Some sets → k ++ flat_map (λ i. unwrap_or (f i) []) ns ≡ joined sets
-    of k None i j = none-some j
-    of k (Some ys) i j = ap (λ l. k ++ l) (each-flat f ns ys i) ∙ ap joined (some-same j)
-
-    by : (m : Option (List ℕ)) → f n ≡ m → (m >>= λ y. each f ns >>= λ ys. Some (y ∷ ys)) ≡ Some sets → unwrap_or (f n) [] ++ flat_map (λ i. unwrap_or (f i) []) ns ≡ joined sets
-    by None i j = none-some j
-    by (Some k) i j = ap (λ m. unwrap_or m [] ++ flat_map (λ i. unwrap_or (f i) []) ns) i ∙ of k (each f ns) refl j
+    by : (m : Option (List ℕ)) → f n ≡ m → (k : Option (List (List ℕ))) → each f ns ≡ k → (m >>= λ y. k >>= λ ys. Some (y ∷ ys)) ≡ Some sets →
+        ((sets : List (List ℕ)) → each f ns ≡ Some sets → flat_map (λ i. unwrap_or (f i) []) ns ≡ joined sets) → unwrap_or (f n) [] ++ flat_map (λ i. unwrap_or (f i) []) ns ≡ joined sets
+    by None i k l j rest = none-some j
+    by (Some y) i None l j rest = none-some j
+    by (Some y) i (Some ys) l j rest = ap (λ m. unwrap_or m [] ++ flat_map (λ i. unwrap_or (f i) []) ns) i ∙ ap (λ l. y ++ l) (rest ys l) ∙ ap joined (some-same j)
 
 -- ---- sets in document order
 
@@ -171,8 +170,8 @@ module _ (nodes : List Node) (s : Setting) (same : s.all ≡ shaped nodes) (step
             ∙ ap (λ i. filter (is_list nodes) a.looks ++ filter (is_list nodes) (flat_map (lists_of step.axis (shaped nodes)) i) ++ read_if step.is_below (filter (is_list nodes) (flat_map (lists_below (shaped nodes)) (numbers_at asked.set.items)))) begins
             ∙ ap (λ i. filter (is_list nodes) a.looks ++ filter (is_list nodes) (flat_map (lists_of step.axis (shaped nodes)) start) ++ read_if step.is_below (filter (is_list nodes) (flat_map (lists_below (shaped nodes)) i))) t.set
             ∙ ap (λ l. filter (is_list nodes) a.looks ++ filter (is_list nodes) (flat_map (lists_of step.axis (shaped nodes)) start) ++ l) (sym (filter-if (is_list nodes) step.is_below (flat_map (lists_below (shaped nodes)) a.set)))
-            ∙ ap (λ l. filter (is_list nodes) a.looks ++ l) (sym (filter-append (is_list nodes) (flat_map (lists_of step.axis (shaped nodes)) start) (read_if step.is_below (flat_map (lists_below (shaped nodes)) a.set))))
-            ∙ sym (filter-append (is_list nodes) a.looks (flat_map (lists_of step.axis (shaped nodes)) start ++ read_if step.is_below (flat_map (lists_below (shaped nodes)) a.set)))
+            ∙ ap (λ l. l ++ filter (is_list nodes) (read_if step.is_below (flat_map (lists_below (shaped nodes)) a.set))) (sym (filter-append (is_list nodes) a.looks (flat_map (lists_of step.axis (shaped nodes)) start)))
+            ∙ sym (filter-append (is_list nodes) (a.looks ++ flat_map (lists_of step.axis (shaped nodes)) start) (read_if step.is_below (flat_map (lists_below (shaped nodes)) a.set)))
             ∙ ap (λ all. filter (is_list nodes) (a.looks ++ flat_map (lists_of step.axis all) start ++ read_if step.is_below (flat_map (lists_below all) a.set))) (sym same);
       })
     where
@@ -184,6 +183,45 @@ module _ (nodes : List Node) (s : Setting) (same : s.all ≡ shaped nodes) (step
 
       loose : told.is_loose ≡ (a.is_loose || tells_kinds step.is_written step.axis step.test || is_pair step.is_below step.axis)
       loose = l ∙ ap (λ b. b || tells_kinds step.is_written step.axis step.test || is_pair step.is_below step.axis) t.is_loose
+
+module _ (nodes : List Node) (s : Setting) (same : s.all ≡ shaped nodes) (step : Step) (asked told : Asked) (a : lang.Asked) (t : Tells nodes asked a) where
+  abbrev Loose : Bool
+  Loose = asked.is_loose || tells_kinds step.is_written step.axis step.test || is_pair step.is_below step.axis
+
+  abbrev KindReads : List Spot → List ℕ
+  KindReads spots = read_if (tells_kinds step.is_written step.axis step.test) (flat_map (kind_read step.axis (shaped nodes)) (numbers_at spots))
+
+  abbrev AxisLooks : List Spot → List ℕ
+  AxisLooks spots = filter (is_list nodes) (flat_map (lists_of step.axis (shaped nodes)) (numbers_at spots))
+
+  abbrev Reached : List Spot → List ℕ
+  Reached spots = stepped step.is_written step.axis step.test (if_tight told.is_loose (map trace step.predicates)) s (numbers_at spots)
+
+  -- from the nodes at hand
+  pub step-here : step.is_below ≡ false → told.is_loose ≡ Loose → told.is_truth ≡ false → (from : List Spot) → from ≡ asked.set.items → told.reads ≡ asked.reads ++ KindReads from → told.looks ≡ asked.looks ++ AxisLooks from →
+      (set : List Spot) → set ≡ asked.set.items → numbers_at told.set.items ≡ Reached set → Tells nodes told ((trace_of_step step).asked s a)
+  step-here b l h from f r k set e i =
+      step-tells nodes s same step asked told (numbers_at asked.set.items) a t
+      (sym (ap (λ c. begun_at c (shaped nodes) (numbers_at asked.set.items)) b)) l h (i ∙ ap Reached e)
+      (r ∙ ap (λ spots. asked.reads ++ KindReads spots) f ∙ sym (append-none (asked.reads ++ KindReads asked.set.items))
+      ∙ ap (λ c. asked.reads ++ KindReads asked.set.items ++ read_if (is_pair c step.axis) (flat_map (read_for (shaped nodes)) (numbers_at asked.set.items))) (sym b))
+      (k ∙ ap (λ spots. asked.looks ++ AxisLooks spots) f ∙ sym (append-none (asked.looks ++ AxisLooks asked.set.items))
+      ∙ ap (λ c. asked.looks ++ AxisLooks asked.set.items ++ read_if c (filter (is_list nodes) (flat_map (lists_below (shaped nodes)) (numbers_at asked.set.items)))) (sym b))
+
+  -- behind `//`
+  pub step-below : step.is_below ≡ true → told.is_loose ≡ Loose → told.is_truth ≡ false → (below : List Spot) → numbers_at below ≡ begun_at true (shaped nodes) (numbers_at asked.set.items) →
+      (from : List Spot) → from ≡ below → (reads : List ℕ) → reads ≡ asked.reads ++ KindReads from → (looks : List ℕ) → looks ≡ asked.looks ++ AxisLooks from →
+      (above : List Spot) → above ≡ asked.set.items → told.reads ≡ reads ++ read_if (is_pair step.is_below step.axis) (flat_map (read_for (shaped nodes)) (numbers_at above)) →
+      told.looks ≡ looks ++ filter (is_list nodes) (flat_map (lists_below (shaped nodes)) (numbers_at above)) →
+      (set : List Spot) → set ≡ below → numbers_at told.set.items ≡ Reached set → Tells nodes told ((trace_of_step step).asked s a)
+  step-below b l h below v from f reads r looks k above g r' k' set e i =
+      step-tells nodes s same step asked told (numbers_at below) a t
+      (v ∙ ap (λ c. begun_at c (shaped nodes) (numbers_at asked.set.items)) (sym b)) l h (i ∙ ap Reached e)
+      (r' ∙ ap (λ x. x ++ read_if (is_pair step.is_below step.axis) (flat_map (read_for (shaped nodes)) (numbers_at above))) (r ∙ ap (λ spots. asked.reads ++ KindReads spots) f)
+      ∙ ap (λ spots. asked.reads ++ KindReads below ++ read_if (is_pair step.is_below step.axis) (flat_map (read_for (shaped nodes)) (numbers_at spots))) g)
+      (k' ∙ ap (λ x. x ++ filter (is_list nodes) (flat_map (lists_below (shaped nodes)) (numbers_at above))) (k ∙ ap (λ spots. asked.looks ++ AxisLooks spots) f)
+      ∙ ap (λ spots. asked.looks ++ AxisLooks below ++ filter (is_list nodes) (flat_map (lists_below (shaped nodes)) (numbers_at spots))) g
+      ∙ ap (λ c. asked.looks ++ AxisLooks below ++ read_if c (filter (is_list nodes) (flat_map (lists_below (shaped nodes)) (numbers_at asked.set.items)))) (sym b))
 
 -- ---- a chain of steps
 

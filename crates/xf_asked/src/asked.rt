@@ -1,6 +1,6 @@
 //! What an expression asks of the data (XForms 1.1, appendix C): the nodes whose string values it reads, and the lists that it looks at.
 
-ghost use Rattle.std.specs.Prelude.{◌≡◌, [], true, filter, List, IfOk};
+ghost use Rattle.std.specs.Prelude.{◌≡◌, ◌||◌, [], true, filter, List, IfOk};
 ghost use Rattle.std.specs.List.{list_all};
 ghost use Rattle.xf_doc.specs.declared.content.Node.{Node};
 ghost use Rattle.xf_lang.specs.Asked.{as_plain, as_set, as_truth, asked_first, both, plainly, tightly, with_read};
@@ -199,7 +199,7 @@ pub fn either(alloc: Global, forest: &Forest, one: Asked, other: Asked) -> Resul
     ensures tells { IfOk result (λ told. (s : Setting) → s.all ≡ shaped forest.now.forest.nodes → (a b : lang.Asked) → Tells forest.now.forest.nodes one a → Tells forest.now.forest.nodes other b → Tells forest.now.forest.nodes told (either s a b)) }
     ensures stands { IfOk result (λ told. Stands forest.now.forest.nodes told) }
 {
-    let is_loose = one.is_loose || other.is_loose;
+    let is_loose = is_one(one.is_loose, other.is_loose);
     let mut set = one.set;
     set.extend_from_slice(&other.set)?;
     let mut reads = one.reads;
@@ -213,6 +213,12 @@ pub fn either(alloc: Global, forest: &Forest, one: Asked, other: Asked) -> Resul
         reads,
         looks,
     })
+}
+
+fn is_one(one: bool, other: bool) -> bool
+    ensures { result ≡ (one || other) }
+{
+    one || other
 }
 
 /// What both sides of an operator on numbers ask.

@@ -127,6 +127,7 @@ pub(crate) fn push_looks(
     requires { is_spot forest.now.forest.nodes spot ≡ true }
     ensures { OnOk result (looks.new ≡ looks.old ++ filter (is_list forest.now.forest.nodes) (lists_of axis (shaped forest.now.forest.nodes) (number_at spot))) }
 {
+    is_sound(forest);
     match axis {
         Axis::Child | Axis::Attribute => push_own(forest, spot, looks),
         Axis::Descendant | Axis::DescendantOrSelf => push_below(forest, spot, looks),

@@ -1,6 +1,6 @@
 //! What steps and predicates ask.
 
-ghost use Rattle.std.specs.Prelude.{◌≡◌, ◌++◌, true, Some, filter, map, IfOk, OnOk};
+ghost use Rattle.std.specs.Prelude.{◌≡◌, ◌++◌, ◌&&◌, ◌||◌, true, Some, filter, map, IfOk, OnOk};
 ghost use Rattle.std.specs.List.{flat_map, list_all};
 ghost use Rattle.xf_eval.specs.Live.{IsReady};
 ghost use Rattle.xf_eval.specs.Taken.{taken};
@@ -63,7 +63,8 @@ fn step_asked<A: Around>(
     ensures tells { IfOk result (λ told. (a : lang.Asked) → Tells forest.now.forest.nodes asked a → Tells forest.now.forest.nodes told ((trace_of_step step.now).asked (shape_at (A.given around.now) forest.now.forest.nodes context.now) a)) }
     ensures stands { IfOk result (λ told. Stands forest.now.forest.nodes told) }
 {
-    let is_loose = asked.is_loose || tells_kinds(step) || is_pair(step);
+    is_sound(forest);
+    let is_loose = is_loose_after(step, asked.is_loose);
     let Asked {
         set,
         is_loose: _,
@@ -110,8 +111,9 @@ fn stepped<A: Around>(
     ensures value { IfOk result (λ found. numbers_at found.items ≡ stepped step.now.is_written step.now.axis step.now.test (if_tight is_loose (map trace step.now.predicates)) (shape_at (A.given around.now) forest.now.forest.nodes context.now) (numbers_at from.now)) }
     ensures spots { IfOk result (λ found. AreSpots forest.now.forest.nodes found.items) }
 {
+    is_sound(forest);
     let found = tried(alloc, forest, around, step, is_loose, from, context)?;
-    if tells_kinds(step) && goes_beside(step.axis) {
+    if keeps_texts(step) {
         return with_texts(alloc, forest, found, from);
     }
     Ok(found)
@@ -267,6 +269,20 @@ pub fn filtered<A: Around>(
         reads,
         looks,
     })
+}
+
+/// Whether the set is loose once the step is taken.
+fn is_loose_after(step: &Step, is_loose: bool) -> bool
+    ensures { result ≡ (is_loose || tells_kinds step.now.is_written step.now.axis step.now.test || is_pair step.now.is_below step.now.axis) }
+{
+    is_loose || tells_kinds(step) || is_pair(step)
+}
+
+/// Whether the texts at which it begins are reached, too.
+fn keeps_texts(step: &Step) -> bool
+    ensures { result ≡ (tells_kinds step.now.is_written step.now.axis step.now.test && goes_beside step.now.axis) }
+{
+    tells_kinds(step) && goes_beside(step.axis)
 }
 
 /// Whether texts may stand on the axis.

@@ -17,7 +17,7 @@ returns-clause-tells c =
     λ s e a b t u. record {
       set = set-both nodes c.args.one c.args.other a b t u _ c.deref-2.result.now (c.deref-2.ensures.value ∙ c.in_ok-extend_from_slice.ensures.items ∙ ap (λ l. c.args.one.set.items ++ l) c.deref.ensures.value) c.in_ok-in_order.ensures.value
           ∙ ap (λ all. in_order all (a.set ++ b.set)) (sym e);
-      is_loose = loose-both nodes c.args.one c.args.other a b t u _ refl;
+      is_loose = loose-both nodes c.args.one c.args.other a b t u _ c.is_one-is_loose.ensures;
       is_truth = refl;
       reads = reads-both nodes c.args.one c.args.other a b t u _ c.in_ok-append.ensures;
       looks = looks-both nodes c.args.one c.args.other a b t u _ c.in_ok-append-2.ensures;

@@ -21,9 +21,9 @@ returns-clause-tells c =
     let nodes = c.args.forest.now.forest.nodes in
     let whole = ap numbers_at (take_all c.loop-spot.spot-index c.args.spots.now c.loop-spot-test.false) in
     λ a r k. read-tells nodes c.args.spots.now _ c.args.reads c.args.looks a c.new.ensures.items refl refl
-        (c.loop-spot.invariant.reads ∙ ap (λ ns. c.args.reads ++ flat_map (read_for (shaped nodes)) ns) whole)
-        (c.loop-spot.invariant.looks ∙ ap (λ ns. c.args.looks ++ flat_map (λ n. filter (is_list nodes) (lists_below (shaped nodes) n)) ns) whole)
-        r k
+    (c.loop-spot.invariant.reads ∙ ap (λ ns. c.args.reads ++ flat_map (read_for (shaped nodes)) ns) whole)
+    (c.loop-spot.invariant.looks ∙ ap (λ ns. c.args.looks ++ flat_map (λ n. filter (is_list nodes) (lists_below (shaped nodes) n)) ns) whole)
+    r k
 
 pub returns-clause-stands : goal.returns-clause-stands
 returns-clause-stands c =

@@ -15,20 +15,20 @@ push_parent-requires c =
 pub returns-in-Outside : goal.returns-in-Outside
 returns-in-Outside c =
     let f = c.args.forest.now.forest in
-    sym (append-none c.args.looks.old)
-    ∙ ap (λ s. c.args.looks.old ++ around_of f.nodes s) (sym c.in-Outside.is)
-    ∙ ap (λ l. c.args.looks.old ++ l) (around-is f c.is_sound.ensures c.args.spot c.requires)
+    sym (append-none c.args.looks.now)
+    ∙ ap (λ s. c.args.looks.now ++ around_of f.nodes s) (sym c.in-Outside.is)
+    ∙ ap (λ l. c.args.looks.now ++ l) (around-is f c.is_sound.ensures c.args.spot c.requires)
 
 pub returns-in-TextOf : goal.returns-in-TextOf
 returns-in-TextOf c =
     let f = c.args.forest.now.forest in
     on_ok_weaker c.push.result
-    (λ h. h ∙ ap (λ s. c.args.looks.old ++ around_of f.nodes s) (sym c.in-TextOf.is) ∙ ap (λ l. c.args.looks.old ++ l) (around-is f c.is_sound.ensures c.args.spot c.requires))
+    (λ h. h ∙ ap (λ s. c.args.looks.now ++ around_of f.nodes s) (sym c.in-TextOf.is) ∙ ap (λ l. c.args.looks.now ++ l) (around-is f c.is_sound.ensures c.args.spot c.requires))
     c.push.ensures.ok
 
 pub returns-in-Node : goal.returns-in-Node
 returns-in-Node c =
     let f = c.args.forest.now.forest in
     on_ok_weaker c.push_parent.result
-    (λ h. h ∙ ap (λ s. c.args.looks.old ++ around_of f.nodes s) (sym c.in-Node.is) ∙ ap (λ l. c.args.looks.old ++ l) (around-is f c.is_sound.ensures c.args.spot c.requires))
+    (λ h. h ∙ ap (λ s. c.args.looks.now ++ around_of f.nodes s) (sym c.in-Node.is) ∙ ap (λ l. c.args.looks.now ++ l) (around-is f c.is_sound.ensures c.args.spot c.requires))
     c.push_parent.ensures

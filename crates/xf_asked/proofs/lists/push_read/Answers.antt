@@ -15,20 +15,20 @@ reader_of-requires c =
 pub returns-in-Outside : goal.returns-in-Outside
 returns-in-Outside c =
     let f = c.args.forest.now.forest in
-    sym (append-none c.args.reads.old)
-    ∙ ap (λ s. c.args.reads.old ++ read_of f.nodes s) (sym c.in-Outside.is)
-    ∙ ap (λ l. c.args.reads.old ++ l) (read-is f c.is_sound.ensures c.args.spot c.requires)
+    sym (append-none c.args.reads.now)
+    ∙ ap (λ s. c.args.reads.now ++ read_of f.nodes s) (sym c.in-Outside.is)
+    ∙ ap (λ l. c.args.reads.now ++ l) (read-is f c.is_sound.ensures c.args.spot c.requires)
 
 pub returns-in-TextOf : goal.returns-in-TextOf
 returns-in-TextOf c =
     let f = c.args.forest.now.forest in
     on_ok_weaker c.push.result
-    (λ h. h ∙ ap (λ s. c.args.reads.old ++ read_of f.nodes s) (sym c.in-TextOf.is) ∙ ap (λ l. c.args.reads.old ++ l) (read-is f c.is_sound.ensures c.args.spot c.requires))
+    (λ h. h ∙ ap (λ s. c.args.reads.now ++ read_of f.nodes s) (sym c.in-TextOf.is) ∙ ap (λ l. c.args.reads.now ++ l) (read-is f c.is_sound.ensures c.args.spot c.requires))
     c.push.ensures.ok
 
 pub returns-in-Node : goal.returns-in-Node
 returns-in-Node c =
     let f = c.args.forest.now.forest in
     on_ok_weaker c.push-in-Node.result
-    (λ h. h ∙ ap (λ k. c.args.reads.old ++ k ∷ []) c.reader_of.ensures ∙ ap (λ s. c.args.reads.old ++ read_of f.nodes s) (sym c.in-Node.is) ∙ ap (λ l. c.args.reads.old ++ l) (read-is f c.is_sound.ensures c.args.spot c.requires))
+    (λ h. h ∙ ap (λ k. c.args.reads.now ++ k ∷ []) c.reader_of.ensures ∙ ap (λ s. c.args.reads.now ++ read_of f.nodes s) (sym c.in-Node.is) ∙ ap (λ l. c.args.reads.now ++ l) (read-is f c.is_sound.ensures c.args.spot c.requires))
     c.push-in-Node.ensures.ok
