@@ -2,5 +2,4 @@ pub mod Levels
 pub mod Calls
 pub mod Rounds
 pub mod Around
-pub mod Ends
 pub mod Wholes

@@ -15,7 +15,7 @@ use Rattle.xf_shape.proofs.Shapes.{Sound}
 use Rattle.xf_shape.proofs.Values.{six-same}
 use Rattle.xf_asked.specs.declared.asked.Asked.{Asked}
 use Rattle.xf_asked.specs.Tells.{Stands, Tells}
-use Rattle.xf_reads.proofs.Ends.{told-looks, told-reads}
+use Rattle.xf_asked.proofs.Ends.{told-looks, told-reads}
 
 module _ (forest : Forest) (sound : Sound forest) (given : Given) (six : given.decimals ≡ 6) (x : Expr) (context : Context) (told : Asked)
     (tells : Tells forest.nodes told (converted (shape_at given forest.nodes context) ((trace x).asked (shape_at given forest.nodes context) (focus_of context)))) where
