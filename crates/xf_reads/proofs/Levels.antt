@@ -1,5 +1,5 @@
 -- What one level of an expression asks, from what its parts ask.
-use Rattle.std.proofs.Common.{◌≡◌, ℕ, List, [], map, ap, ◌∙◌}
+use Rattle.std.proofs.Common.{◌≡◌, ℕ, List, [], map, sym, ap, ◌∙◌}
 use Rattle.xf_ast.specs.declared.expr.Expr.{Expr}
 use Rattle.xf_ast.specs.declared.expr.Expr.TheVariants as e
 use Rattle.xf_ast.specs.declared.expr.Link.{Link}
@@ -37,8 +37,12 @@ module _ (s : Setting) (c : Focus) where
   pub filter-asks : (x first : Expr) (predicates : List Expr) → x ≡ e.Filter first predicates → (trace x).asked s c ≡ filtered s (map trace predicates) ((trace first).asked s c)
   filter-asks x first predicates i = ap (λ y. asked-in (trace y)) i ∙ ap asked-in (trace-Filter first predicates)
 
-  pub path-asks : (x : Expr) (place : ℕ) (start : Start) (steps : List Step) → x ≡ e.Path place start steps → (trace x).asked s c ≡ walks_asked s (map trace_of_step steps) (tightly (begun start s c))
-  path-asks x place start steps i = ap (λ y. asked-in (trace y)) i ∙ ap asked-in (trace-Path place start steps)
+  pub path-asks : (x : Expr) (place : ℕ) (start : Start) (steps ss : List Step) (ns : List ℕ) → x ≡ e.Path place start steps → ss ≡ steps → ns ≡ begun start s c →
+      walks_asked s (map trace_of_step ss) (tightly ns) ≡ (trace x).asked s c
+  path-asks x place start steps ss ns i same from =
+      ap (λ l. walks_asked s (map trace_of_step l) (tightly ns)) same
+      ∙ ap (λ l. walks_asked s (map trace_of_step steps) (tightly l)) from
+      ∙ sym (ap (λ y. asked-in (trace y)) i ∙ ap asked-in (trace-Path place start steps))
 
   pub from-asks : (x first : Expr) (steps : List Step) → x ≡ e.From first steps → (trace x).asked s c ≡ walks_asked s (map trace_of_step steps) ((trace first).asked s c)
   from-asks x first steps i = ap (λ y. asked-in (trace y)) i ∙ ap asked-in (trace-From first steps)
