@@ -8,7 +8,6 @@ use Rattle.xf_doc.specs.declared.content.Node.{Node}
 use Rattle.xf_doc.proofs.BackLaws.{and-true}
 use Rattle.xf_lang.specs.declared.context.Context.{Context}
 use Rattle.xf_lang.specs.declared.value.Value.{Value}
-use Rattle.xf_lang.specs.Asked.{Trace}
 use Rattle.xf_lang.specs.AskedCalls.{all_converted, call_asked, meanings, nodes_if}
 use Rattle.xf_lang.specs.Binding.{as_list}
 use Rattle.xf_lang.specs.Conversions.{nodes_of}
@@ -28,7 +27,7 @@ use Rattle.xf_eval.specs.Kinds.{function_in}
 use Rattle.xf_eval.specs.Worth.{with_six}
 use Rattle.xf_shape.specs.Bound.{document_by, literal_id}
 use Rattle.xf_shape.specs.Fixed.{Fixed, all_fixed, begins_literal, call_fixed, fixed_of, is_fixed}
-use Rattle.xf_shape.specs.Over.{nodes_at, shape_at}
+use Rattle.xf_shape.specs.Over.{shape_at}
 use Rattle.xf_shape.proofs.FixedEquations.{fixed-Call}
 use Rattle.xf_shape.proofs.Results.{all-mapped}
 use Rattle.xf_shape.proofs.Values.{call-are}

@@ -1,4 +1,4 @@
-use Rattle.std.proofs.Common.{◌++◌, sym, refl, ap, ◌∙◌}
+use Rattle.std.proofs.Common.{◌++◌, refl, ap, ◌∙◌}
 use Rattle.std.specs.Prelude.{option_map}
 use Rattle.std.specs.List.{flat_map}
 use Rattle.xf_doc.specs.declared.node.NodeId.{NodeId}
