@@ -1,7 +1,8 @@
 -- Elements, parts and copies by their places in lists.
 use Rattle.std.proofs.Common.{◌≡◌, ℕ, zero, suc, ◌+◌, ◌<◌, ◌≤◌, Bool, true, false, not, ◌&&◌, ◌||◌, cond, List, [], ◌∷◌, ◌++◌, map, length, get_or, drop, Option, Some, None, option_map, refl, sym, ap, ◌∙◌, arith, append_assoc}
 use Rattle.std.specs.Prelude.{find, slice_get, nat_lt}
-use Rattle.std.specs.List.{list_all}
+use Rattle.std.specs.List.{flat_map, list_all}
+use Rattle.std.proofs.lemmas.List.Folds.{list_all-append}
 use Rattle.std.proofs.lemmas.List.{append-nil, drop_all, drop_more}
 use Rattle.xf_ast.specs.declared.element.Element as written
 use Rattle.xf_ast.specs.declared.element.Part.{Part}
@@ -9,37 +10,31 @@ use Rattle.xf_ast.specs.declared.element.Part.TheVariants as part
 use Rattle.xf_ast.specs.declared.form.Form.{Form}
 use Rattle.xf_ast.specs.declared.form.Tables.{Tables}
 use Rattle.xf_lang.specs.Setting.{◌>>=◌}
-use Rattle.xf_ui.specs.Interface.{Element, element_of, interface_of, sort_of}
+use Rattle.xf_ui.specs.Interface.{Element, Interface, element_of, interface_of, sort_of}
 use Rattle.xf_ui.specs.Elements.{element_at, is_control, no_element}
 use Rattle.xf_ui.specs.Copies.{Copy}
 use Rattle.xf_controls.specs.declared.copy.ControlCopy.{ControlCopy}
-use Rattle.xf_controls.specs.Plain.{is_plain, is_plain_sort}
+use Rattle.xf_ast.specs.Ordered.{child_in, is_parent, numbered_from}
+use Rattle.xf_controls.specs.Plain.{are_children, stands_plainly}
 use Rattle.xf_controls.specs.Below.{is_shown, of_part, of_parts, shows, some_shown}
 use Rattle.xf_controls.specs.Rising.{rises_from}
 use Rattle.xf_controls.specs.Seen.{seen_copy}
 
 -- ---- elements
 
-plain-of : (es : List written.Element) (tables : Tables) → list_all (λ (e : Element). is_plain_sort e.sort) (map (element_of tables) es) ≡ list_all (λ (e : written.Element). is_plain_sort (sort_of e.kind)) es
-plain-of [] tables = refl
-plain-of (e ∷ es) tables = ap (λ b. is_plain_sort (sort_of e.kind) && b) (plain-of es tables)
+pub plain-more : (f : Interface) (tables : Tables) (es : List written.Element) (i : ℕ) (e : written.Element) → i < length es → e ≡ get_or es i e
+    → list_all (stands_plainly f) (numbered_from i (map (element_of tables) (drop i es))) ≡ (stands_plainly f (i, element_of tables e) && list_all (stands_plainly f) (numbered_from (i + 1) (map (element_of tables) (drop (i + 1) es))))
+plain-more f tables es i e l is =
+    let next : suc i ≡ i + 1 = omega arith in
+    ap (λ ds. list_all (stands_plainly f) (numbered_from i (map (element_of tables) ds))) (drop_more es i e l)
+    ∙ ap (λ d. stands_plainly f (i, element_of tables d) && list_all (stands_plainly f) (numbered_from (suc i) (map (element_of tables) (drop (i + 1) es)))) (sym is)
+    ∙ ap (λ k. stands_plainly f (i, element_of tables e) && list_all (stands_plainly f) (numbered_from k (map (element_of tables) (drop (i + 1) es)))) next
 
--- where one is not plain
-not-plain : (es : List written.Element) (i : ℕ) (e : written.Element) → i < length es → e ≡ get_or es i e → is_plain_sort (sort_of e.kind) ≡ false → false ≡ list_all (λ (x : written.Element). is_plain_sort (sort_of x.kind)) es
-not-plain [] i e l is h = absurd (omega (arith, l))
-not-plain (x ∷ es) zero e l is h = sym (ap (λ (y : written.Element). is_plain_sort (sort_of y.kind) && list_all (λ (z : written.Element). is_plain_sort (sort_of z.kind)) es) (sym is) ∙ ap (λ b. b && list_all (λ (z : written.Element). is_plain_sort (sort_of z.kind)) es) h)
-not-plain (x ∷ es) (suc i) e l is h = by (is_plain_sort (sort_of x.kind)) (not-plain es i e (omega (arith, l)) is h)
-  where
-    by : (b : Bool) → false ≡ list_all (λ (z : written.Element). is_plain_sort (sort_of z.kind)) es → false ≡ (b && list_all (λ (z : written.Element). is_plain_sort (sort_of z.kind)) es)
-    by true k = k
-    by false k = refl
-
-pub refused-plain : (form : Form) (es : List written.Element) (i : ℕ) (e : written.Element) → es ≡ form.elements → i < length es → e ≡ get_or es i e → is_plain_sort (sort_of e.kind) ≡ false → false ≡ is_plain (interface_of form)
-refused-plain form es i e same l is h =
-    not-plain es i e l is h ∙ ap (list_all (λ (x : written.Element). is_plain_sort (sort_of x.kind))) same ∙ sym (plain-of form.elements form.tables)
-
-pub all-plain : (form : Form) (es : List written.Element) → es ≡ form.elements → list_all (λ (x : written.Element). is_plain_sort (sort_of x.kind)) es ≡ true → true ≡ is_plain (interface_of form)
-all-plain form es same h = sym h ∙ ap (list_all (λ (x : written.Element). is_plain_sort (sort_of x.kind))) same ∙ sym (plain-of form.elements form.tables)
+pub children-more : (f : Interface) (n : ℕ) (ps : List Part) (i : ℕ) (p : Part) → i < length ps → p ≡ get_or ps i p
+    → are_children f n (flat_map child_in (drop i ps)) ≡ (are_children f n (child_in p) && are_children f n (flat_map child_in (drop (i + 1) ps)))
+children-more f n ps i p l is =
+    ap (λ qs. are_children f n (flat_map child_in qs)) (drop_more ps i p l) ∙ ap (λ q. are_children f n (child_in q ++ flat_map child_in (drop (i + 1) ps))) (sym is)
+    ∙ list_all-append (λ m. is_parent n (element_at f m).parent) (child_in p) (flat_map child_in (drop (i + 1) ps))
 
 at-none : (tables : Tables) (es : List written.Element) (n : ℕ) → slice_get es n ≡ None → get_or (map (element_of tables) es) n no_element ≡ no_element
 at-none tables [] n h = refl
