@@ -231,11 +231,11 @@ abbrev pub AreReady : ℕ → Contents → Trees → Type 0
 AreReady number [] t = ⊤
 AreReady number (p ∷ ps) t = Fits p.0 t × (times p.0 t ≤ 1) × (p.0 < number) × AreReady number ps t
 
-ready-later : (number : ℕ) (contents : Contents) (t : Trees) → AreReady number contents t → AreReady (suc number) contents t
+pub ready-later : (number : ℕ) (contents : Contents) (t : Trees) → AreReady number contents t → AreReady (suc number) contents t
 ready-later number [] t h = tt
 ready-later number (p ∷ ps) t h = let less = h.2 in (h.0, h.1, omega (arith, less), ready-later number ps t h.3)
 
-ready-put : (number m : ℕ) (u : List ℕ) (contents : Contents) (t : Trees) → Fits m t → times m t ≤ 1 → AreReady number contents t → AreReady number contents (put number m u t)
+pub ready-put : (number m : ℕ) (u : List ℕ) (contents : Contents) (t : Trees) → Fits m t → times m t ≤ 1 → AreReady number contents t → AreReady number contents (put number m u t)
 ready-put number m u [] t fits once h = tt
 ready-put number m u (p ∷ ps) t fits once h =
     let less = h.2 in

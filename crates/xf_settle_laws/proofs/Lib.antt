@@ -3,3 +3,7 @@ pub mod Spots
 pub mod Bridge
 pub mod WrittenLaws
 pub mod Held
+pub mod Renamed
+pub mod Single
+pub mod Many
+pub mod AlikeLaws
