@@ -26,7 +26,7 @@ use Rattle.xf_settle_laws.proofs.Spots.{FitsHere, Fits, Spot, spot, put-absent, 
 
 -- ---- what fits stays so
 
-leaf-no_element : (c : Content) → is_leaf c ≡ true → is_element c ≡ false
+pub leaf-no_element : (c : Content) → is_leaf c ≡ true → is_element c ≡ false
 leaf-no_element Root e = refl
 leaf-no_element (Element name) e = let no : false ≡ true = e in cc
 leaf-no_element (Attribute name text) e = refl
@@ -54,7 +54,7 @@ leaves-lone : (a : ℕ) (text : List ℕ) → AreLeaves (lone (one_text a text))
 leaves-lone a [] = tt
 leaves-lone a (c ∷ cs) = (refl, refl, tt)
 
-leaves-content : (a : ℕ) (text : List ℕ) (k : Trees) → AreLeaves k → AreLeaves (content a text k)
+pub leaves-content : (a : ℕ) (text : List ℕ) (k : Trees) → AreLeaves k → AreLeaves (content a text k)
 leaves-content a text k h = by (same_texts (as_texts text) (texts_top k))
   where
     by : (b : Bool) → AreLeaves (cond b k (followed (attributes k) (lone (one_text a text))))

@@ -5,5 +5,8 @@ pub mod WrittenLaws
 pub mod Held
 pub mod Renamed
 pub mod Single
+pub mod HoldLemmas
 pub mod Many
 pub mod AlikeLaws
+pub mod StillLaws
+pub mod MeasureLaws
