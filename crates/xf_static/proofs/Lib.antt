@@ -3,3 +3,4 @@ pub mod Words
 pub mod StaticLaw
 pub mod ReaderLaw
 pub mod FormLaw
+pub mod FixedLaw

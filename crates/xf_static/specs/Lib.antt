@@ -1,1 +1,2 @@
 pub mod AsRead
+pub mod FixedAsRead
