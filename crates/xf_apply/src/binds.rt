@@ -15,13 +15,13 @@ ghost use Rattle.xf_apply.specs.Reached.{AreKept, kept_if, scope_in};
 
 use crate::adding::add_bind;
 use crate::fault::BindFault;
-use crate::nodes::is_sound;
 use crate::sets::{is_regular, sets_of};
 use std::alloc::{AllocError, Global};
 use xf_ast::{Bind, Tables};
 use xf_binds::Applied;
 use xf_doc::NodeList;
 use xf_eval::Around;
+use xf_shape::is_sound;
 use xf_tree::Forest;
 
 /// The entries and types that the binds of the model set, in the order of the binds, or the first exception. The node sets of a model's

@@ -13,13 +13,12 @@ ghost use Rattle.xf_shape.specs.Woven.{is_shown};
 ghost use Rattle.xf_apply.specs.Standing.{AreSets};
 ghost use Rattle.xf_apply.specs.Reached.{AreKept, kept_in, is_regular, outer_in, scope_in, sets_at, sets_in, through};
 
-use crate::nodes::is_sound;
 use crate::standings::Standings;
 use std::alloc::{AllocError, Global};
 use xf_ast::{Bind, Expr};
 use xf_doc::{NodeId, NodeList};
 use xf_eval::{Around, Context, single};
-use xf_shape::selected;
+use xf_shape::{is_sound, selected};
 use xf_tree::Forest;
 
 /// The node sets of a bind, where the nodes of some binds are kept by their numbers.

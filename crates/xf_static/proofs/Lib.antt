@@ -3,4 +3,3 @@ pub mod Words
 pub mod StaticLaw
 pub mod ReaderLaw
 pub mod FormLaw
-pub mod FixedLaw

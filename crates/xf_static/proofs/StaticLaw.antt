@@ -19,29 +19,29 @@ use Rattle.xf_static.specs.AsRead.{all_of, has_links, few_arguments, expr_as_rea
 use Rattle.xf_static.proofs.TripleKeeps.{triple_keeps}
 use Rattle.xf_static.proofs.Words.{Word, word_of, fits, word-fits}
 
-pub no : {A : Type 0} → false ≡ true → A
+no : {A : Type 0} → false ≡ true → A
 no h = cc h
 
-pub and-true : (a b : Bool) → (a && b) ≡ true → (a ≡ true) × (b ≡ true)
+and-true : (a b : Bool) → (a && b) ≡ true → (a ≡ true) × (b ≡ true)
 and-true true b h = (refl, h)
 and-true false b h = no h
 
-pub both : (a b : Bool) → a ≡ true → b ≡ true → (a && b) ≡ true
+both : (a b : Bool) → a ≡ true → b ≡ true → (a && b) ≡ true
 both true b h k = k
 both false b h k = h
 
-pub not-of : (b : Bool) → not b ≡ true → b ≡ false
+not-of : (b : Bool) → not b ≡ true → b ≡ false
 not-of true h = sym h
 not-of false h = refl
 
 none-some : {A B : Type 0} {x : A} → Some x ≡ None → B
 none-some h = cc h
 
-pub or-none : (a b : Option ℕ) → or_else a b ≡ None → (a ≡ None) × (b ≡ None)
+or-none : (a b : Option ℕ) → or_else a b ≡ None → (a ≡ None) × (b ≡ None)
 or-none None b h = (refl, h)
 or-none (Some p) b h = none-some h
 
-pub place-none : (b : Bool) (p : ℕ) → place_if b p ≡ None → b ≡ false
+place-none : (b : Bool) (p : ℕ) → place_if b p ≡ None → b ≡ false
 place-none true p h = none-some h
 place-none false p h = refl
 
@@ -53,31 +53,31 @@ pub record Known (s : Static) (f : Facts) : Type 0 where
   pub plain : s.gives_nodes ≡ false → f.is_plain ≡ true
   pub literal : s.is_literal ≡ true → f.is_placed ≡ true
 
-abbrev pub IsKnown : Static → Bool → Facts → Type 0
+abbrev IsKnown : Static → Bool → Facts → Type 0
 IsKnown s r f = r ≡ true → Known s f
 
-abbrev pub IsKnownLink : LinkStatic → Bool → LinkFacts → Type 0
+abbrev IsKnownLink : LinkStatic → Bool → LinkFacts → Type 0
 IsKnownLink s r f = (s.operator ≡ f.operator) × (r ≡ true → Known s.right f.right)
 
-abbrev pub IsKnownStep : Option ℕ → Bool → Bool → Type 0
+abbrev IsKnownStep : Option ℕ → Bool → Bool → Type 0
 IsKnownStep s r b = r ≡ true → s ≡ None → b ≡ true
 
-abbrev pub Part : Type 0
+abbrev Part : Type 0
 Part = (s : Static) × (r : Bool) × (f : Facts) × IsKnown s r f
 
-abbrev pub LinkPart : Type 0
+abbrev LinkPart : Type 0
 LinkPart = (s : LinkStatic) × (r : Bool) × (f : LinkFacts) × IsKnownLink s r f
 
-abbrev pub StepPart : Type 0
+abbrev StepPart : Type 0
 StepPart = (s : Option ℕ) × (r : Bool) × (b : Bool) × IsKnownStep s r b
 
-abbrev pub statics : List Part → List Static
+abbrev statics : List Part → List Static
 statics ks = map (λ (k : Part). k.0) ks
 
-abbrev pub reads : List Part → List Bool
+abbrev reads : List Part → List Bool
 reads ks = map (λ (k : Part). k.1) ks
 
-abbrev pub all_facts : List Part → List Facts
+abbrev all_facts : List Part → List Facts
 all_facts ks = map (λ (k : Part). k.2) ks
 
 exact-all : (ks : List Part) → all_of (reads ks) ≡ true → first_fault (statics ks) ≡ None → all_exact (all_facts ks) ≡ true
@@ -86,7 +86,7 @@ exact-all (k ∷ ks) h i =
     let r = and-true k.1 (all_of (reads ks)) h in let n = or-none k.0.fault (first_fault (statics ks)) i in
     both k.2.is_exact (all_exact (all_facts ks)) ((k.3 r.0).exact n.0) (exact-all ks r.1 n.1)
 
-pub placed-all : (ks : List Part) → all_of (reads ks) ≡ true → first_in_predicates (statics ks) ≡ None → all_placed (all_facts ks) ≡ true
+placed-all : (ks : List Part) → all_of (reads ks) ≡ true → first_in_predicates (statics ks) ≡ None → all_placed (all_facts ks) ≡ true
 placed-all [] h i = refl
 placed-all (k ∷ ks) h i =
     let r = and-true k.1 (all_of (reads ks)) h in let n = or-none k.0.in_predicate (first_in_predicates (statics ks)) i in
@@ -97,30 +97,6 @@ plain-all [] h i = refl
 plain-all (k ∷ ks) h i =
     let r = and-true k.1 (all_of (reads ks)) h in let n = or-none (place_if k.0.gives_nodes k.0.place) (first_of_nodes (statics ks)) i in
     both k.2.is_plain (list_all (λ (x : Facts). x.is_plain) (all_facts ks)) ((k.3 r.0).plain (place-none k.0.gives_nodes k.0.place n.0)) (plain-all ks r.1 n.1)
-
--- ---- calls without a fault
-
-module _ (place code : ℕ) (es : List Static) where
-  abbrev word_in : Word
-  word_in = word_of (name_at function_entries code)
-
-  pub moving-fault : call_fault place code es ≡ None → word_in.moving ≡ true → false ≡ true
-  moving-fault h m = none-some (sym (ap (λ b. if b then Some place else if word_in.instance then place_if (not (is_literal_call es)) place else if word_in.choose then node_branch es else None) m) ∙ h)
-
-  pub instance-literal : call_fault place code es ≡ None → word_in.moving ≡ false → word_in.instance ≡ true → is_literal_call es ≡ true
-  instance-literal h m i = by (is_literal_call es) (place-none (not (is_literal_call es)) place
-      (sym (ap (λ b. if b then Some place else if word_in.instance then place_if (not (is_literal_call es)) place else if word_in.choose then node_branch es else None) m
-      ∙ ap (λ b. if b then place_if (not (is_literal_call es)) place else if word_in.choose then node_branch es else None) i) ∙ h))
-    where
-      by : (b : Bool) → not b ≡ false → b ≡ true
-      by true j = refl
-      by false j = sym j
-
-  pub branch-none : call_fault place code es ≡ None → word_in.moving ≡ false → word_in.instance ≡ false → word_in.choose ≡ true → node_branch es ≡ None
-  branch-none h m i c =
-      sym (ap (λ b. if b then Some place else if word_in.instance then place_if (not (is_literal_call es)) place else if word_in.choose then node_branch es else None) m
-      ∙ ap (λ b. if b then place_if (not (is_literal_call es)) place else if word_in.choose then node_branch es else None) i
-      ∙ ap (λ b. if b then node_branch es else None) c) ∙ h
 
 -- ---- calls
 
@@ -137,29 +113,47 @@ module _ (place code : ℕ) (ks : List Part) (read : (few_arguments (function_at
   few_here : few_arguments (function_at code) (reads ks) ≡ true
   few_here = (and-true (few_arguments (function_at code) (reads ks)) (all_of (reads ks)) read).0
 
+  moving-fault : call_fault place code (statics ks) ≡ None → word.moving ≡ true → false ≡ true
+  moving-fault h m = none-some (sym (ap (λ b. if b then Some place else if word.instance then place_if (not (is_literal_call (statics ks))) place else if word.choose then node_branch (statics ks) else None) m) ∙ h)
+
+  instance-literal : call_fault place code (statics ks) ≡ None → word.moving ≡ false → word.instance ≡ true → is_literal_call (statics ks) ≡ true
+  instance-literal h m i = by (is_literal_call (statics ks)) (place-none (not (is_literal_call (statics ks))) place
+      (sym (ap (λ b. if b then Some place else if word.instance then place_if (not (is_literal_call (statics ks))) place else if word.choose then node_branch (statics ks) else None) m
+      ∙ ap (λ b. if b then place_if (not (is_literal_call (statics ks))) place else if word.choose then node_branch (statics ks) else None) i) ∙ h))
+    where
+      by : (b : Bool) → not b ≡ false → b ≡ true
+      by true j = refl
+      by false j = sym j
+
+  branch-none : call_fault place code (statics ks) ≡ None → word.moving ≡ false → word.instance ≡ false → word.choose ≡ true → node_branch (statics ks) ≡ None
+  branch-none h m i c =
+      sym (ap (λ b. if b then Some place else if word.instance then place_if (not (is_literal_call (statics ks))) place else if word.choose then node_branch (statics ks) else None) m
+      ∙ ap (λ b. if b then place_if (not (is_literal_call (statics ks))) place else if word.choose then node_branch (statics ks) else None) i
+      ∙ ap (λ b. if b then node_branch (statics ks) else None) c) ∙ h
+
   literal-placed : (xs : List Part) → few_arguments of.instance (reads xs) ≡ true → all_of (reads xs) ≡ true → is_literal_call (statics xs) ≡ true → all_placed (all_facts xs) ≡ true
   literal-placed [] f h i = refl
   literal-placed (x ∷ []) f h i = both x.2.is_placed true ((x.3 (and-true x.1 true h).0).literal i) refl
   literal-placed (x ∷ y ∷ xs) f h i = no f
 
-  pub branches-plain : (xs : List Part) → all_of (reads xs) ≡ true → node_branch (statics xs) ≡ None → list_all (λ (x : Facts). x.is_plain) (branches (all_facts xs)) ≡ true
+  branches-plain : (xs : List Part) → all_of (reads xs) ≡ true → node_branch (statics xs) ≡ None → list_all (λ (x : Facts). x.is_plain) (branches (all_facts xs)) ≡ true
   branches-plain [] h i = refl
   branches-plain (x ∷ xs) h i = plain-all xs (and-true x.1 (all_of (reads xs)) h).1 i
 
   call-exact : (g : Function) → fits g word ≡ true → few g → call_fault place code (statics ks) ≡ None → first_fault (statics ks) ≡ None → (call_facts g (all_facts ks)).is_exact ≡ true
-  call-exact of.event w f c a = no (moving-fault place code (statics ks) c (and-true word.moving word.giving (and-true (word.moving && word.giving) word.more w).0).0)
-  call-exact of.index w f c a = no (moving-fault place code (statics ks) c (and-true word.moving word.more w).0)
+  call-exact of.event w f c a = no (moving-fault c (and-true word.moving word.giving (and-true (word.moving && word.giving) word.more w).0).0)
+  call-exact of.index w f c a = no (moving-fault c (and-true word.moving word.more w).0)
   call-exact of.instance w f c a =
       let one = and-true (not word.moving && word.instance && word.giving) word.more w in
       let two = and-true (not word.moving && word.instance) word.giving one.0 in
       let three = and-true (not word.moving) word.instance two.0 in
-      literal-placed ks f all_read (instance-literal place code (statics ks) c (not-of word.moving three.0) three.1)
+      literal-placed ks f all_read (instance-literal c (not-of word.moving three.0) three.1)
   call-exact of.choosing w f c a =
       let one = and-true (not word.moving && not word.instance && word.choose) (not word.giving) w in
       let two = and-true (not word.moving && not word.instance) word.choose one.0 in
       let three = and-true (not word.moving) (not word.instance) two.0 in
       both (all_exact (all_facts ks)) (list_all (λ (x : Facts). x.is_plain) (branches (all_facts ks))) (exact-all ks all_read a)
-      (branches-plain ks all_read (branch-none place code (statics ks) c (not-of word.moving three.0) (not-of word.instance three.1) two.1))
+      (branches-plain ks all_read (branch-none c (not-of word.moving three.0) (not-of word.instance three.1) two.1))
   call-exact of.asking w f c a = exact-all ks all_read a
   call-exact of.plainly w f c a = exact-all ks all_read a
   call-exact of.owning w f c a = exact-all ks all_read a
@@ -196,7 +190,7 @@ module _ (place code : ℕ) (ks : List Part) (read : (few_arguments (function_at
   asked-more : {A : Type 0} → is_plain_call code (length (statics ks)) ≡ true → word.more ≡ true → A
   asked-more h m = no (sym (plain-call h).0 ∙ m)
 
-  pub call-placed : (g : Function) → fits g word ≡ true → is_plain_call code (length (statics ks)) ≡ true → first_in_predicates (statics ks) ≡ None → (call_facts g (all_facts ks)).is_placed ≡ true
+  call-placed : (g : Function) → fits g word ≡ true → is_plain_call code (length (statics ks)) ≡ true → first_in_predicates (statics ks) ≡ None → (call_facts g (all_facts ks)).is_placed ≡ true
   call-placed of.asking w p a = placed-all ks all_read a
   call-placed of.plainly w p a = placed-all ks all_read a
   call-placed of.boolean w p a = placed-all ks all_read a
@@ -227,7 +221,7 @@ module _ (place code : ℕ) (ks : List Part) (read : (few_arguments (function_at
   giving : {A : Type 0} → call_gives_nodes code (statics ks) ≡ false → word.giving ≡ true → A
   giving h g = no (sym (sym (ap (λ b. if b then true else if word.choose then list_any (λ (e : Static). e.gives_nodes) (statics ks) else false) g) ∙ h))
 
-  pub call-plain : (g : Function) → fits g word ≡ true → call_gives_nodes code (statics ks) ≡ false → (call_facts g (all_facts ks)).is_plain ≡ true
+  call-plain : (g : Function) → fits g word ≡ true → call_gives_nodes code (statics ks) ≡ false → (call_facts g (all_facts ks)).is_plain ≡ true
   call-plain of.current w h = giving h (and-true word.giving word.more w).0
   call-plain of.instance w h = giving h (and-true (not word.moving && word.instance) word.giving (and-true (not word.moving && word.instance && word.giving) word.more w).0).1
   call-plain of.event w h = giving h (and-true word.moving word.giving (and-true (word.moving && word.giving) word.more w).0).1
@@ -256,13 +250,13 @@ module _ (place code : ℕ) (ks : List Part) (read : (few_arguments (function_at
 
 -- ---- chains
 
-abbrev pub links_static : List LinkPart → List LinkStatic
+abbrev links_static : List LinkPart → List LinkStatic
 links_static ls = map (λ (l : LinkPart). l.0) ls
 
-abbrev pub links_read : List LinkPart → List Bool
+abbrev links_read : List LinkPart → List Bool
 links_read ls = map (λ (l : LinkPart). l.1) ls
 
-abbrev pub links_facts : List LinkPart → List LinkFacts
+abbrev links_facts : List LinkPart → List LinkFacts
 links_facts ls = map (λ (l : LinkPart). l.2) ls
 
 union-same : (o : Operator) → is_union_link o ≡ is_union o
@@ -281,7 +275,7 @@ union-same Divide = refl
 union-same Modulo = refl
 union-same Union = refl
 
-pub no-union : (l : LinkPart) → is_union_link l.0.operator ≡ false → not (is_union l.2.operator) ≡ true
+no-union : (l : LinkPart) → is_union_link l.0.operator ≡ false → not (is_union l.2.operator) ≡ true
 no-union l h = ap not (ap is_union (sym l.3.0) ∙ sym (union-same l.0.operator) ∙ h)
 
 links-exact : (ls : List LinkPart) → all_of (links_read ls) ≡ true → first_in_links (links_static ls) ≡ None → links_exact (links_facts ls) ≡ true
@@ -290,7 +284,7 @@ links-exact (l ∷ ls) h i =
     let r = and-true l.1 (all_of (links_read ls)) h in let n = or-none l.0.right.fault (first_in_links (links_static ls)) i in
     both l.2.right.is_exact (links_exact (links_facts ls)) ((l.3.1 r.0).exact n.0) (links-exact ls r.1 n.1)
 
-pub links-placed : (ls : List LinkPart) → all_of (links_read ls) ≡ true → first_of link_in_predicate (links_static ls) ≡ None → links_placed (links_facts ls) ≡ true
+links-placed : (ls : List LinkPart) → all_of (links_read ls) ≡ true → first_of link_in_predicate (links_static ls) ≡ None → links_placed (links_facts ls) ≡ true
 links-placed [] h i = refl
 links-placed (l ∷ ls) h i =
     let r = and-true l.1 (all_of (links_read ls)) h in
@@ -308,7 +302,7 @@ links-plain [] b h i = h
 links-plain (l ∷ ls) b h i =
     let n = or-false (is_union_link l.0.operator) (any_union (links_static ls)) i in links-plain ls (not (is_union l.2.operator)) (no-union l n.0) n.1
 
-pub filled-plain : (ls : List LinkPart) (b : Bool) → has_links (links_read ls) ≡ true → any_union (links_static ls) ≡ false → links_plain b (links_facts ls) ≡ true
+filled-plain : (ls : List LinkPart) (b : Bool) → has_links (links_read ls) ≡ true → any_union (links_static ls) ≡ false → links_plain b (links_facts ls) ≡ true
 filled-plain [] b h i = no h
 filled-plain (l ∷ ls) b h i =
     let n = or-false (is_union_link l.0.operator) (any_union (links_static ls)) i in links-plain ls (not (is_union l.2.operator)) (no-union l n.0) n.1
@@ -321,11 +315,11 @@ steps-exact (k ∷ ks) h i =
 
 -- ---- every level
 
-pub plain-by : (b : Bool) → not b ≡ false → b ≡ true
+plain-by : (b : Bool) → not b ≡ false → b ≡ true
 plain-by true h = refl
 plain-by false h = sym h
 
-pub some-none : {A : Type 0} {p : ℕ} → Some p ≡ None → A
+some-none : {A : Type 0} {p : ℕ} → Some p ≡ None → A
 some-none h = none-some h
 
 level : (y : Expr-F Part LinkPart StepPart) →
@@ -370,13 +364,13 @@ level (Expr-F.From k ks) r =
 
 step-level : (y : Step-F Part LinkPart StepPart) →
     IsKnownStep (step_static (map-Step Part LinkPart StepPart Static LinkStatic (Option ℕ) (λ e. e.0) (λ e. e.0) (λ e. e.0) y)) (step_as_read (map-Step Part LinkPart StepPart Bool Bool Bool (λ e. e.1) (λ e. e.1) (λ e. e.1) y))
-    (step_facts false (map-Step Part LinkPart StepPart Facts LinkFacts Bool (λ e. e.2) (λ e. e.2) (λ e. e.2) y))
+    (step_facts (map-Step Part LinkPart StepPart Facts LinkFacts Bool (λ e. e.2) (λ e. e.2) (λ e. e.2) y))
 step-level y r h =
     let p = and-true (is_told y.is_written y.axis y.test) (all_of (reads y.predicates)) r in
-    both (is_told y.is_written y.axis y.test && true) (all_placed (all_facts y.predicates)) (both (is_told y.is_written y.axis y.test) true p.0 refl) (placed-all y.predicates p.1 h)
+    both (is_told y.is_written y.axis y.test) (all_placed (all_facts y.predicates)) p.0 (placed-all y.predicates p.1 h)
 
-pub known : (x : Expr) → IsKnown (static_of x) (is_as_read x) (facts_of false x)
-known = triple_keeps Static LinkStatic (Option ℕ) expr_static link_static step_static Bool Bool Bool expr_as_read link_as_read step_as_read Facts LinkFacts Bool expr_facts link_facts (step_facts false) IsKnown IsKnownLink IsKnownStep
+pub known : (x : Expr) → IsKnown (static_of x) (is_as_read x) (facts_of x)
+known = triple_keeps Static LinkStatic (Option ℕ) expr_static link_static step_static Bool Bool Bool expr_as_read link_as_read step_as_read Facts LinkFacts Bool expr_facts link_facts step_facts IsKnown IsKnownLink IsKnownStep
     level (λ y. (refl, λ r. y.right.3 r)) step-level
 
 pub static_covered : StaticCovered

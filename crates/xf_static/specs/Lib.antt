@@ -1,2 +1,1 @@
 pub mod AsRead
-pub mod FixedAsRead

@@ -1,8 +1,7 @@
-//! Static expressions are covered by the law of two forests, and it is told over the shape of a forest what they select. Each function does nothing: its contract is a law.
+//! Static expressions are covered by the law of two forests. Each function does nothing: its contract is a law.
 #![tactic(auto)]
 
 ghost use Rattle.xf_static.specs.AsRead.{StaticCovered, ReadAsMade, ReadCovered, FormCovered};
-ghost use Rattle.xf_static.specs.FixedAsRead.{StaticFixed, ReadFixed, BindsFixed};
 
 /// A static expression is one of which the law of two forests is proved.
 pub fn static_covered()
@@ -18,11 +17,4 @@ pub fn read_covered()
 /// So the calculates of a form that were read, and are static, are covered.
 pub fn form_covered()
     ensures { FormCovered }
-{}
-
-/// Of a static expression it is told over the shape what it selects: so of the node sets of binds that were read.
-pub fn static_fixed()
-    ensures law { StaticFixed }
-    ensures read { ReadFixed }
-    ensures binds { BindsFixed }
 {}
