@@ -1,20 +1,22 @@
 -- The text and the truth of an entry do not depend on the numbers of texts.
-use Rattle.std.proofs.Common.{◌≡◌, ℕ, List, map, Option, Some, None, option_map, refl, sym, ap, ◌∙◌}
+use Rattle.std.proofs.Common.{◌≡◌, ℕ, ◌||◌, ◌&&◌, List, [], ◌∷◌, map, Option, Some, None, option_map, refl, sym, ap, ◌∙◌}
+use Rattle.std.specs.Prelude.{is_none}
 use Rattle.xf_ast.specs.declared.form.Tables.{Tables}
 use Rattle.xf_doc.specs.Visit.{Visit}
 use Rattle.xf_doc.specs.Same.{renumbered_visit}
 use Rattle.xf_plain_values.specs.Functions.{Functions}
 use Rattle.xf_lang.specs.declared.value.Value.{Value}
-use Rattle.xf_lang.specs.Given.{Given}
+use Rattle.xf_lang.specs.Given.{Document, Given}
 use Rattle.xf_lang.specs.Conversions.{truth_of}
-use Rattle.xf_lang.specs.Same.{renumbered_value}
+use Rattle.xf_lang.specs.Same.{renumbered_value, renumbered_document, renumbered_property}
 use Rattle.xf_lang.proofs.RenumberLaws.{truth-renumbered}
 use Rattle.xf_model.specs.Rules.{Scope, scope_of}
-use Rattle.xf_model.specs.Applied.{Entry}
+use Rattle.xf_model.specs.Applied.{Entry, is_calculate}
 use Rattle.xf_model.specs.Entries.{value_of, text_of}
+use Rattle.xf_model.specs.Pertinent.{AllOf}
 use Rattle.xf_model.specs.Same.{renumbered_entry}
 use Rattle.xf_model.proofs.RenumberEntries.{scope-goes, value-renumbered, text-renumbered}
-use Rattle.xf_agree.specs.Evaluated.{AreAlike, EvaluatedText, EvaluatedTruth}
+use Rattle.xf_agree.specs.Evaluated.{AreAlike, EvaluatedText, EvaluatedTruth, EvaluatedLong, SurroundingsStay}
 
 module _ (most : Option ℕ) (functions : Functions) (given : Given) (tables : Tables) (model : ℕ) (all other : List Visit) (e : Entry) (a : AreAlike given all other e) where
   abbrev scope : Scope
@@ -47,8 +49,31 @@ module _ (most : Option ℕ) (functions : Functions) (given : Given) (tables : T
   truth : option_map truth_of (value_of most scope all e) ≡ option_map truth_of (value_of most scope other e)
   truth = sym (truth-of (value_of most scope all e)) ∙ ap (option_map truth_of) value
 
+  none-of : (o p : Option Value) → option_map truth_of o ≡ option_map truth_of p → is_none o ≡ is_none p
+  none-of None None h = refl
+  none-of None (Some v) h = cc h
+  none-of (Some u) None h = cc h
+  none-of (Some u) (Some v) h = refl
+
+  none : is_none (value_of most scope all e) ≡ is_none (value_of most scope other e)
+  none = none-of (value_of most scope all e) (value_of most scope other e) truth
+
+documents-same : (f : ℕ → ℕ) (ds : List Document) → AllOf (λ (d : Document). f d.element ≡ d.element) ds → map (renumbered_document f) ds ≡ ds
+documents-same f [] h = refl
+documents-same f (d ∷ ds) h = ap (λ k. record d { element = k } ∷ map (renumbered_document f) ds) h.0 ∙ ap (λ l. d ∷ l) (documents-same f ds h.1)
+
+pub surroundings_stay : SurroundingsStay
+surroundings_stay by given documents no_event =
+    ap (λ ds. record given { documents = ds; event = option_map (map (renumbered_property by)) given.event }) (documents-same by given.documents documents)
+    ∙ ap (λ event. record given { event = event }) (ap (option_map (map (renumbered_property by))) no_event ∙ sym no_event)
+
 pub evaluated_text : EvaluatedText
 evaluated_text most functions given tables model all other e a = text most functions given tables model all other e a
 
 pub evaluated_truth : EvaluatedTruth
 evaluated_truth most functions given tables model all other e a = truth most functions given tables model all other e a
+
+pub evaluated_long : EvaluatedLong
+evaluated_long b functions given tables model all other e a =
+    ap (λ c. c || (is_calculate e && is_none (text_of (Some b.string) (scope_of functions given tables model) all e))) (none (Some b.string) functions given tables model all other e a)
+    ∙ ap (λ o. is_none (value_of (Some b.string) (scope_of functions given tables model) other e) || (is_calculate e && is_none o)) (text (Some b.string) functions given tables model all other e a)

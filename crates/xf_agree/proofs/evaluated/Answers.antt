@@ -1,4 +1,4 @@
-use Rattle.xf_agree.proofs.EvaluatedLaws.{evaluated_text, evaluated_truth}
+use Rattle.xf_agree.proofs.EvaluatedLaws.{evaluated_text, evaluated_truth, evaluated_long, surroundings_stay}
 use Rattle.xf_agree.proofs.evaluated.Goals as goal
 
 pub returns-clause-text : goal.returns-clause-text
@@ -6,3 +6,9 @@ returns-clause-text c = evaluated_text
 
 pub returns-clause-truth : goal.returns-clause-truth
 returns-clause-truth c = evaluated_truth
+
+pub returns-clause-long : goal.returns-clause-long
+returns-clause-long c = evaluated_long
+
+pub returns-clause-surroundings : goal.returns-clause-surroundings
+returns-clause-surroundings c = surroundings_stay
