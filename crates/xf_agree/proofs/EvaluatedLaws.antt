@@ -1,22 +1,35 @@
 -- The text and the truth of an entry do not depend on the numbers of texts.
-use Rattle.std.proofs.Common.{◌≡◌, ℕ, ◌||◌, ◌&&◌, List, [], ◌∷◌, map, Option, Some, None, option_map, refl, sym, ap, ◌∙◌}
+use Rattle.std.proofs.Common.{◌≡◌, ℕ, ◌==◌, Bool, true, false, not, cond, ◌||◌, ◌&&◌, List, [], ◌∷◌, map, Option, Some, None, option_map, nat_lt, refl, sym, ap, ◌∙◌}
 use Rattle.std.specs.Prelude.{is_none}
+use Rattle.std.specs.List.{list_any}
+use Rattle.std.proofs.lemmas.Bool.{eqb-true, ltb-true}
 use Rattle.xf_ast.specs.declared.form.Tables.{Tables}
-use Rattle.xf_doc.specs.Visit.{Visit}
+use Rattle.xf_doc.specs.declared.content.Node.{Node}
+use Rattle.xf_doc.specs.declared.content.Content.{Content}
+use Rattle.xf_doc.specs.declared.content.Content.TheVariants as content
+use Rattle.xf_doc.specs.Forest.{is_text, has_number}
+use Rattle.xf_doc.specs.Visit.{Visit, still_above, visit, visits_from, visits}
+use Rattle.xf_doc.specs.Shape.{erased, without_text}
+use Rattle.xf_doc.specs.WellFormed.{are_apart, are_below}
+use Rattle.xf_doc.proofs.BackLaws.{and-true, not-true}
 use Rattle.xf_doc.specs.Same.{renumbered_visit}
 use Rattle.xf_plain_values.specs.Functions.{Functions}
 use Rattle.xf_lang.specs.declared.value.Value.{Value}
 use Rattle.xf_lang.specs.Given.{Document, Given}
+use Rattle.xf_lang.specs.Asked.{found}
 use Rattle.xf_lang.specs.Conversions.{truth_of}
 use Rattle.xf_lang.specs.Same.{renumbered_value, renumbered_document, renumbered_property}
 use Rattle.xf_lang.proofs.RenumberLaws.{truth-renumbered}
+use Rattle.xf_lang.proofs.VisitFacts.{no, none-some}
+use Rattle.xf_lang.proofs.UntextedLaws.{solid-found}
+use Rattle.xf_lang.proofs.ForestVisits.{forest-visits}
 use Rattle.xf_model.specs.Rules.{Scope, scope_of}
 use Rattle.xf_model.specs.Applied.{Entry, is_calculate}
 use Rattle.xf_model.specs.Entries.{value_of, text_of}
 use Rattle.xf_model.specs.Pertinent.{AllOf}
 use Rattle.xf_model.specs.Same.{renumbered_entry}
 use Rattle.xf_model.proofs.RenumberEntries.{scope-goes, value-renumbered, text-renumbered}
-use Rattle.xf_agree.specs.Evaluated.{AreAlike, EvaluatedText, EvaluatedTruth, EvaluatedLong, SurroundingsStay}
+use Rattle.xf_agree.specs.Evaluated.{AreAlike, EvaluatedText, EvaluatedTruth, EvaluatedLong, SurroundingsStay, SolidNumbers}
 
 module _ (most : Option ℕ) (functions : Functions) (given : Given) (tables : Tables) (model : ℕ) (all other : List Visit) (e : Entry) (a : AreAlike given all other e) where
   abbrev scope : Scope
@@ -77,3 +90,60 @@ pub evaluated_long : EvaluatedLong
 evaluated_long b functions given tables model all other e a =
     ap (λ c. c || (is_calculate e && is_none (text_of (Some b.string) (scope_of functions given tables model) all e))) (none (Some b.string) functions given tables model all other e a)
     ∙ ap (λ o. is_none (value_of (Some b.string) (scope_of functions given tables model) other e) || (is_calculate e && is_none o)) (text (Some b.string) functions given tables model all other e a)
+
+-- ---- numbers of nodes that are no texts
+
+same-option : {A : Type 0} {x y : A} → Some x ≡ Some y → x ≡ y
+same-option h = cc h
+
+module _ (n : ℕ) where
+  -- the first node with the number is no text, and the number comes once
+  solid-from : (above nodes : List Node) → are_apart nodes ≡ true → (x : Visit) → found n (map erased (visits_from above nodes)) ≡ Some x → is_text x.content ≡ false →
+      (has_number n nodes ≡ true) × (list_any (λ z. (z.number == n) && is_text z.content) nodes ≡ false)
+  solid-from above [] a x h t = none-some h
+  solid-from above (z ∷ zs) a x h t = by (z.number == n) refl h (λ e. solid-from (z ∷ still_above z.depth above) zs parts.1 x e t)
+    where
+      parts : (not (has_number z.number zs) ≡ true) × (are_apart zs ≡ true)
+      parts = and-true (not (has_number z.number zs)) (are_apart zs) a
+
+      text-kept : (c : Content) → is_text (without_text c) ≡ is_text c
+      text-kept content.Root = refl
+      text-kept (content.Element name) = refl
+      text-kept (content.Attribute name old) = refl
+      text-kept (content.Text old) = refl
+
+      absent : (ys : List Node) → has_number n ys ≡ false → list_any (λ y. (y.number == n) && is_text y.content) ys ≡ false
+      absent [] i = refl
+      absent (y ∷ ys) i = of (y.number == n) (has_number n ys) (is_text y.content) i (absent ys)
+        where
+          of : (p q r : Bool) → (p || q) ≡ false → (q ≡ false → list_any (λ v. (v.number == n) && is_text v.content) ys ≡ false) → ((p && r) || list_any (λ v. (v.number == n) && is_text v.content) ys) ≡ false
+          of true q r j k = no (sym j)
+          of false q r j k = k j
+
+      by : (b : Bool) → (z.number == n) ≡ b → cond b (Some (erased (visit above z))) (found n (map erased (visits_from (z ∷ still_above z.depth above) zs))) ≡ Some x →
+          (found n (map erased (visits_from (z ∷ still_above z.depth above) zs)) ≡ Some x → (has_number n zs ≡ true) × (list_any (λ y. (y.number == n) && is_text y.content) zs ≡ false)) →
+          ((b || has_number n zs) ≡ true) × (((b && is_text z.content) || list_any (λ y. (y.number == n) && is_text y.content) zs) ≡ false)
+      by true e i later = (
+        refl,
+        ap (λ c. c || list_any (λ (y : Node). (y.number == n) && is_text y.content) zs) (sym (text-kept z.content) ∙ ap (λ (v : Visit). is_text v.content) (same-option i) ∙ t)
+            ∙ absent zs (ap (λ m. has_number m zs) (sym (eqb-true z.number n e)) ∙ not-true (has_number z.number zs) parts.0),
+      )
+      by false e i later = later i
+
+  below-next : (next : ℕ) (nodes : List Node) → are_below next nodes ≡ true → has_number n nodes ≡ true → nat_lt n next ≡ true
+  below-next next [] h i = no i
+  below-next next (z ∷ zs) h i = by (z.number == n) refl i (below-next next zs (and-true (nat_lt z.number next) (are_below next zs) h).1)
+    where
+      by : (b : Bool) → (z.number == n) ≡ b → (b || has_number n zs) ≡ true → (has_number n zs ≡ true → nat_lt n next ≡ true) → nat_lt n next ≡ true
+      by true e j later = ap (λ m. nat_lt m next) (sym (eqb-true z.number n e)) ∙ (and-true (nat_lt z.number next) (are_below next zs) h).0
+      by false e j later = later j
+
+pub solid_numbers : SolidNumbers
+solid_numbers forest n trees solid =
+    let out = solid-found (map erased (visits forest.nodes)) (forest-visits forest trees) n solid.0 solid.1 in
+    let both = solid-from n [] forest.nodes trees.apart solid.0 out.0 (not-of (is_text solid.0.content) out.1) in
+    (ltb-true n forest.next (below-next n forest.next forest.nodes trees.below both.0), both.1)
+  where
+    not-of : (b : Bool) → not b ≡ true → b ≡ false
+    not-of true h = sym h
+    not-of false h = refl

@@ -1,8 +1,11 @@
 -- What an entry gives over a forest whose texts were set is what it gives over the data that hold these contents, where texts have the
 -- numbers of a shape: numbers do not count.
-use Rattle.std.specs.Prelude.{ℕ, ◌≡◌, List, map, Option, None, option_map}
+use Rattle.std.specs.Prelude.{ℕ, ◌≡◌, ◌<◌, false, ◌&&◌, ◌==◌, List, map, Option, None, option_map}
+use Rattle.std.specs.List.{list_any}
 use Rattle.xf_ast.specs.declared.form.Tables.{Tables}
-use Rattle.xf_doc.specs.Visit.{Visit}
+use Rattle.xf_doc.specs.Forest.{Forest, is_text}
+use Rattle.xf_doc.specs.Visit.{Visit, visits}
+use Rattle.xf_doc.specs.WellFormed.{HasTrees}
 use Rattle.xf_doc.specs.Same.{IsRenumbering, renumbered_visit}
 use Rattle.xf_plain_values.specs.Functions.{Functions}
 use Rattle.xf_lang.specs.Given.{Document, Given}
@@ -13,6 +16,7 @@ use Rattle.xf_model.specs.Applied.{Entry}
 use Rattle.xf_model.specs.Entries.{value_of, text_of}
 use Rattle.xf_model.specs.Settled.{Bounds, is_long}
 use Rattle.xf_model.specs.Pertinent.{AllOf}
+use Rattle.xf_agree.specs.Settles.{IsSolid}
 
 -- one renumbering makes the one list of visits the other; what surrounds them, and the node of the entry, keep their numbers
 pub record AreAlike (given : Given) (all other : List Visit) (e : Entry) : Type 0 where
@@ -38,3 +42,8 @@ EvaluatedLong = (b : Bounds) (functions : Functions) (given : Given) (tables : T
 -- outside an event the surroundings keep their numbers where the document elements do
 abbrev pub SurroundingsStay : Type 0
 SurroundingsStay = (by : ℕ → ℕ) (given : Given) → AllOf (λ (d : Document). by d.element ≡ d.element) given.documents → given.event ≡ None → renumbered_given by given ≡ given
+
+-- a node that is no text has a number before the next one, and no text has it
+abbrev pub SolidNumbers : Type 0
+SolidNumbers = (forest : Forest) (n : ℕ) → HasTrees forest → IsSolid (visits forest.nodes) n →
+    (n < forest.next) × (list_any (λ x. (x.number == n) && is_text x.content) forest.nodes ≡ false)

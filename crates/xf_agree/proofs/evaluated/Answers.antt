@@ -1,4 +1,4 @@
-use Rattle.xf_agree.proofs.EvaluatedLaws.{evaluated_text, evaluated_truth, evaluated_long, surroundings_stay}
+use Rattle.xf_agree.proofs.EvaluatedLaws.{evaluated_text, evaluated_truth, evaluated_long, surroundings_stay, solid_numbers}
 use Rattle.xf_agree.proofs.evaluated.Goals as goal
 
 pub returns-clause-text : goal.returns-clause-text
@@ -12,3 +12,6 @@ returns-clause-long c = evaluated_long
 
 pub returns-clause-surroundings : goal.returns-clause-surroundings
 returns-clause-surroundings c = surroundings_stay
+
+pub returns-clause-numbers : goal.returns-clause-numbers
+returns-clause-numbers c = solid_numbers
