@@ -14,7 +14,7 @@ use Rattle.xf_lang.specs.Same.{renumbered_given}
 use Rattle.xf_model.specs.Rules.{scope_of}
 use Rattle.xf_model.specs.Applied.{Entry}
 use Rattle.xf_model.specs.Entries.{value_of, text_of}
-use Rattle.xf_model.specs.Settled.{Bounds, is_long}
+use Rattle.xf_model.specs.Settled.{Bounds, is_long, passed_over}
 use Rattle.xf_model.specs.Pertinent.{AllOf}
 use Rattle.xf_agree.specs.Settles.{IsSolid}
 
@@ -38,6 +38,12 @@ EvaluatedTruth = (most : Option ℕ) (functions : Functions) (given : Given) (ta
 abbrev pub EvaluatedLong : Type 0
 EvaluatedLong = (b : Bounds) (functions : Functions) (given : Given) (tables : Tables) (model : ℕ) (all other : List Visit) (e : Entry) → AreAlike given all other e →
     is_long b (scope_of functions given tables model) all e ≡ is_long b (scope_of functions given tables model) other e
+
+-- so the same limits are passed over both: where the nodes of the entries keep their numbers
+abbrev pub EvaluatedPassed : Type 0
+EvaluatedPassed = (b : Bounds) (functions : Functions) (given : Given) (tables : Tables) (model : ℕ) (all other : List Visit) (entries : List Entry) (by : ℕ → ℕ) →
+    IsRenumbering by → map (renumbered_visit by) all ≡ other → renumbered_given by given ≡ given → AllOf (λ e. by e.node ≡ e.node) entries →
+    passed_over b (scope_of functions given tables model) entries all ≡ passed_over b (scope_of functions given tables model) entries other
 
 -- outside an event the surroundings keep their numbers where the document elements do
 abbrev pub SurroundingsStay : Type 0

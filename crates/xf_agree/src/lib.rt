@@ -5,7 +5,7 @@
 ghost use Rattle.xf_agree.specs.Settles.{CalculatesAgree, SettlesOnce, Settles};
 ghost use Rattle.xf_agree.specs.Forests.{TwoForestsValue, TwoForests, TwoForestsButNumbers};
 ghost use Rattle.xf_agree.specs.FormSettles.{FormAgrees, FormSettlesOnce, FormSettles};
-ghost use Rattle.xf_agree.specs.Evaluated.{EvaluatedText, EvaluatedTruth, EvaluatedLong, SurroundingsStay, SolidNumbers};
+ghost use Rattle.xf_agree.specs.Evaluated.{EvaluatedText, EvaluatedTruth, EvaluatedLong, EvaluatedPassed, SurroundingsStay, SolidNumbers};
 ghost use Rattle.xf_agree.specs.InTurn.{InTurnContents, InTurnSettled, InTurnTexts, InTurnDone, InTurnContent, InTurnStands, InTurnPassed, InTurnFitting, FormInTurn};
 
 /// Two forests that agree on what a covered expression reads and looks at, texts counted, give it one value, and one text.
@@ -60,6 +60,7 @@ pub fn evaluated()
     ensures text { EvaluatedText }
     ensures truth { EvaluatedTruth }
     ensures long { EvaluatedLong }
+    ensures passed { EvaluatedPassed }
     ensures surroundings { SurroundingsStay }
     ensures numbers { SolidNumbers }
 {}

@@ -1,4 +1,4 @@
-use Rattle.xf_agree.proofs.EvaluatedLaws.{evaluated_text, evaluated_truth, evaluated_long, surroundings_stay, solid_numbers}
+use Rattle.xf_agree.proofs.EvaluatedLaws.{evaluated_text, evaluated_truth, evaluated_long, surroundings_stay, evaluated_passed, solid_numbers}
 use Rattle.xf_agree.proofs.evaluated.Goals as goal
 
 pub returns-clause-text : goal.returns-clause-text
@@ -15,3 +15,6 @@ returns-clause-surroundings c = surroundings_stay
 
 pub returns-clause-numbers : goal.returns-clause-numbers
 returns-clause-numbers c = solid_numbers
+
+pub returns-clause-passed : goal.returns-clause-passed
+returns-clause-passed c = evaluated_passed
