@@ -1,14 +1,13 @@
 -- A settling in the list of nodes is one in the trees, and leaves them such that the next one is, too.
-use Rattle.std.proofs.Common.{◌≡◌, ℕ, zero, suc, ◌==◌, Bool, true, false, cond, ◌&&◌, List, [], ◌∷◌, map, refl, sym, ap, ◌∙◌, inl, inr, arith}
+use Rattle.std.proofs.Common.{◌≡◌, ℕ, suc, ◌==◌, Bool, true, false, cond, ◌&&◌, List, [], ◌∷◌, map, refl, sym, ap, ◌∙◌, inl, inr, arith}
 use Rattle.std.specs.Prelude.{◌⊎◌, ◌≤◌, ◌<◌, ⊤}
 use Rattle.std.specs.Str.{bytes_eq}
 use Rattle.std.proofs.lemmas.Bool.{cases_Bool}
 use Rattle.std.proofs.lemmas.Bool.Decides.{nat_tests}
-use Rattle.std.proofs.lemmas.Slice.Eq.{bytes_eq-Decides}
 use Rattle.xf_doc.specs.declared.content.Node.{Node}
 use Rattle.xf_doc.specs.declared.content.Content.{Content}
 use Rattle.xf_doc.specs.declared.content.Content.TheVariants.{Root, Element, Attribute, Text}
-use Rattle.xf_doc.specs.Forest.{is_element, is_attribute, is_text, own_text, tree_of, first_tree}
+use Rattle.xf_doc.specs.Forest.{is_element, is_attribute, own_text, tree_of, first_tree}
 use Rattle.xf_doc.specs.Shape.{as_texts}
 use Rattle.xf_doc.specs.Texts.{with_value, one_text, with_texts, with_attribute_text, is_attribute_at, texts_in, value_in}
 use Rattle.xf_doc.specs.Settle.{are_texts, with_settled_text}

@@ -1,5 +1,5 @@
 -- How many nodes and bytes there are where some contents were written; and what stands before the first one, and after the last.
-use Rattle.std.proofs.Common.{◌≡◌, ℕ, suc, ◌+◌, ◌^◌, Bool, true, false, cond, not, ◌&&◌, List, [], ◌∷◌, length, map, refl, sym, ap, ◌∙◌}
+use Rattle.std.proofs.Common.{◌≡◌, ℕ, suc, ◌+◌, ◌^◌, Bool, true, false, cond, not, List, [], ◌∷◌, length, map, refl, sym, ap, ◌∙◌}
 use Rattle.std.specs.Prelude.{◌≤◌, fold, sum_by}
 use Rattle.std.specs.List.{list_all}
 use Rattle.xf_doc.specs.declared.content.Node.{Node}

@@ -12,7 +12,6 @@ use Rattle.xf_doc.specs.Texts.{with_value}
 use Rattle.xf_rollback.proofs.Trees.{Trees, none, tree, followed, times}
 use Rattle.xf_rollback.proofs.TreeTexts.{attributes, times-split}
 use Rattle.xf_rollback.proofs.TreeVisits.{seen}
-use Rattle.xf_rollback.proofs.TreeShape.{is_leaf}
 use Rattle.xf_rollback.proofs.TreeBlank.{AreLeaves}
 use Rattle.xf_rollback.proofs.TreeOrder.{NoAttributes, AttributesFirst}
 use Rattle.xf_settle_laws.proofs.KindLemmas.{attribute-no_text, leaf-text}

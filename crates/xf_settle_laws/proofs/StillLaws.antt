@@ -2,7 +2,7 @@
 use Rattle.std.proofs.Common.{◌≡◌, ℕ, suc, ◌==◌, Bool, true, false, cond, ◌&&◌, ◌||◌, List, [], ◌∷◌, Some, refl, sym, ap, ◌∙◌, subst, inl, inr, arith}
 use Rattle.std.proofs.lemmas.Bool.{cases_Bool}
 use Rattle.xf_doc.specs.declared.content.Content.{Content}
-use Rattle.xf_doc.specs.declared.content.Content.TheVariants.{Root, Element, Attribute, Text}
+use Rattle.xf_doc.specs.declared.content.Content.TheVariants.{Text}
 use Rattle.xf_doc.specs.declared.content.Kind.TheVariants as kind
 use Rattle.xf_doc.specs.Forest.{Forest, is_element, is_attribute, is_text, kind_at}
 use Rattle.xf_doc.specs.Visit.{visits}
@@ -12,7 +12,7 @@ use Rattle.xf_doc.specs.Texts.{with_value, one_text}
 use Rattle.xf_rollback.proofs.Trees.{Trees, none, tree, onto, followed}
 use Rattle.xf_rollback.proofs.TreeTexts.{lone, attributes}
 use Rattle.xf_rollback.proofs.TreeVisits.{elements, elements-are}
-use Rattle.xf_rollback.proofs.TreeShape.{is_leaf, times-onto}
+use Rattle.xf_rollback.proofs.TreeShape.{times-onto}
 use Rattle.xf_rollback.proofs.TreeMoved.{value-attribute, value-element}
 use Rattle.xf_rollback.proofs.TreeBlank.{AreLeaves}
 use Rattle.xf_rollback.proofs.TreeFacts.{is_at, some-followed}
