@@ -26,6 +26,7 @@ use Rattle.xf_model.specs.Settled.{Bounds, calculates}
 use Rattle.xf_model.specs.Pertinent.{AllOf}
 use Rattle.xf_model.proofs.EachLemmas.{each_then, each_both}
 use Rattle.xf_agree.specs.Settles.{Surrounds, IsStatic}
+use Rattle.xf_agree.specs.Settles as settles
 use Rattle.xf_agree.specs.FormSettles.{AreCovered, Applies, FormSettable}
 use Rattle.xf_agree.proofs.FormEntries.{Stands, all-filter}
 use Rattle.xf_agree.proofs.FormSettled.{both, v, hung, same_shape, applied-parts, form_static}
@@ -99,6 +100,11 @@ module _ (b : Bounds) (functions : Functions) (given : Given) (tables : Tables) 
   standing : AllOf (λ e. Here e × (is_calculate e ≡ true → has_elements (shape all) e.node ≡ false)) entries
   standing = subst (AllOf (λ e. Here e × (is_calculate e ≡ true → has_elements (shape all) e.node ≡ false))) (applied-parts b functions given tables model forest entries covered around applies).1
       (both b functions given tables model forest entries covered around applies)
+
+  -- every entry stands at a node that is no text
+  pub entries_solid : AllOf (λ e. settles.IsSolid all e.node) entries
+  entries_solid = each_then _ (λ e. settles.IsSolid all e.node) (λ e h.
+      (h.0.node.0, ap (found e.node) (sym (shape-untexted all) ∙ ap untexted (same_shape b functions given tables model forest entries covered around applies)) ∙ h.0.node.1)) entries standing
 
   all_settable : AllOf (λ e. IsSettable e.node forest) (calculates entries)
   all_settable = each_then _ _ (λ e h. settable e.node h.0.0.0.node.0 h.0.0.0.node.1 h.0.0.0.node.2 h.1.leaf) (calculates entries)
