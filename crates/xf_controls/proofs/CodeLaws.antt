@@ -1,5 +1,5 @@
 -- Elements, parts and copies by their places in lists.
-use Rattle.std.proofs.Common.{◌≡◌, ◌==◌, ℕ, zero, suc, ◌+◌, ◌-◌, ◌<◌, ◌≤◌, Bool, true, false, not, ◌&&◌, ◌||◌, cond, List, [], ◌∷◌, ◌++◌, map, length, get_or, drop, take, Option, Some, None, option_map, refl, sym, ap, ◌∙◌, arith, append_assoc}
+use Rattle.std.proofs.Common.{◌≡◌, ℕ, zero, suc, ◌+◌, ◌<◌, ◌≤◌, Bool, true, false, not, ◌&&◌, ◌||◌, cond, List, [], ◌∷◌, ◌++◌, map, length, get_or, drop, Option, Some, None, option_map, refl, sym, ap, ◌∙◌, arith, append_assoc}
 use Rattle.std.specs.Prelude.{find, slice_get, nat_lt}
 use Rattle.std.specs.List.{list_all}
 use Rattle.std.proofs.lemmas.List.{append-nil, drop_all, drop_more}
@@ -9,7 +9,7 @@ use Rattle.xf_ast.specs.declared.element.Part.TheVariants as part
 use Rattle.xf_ast.specs.declared.form.Form.{Form}
 use Rattle.xf_ast.specs.declared.form.Tables.{Tables}
 use Rattle.xf_lang.specs.Setting.{◌>>=◌}
-use Rattle.xf_ui.specs.Interface.{Element, Interface, element_of, interface_of, sort_of}
+use Rattle.xf_ui.specs.Interface.{Element, element_of, interface_of, sort_of}
 use Rattle.xf_ui.specs.Elements.{element_at, is_control, no_element}
 use Rattle.xf_ui.specs.Copies.{Copy}
 use Rattle.xf_controls.specs.declared.copy.ControlCopy.{ControlCopy}

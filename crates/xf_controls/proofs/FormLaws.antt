@@ -1,5 +1,5 @@
 -- What a form that is ordered gives: each child has its element as parent, the first element has none, and a plain form lists no repeats.
-use Rattle.std.proofs.Common.{◌≡◌, ◌==◌, ℕ, zero, suc, ◌+◌, ◌<◌, ◌≤◌, Bool, true, false, cond, ◌&&◌, List, [], ◌∷◌, ◌++◌, map, length, get_or, Option, Some, None, refl, sym, ap, ◌∙◌, subst, arith, append_assoc, length-append}
+use Rattle.std.proofs.Common.{◌≡◌, ℕ, zero, suc, ◌+◌, ◌<◌, Bool, true, false, cond, ◌&&◌, List, [], ◌∷◌, ◌++◌, map, length, get_or, Option, Some, None, refl, sym, ap, ◌∙◌, subst, arith, append_assoc, length-append}
 use Rattle.std.specs.Prelude.{filter, bytes_eq}
 use Rattle.std.specs.List.{flat_map, list_all}
 use Rattle.std.proofs.lemmas.Bool.{and_parts}
@@ -14,8 +14,8 @@ use Rattle.xf_ast.specs.declared.element.Part.{Part}
 use Rattle.xf_ast.specs.declared.element.Part.TheVariants as part
 use Rattle.xf_ast.specs.declared.form.Form.{Form}
 use Rattle.xf_ast.specs.declared.form.Tables.{Tables}
-use Rattle.xf_ast.specs.Ordered.{IsOrdered, are_in_order, are_counted, are_listed, child_in, children, has_its_children, is_parent, may_follow, numbered, numbered_from, repeat_in}
-use Rattle.xf_ui.specs.Interface.{Interface, Element, element_of, interface_of, sort_of}
+use Rattle.xf_ast.specs.Ordered.{IsOrdered, are_in_order, are_counted, child_in, children, has_its_children, is_parent, may_follow, numbered, numbered_from, repeat_in}
+use Rattle.xf_ui.specs.Interface.{Element, element_of, interface_of, sort_of}
 use Rattle.xf_ui.specs.Elements.{element_at, no_element}
 use Rattle.xf_controls.specs.Plain.{is_plain, is_plain_sort}
 use Rattle.xf_controls.proofs.BelowLaws.{EachChild, Parents}

@@ -1,18 +1,17 @@
 -- The places of a plain form: each control or container stands once, in no row.
-use Rattle.std.proofs.Common.{◌≡◌, ℕ, zero, suc, Bool, true, false, ◌||◌, List, [], ◌∷◌, ◌++◌, map, get_or, length, Option, Some, option_map, refl, sym, ap, ◌∙◌}
+use Rattle.std.proofs.Common.{◌≡◌, ℕ, zero, suc, Bool, true, false, ◌||◌, List, [], ◌∷◌, ◌++◌, get_or, Option, Some, option_map, refl, ap, ◌∙◌}
 use Rattle.std.specs.List.{flat_map, list_all}
 use Rattle.std.proofs.lemmas.Bool.{and_parts}
 use Rattle.std.proofs.lemmas.List.Folds.{flat_map-map}
 use Rattle.xf_ast.specs.declared.element.Part.{Part}
 use Rattle.xf_ast.specs.declared.element.Part.TheVariants as part
 use Rattle.xf_ast.specs.Ordered.{child_in}
-use Rattle.xf_lang.specs.Setting.{each}
-use Rattle.xf_ui.specs.Interface.{Sort, Element, Interface, switch, one_case, repeated, select}
+use Rattle.xf_ui.specs.Interface.{Sort, Element, Interface, repeated}
 use Rattle.xf_ui.specs.Elements.{element_at, no_element, children, is_control}
 use Rattle.xf_ui.specs.Around.{Around}
 use Rattle.xf_ui.specs.Places.{Places, places_at, places_by, places_in, all_places, if_control}
 use Rattle.xf_controls.specs.Plain.{is_plain, is_plain_sort}
-use Rattle.xf_controls.specs.Below.{shows, some_shown, is_shown}
+use Rattle.xf_controls.specs.Below.{shows, some_shown}
 use Rattle.xf_controls.proofs.OptionLaws.{each-some}
 
 -- each element is plain, also one that does not stand in the form

@@ -1,5 +1,5 @@
 -- The copies of a plain form are those that come by handing down from its first element.
-use Rattle.std.proofs.Common.{◌≡◌, ℕ, zero, suc, ◌+◌, ◌≤◌, true, List, [], ◌∷◌, ◌++◌, length, Option, Some, None, option_map, refl, sym, ap, ◌∙◌, subst, arith}
+use Rattle.std.proofs.Common.{◌≡◌, ℕ, zero, suc, ◌+◌, ◌≤◌, true, List, [], ◌++◌, length, Option, Some, None, option_map, refl, sym, ap, ◌∙◌, arith}
 use Rattle.std.specs.List.{flat_map}
 use Rattle.std.specs.Prelude.{reverse}
 use Rattle.xf_ast.specs.declared.form.Form.{Form}
@@ -8,21 +8,20 @@ use Rattle.xf_ast.specs.Ordered.{IsOrdered}
 use Rattle.xf_doc.specs.declared.content.Node.{Node}
 use Rattle.xf_lang.specs.Given.{Given}
 use Rattle.xf_lang.specs.Setting.{◌>>=◌, each}
-use Rattle.xf_eval.specs.Worth.{with_six}
 use Rattle.std.proofs.lemmas.List.{length-map}
 use Rattle.xf_ui.specs.Interface.{Interface, element_of, interface_of}
-use Rattle.xf_ui.specs.Elements.{element_at, above, ancestors, elements_on, is_container}
+use Rattle.xf_ui.specs.Elements.{element_at, above, ancestors, elements_on}
 use Rattle.xf_ui.specs.Around.{Around}
-use Rattle.xf_ui.specs.Context.{free, entered, inside}
+use Rattle.xf_ui.specs.Context.{entered}
 use Rattle.xf_ui.specs.Index.{Index, if_named, index_of, named_indexes, seeing}
 use Rattle.xf_ui.specs.Places.{places}
 use Rattle.xf_ui.specs.declared.marks.Marks.{Marks}
 use Rattle.xf_ui.specs.Copies.{Copy, copies}
 use Rattle.xf_controls.specs.Plain.{is_plain}
 use Rattle.xf_controls.specs.Surrounded.{IsQuiet, around_in}
-use Rattle.xf_controls.specs.Handed.{Handed, first_handed, inside_of}
+use Rattle.xf_controls.specs.Handed.{Handed, first_handed}
 use Rattle.xf_controls.specs.Below.{copies_from}
-use Rattle.xf_controls.proofs.PlaceLaws.{places-plain, places_below}
+use Rattle.xf_controls.proofs.PlaceLaws.{places-plain}
 use Rattle.xf_controls.proofs.PathLaws.{root_inside}
 use Rattle.xf_controls.proofs.HandedLaws.{open_all}
 use Rattle.xf_controls.proofs.BelowLaws.{Parents, Stands, copy_at, handed-down}
