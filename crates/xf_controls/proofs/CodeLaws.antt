@@ -1,7 +1,7 @@
 -- Elements, parts and copies by their places in lists.
-use Rattle.std.proofs.Common.{◌≡◌, ℕ, zero, suc, ◌+◌, ◌<◌, ◌≤◌, Bool, true, false, not, ◌&&◌, ◌||◌, cond, List, [], ◌∷◌, ◌++◌, map, length, get_or, drop, Option, Some, None, option_map, refl, sym, ap, ◌∙◌, arith, append_assoc}
-use Rattle.std.specs.Prelude.{find, slice_get, nat_lt}
-use Rattle.std.specs.List.{flat_map, list_all}
+use Rattle.std.proofs.Common.{◌≡◌, ℕ, zero, suc, ◌+◌, ◌<◌, ◌≤◌, Bool, true, false, ◌&&◌, ◌||◌, List, [], ◌∷◌, ◌++◌, map, length, get_or, drop, Option, Some, None, option_map, refl, sym, ap, ◌∙◌, append_assoc}
+use Rattle.std.specs.Prelude.{slice_get}
+use Rattle.std.specs.List.{flat_map}
 use Rattle.std.proofs.lemmas.List.Folds.{list_all-append}
 use Rattle.std.proofs.lemmas.List.{append-nil, drop_all, drop_more}
 use Rattle.xf_ast.specs.declared.element.Element as written
@@ -13,22 +13,11 @@ use Rattle.xf_lang.specs.Setting.{◌>>=◌}
 use Rattle.xf_ui.specs.Interface.{Element, Interface, element_of, interface_of, sort_of}
 use Rattle.xf_ui.specs.Elements.{element_at, is_control, no_element}
 use Rattle.xf_ui.specs.Copies.{Copy}
-use Rattle.xf_controls.specs.declared.copy.ControlCopy.{ControlCopy}
-use Rattle.xf_ast.specs.Ordered.{child_in, is_parent, numbered_from}
-use Rattle.xf_controls.specs.Plain.{are_children, stands_plainly}
+use Rattle.xf_ast.specs.Ordered.{child_in, is_parent}
+use Rattle.xf_controls.specs.Plain.{are_children}
 use Rattle.xf_controls.specs.Below.{is_shown, of_part, of_parts, shows, some_shown}
-use Rattle.xf_controls.specs.Rising.{rises_from}
-use Rattle.xf_controls.specs.Seen.{seen_copy}
 
 -- ---- elements
-
-pub plain-more : (f : Interface) (tables : Tables) (es : List written.Element) (i : ℕ) (e : written.Element) → i < length es → e ≡ get_or es i e
-    → list_all (stands_plainly f) (numbered_from i (map (element_of tables) (drop i es))) ≡ (stands_plainly f (i, element_of tables e) && list_all (stands_plainly f) (numbered_from (i + 1) (map (element_of tables) (drop (i + 1) es))))
-plain-more f tables es i e l is =
-    let next : suc i ≡ i + 1 = omega arith in
-    ap (λ ds. list_all (stands_plainly f) (numbered_from i (map (element_of tables) ds))) (drop_more es i e l)
-    ∙ ap (λ d. stands_plainly f (i, element_of tables d) && list_all (stands_plainly f) (numbered_from (suc i) (map (element_of tables) (drop (i + 1) es)))) (sym is)
-    ∙ ap (λ k. stands_plainly f (i, element_of tables e) && list_all (stands_plainly f) (numbered_from k (map (element_of tables) (drop (i + 1) es)))) next
 
 pub children-more : (f : Interface) (n : ℕ) (ps : List Part) (i : ℕ) (p : Part) → i < length ps → p ≡ get_or ps i p
     → are_children f n (flat_map child_in (drop i ps)) ≡ (are_children f n (child_in p) && are_children f n (flat_map child_in (drop (i + 1) ps)))
@@ -75,30 +64,6 @@ shows-parts form most k n e m h control =
 pub shown-more : (further : ℕ → Bool) (ps : List Part) (i : ℕ) (p : Part) → i < length ps → p ≡ get_or ps i p → some_shown further (drop i ps) ≡ (is_shown further p || some_shown further (drop (i + 1) ps))
 shown-more further ps i p l is = ap (some_shown further) (drop_more ps i p l) ∙ ap (λ q. is_shown further q || some_shown further (drop (i + 1) ps)) (sym is)
 
--- ---- lists that rise
-
-pub rises-more : (least : ℕ) (cs : List ControlCopy) (i : ℕ) (c : ControlCopy) → i < length cs → c ≡ get_or cs i c → rises_from least (drop i cs) ≡ (not (nat_lt c.element least) && rises_from (suc c.element) (drop (i + 1) cs))
-rises-more least cs i c l is = ap (rises_from least) (drop_more cs i c l) ∙ ap (λ (d : ControlCopy). not (nat_lt d.element least) && rises_from (suc d.element) (drop (i + 1) cs)) (sym is)
-
--- ---- a copy that is looked for
-
-pub find-more : (test : Copy → Bool) (cs : List ControlCopy) (i : ℕ) (c : ControlCopy) → i < length cs → c ≡ get_or cs i c → find test (map seen_copy (drop i cs)) ≡ find test (seen_copy c ∷ map seen_copy (drop (i + 1) cs))
-find-more test cs i c l is = ap (λ ds. find test (map seen_copy ds)) (drop_more cs i c l) ∙ ap (λ d. find test (seen_copy d ∷ map seen_copy (drop (i + 1) cs))) (sym is)
-
-pub found-here : (test : Copy → Bool) (c : Copy) (cs : List Copy) → test c ≡ true → find test (c ∷ cs) ≡ Some c
-found-here test c cs h = by (test c) h
-  where
-    by : (b : Bool) → b ≡ true → cond b (Some c) (find test cs) ≡ Some c
-    by true e = refl
-    by false e = cc e
-
-pub not-here : (test : Copy → Bool) (c : Copy) (cs : List Copy) → test c ≡ false → find test (c ∷ cs) ≡ find test cs
-not-here test c cs h = by (test c) h
-  where
-    by : (b : Bool) → b ≡ false → cond b (Some c) (find test cs) ≡ find test cs
-    by true e = cc e
-    by false e = refl
-
 -- ---- copies put behind others
 
 pub put-nothing : (old : List Copy) (m : Option (List Copy)) → m ≡ Some [] → option_map (λ more. old ++ more) m ≡ Some old
@@ -112,11 +77,6 @@ put-step now next (Some xs) (Some ys) h = let is : now ++ xs ≡ next = cc h in 
 pub put-lost : (now : List Copy) (m : Option (List Copy)) → option_map (λ x. now ++ x) m ≡ None → m ≡ None
 put-lost now None h = refl
 put-lost now (Some xs) h = cc h
-
-pub then-lost : (own more : Option (List Copy)) → more ≡ None → (own >>= λ xs. more >>= λ ys. Some (xs ++ ys)) ≡ None
-then-lost None more h = refl
-then-lost (Some xs) None h = refl
-then-lost (Some xs) (Some ys) h = cc h
 
 pub parts-more : (further : ℕ → Option (List Copy)) (ps : List Part) (i : ℕ) (p : Part) → i < length ps → p ≡ get_or ps i p → of_parts further (drop i ps) ≡ (of_part further p >>= λ xs. of_parts further (drop (i + 1) ps) >>= λ ys. Some (xs ++ ys))
 parts-more further ps i p l is = ap (of_parts further) (drop_more ps i p l) ∙ ap (λ q. of_part further q >>= λ xs. of_parts further (drop (i + 1) ps) >>= λ ys. Some (xs ++ ys)) (sym is)

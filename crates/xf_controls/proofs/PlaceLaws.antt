@@ -73,7 +73,3 @@ none-shown f (suc most) n h =
     let own : is_control e.sort ≡ false = or-left (is_control e.sort) (some_shown (shows most f) e.parts) h in
     ap (λ b. if_control b n [] (flat_map (places_below most f) (children f n))) own
     ∙ none-among (shows most f) (places_below most f) (none-shown f most) e.parts (or-right (is_control e.sort) (some_shown (shows most f) e.parts) h)
-
--- of those in an element alone
-pub none-shown-in : (f : Interface) (most n : ℕ) → some_shown (shows most f) (element_at f n).parts ≡ false → flat_map (places_below most f) (children f n) ≡ []
-none-shown-in f most n h = none-among (shows most f) (places_below most f) (none-shown f most) (element_at f n).parts h
