@@ -1,0 +1,4 @@
+pub mod Web
+pub mod Rebuilt
+pub mod Links
+pub mod Machine

@@ -1,0 +1,8 @@
+//! The behaviours rebuild and recalculate of a model (XForms 1.1, sections 4.3.1 and 4.3.2).
+#![tactic(auto)]
+
+mod fault;
+mod laws;
+
+pub use fault::RebuildFault;
+pub use laws::rebuilds_alike;
