@@ -23,4 +23,4 @@ pub mod FormSettled
 pub mod AskedStand
 pub mod ForestsMeet
 pub mod ForestNumbers
-pub mod OpenExamples
+pub mod BesideExamples

@@ -1,3 +1,6 @@
 pub mod ChainLaws
 pub mod FailedLaws
 pub mod SameLaws
+pub mod QuietEvents
+pub mod QuietKeeps
+pub mod QuietLaws

@@ -1,4 +1,4 @@
--- What the definitions of what is asked leave open: a step from a text to texts beside it, where an element without elements has two.
+-- A step from a text to texts beside it, where an element without elements has two: over the shape it has one, which stands for both.
 use Rattle.std.proofs.Common.{◌≡◌, false, List, [], ◌∷◌, Option, Some, refl, codes}
 use Rattle.xf_base.specs.Limits.{string_limit}
 use Rattle.xf_name.specs.declared.axis.Axis.TheVariants as axis
@@ -35,9 +35,19 @@ gives_c = refl
 gives_none : worth without_c ≡ Some (Nodes [])
 gives_none = refl
 
--- .. but neither the list of d, nor c, is asked
-reads_b : reads_in beside_text (shape_setting functions given with_c 0 2) (focus 2) ≡ 2 ∷ []
-reads_b = refl
+-- .. and the list of d, and c, are asked
+reads_b_and_c : reads_in beside_text (shape_setting functions given with_c 0 2) (focus 2) ≡ 2 ∷ 5 ∷ []
+reads_b_and_c = refl
 
-looks_at_b : looks_in beside_text (shape_setting functions given with_c 0 2) (focus 2) ≡ 2 ∷ []
-looks_at_b = refl
+looks_at_d : looks_in beside_text (shape_setting functions given with_c 0 2) (focus 2) ≡ 1 ∷ 2 ∷ 5 ∷ []
+looks_at_d = refl
+
+looks_at_d_without_c : looks_in beside_text (shape_setting functions given without_c 0 2) (focus 2) ≡ 1 ∷ 2 ∷ []
+looks_at_d_without_c = refl
+
+-- back again: text()/following-sibling::node()/preceding-sibling::text()/../../c
+abbrev back_again : Trace
+back_again = path (step axis.Child test.Text [] ∷ step axis.FollowingSibling test.Node [] ∷ step axis.PrecedingSibling test.Text [] ∷ up false ∷ up false ∷ child (codes "c") ∷ [])
+
+reads_as_well : reads_in back_again (shape_setting functions given with_c 0 2) (focus 2) ≡ 2 ∷ 5 ∷ []
+reads_as_well = refl
