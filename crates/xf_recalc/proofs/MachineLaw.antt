@@ -22,7 +22,8 @@ use Rattle.xf_form_machine.specs.Behave.{rebuild, rebuilt_with}
 use Rattle.xf_binds.specs.declared.web.Asks.{Asks}
 use Rattle.xf_binds.specs.Kept.{Kept, no_kept}
 use Rattle.xf_binds.specs.Table.{kept_at, with_kept}
-use Rattle.xf_recalc.specs.Web.{asks_by, asks_of, asked_in, asked_of, asked_by_all, edge_limit, is_over}
+use Rattle.xf_binds.specs.Asked.{asked_in, asked_of, asked_by_all}
+use Rattle.xf_recalc.specs.Web.{asks_by, asks_of, edge_limit, is_over}
 use Rattle.xf_recalc.specs.Rebuilt.{Stop, exception, edges, circular, table_with, unless_cycle, unless_over, with_entries, by_applied, rebuilt}
 use Rattle.xf_recalc.specs.Machine.{refusal_of, taken_over, told, AsksAsMuch, RebuildsAlike}
 

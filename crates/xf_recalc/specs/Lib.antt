@@ -1,4 +1,6 @@
 pub mod Web
 pub mod Rebuilt
 pub mod Links
+pub mod Readers
+pub mod Found
 pub mod Machine

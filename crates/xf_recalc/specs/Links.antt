@@ -1,12 +1,15 @@
 -- The graph over the calculated nodes (XForms 1.1, section 4.3.2 and appendix C), by what their calculates ask as it is kept.
-use Rattle.std.specs.Prelude.{ℕ, ◌≡◌, Bool, false, List, [], ◌∷◌, map, length, Option, Some, None, slice_get, if◌then◌else◌}
-use Rattle.std.specs.List.{list_any}
-use Rattle.xf_doc.specs.Visit.{has}
-use Rattle.xf_graph.specs.Edges.{Adjacency, has_edge}
+use Rattle.std.specs.Prelude.{ℕ, List, [], ◌∷◌, map, filter, Option, option_map, slice_get, if◌then◌else◌}
+use Rattle.std.specs.List.{list_any, flat_map}
+use Rattle.xf_doc.specs.Visit.{Visit, has}
+use Rattle.xf_doc.specs.Order.{in_order}
+use Rattle.xf_graph.specs.Edges.{Adjacency}
+use Rattle.xf_lang.specs.Binding.{as_list}
 use Rattle.xf_model.specs.declared.property.Property.TheVariants.{Calculate}
 use Rattle.xf_model.specs.Applied.{Entry, is_calculate}
 use Rattle.xf_model.specs.Circular.{places_of}
 use Rattle.xf_model.specs.Properties.{sets_on}
+use Rattle.xf_form_machine.specs.Cycles.{reported_cycle}
 use Rattle.xf_binds.specs.declared.web.Asks.{Asks}
 use Rattle.xf_recalc.specs.Web.{no_asks}
 
@@ -25,11 +28,26 @@ links sources = map (λ source. places_of (λ reader. depends source reader.asks
 
 -- ---- of a model
 
--- what the calculate of a node asks
 abbrev pub asks_on : List Entry → List Asks → ℕ → Asks
 asks_on [] web n = no_asks
 asks_on (e ∷ es) [] n = no_asks
-asks_on (e ∷ es) (a ∷ web) n = if sets_on n Calculate e then a else asks_on es web n
+asks_on (e ∷ es) (asks ∷ web) n = if sets_on n Calculate e then asks else asks_on es web n
 
+-- with what the calculate of the node asks
 abbrev pub source_on : List Entry → List Asks → ℕ → Source
 source_on entries web n = record { node = n; asks = asks_on entries web n }
+
+abbrev pub calculated_nodes : List Entry → List ℕ
+calculated_nodes entries = map (λ e. e.node) (filter is_calculate entries)
+
+-- the calculated nodes in document order
+abbrev pub sources_in : List Visit → List Entry → List Asks → List Source
+sources_in all entries web = map (source_on entries web) (in_order all (calculated_nodes entries))
+
+-- ---- the cycle that is reported, by its nodes
+
+abbrev pub nodes_in : List ℕ → List ℕ → List ℕ
+nodes_in nodes places = flat_map (λ place. as_list (slice_get nodes place)) places
+
+abbrev pub ring_of : List Source → Option (List ℕ)
+ring_of sources = option_map (nodes_in (map (λ source. source.node) sources)) (reported_cycle (links sources))

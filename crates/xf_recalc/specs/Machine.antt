@@ -12,7 +12,8 @@ use Rattle.xf_form_machine.specs.Properties.{path_in}
 use Rattle.xf_form_machine.specs.Behave.{rebuild, rebuilt_with}
 use Rattle.xf_binds.specs.Kept.{Kept}
 use Rattle.xf_binds.specs.Table.{kept_at}
-use Rattle.xf_recalc.specs.Web.{asked_of, edge_limit}
+use Rattle.xf_recalc.specs.Web.{edge_limit}
+use Rattle.xf_binds.specs.Asked.{asked_of}
 use Rattle.xf_recalc.specs.Rebuilt.{Stop, exception, edges, circular, rebuilt}
 
 -- what stops it is told with the paths of nodes

@@ -1,10 +1,11 @@
--- What the entries of a model ask of the data (XForms 1.1, section 4.3.1 and appendix C), as the table keeps it, and how much that is.
-use Rattle.std.specs.Prelude.{ℕ, ◌+◌, ◌^◌, Bool, true, false, List, [], map, length, sum_by, nat_lt}
+-- What the entries of a model ask of the data (XForms 1.1, section 4.3.1 and appendix C), as the table keeps it.
+use Rattle.std.specs.Prelude.{ℕ, ◌^◌, Bool, true, false, List, [], nat_lt}
 use Rattle.xf_doc.specs.Visit.{Visit, ancestors_of}
 use Rattle.xf_model.specs.Rules.{Scope}
 use Rattle.xf_model.specs.Applied.{Entry}
 use Rattle.xf_model.specs.Entries.{is_computed, reads_of, looks_of}
 use Rattle.xf_binds.specs.declared.web.Asks.{Asks}
+use Rattle.xf_binds.specs.Asked.{asked_by_all}
 use Rattle.xf_binds.specs.Kept.{Kept}
 
 abbrev pub no_asks : Asks
@@ -18,19 +19,8 @@ asks_by scope all e false = no_asks
 abbrev pub asks_of : Scope → List Visit → Entry → Asks
 asks_of scope all e = asks_by scope all e (is_computed e)
 
--- ---- how much that is
+-- ---- a limit that a form is held to, for the entries of all models together
 
-abbrev pub asked_in : Asks → ℕ
-asked_in asks = length asks.reads + length asks.looks
-
-abbrev pub asked_of : List Asks → ℕ
-asked_of web = sum_by asked_in web
-
--- by the entries of all models, each model's as its last rebuild gave them
-abbrev pub asked_by_all : List Kept → ℕ
-asked_by_all table = sum_by (λ k. asked_of k.asks) table
-
--- a limit that a form is held to
 abbrev pub edge_limit : ℕ
 edge_limit = 2 ^ 23
 

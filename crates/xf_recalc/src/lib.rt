@@ -3,6 +3,8 @@
 
 mod fault;
 mod laws;
+mod readers;
+mod ring;
 
 pub use fault::RebuildFault;
 pub use laws::rebuilds_alike;
