@@ -1,5 +1,5 @@
 -- The graph over the calculated nodes (XForms 1.1, section 4.3.2 and appendix C), by what their calculates ask as it is kept.
-use Rattle.std.specs.Prelude.{ℕ, List, [], ◌∷◌, map, filter, Option, option_map, slice_get, if◌then◌else◌}
+use Rattle.std.specs.Prelude.{ℕ, Bool, List, [], ◌∷◌, map, filter, Option, option_map, slice_get, if◌then◌else◌}
 use Rattle.std.specs.List.{list_any, flat_map}
 use Rattle.xf_doc.specs.Visit.{Visit, has}
 use Rattle.xf_doc.specs.Order.{in_order}

@@ -1,10 +1,10 @@
 -- Which calculates read a node: an index from nodes to the places of the calculates, and the edges that it gives.
-use Rattle.std.specs.Prelude.{ℕ, ◌≡◌, ◌<◌, Bool, true, false, ◌&&◌, ◌||◌, List, [], ◌==◌, Option, Some, None, nat_eq, slice_get}
+use Rattle.std.specs.Prelude.{ℕ, ◌≡◌, ◌<◌, Bool, true, false, ◌&&◌, ◌||◌, List, [], ◌==◌, Option, Some, None, nat_eq, nat_lt, slice_get}
 use Rattle.std.specs.List.{list_any}
 use Rattle.indexmap.specs.IndexMap.{IndexMap, get}
 use Rattle.xf_doc.specs.Visit as doc
 use Rattle.xf_graph.specs.Edges.{Adjacency, has, has_edge}
-use Rattle.xf_recalc.specs.Links.{Source}
+use Rattle.xf_recalc.specs.Links.{Source, links}
 
 abbrev pub list_or : Option (List ℕ) → List ℕ
 list_or None = []
@@ -36,3 +36,7 @@ reads_one readers ns place = list_any (λ n. has (readers_at readers n) place) n
 -- the edges of a graph, and from one vertex those to others
 abbrev pub edge_with : Adjacency → ℕ → (ℕ → Bool) → ℕ → ℕ → Bool
 edge_with graph vertex to_other from to = ((vertex == from) && to_other to) || has_edge graph from to
+
+-- the edges from the vertices before this one
+abbrev pub edges_before : List Source → ℕ → ℕ → ℕ → Bool
+edges_before sources place from to = nat_lt from place && has_edge (links sources) from to

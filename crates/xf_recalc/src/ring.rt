@@ -4,7 +4,8 @@ ghost use Rattle.std.specs.Prelude.{◌≡◌, ◌<◌, ℕ, true, ◌∷◌, �
 ghost use Rattle.xf_lang.specs.Binding.{as_list};
 ghost use Rattle.xf_doc.specs.Order.{in_order};
 ghost use Rattle.xf_doc.specs.Visit.{visits};
-ghost use Rattle.xf_graph.specs.Edges.{has, has_edge, HasEdges};
+ghost use Rattle.xf_graph.specs.Edges.{Adjacency, has, has_edge, HasEdges};
+ghost use Rattle.xf_form_machine.specs.Cycles.{reported_cycle};
 ghost use Rattle.xf_binds.specs.Held.{entries_in};
 ghost use Rattle.xf_recalc.specs.Links.{asks_on, calculated_nodes, links, nodes_in, ring_of, source_on, sources_in};
 ghost use Rattle.xf_recalc.specs.Readers.{AreVertices, edge_with, readers_at, reads_one};
@@ -14,7 +15,7 @@ use crate::readers::{Readers, asks_at, readers_of};
 use std::alloc::{AllocError, Global};
 use xf_binds::{Applied, Web};
 use xf_doc::{NodeId, NodeList};
-use xf_graph::{Graph, Order};
+use xf_graph::{Graph, Order, VertexList};
 use xf_model::Property;
 use xf_tree::Forest;
 
@@ -29,11 +30,21 @@ pub(crate) fn ring_of(
 {
     let nodes = calculated(alloc, forest, applied)?;
     let graph = graph_of(alloc, applied, web, &nodes)?;
-    // The graph joins no more than its vertices.
+    match cycle_in(&graph)? {
+        Some(places) => Ok(Some(nodes_at(alloc, &nodes, places.as_slice())?)),
+        None => Ok(None),
+    }
+}
+
+/// The cycle of a graph that is reported, where one stands.
+fn cycle_in(graph: &Graph) -> Result<Option<VertexList>, AllocError>
+    ensures { IfOk result (λ cycle. (other : Adjacency) → HasEdges graph.now (length other) (has_edge other) → cycle ≡ reported_cycle other) }
+{
+    // Its edges join no more than its vertices.
     let _ = graph.size();
     match graph.order()? {
-        Order::Sorted(_) => Ok(None),
-        Order::Cycle(places) => Ok(Some(nodes_at(alloc, &nodes, places.as_slice())?)),
+        Order::Cycle(places) => Ok(Some(places)),
+        Order::Sorted(_order) => Ok(None),
     }
 }
 
