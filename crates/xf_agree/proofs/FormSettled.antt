@@ -71,11 +71,11 @@ module _ (b : Bounds) (functions : Functions) (given : Given) (tables : Tables) 
   hung : AreHung (shape all)
   hung = subst AreHung same_shape (shape-in_elements scope b forest [] around tt)
 
-  abbrev made : List Entry
+  abbrev pub made : List Entry
   made = all_entries scope (shape all)
 
-  parts : (exception_from (shape all) [] made ≡ None) × (made ≡ entries)
-  parts = unless-ok (exception_from (shape all) [] made) made entries applies
+  pub applied-parts : (exception_from (shape all) [] made ≡ None) × (made ≡ entries)
+  applied-parts = unless-ok (exception_from (shape all) [] made) made entries applies
 
   static-of : (e : Entry) → Stands (shape all) v hung scope.rules 0 e → (is_calculate e ≡ true → has_elements (shape all) e.node ≡ false) → is_calculate e ≡ true → IsStatic scope forest e
   static-of e s leaf c =
@@ -99,13 +99,13 @@ module _ (b : Bounds) (functions : Functions) (given : Given) (tables : Tables) 
       zero-plus k = omega arith
 
   both : AllOf (λ e. Stands (shape all) v hung scope.rules 0 e × (is_calculate e ≡ true → has_elements (shape all) e.node ≡ false)) made
-  both = each_both _ _ made (entries-standing (shape all) v hung scope) (leaves (shape all) v hung [] made parts.0)
+  both = each_both _ _ made (entries-standing (shape all) v hung scope) (leaves (shape all) v hung [] made applied-parts.0)
 
   static-made : AllOf (IsStatic scope forest) (calculates made)
   static-made = each_then _ _ (λ e h. static-of e h.0.0 h.0.1 h.1) (calculates made) (all-filter _ is_calculate made both)
 
   pub form_static : AllOf (IsStatic scope forest) (calculates entries)
-  form_static = subst (λ es. AllOf (IsStatic scope forest) (calculates es)) parts.1 static-made
+  form_static = subst (λ es. AllOf (IsStatic scope forest) (calculates es)) applied-parts.1 static-made
 
   once : (e : Entry) → IsStatic scope forest e → length (filter (λ x. e.node == x.number) (shape all)) ≡ 1
   once e s =

@@ -20,6 +20,11 @@ pub mod LooseAgreement
 pub mod SettledStatic
 pub mod FormEntries
 pub mod FormSettled
+pub mod TurnLists
+pub mod InTurnLaws
+pub mod InTurnLimits
+pub mod FormInTurn
+pub mod EvaluatedLaws
 pub mod AskedStand
 pub mod ForestsMeet
 pub mod ForestNumbers

@@ -18,7 +18,7 @@ use Rattle.xf_agree.specs.Settles.{Surrounds, IsStatic, CalculatesAgree, Settles
 use Rattle.xf_agree.proofs.HeldMeets.{text_same}
 
 module _ (b : Bounds) (scope : Scope) (entries : List Entry) (forest : Forest) (around : Surrounds scope b.string forest) (static : AllOf (IsStatic scope forest) (calculates entries)) where
-  one-text : (e : Entry) → IsStatic scope forest e → (one other : Contents) → AreCalculated entries one → AreCalculated entries other → AgreeFor scope (visits forest.nodes) e one other →
+  pub one-text : (e : Entry) → IsStatic scope forest e → (one other : Contents) → AreCalculated entries one → AreCalculated entries other → AgreeFor scope (visits forest.nodes) e one other →
       text_of (Some b.string) scope (holding (visits forest.nodes) one) e ≡ text_of (Some b.string) scope (holding (visits forest.nodes) other) e
   one-text e is_static one other of_one of_other agree =
       let c = focus_of e in

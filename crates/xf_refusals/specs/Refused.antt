@@ -1,5 +1,5 @@
--- The first refusal of a form by its elements, with its place: a path, or for a limit its word.
-use Rattle.std.specs.Prelude.{ℕ, ◌==◌, if◌then◌else◌, List, [], Option, Some, None}
+-- The first refusal of a form by its elements, with its place: a path, or for a limit its word; and the first element that is not built.
+use Rattle.std.specs.Prelude.{ℕ, ◌==◌, if◌then◌else◌, List, [], Option, Some, None, option_map}
 use Rattle.xf_name.specs.Bindings.{Bindings}
 use Rattle.xf_refusals.specs.declared.refusals.Refusal.{Refusal}
 use Rattle.xf_refusals.specs.Limits.{limit_of, first_unbuilt}
@@ -11,20 +11,19 @@ use Rattle.xf_refusals.specs.Rows.{Seen}
 abbrev pub place_of : List Seen → Refusal → List ℕ
 place_of all r = if r.number == 6 then [] else path_of all r.place
 
--- 19: the program cannot run it yet
-abbrev pub by_built : List Seen → Option ℕ → Option (ℕ × List ℕ)
-by_built all None = None
-by_built all (Some place) = Some (19, path_of all place)
-
 -- 17: a limit is passed
 abbrev pub by_limit : List Seen → Option (List ℕ) → Option (ℕ × List ℕ)
-by_limit all None = by_built all (first_unbuilt all)
+by_limit all None = None
 by_limit all (Some word) = Some (17, word)
 
 abbrev pub by_element : List Seen → Option Refusal → Option (ℕ × List ℕ)
 by_element all None = by_limit all (limit_of all)
 by_element all (Some r) = Some (r.number, place_of all r)
 
--- its number and its place: elements first, then limits, then what is not built
+-- its number and its place: elements first, then limits
 abbrev pub refusal_of : Bindings → List Seen → Option (ℕ × List ℕ)
 refusal_of b all = by_element all (first_refusal b all)
+
+-- the path of the first element that the program cannot run yet
+abbrev pub unbuilt_of : List Seen → Option (List ℕ)
+unbuilt_of all = option_map (path_of all) (first_unbuilt all)

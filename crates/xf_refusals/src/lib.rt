@@ -13,7 +13,7 @@ mod standing;
 mod walk;
 
 pub use classes::{Class, is_of};
-pub use refusals::refusal_of;
+pub use refusals::{refusal_of, unbuilt_of};
 pub use rows::{Row, id_in, is_control_row, is_handler, is_inline, is_numbered};
 pub use standing::{Standing, Zone, is_outside};
 pub use walk::{rows_of, small};

@@ -254,7 +254,7 @@ fn place_of(alloc: Global, rows: &[Row<'_>], found: Refusal) -> Result<Word, All
     path_of(alloc, rows, found.place)
 }
 
-/// The first refusal of a form by its elements: its number, and its place.
+/// The first refusal of a form by its elements: its number, and its place, which for a limit is its word.
 pub fn refusal_of(
     alloc: Global,
     prefixes: &Prefixes,
@@ -268,8 +268,15 @@ pub fn refusal_of(
     if let Some(word) = limit_of(rows) {
         return Ok(Some((17, Word::from_str(alloc, word)?)));
     }
-    if let Some(place) = first_unbuilt(rows) {
-        return Ok(Some((19, path_of(alloc, rows, place)?)));
-    }
     Ok(None)
+}
+
+/// The path of the first element that the program cannot run yet.
+pub fn unbuilt_of(alloc: Global, rows: &[Row<'_>]) -> Result<Option<Word>, AllocError>
+    ensures { IfOk result (λ found. found ≡ refused.unbuilt_of (map shown rows.now)) }
+{
+    match first_unbuilt(rows) {
+        Some(place) => Ok(Some(path_of(alloc, rows, place)?)),
+        None => Ok(None),
+    }
 }

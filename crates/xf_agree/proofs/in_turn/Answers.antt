@@ -1,0 +1,18 @@
+use Rattle.xf_agree.proofs.InTurnLaws.{in_turn_contents, in_turn_settled, in_turn_texts}
+use Rattle.xf_agree.proofs.InTurnLimits.{in_turn_passed, in_turn_fitting}
+use Rattle.xf_agree.proofs.in_turn.Goals as goal
+
+pub returns-clause-contents : goal.returns-clause-contents
+returns-clause-contents c = in_turn_contents
+
+pub returns-clause-settled : goal.returns-clause-settled
+returns-clause-settled c = in_turn_settled
+
+pub returns-clause-texts : goal.returns-clause-texts
+returns-clause-texts c = in_turn_texts
+
+pub returns-clause-passed : goal.returns-clause-passed
+returns-clause-passed c = in_turn_passed
+
+pub returns-clause-fitting : goal.returns-clause-fitting
+returns-clause-fitting c = in_turn_fitting

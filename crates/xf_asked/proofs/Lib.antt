@@ -1,0 +1,4 @@
+pub mod Listings
+pub mod Ends
+pub mod Tellings
+pub mod Steppings

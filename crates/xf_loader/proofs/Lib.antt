@@ -1,0 +1,4 @@
+pub mod CountLemmas
+pub mod TargetLemmas
+pub mod FirstLemmas
+pub mod PlaceLemmas

@@ -1,0 +1,12 @@
+pub mod Numbers
+pub mod Written
+pub mod Scopes
+pub mod Models
+pub mod Submissions
+pub mod Actions
+pub mod Elements
+pub mod Tables
+pub mod Data
+pub mod Loading
+pub mod Counts
+pub mod Plan

@@ -1,0 +1,82 @@
+//! What the attributes of an element say.
+
+ghost use Rattle.std.specs.Prelude.{◌≡◌, IfOk, map, option_map};
+ghost use Rattle.xf_vocabulary.specs.Attributes.{shown};
+ghost use Rattle.xf_loader.specs.Written as written;
+
+use std::alloc::{AllocError, Global};
+use xf_ast::{Expr, Start};
+use xf_base::Items;
+use xf_name::{Prefixes, Word};
+use xf_path::{ParseFault, parse};
+use xf_vocabulary::{Known, Tag, text_of, wanted_of};
+
+/// The context node alone.
+fn here(alloc: Global) -> Expr
+    ensures { result ≡ written.here }
+{
+    Expr::Path(0, Start::Context, Items::new(alloc))
+}
+
+/// The expression that a text is, or the context node.
+pub fn expr_of(alloc: Global, prefixes: &Prefixes, text: &str) -> Result<Expr, AllocError>
+    ensures { IfOk result (λ expr. expr ≡ written.expr_of prefixes.now text.now) }
+{
+    match parse(alloc, text, prefixes) {
+        Ok(expr) => Ok(expr),
+        Err(ParseFault::Memory) => Err(AllocError),
+        Err(ParseFault::Expr(_, _)) => Ok(here(alloc)),
+    }
+}
+
+/// The expression that an attribute is, where it is written.
+pub fn expr_at(
+    alloc: Global,
+    prefixes: &Prefixes,
+    known: &[Known<'_>],
+    code: u16,
+) -> Result<Option<Expr>, AllocError>
+    ensures { IfOk result (λ expr. expr ≡ written.expr_at prefixes.now (map shown known.now) code) }
+{
+    match text_of(known, code) {
+        Some(text) => Ok(Some(expr_of(alloc, prefixes, text)?)),
+        None => Ok(None),
+    }
+}
+
+/// A copy of the text of an attribute: empty where it is not written.
+pub fn word_at(alloc: Global, known: &[Known<'_>], code: u16) -> Result<Word, AllocError>
+    ensures { IfOk result (λ word. word ≡ written.word_at (map shown known.now) code) }
+{
+    match text_of(known, code) {
+        Some(text) => Word::from_str(alloc, text),
+        None => Ok(Word::new(alloc)),
+    }
+}
+
+/// Whether an attribute has the text.
+pub fn is_text(known: &[Known<'_>], code: u16, wanted: &str) -> bool
+    ensures { result ≡ written.is_text (map shown known.now) code wanted.now }
+{
+    match text_of(known, code) {
+        Some(text) => text == wanted,
+        None => false,
+    }
+}
+
+/// Whether an attribute is not `false`.
+pub fn is_true(known: &[Known<'_>], code: u16) -> bool
+    ensures { result ≡ written.is_true (map shown known.now) code }
+{
+    !is_text(known, code, "false")
+}
+
+/// The id that an attribute is at an element of this kind, where it names one.
+pub fn id_at<'a>(tag: Tag, known: &[Known<'a>], code: u16) -> Option<&'a str>
+    ensures { option_map (λ id. id.now) result ≡ written.id_at tag (map shown known.now) code }
+{
+    if wanted_of(tag, false, code).is_none() {
+        return None;
+    }
+    text_of(known, code)
+}

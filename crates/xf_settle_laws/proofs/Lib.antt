@@ -1,0 +1,5 @@
+pub mod Put
+pub mod Spots
+pub mod Bridge
+pub mod WrittenLaws
+pub mod Held
