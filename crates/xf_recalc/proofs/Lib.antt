@@ -3,3 +3,9 @@ pub mod Rings
 pub mod MachineLaw
 pub mod Placed
 pub mod Linked
+pub mod Shown
+pub mod Entered
+pub mod Ringed
+pub mod Above
+pub mod Rebuilds
+pub mod Expressions

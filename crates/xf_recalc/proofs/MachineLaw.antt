@@ -37,7 +37,7 @@ abbrev head_of : List ℕ → ℕ
 head_of [] = 0
 head_of (n ∷ ns) = n
 
-fold-same : {X Y : Type 0} (f : X → ℕ) (g : Y → ℕ) (a : ℕ) (xs : List X) (ys : List Y) → map f xs ≡ map g ys → fold (λ b x. b + f x) a xs ≡ fold (λ b y. b + g y) a ys
+pub fold-same : {X Y : Type 0} (f : X → ℕ) (g : Y → ℕ) (a : ℕ) (xs : List X) (ys : List Y) → map f xs ≡ map g ys → fold (λ b x. b + f x) a xs ≡ fold (λ b y. b + g y) a ys
 fold-same f g a [] [] e = refl
 fold-same f g a [] (y ∷ ys) e = absurd (let n = ap length e in omega (arith, n))
 fold-same f g a (x ∷ xs) [] e = absurd (let n = ap length e in omega (arith, n))

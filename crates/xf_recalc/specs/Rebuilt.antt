@@ -12,6 +12,8 @@ use Rattle.xf_binds.specs.declared.web.Asks.{Asks}
 use Rattle.xf_binds.specs.Kept.{Kept}
 use Rattle.xf_binds.specs.Table.{kept_at, with_kept}
 use Rattle.xf_recalc.specs.Web.{asks_of, is_over}
+use Rattle.xf_apply.specs.declared.fault.BindFault.{BindFault}
+use Rattle.xf_apply.specs.declared.fault.BindFault.TheVariants as bind
 use Rattle.xf_recalc.specs.declared.fault.RebuildFault.{RebuildFault}
 use Rattle.xf_recalc.specs.declared.fault.RebuildFault.TheVariants.{Twice, OnParent, Edges, Circular, Memory}
 
@@ -64,3 +66,9 @@ IsStopped Memory given = Unit {0}
 abbrev pub IsRebuilt : {X : Type 0} → List Kept → Result X RebuildFault → Result (List Kept) Stop → Type 0
 IsRebuilt table (Ok x) given = given ≡ Ok table
 IsRebuilt table (Err fault) given = IsStopped fault given
+
+-- why binds are not applied
+abbrev pub fault_of : BindFault → RebuildFault
+fault_of (bind.Twice node) = Twice node
+fault_of (bind.OnParent node) = OnParent node
+fault_of bind.Memory = Memory

@@ -4,7 +4,10 @@
 mod fault;
 mod laws;
 mod readers;
+mod rebuilding;
 mod ring;
+mod web;
 
 pub use fault::RebuildFault;
 pub use laws::rebuilds_alike;
+pub use rebuilding::rebuild;
