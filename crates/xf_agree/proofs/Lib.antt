@@ -23,6 +23,7 @@ pub mod FormSettled
 pub mod TurnLists
 pub mod InTurnLaws
 pub mod InTurnLimits
+pub mod InTurnDone
 pub mod FormInTurn
 pub mod EvaluatedLaws
 pub mod AskedStand

@@ -1,5 +1,5 @@
 -- The lists at and below a node of the shape, and what is read for it, by what the calls test in the forest.
-use Rattle.std.proofs.Common.{◌≡◌, ℕ, ◌==◌, Bool, true, false, not, cond, ◌&&◌, ◌||◌, List, [], ◌∷◌, ◌++◌, map, Option, Some, None, option_map, refl, sym, ap, ◌∙◌, subst, inl, inr}
+use Rattle.std.proofs.Common.{◌≡◌, ℕ, ◌==◌, Bool, true, false, not, cond, ◌&&◌, List, [], ◌∷◌, ◌++◌, map, Option, Some, None, option_map, refl, sym, ap, ◌∙◌, inl, inr}
 use Rattle.std.specs.Prelude.{filter, unwrap_or}
 use Rattle.std.specs.List.{flat_map, list_all}
 use Rattle.std.proofs.lemmas.Bool.{eqb-true}
@@ -20,20 +20,20 @@ use Rattle.xf_lang.specs.Agree.{untexted, AreVisits}
 use Rattle.xf_lang.specs.Asked.{as_list, found, has_list, list_around, lists_below, parent_in, read_for, reader_of}
 use Rattle.xf_lang.specs.AskedSteps.{if_text, kind_read, read_if}
 use Rattle.xf_lang.proofs.VisitFacts.{no, some-same, none-some, or-cases, filter-and, filter-within, found-number, found-in, absent, present}
-use Rattle.xf_lang.proofs.ForestVisits.{Each, each-map, self-found, found-erased, list-solid}
+use Rattle.xf_lang.proofs.ForestVisits.{each-map, self-found, found-erased, list-solid}
 use Rattle.xf_lang.proofs.UntextedLaws.{solid-found}
 use Rattle.xf_eval.proofs.Erased.{reached-erased}
 use Rattle.xf_shape.specs.declared.spot.Spot.{Spot}
 use Rattle.xf_shape.specs.declared.spot.Spot.TheVariants.{Node as Own, TextOf, Outside}
 use Rattle.xf_shape.specs.Spots.{AreSpots, is_leaf, is_spot, is_text_in, number_at, numbers_at, shaped, stands}
-use Rattle.xf_shape.specs.Steps.{has_list_in, if_so}
+use Rattle.xf_shape.specs.Steps.{if_so}
 use Rattle.xf_shape.specs.Woven.{is_shown}
 use Rattle.xf_shape.proofs.Bounds.{parent-shown}
 use Rattle.xf_shape.proofs.Frames.{each-same, opened}
 use Rattle.xf_shape.proofs.Filled.{each-kept_none}
 use Rattle.xf_shape.proofs.Plain.{content-of, has-list-of, leaf-visit}
 use Rattle.xf_shape.proofs.Reached.{leaf-stands}
-use Rattle.xf_shape.proofs.Shapes.{Sound, real, whole, real-visits, whole-visits, same-bare, live-found, found-live, stands-found, text-found, text_in, is_leaf_visit}
+use Rattle.xf_shape.proofs.Shapes.{Sound, real, whole, real-visits, whole-visits, same-bare, live-found, found-live, stands-found, text-found, text_in}
 use Rattle.xf_asked.specs.Beside.{is_text_spot, text_of}
 use Rattle.xf_asked.specs.Lists.{has_list_of, reader_at}
 use Rattle.xf_asked.specs.Tells.{has_list_at, is_list}

@@ -56,9 +56,11 @@ found-parents tables n before (x ∷ after) k h =
     (found-parents tables n (before ++ x ∷ []) after (suc k) (omega (arith, length-append before (x ∷ []), h)))) (is_parent n x.parent) refl
   where
     by : Each (Stand tables (before ++ x ∷ after) n) (map (λ e. e.0) (filter (stands_in n) (numbered_from (suc k) after))) → (b : Bool) → is_parent n x.parent ≡ b → Each (Stand tables (before ++ x ∷ after) n) (map (λ e. e.0) (cond b ((k, x) ∷ filter (stands_in n) (numbered_from (suc k) after)) (filter (stands_in n) (numbered_from (suc k) after))))
-    by further true p =
-        (ap (λ m. (get_or (map (element_of tables) (before ++ x ∷ after)) m no_element).parent) (sym h)
-        ∙ ap (λ (e : Element). e.parent) (seam tables before x after) ∙ parent-is n x.parent p, further)
+    by further true p = (
+      ap (λ m. (get_or (map (element_of tables) (before ++ x ∷ after)) m no_element).parent) (sym h)
+          ∙ ap (λ (e : Element). e.parent) (seam tables before x after) ∙ parent-is n x.parent p,
+      further,
+    )
     by further false p = further
 
 all-numbered : (p : ℕ × written.Element → Bool) (k : ℕ) (es : List written.Element) → list_all p (numbered_from k es) ≡ true → (n : ℕ) (d : written.Element) → n < length es → p (k + n, get_or es n d) ≡ true
@@ -81,10 +83,10 @@ parents-in form ordered n =
     let es = form.elements in
     let all = numbered_from 0 es in
     parts-at form.tables es n (Stand form.tables es n) (λ d l.
-      let zero_and : 0 + n ≡ n = omega arith in
-      let test : has_its_children all (n, get_or es n d) ≡ true = subst (λ k. has_its_children all (k, get_or es n d) ≡ true) zero_and (all-numbered (has_its_children all) 0 es ordered.children n d l) in
-      let same : children (get_or es n d) ≡ map (λ e. e.0) (filter (stands_in n) all) = same-list (children (get_or es n d)) (map (λ e. e.0) (filter (stands_in n) all)) test in
-      each-in (Stand form.tables es n) (get_or es n d).parts (subst (Each (Stand form.tables es n)) (sym same) (found-parents form.tables n [] es 0 refl)))
+    let zero_and : 0 + n ≡ n = omega arith in
+    let test : has_its_children all (n, get_or es n d) ≡ true = subst (λ k. has_its_children all (k, get_or es n d) ≡ true) zero_and (all-numbered (has_its_children all) 0 es ordered.children n d l) in
+    let same : children (get_or es n d) ≡ map (λ e. e.0) (filter (stands_in n) all) = same-list (children (get_or es n d)) (map (λ e. e.0) (filter (stands_in n) all)) test in
+    each-in (Stand form.tables es n) (get_or es n d).parts (subst (Each (Stand form.tables es n)) (sym same) (found-parents form.tables n [] es 0 refl)))
 
 -- ---- the first element
 

@@ -1,1 +1,2 @@
 pub mod FixedLaw
+pub mod BindsLaw

@@ -2,7 +2,7 @@
 //! contract is a law.
 #![tactic(auto)]
 
-ghost use Rattle.xf_fixed.specs.Laws.{ReadFixed, StaticFixed};
+ghost use Rattle.xf_fixed.specs.Laws.{BindsFixed, ReadFixed, StaticFixed};
 
 /// A static expression that is as the reader makes it is fixed.
 pub fn static_fixed()
@@ -12,4 +12,9 @@ pub fn static_fixed()
 /// So a text that is read as a static expression is fixed.
 pub fn read_fixed()
     ensures { ReadFixed }
+{}
+
+/// So the node sets of binds that were read, and are static, are fixed.
+pub fn binds_fixed()
+    ensures { BindsFixed }
 {}

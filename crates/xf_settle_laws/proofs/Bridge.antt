@@ -26,7 +26,7 @@ use Rattle.xf_settle_laws.proofs.Spots.{FitsHere, Fits, Spot, spot, put-absent, 
 
 -- ---- what fits stays so
 
-leaf-no_element : (c : Content) → is_leaf c ≡ true → is_element c ≡ false
+pub leaf-no_element : (c : Content) → is_leaf c ≡ true → is_element c ≡ false
 leaf-no_element Root e = refl
 leaf-no_element (Element name) e = let no : false ≡ true = e in cc
 leaf-no_element (Attribute name text) e = refl
@@ -54,7 +54,7 @@ leaves-lone : (a : ℕ) (text : List ℕ) → AreLeaves (lone (one_text a text))
 leaves-lone a [] = tt
 leaves-lone a (c ∷ cs) = (refl, refl, tt)
 
-leaves-content : (a : ℕ) (text : List ℕ) (k : Trees) → AreLeaves k → AreLeaves (content a text k)
+pub leaves-content : (a : ℕ) (text : List ℕ) (k : Trees) → AreLeaves k → AreLeaves (content a text k)
 leaves-content a text k h = by (same_texts (as_texts text) (texts_top k))
   where
     by : (b : Bool) → AreLeaves (cond b k (followed (attributes k) (lone (one_text a text))))
@@ -231,11 +231,11 @@ abbrev pub AreReady : ℕ → Contents → Trees → Type 0
 AreReady number [] t = ⊤
 AreReady number (p ∷ ps) t = Fits p.0 t × (times p.0 t ≤ 1) × (p.0 < number) × AreReady number ps t
 
-ready-later : (number : ℕ) (contents : Contents) (t : Trees) → AreReady number contents t → AreReady (suc number) contents t
+pub ready-later : (number : ℕ) (contents : Contents) (t : Trees) → AreReady number contents t → AreReady (suc number) contents t
 ready-later number [] t h = tt
 ready-later number (p ∷ ps) t h = let less = h.2 in (h.0, h.1, omega (arith, less), ready-later number ps t h.3)
 
-ready-put : (number m : ℕ) (u : List ℕ) (contents : Contents) (t : Trees) → Fits m t → times m t ≤ 1 → AreReady number contents t → AreReady number contents (put number m u t)
+pub ready-put : (number m : ℕ) (u : List ℕ) (contents : Contents) (t : Trees) → Fits m t → times m t ≤ 1 → AreReady number contents t → AreReady number contents (put number m u t)
 ready-put number m u [] t fits once h = tt
 ready-put number m u (p ∷ ps) t fits once h =
     let less = h.2 in

@@ -51,14 +51,14 @@ fits-attribute n none h = tt
 fits-attribute n (tree m c k r) h = (λ e. inl (h.0 e).0, fits-attribute n k h.1, fits-attribute n r h.2)
 
 module _ (forest : Forest) (s : Stands (alone forest)) where
-  once : (n : ℕ) → times n s.trees ≤ 1
+  pub once : (n : ℕ) → times n s.trees ≤ 1
   once n = let o = s.once n in omega (arith, o)
 
-  at-node : (q : Content → Bool) (n : ℕ) → list_any (λ (x : Node). (x.number == n) && q x.content) forest.nodes ≡ true → is_at q n s.trees ≡ true
+  pub at-node : (q : Content → Bool) (n : ℕ) → list_any (λ (x : Node). (x.number == n) && q x.content) forest.nodes ≡ true → is_at q n s.trees ≡ true
   at-node q n h = sym (any-is q n s.trees) ∙ ap (list_any (λ (x : Node). (x.number == n) && q x.content)) (sym s.nodes) ∙ h
 
   -- a node whose text can be set
-  settable-fits : (n : ℕ) → IsSettable n forest → Fits n s.trees
+  pub settable-fits : (n : ℕ) → IsSettable n forest → Fits n s.trees
   settable-fits n able = by able.kind
     where
       none_below : elements false n s.trees ≡ false
@@ -69,7 +69,7 @@ module _ (forest : Forest) (s : Stands (alone forest)) where
       by (inr h) = fits-leaf n s.trees (leaf-of n false false s.trees s.sound (once n) (at-node is_element n (kind-any kind.Element is_element element-test n forest.nodes h)) none_below)
 
   -- it stands, so that its number is an old one
-  settable-old : (n : ℕ) → IsSettable n forest → n < forest.next
+  pub settable-old : (n : ℕ) → IsSettable n forest → n < forest.next
   settable-old n able = by able.kind
     where
       old : 1 ≤ times n s.trees → n < forest.next
