@@ -318,7 +318,7 @@ pub ring-is : (entries : List Entry) (web : List Asks) (nodes : List ℕ) (graph
 ring-is entries web nodes graph cycle h told =
     let sources = map (source_on entries web) nodes in
     let size : length nodes ≡ length (links sources) =
-        sym (mapped-length (λ s. places_of (λ reader. depends s reader.asks.reads) sources) sources ∙ mapped-length (source_on entries web) nodes) in
+    sym (mapped-length (λ s. places_of (λ reader. depends s reader.asks.reads) sources) sources ∙ mapped-length (source_on entries web) nodes) in
     ap (option_map (nodes_in nodes)) (told (links sources) (subst (λ n. HasEdges graph n (has_edge (links sources))) size h))
     ∙ ap (λ ns. option_map (nodes_in ns) (reported_cycle (links sources))) (sym (nodes-of entries web nodes))
 

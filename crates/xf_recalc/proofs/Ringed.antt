@@ -83,15 +83,15 @@ module _ (scope : Scope) (all : List Visit) where
       inr (
         e,
         ap (λ b. filter (λ x. x.node == n) (cond b (e ∷ filter is_calculate es) (filter is_calculate es))) c
-        ∙ ap (λ b. cond b (e ∷ calculates_on es n) (calculates_on es n)) is
-        ∙ ap (λ l. e ∷ l) (none-else e es n apart p here),
+            ∙ ap (λ b. cond b (e ∷ calculates_on es n) (calculates_on es n)) is
+            ∙ ap (λ l. e ∷ l) (none-else e es n apart p here),
         ap (λ b. has n (map (λ (x : Entry). x.node) (cond b (e ∷ filter is_calculate es) (filter is_calculate es)))) c
-        ∙ or-left (n == e.node) (has n (calculated_nodes es)) (turned n e.node ∙ is),
+            ∙ or-left (n == e.node) (has n (calculated_nodes es)) (turned n e.node ∙ is),
         ap (λ (asks : Asks). record { node = n; asks = asks })
-        (ap (λ b. cond (b && is_property e.property Calculate) (asks_of scope all e) (asks_on es (map (asks_of scope all) es) n)) is
-        ∙ ap (λ b. cond b (asks_of scope all e) (asks_on es (map (asks_of scope all) es) n)) c
-        ∙ ap (asks_by scope all e) computed)
-        ∙ ap (λ m. record { node = m; asks = record { reads = reads_of scope all e; looks = looks_of scope all e; above = ancestors_of e.node all } }) (sym here),
+            (ap (λ b. cond (b && is_property e.property Calculate) (asks_of scope all e) (asks_on es (map (asks_of scope all) es) n)) is
+            ∙ ap (λ b. cond b (asks_of scope all e) (asks_on es (map (asks_of scope all) es) n)) c
+            ∙ ap (asks_by scope all e) computed)
+            ∙ ap (λ m. record { node = m; asks = record { reads = reads_of scope all e; looks = looks_of scope all e; above = ancestors_of e.node all } }) (sym here),
       )
 
   -- another entry in front changes nothing

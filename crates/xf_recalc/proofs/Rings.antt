@@ -53,8 +53,7 @@ taken_out n (x ∷ xs) once = elim (cases_eq x n) [
   | inr ne ↦
       let i = taken_out n xs once.1 in
       let m = i.3 in
-      let out : has i.0 x ≡ false = elim (cases_Bool (has i.0 x)) [ inl h ↦ absurd (false≢true (sym once.0 ∙ (i.2 x h).0)) | inr h ↦ h ] in
-      (
+      let out : has i.0 x ≡ false = elim (cases_Bool (has i.0 x)) [ inl h ↦ absurd (false≢true (sym once.0 ∙ (i.2 x h).0)) | inr h ↦ h ] in (
         x ∷ i.0,
         (out, i.1),
         (λ v h. elim (has_cases x v i.0 h) [

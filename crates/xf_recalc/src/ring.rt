@@ -90,7 +90,14 @@ fn graph_of(
     let readers = readers_of(alloc, applied, web, nodes)?;
     let mut graph = Graph::new(alloc, count as u32)?;
     for place in 0..count {
-        link_source(&mut graph, &readers, applied, web, nodes.at(place), place as u32)?;
+        link_source(
+            &mut graph,
+            &readers,
+            applied,
+            web,
+            nodes.at(place),
+            place as u32,
+        )?;
     }
     Ok(graph)
 }

@@ -31,9 +31,9 @@ returns-in_ok-reads-in-Some g c =
     let all = shape_of c.args.forest.now.forest.nodes in
     let e = entry_of c.args.entry in
     let up : c.in_ok-above.above ≡ ancestors_of c.args.entry.node.number all =
-        c.in_ok-above.ensures ∙ sym (shown-above c.args.forest.now.forest c.is_sound.ensures c.args.entry.node.number (c.requires.there, small c.args.entry.node.number c.fits.ensures)) in
+    c.in_ok-above.ensures ∙ sym (shown-above c.args.forest.now.forest c.is_sound.ensures c.args.entry.node.number (c.requires.there, small c.args.entry.node.number c.fits.ensures)) in
     let some : expression_of scope e ≡ Some (computed_of c.in-Some.expr.now) =
-        ap (λ bs. option_and_then (λ (r : Rule). expression_in r c.args.entry.property) (slice_get (map rule_of bs) c.args.entry.bind)) (sym c.as_slice.ensures) ∙ sym c.in-Some.ensures.value in
+    ap (λ bs. option_and_then (λ (r : Rule). expression_in r c.args.entry.property) (slice_get (map rule_of bs) c.args.entry.bind)) (sym c.as_slice.ensures) ∙ sym c.in-Some.ensures.value in
     asks-some scope all e c.in-Some.expr.now c.in_ok-reads-in-Some.reads c.in_ok-reads-in-Some.looks c.in_ok-above.above (sym c.is_type.ensures ∙ c.if-is_type.false) some
     c.in_ok-reads-in-Some.ensures.reads c.in_ok-reads-in-Some.ensures.looks up
 
@@ -43,9 +43,9 @@ returns-in-None g c =
     let all = shape_of c.args.forest.now.forest.nodes in
     let e = entry_of c.args.entry in
     let up : c.in_ok-above.above ≡ ancestors_of c.args.entry.node.number all =
-        c.in_ok-above.ensures ∙ sym (shown-above c.args.forest.now.forest c.is_sound.ensures c.args.entry.node.number (c.requires.there, small c.args.entry.node.number c.fits.ensures)) in
+    c.in_ok-above.ensures ∙ sym (shown-above c.args.forest.now.forest c.is_sound.ensures c.args.entry.node.number (c.requires.there, small c.args.entry.node.number c.fits.ensures)) in
     let none : expression_of scope e ≡ None =
-        ap (λ bs. option_and_then (λ (r : Rule). expression_in r c.args.entry.property) (slice_get (map rule_of bs) c.args.entry.bind)) (sym c.as_slice.ensures) ∙ sym c.in-None.ensures.value in
+    ap (λ bs. option_and_then (λ (r : Rule). expression_in r c.args.entry.property) (slice_get (map rule_of bs) c.args.entry.bind)) (sym c.as_slice.ensures) ∙ sym c.in-None.ensures.value in
     ap (λ (ns : List ℕ). record { reads = ns; looks = c.new-in-None.result; above = c.in_ok-above.above }) c.new.ensures
     ∙ ap (λ (ns : List ℕ). record { reads = []; looks = ns; above = c.in_ok-above.above }) c.new-in-None.ensures
     ∙ asks-none scope all e c.in_ok-above.above (sym c.is_type.ensures ∙ c.if-is_type.false) none up
