@@ -8,7 +8,7 @@ ghost use Rattle.xf_model.specs.Properties.{sets_on};
 ghost use Rattle.xf_binds.specs.Asked.{asked_by_all, asked_of, asking};
 ghost use Rattle.xf_binds.specs.Held.{entries_in, entry_of};
 ghost use Rattle.xf_binds.specs.Kept.{no_kept, truth_in};
-ghost use Rattle.xf_binds.specs.Table.{kept_at, truth_among, with_kept};
+ghost use Rattle.xf_binds.specs.Table.{held_or, kept_at, truth_among, web_or, with_kept};
 
 use crate::applied::Applied;
 use crate::entry::Entry;
@@ -65,6 +65,26 @@ impl Table {
     {
         match self.models.get(model as usize) {
             Some(kept) => kept.present().entry(at),
+            None => None,
+        }
+    }
+
+    /// The entries and types of a model.
+    pub fn present(&self, model: u32) -> Option<&Applied>
+        ensures { held_or (option_map (λ a. a.now) result) ≡ (kept_at self.now model).entries }
+    {
+        match self.models.get(model as usize) {
+            Some(kept) => Some(kept.present()),
+            None => None,
+        }
+    }
+
+    /// What each of them asks of the data.
+    pub fn web(&self, model: u32) -> Option<&Web>
+        ensures { web_or (option_map (λ w. w.now) result) ≡ (kept_at self.now model).asks }
+    {
+        match self.models.get(model as usize) {
+            Some(kept) => Some(kept.web()),
             None => None,
         }
     }

@@ -9,3 +9,4 @@ pub mod Ringed
 pub mod Above
 pub mod Rebuilds
 pub mod Expressions
+pub mod Told

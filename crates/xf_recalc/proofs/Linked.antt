@@ -10,7 +10,8 @@ use Rattle.std.specs.Prelude.{nat_eq}
 use Rattle.indexmap.specs.IndexMap.{IndexMap}
 use Rattle.xf_lang.proofs.VisitFacts.{none-some, some-same}
 use Rattle.xf_doc.specs.Visit as doc
-use Rattle.xf_graph.specs.Edges.{Adjacency, has, has_edge, HasEdges}
+use Rattle.xf_graph.specs.Edges.{Adjacency, has, has_edge, HasEdges, IsWithin}
+use Rattle.xf_graph.specs.Order.{IsOrder}
 use Rattle.xf_graph.proofs.HasLists.{has-append}
 use Rattle.xf_model.specs.Circular.{places_from, places_of}
 use Rattle.xf_doc.specs.declared.node.NodeId.{NodeId}
@@ -18,6 +19,7 @@ use Rattle.xf_form_machine.specs.Cycles.{reported_cycle}
 use Rattle.xf_model.specs.Applied.{Entry}
 use Rattle.xf_binds.specs.declared.web.Asks.{Asks}
 use Rattle.xf_recalc.specs.Links.{Source, depends, links, nodes_in, ring_of, source_on}
+use Rattle.xf_recalc.specs.Order.{IsOrderOf, IsInOrder}
 use Rattle.xf_recalc.specs.Readers.{list_or, readers_at, reads_by, reads_at, TellsReaders, AreVertices, reads_one, edge_with, edges_before}
 
 -- ---- truths
@@ -324,3 +326,39 @@ ring-is entries web nodes graph cycle h told =
 
 pub none-new : {S : Type 0} (readers : IndexMap ℕ (List ℕ) S) (n place : ℕ) → readers.entries ≡ [] → has (readers_at readers n) place ≡ false
 none-new readers n place empty = ap (λ es. has (list_or (lookup (nat_eq n) es)) place) empty
+
+-- ---- the order
+
+pub order-is : (entries : List Entry) (web : List Asks) (nodes : List ℕ) (graph : Adjacency) (order : Option (List ℕ))
+    → HasEdges graph (length nodes) (has_edge (links (map (source_on entries web) nodes)))
+    → ((other : Adjacency) → HasEdges graph (length other) (has_edge other) → IsOrderOf other order)
+    → IsOrderOf (links (map (source_on entries web) nodes)) order
+order-is entries web nodes graph order h told =
+    let sources = map (source_on entries web) nodes in
+    let size : length nodes ≡ length (links sources) =
+    sym (mapped-length (λ s. places_of (λ reader. depends s reader.asks.reads) sources) sources ∙ mapped-length (source_on entries web) nodes) in
+    told (links sources) (subst (λ n. HasEdges graph n (has_edge (links sources))) size h)
+
+pub in-order-some : (entries : List Entry) (web : List Asks) (nodes places found : List ℕ) → IsOrder (links (map (source_on entries web) nodes)) places → found ≡ nodes_in nodes places
+    → IsInOrder (map (source_on entries web) nodes) (Some found)
+in-order-some entries web nodes places found order e = (places, order, e ∙ ap (λ ns. nodes_in ns places) (sym (nodes-of entries web nodes)))
+
+-- ---- places of a list join no more than the list has
+
+some-item : {X : Type 0} (f : X → List ℕ) (xs : List X) (i k : ℕ) → has (get_or (map f xs) i []) k ≡ true → (i < length xs) × ((x : X) × (has (f x) k ≡ true))
+some-item f [] i k h = absurd (false≢true h)
+some-item f (x ∷ xs) zero k h = (omega arith, (x, h))
+some-item f (x ∷ xs) (suc i) k h = let s = some-item f xs i k h in ((let l = s.0 in omega arith), s.1)
+
+got-within : {X : Type 0} (test : X → Bool) (xs : List X) (k : ℕ) → tested test (slice_get xs k) ≡ true → k < length xs
+got-within test [] k h = absurd (false≢true h)
+got-within test (x ∷ xs) zero h = omega arith
+got-within test (x ∷ xs) (suc k) h = (let l = got-within test xs k h in omega arith)
+
+pub places-within : {X : Type 0} (test : X → X → Bool) (xs : List X) → IsWithin (map (λ x. places_of (test x) xs) xs)
+places-within test xs from to edge =
+    let s = some-item (λ x. places_of (test x) xs) xs from to edge in
+    let t = got-within (test s.1.0) xs to (sym (has-places 0 (test s.1.0) xs to) ∙ ap (has (places_of (test s.1.0) xs)) (zero-plus to) ∙ s.1.1) in
+    let size = mapped-length (λ x. places_of (test x) xs) xs in
+    let l = s.0 in
+    (omega arith, omega arith)

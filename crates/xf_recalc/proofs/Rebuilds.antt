@@ -54,6 +54,13 @@ of-nodes p (e ∷ es) h n i = by (is_calculate e) i (of-nodes p es parts.1 n)
     by true j rest = elim (or-cases (n == e.node) (has n (calculated_nodes es)) j) [ inl same ↦ ap p (eqb-true n e.node same) ∙ parts.0 | inr there ↦ rest there ]
     by false j rest = rest j
 
+pub entries-shown : (forest : Forest) (sound : Sound forest) (scope : Scope) (entries : List Entry) → applied scope forest.nodes ≡ Ok entries → list_all is_small entries ≡ true
+    → (n : ℕ) → has n (calculated_nodes entries) ≡ true → IsShown forest sound n
+entries-shown forest sound scope entries applies small n h = (
+  of-nodes (λ m. has m (numbers_of (shape_of forest.nodes))) entries (entries-there scope forest entries applies) n h,
+  of-nodes (λ m. nat_lt m (2 ^ 128)) entries small n h,
+)
+
 -- ---- the limit
 
 set-same : (f : Kept → ℕ) (ks : List Kept) (model : ℕ) (one other : Kept) → f one ≡ f other → map f (slice_set ks model one) ≡ map f (slice_set ks model other)
@@ -95,15 +102,9 @@ module _ (forest : Forest) (sound : Sound forest) (scope : Scope) (table : List 
   abbrev readers : List Reader
   readers = calculated scope (shape_of forest.nodes) entries
 
-  shown : (n : ℕ) → has n (calculated_nodes entries) ≡ true → IsShown forest sound n
-  shown n h = (
-    of-nodes (λ m. has m (numbers_of (shape_of forest.nodes))) entries (entries-there scope forest entries applies) n h,
-    of-nodes (λ m. nat_lt m (2 ^ 128)) entries small n h,
-  )
-
   ring-told : ring_of (sources_in (visits forest.nodes) entries web) ≡ option_map (nodes_at readers) (reported_cycle (dependents all readers))
   ring-told =
-      ap (λ ns. ring_of (map (source_on entries web) ns)) (sym (shown-order forest sound (calculated_nodes entries) shown))
+      ap (λ ns. ring_of (map (source_on entries web) ns)) (sym (shown-order forest sound (calculated_nodes entries) (entries-shown forest sound scope entries applies small)))
       ∙ ap (λ w. ring_of (map (source_on entries w) (in_order all (calculated_nodes entries)))) asked
       ∙ ring-alike scope all entries (applied-apart scope all entries applies)
 

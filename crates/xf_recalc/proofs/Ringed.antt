@@ -180,3 +180,11 @@ module _ (scope : Scope) (all : List Visit) where
       ∙ ap (λ graph. option_map (nodes_in (map (λ (s : Source). s.node) (map source_by calcs))) (reported_cycle graph)) (alike calcs)
       ∙ ap (λ ns. option_map (nodes_in ns) (reported_cycle (dependents all (map reader_by calcs))))
       (map-twice (λ (s : Source). s.node) source_by (λ (e : Entry). e.node) (λ e. refl) calcs ∙ sym (map-twice (λ (r : Reader). r.node) reader_by (λ (e : Entry). e.node) (λ e. refl) calcs))
+
+  pub linked-alike : (es : List Entry) → NoneTwice es
+      → links (map (source_on es (map (asks_of scope all) es)) (in_order all (calculated_nodes es))) ≡ dependents all (calculated scope all es)
+  linked-alike es apart = ap links (sources-from es apart all) ∙ alike (by_nodes all (filter is_calculate es))
+
+  pub nodes-alike : (es : List Entry) → NoneTwice es
+      → map (λ (s : Source). s.node) (map (source_on es (map (asks_of scope all) es)) (in_order all (calculated_nodes es))) ≡ map (λ (e : Entry). e.node) (by_nodes all (filter is_calculate es))
+  nodes-alike es apart = ap (map (λ (s : Source). s.node)) (sources-from es apart all) ∙ map-twice (λ (s : Source). s.node) source_by (λ (e : Entry). e.node) (λ e. refl) (by_nodes all (filter is_calculate es))

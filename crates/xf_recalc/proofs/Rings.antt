@@ -1,9 +1,9 @@
 -- The cycle that the form machine reports is the one that is chosen, and none where there is none.
-use Rattle.std.proofs.Common.{◌≡◌, ℕ, zero, suc, ◌+◌, ◌<◌, ◌≤◌, Bool, true, false, ◌⊎◌, inl, inr, List, [], ◌∷◌, length, Option, Some, None, refl, sym, ap, ◌∙◌, subst, arith}
+use Rattle.std.proofs.Common.{◌≡◌, ℕ, zero, suc, ◌+◌, ◌<◌, ◌≤◌, Bool, true, false, ◌⊎◌, inl, inr, List, [], ◌∷◌, length, nat_lt, Option, Some, None, refl, sym, ap, ◌∙◌, subst, arith}
 use Rattle.std.specs.Prelude.{filter}
 use Rattle.std.proofs.lemmas.Bool.{cases_Bool, cases_eq, cases_lt, false≢true}
 use Rattle.xf_graph.specs.Edges.{Adjacency, has, has_edge, HasEdges, IsWithin}
-use Rattle.xf_graph.specs.Order.{EachOnce}
+use Rattle.xf_graph.specs.Order.{EachOnce, ReadsBack, IsOrder}
 use Rattle.xf_graph.specs.Cycle.{ReadsAlong, IsCycle, IsAcyclic, IsNotAfter, IsChosenFrom, IsChosen}
 use Rattle.xf_graph.proofs.HasLists.{has_first, has_later, has_cases}
 use Rattle.xf_lang.proofs.VisitFacts.{none-some, some-same}
@@ -176,6 +176,40 @@ chosen-reported graph (v ∷ rest) within (first, c) =
     let same : v ≡ first = c.begins in
     found graph within v rest (subst (λ w. IsChosenFrom graph w (v ∷ rest)) (sym same) c)
 
+-- ---- where none is found none stands
+
+both-none : (o p : Option (List ℕ)) → or_later o p ≡ None → (o ≡ None) × (p ≡ None)
+both-none None p h = (refl, h)
+both-none (Some c) p h = none-some (sym h)
+
+none-at : (graph : Adjacency) (v k more lengths : ℕ) → more ≤ k → k < more + lengths → cycle_from graph v more lengths ≡ None → first_in (filter (closes graph v) (walks graph k v)) ≡ None
+none-at graph v k more zero low high h = absurd (omega arith)
+none-at graph v k more (suc lengths) low high h =
+    let parts = both-none (first_in (filter (closes graph v) (walks graph more v))) (cycle_from graph v (suc more) lengths) h in
+    elim (cases_eq more k) [
+      | inl same ↦ ap (λ m. first_in (filter (closes graph v) (walks graph m v))) (sym same) ∙ parts.0
+      | inr ne ↦ none-at graph v k (suc more) lengths (omega arith) (omega arith) parts.1
+    ]
+
+none-among : (graph : Adjacency) (v from count : ℕ) → from ≤ v → v < from + count → first_cycle graph (counted_from from count) ≡ None → cycle_from graph v 0 (length graph) ≡ None
+none-among graph v from zero low high h = absurd (omega arith)
+none-among graph v from (suc count) low high h =
+    let parts = both-none (cycle_from graph from 0 (length graph)) (first_cycle graph (counted_from (suc from) count)) h in
+    elim (cases_eq from v) [
+      | inl same ↦ ap (λ w. cycle_from graph w 0 (length graph)) (sym same) ∙ parts.0
+      | inr ne ↦ none-among graph v (suc from) count (omega arith) (omega arith) parts.1
+    ]
+
+pub none-acyclic : (graph : Adjacency) → IsWithin graph → reported_cycle graph ≡ None → IsAcyclic graph
+none-acyclic graph within h [] c = c
+none-acyclic graph within h (v ∷ rest) c =
+    let i = erased graph v v rest c in
+    let most = few (length graph) (v ∷ i.0) i.2 (below graph v within v i.0 i.1) in
+    let less = below graph v within v i.0 i.1 v (has_first v i.0) in
+    let way = along-way graph v v i.0 i.1 in
+    let f = finds graph (λ from to edge. (within from to edge).0) (length i.0) v (closes graph v) i.0 way.0 refl way.1 in
+    none-some (sym (none-at graph v (length i.0) 0 (length graph) (omega arith) (omega arith) (none-among graph v 0 (length graph) (omega arith) (omega arith) h)) ∙ f.1)
+
 -- ---- graphs with the same edges
 
 module _ (one other : Adjacency) (same : (from to : ℕ) → has_edge one from to ≡ has_edge other from to) where
@@ -214,3 +248,14 @@ none-as_told one other edges none = none-reported other (λ cycle c. none cycle 
 pub cycle-as_told : (one other : Adjacency) (cycle : List ℕ) → HasEdges one (length other) (has_edge other) → IsWithin one → IsChosen one cycle → reported_cycle other ≡ Some cycle
 cycle-as_told one other cycle edges within c =
     chosen-reported other cycle (within-same one other edges within) (chosen-same one other edges.edges cycle c)
+
+order-same : (one other : Adjacency) (places : List ℕ) → HasEdges one (length other) (has_edge other) → ReadsBack one places → ReadsBack other places
+order-same one other [] edges h = tt
+order-same one other (v ∷ vs) edges h = ((λ source there. sym (edges.edges source v) ∙ h.0 source there), order-same one other vs edges h.1)
+
+pub order-as_told : (one other : Adjacency) (places : List ℕ) → HasEdges one (length other) (has_edge other) → IsOrder one places → IsOrder other places
+order-as_told one other places edges o = record {
+  all = λ v. o.all v ∙ ap (nat_lt v) edges.size;
+  once = o.once;
+  reads_back = order-same one other places edges o.reads_back;
+}

@@ -5,3 +5,4 @@ pub mod Readers
 pub mod Static
 pub mod Found
 pub mod Machine
+pub mod Order

@@ -3,11 +3,13 @@
 
 mod fault;
 mod laws;
+mod ordered;
 mod readers;
 mod rebuilding;
 mod ring;
 mod web;
 
 pub use fault::RebuildFault;
-pub use laws::rebuilds_alike;
+pub use laws::{links_defined, rebuild_tells, rebuilds_alike};
+pub use ordered::in_order;
 pub use rebuilding::rebuild;

@@ -49,7 +49,11 @@ fn cycle_in(graph: &Graph) -> Result<Option<VertexList>, AllocError>
 }
 
 /// The nodes with a calculate, in document order.
-fn calculated(alloc: Global, forest: &Forest, applied: &Applied) -> Result<NodeList, AllocError>
+pub(crate) fn calculated(
+    alloc: Global,
+    forest: &Forest,
+    applied: &Applied,
+) -> Result<NodeList, AllocError>
     ensures { IfOk result (λ nodes. nodes ≡ in_order (visits forest.now.forest.nodes) (calculated_nodes (entries_in applied.now))) }
 {
     let mut nodes = NodeList::new(alloc);
@@ -75,7 +79,7 @@ fn push_calculated(applied: &Applied, at: usize, nodes: &mut NodeList) -> Result
 }
 
 /// The graph of the calculates of these nodes. More nodes than 32 bits count are told as want of memory: no memory holds so many.
-fn graph_of(
+pub(crate) fn graph_of(
     alloc: Global,
     applied: &Applied,
     web: &Web,
@@ -170,7 +174,11 @@ fn add_edges(graph: &mut Graph, vertex: u32, others: &[u32]) -> Result<(), Alloc
 }
 
 /// The nodes at these places.
-fn nodes_at(alloc: Global, nodes: &NodeList, places: &[u32]) -> Result<NodeList, AllocError>
+pub(crate) fn nodes_at(
+    alloc: Global,
+    nodes: &NodeList,
+    places: &[u32],
+) -> Result<NodeList, AllocError>
     ensures { IfOk result (λ found. found ≡ nodes_in nodes.now places.now) }
 {
     let mut found = NodeList::new(alloc);
