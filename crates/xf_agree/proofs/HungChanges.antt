@@ -1,21 +1,24 @@
 -- Changes leave texts in elements: a tree that moves has no text as its top, so that its texts stay below that.
-use Rattle.std.proofs.Common.{◌≡◌, ℕ, zero, suc, ◌+◌, ◌-◌, ◌==◌, Bool, true, false, not, cond, ◌&&◌, ◌||◌, List, [], ◌∷◌, ◌++◌, map, find, Some, option_map, nat_lt, refl, sym, ap, ◌∙◌, inl, inr, arith}
-use Rattle.std.specs.Prelude.{◌⊎◌, filter}
+use Rattle.std.proofs.Common.{◌≡◌, ℕ, zero, suc, ◌+◌, ◌-◌, ◌==◌, Bool, true, false, not, cond, ◌&&◌, ◌||◌, List, [], ◌∷◌, ◌++◌, map, find, length, Option, Some, None, option_map, nat_lt, refl, sym, ap, ◌∙◌, inl, inr, arith}
+use Rattle.std.specs.Prelude.{◌⊎◌, filter, Ok}
 use Rattle.std.proofs.lemmas.Bool.Decides.{nat_tests}
 use Rattle.xf_doc.specs.declared.content.Node.{Node}
 use Rattle.xf_doc.specs.declared.content.Content.{Content}
 use Rattle.xf_doc.specs.declared.content.Content.TheVariants as content
 use Rattle.xf_doc.specs.declared.content.Kind.{Kind}
 use Rattle.xf_doc.specs.declared.content.Kind.TheVariants as kind
-use Rattle.xf_doc.specs.Changes.{shifted, moved_to, without_tree, is_detached_top, in_instances, at_place, with_child, with_attribute, with_part, with_below}
-use Rattle.xf_doc.specs.Forest.{is_root, is_element, is_attribute, is_text, kind_of, kind_at, below, past, first_tree, from_node, tree_of}
+use Rattle.xf_doc.specs.Changes.{shifted, moved_to, without_tree, is_detached_top, in_instances, contents_in, at_place, with_child, with_attribute, with_part, with_below}
+use Rattle.xf_doc.specs.Forest.{Forest, is_root, is_element, is_attribute, is_text, kind_of, kind_at, below, past, first_tree, from_node, tree_of}
+use Rattle.xf_doc.specs.declared.fault.TreeFault.{TreeFault}
+use Rattle.xf_doc.specs.Limits.{passed_by_all, unless}
+use Rattle.xf_doc.specs.Plant.{numbered_from}
 use Rattle.xf_doc.specs.Settle.{with_numbered_text}
 use Rattle.xf_doc.specs.Texts.{one_text, at_depth, with_content, with_texts, with_value, valued}
 use Rattle.xf_doc.proofs.BackLaws.{and-true, HasText}
 use Rattle.xf_doc.proofs.RunLemmas.{IsRun, IsLeafAt, attribute-no_text}
 use Rattle.xf_doc.proofs.TextLaws.{has_text}
 use Rattle.xf_lang.proofs.VisitFacts.{no, some-same}
-use Rattle.xf_agree.specs.Hung.{hangs, rooted_by, are_hung_from, begins_at_top, HungText, HungDetached, HungPlaced, HungGrown, HungInstances}
+use Rattle.xf_agree.specs.Hung.{hangs, rooted_by, are_hung_from, begins_at_top, HungText, HungDetached, HungPlaced, HungGrown, HungCopied, HungInstances}
 
 both-true : (a b : Bool) → a ≡ true → b ≡ true → (a && b) ≡ true
 both-true true b h k = k
@@ -299,6 +302,26 @@ hung_grown nodes trees top hung new = hung-append true nodes trees hung (top-any
     low : (ts : List Node) → begins_at_top ts ≡ true → BeginsLow 0 ts
     low [] e = tt
     low (x ∷ xs) e = grind (arith, nat_tests, e)
+
+-- the numbers of nodes do not count
+numbered-hung : (r : Bool) (k : ℕ) (xs : List Node) → are_hung_from r xs ≡ true → are_hung_from r (numbered_from k (map (λ x. (x.depth, x.content)) xs)) ≡ true
+numbered-hung r k [] h = refl
+numbered-hung r k (x ∷ xs) h =
+    let parts = and-true (hangs r x) (are_hung_from (rooted_by r x) xs) h in
+    both-true (hangs r x) (are_hung_from (rooted_by r x) (numbered_from (suc k) (map (λ (y : Node). (y.depth, y.content)) xs))) parts.0 (numbered-hung (rooted_by r x) (suc k) xs parts.1)
+
+unless-ok : {X : Type 0} (o : Option TreeFault) (x y : X) → unless o x ≡ Ok y → x ≡ y
+unless-ok None x y h = cc h
+unless-ok (Some fault) x y h = cc h
+
+pub hung_copied : HungCopied
+hung_copied l forest after n k kind made hung =
+    ap (λ (p : ℕ × Forest). are_hung_from true p.1.nodes) (sym (unless-ok (passed_by_all l (forest.nodes ++ numbered_from forest.next (contents_in (tree_of n forest.nodes)))) (forest.next, record { nodes = forest.nodes ++ numbered_from forest.next (contents_in (tree_of n forest.nodes)); next = forest.next + length (tree_of n forest.nodes) }) (k, after) made))
+    ∙ hung-append true forest.nodes (numbered_from forest.next (contents_in (tree_of n forest.nodes))) hung (of (last_rooted true forest.nodes) (tree_of n forest.nodes) (tree-at n forest.nodes kind))
+  where
+    of : (r : Bool) (t : List Node) → IsTree t → are_hung_from r (numbered_from forest.next (contents_in t)) ≡ true
+    of r t (inl e) = ap (λ u. are_hung_from r (numbered_from forest.next (contents_in u))) e
+    of r t (inr s) = ap (λ u. are_hung_from r (numbered_from forest.next (contents_in u))) s.2 ∙ numbered-hung r forest.next (moved_to 0 (s.0 ∷ below s.0.depth s.1)) (alone-hung r s.0 s.1 s.3)
 
 instances-hung : (r : Bool) (nodes : List Node) → are_hung_from r nodes ≡ true → are_hung_from r (in_instances nodes) ≡ true
 instances-hung r [] h = h

@@ -52,9 +52,10 @@ each-later z zs off (y ∷ ys) h = (by (z.number == y.number) refl, each-later z
 self-content : (nodes : List Node) → are_apart nodes ≡ true → AllOf (λ (y : Node). content_at y.number nodes ≡ Some y.content) nodes
 self-content [] a = tt
 self-content (z ∷ zs) a =
-    let parts = and-true (not (has_number z.number zs)) (are_apart zs) a in
-    (ap (λ b. option_map (λ (q : Node). q.content) (cond b (Some z) (find (λ q. q.number == z.number) zs))) (same z.number),
-    each-later z zs (not-true (has_number z.number zs) parts.0) zs (self-content zs parts.1))
+    let parts = and-true (not (has_number z.number zs)) (are_apart zs) a in (
+      ap (λ b. option_map (λ (q : Node). q.content) (cond b (Some z) (find (λ q. q.number == z.number) zs))) (same z.number),
+      each-later z zs (not-true (has_number z.number zs) parts.0) zs (self-content zs parts.1),
+    )
   where
     same : (n : ℕ) → (n == n) ≡ true
     same n = grind (arith, nat_tests)
@@ -150,9 +151,10 @@ module _ (nodes : List Node) where
   each-hangs r above most (x ∷ xs) s m d h i =
       let depths = and-true (nat_le x.depth most) (are_depths_from (reach x) xs) d in
       let hung = and-true (hangs r x) (are_hung_from (rooted_by r x) xs) h in
-      let stay = still r x.depth above s (less above m depths.0) in
-      ((λ t. hung-at r x (still_above x.depth above) stay hung.0 t),
-      each-hangs (rooted_by r x) (x ∷ still_above x.depth above) (reach x) xs (pushed r x (still_above x.depth above) stay i.0) (reach-below x) depths.1 hung.1 i.1)
+      let stay = still r x.depth above s (less above m depths.0) in (
+        (λ t. hung-at r x (still_above x.depth above) stay hung.0 t),
+        each-hangs (rooted_by r x) (x ∷ still_above x.depth above) (reach x) xs (pushed r x (still_above x.depth above) stay i.0) (reach-below x) depths.1 hung.1 i.1,
+      )
     where
       less : (ys : List Node) → Reaches ys most → nat_le x.depth most ≡ true → Reaches ys x.depth
       less [] e k = grind (arith, nat_tests, e, k)
@@ -169,11 +171,16 @@ hung_forest forest trees hung k x e t =
     let y = given-back (found h.0 all) z.0 (sym (found-erased h.0 all) ∙ out.0) in
     let same : y.0.above ≡ h.1 = ap (λ (q : Visit). q.above) y.2 ∙ z.2 in
     let parent : has_list (without_text y.0.content) ≡ true =
-    v.parents k h.0 h.1 (erased x) (erased y.0) (found-erased k all ∙ ap (option_map erased) e) h.2 (found-erased h.0 all ∙ ap (option_map erased) y.1) in
-    (h.0, y.0, y.1, element y.0.content parent (λ r.
-    let top : y.0.above ≡ [] = each-found IsTop h.0 all y.0 (tops-from [] forest.nodes trees.tops) y.1 r in
-    let c = h.3 (sym same ∙ top) in
-    sym c.2 ∙ ap is_root (some-same (sym c.1 ∙ content-from h.0 [] forest.nodes y.0 y.1)) ∙ r), h.2 ∙ ap (λ ns. h.0 ∷ ns) (sym same))
+    v.parents k h.0 h.1 (erased x) (erased y.0) (found-erased k all ∙ ap (option_map erased) e) h.2 (found-erased h.0 all ∙ ap (option_map erased) y.1) in (
+      h.0,
+      y.0,
+      y.1,
+      element y.0.content parent (λ r.
+          let top : y.0.above ≡ [] = each-found IsTop h.0 all y.0 (tops-from [] forest.nodes trees.tops) y.1 r in
+          let c = h.3 (sym same ∙ top) in
+          sym c.2 ∙ ap is_root (some-same (sym c.1 ∙ content-from h.0 [] forest.nodes y.0 y.1)) ∙ r),
+      h.2 ∙ ap (λ ns. h.0 ∷ ns) (sym same),
+    )
   where
     at-found : (P : Visit → Type 0) (n : ℕ) (ys : List Visit) (y : Visit) → AllOf P ys → found n ys ≡ Some y → P y
     at-found P n [] y i j = none-some j

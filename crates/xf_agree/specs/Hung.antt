@@ -1,9 +1,10 @@
 -- Texts that stand in elements, told of a list of nodes by one look at each: no text is a top, and none stands in a root.
-use Rattle.std.specs.Prelude.{ℕ, ◌≡◌, ◌⊎◌, Bool, true, not, ◌&&◌, ◌||◌, List, [], ◌∷◌, ◌++◌, Some, nat_lt, ◌==◌, if◌then◌else◌}
+use Rattle.std.specs.Prelude.{ℕ, ◌≡◌, ◌⊎◌, Bool, true, not, ◌&&◌, ◌||◌, List, [], ◌∷◌, ◌++◌, Some, Ok, nat_lt, ◌==◌, if◌then◌else◌}
 use Rattle.xf_doc.specs.declared.content.Node.{Node}
 use Rattle.xf_doc.specs.declared.content.Kind.TheVariants.{Element, Attribute}
-use Rattle.xf_doc.specs.Changes.{detached, placed, in_instances}
+use Rattle.xf_doc.specs.Changes.{copied, detached, placed, in_instances}
 use Rattle.xf_doc.specs.Forest.{Forest, is_root, is_text, kind_at}
+use Rattle.xf_doc.specs.Limits.{Limits}
 use Rattle.xf_doc.specs.Needs.{IsSettable, MayDetach}
 use Rattle.xf_doc.specs.Settle.{with_numbered_text}
 use Rattle.xf_doc.specs.Visit.{visits}
@@ -52,6 +53,11 @@ HungPlaced = (forest : Forest) (n parent place : ℕ) → (kind_at n forest.node
 -- new trees behind all others
 abbrev pub HungGrown : Type 0
 HungGrown = (nodes trees : List Node) → begins_at_top trees ≡ true → are_hung nodes ≡ true → are_hung trees ≡ true → are_hung (nodes ++ trees) ≡ true
+
+-- a copy of an element or attribute, with what is below it
+abbrev pub HungCopied : Type 0
+HungCopied = (l : Limits) (forest after : Forest) (n k : ℕ) → (kind_at n forest.nodes ≡ Some Element) ⊎ (kind_at n forest.nodes ≡ Some Attribute) →
+    copied l n forest ≡ Ok (k, after) → are_hung forest.nodes ≡ true → are_hung after.nodes ≡ true
 
 -- the nodes of the instances alone
 abbrev pub HungInstances : Type 0

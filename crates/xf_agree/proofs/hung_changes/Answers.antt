@@ -1,4 +1,4 @@
-use Rattle.xf_agree.proofs.HungChanges.{hung_text, hung_detached, hung_placed, hung_grown, hung_instances}
+use Rattle.xf_agree.proofs.HungChanges.{hung_text, hung_detached, hung_placed, hung_grown, hung_copied, hung_instances}
 use Rattle.xf_agree.proofs.hung_changes.Goals as goal
 
 pub returns-clause-text : goal.returns-clause-text
@@ -15,3 +15,6 @@ returns-clause-grown c = hung_grown
 
 pub returns-clause-instances : goal.returns-clause-instances
 returns-clause-instances c = hung_instances
+
+pub returns-clause-copied : goal.returns-clause-copied
+returns-clause-copied c = hung_copied
