@@ -10,3 +10,4 @@ pub mod Above
 pub mod Rebuilds
 pub mod Expressions
 pub mod Told
+pub mod MetByGraph

@@ -6,3 +6,4 @@ pub mod Static
 pub mod Found
 pub mod Machine
 pub mod Order
+pub mod Reached

@@ -2,6 +2,7 @@
 
 ghost use Rattle.xf_recalc.specs.Machine.{RebuildsAlike};
 ghost use Rattle.xf_recalc.specs.Order.{LinksDefined, RebuildTells};
+ghost use Rattle.xf_recalc.specs.Reached.{PertinentMet};
 
 /// The machine's rebuild is that of the table.
 pub fn rebuilds_alike()
@@ -16,4 +17,9 @@ pub fn links_defined()
 /// What a rebuild that is not refused says of the entries.
 pub fn rebuild_tells()
     ensures { RebuildTells }
+{}
+
+/// What a recalculation evaluates, by what a change reaches in the graph over the calculates.
+pub fn pertinent_met()
+    ensures { PertinentMet }
 {}

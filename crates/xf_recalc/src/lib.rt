@@ -10,6 +10,6 @@ mod ring;
 mod web;
 
 pub use fault::RebuildFault;
-pub use laws::{links_defined, rebuild_tells, rebuilds_alike};
+pub use laws::{links_defined, pertinent_met, rebuild_tells, rebuilds_alike};
 pub use ordered::in_order;
 pub use rebuilding::rebuild;
