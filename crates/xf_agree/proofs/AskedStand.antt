@@ -371,9 +371,9 @@ level-stands (Expr-F.Path place start ks) i = λ s p c h. path-stands ks s p c h
 level-stands (Expr-F.From k ks) (inl i) = λ s p c h. path-stands ks s p c h (k.1.asked s c) (k.2 (inl (and-true _ _ i).0) s p c h)
 level-stands (Expr-F.From k ks) (inr i) = no i
 
-pub asked-stands : (is_strict : Bool) (e : Expr) → is_covered is_strict e ≡ true → TraceStands (trace e)
-asked-stands is_strict e h = covered e (inl h)
+pub asked-stands : (e : Expr) → is_covered e ≡ true → TraceStands (trace e)
+asked-stands e h = covered e (inl h)
   where
-    covered : (x : Expr) → PairStands (facts_of is_strict x) (trace x)
-    covered = pair_keeps Facts LinkFacts Bool expr_facts link_facts (step_facts is_strict) Trace LinkTrace WalkTrace expr_trace link_trace step_trace PairStands LinkStands StepStands
+    covered : (x : Expr) → PairStands (facts_of x) (trace x)
+    covered = pair_keeps Facts LinkFacts Bool expr_facts link_facts step_facts Trace LinkTrace WalkTrace expr_trace link_trace step_trace PairStands LinkStands StepStands
         level-stands (λ y. y.right.2) (λ y s p a i. step-stands s p (map-Step Pair LinkPair StepPair Trace LinkTrace WalkTrace (λ k. k.1) (λ k. k.1) (λ k. k.1) y) a i)

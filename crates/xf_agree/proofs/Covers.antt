@@ -14,16 +14,16 @@ use Rattle.xf_doc.specs.Forest.{is_text, is_element, is_attribute}
 use Rattle.xf_doc.specs.Visit.{Visit, has, is_first, same_parent, first_of}
 use Rattle.xf_doc.specs.Axis.{before, after, is_on, in_range, on_axis, are_siblings, is_reverse, axis_from}
 use Rattle.xf_doc.specs.Shape.{Texts, text_number, is_replaced, is_gone}
-use Rattle.xf_doc.proofs.BackLaws.{and-true, not-true}
+use Rattle.xf_doc.proofs.BackLaws.{and-true}
 use Rattle.xf_doc.proofs.OrderLaws.{Sub, sub-all, filter-sub, map-sub, sub-different}
 use Rattle.xf_doc.proofs.RenumberLaws.{map-reverse}
 use Rattle.xf_lang.specs.Tests.{meets}
 use Rattle.xf_lang.specs.Asked.{found, parent_in, list_around, reader_of, read_for}
-use Rattle.xf_lang.specs.AskedSteps.{is_kind}
+use Rattle.xf_lang.specs.AskedSteps.{is_kind, meets_texts, if_text, text_beside}
 use Rattle.xf_lang.specs.Steps.{reached}
 use Rattle.xf_lang.specs.Agree.{numbers_of, are_apart, untexted, AreVisits}
 use Rattle.xf_lang.specs.Exact.{is_sibling}
-use Rattle.xf_lang.proofs.VisitFacts.{turned, self-same, or-cases, or-left, or-right, no, some-same, none-some, filter-reverse, found-number, present, found-in, found-out}
+use Rattle.xf_lang.proofs.VisitFacts.{self-same, or-cases, or-left, or-right, no, some-same, none-some, filter-reverse, found-number, present, found-in, found-out}
 use Rattle.xf_lang.proofs.SameKept.{kept-found, has-left, has-right, has-reverse}
 use Rattle.xf_lang.proofs.AxisAgree.{above-stands, filter-after, filter-before, after-sub, before-sub}
 use Rattle.xf_lang.proofs.UntextedLaws.{itself, meets-solid, solid-found}
@@ -247,17 +247,19 @@ module _ {texts : Texts} {all shape : List Visit} (s : IsShaped texts all shape)
 
   -- ---- steps
 
-  -- no other text stands beside a text that the shape replaces
-  abbrev pub IsLone : Visit → Type 0
-  IsLone x = (j : ℕ) (y : Visit) → found j all ≡ Some y → is_text y.content ≡ true → same_parent x.above y.above ≡ true → j ≡ x.number
-
-  abbrev pub Sided : Axis → Test → Visit → Type 0
-  Sided axis test x = is_sibling axis ≡ true → is_kind test ≡ true → is_gone texts x ≡ true → IsLone x
+  -- a step to siblings begins where the shape has the siblings themselves
+  abbrev pub Sided : Axis → Visit → Type 0
+  Sided axis x = is_sibling axis ≡ true → is_replaced texts x.above ≡ false
 
   same-replaced : (xs ys : List ℕ) → same_parent xs ys ≡ true → is_replaced texts xs ≡ is_replaced texts ys
   same-replaced [] ys h = no h
   same-replaced (k ∷ ks) [] h = no h
   same-replaced (k ∷ ks) (l ∷ ls) h = ap (λ j. is_some (texts j)) (eqb-true k l h)
+
+  same-first : (k l : ℕ) (xs ys : List ℕ) → same_parent xs ys ≡ true → first_or l ys ≡ first_or k xs
+  same-first k l [] ys h = no h
+  same-first k l (a ∷ xs) [] h = no h
+  same-first k l (a ∷ xs) (b ∷ ys) h = sym (eqb-true a b h)
 
   -- in an element whose texts are replaced
   replaced-text : (k : ℕ) (y : Visit) → found k all ≡ Some y → is_replaced texts y.above ≡ true → is_attribute y.content ≡ false → is_text y.content ≡ true
@@ -273,23 +275,6 @@ module _ {texts : Texts} {all shape : List Visit} (s : IsShaped texts all shape)
       by : (b : Bool) → (b && is_replaced texts y.above) ≡ false
       by true = h
       by false = refl
-
-  -- the nodes on one side of another
-  after-other : (n : ℕ) (ys : List Visit) → are_apart (numbers_of ys) ≡ true → has n (numbers_of (after n ys)) ≡ false
-  after-other n [] a = refl
-  after-other n (y ∷ ys) a = by (y.number == n) refl (after-other n ys (and-true (not (has y.number (numbers_of ys))) (are_apart (numbers_of ys)) a).1)
-    where
-      by : (b : Bool) → (y.number == n) ≡ b → has n (numbers_of (after n ys)) ≡ false → has n (numbers_of (cond b ys (after n ys))) ≡ false
-      by true h i = ap (λ k. has k (numbers_of ys)) (sym (eqb-true y.number n h)) ∙ not-true (has y.number (numbers_of ys)) (and-true (not (has y.number (numbers_of ys))) (are_apart (numbers_of ys)) a).0
-      by false h i = i
-
-  before-other : (n : ℕ) (ys : List Visit) → has n (numbers_of (before n ys)) ≡ false
-  before-other n [] = refl
-  before-other n (y ∷ ys) = by (y.number == n) refl (before-other n ys)
-    where
-      by : (b : Bool) → (y.number == n) ≡ b → has n (numbers_of (before n ys)) ≡ false → has n (numbers_of (cond b [] (y ∷ before n ys))) ≡ false
-      by true h i = refl
-      by false h i = ap (λ c. c || has n (numbers_of (before n ys))) (turned n y.number ∙ h) ∙ i
 
   module _ (test : Test) (n : ℕ) (x : Visit) (e : found n all ≡ Some x) (m : ℕ) (y : Visit) (i : found m all ≡ Some y) where
     abbrev Stepped : Axis → Type 0
@@ -358,66 +343,71 @@ module _ {texts : Texts} {all shape : List Visit} (s : IsShaped texts all shape)
         (reached-has shape s.shape_visits.apart axis test n x in_shape m y
         (ap (λ k. found m (in_range axis k shape)) nx ∙ ap (found m) (same shape) ∙ ranged) on met))
 
-    -- two siblings, of which one is replaced: both are texts
-    alone : (axis : Axis) → is_sibling axis ≡ true → are_siblings x y ≡ true → meets axis test y.content ≡ true → is_replaced texts x.above ≡ true → Sided axis test x → m ≡ n
-    alone axis sibling on met rx lone =
-        let parts = and-true (same_parent x.above y.above && not (is_attribute x.content)) (not (is_attribute y.content)) on-left in
+    -- beside a text that the shape replaces: its one text stands for both
+    same-text : (axis : Axis) → are_siblings x y ≡ true → meets axis test y.content ≡ true → is_replaced texts x.above ≡ true → (is_kind test ≡ true) × (has (cov y) (if_text (found (cov x) shape)) ≡ true)
+    same-text axis on met rx =
+        let parts = and-true (same_parent x.above y.above && not (is_attribute x.content)) (not (is_attribute y.content)) on in
         let first = and-true (same_parent x.above y.above) (not (is_attribute x.content)) parts.0 in
+        let ry : is_replaced texts y.above ≡ true = sym (same-replaced x.above y.above first.0) ∙ rx in
         let text_x = replaced-text n x e rx (not-of (is_attribute x.content) first.1) in
-        let text_y = replaced-text m y i (sym (same-replaced x.above y.above first.0) ∙ rx) (not-of (is_attribute y.content) parts.1) in
-        lone sibling (kind-of (is_kind test) refl text_y) (both-of (is_text x.content) (is_replaced texts x.above) text_x rx) m y i text_y first.0 ∙ found-number n all x e
+        let text_y = replaced-text m y i ry (not-of (is_attribute y.content) parts.1) in
+        let at_x : cov x ≡ text_number (first_or x.number x.above) = ap (λ b. cond b (text_number (first_or x.number x.above)) x.number) (both-of (is_text x.content) (is_replaced texts x.above) text_x rx) in
+        let at_y : cov y ≡ text_number (first_or y.number y.above) = ap (λ b. cond b (text_number (first_or y.number y.above)) y.number) (both-of (is_text y.content) (is_replaced texts y.above) text_y ry) in
+        let same : cov y ≡ cov x = at_y ∙ ap text_number (same-first x.number y.number x.above y.above first.0) ∙ sym at_x in (
+          kind-of (is_kind test) refl text_y,
+          ap (λ o. has (cov y) (if_text o)) cx.is_in
+              ∙ ap (λ b. has (cov y) (cond b (cx.visit.number ∷ []) [])) (cx.text ∙ text_x)
+              ∙ ap (λ k. has (cov y) (k ∷ [])) x-number
+              ∙ ap (λ k. has k (cov x ∷ [])) same
+              ∙ or-left (cov x == cov x) false (self-same (cov x)),
+        )
       where
         not-of : (b : Bool) → not b ≡ true → b ≡ false
         not-of true j = sym j
         not-of false j = refl
 
-        on-left : ((same_parent x.above y.above && not (is_attribute x.content)) && not (is_attribute y.content)) ≡ true
-        on-left = by (same_parent x.above y.above) (not (is_attribute x.content)) (not (is_attribute y.content)) on
-          where
-            by : (a b c : Bool) → (a && b && c) ≡ true → ((a && b) && c) ≡ true
-            by true b c h = h
-            by false b c h = h
-
         kind-of : (b : Bool) → is_kind test ≡ b → is_text y.content ≡ true → b ≡ true
         kind-of true h t = refl
         kind-of false h t = no (sym (ap not t) ∙ meets-solid axis test y.content h met)
 
+    -- where a step to siblings begins at a text that the shape replaces, that text of the shape stands for what the step reaches
+    pub cover-beside : (axis : Axis) → is_sibling axis ≡ true → meets axis test y.content ≡ true → is_on axis x y ≡ true → is_replaced texts x.above ≡ true →
+        ((is_kind test && meets_texts axis) ≡ true) × (has (cov y) (text_beside axis shape (cov x)) ≡ true)
+    cover-beside Child sibling met on rx = no sibling
+    cover-beside Attribute sibling met on rx = no sibling
+    cover-beside Self_ sibling met on rx = no sibling
+    cover-beside Parent sibling met on rx = no sibling
+    cover-beside Ancestor sibling met on rx = no sibling
+    cover-beside AncestorOrSelf sibling met on rx = no sibling
+    cover-beside Descendant sibling met on rx = no sibling
+    cover-beside DescendantOrSelf sibling met on rx = no sibling
+    cover-beside FollowingSibling sibling met on rx = let p = same-text FollowingSibling on met rx in (both-of (is_kind test) true p.0 refl, p.1)
+    cover-beside PrecedingSibling sibling met on rx = let p = same-text PrecedingSibling on met rx in (both-of (is_kind test) true p.0 refl, p.1)
+
     -- what a step reaches it reaches in the shape, from what stands for the one node what stands for the other
-    pub cover-step : (axis : Axis) → meets axis test y.content ≡ true → found m (in_range axis x.number all) ≡ Some y → is_on axis x y ≡ true → Sided axis test x → Stepped axis
-    cover-step Child passed j on lone = step-by Child passed cy.is_in
+    pub cover-step : (axis : Axis) → meets axis test y.content ≡ true → found m (in_range axis x.number all) ≡ Some y → is_on axis x y ≡ true → Sided axis x → Stepped axis
+    cover-step Child passed j on side = step-by Child passed cy.is_in
         (let p = and-true (is_first x.number y.above) (not (is_attribute y.content)) on in both-of (is_first cx.visit.number cy.visit.above) (not (is_attribute cy.visit.content)) (first-kept p.0) (ap not cy.attribute ∙ p.1))
-    cover-step Attribute passed j on lone = step-by Attribute passed cy.is_in
+    cover-step Attribute passed j on side = step-by Attribute passed cy.is_in
         (let p = and-true (is_first x.number y.above) (is_attribute y.content) on in both-of (is_first cx.visit.number cy.visit.above) (is_attribute cy.visit.content) (first-kept p.0) (cy.attribute ∙ p.1))
-    cover-step Self_ passed j on lone = step-by Self_ passed cy.is_in (itself-kept on)
-    cover-step Parent passed j on lone = step-by Parent passed cy.is_in
+    cover-step Self_ passed j on side = step-by Self_ passed cy.is_in (itself-kept on)
+    cover-step Parent passed j on side = step-by Parent passed cy.is_in
         (ap (λ k. is_first k cx.visit.above) (y-number ∙ cov-above n x e m y i (has-head y.number x.above on)) ∙ ap (is_first y.number) cx.above ∙ on)
-    cover-step Ancestor passed j on lone = step-by Ancestor passed cy.is_in (back-kept on)
-    cover-step AncestorOrSelf passed j on lone = step-by AncestorOrSelf passed cy.is_in
+    cover-step Ancestor passed j on side = step-by Ancestor passed cy.is_in (back-kept on)
+    cover-step AncestorOrSelf passed j on side = step-by AncestorOrSelf passed cy.is_in
         (elim (or-cases (has y.number x.above) (x.number == y.number) on) [
           | inl a ↦ or-left (has cy.visit.number cx.visit.above) (cx.visit.number == cy.visit.number) (back-kept a)
           | inr b ↦ or-right (has cy.visit.number cx.visit.above) (cx.visit.number == cy.visit.number) (itself-kept b)
         ])
-    cover-step Descendant passed j on lone = step-by Descendant passed cy.is_in (below-kept on)
-    cover-step DescendantOrSelf passed j on lone = step-by DescendantOrSelf passed cy.is_in
+    cover-step Descendant passed j on side = step-by Descendant passed cy.is_in (below-kept on)
+    cover-step DescendantOrSelf passed j on side = step-by DescendantOrSelf passed cy.is_in
         (elim (or-cases (has x.number y.above && not (is_attribute y.content)) (x.number == y.number) on) [
           | inl a ↦ or-left (has cx.visit.number cy.visit.above && not (is_attribute cy.visit.content)) (cx.visit.number == cy.visit.number) (below-kept a)
           | inr b ↦ or-right (has cx.visit.number cy.visit.above && not (is_attribute cy.visit.content)) (cx.visit.number == cy.visit.number) (itself-kept b)
         ])
-    cover-step FollowingSibling passed j on lone = by (is_replaced texts x.above) refl
-      where
-        ranged : found m (after n all) ≡ Some y
-        ranged = ap (λ k. found m (after k all)) (sym (found-number n all x e)) ∙ j
-
-        by : (b : Bool) → is_replaced texts x.above ≡ b → Stepped FollowingSibling
-        by true r = no (sym (after-other n all s.visits.apart) ∙ ap (λ k. has k (numbers_of (after n all))) (sym (alone FollowingSibling refl on passed r lone)) ∙ present m (after n all) y ranged)
-        by false r = beside-step FollowingSibling after (λ ys. refl) (λ q ys. filter-after q n x ys) (after-sub n) r
-            (sym (same-replaced x.above y.above (and-true _ _ (and-true _ _ on).0).0) ∙ r) ranged on passed
-    cover-step PrecedingSibling passed j on lone = by (is_replaced texts x.above) refl
-      where
-        ranged : found m (before n all) ≡ Some y
-        ranged = ap (λ k. found m (before k all)) (sym (found-number n all x e)) ∙ j
-
-        by : (b : Bool) → is_replaced texts x.above ≡ b → Stepped PrecedingSibling
-        by true r = no (sym (before-other n all) ∙ ap (λ k. has k (numbers_of (before n all))) (sym (alone PrecedingSibling refl on passed r lone)) ∙ present m (before n all) y ranged)
-        by false r = beside-step PrecedingSibling before (λ ys. refl) (λ q ys. filter-before q n x ys) (before-sub n) r
-            (sym (same-replaced x.above y.above (and-true _ _ (and-true _ _ on).0).0) ∙ r) ranged on passed
+    cover-step FollowingSibling passed j on side =
+        beside-step FollowingSibling after (λ ys. refl) (λ q ys. filter-after q n x ys) (after-sub n) (side refl)
+        (sym (same-replaced x.above y.above (and-true _ _ (and-true _ _ on).0).0) ∙ side refl) (ap (λ k. found m (after k all)) (sym (found-number n all x e)) ∙ j) on passed
+    cover-step PrecedingSibling passed j on side =
+        beside-step PrecedingSibling before (λ ys. refl) (λ q ys. filter-before q n x ys) (before-sub n) (side refl)
+        (sym (same-replaced x.above y.above (and-true _ _ (and-true _ _ on).0).0) ∙ side refl) (ap (λ k. found m (before k all)) (sym (found-number n all x e)) ∙ j) on passed

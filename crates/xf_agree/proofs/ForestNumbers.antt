@@ -38,6 +38,6 @@ module _ (f : ℕ → ℕ) (same : IsRenumbering f) (functions : Functions) (mos
       ∙ then-same (renumbered_value f) (meaning expr over c) (string_of over) (string_of other) (λ v. string_of-renumbered f same over other.strings strings v)
 
 pub two_forests_but_numbers : TwoForestsButNumbers
-two_forests_but_numbers is_strict most scope documents indexes event first second f known reads looks expr current c same around agree covered here node r l =
-    two_forests is_strict most scope (map (renumbered_document f) documents) indexes (option_map (map (renumbered_property f)) event) first (renumbered_forest f second) known reads looks expr (f current) (renumbered_focus f c) around agree covered here node r l
+two_forests_but_numbers most scope documents indexes event first second f known reads looks expr current c same around agree covered here node r l =
+    two_forests most scope (map (renumbered_document f) documents) indexes (option_map (map (renumbered_property f)) event) first (renumbered_forest f second) known reads looks expr (f current) (renumbered_focus f c) around agree covered here node r l
     ∙ text-renumbered f same scope.functions (Some most) (over_second scope documents indexes event).given scope.model current second expr c

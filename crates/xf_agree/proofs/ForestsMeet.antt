@@ -1,7 +1,6 @@
 -- Two forests that agree on what an expression asks meet, so that they give it one text.
 use Rattle.std.proofs.Common.{◌≡◌, ℕ, Bool, true, false, not, cond, ◌&&◌, ◌||◌, List, [], ◌∷◌, ◌++◌, map, Option, Some, None, option_map, refl, sym, ap, ◌∙◌, subst}
 use Rattle.std.specs.Prelude.{filter, is_some}
-use Rattle.std.proofs.lemmas.Bool.{eq-eqb}
 use Rattle.xf_ast.specs.declared.expr.Expr.{Expr}
 use Rattle.xf_doc.specs.declared.content.Content.{Content}
 use Rattle.xf_doc.specs.declared.content.Content.TheVariants as content
@@ -9,14 +8,13 @@ use Rattle.xf_doc.specs.Forest.{Forest, is_text, is_element}
 use Rattle.xf_doc.specs.Visit.{Visit, visits, has, is_first}
 use Rattle.xf_doc.specs.StringValue.{string_value}
 use Rattle.xf_doc.specs.Shape.{Texts, is_replaced, is_gone, is_borne, given_visits, visits_in, filled, retexted, only_text, erased, without_text, has_elements, shape}
-use Rattle.xf_doc.proofs.BackLaws.{and-true}
 use Rattle.xf_lang.specs.declared.value.Value.{Value}
 use Rattle.xf_lang.specs.Given.{Document}
 use Rattle.xf_lang.specs.Setting.{Focus}
 use Rattle.xf_lang.specs.Meaning.{meaning}
 use Rattle.xf_lang.specs.Asked.{found}
 use Rattle.xf_lang.specs.Agree.{untexted, list_of, AreVisits, AgreeOnLists}
-use Rattle.xf_lang.proofs.VisitFacts.{no, some-same, none-some, filter-within, filter-and, filter-same, found-number, found-in, found-out}
+use Rattle.xf_lang.proofs.VisitFacts.{no, some-same, none-some, filter-within, filter-and, filter-same, found-in, found-out}
 use Rattle.xf_lang.proofs.AxisAgree.{Frame}
 use Rattle.xf_lang.proofs.UntextedLaws.{itself, bare-apart, bare-closed, solid-found}
 use Rattle.xf_lang.proofs.Comparison.{Comparison, Solid}
@@ -32,10 +30,9 @@ use Rattle.xf_agree.specs.Settles.{AreHung, Surrounds}
 use Rattle.xf_agree.specs.Kept.{is_known, keeps, kept}
 use Rattle.xf_agree.specs.Forests.{bare, InBoth, AgreeOn, asked_alone, asked_whole, text_over, over_second, TwoForestsValue, TwoForests}
 use Rattle.xf_agree.proofs.Parts.{part-apart}
-use Rattle.xf_agree.proofs.Covers.{stays, IsShaped, IsLone}
+use Rattle.xf_agree.proofs.Covers.{stays, IsShaped}
 use Rattle.xf_agree.proofs.Meeting.{Meeting}
-use Rattle.xf_agree.proofs.Known.{parent-of}
-use Rattle.xf_agree.proofs.HeldShape.{held-shaped, held-lone}
+use Rattle.xf_agree.proofs.HeldShape.{held-shaped}
 use Rattle.xf_agree.proofs.LooseAgreement.{value-same, text-same}
 
 abbrev no_texts : List (List ℕ)
@@ -129,9 +126,9 @@ listed known all n =
     ap (filter (λ y. is_first n y.above)) (sym (filter-within (λ y. not (is_text y.content)) (keeps known) (λ y h. or-left_of (not (is_text y.content)) (is_known known y.above) h) all))
     ∙ swap (λ y. is_first n y.above) (λ y. not (is_text y.content)) (kept known all)
 
-module _ (is_strict : Bool) (most : ℕ) (scope : Scope) (documents : List Document) (indexes : List (List ℕ × ℕ)) (event : Option (List (List ℕ × Value)))
+module _ (most : ℕ) (scope : Scope) (documents : List Document) (indexes : List (List ℕ × ℕ)) (event : Option (List (List ℕ × Value)))
     (first second : Forest) (known : ℕ → Bool) (reads looks : List ℕ) (current : ℕ)
-    (around : Surrounds is_strict scope most first) (agree : AgreeOn known reads looks scope documents first second) (here : InBoth first second current) where
+    (around : Surrounds scope most first) (agree : AgreeOn known reads looks scope documents first second) (here : InBoth first second current) where
   abbrev A : List Visit
   A = bare first
 
@@ -197,13 +194,6 @@ module _ (is_strict : Bool) (most : ℕ) (scope : Scope) (documents : List Docum
   shaped : IsShaped (only_text (visits first.nodes)) A U
   shaped = subst (λ xs. IsShaped (only_text (visits first.nodes)) xs U) nothing (held-shaped scope (record bounds { string = most }) first [] around tt [] (λ n h. refl))
 
-  lone : is_strict ≡ false → (n : ℕ) (x : Visit) → found n A ≡ Some x → is_gone (only_text (visits first.nodes)) x ≡ true → IsLone shaped x
-  lone loose n x h g j y i t p =
-      let gone = and-true (is_text x.content) (is_replaced (only_text (visits first.nodes)) x.above) g in
-      let o = parent-of x.above y.above p in
-      held-lone scope (record bounds { string = most }) first [] around tt [] (λ n h. refl) (around.whole loose) n j o.0 x y (ap (found n) nothing ∙ h) (ap (found j) nothing ∙ i) gone.0 t (ap (is_first o.0) o.2 ∙ eq-eqb o.0 o.0 refl) o.3
-      (ap (is_replaced (only_text (visits first.nodes))) (sym o.2) ∙ gone.1) ∙ sym (found-number n A x h)
-
   kept-closed : (X : List Visit) → AreVisits X → (k n : ℕ) (ns : List ℕ) (x : Visit) → found k (kept known X) ≡ Some x → x.above ≡ n ∷ ns → option_map (λ (z : Visit). z.above) (found n (kept known X)) ≡ Some ns
   kept-closed X v k n ns x h i =
       let z = opened (found n (untexted X)) ns (v.closed k n ns x (found-out (keeps known) k X x v.apart h).0 i) in
@@ -249,26 +239,24 @@ module _ (is_strict : Bool) (most : ℕ) (scope : Scope) (documents : List Docum
     looked = looked-known;
     strings = agree.strings;
     texts_same = agree.texts;
-    is_strict = is_strict;
-    whole = lone;
   }
 
-  pub one-text : (expr : Expr) → is_covered is_strict expr ≡ true → (c : Focus) → InBoth first second c.node →
+  pub one-text : (expr : Expr) → is_covered expr ≡ true → (c : Focus) → InBoth first second c.node →
       ((n : ℕ) → has n (asked_whole scope first current expr c).reads ≡ true → has n reads ≡ true) → ((n : ℕ) → has n (asked_whole scope first current expr c).looks ≡ true → has n looks ≡ true) →
       text_over (setting_for (Some most) scope (visits first.nodes) current) expr c ≡ text_over (setting_for (Some most) (over_second scope documents indexes event) (visits second.nodes) current) expr c
   unfolding meets
   one-text expr covered c node r l = text-same meets standing expr covered c (solid c.node node) (record { reads = r; looks = l })
 
-  pub one-value : (expr : Expr) → is_covered is_strict expr ≡ true → (c : Focus) → InBoth first second c.node →
+  pub one-value : (expr : Expr) → is_covered expr ≡ true → (c : Focus) → InBoth first second c.node →
       ((n : ℕ) → has n (asked_alone scope first current expr c).reads ≡ true → has n reads ≡ true) → ((n : ℕ) → has n (asked_alone scope first current expr c).looks ≡ true → has n looks ≡ true) →
       meaning expr (setting_for (Some most) scope (visits first.nodes) current) c ≡ meaning expr (setting_for (Some most) (over_second scope documents indexes event) (visits second.nodes) current) c
   unfolding meets
   one-value expr covered c node r l = value-same meets standing expr covered c (solid c.node node) (record { reads = r; looks = l })
 
 pub two_forests_value : TwoForestsValue
-two_forests_value is_strict most scope documents indexes event first second known reads looks expr current c around agree covered here node r l =
-    one-value is_strict most scope documents indexes event first second known reads looks current around agree here expr covered c node r l
+two_forests_value most scope documents indexes event first second known reads looks expr current c around agree covered here node r l =
+    one-value most scope documents indexes event first second known reads looks current around agree here expr covered c node r l
 
 pub two_forests : TwoForests
-two_forests is_strict most scope documents indexes event first second known reads looks expr current c around agree covered here node r l =
-    one-text is_strict most scope documents indexes event first second known reads looks current around agree here expr covered c node r l
+two_forests most scope documents indexes event first second known reads looks expr current c around agree covered here node r l =
+    one-text most scope documents indexes event first second known reads looks current around agree here expr covered c node r l

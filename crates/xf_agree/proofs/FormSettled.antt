@@ -1,5 +1,5 @@
 -- The calculates of a form agree, so that one settled state exists and no other.
-use Rattle.std.proofs.Common.{◌≡◌, ℕ, zero, suc, ◌+◌, ◌==◌, Bool, true, false, List, [], ◌∷◌, map, length, Option, Some, None, option_map, refl, sym, ap, ◌∙◌, arith, subst}
+use Rattle.std.proofs.Common.{◌≡◌, ℕ, zero, suc, ◌+◌, ◌==◌, true, false, List, [], ◌∷◌, map, length, Option, Some, None, option_map, refl, sym, ap, ◌∙◌, arith, subst}
 use Rattle.std.specs.Prelude.{filter, is_some, slice_get, option_and_then, Ok}
 use Rattle.xf_ast.specs.declared.expr.Expr.{Expr}
 use Rattle.xf_ast.specs.declared.form.Bind.{Bind}
@@ -46,42 +46,42 @@ rule-bind [] k r P h e = none-some e
 rule-bind (bind ∷ binds) zero r P h e = (bind, some-same e, h.0)
 rule-bind (bind ∷ binds) (suc k) r P h e = rule-bind binds k r P h.1 e
 
-computed : (o : Option Expr) (is_strict : Bool) → calculate_covered is_strict o ≡ true → is_some (option_map computed_of o) ≡ true → (x : Expr) × (option_map computed_of o ≡ Some (computed_of x)) × (is_covered is_strict x ≡ true)
-computed None is_strict c h = no h
-computed (Some x) is_strict c h = (x, refl, c)
+computed : (o : Option Expr) → calculate_covered o ≡ true → is_some (option_map computed_of o) ≡ true → (x : Expr) × (option_map computed_of o ≡ Some (computed_of x)) × (is_covered x ≡ true)
+computed None c h = no h
+computed (Some x) c h = (x, refl, c)
 
 unless-ok : {X : Type 0} (o : Option Exception) (x y : X) → unless o x ≡ Ok y → (o ≡ None) × (x ≡ y)
 unless-ok None x y h = (refl, cc h)
 unless-ok (Some o) x y h = cc h
 
-module _ (is_strict : Bool) (b : Bounds) (functions : Functions) (given : Given) (tables : Tables) (model : ℕ) (forest : Forest) (entries : List Entry)
-    (covered : AreCovered is_strict tables) (around : Surrounds is_strict (scope_of functions given tables model) b.string forest) (applies : Applies functions given tables model forest entries) where
+module _ (b : Bounds) (functions : Functions) (given : Given) (tables : Tables) (model : ℕ) (forest : Forest) (entries : List Entry)
+    (covered : AreCovered tables) (around : Surrounds (scope_of functions given tables model) b.string forest) (applies : Applies functions given tables model forest entries) where
   abbrev scope : Scope
   scope = scope_of functions given tables model
 
   abbrev all : List Visit
   all = visits forest.nodes
 
-  same_shape : map erased (shape all) ≡ shape all
+  pub same_shape : map erased (shape all) ≡ shape all
   same_shape = shape-erased all
 
-  v : AreVisits (shape all)
+  pub v : AreVisits (shape all)
   v = subst AreVisits same_shape (shape-visits forest around.trees around.below)
 
-  hung : AreHung (shape all)
+  pub hung : AreHung (shape all)
   hung = subst AreHung same_shape (shape-in_elements scope b forest [] around tt)
 
-  abbrev made : List Entry
+  abbrev pub made : List Entry
   made = all_entries scope (shape all)
 
-  parts : (exception_from (shape all) [] made ≡ None) × (made ≡ entries)
-  parts = unless-ok (exception_from (shape all) [] made) made entries applies
+  pub applied-parts : (exception_from (shape all) [] made ≡ None) × (made ≡ entries)
+  applied-parts = unless-ok (exception_from (shape all) [] made) made entries applies
 
-  static-of : (e : Entry) → Stands (shape all) v hung scope.rules 0 e → (is_calculate e ≡ true → has_elements (shape all) e.node ≡ false) → is_calculate e ≡ true → IsStatic is_strict scope forest e
+  static-of : (e : Entry) → Stands (shape all) v hung scope.rules 0 e → (is_calculate e ≡ true → has_elements (shape all) e.node ≡ false) → is_calculate e ≡ true → IsStatic scope forest e
   static-of e s leaf c =
       let p : e.property ≡ Calculate = calculate-is e.property c in
-      let bind = rule-bind tables.binds s.place s.rule (λ (bind : Bind). calculate_covered is_strict bind.properties.calculate ≡ true) covered s.is_rule in
-      let x = computed bind.0.properties.calculate is_strict bind.2 (ap (λ (r : Rule). is_some r.calculate) bind.1 ∙ ap (sets s.rule) (sym p) ∙ s.property) in
+      let bind = rule-bind tables.binds s.place s.rule (λ (bind : Bind). calculate_covered bind.properties.calculate ≡ true) covered s.is_rule in
+      let x = computed bind.0.properties.calculate bind.2 (ap (λ (r : Rule). is_some r.calculate) bind.1 ∙ ap (sets s.rule) (sym p) ∙ s.property) in
       record {
         expr = x.0;
         expression =
@@ -98,16 +98,16 @@ module _ (is_strict : Bool) (b : Bounds) (functions : Functions) (given : Given)
       zero-plus : (k : ℕ) → 0 + k ≡ k
       zero-plus k = omega arith
 
-  both : AllOf (λ e. Stands (shape all) v hung scope.rules 0 e × (is_calculate e ≡ true → has_elements (shape all) e.node ≡ false)) made
-  both = each_both _ _ made (entries-standing (shape all) v hung scope) (leaves (shape all) v hung [] made parts.0)
+  pub both : AllOf (λ e. Stands (shape all) v hung scope.rules 0 e × (is_calculate e ≡ true → has_elements (shape all) e.node ≡ false)) made
+  both = each_both _ _ made (entries-standing (shape all) v hung scope) (leaves (shape all) v hung [] made applied-parts.0)
 
-  static-made : AllOf (IsStatic is_strict scope forest) (calculates made)
+  static-made : AllOf (IsStatic scope forest) (calculates made)
   static-made = each_then _ _ (λ e h. static-of e h.0.0 h.0.1 h.1) (calculates made) (all-filter _ is_calculate made both)
 
-  pub form_static : AllOf (IsStatic is_strict scope forest) (calculates entries)
-  form_static = subst (λ es. AllOf (IsStatic is_strict scope forest) (calculates es)) parts.1 static-made
+  pub form_static : AllOf (IsStatic scope forest) (calculates entries)
+  form_static = subst (λ es. AllOf (IsStatic scope forest) (calculates es)) applied-parts.1 static-made
 
-  once : (e : Entry) → IsStatic is_strict scope forest e → length (filter (λ x. e.node == x.number) (shape all)) ≡ 1
+  once : (e : Entry) → IsStatic scope forest e → length (filter (λ x. e.node == x.number) (shape all)) ≡ 1
   once e s =
       let solid : found e.node (untexted (shape all)) ≡ Some s.node.0 = ap (found e.node) (ap untexted (sym same_shape) ∙ shape-untexted all) ∙ s.node.1 in
       stands-once e.node (shape all) v.apart (present e.node (shape all) s.node.0 (solid-found (shape all) v e.node s.node.0 solid).0)
@@ -116,15 +116,15 @@ module _ (is_strict : Bool) (b : Bounds) (functions : Functions) (given : Given)
   form_standing = each_then _ _ once (calculates entries) form_static
 
 pub form_agrees : FormAgrees
-form_agrees is_strict b functions given tables model forest entries covered around applies =
-    calculates_agree is_strict b (scope_of functions given tables model) entries forest around (form_static is_strict b functions given tables model forest entries covered around applies)
+form_agrees b functions given tables model forest entries covered around applies =
+    calculates_agree b (scope_of functions given tables model) entries forest around (form_static b functions given tables model forest entries covered around applies)
 
 pub form_settles_once : FormSettlesOnce
-form_settles_once is_strict b functions given tables model forest entries covered around applies acyclic =
-    settles_once is_strict b (scope_of functions given tables model) entries forest around (form_static is_strict b functions given tables model forest entries covered around applies)
-    (form_standing is_strict b functions given tables model forest entries covered around applies) acyclic
+form_settles_once b functions given tables model forest entries covered around applies acyclic =
+    settles_once b (scope_of functions given tables model) entries forest around (form_static b functions given tables model forest entries covered around applies)
+    (form_standing b functions given tables model forest entries covered around applies) acyclic
 
 pub form_settles : FormSettles
-form_settles is_strict b functions given tables model forest entries covered around applies acyclic =
-    settles is_strict b (scope_of functions given tables model) entries forest around (form_static is_strict b functions given tables model forest entries covered around applies)
-    (form_standing is_strict b functions given tables model forest entries covered around applies) acyclic
+form_settles b functions given tables model forest entries covered around applies acyclic =
+    settles b (scope_of functions given tables model) entries forest around (form_static b functions given tables model forest entries covered around applies)
+    (form_standing b functions given tables model forest entries covered around applies) acyclic

@@ -9,7 +9,6 @@ use Rattle.xf_doc.specs.Forest.{Forest, is_text}
 use Rattle.xf_doc.specs.Visit.{Visit, visits, has, is_first, ancestors_of, above_in}
 use Rattle.xf_doc.specs.StringValue.{string_value}
 use Rattle.xf_doc.specs.Shape.{text_number, is_replaced, erased, without_text, shape, only_text, texts_given}
-use Rattle.xf_doc.proofs.BackLaws.{and-true}
 use Rattle.xf_lang.specs.Given.{document_of}
 use Rattle.xf_lang.specs.Setting.{◌>>=◌}
 use Rattle.xf_lang.specs.Conversions.{string_of}
@@ -17,7 +16,7 @@ use Rattle.xf_lang.specs.Meaning.{meaning}
 use Rattle.xf_lang.specs.Asked.{Asked, found, converted}
 use Rattle.xf_lang.specs.Agree.{untexted, AreVisits}
 use Rattle.xf_lang.specs.Reads.{trace}
-use Rattle.xf_lang.proofs.VisitFacts.{some-same, none-some, found-number, found-in, found-out, present}
+use Rattle.xf_lang.proofs.VisitFacts.{some-same, none-some, found-in, found-out, present}
 use Rattle.xf_lang.proofs.AxisAgree.{Frame}
 use Rattle.xf_lang.proofs.UntextedLaws.{itself, solid-found}
 use Rattle.xf_lang.proofs.Comparison.{Comparison, Solid, over_shape, other as over_other}
@@ -39,12 +38,11 @@ use Rattle.xf_model.proofs.HoldingVisits.{blanks_by, held-erased}
 use Rattle.xf_model.proofs.ReadSolid.{converted-solid, trace-solid}
 use Rattle.xf_agree.specs.Settles.{IsSolid, Surrounds, IsStatic}
 use Rattle.xf_agree.proofs.Meeting.{Meeting, keeps, kept, is_known}
-use Rattle.xf_agree.proofs.Known.{parent-of}
 use Rattle.xf_agree.proofs.Parts.{part-apart}
 use Rattle.xf_agree.proofs.Retexted.{retexted-same, forest-late}
 use Rattle.xf_agree.proofs.LooseAgreement as agreement
 use Rattle.xf_agree.proofs.HeldTexts.{kept-texts}
-use Rattle.xf_agree.proofs.HeldShape.{bare_visits, bare_below, shape_visits, shape-hung, calculated-leaf, held_visits, held_same, none-held, held-hung, held-lone, held-shaped}
+use Rattle.xf_agree.proofs.HeldShape.{bare_visits, bare_below, shape_visits, shape-hung, calculated-leaf, held_visits, held_same, none-held, held-hung, held-shaped}
 
 -- as many empty texts
 abbrev blanked : List (List ℕ) → List (List ℕ)
@@ -117,7 +115,7 @@ text-kept (content.Element name) = refl
 text-kept (content.Attribute name text) = refl
 text-kept (content.Text text) = refl
 
-module _ {is_strict : Bool} (scope : Scope) (b : Bounds) (forest : Forest) (entries : List Entry) (around : Surrounds is_strict scope b.string forest) (static : AllOf (IsStatic is_strict scope forest) (calculates entries)) where
+module _ (scope : Scope) (b : Bounds) (forest : Forest) (entries : List Entry) (around : Surrounds scope b.string forest) (static : AllOf (IsStatic scope forest) (calculates entries)) where
   abbrev all : List Visit
   all = visits forest.nodes
 
@@ -140,7 +138,7 @@ module _ {is_strict : Bool} (scope : Scope) (b : Bounds) (forest : Forest) (entr
   above-in_shape p z h =
       above-of (found p (shape all)) z (sym (found-erased p (shape all)) ∙ (solid-found shaped u p z (ap (found p) shape_same ∙ h)).0)
 
-  module _ (e : Entry) (is_static : IsStatic is_strict scope forest e) (one other : Contents) (of_one : AreCalculated entries one) (of_other : AreCalculated entries other) (agree : AgreeFor scope all e one other) where
+  module _ (e : Entry) (is_static : IsStatic scope forest e) (one other : Contents) (of_one : AreCalculated entries one) (of_other : AreCalculated entries other) (agree : AgreeFor scope all e one other) where
     abbrev A : List Visit
     A = map erased (holding all one)
 
@@ -269,7 +267,7 @@ module _ {is_strict : Bool} (scope : Scope) (b : Bounds) (forest : Forest) (entr
       none-calculated : (x : Visit) → found x.number bare ≡ Some (erased x) → is_text x.content ≡ true → list_any (λ f. f.node == x.number) (calculates entries) ≡ false
       none-calculated x h t = elim (cases_Bool (list_any (λ f. f.node == x.number) (calculates entries))) [
         | inl some ↦
-            let f = each_one (IsStatic is_strict scope forest) (λ (f : Entry). f.node == x.number) (calculates entries) static some in
+            let f = each_one (IsStatic scope forest) (λ (f : Entry). f.node == x.number) (calculates entries) static some in
             absurd (text-no_solid x.number x h t f.2.node.0 (subst (λ k. found k (untexted bare) ≡ Some f.2.node.0) (eqb-true f.0.node x.number f.1) f.2.node.1))
         | inr none ↦ none
       ]
@@ -330,11 +328,6 @@ module _ {is_strict : Bool} (scope : Scope) (b : Bounds) (forest : Forest) (entr
       texts_same = λ k q x qs h there t i is_read.
           kept-texts known all one other (forest-late forest.nodes around.trees.first) (λ p j. same-content (content_of one p) (content_of other p) j) va vb k x q qs h t i
           (let z = opened (found q (untexted A)) qs (va.closed k q qs x h i) in known-read q q z.0 is_read (solid-found A va q z.0 z.1).0 (not-of (is_text z.0.content) (solid-found A va q z.0 z.1).1) (or_left (q == q) (has q z.0.above) (eq-eqb q q refl)));
-      is_strict = is_strict;
-      whole = λ loose n x h g j y i t p.
-          let gone = and-true (is_text x.content) (is_replaced (only_text all) x.above) g in
-          let o = parent-of x.above y.above p in
-          held-lone scope b forest entries around static one of_one (around.whole loose) n j o.0 x y h i gone.0 t (ap (is_first o.0) o.2 ∙ eq-eqb o.0 o.0 refl) o.3 (ap (is_replaced (only_text all)) (sym o.2) ∙ gone.1) ∙ sym (found-number n A x h);
     }
       where
         not-of : (c : Bool) → not c ≡ true → c ≡ false

@@ -1,6 +1,6 @@
 -- Data that hold contents at static calculates, beside the shape of the data.
 use Rattle.std.proofs.Common.{◌≡◌, ℕ, ◌==◌, Bool, true, false, not, cond, ◌&&◌, ◌||◌, List, [], ◌∷◌, ◌++◌, map, Option, Some, None, option_map, refl, sym, ap, ◌∙◌, arith, subst, inl, inr}
-use Rattle.std.specs.Prelude.{filter, is_some, nat_lt, ◌⊎◌}
+use Rattle.std.specs.Prelude.{filter, is_some, nat_lt}
 use Rattle.std.specs.List.{list_any, list_all}
 use Rattle.std.proofs.lemmas.Bool.{cases_Bool, eqb-true}
 use Rattle.std.proofs.lemmas.Bool.Decides.{nat_tests}
@@ -27,7 +27,7 @@ use Rattle.xf_model.proofs.EachLemmas.{each_one}
 use Rattle.xf_model.proofs.ReadSolid as model
 use Rattle.xf_model.proofs.HoldingLaws.{structure-kept}
 use Rattle.xf_model.proofs.HoldingVisits.{blanks_by, held-erased, held-visits}
-use Rattle.xf_agree.specs.Settles.{AreHung, AreWhole, Surrounds, IsStatic}
+use Rattle.xf_agree.specs.Settles.{AreHung, Surrounds, IsStatic}
 use Rattle.xf_agree.proofs.Covers.{stays, IsShaped}
 use Rattle.xf_agree.proofs.Retexted.{stays-retexted}
 
@@ -154,7 +154,7 @@ map-itself (x ∷ xs) h = ap (λ y. y ∷ map erased xs) h.0 ∙ ap (λ l. x ∷
 
 -- ---- roots have nothing above them
 
-abbrev IsTop : Visit → Type 0
+abbrev pub IsTop : Visit → Type 0
 IsTop v = is_root v.content ≡ true → v.above ≡ []
 
 no-depth : (d : ℕ) → nat_lt d 0 ≡ false
@@ -164,7 +164,7 @@ none-above : (stack : List Node) → still_above 0 stack ≡ []
 none-above [] = refl
 none-above (y ∷ ys) = ap (λ b. cond b (y ∷ ys) (still_above 0 ys)) (no-depth y.depth) ∙ none-above ys
 
-tops-from : (stack xs : List Node) → list_all (λ (x : Node). not (is_root x.content) || (x.depth == 0)) xs ≡ true → Each IsTop (visits_from stack xs)
+pub tops-from : (stack xs : List Node) → list_all (λ (x : Node). not (is_root x.content) || (x.depth == 0)) xs ≡ true → Each IsTop (visits_from stack xs)
 tops-from stack [] h = tt
 tops-from stack (x ∷ xs) h =
     let parts = and-true (not (is_root x.content) || (x.depth == 0)) (list_all (λ (y : Node). not (is_root y.content) || (y.depth == 0)) xs) h in
@@ -210,7 +210,7 @@ not-of : (b : Bool) → not b ≡ true → b ≡ false
 not-of true h = sym h
 not-of false h = refl
 
-module _ {is_strict : Bool} (scope : Scope) (b : Bounds) (forest : Forest) (entries : List Entry) (around : Surrounds is_strict scope b.string forest) (static : AllOf (IsStatic is_strict scope forest) (calculates entries)) where
+module _ (scope : Scope) (b : Bounds) (forest : Forest) (entries : List Entry) (around : Surrounds scope b.string forest) (static : AllOf (IsStatic scope forest) (calculates entries)) where
   abbrev pub all : List Visit
   all = visits forest.nodes
 
@@ -235,7 +235,7 @@ module _ {is_strict : Bool} (scope : Scope) (b : Bounds) (forest : Forest) (entr
 
   pub calculated-leaf : (p : ℕ) → list_any (λ e. e.node == p) (calculates entries) ≡ true → only_text all p ≡ Some ([] ∷ [])
   calculated-leaf p h =
-      let f = each_one (IsStatic is_strict scope forest) (λ (e : Entry). e.node == p) (calculates entries) static h in
+      let f = each_one (IsStatic scope forest) (λ (e : Entry). e.node == p) (calculates entries) static h in
       leaf-text p (ap (has_elements all) (sym (eqb-true f.0.node p f.1)) ∙ f.2.leaf)
 
   -- texts of the forest stand in elements
@@ -366,75 +366,6 @@ module _ {is_strict : Bool} (scope : Scope) (b : Bounds) (forest : Forest) (entr
     held-hung k x e t =
         let p = each-found Hung k data_held x (subst (Each Hung) (sym (held-erased contents all)) (each-hung (blanks_by contents))) e t in
         (p.0, p.1, solid-held p.0 p.1 p.2 (element-solid p.1.content p.3), p.3, p.4)
-
-    -- where a text comes from
-    abbrev Comes : Visit → Type 0
-    Comes v = is_text v.content ≡ true → ((stays (blanks_by contents) v ≡ true) × (found v.number bare ≡ Some v)) ⊎ ((q : ℕ) × (qs : List ℕ) × (v.above ≡ q ∷ qs) × (is_some (blanks_by contents q) ≡ true) × (v.number ≡ text_number q))
-
-    given-comes : (y : Visit) (ts : List (List ℕ)) → is_some (blanks_by contents y.number) ≡ true → Each Comes (map (text_visit y) ts)
-    given-comes y [] h = tt
-    given-comes y (u ∷ us) h = ((λ l. inr (y.number, y.above, refl, h, refl)), given-comes y us h)
-
-    visits-come : (y : Visit) → Each Comes (visits_in (blanks_by contents) y)
-    visits-come y = by (is_element y.content)
-      where
-        at : (o : Option (List (List ℕ))) → blanks_by contents y.number ≡ o → Each Comes (given_visits y o)
-        at None e = tt
-        at (Some ts) e = given-comes y ts (ap is_some e)
-
-        by : (c : Bool) → Each Comes (cond c (given_visits y (blanks_by contents y.number)) [])
-        by true = at (blanks_by contents y.number) refl
-        by false = tt
-
-    each-stays : (ys : List Visit) → Each (λ y. stays (blanks_by contents) y ≡ true) (filter (stays (blanks_by contents)) ys)
-    each-stays [] = tt
-    each-stays (y ∷ ys) = by (stays (blanks_by contents) y) refl (each-stays ys)
-      where
-        by : (c : Bool) → stays (blanks_by contents) y ≡ c → Each (λ z. stays (blanks_by contents) z ≡ true) (filter (stays (blanks_by contents)) ys) → Each (λ z. stays (blanks_by contents) z ≡ true) (cond c (y ∷ filter (stays (blanks_by contents)) ys) (filter (stays (blanks_by contents)) ys))
-        by true h rest = (h, rest)
-        by false h rest = rest
-
-    all-come : Each Comes data_held
-    all-come = subst (Each Comes) (sym (held-erased contents all)) (filled-each Comes (visits_in (blanks_by contents)) [] (filter (stays (blanks_by contents)) bare) tt
-        (both (filter (stays (blanks_by contents)) bare) (each-stays bare) (each-filter (λ y. found y.number bare ≡ Some y) (stays (blanks_by contents)) bare (self-found bare bare_visits.apart))))
-      where
-        both : (ys : List Visit) → Each (λ y. stays (blanks_by contents) y ≡ true) ys → Each (λ y. found y.number bare ≡ Some y) ys → Each (λ y. Comes y × Each Comes (visits_in (blanks_by contents) y)) ys
-        both [] h i = tt
-        both (y ∷ ys) h i = (((λ l. inl (h.0, i.0)), visits-come y), both ys h.1 i.1)
-
-    -- no other text stands beside one that the shape replaces
-    pub held-lone : AreWhole all → (n k p : ℕ) (x y : Visit) → found n data_held ≡ Some x → found k data_held ≡ Some y → is_text x.content ≡ true → is_text y.content ≡ true →
-        is_first p x.above ≡ true → is_first p y.above ≡ true → is_some (only_text all p) ≡ true → k ≡ n
-    held-lone whole n k p x y e i tx ty fx fy some = by (each-found Comes n data_held x all-come e tx) (each-found Comes k data_held y all-come i ty)
-      where
-        head : (ns : List ℕ) (q : ℕ) (qs : List ℕ) → ns ≡ q ∷ qs → is_first p ns ≡ true → p ≡ q
-        head [] q qs j h = no h
-        head (l ∷ ls) q qs j h = eqb-true p l h ∙ cc j
-
-        -- it stays, though its parent has other texts
-        off : (v : Visit) → is_text v.content ≡ true → is_first p v.above ≡ true → stays (blanks_by contents) v ≡ true → is_some (blanks_by contents p) ≡ true → false ≡ true
-        off v t f st h = sym (ap not (ap (λ c. c && is_replaced (blanks_by contents) v.above) t ∙ of v.above f)) ∙ st
-          where
-            of : (ns : List ℕ) → is_first p ns ≡ true → is_replaced (blanks_by contents) ns ≡ true
-            of [] j = no j
-            of (l ∷ ls) j = ap (λ q. is_some (blanks_by contents q)) (sym (eqb-true p l j)) ∙ h
-
-        elements : (c : Bool) → is_some (cond c None (Some no_texts)) ≡ true → c ≡ false
-        elements true h = no h
-        elements false h = refl
-
-        by : ((stays (blanks_by contents) x ≡ true) × (found x.number bare ≡ Some x)) ⊎ ((q : ℕ) × (qs : List ℕ) × (x.above ≡ q ∷ qs) × (is_some (blanks_by contents q) ≡ true) × (x.number ≡ text_number q)) →
-            ((stays (blanks_by contents) y ≡ true) × (found y.number bare ≡ Some y)) ⊎ ((q : ℕ) × (qs : List ℕ) × (y.above ≡ q ∷ qs) × (is_some (blanks_by contents q) ≡ true) × (y.number ≡ text_number q)) → k ≡ n
-        by (inl a) (inl c) =
-            let ox = original x.number all x a.1 in
-            let oy = original y.number all y c.1 in
-            sym (found-number k data_held y i)
-            ∙ whole y.number x.number p oy.0 ox.0 oy.1 ox.1 (sym (text-kept oy.0.content) ∙ ap (λ (v : Visit). is_text v.content) oy.2 ∙ ty) (sym (text-kept ox.0.content) ∙ ap (λ (v : Visit). is_text v.content) ox.2 ∙ tx)
-            (ap (λ (v : Visit). is_first p v.above) oy.2 ∙ fy) (ap (λ (v : Visit). is_first p v.above) ox.2 ∙ fx) (elements (has_elements all p) some)
-            ∙ found-number n data_held x e
-        by (inl a) (inr c) = no (off x tx fx a.0 (ap (λ q. is_some (blanks_by contents q)) (head y.above c.0 c.1 c.2 fy) ∙ c.3))
-        by (inr a) (inl c) = no (off y ty fy c.0 (ap (λ q. is_some (blanks_by contents q)) (head x.above a.0 a.1 a.2 fx) ∙ a.3))
-        by (inr a) (inr c) = sym (found-number k data_held y i) ∙ c.4 ∙ ap text_number (sym (head y.above c.0 c.1 c.2 fy) ∙ head x.above a.0 a.1 a.2 fx) ∙ sym a.4 ∙ found-number n data_held x e
 
     pub held-shaped : IsShaped (only_text all) data_held shaped
     held-shaped = record {

@@ -20,7 +20,14 @@ pub mod LooseAgreement
 pub mod SettledStatic
 pub mod FormEntries
 pub mod FormSettled
+pub mod TurnLists
+pub mod InTurnLaws
+pub mod InTurnLimits
+pub mod InTurnDone
+pub mod FormInTurn
+pub mod FormSettable
+pub mod EvaluatedLaws
 pub mod AskedStand
 pub mod ForestsMeet
 pub mod ForestNumbers
-pub mod OpenExamples
+pub mod BesideExamples

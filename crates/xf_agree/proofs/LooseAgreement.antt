@@ -16,7 +16,7 @@ use Rattle.xf_agree.proofs.Meeting.{Meeting, Asks}
 use Rattle.xf_agree.proofs.LooseValues.{in-converted, made}
 use Rattle.xf_agree.proofs.LooseLaw.{meeting}
 
-module _ {w : Comparison} (m : Meeting w) (stand : Standing w) (x : Expr) (covered : is_covered m.is_strict x ≡ true) (c : Focus) (node : Solid w c.node) where
+module _ {w : Comparison} (m : Meeting w) (stand : Standing w) (x : Expr) (covered : is_covered x ≡ true) (c : Focus) (node : Solid w c.node) where
   abbrev asked : Asked
   asked = (trace x).asked (over_shape w) c
 

@@ -19,7 +19,7 @@ use Rattle.xf_lang.specs.Asked.{Asked, Trace, LinkTrace, WalkTrace, tightly}
 use Rattle.xf_lang.specs.AskedSteps.{is_kind, meets_texts, if_tight, filtered, walks_asked}
 use Rattle.xf_lang.specs.AskedCalls as asked
 use Rattle.xf_lang.specs.Reads.{meaning_in, link_meaning_in, walk_in, expr_trace, link_trace, step_trace, trace}
-use Rattle.xf_lang.specs.Exact.{Facts, LinkFacts, all_placed, is_union, links_placed, links_plain, links_exact, is_sibling, expr_facts, link_facts}
+use Rattle.xf_lang.specs.Exact.{Facts, LinkFacts, all_placed, is_union, links_placed, links_plain, links_exact, expr_facts, link_facts}
 use Rattle.xf_lang.proofs.PairKeeps.{pair_keeps}
 use Rattle.xf_lang.proofs.VisitFacts.{no}
 use Rattle.xf_lang.proofs.Comparison.{Comparison, other, over_shape, Solid}
@@ -250,30 +250,22 @@ module _ {w : Comparison} (m : Meeting w) where
       plain = λ h. no h;
     }
 
-    strictly : (b c d : Bool) → not (b && c && d) ≡ true → c ≡ true → d ≡ true → b ≡ false
-    strictly true true true h i j = no h
-    strictly true true false h i j = no j
-    strictly true false d h i j = no i
-    strictly false c d h i j = refl
-
-    step-level : (y : Step-F Pair LinkPair StepPair) → StepLawful m (step_facts m.is_strict (map-Step Pair LinkPair StepPair Facts LinkFacts Bool (λ k. k.0) (λ k. k.0) (λ k. k.0) y)) (step_trace (map-Step Pair LinkPair StepPair Trace LinkTrace WalkTrace (λ k. k.1) (λ k. k.1) (λ k. k.1) y))
+    step-level : (y : Step-F Pair LinkPair StepPair) → StepLawful m (step_facts (map-Step Pair LinkPair StepPair Facts LinkFacts Bool (λ k. k.0) (λ k. k.0) (λ k. k.0) y)) (step_trace (map-Step Pair LinkPair StepPair Trace LinkTrace WalkTrace (λ k. k.1) (λ k. k.1) (λ k. k.1) y))
     step-level y h =
-        let parts = and-true (is_told y.is_written y.axis y.test && not (m.is_strict && is_sibling y.axis && is_kind y.test)) (all_placed (facts_in m y.predicates)) h in
-        let tests = and-true (is_told y.is_written y.axis y.test) (not (m.is_strict && is_sibling y.axis && is_kind y.test)) parts.0 in
+        let parts = and-true (is_told y.is_written y.axis y.test) (all_placed (facts_in m y.predicates)) h in
         let ps = placings m y.predicates parts.1 in
         step-meets m (map-Step Pair LinkPair StepPair Trace LinkTrace WalkTrace (λ k. k.1) (λ k. k.1) (λ k. k.1) y) ps.0 (sym ps.1)
-        (λ i. told y.is_written (is_kind y.test && meets_texts y.axis) tests.0 i)
-        (λ i j. strictly m.is_strict (is_sibling y.axis) (is_kind y.test) tests.1 i j)
+        (λ i. told y.is_written (is_kind y.test && meets_texts y.axis) parts.0 i)
       where
         told : (b c : Bool) → (b || not c) ≡ true → c ≡ true → b ≡ true
         told true c i j = refl
         told false true i j = i
         told false false i j = j
 
-    lawful : (x : Expr) → Lawful m (facts_of m.is_strict x) (trace x)
-    lawful = pair_keeps Facts LinkFacts Bool expr_facts link_facts (step_facts m.is_strict) Trace LinkTrace WalkTrace expr_trace link_trace step_trace (Lawful m) (LinkLawful m) (StepLawful m)
+    lawful : (x : Expr) → Lawful m (facts_of x) (trace x)
+    lawful = pair_keeps Facts LinkFacts Bool expr_facts link_facts step_facts Trace LinkTrace WalkTrace expr_trace link_trace step_trace (Lawful m) (LinkLawful m) (StepLawful m)
         level (λ y. record { operator = refl; right = y.right.2 }) step-level
 
     -- what an expression gives over the first forest it gives over the other, unless a string was too long
-    pub meeting : (x : Expr) → is_covered m.is_strict x ≡ true → MeetLaw m (trace x)
+    pub meeting : (x : Expr) → is_covered x ≡ true → MeetLaw m (trace x)
     meeting x h = (lawful x).exact h

@@ -1,6 +1,7 @@
 -- Steps and paths over two forests that meet.
 use Rattle.std.proofs.Common.{◌≡◌, ℕ, Bool, true, false, not, ◌&&◌, ◌||◌, List, [], ◌∷◌, ◌++◌, map, Option, Some, None, option_map, unwrap_or, refl, sym, ap, ◌∙◌, subst}
 use Rattle.std.specs.List.{flat_map}
+use Rattle.std.proofs.lemmas.List.{append-nil}
 use Rattle.xf_name.specs.declared.axis.Axis.{Axis}
 use Rattle.xf_name.specs.declared.axis.Axis.TheVariants.{Child, Attribute, Self_, Parent, Ancestor, AncestorOrSelf, Descendant, DescendantOrSelf, FollowingSibling, PrecedingSibling}
 use Rattle.xf_ast.specs.declared.expr.Expr.TheOpen.{Step-F}
@@ -8,7 +9,7 @@ use Rattle.xf_doc.specs.Forest.{is_text}
 use Rattle.xf_doc.specs.Visit.{Visit, has}
 use Rattle.xf_lang.specs.Setting.{Setting, Meaning, Walk, each, in_order, joined}
 use Rattle.xf_lang.specs.Asked.{Asked, Trace, LinkTrace, WalkTrace, found, lists_below, read_for}
-use Rattle.xf_lang.specs.AskedSteps.{lists_of, kind_read, is_kind, meets_texts, goes_up, tells_kinds, is_pair, read_if, if_tight, stepped, step_asked, walks_asked}
+use Rattle.xf_lang.specs.AskedSteps.{lists_of, kind_read, is_kind, meets_texts, goes_up, tells_kinds, is_pair, read_if, text_beside, if_tight, stepped, step_asked, walks_asked}
 use Rattle.xf_lang.specs.Steps.{reached, from_one, begun_at, walked}
 use Rattle.xf_lang.specs.Agree.{untexted}
 use Rattle.xf_lang.specs.Exact.{is_sibling}
@@ -22,7 +23,7 @@ use Rattle.xf_lang.proofs.AgreeSteps.{WalkLaw, step-law}
 use Rattle.xf_lang.proofs.Agreement.{swapped}
 use Rattle.xf_agree.proofs.Alike.{Alike, both, alike-then, alike-weaker, alike-at, alike-more, alike-of, Placing, meanings_of, at_one, at-plain}
 use Rattle.xf_agree.proofs.Meeting.{Meeting, Asks, A, B, U, kept-first, kept-second}
-use Rattle.xf_agree.proofs.LooseStep.{Good, AllGood, in-order_of, StepAsks, loose-step}
+use Rattle.xf_agree.proofs.LooseStep.{Good, AllGood, in-order_of, reached_over, StepAsks, loose-step}
 use Rattle.xf_agree.proofs.LooseValues.{less, premise, solid-good}
 use Rattle.xf_agree.proofs.SiblingStep.{same-solids, solid-order, sibling-set}
 
@@ -79,10 +80,15 @@ not-told false true true h i = no (h refl)
 not-told written true false h i = refl
 not-told written false meets h i = refl
 
+told-same : (written kind meets : Bool) → ((kind && meets) ≡ true → written ≡ true) → (written && kind && meets) ≡ (kind && meets)
+told-same true kind meets h = refl
+told-same false true true h = no (h refl)
+told-same false true false h = refl
+told-same false false meets h = refl
+
 module _ {w : Comparison} (m : Meeting w) (step : Step-F Trace LinkTrace WalkTrace) (ps : List Placing) (same : map (λ (t : Trace). t.meaning) step.predicates ≡ meanings_of ps)
     -- an abbreviated step meets no texts as such
-    (written : (is_kind step.test && meets_texts step.axis) ≡ true → step.is_written ≡ true)
-    (sided : is_sibling step.axis ≡ true → is_kind step.test ≡ true → m.is_strict ≡ false) where
+    (written : (is_kind step.test && meets_texts step.axis) ≡ true → step.is_written ≡ true) where
   abbrev s : Setting
   s = w.setting
 
@@ -131,20 +137,20 @@ module _ {w : Comparison} (m : Meeting w) (step : Step-F Trace LinkTrace WalkTra
           p.reads k (has-right k (a.reads ++ kinds_read) _ (ap (λ b. has k (read_if b (flat_map (read_for (U m)) a.set))) pair ∙ l));
       lists = λ k l. p.looks k (has-left k (a.looks ++ flat_map (lists_of step.axis (U m)) from) _ (has-right k a.looks (flat_map (lists_of step.axis (U m)) from) l));
       belows = λ i k l. p.looks k (has-right k (a.looks ++ flat_map (lists_of step.axis (U m)) from) _ (ap (λ b. has k (read_if b (flat_map (lists_below (U m)) a.set))) i ∙ l));
-      sided = sided;
     }
 
     over : (x : Setting) (ns : List ℕ) → taken_over x (map (λ (t : Trace). t.meaning) step.predicates) ns ≡ option_map (in_order x.all) (gathered (from_one step.axis step.test plain x) (begun_at step.is_below x.all ns))
     over x ns = ap (λ ms. taken_over x ms ns) same ∙ map-through_each (from_one step.axis step.test plain x) (in_order x.all) (begun_at step.is_below x.all ns)
 
     -- the nodes are known and asked
-    all-good : (ns : List ℕ) → AllGood m a.set ns → Alike (AllGood m (in_order (U m) (flat_map (reached step.axis step.test (U m)) from)))
+    all-good : (ns : List ℕ) → AllGood m a.set ns → Alike (AllGood m (in_order (U m) (reached_over (U m) step.axis step.test from)))
         (taken_over s (map (λ (t : Trace). t.meaning) step.predicates) ns) (taken_over t (map (λ (t : Trace). t.meaning) step.predicates) ns)
     all-good ns good = alike-at (over s ns) (over t ns) (loose-step m step.axis step.test ps step.is_below a.set asks ns good)
 
-    loose-fit : (asked_at a).is_loose ≡ true → (ks : List ℕ) → AllGood m (in_order (U m) (flat_map (reached step.axis step.test (U m)) from)) ks → NodesFit m (asked_at a) ks
+    loose-fit : (asked_at a).is_loose ≡ true → (ks : List ℕ) → AllGood m (in_order (U m) (reached_over (U m) step.axis step.test from)) ks → NodesFit m (asked_at a) ks
     loose-fit e ks good = record {
-      good = subst (λ b. AllGood m (stepped step.axis step.test (if_tight b step.predicates) u from) ks) (sym e) good;
+      good = subst (λ b. AllGood m (stepped step.is_written step.axis step.test (if_tight b step.predicates) u from) ks) (sym e)
+          (subst (λ b. AllGood m (in_order (U m) (flat_map (reached step.axis step.test (U m)) from ++ read_if b (flat_map (text_beside step.axis (U m)) from))) ks) (sym (told-same step.is_written (is_kind step.test) (meets_texts step.axis) written)) good);
       tight = λ i. no (sym i ∙ e);
     }
 
@@ -181,8 +187,11 @@ module _ {w : Comparison} (m : Meeting w) (step : Step-F Trace LinkTrace WalkTra
 
       chosen-asked : chosen ≡ (asked_at a).set
       chosen-asked =
-          ap (λ ms. stepped step.axis step.test ms u from) (sym same)
-          ∙ ap (λ b. stepped step.axis step.test (if_tight b step.predicates) u from) (sym stays_tight)
+          ap (in_order (U m)) (sym (append-nil (flat_map (λ n. unwrap_or (from_one step.axis step.test plain u n) []) from)))
+          ∙ ap (λ b. in_order (U m) (flat_map (λ n. unwrap_or (from_one step.axis step.test plain u n) []) from ++ read_if b (flat_map (text_beside step.axis (U m)) from)))
+          (sym (untold step.is_written (is_kind step.test) (meets_texts step.axis) plain_test))
+          ∙ ap (λ ms. stepped step.is_written step.axis step.test ms u from) (sym same)
+          ∙ ap (λ b. stepped step.is_written step.axis step.test (if_tight b step.predicates) u from) (sym stays_tight)
 
       sibling-fit : step.is_below ≡ true → is_sibling step.axis ≡ true → is_kind step.test ≡ false → Alike (NodesFit m (asked_at a)) (taken_over s (map (λ (t : Trace). t.meaning) step.predicates) ns) (taken_over t (map (λ (t : Trace). t.meaning) step.predicates) ns)
       sibling-fit deep beside kind =
@@ -198,7 +207,7 @@ module _ {w : Comparison} (m : Meeting w) (step : Step-F Trace LinkTrace WalkTra
                 λ k h. r.1 k (in-order_of (A m) w.visits.apart gs k (ap (has k) (sym same_ks) ∙ h)),
               )
 
-          solid-both : (k : ℕ) → Good m (in_order (U m) (flat_map (reached step.axis step.test (U m)) from)) k → (y : Visit) × (found k (untexted (A m)) ≡ Some y) → Solid w k
+          solid-both : (k : ℕ) → Good m (in_order (U m) (reached_over (U m) step.axis step.test from)) k → (y : Visit) × (found k (untexted (A m)) ≡ Some y) → Solid w k
           solid-both k g y =
               let out = solid-found (A m) w.visits k y.0 y.1 in
               let one : g.visit ≡ y.0 = some-same (sym (kept-first m k g.visit g.in_first).0 ∙ out.0) in

@@ -12,17 +12,17 @@ use Rattle.xf_doc.specs.declared.content.Content.TheVariants as content
 use Rattle.xf_doc.specs.Forest.{is_text, is_attribute}
 use Rattle.xf_doc.specs.Visit.{Visit, has}
 use Rattle.xf_doc.specs.Axis.{is_on, in_range}
-use Rattle.xf_doc.specs.Shape.{text_number}
+use Rattle.xf_doc.specs.Shape.{text_number, is_replaced}
 use Rattle.xf_doc.proofs.BackLaws.{and-true}
 use Rattle.xf_lang.specs.Setting.{Setting, Meaning, ◌>>=◌, in_order}
 use Rattle.xf_lang.specs.Tests.{meets}
 use Rattle.xf_lang.specs.Asked.{found, lists_below, read_for}
-use Rattle.xf_lang.specs.AskedSteps.{lists_of, kind_read, is_kind, meets_texts, goes_up}
+use Rattle.xf_lang.specs.AskedSteps.{lists_of, kind_read, is_kind, meets_texts, goes_up, read_if, text_beside}
 use Rattle.xf_lang.specs.Steps.{reached, kept_by_all, from_one, begun_at}
 use Rattle.xf_lang.specs.Agree.{numbers_of, are_apart}
 use Rattle.xf_lang.specs.Exact.{is_sibling}
 use Rattle.xf_lang.proofs.VisitFacts.{self-same, or-cases, or-left, or-right, no, some-same, found-number, present, found-out}
-use Rattle.xf_lang.proofs.SameKept.{region, has-append, kept-found}
+use Rattle.xf_lang.proofs.SameKept.{region, has-append, has-left, has-right, kept-found}
 use Rattle.xf_lang.proofs.ReachAgree.{Reach}
 use Rattle.xf_lang.proofs.UntextedLaws.{part-order}
 use Rattle.xf_lang.proofs.Comparison.{Comparison, other, Within, in_order-framed}
@@ -31,7 +31,7 @@ use Rattle.xf_lang.proofs.BelowAgree.{flat-has, flat-within}
 use Rattle.xf_lang.proofs.ReadsAgree.{in-order_has}
 use Rattle.xf_agree.proofs.Alike.{Alike, both, alike-then, alike-weaker, alike-at, alike-map_too, Placing, meanings_of, kept-alike}
 use Rattle.xf_agree.proofs.Parts.{part-apart, in_part, reached-part, part-starts}
-use Rattle.xf_agree.proofs.Covers.{covered, cov-solid, cover-step, reached-in, reached-has, range-found, solid-reader}
+use Rattle.xf_agree.proofs.Covers.{covered, cov-solid, cover-step, cover-beside, reached-in, reached-has, range-found, solid-reader}
 use Rattle.xf_agree.proofs.Meeting.{Meeting, keeps, kept, A, B, U, KA, KB, stand, kept-first, kept-second, reach-kept, below-same, child-same}
 use Rattle.xf_agree.proofs.Known.{Side, Reading, above-text, met-known, text, one, none-from}
 
@@ -70,6 +70,10 @@ gathered-all P f f' (n ∷ ns) h =
     alike-then (λ ks. gathered f ns >>= λ rest. Some (ks ++ rest)) (λ ks. gathered f' ns >>= λ rest. Some (ks ++ rest)) (h n (or-left (n == n) (has n ns) (self-same n))) (λ ks p.
     alike-then (λ rest. Some (ks ++ rest)) (λ rest. Some (ks ++ rest)) (gathered-all P f f' ns (λ k i. h k (or-right (k == n) (has k ns) i))) (λ rest q.
     both (λ k i. elim (has-append k ks rest i) [ inl a ↦ p k a | inr b ↦ q k b ])))
+
+-- what a step reaches over a shape, with the texts that stand for those beside them
+abbrev pub reached_over : List Visit → Axis → Test → List ℕ → List ℕ
+reached_over shape axis test from = flat_map (reached axis test shape) from ++ read_if (is_kind test && meets_texts axis) (flat_map (text_beside axis shape) from)
 
 -- ---- in document order
 
@@ -132,15 +136,14 @@ module _ {w : Comparison} (m : Meeting w) where
     pub ups : goes_up axis ≡ true → is_below ≡ true → Within (flat_map (read_for (U m)) set) m.reads
     pub lists : Within (flat_map (lists_of axis (U m)) (begun_at is_below (U m) set)) m.looks
     pub belows : is_below ≡ true → Within (flat_map (lists_below (U m)) set) m.looks
-    pub sided : is_sibling axis ≡ true → is_kind test ≡ true → m.is_strict ≡ false
 
   module _ (axis : Axis) (test : Test) (ps : List Placing) where
     abbrev plain : List Meaning
     plain = meanings_of ps
 
-    -- what the step reaches in the shape
+    -- what the step reaches in the shape, with the texts that stand for those beside them
     abbrev pub reached_all : List ℕ → List ℕ
-    reached_all from = flat_map (reached axis test (U m)) from
+    reached_all from = reached_over (U m) axis test from
 
     module _ (is_below : Bool) (set : List ℕ) (asks : StepAsks axis test is_below set) where
       abbrev from_shape : List ℕ
@@ -151,6 +154,25 @@ module _ {w : Comparison} (m : Meeting w) where
         kinds = λ i j k l. asks.kinds i j k (flat-within (kind_read axis (U m)) (stand m x) from_shape h k l);
         lists = λ k l. asks.lists k (flat-within (lists_of axis (U m)) (stand m x) from_shape h k l);
       }
+
+      -- what stands for a node that the step reaches
+      stands : (n : ℕ) (x : Visit) → found n (A m) ≡ Some x → has (stand m x) from_shape ≡ true → (k : ℕ) (y : Visit) → found k (A m) ≡ Some y →
+          meets axis test y.content ≡ true → found k (in_range axis x.number (A m)) ≡ Some y → is_on axis x y ≡ true → has (stand m y) (reached_all from_shape) ≡ true
+      stands n x e h k y i met ranged on = by (is_sibling axis && is_replaced m.texts x.above) refl
+        where
+          sided : (b c : Bool) → (b && c) ≡ false → b ≡ true → c ≡ false
+          sided true c j l = j
+          sided false c j l = no l
+
+          by : (b : Bool) → (is_sibling axis && is_replaced m.texts x.above) ≡ b → has (stand m y) (reached_all from_shape) ≡ true
+          by true j =
+              let both = and-true (is_sibling axis) (is_replaced m.texts x.above) j in
+              let p = cover-beside m.shaped test n x e k y i axis both.0 met on both.1 in
+              has-right (stand m y) (flat_map (reached axis test (U m)) from_shape) (read_if (is_kind test && meets_texts axis) (flat_map (text_beside axis (U m)) from_shape))
+              (ap (λ b. has (stand m y) (read_if b (flat_map (text_beside axis (U m)) from_shape))) p.0 ∙ flat-within (text_beside axis (U m)) (stand m x) from_shape h (stand m y) p.1)
+          by false j =
+              has-left (stand m y) (flat_map (reached axis test (U m)) from_shape) (read_if (is_kind test && meets_texts axis) (flat_map (text_beside axis (U m)) from_shape))
+              (flat-within (reached axis test (U m)) (stand m x) from_shape h (stand m y) (cover-step m.shaped test n x e k y i axis met ranged on (sided (is_sibling axis) (is_replaced m.texts x.above) j)))
 
       -- from one node
       from-one : (n : ℕ) → Good m from_shape n → Alike (AllGood m (reached_all from_shape)) (from_one axis test plain s n) (from_one axis test plain t n)
@@ -175,9 +197,7 @@ module _ {w : Comparison} (m : Meeting w) where
             visit = b.visit;
             in_first = b.first;
             in_second = b.second;
-            asked = flat-within (reached axis test (U m)) (stand m x) from_shape g.asked (stand m b.visit)
-                (cover-step m.shaped test n x x_first k b.visit y_first axis (ap (λ (v : Visit). meets axis test v.content) (sym same) ∙ y.3) y_range (ap (is_on axis x) (sym same) ∙ y.2)
-                (λ i j gone. m.whole (asks.sided i j) n x x_first gone));
+            asked = stands n x x_first g.asked k b.visit y_first (ap (λ (v : Visit). meets axis test v.content) (sym same) ∙ y.3) y_range (ap (is_on axis x) (sym same) ∙ y.2);
           }))
 
       -- ---- from all nodes at which it begins

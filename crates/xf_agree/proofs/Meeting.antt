@@ -8,7 +8,7 @@ use Rattle.xf_name.specs.declared.axis.Axis.TheVariants.{Child, Attribute, Self_
 use Rattle.xf_ast.specs.declared.expr.Test.{Test}
 use Rattle.xf_doc.specs.Forest.{is_text}
 use Rattle.xf_doc.specs.Visit.{Visit, has, is_first, first_of}
-use Rattle.xf_doc.specs.Shape.{Texts, is_gone}
+use Rattle.xf_doc.specs.Shape.{Texts}
 use Rattle.xf_lang.specs.Tests.{meets}
 use Rattle.xf_lang.specs.Asked.{Asked, found, as_list, parent_in, list_around, lists_below}
 use Rattle.xf_lang.specs.AskedSteps.{lists_of}
@@ -23,7 +23,7 @@ use Rattle.xf_lang.proofs.Comparison.{Comparison, Agree, Within}
 use Rattle.xf_lang.proofs.ForestVisits.{Each, self-found}
 use Rattle.xf_agree.specs.Settles.{AreHung}
 pub use Rattle.xf_agree.specs.Kept.{is_known, keeps, kept}
-use Rattle.xf_agree.proofs.Covers.{IsShaped, IsLone, stand_in, has-head, above-solid, cov-above, cov-solid, solid-stays, stays-found, around-has}
+use Rattle.xf_agree.proofs.Covers.{IsShaped, stand_in, has-head, above-solid, cov-above, cov-solid, solid-stays, stays-found, around-has}
 
 pub record Meeting (w : Comparison) : Type 0 where
   -- the texts that the shape has in place of others
@@ -43,9 +43,6 @@ pub record Meeting (w : Comparison) : Type 0 where
   -- a node whose string is asked, with the lists below it; a text in a node that is read
   pub strings : (n : ℕ) (x : Visit) → found n w.setting.all ≡ Some x → found n w.others ≡ Some x → is_text x.content ≡ false → has n reads ≡ true → Within (lists_below w.shape n) looks → w.setting.strings n ≡ w.strings n
   pub texts_same : (k q : ℕ) (x : Visit) (qs : List ℕ) → found k w.setting.all ≡ Some x → found k w.others ≡ Some x → is_text x.content ≡ true → x.above ≡ q ∷ qs → has q reads ≡ true → w.setting.strings k ≡ w.strings k
-  -- steps from texts to texts beside them are ruled out, or no such texts stand side by side
-  pub is_strict : Bool
-  pub whole : is_strict ≡ false → (n : ℕ) (x : Visit) → found n w.setting.all ≡ Some x → is_gone texts x ≡ true → IsLone shaped x
 
 -- a part of all that is asked
 pub record Asks {w : Comparison} (m : Meeting w) (a : Asked) : Type 0 where

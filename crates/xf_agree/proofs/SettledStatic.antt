@@ -1,5 +1,5 @@
 -- Static calculates agree, so that one settled state exists and no other.
-use Rattle.std.proofs.Common.{◌≡◌, Bool, List, Some, sym, ap, ◌∙◌}
+use Rattle.std.proofs.Common.{◌≡◌, List, Some, sym, ap, ◌∙◌}
 use Rattle.xf_doc.specs.Forest.{Forest}
 use Rattle.xf_doc.specs.Visit.{visits}
 use Rattle.xf_lang.specs.Setting.{◌>>=◌}
@@ -17,8 +17,8 @@ use Rattle.xf_model.proofs.SettledLaws.{settled-unique, settled-stands}
 use Rattle.xf_agree.specs.Settles.{Surrounds, IsStatic, CalculatesAgree, SettlesOnce, Settles}
 use Rattle.xf_agree.proofs.HeldMeets.{text_same}
 
-module _ {is_strict : Bool} (b : Bounds) (scope : Scope) (entries : List Entry) (forest : Forest) (around : Surrounds is_strict scope b.string forest) (static : AllOf (IsStatic is_strict scope forest) (calculates entries)) where
-  one-text : (e : Entry) → IsStatic is_strict scope forest e → (one other : Contents) → AreCalculated entries one → AreCalculated entries other → AgreeFor scope (visits forest.nodes) e one other →
+module _ (b : Bounds) (scope : Scope) (entries : List Entry) (forest : Forest) (around : Surrounds scope b.string forest) (static : AllOf (IsStatic scope forest) (calculates entries)) where
+  pub one-text : (e : Entry) → IsStatic scope forest e → (one other : Contents) → AreCalculated entries one → AreCalculated entries other → AgreeFor scope (visits forest.nodes) e one other →
       text_of (Some b.string) scope (holding (visits forest.nodes) one) e ≡ text_of (Some b.string) scope (holding (visits forest.nodes) other) e
   one-text e is_static one other of_one of_other agree =
       let c = focus_of e in
@@ -30,11 +30,11 @@ module _ {is_strict : Bool} (b : Bounds) (scope : Scope) (entries : List Entry) 
       ∙ sym (ap (λ x. value_by (Some b.string) scope (holding all other) e x >>= string_of (setting_for (Some b.string) scope (holding all other) e.node)) is_static.expression)
 
 pub calculates_agree : CalculatesAgree
-calculates_agree is_strict b scope entries forest around static =
+calculates_agree b scope entries forest around static =
     each_then _ _ (λ e is_static one other of_one of_other agree. ap (λ t. (e.node, fitting b.limits.text t)) (one-text b scope entries forest around static e is_static one other of_one of_other agree)) (calculates entries) static
 
 pub settles_once : SettlesOnce
-settles_once is_strict b scope entries forest around static standing acyclic = settled-unique b scope entries (visits forest.nodes) standing acyclic (calculates_agree is_strict b scope entries forest around static)
+settles_once b scope entries forest around static standing acyclic = settled-unique b scope entries (visits forest.nodes) standing acyclic (calculates_agree b scope entries forest around static)
 
 pub settles : Settles
-settles is_strict b scope entries forest around static standing acyclic = settled-stands b scope entries (visits forest.nodes) standing acyclic (calculates_agree is_strict b scope entries forest around static)
+settles b scope entries forest around static standing acyclic = settled-stands b scope entries (visits forest.nodes) standing acyclic (calculates_agree b scope entries forest around static)

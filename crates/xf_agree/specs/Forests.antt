@@ -68,17 +68,17 @@ over_second scope documents indexes event = record scope { given = record scope.
 
 -- one value: the nodes of a bind, say
 abbrev pub TwoForestsValue : Type 0
-TwoForestsValue = (is_strict : Bool) (most : ℕ) (scope : Scope) (documents : List Document) (indexes : List (List ℕ × ℕ)) (event : Option (List (List ℕ × Value)))
+TwoForestsValue = (most : ℕ) (scope : Scope) (documents : List Document) (indexes : List (List ℕ × ℕ)) (event : Option (List (List ℕ × Value)))
     (first second : Forest) (known : ℕ → Bool) (reads looks : List ℕ) (expr : Expr) (current : ℕ) (c : Focus) →
-    Surrounds is_strict scope most first → AgreeOn known reads looks scope documents first second → is_covered is_strict expr ≡ true → InBoth first second current → InBoth first second c.node →
+    Surrounds scope most first → AgreeOn known reads looks scope documents first second → is_covered expr ≡ true → InBoth first second current → InBoth first second c.node →
     ((n : ℕ) → has n (asked_alone scope first current expr c).reads ≡ true → has n reads ≡ true) → ((n : ℕ) → has n (asked_alone scope first current expr c).looks ≡ true → has n looks ≡ true) →
     meaning expr (setting_for (Some most) scope (visits first.nodes) current) c ≡ meaning expr (setting_for (Some most) (over_second scope documents indexes event) (visits second.nodes) current) c
 
 -- one text
 abbrev pub TwoForests : Type 0
-TwoForests = (is_strict : Bool) (most : ℕ) (scope : Scope) (documents : List Document) (indexes : List (List ℕ × ℕ)) (event : Option (List (List ℕ × Value)))
+TwoForests = (most : ℕ) (scope : Scope) (documents : List Document) (indexes : List (List ℕ × ℕ)) (event : Option (List (List ℕ × Value)))
     (first second : Forest) (known : ℕ → Bool) (reads looks : List ℕ) (expr : Expr) (current : ℕ) (c : Focus) →
-    Surrounds is_strict scope most first → AgreeOn known reads looks scope documents first second → is_covered is_strict expr ≡ true → InBoth first second current → InBoth first second c.node →
+    Surrounds scope most first → AgreeOn known reads looks scope documents first second → is_covered expr ≡ true → InBoth first second current → InBoth first second c.node →
     ((n : ℕ) → has n (asked_whole scope first current expr c).reads ≡ true → has n reads ≡ true) → ((n : ℕ) → has n (asked_whole scope first current expr c).looks ≡ true → has n looks ≡ true) →
     text_over (setting_for (Some most) scope (visits first.nodes) current) expr c ≡ text_over (setting_for (Some most) (over_second scope documents indexes event) (visits second.nodes) current) expr c
 
@@ -89,9 +89,9 @@ renumbered_forest f forest = record forest { nodes = map (renumbered f) forest.n
 
 -- one text, where the second forest agrees once its nodes have other numbers, as texts that were set again have
 abbrev pub TwoForestsButNumbers : Type 0
-TwoForestsButNumbers = (is_strict : Bool) (most : ℕ) (scope : Scope) (documents : List Document) (indexes : List (List ℕ × ℕ)) (event : Option (List (List ℕ × Value)))
+TwoForestsButNumbers = (most : ℕ) (scope : Scope) (documents : List Document) (indexes : List (List ℕ × ℕ)) (event : Option (List (List ℕ × Value)))
     (first second : Forest) (f : ℕ → ℕ) (known : ℕ → Bool) (reads looks : List ℕ) (expr : Expr) (current : ℕ) (c : Focus) → IsRenumbering f →
-    Surrounds is_strict scope most first → AgreeOn known reads looks scope (map (renumbered_document f) documents) first (renumbered_forest f second) → is_covered is_strict expr ≡ true →
+    Surrounds scope most first → AgreeOn known reads looks scope (map (renumbered_document f) documents) first (renumbered_forest f second) → is_covered expr ≡ true →
     InBoth first (renumbered_forest f second) (f current) → InBoth first (renumbered_forest f second) (f c.node) →
     ((n : ℕ) → has n (asked_whole scope first (f current) expr (renumbered_focus f c)).reads ≡ true → has n reads ≡ true) →
     ((n : ℕ) → has n (asked_whole scope first (f current) expr (renumbered_focus f c)).looks ≡ true → has n looks ≡ true) →

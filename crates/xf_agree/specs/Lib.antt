@@ -2,4 +2,6 @@ pub mod Covered
 pub mod Kept
 pub mod Settles
 pub mod FormSettles
+pub mod InTurn
+pub mod Evaluated
 pub mod Forests

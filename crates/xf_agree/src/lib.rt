@@ -4,7 +4,9 @@
 
 ghost use Rattle.xf_agree.specs.Settles.{CalculatesAgree, SettlesOnce, Settles};
 ghost use Rattle.xf_agree.specs.Forests.{TwoForestsValue, TwoForests, TwoForestsButNumbers};
-ghost use Rattle.xf_agree.specs.FormSettles.{FormAgrees, FormSettlesOnce, FormSettles};
+ghost use Rattle.xf_agree.specs.FormSettles.{FormAgrees, FormSettlesOnce, FormSettles, FormSettable};
+ghost use Rattle.xf_agree.specs.Evaluated.{EvaluatedText, EvaluatedTruth, EvaluatedLong, EvaluatedPassed, SurroundingsStay, SolidNumbers};
+ghost use Rattle.xf_agree.specs.InTurn.{InTurnContents, InTurnSettled, InTurnTexts, InTurnDone, InTurnContent, InTurnStands, InTurnPassed, InTurnFitting, FormInTurn};
 
 /// Two forests that agree on what a covered expression reads and looks at, texts counted, give it one value, and one text.
 pub fn two_forests()
@@ -33,4 +35,37 @@ pub fn form_agrees()
 pub fn form_settles()
     ensures once { FormSettlesOnce }
     ensures settled { FormSettles }
+{}
+
+/// The text of each calculated node of a form can be set.
+pub fn form_settable()
+    ensures { FormSettable }
+{}
+
+/// Static calculates that are evaluated in an order of their graph, each over data that hold the texts of those before it, have the settled
+/// texts, and pass the limits of strings and texts where those do.
+pub fn in_turn()
+    ensures contents { InTurnContents }
+    ensures settled { InTurnSettled }
+    ensures texts { InTurnTexts }
+    ensures done { InTurnDone }
+    ensures content { InTurnContent }
+    ensures stands { InTurnStands }
+    ensures passed { InTurnPassed }
+    ensures fitting { InTurnFitting }
+{}
+
+/// The calculates of a form may be evaluated so.
+pub fn form_in_turn()
+    ensures { FormInTurn }
+{}
+
+/// What an entry gives over a forest is what it gives over visits that differ in numbers of texts alone.
+pub fn evaluated()
+    ensures text { EvaluatedText }
+    ensures truth { EvaluatedTruth }
+    ensures long { EvaluatedLong }
+    ensures passed { EvaluatedPassed }
+    ensures surroundings { SurroundingsStay }
+    ensures numbers { SolidNumbers }
 {}

@@ -13,9 +13,12 @@ pub mod MadeLive
 pub mod PieceLaws
 pub mod MoveLemmas
 pub mod TextLaws
+pub mod SettleLaws
+pub mod FreeLaws
 pub mod Examples
 pub mod ChangeExamples
 pub mod TextExamples
+pub mod SettleExamples
 pub mod PlantExamples
 pub mod PrintExamples
 pub mod ShapeExamples

@@ -15,5 +15,6 @@ pub mod Printed
 pub mod WellFormed
 pub mod Shape
 pub mod Needs
+pub mod Settle
 pub mod Same
 pub mod Examples

@@ -3,6 +3,7 @@ use Rattle.std.proofs.Common.{◌≡◌, ℕ, true, List, [], ◌∷◌, map, So
 use Rattle.xf_line.specs.declared.event.Event.{Event}
 use Rattle.xf_line.specs.declared.event.Event.TheVariants.{Set}
 use Rattle.xf_doc.specs.StringValue.{string_value}
+use Rattle.xf_doc.specs.Visit.{children_of}
 use Rattle.xf_model.specs.Rules.{Rule}
 use Rattle.xf_form_machine.specs.State.{State}
 use Rattle.xf_form_machine.specs.Surround.{all_in}
@@ -35,6 +36,19 @@ one_evaluation = refl
 
 no_evaluation : given_out (λ g. g.evaluated) (then (first (b_by_a ∷ [])) (set_a (codes "1"))) ≡ Some 0
 no_evaluation = refl
+
+-- the text of b has the number that is reserved for it, and keeps it where it stands; a number is reserved all the same
+abbrev texts_of_b : State → List ℕ
+texts_of_b s = children_of 3 (all_in s)
+
+a_reserved_number : seen texts_of_b (first (b_by_a ∷ [])) ≡ Some (5 ∷ [])
+a_reserved_number = refl
+
+the_same_text : seen texts_of_b (then (first (b_by_a ∷ [])) (set_a (codes "1"))) ≡ Some (5 ∷ [])
+the_same_text = refl
+
+one_number_more : seen (λ s. s.forest.next) (then (first (b_by_a ∷ [])) (set_a (codes "1"))) ≡ Some 8
+one_number_more = refl
 
 -- a calculate makes its node readonly
 b_is_readonly : seen (λ s. readonly_in s 3) (first (b_by_a ∷ [])) ≡ Some true

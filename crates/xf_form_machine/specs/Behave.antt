@@ -1,9 +1,9 @@
 -- The behaviours of a model (XForms 1.1, sections 4.3.1 to 4.3.4), each over the whole of its data, and each clearing its own flag.
-use Rattle.std.specs.Prelude.{ℕ, ◌+◌, Bool, false, not, ◌&&◌, List, [], ◌∷◌, ◌++◌, map, filter, length, sum_by, Option, Some, None, option_map, Result, Ok, Err, get_or, nat_lt, ◌==◌}
-use Rattle.xf_doc.specs.Forest.{Forest}
+use Rattle.std.specs.Prelude.{ℕ, suc, ◌+◌, Bool, false, not, ◌&&◌, List, [], ◌∷◌, ◌++◌, map, filter, length, sum_by, Option, Some, None, option_map, Result, Ok, Err, get_or, nat_lt, ◌==◌}
+use Rattle.xf_doc.specs.declared.content.Node.{Node}
 use Rattle.xf_doc.specs.Visit.{Visit, visits}
 use Rattle.xf_doc.specs.Shape.{shape, shape_of}
-use Rattle.xf_doc.specs.Texts.{with_text}
+use Rattle.xf_doc.specs.Settle.{reserved, with_settled_text}
 use Rattle.xf_lang.specs.declared.value.Value.TheVariants.{Truth}
 use Rattle.xf_lang.specs.Conversions.{truth_of}
 use Rattle.xf_model.specs.Applied.{Entry, Exception, twice, on_parent, applied}
@@ -73,10 +73,10 @@ rebuild p model s = by_applied p model (applied (scope p s model) s.forest.nodes
 abbrev pub changes_of : Model → Changes
 changes_of m = record { texts = m.texts; lists = m.lists; stood = map (λ v. v.entry) m.stood }
 
--- nodes take these contents, each with a new text
-abbrev pub with_contents : Contents → Forest → Forest
-with_contents [] forest = forest
-with_contents ((n, text) ∷ contents) forest = with_contents contents (with_text n text forest)
+-- nodes take these contents: a text that comes in has its content's place among the numbers from this one on, and one that stands stays
+abbrev pub with_contents : ℕ → Contents → List Node → List Node
+with_contents number [] nodes = nodes
+with_contents number ((n, text) ∷ contents) nodes = with_contents (suc number) contents (with_settled_text number n text nodes)
 
 -- of a value its truth is kept; that of a calculate is the text of its node
 abbrev pub truly : Valued → Valued
@@ -87,13 +87,14 @@ recalculated_with values m = record m { stood = map truly values; texts = []; li
 
 abbrev pub settled_in : Profile → ℕ → List Entry → Contents → State → State
 settled_in p model entries contents s =
-    let forest = with_contents contents s.forest in
+    let forest = record (reserved (length contents) s.forest) { nodes = with_contents s.forest.next contents s.forest.nodes } in
     in_model (recalculated_with (values_over p.bounds (scope p s model) entries (visits forest.nodes))) model (record s { forest = forest })
 
 abbrev pub evaluated_more : ℕ → ℕ → State → State
 evaluated_more made count s = record s { made = s.made + made; evaluated = s.evaluated + count }
 
--- each calculated node takes its settled text, one node made for each; what the changes since the last recalculation concern is counted
+-- each calculated node takes its settled text; for each a number is reserved and a node counts as made, whether a text comes in or not; what
+-- the changes since the last recalculation concern is counted
 abbrev pub recalculate : Profile → ℕ → Run
 recalculate p model s =
     let m = model_at s model in

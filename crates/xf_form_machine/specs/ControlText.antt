@@ -5,7 +5,8 @@ use Rattle.xf_ui.specs.declared.answers.Item.{Item}
 use Rattle.xf_ui.specs.Interface.{Sort, one_case, repeated, select}
 use Rattle.xf_ui.specs.Elements.{element_at, repeats_around}
 use Rattle.xf_ui.specs.Rows.{rows_of}
-use Rattle.xf_ui.specs.Copies.{Copy, Marks}
+use Rattle.xf_ui.specs.declared.marks.Marks.{Marks}
+use Rattle.xf_ui.specs.Copies.{Copy}
 use Rattle.xf_ui.specs.Items.{is_chosen}
 use Rattle.xf_form_machine.specs.Profile.{Profile}
 use Rattle.xf_form_machine.specs.State.{State}

@@ -9,7 +9,7 @@ use Rattle.xf_model.specs.Entries.{is_computed}
 use Rattle.xf_model.specs.Settled.{Valued}
 use Rattle.xf_model.specs.Pertinent.{is_same}
 use Rattle.xf_model.specs.Properties.{is_relevant, is_readonly, is_required}
-use Rattle.xf_ui.specs.Copies.{Marks}
+use Rattle.xf_ui.specs.declared.marks.Marks.{Marks}
 use Rattle.xf_form_machine.specs.State.{Model, State}
 use Rattle.xf_form_machine.specs.Surround.{all_in, instances_in, instance_holding, model_of_instance}
 

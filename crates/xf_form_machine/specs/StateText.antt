@@ -10,7 +10,7 @@ use Rattle.xf_doc.specs.StringValue.{string_value}
 use Rattle.xf_ui.specs.Elements.{element_at, is_control}
 use Rattle.xf_ui.specs.Index.{index_of, rows_now}
 use Rattle.xf_ui.specs.Cases.{cases_of}
-use Rattle.xf_ui.specs.Copies.{Marks}
+use Rattle.xf_ui.specs.declared.marks.Marks.{Marks}
 use Rattle.xf_form_machine.specs.Profile.{Profile}
 use Rattle.xf_form_machine.specs.State.{State}
 use Rattle.xf_form_machine.specs.Surround.{interface, instance_holding, all_in, quiet}

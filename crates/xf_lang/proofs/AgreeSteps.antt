@@ -1,11 +1,12 @@
 -- Steps and paths over two forests that agree on what is looked at.
 use Rattle.std.proofs.Common.{◌≡◌, ℕ, Bool, true, false, not, ◌&&◌, ◌||◌, List, [], ◌∷◌, ◌++◌, map, Option, option_map, unwrap_or, refl, sym, ap, ◌∙◌, subst}
 use Rattle.std.specs.List.{flat_map}
+use Rattle.std.proofs.lemmas.List.{append-nil}
 use Rattle.xf_ast.specs.declared.expr.Expr.TheOpen.{Step-F}
 use Rattle.xf_doc.specs.Visit.{has}
 use Rattle.xf_lang.specs.Setting.{Setting, Meaning, Walk, each, in_order, joined}
 use Rattle.xf_lang.specs.Asked.{Asked, Trace, LinkTrace, WalkTrace, lists_below}
-use Rattle.xf_lang.specs.AskedSteps.{lists_of, kind_read, is_kind, meets_texts, goes_up, tells_kinds, read_if, if_tight, stepped, step_asked, walks_asked}
+use Rattle.xf_lang.specs.AskedSteps.{lists_of, kind_read, is_kind, meets_texts, goes_up, tells_kinds, read_if, text_beside, if_tight, stepped, step_asked, walks_asked}
 use Rattle.xf_lang.specs.Steps.{from_one, begun_at, walked}
 use Rattle.xf_lang.specs.Exact.{is_sibling}
 use Rattle.xf_lang.proofs.VisitFacts.{no}
@@ -41,6 +42,12 @@ not-loose false false true false false up beside h i j = refl
 not-loose false false false meets true true beside h i j = no j
 not-loose false false false meets true false beside h i j = refl
 not-loose false false false meets false up beside h i j = refl
+
+untold : (written kind meets : Bool) → not (kind && meets) ≡ true → (written && kind && meets) ≡ false
+untold true true true h = sym h
+untold true true false h = refl
+untold true false meets h = refl
+untold false kind meets h = refl
 
 -- what is looked at under a test that is known
 at-below : (w : Comparison) (f : Bool → List ℕ) (b c : Bool) → b ≡ c → Agree w (f b) → Agree w (f c)
@@ -87,8 +94,11 @@ module _ (w : Comparison) (step : Step-F Trace LinkTrace WalkTrace) (ps : List (
 
       chosen-asked : chosen (begun_at step.is_below w.shape a.set) ≡ (asked_at a).set
       chosen-asked =
-          ap (λ ms. stepped step.axis step.test ms u (begun_at step.is_below w.shape a.set)) (sym same)
-          ∙ ap (λ b. stepped step.axis step.test (if_tight b step.predicates) u (begun_at step.is_below w.shape a.set)) (sym loose-none)
+          ap (in_order w.shape) (sym (append-nil (flat_map (λ n. unwrap_or (from_one step.axis step.test plain u n) []) (begun_at step.is_below w.shape a.set))))
+          ∙ ap (λ b. in_order w.shape (flat_map (λ n. unwrap_or (from_one step.axis step.test plain u n) []) (begun_at step.is_below w.shape a.set) ++ read_if b (flat_map (text_beside step.axis w.shape) (begun_at step.is_below w.shape a.set))))
+          (sym (untold step.is_written (is_kind step.test) (meets_texts step.axis) exact))
+          ∙ ap (λ ms. stepped step.is_written step.axis step.test ms u (begun_at step.is_below w.shape a.set)) (sym same)
+          ∙ ap (λ b. stepped step.is_written step.axis step.test (if_tight b step.predicates) u (begun_at step.is_below w.shape a.set)) (sym loose-none)
 
       from-nodes : (below : Bool) → step.is_below ≡ below →
           Gives (λ ks. (ks ≡ chosen (begun_at below w.shape a.set)) × AllSolid w ks)

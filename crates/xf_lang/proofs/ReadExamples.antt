@@ -130,6 +130,10 @@ each_of_a_loose_set = refl
 siblings_read_the_parent : reads 6 (call 8 (path (step axis.FollowingSibling test.Node [] ∷ []) ∷ [])) ≡ 2 ∷ []
 siblings_read_the_parent = refl
 
+-- a/text()/following-sibling::node()/../../../c: each text stands for those beside it
+texts_stand_for_those_beside : reads 2 (path (a ∷ text ∷ step axis.FollowingSibling test.Node [] ∷ up false ∷ up false ∷ up false ∷ child (codes "c") ∷ [])) ≡ 4 ∷ 6 ∷ 8 ∷ 13 ∷ []
+texts_stand_for_those_beside = refl
+
 -- self::node() is exact
 a_test_of_itself_is_exact : reads 6 (call 8 (path (step axis.Self_ test.Node [] ∷ []) ∷ [])) ≡ []
 a_test_of_itself_is_exact = refl

@@ -11,7 +11,7 @@ use Rattle.xf_doc.specs.Same.{IsRenumbering, renumbered_visit}
 use Rattle.xf_doc.proofs.RenumberLaws.{map-cond, map-map, filter-through, has-renumbered}
 use Rattle.xf_lang.specs.Setting.{Setting}
 use Rattle.xf_lang.specs.Asked.{Asked, found, as_list, parent_in, list_around, lists_below, reader_of, read_for, plainly, both, with_read, first_node, asked_first, converted}
-use Rattle.xf_lang.specs.AskedSteps.{lists_of, kind_read, read_if}
+use Rattle.xf_lang.specs.AskedSteps.{lists_of, kind_read, read_if, if_text, text_beside}
 use Rattle.xf_lang.specs.Same.{renumbered_asked}
 use Rattle.xf_lang.proofs.RenumberLaws.{found-renumbered, flat-renumbered}
 
@@ -39,6 +39,14 @@ reader-renumbered f (Some x) =
     ap (λ m. cond (is_text x.content) (unwrap_or m (f x.number)) (f x.number) ∷ []) (first-renumbered f x.above)
     ∙ ap (λ m. cond (is_text x.content) m (f x.number) ∷ []) (or-renumbered f (first_of x.above) x.number)
     ∙ ap (λ m. m ∷ []) (sym (map-cond f (is_text x.content) (unwrap_or (first_of x.above) x.number) x.number))
+
+text-cond : (f : ℕ → ℕ) (b : Bool) (n : ℕ) → cond b (f n ∷ []) [] ≡ map f (cond b (n ∷ []) [])
+text-cond f true n = refl
+text-cond f false n = refl
+
+text-renumbered : (f : ℕ → ℕ) (x : Option Visit) → if_text (option_map (renumbered_visit f) x) ≡ map f (if_text x)
+text-renumbered f None = refl
+text-renumbered f (Some x) = text-cond f (is_text x.content) x.number
 
 module _ (f : ℕ → ℕ) (same : IsRenumbering f) (all : List Visit) where
   abbrev others : List Visit
@@ -78,6 +86,21 @@ module _ (f : ℕ → ℕ) (same : IsRenumbering f) (all : List Visit) where
   kinds-renumbered DescendantOrSelf n = read_for-renumbered n
   kinds-renumbered FollowingSibling n = around-renumbered n
   kinds-renumbered PrecedingSibling n = around-renumbered n
+
+  own-renumbered : (n : ℕ) → if_text (found (f n) others) ≡ map f (if_text (found n all))
+  own-renumbered n = ap if_text (found-renumbered f same n all) ∙ text-renumbered f (found n all)
+
+  pub text_beside-renumbered : (axis : Axis) (n : ℕ) → text_beside axis others (f n) ≡ map f (text_beside axis all n)
+  text_beside-renumbered Child n = refl
+  text_beside-renumbered Attribute n = refl
+  text_beside-renumbered Self_ n = refl
+  text_beside-renumbered Parent n = refl
+  text_beside-renumbered Ancestor n = refl
+  text_beside-renumbered AncestorOrSelf n = refl
+  text_beside-renumbered Descendant n = refl
+  text_beside-renumbered DescendantOrSelf n = refl
+  text_beside-renumbered FollowingSibling n = own-renumbered n
+  text_beside-renumbered PrecedingSibling n = own-renumbered n
 
 -- ---- what is asked
 

@@ -18,7 +18,7 @@ use Rattle.xf_lang.specs.Functions.{called}
 use Rattle.xf_lang.specs.Table.{Function, function_at}
 use Rattle.xf_lang.specs.Table as of
 use Rattle.xf_lang.specs.Asked.{Asked, Trace, LinkTrace, WalkTrace, has_list, list_around, lists_below, read_for, tightly, both, as_truth, as_plain, as_set, all_read, converted}
-use Rattle.xf_lang.specs.AskedSteps.{lists_of, kind_read, tells_kinds, is_pair, read_if, if_tight, filtered, stepped, asked_from, step_asked, walks_asked}
+use Rattle.xf_lang.specs.AskedSteps.{lists_of, kind_read, tells_kinds, is_pair, read_if, text_beside, if_tight, filtered, stepped, asked_from, step_asked, walks_asked}
 use Rattle.xf_lang.specs.AskedCalls.{beside, asked_by_both, computed, either, link_asked, links_asked, argument, own_argument, all_converted, nodes_if, with_nodes, meanings, call_asked}
 use Rattle.xf_lang.specs.Reads.{expr_asked, expr_trace, link_trace, step_trace, trace, listed, reads_in, looks_in, set_looks_in}
 use Rattle.xf_lang.specs.Same.{renumbered_value, renumbered_focus, renumbered_setting, renumbered_asked, HasStrings}
@@ -26,7 +26,7 @@ use Rattle.xf_lang.proofs.Keeps.{fold_keeps}
 use Rattle.xf_lang.proofs.TraceKeeps.{meaning-kept, walk-kept}
 use Rattle.xf_lang.proofs.RenumberLaws.{in_order-renumbered, reached-renumbered, flat-renumbered, nodes-renumbered}
 use Rattle.xf_lang.proofs.RenumberValues.{Renumbers, WalkRenumbers, called-renumbered, level-renumbered, step-renumbered, kept_all-renumbered, begun_at-renumbered, begun-renumbered}
-use Rattle.xf_lang.proofs.RenumberAsked.{around-renumbered, read_for-renumbered, below-renumbered, lists-renumbered, kinds-renumbered, joined-both, both-renumbered, read_if-renumbered, with_read-renumbered, converted-renumbered}
+use Rattle.xf_lang.proofs.RenumberAsked.{around-renumbered, read_for-renumbered, below-renumbered, lists-renumbered, kinds-renumbered, text_beside-renumbered, joined-both, both-renumbered, read_if-renumbered, with_read-renumbered, converted-renumbered}
 
 abbrev pub AskedRenumbers : (ℕ → ℕ) → (Setting → Focus → Asked) → Type 0
 AskedRenumbers f m = (s : Setting) (strings : ℕ → List ℕ) → HasStrings f strings s → (c : Focus) →
@@ -144,16 +144,19 @@ module _ (f : ℕ → ℕ) (same : IsRenumbering f) (s : Setting) (strings : ℕ
       ∙ ap (λ m. unwrap_or m []) (tight-renumbered loose y.predicates _)
       ∙ unwrapped f (from_one y.axis y.test (predicates loose y) s n)
 
-  stepped-renumbered : (y : Taken) (loose : Bool) (from : List ℕ) → stepped y.axis y.test (predicates loose y) t (map f from) ≡ map f (stepped y.axis y.test (predicates loose y) s from)
+  stepped-renumbered : (y : Taken) (loose : Bool) (from : List ℕ) → stepped y.is_written y.axis y.test (predicates loose y) t (map f from) ≡ map f (stepped y.is_written y.axis y.test (predicates loose y) s from)
   stepped-renumbered y loose from =
-      ap (in_order t.all) (flat-renumbered f (λ n. unwrap_or (from_one y.axis y.test (predicates loose y) s n) []) (λ n. unwrap_or (from_one y.axis y.test (predicates loose y) t n) []) (one-renumbered y loose) from)
+      ap (in_order t.all)
+      (joined-both f (flat_map (λ n. unwrap_or (from_one y.axis y.test (predicates loose y) s n) []) from) _ (read_if (tells_kinds y.is_written y.axis y.test) (flat_map (text_beside y.axis s.all) from)) _
+      (flat-renumbered f (λ n. unwrap_or (from_one y.axis y.test (predicates loose y) s n) []) (λ n. unwrap_or (from_one y.axis y.test (predicates loose y) t n) []) (one-renumbered y loose) from)
+      (read_if-renumbered f (tells_kinds y.is_written y.axis y.test) _ _ (flat-renumbered f (text_beside y.axis s.all) (text_beside y.axis t.all) (text_beside-renumbered f same s.all y.axis) from)))
       ∙ in_order-renumbered f same s.all _
 
   abbrev open_step : Taken → Step-F Trace LinkTrace WalkTrace
   open_step y = map-Step Known ((l : LinkTrace) × TraceRenumbers f l.right) ((w : WalkTrace) × WalkTraceRenumbers f w) Trace LinkTrace WalkTrace (λ e. e.0) (λ e. e.0) (λ e. e.0) y
 
   from-renumbered : (y : Taken) (a : Asked) (from : List ℕ) (loose : Bool) → asked_from (open_step y) t (R a) (map f from) loose ≡ R (asked_from (open_step y) s a from loose)
-  from-renumbered y a from loose = anyhow-renumbered loose (stepped y.axis y.test (predicates loose y) s from) _
+  from-renumbered y a from loose = anyhow-renumbered loose (stepped y.is_written y.axis y.test (predicates loose y) s from) _
       (a.reads ++ read_if (tells_kinds y.is_written y.axis y.test) (flat_map (kind_read y.axis s.all) from) ++ read_if (is_pair y.is_below y.axis) (flat_map (read_for s.all) a.set)) _
       (a.looks ++ flat_map (lists_of y.axis s.all) from ++ read_if y.is_below (flat_map (lists_below s.all) a.set)) _
       (stepped-renumbered y loose from)

@@ -1,15 +1,16 @@
 -- What steps and predicates ask.
-use Rattle.std.specs.Prelude.{ℕ, Bool, true, false, ◌&&◌, ◌||◌, List, [], ◌∷◌, ◌++◌, map, unwrap_or}
+use Rattle.std.specs.Prelude.{ℕ, Bool, true, false, ◌&&◌, ◌||◌, List, [], ◌∷◌, ◌++◌, map, Option, Some, None, unwrap_or, if◌then◌else◌}
 use Rattle.std.specs.List.{flat_map}
 use Rattle.xf_name.specs.declared.axis.Axis.{Axis}
 use Rattle.xf_name.specs.declared.axis.Axis.TheVariants.{Child, Attribute, Self_, Parent, Ancestor, AncestorOrSelf, Descendant, DescendantOrSelf, FollowingSibling, PrecedingSibling}
 use Rattle.xf_ast.specs.declared.expr.Test.{Test}
 use Rattle.xf_ast.specs.declared.expr.Test.TheVariants.{Text, Node}
 use Rattle.xf_ast.specs.declared.expr.Expr.TheOpen.{Step-F}
+use Rattle.xf_doc.specs.Forest.{is_text}
 use Rattle.xf_doc.specs.Visit.{Visit}
 use Rattle.xf_lang.specs.Setting.{Setting, Meaning, in_order}
 use Rattle.xf_lang.specs.Steps.{from_one, begun_at, kept_by_all}
-use Rattle.xf_lang.specs.Asked.{Asked, Trace, LinkTrace, WalkTrace, list_around, lists_below, read_for, as_set}
+use Rattle.xf_lang.specs.Asked.{Asked, Trace, LinkTrace, WalkTrace, found, list_around, lists_below, read_for, as_set}
 
 -- the lists that an axis looks at from a node
 abbrev pub lists_of : Axis → List Visit → ℕ → List ℕ
@@ -64,6 +65,16 @@ abbrev pub read_if : Bool → List ℕ → List ℕ
 read_if true ns = ns
 read_if false ns = []
 
+abbrev pub if_text : Option Visit → List ℕ
+if_text None = []
+if_text (Some x) = if is_text x.content then x.number ∷ [] else []
+
+-- where an element without elements has several texts, the shape has one: it stands for those beside it
+abbrev pub text_beside : Axis → List Visit → ℕ → List ℕ
+text_beside FollowingSibling all n = if_text (found n all)
+text_beside PrecedingSibling all n = if_text (found n all)
+text_beside axis all n = []
+
 -- ---- predicates: on a loose set each keeps every node
 
 abbrev pub if_tight : Bool → List Trace → List Meaning
@@ -76,12 +87,13 @@ filtered s predicates a = record (as_set a) { set = unwrap_or (kept_by_all s (if
 -- ---- a step
 
 -- from these nodes, among them those that `//` begins at
-abbrev pub stepped : Axis → Test → List Meaning → Setting → List ℕ → List ℕ
-stepped axis test predicates s from = in_order s.all (flat_map (λ n. unwrap_or (from_one axis test predicates s n) []) from)
+abbrev pub stepped : Bool → Axis → Test → List Meaning → Setting → List ℕ → List ℕ
+stepped is_written axis test predicates s from = in_order s.all
+    (flat_map (λ n. unwrap_or (from_one axis test predicates s n) []) from ++ read_if (tells_kinds is_written axis test) (flat_map (text_beside axis s.all) from))
 
 abbrev pub asked_from : Step-F Trace LinkTrace WalkTrace → Setting → Asked → List ℕ → Bool → Asked
 asked_from step s a from is_loose = record {
-  set = stepped step.axis step.test (if_tight is_loose step.predicates) s from;
+  set = stepped step.is_written step.axis step.test (if_tight is_loose step.predicates) s from;
   is_loose = is_loose;
   is_truth = false;
   reads = a.reads

@@ -152,7 +152,7 @@ recalculate-chained p model s t q h e =
     let made = length (calculates m.entries) in
     let count = pertinent_count (scope p s model) (shape (all_in s)) m.entries (changes_of m) in
     let contents = settled_contents p.bounds (scope p s model) m.entries (all_in s) in
-    let values = values_over p.bounds (scope p s model) m.entries (visits (with_contents contents s.forest).nodes) in
+    let values = values_over p.bounds (scope p s model) m.entries (visits (with_contents s.forest.next contents s.forest.nodes)) in
     settled-chained (map word_of (passed p.bounds (scope p s model) m.entries (all_in s)) ++ over_made p (s.made + made)) s t
     (λ u. evaluated_more made count (settled_in p model m.entries contents u))
     (known-chained (recalculated_with values) model s.models (recalculated-chained values m q) h) e

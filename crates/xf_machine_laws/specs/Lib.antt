@@ -1,3 +1,4 @@
 pub mod Chain
 pub mod Failed
+pub mod Quiet
 pub mod Renumbered

@@ -3,6 +3,7 @@
 
 ghost use Rattle.xf_machine_laws.specs.Chain.{FlagsStayChained};
 ghost use Rattle.xf_machine_laws.specs.Failed.{FailedKeeps};
+ghost use Rattle.xf_machine_laws.specs.Quiet.{QuietLaws};
 ghost use Rattle.xf_machine_laws.specs.Renumbered.{StayTheSame};
 
 /// A behaviour that is due carries those after it, whatever is changed. This tells contracts so, and does nothing.
@@ -19,4 +20,9 @@ pub fn failed_submission_keeps_data()
 /// so, and does nothing.
 pub fn renumbered_states_stay_the_same()
     ensures { StayTheSame }
+{}
+
+/// Where nothing is heard and nothing comes in rows, telling events spends turns and does no more. This tells contracts so, and does nothing.
+pub fn quiet_forms_tell_nobody()
+    ensures { QuietLaws }
 {}

@@ -14,7 +14,7 @@ use Rattle.xf_doc.specs.Visit.{Visit, visits, first_of, above_in, parent_of, top
 use Rattle.xf_doc.specs.Order.{instance_of}
 use Rattle.xf_doc.specs.Path.{path_of}
 use Rattle.xf_doc.specs.WellFormed.{HasTrees}
-use Rattle.xf_ui.specs.Copies.{Marks}
+use Rattle.xf_ui.specs.declared.marks.Marks.{Marks}
 use Rattle.xf_form_machine.specs.State.{State}
 use Rattle.xf_form_machine.specs.Surround.{all_in, instances_in, instance_holding}
 use Rattle.xf_form_machine.specs.Properties.{marks_in, pair_by, pair_at, pair_text, before_path, path_in, braced}

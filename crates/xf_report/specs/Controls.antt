@@ -7,7 +7,8 @@ use Rattle.xf_ui.specs.Interface.{Interface, Sort, select}
 use Rattle.xf_ui.specs.Elements.{element_at, repeats_around}
 use Rattle.xf_ui.specs.Index.{index_of, rows_now}
 use Rattle.xf_ui.specs.Cases.{cases_of}
-use Rattle.xf_ui.specs.Copies.{Copy, Marks}
+use Rattle.xf_ui.specs.declared.marks.Marks.{Marks}
+use Rattle.xf_ui.specs.Copies.{Copy}
 use Rattle.xf_form_machine.specs.Profile.{Profile}
 use Rattle.xf_form_machine.specs.State.{State}
 use Rattle.xf_form_machine.specs.Surround.{interface, quiet}
@@ -15,7 +16,6 @@ use Rattle.xf_form_machine.specs.NoteLines.{quoted}
 use Rattle.xf_form_machine.specs.StateText.{spaced, line_of, marks_text}
 use Rattle.xf_form_machine.specs.ControlText.{joined, row_numbers, marks_of, value_part, sign_if, is_chosen_in}
 use Rattle.xf_report.specs.declared.control.ShownCopy.{ShownCopy}
-use Rattle.xf_report.specs.Marked.{seen_marks}
 use Rattle.xf_report.specs.Named.{name_in}
 
 -- ---- repeats and switches
@@ -42,7 +42,7 @@ pub record Seen : Type 0 where
   pub items : List Item
 
 abbrev pub seen_copy : ShownCopy → Seen
-seen_copy c = record { element = c.element; rows = c.rows.now; marks = seen_marks c.marks; value = option_map (λ v. v.now) c.value; items = c.items.now }
+seen_copy c = record { element = c.element; rows = c.rows.now; marks = c.marks; value = option_map (λ v. v.now) c.value; items = c.items.now }
 
 -- a copy of a state, with the numbers of its rows
 pub record IsCopy (p : Profile) (s : State) (f : Interface) (c : Copy) (x : Seen) : Type 0 where

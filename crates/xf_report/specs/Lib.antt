@@ -1,7 +1,7 @@
 pub mod Answers
 pub mod Controls
 pub mod Lines
-pub mod Marked
 pub mod Named
 pub mod Refusals
 pub mod States
+pub mod Shown

@@ -13,7 +13,7 @@ use Rattle.xf_doc.specs.Axis.{axis_of}
 use Rattle.xf_doc.specs.Path.{path_of}
 use Rattle.xf_doc.specs.Shape.{has_elements}
 use Rattle.xf_doc.specs.StringValue.{string_value}
-use Rattle.xf_ui.specs.Copies.{Marks}
+use Rattle.xf_ui.specs.declared.marks.Marks.{Marks}
 use Rattle.xf_form_machine.specs.State.{State}
 use Rattle.xf_form_machine.specs.Surround.{instances_in}
 use Rattle.xf_form_machine.specs.Properties.{marks_in, braced, pair_text}

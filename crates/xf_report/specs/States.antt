@@ -7,7 +7,8 @@ use Rattle.xf_doc.specs.Forest.{Forest}
 use Rattle.xf_ui.specs.Interface.{Interface, interface_of}
 use Rattle.xf_ui.specs.Elements.{element_at}
 use Rattle.xf_ui.specs.Cases.{cases_of}
-use Rattle.xf_ui.specs.Copies.{Copy, Marks}
+use Rattle.xf_ui.specs.declared.marks.Marks.{Marks}
+use Rattle.xf_ui.specs.Copies.{Copy}
 use Rattle.xf_form_machine.specs.Profile.{Profile}
 use Rattle.xf_form_machine.specs.State.{State}
 use Rattle.xf_form_machine.specs.Surround.{interface}

@@ -7,16 +7,15 @@ ghost use Rattle.xf_ui.specs.Elements.{element_at};
 ghost use Rattle.xf_ui.specs.Interface.{interface_of, sort_of};
 ghost use Rattle.xf_ui.specs.Items.{is_chosen, words};
 ghost use Rattle.xf_report.specs.Controls.{behind_comma, control_line, copy_text, is_word, item_text, item_texts, many_in, repeat_text, rows_in, seen_copy, switch_text};
-ghost use Rattle.xf_report.specs.Marked.{seen_marks};
 ghost use Rattle.xf_report.specs.Named.{name_in, numbers_of};
 
-use crate::marks::{Marks, push_marks};
+use crate::marks::push_marks;
 use crate::names::{element_in, push_name};
 use crate::text::{push_number, push_quoted};
 use std::alloc::{AllocError, Global};
 use xf_ast::{Control, Form, Kind};
 use xf_num::is_space;
-use xf_ui::Item;
+use xf_ui::{Item, Marks};
 
 /// A copy of a control, as it is printed.
 #[derive(Clone, Copy)]
@@ -119,7 +118,7 @@ fn push_control(
     marks: Marks,
     value: Option<&str>,
 ) -> Result<(), AllocError>
-    ensures { OnOk result (string_bytes text.new ≡ string_bytes text.old ++ control_line name.now (seen_marks marks) (option_map (λ v. v.now) value.entry)) }
+    ensures { OnOk result (string_bytes text.new ≡ string_bytes text.old ++ control_line name.now marks (option_map (λ v. v.now) value.entry)) }
 {
     text.push_str("control ")?;
     text.push_str(name)?;

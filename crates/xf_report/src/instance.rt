@@ -10,7 +10,7 @@ ghost use Rattle.xf_form_machine.specs.State.{State};
 ghost use Rattle.xf_form_machine.specs.StateText.{instance_lines, line_of, marks_text, spaced};
 ghost use Rattle.xf_report.specs.Lines.{IsOf, block_text, has_elements_at, line_at, line_by, pair_among, text_line_if, value_text};
 
-use crate::marks::{NodeMarks, push_marks};
+use crate::marks::push_marks;
 use crate::nodes::nodes_at;
 use crate::text::{push_number, push_quoted, push_string};
 use std::alloc::{AllocError, Global};
@@ -18,6 +18,7 @@ use xf_ast::Instance;
 use xf_doc::{Content, NodeId, NodeList};
 use xf_paths::Paths;
 use xf_tree::Forest;
+use xf_ui::NodeMarks;
 
 /// Appends the lines of the instance with this place among those of the form: one for it, and one for each of its elements, attributes
 /// and texts beside elements. It costs what is written, and a look at each node.

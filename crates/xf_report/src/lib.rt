@@ -9,14 +9,16 @@ mod names;
 mod nodes;
 mod note;
 mod refusal;
+mod shown;
 mod state;
 mod text;
 
 pub use answer::push_ok;
 pub use control::{ShownCopy, push_copy, push_repeat, push_switch};
 pub use instance::push_instance;
-pub use marks::{Marks, NodeMarks};
 pub use names::numbers_of;
 pub use note::push_notes;
 pub use refusal::{PathList, Refusal, push_construct_refusal, push_ready_refusal, push_refusal};
+pub use shown::shown_copies;
 pub use state::{ShownControls, ShownRepeat, ShownSwitch, push_state};
+pub use xf_ui::{Marks, NodeMarks};

@@ -13,11 +13,11 @@ ghost use Rattle.xf_report.specs.States.{IsState, controls_text, repeat_of, stat
 
 use crate::control::{ShownCopy, push_copy, push_repeat, push_switch};
 use crate::instance::{pair_among, push_block};
-use crate::marks::NodeMarks;
 use crate::names::numbers_of;
 use std::alloc::{AllocError, Global};
 use xf_ast::{Form, Instance};
 use xf_tree::Forest;
+use xf_ui::NodeMarks;
 
 /// A repeat, with its index and how many rows it has.
 #[derive(Clone, Copy, Debug, PartialEq, Eq)]

@@ -8,7 +8,8 @@ use Rattle.xf_doc.specs.declared.content.Node.{Node}
 use Rattle.xf_doc.specs.declared.content.Content.{Content}
 use Rattle.xf_doc.specs.Forest.{is_attribute}
 use Rattle.xf_doc.specs.Changes.{placed, detached}
-use Rattle.xf_doc.specs.Texts.{Keeping, is_attribute_at, one_text, with_text, with_value}
+use Rattle.xf_doc.specs.Texts.{Keeping, is_attribute_at, one_text, with_value}
+use Rattle.xf_doc.specs.Settle.{with_numbered_text}
 use Rattle.xf_doc.specs.Needs.{IsSettable, MayAttach, MayDetach}
 use Rattle.xf_doc.specs.WellFormed.{AreTrees}
 use Rattle.xf_doc.specs.Plant.{numbered_from}
@@ -94,12 +95,12 @@ revalued-same m n text (tree x c k r) =
     by true = value-attribute text c
     by false = refl
 
-pub text-stay : (n : ℕ) (text : List ℕ) (k : Keeping) → AreTrees k → IsSettable n k.forest → (s : Stands k) → AttributesStay k.forest.nodes (with_text n text k.forest).nodes
-text-stay n text k sound able s =
+pub text-stay : (number more n : ℕ) (text : List ℕ) (k : Keeping) → AreTrees k → IsSettable n k.forest → (s : Stands k) → AttributesStay k.forest.nodes (with_numbered_text number n text k.forest.nodes)
+text-stay number more n text k sound able s =
     elim (cases_Bool (is_attribute_at n k.forest.nodes)) [
-      | inl e ↦ from-trees k s (with_text n text k.forest).nodes (revalued n text s.trees) (valued-nodes n text k sound able s e) (λ m h. sym (revalued-same m n text s.trees) ∙ h)
-      | inr e ↦ from-trees k s (with_text n text k.forest).nodes (retexted n (lone (one_text k.forest.next text)) s.trees) (after-nodes n text k sound able s e)
-          (λ m h. retexted-less m n (lone (one_text k.forest.next text)) s.trees (one_text-texts k.forest.next text) h)
+      | inl e ↦ from-trees k s (with_numbered_text number n text k.forest.nodes) (revalued n text s.trees) (valued-nodes number more n text k sound able s e) (λ m h. sym (revalued-same m n text s.trees) ∙ h)
+      | inr e ↦ from-trees k s (with_numbered_text number n text k.forest.nodes) (retexted n (lone (one_text number text)) s.trees) (after-nodes number more n text k sound able s e)
+          (λ m h. retexted-less m n (lone (one_text number text)) s.trees (one_text-texts number text) h)
     ]
 
 -- ---- trees that move

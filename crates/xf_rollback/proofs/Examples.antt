@@ -106,7 +106,7 @@ trees_cut = record { apart = refl; below = refl; depths = refl; tops = refl; fir
 made : Made start set_and_cut.0 set_and_cut.1
 made =
     cut 2 1 0
-    (texts wide 2 (codes "9") (element_texts (5 ∷ [])) set_once.1 (begun trees_at_start refl refl) trees_at_start (record { kind = inr refl; childless = refl }) refl)
+    (texts 14 1 2 (codes "9") (begun trees_at_start refl refl) trees_at_start (record { kind = inr refl; childless = refl }))
     trees_once (record { below = refl; kind = inl refl }) refl
 
 by_the_law : back set_and_cut ≡ start

@@ -7,18 +7,18 @@ use Rattle.xf_doc.specs.Forest.{Forest, content_at}
 use Rattle.xf_doc.specs.Visit.{has, visits, children_of}
 use Rattle.xf_doc.specs.Changes.{placed, place_of, attached, detached}
 use Rattle.xf_doc.specs.Limits.{Limits}
-use Rattle.xf_doc.specs.Texts.{Keeping, Before, is_attribute_at, with_text, given_up, text_set}
+use Rattle.xf_doc.specs.Texts.{Keeping, Before, is_attribute_at, before_of, given_up}
 use Rattle.xf_doc.specs.Needs.{IsSettable, MayAttach, MayDetach}
 use Rattle.xf_doc.specs.WellFormed.{AreTrees}
 use Rattle.xf_doc.specs.Undo.{Entry, Ledger, with_set, is_known}
 use Rattle.xf_doc.specs.Undo as undo
 use Rattle.xf_doc.proofs.BackLaws.{false-true}
-use Rattle.xf_rollback.specs.Made.{Made, begun, noted, texts, joined, cut, grown}
+use Rattle.xf_rollback.specs.Made.{Made, begun, noted, texts, passed, joined, cut, grown, with_new_text}
 use Rattle.xf_rollback.proofs.TreeFacts.{or-cases}
 use Rattle.xf_rollback.proofs.KeepingTrees.{stands}
 use Rattle.xf_rollback.proofs.JoinSteps.{detach-old}
 use Rattle.xf_rollback.proofs.AttributeSteps.{text-stay, join-stay, cut-stay, growth-stay}
-use Rattle.xf_rollback.proofs.Outcomes.{attached-placed, filled-forest}
+use Rattle.xf_rollback.proofs.Outcomes.{attached-placed, set-forest}
 
 abbrev pub without_number : ℕ → List ℕ → List ℕ
 without_number n [] = []
@@ -31,7 +31,8 @@ cut_known attribute parent ns = if attribute then ns else without_number parent 
 abbrev pub known : {start : Keeping} {l : Ledger} {k : Keeping} → Made start l k → List ℕ
 known (begun sound empty alone) = []
 known (noted change m) = known m
-known (texts limits n text before later m sound able e) = n ∷ known m
+known (texts number more n text m sound able) = n ∷ known m
+known (passed count m) = known m
 known (joined limits n parent place after m sound may e) = known m
 known (cut {k = k} n parent place m sound may stood) = cut_known (is_attribute_at n k.forest.nodes) parent (known m)
 known (grown contents m sound growth after) = known m
@@ -88,15 +89,15 @@ has-less m p (x ∷ xs) h = by (p == x) h (has-less m p xs)
 abbrev pub Stay : Keeping → Keeping → Type 0
 Stay k k2 = (m : ℕ) → m < k.forest.next → is_attribute_at m k2.forest.nodes ≡ true → is_attribute_at m k.forest.nodes ≡ true
 
-next-more : (k : Keeping) (n : ℕ) (text : List ℕ) (m : ℕ) → m < k.forest.next → m < (with_text n text k.forest).next
-next-more k n text m h = omega (arith, h)
-
-stay-text : (limits : Limits) (n : ℕ) (text : List ℕ) (k : Keeping) (before : Before) (later : Keeping) (es : List Entry) (next : ℕ) (k2 : Keeping) → AreTrees k → IsSettable n k.forest → text_set limits n text k ≡ Ok (before, later)
-    → Stay (with_set n before es next later).1 k2 → Stay k k2
-stay-text limits n text k before later es next k2 sound able e stay m less h =
-    let same_forest = filled-forest limits n text k before later es next e in
-    let further : m < (with_set n before es next later).1.forest.next = subst (λ f. m < f.next) (sym same_forest) (next-more k n text m less) in
-    text-stay n text k sound able (stands k sound) m (subst (λ f. is_attribute_at m f.nodes ≡ true) same_forest (stay m further h))
+stay-text : (number more n : ℕ) (text : List ℕ) (k : Keeping) (es : List Entry) (next : ℕ) (k2 : Keeping) → AreTrees k → IsSettable n k.forest
+    → Stay (with_set n (before_of n k.forest.nodes) es next (with_new_text number more n text k)).1 k2 → Stay k k2
+stay-text number more n text k es next k2 sound able stay m less h =
+    let after = with_new_text number more n text k in
+    let before = before_of n k.forest.nodes in
+    let same_forest : (with_set n before es next after).1.forest ≡ after.forest = set-forest n before es next after in
+    let further : m < after.forest.next = omega (arith, less) in
+    text-stay number more n text k sound able (stands k sound) m
+    (subst (λ f. is_attribute_at m f.nodes ≡ true) same_forest (stay m (subst (λ f. m < f.next) (sym same_forest) further) h))
 
 stay-join : (limits : Limits) (n parent place : ℕ) (k : Keeping) (after : Forest) (k2 : Keeping) → AreTrees k → MayAttach n parent place k.forest → attached limits n parent place k.forest ≡ Ok after
     → Stay (record k { forest = after }) k2 → Stay k k2
@@ -130,8 +131,10 @@ cut-has n m k k2 es ns stay parent place next h = by (is_attribute_at n k.forest
 pub known-has : {start : Keeping} {l : Ledger} {k : Keeping} (made : Made start l k) → (n : ℕ) (k2 : Keeping) → Stay k k2 → is_known n k2 l.entries ≡ true → has n (known made) ≡ true
 known-has (begun sound empty alone) n k2 stay h = absurd (false-true h)
 known-has (noted change m) n k2 stay h = known-has m n k2 stay h
-known-has (texts {l = l} {k = k} limits m text before later made sound able e) n k2 stay h =
-    set-known n m before l.entries l.next later k2 (known made) (λ f. known-has made n k2 (stay-text limits m text k before later l.entries l.next k2 sound able e stay) f) h
+known-has (texts {l = l} {k = k} number more m text made sound able) n k2 stay h =
+    set-known n m (before_of m k.forest.nodes) l.entries l.next (with_new_text number more m text k) k2 (known made)
+    (λ f. known-has made n k2 (stay-text number more m text k l.entries l.next k2 sound able stay) f) h
+known-has (passed count made) n k2 stay h = known-has made n k2 (λ m less g. stay m (omega (arith, less)) g) h
 known-has (joined {l = l} {k = k} limits m parent place after made sound may e) n k2 stay h =
     by (has m (children_of n (visits k2.forest.nodes))) h (λ f. known-has made n k2 (stay-join limits m parent place k after k2 sound may e stay) f)
   where

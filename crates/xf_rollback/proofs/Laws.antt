@@ -1,5 +1,5 @@
 -- The law of the ledger: rolling back gives the forest that was kept, and every step back may be made.
-use Rattle.std.proofs.Common.{◌≡◌, ℕ, true, false, List, [], refl, sym, ap, ◌∙◌, subst, arith}
+use Rattle.std.proofs.Common.{◌≡◌, ℕ, ◌+◌, true, false, List, [], refl, sym, ap, ◌∙◌, subst, arith}
 use Rattle.std.specs.Prelude.{◌≤◌}
 use Rattle.xf_doc.specs.Forest.{content_at}
 use Rattle.xf_doc.specs.Visit.{visits}
@@ -7,8 +7,7 @@ use Rattle.xf_doc.specs.Changes.{placed, place_of}
 use Rattle.xf_doc.specs.Texts.{Keeping}
 use Rattle.xf_doc.specs.WellFormed.{AreTrees, are_first}
 use Rattle.xf_doc.specs.Undo.{Ledger, rolled_back}
-use Rattle.xf_doc.proofs.BackLaws.{after_set}
-use Rattle.xf_rollback.specs.Made.{Made, begun, noted, texts, joined, cut, grown}
+use Rattle.xf_rollback.specs.Made.{Made, begun, noted, texts, passed, joined, cut, grown, with_new_text}
 use Rattle.xf_rollback.specs.Back.{CanRollBack}
 use Rattle.xf_rollback.proofs.Trees.{Trees, none, onto, times}
 use Rattle.xf_rollback.proofs.TreeShape.{Sound}
@@ -17,7 +16,7 @@ use Rattle.xf_rollback.proofs.TreeBlank.{blank}
 use Rattle.xf_rollback.proofs.TreeMoves.{followed-none}
 use Rattle.xf_rollback.proofs.TreeOrder.{ordered-onto}
 use Rattle.xf_rollback.proofs.KeepingTrees.{Stands, stands}
-use Rattle.xf_rollback.proofs.Alike.{Alike, Back}
+use Rattle.xf_rollback.proofs.Alike.{fresh-less, Alike, Back}
 use Rattle.xf_rollback.proofs.AttributeSteps.{text-stay}
 use Rattle.xf_rollback.proofs.GrowthSteps.{growth-alike, begun-back}
 use Rattle.xf_rollback.proofs.Outcomes.{attached-placed}
@@ -45,11 +44,24 @@ law (noted change m) t nodes whole once k2 a =
       like = a.like;
     }) in
     record { changes = (tt, r.changes); rest = r.rest; same = r.same }
-law {start = start} (texts {l = l} {k = k} limits n text before later m sound able e) t nodes whole once k2 a =
+law {start = start} (texts {l = l} {k = k} number more n text m sound able) t nodes whole once k2 a =
     let s = stands k sound in
-    text-case start l k n text sound able (known m) (λ f. known-has m n (after_set n text k) (λ x less g. text-stay n text k sound able s x g) f) s
-    (λ k3 b. law m s.trees s.nodes s.sound (λ p. let o = s.once p in omega (arith, o)) k3 b)
-    limits before later e t nodes whole once k2 a
+    text-case start l k number more n text sound able (known m) (λ f. known-has m n (with_new_text number more n text k) (λ x less g. text-stay number more n text k sound able s x g) f) s
+    (λ k3 b. law m s.trees s.nodes s.sound (λ p. let o = s.once p in omega (arith, o)) k3 b) t nodes whole once k2 a
+law (passed {k = k} count m) t nodes whole once k2 a =
+    law m t nodes whole once k2 (record {
+      later = a.later;
+      extra = a.extra;
+      nodes = a.nodes;
+      kept = a.kept;
+      next = let h = a.next in omega (arith, h);
+      fresh = fresh-less k.forest.next (k.forest.next + count) a.extra (omega arith) a.fresh;
+      new_sound = a.new_sound;
+      sound = a.sound;
+      first = a.first;
+      once = a.once;
+      like = a.like;
+    })
 law {start = start} (joined {l = l} {k = k} limits n parent place after m sound may e) t nodes whole once k2 a =
     let s = stands k sound in
     let at = place_of parent place (visits k.forest.nodes) (content_at n k.forest.nodes) in

@@ -3,11 +3,11 @@ use Rattle.std.proofs.Common.{◌≡◌, ℕ, true, false, Bool, cond, List, [],
 use Rattle.std.proofs.lemmas.Bool.{cases_Bool}
 use Rattle.xf_doc.specs.declared.content.Node.{Node}
 use Rattle.xf_doc.specs.Changes.{in_instances, in_detached, is_detached_top}
-use Rattle.xf_doc.specs.Texts.{Keeping, Before, given_up, without_detached}
+use Rattle.xf_doc.specs.Texts.{Keeping, Before, before_of, given_up, without_detached}
 use Rattle.xf_doc.specs.Undo.{Ledger, Entry, with_set, is_known, kept_at}
 use Rattle.xf_doc.specs.Undo as undo
 use Rattle.xf_doc.specs.WellFormed.{AreTrees}
-use Rattle.xf_rollback.specs.Made.{Made, begun, texts, joined, cut, grown}
+use Rattle.xf_rollback.specs.Made.{Made, begun, texts, passed, joined, cut, grown, with_new_text}
 use Rattle.xf_rollback.specs.Made as made
 
 -- the forest that was kept: trees, without a detached one, and without kept texts
@@ -27,8 +27,10 @@ set-next n before es next k = by (is_known n k es)
 pub begun-with : {start : Keeping} {l : Ledger} {k : Keeping} → Made start l k → Begun start l
 begun-with (begun trees empty alone) = record { trees = trees; empty = empty; alone = alone; next = refl }
 begun-with (made.noted change m) = let b = begun-with m in record { trees = b.trees; empty = b.empty; alone = b.alone; next = b.next }
-begun-with (texts {l = l} limits n text before after m trees able e) =
-    let b = begun-with m in record { trees = b.trees; empty = b.empty; alone = b.alone; next = set-next n before l.entries l.next after ∙ b.next }
+begun-with (texts {l = l} {k = k} number more n text m trees able) =
+    let b = begun-with m in
+    record { trees = b.trees; empty = b.empty; alone = b.alone; next = set-next n (before_of n k.forest.nodes) l.entries l.next (with_new_text number more n text k) ∙ b.next }
+begun-with (passed count m) = begun-with m
 begun-with (joined limits n parent place after m trees may e) = let b = begun-with m in record { trees = b.trees; empty = b.empty; alone = b.alone; next = b.next }
 begun-with (cut n parent place m trees may stood) = let b = begun-with m in record { trees = b.trees; empty = b.empty; alone = b.alone; next = b.next }
 begun-with (grown contents m trees growth after) = begun-with m

@@ -7,12 +7,13 @@ use Rattle.xf_doc.specs.declared.content.Content.{Content}
 use Rattle.xf_doc.specs.Forest.{is_root, content_at}
 use Rattle.xf_doc.specs.Visit.{visits}
 use Rattle.xf_doc.specs.Changes.{placed, place_of, detached, in_detached}
-use Rattle.xf_doc.specs.Texts.{Keeping, with_value, one_text, with_text, is_attribute_at}
+use Rattle.xf_doc.specs.Texts.{Keeping, with_value, one_text, is_attribute_at, before_of}
+use Rattle.xf_doc.specs.Settle.{with_numbered_text}
 use Rattle.xf_doc.specs.Needs.{IsSettable, MayAttach, MayDetach}
 use Rattle.xf_doc.specs.WellFormed.{AreTrees}
 use Rattle.xf_doc.specs.Undo.{Ledger}
 use Rattle.xf_doc.proofs.BackLaws.{or-false}
-use Rattle.xf_rollback.specs.Made.{Made, begun, noted, texts, joined, cut, grown, IsGrowth, with_growth}
+use Rattle.xf_rollback.specs.Made.{Made, begun, noted, texts, passed, joined, cut, grown, IsGrowth, with_growth, with_new_text}
 use Rattle.xf_rollback.proofs.Trees.{Trees, none, tree, onto, followed, onto-inj}
 use Rattle.xf_rollback.proofs.TreeTexts.{lone, retexted, revalued}
 use Rattle.xf_rollback.proofs.TreeMoved.{value-root}
@@ -25,7 +26,7 @@ use Rattle.xf_rollback.proofs.TextSteps.{after-nodes}
 use Rattle.xf_rollback.proofs.ValueSteps.{valued-nodes}
 use Rattle.xf_rollback.proofs.JoinSteps.{joins, joined-nodes, detach-once, detach-no_root}
 use Rattle.xf_rollback.proofs.GrowthSteps.{AllRoots, roots-all, new-trees}
-use Rattle.xf_rollback.proofs.Outcomes.{attached-placed, filled-forest}
+use Rattle.xf_rollback.proofs.Outcomes.{attached-placed, set-forest}
 
 -- ---- in trees
 
@@ -104,12 +105,13 @@ none-found n (tree m c k r) h =
 from-trees : (nodes : List Node) (t s : Trees) → nodes ≡ onto 0 t [] → nodes ≡ onto 0 s [] → RootsFirst s → RootsFirst t
 from-trees nodes t s one two h = subst RootsFirst (onto-inj 0 s t [] [] tt tt (sym two ∙ one)).0 h
 
-text-first : (n : ℕ) (text : List ℕ) (k : Keeping) → AreTrees k → IsSettable n k.forest → (s : Stands k) → RootsFirst s.trees → (t : Trees) → (with_text n text k.forest).nodes ≡ onto 0 t [] → RootsFirst t
-text-first n text k sound able s h t nodes =
+text-first : (number more n : ℕ) (text : List ℕ) (k : Keeping) → AreTrees k → IsSettable n k.forest → (s : Stands k) → RootsFirst s.trees
+    → (t : Trees) → with_numbered_text number n text k.forest.nodes ≡ onto 0 t [] → RootsFirst t
+text-first number more n text k sound able s h t nodes =
     elim (cases_Bool (is_attribute_at n k.forest.nodes)) [
-      | inl e ↦ from-trees (with_text n text k.forest).nodes t (revalued n text s.trees) nodes (valued-nodes n text k sound able s e) (first-revalued n text s.trees h)
-      | inr e ↦ from-trees (with_text n text k.forest).nodes t (retexted n (lone (one_text k.forest.next text)) s.trees) nodes (after-nodes n text k sound able s e)
-          (first-retexted n (lone (one_text k.forest.next text)) s.trees h)
+      | inl e ↦ from-trees (with_numbered_text number n text k.forest.nodes) t (revalued n text s.trees) nodes (valued-nodes number more n text k sound able s e) (first-revalued n text s.trees h)
+      | inr e ↦ from-trees (with_numbered_text number n text k.forest.nodes) t (retexted n (lone (one_text number text)) s.trees) nodes (after-nodes number more n text k sound able s e)
+          (first-retexted n (lone (one_text number text)) s.trees h)
     ]
 
 join-first : (n parent given place : ℕ) (k : Keeping) → MayAttach n parent given k.forest → (s : Stands k) → RootsFirst s.trees → (t : Trees) → (placed n parent place k.forest).nodes ≡ onto 0 t [] → RootsFirst t
@@ -133,9 +135,11 @@ growth-first contents k growth after s h t nodes =
 pub rooted : {start : Keeping} {l : Ledger} {k : Keeping} → Made start l k → (t : Trees) → k.forest.nodes ≡ onto 0 t [] → RootsFirst t
 rooted (begun sound empty alone) t nodes = all-first t (roots-all t (subst (λ x. in_detached x ≡ []) nodes alone))
 rooted (noted change m) t nodes = rooted m t nodes
-rooted (texts {l = l} {k = k} limits n text before later m sound able e) t nodes =
+rooted (texts {l = l} {k = k} number more n text m sound able) t nodes =
     let s = stands k sound in
-    text-first n text k sound able s (rooted m s.trees s.nodes) t (ap (λ f. f.nodes) (sym (filled-forest limits n text k before later l.entries l.next e)) ∙ nodes)
+    let after = with_new_text number more n text k in
+    text-first number more n text k sound able s (rooted m s.trees s.nodes) t (ap (λ f. f.nodes) (sym (set-forest n (before_of n k.forest.nodes) l.entries l.next after)) ∙ nodes)
+rooted (passed count m) t nodes = rooted m t nodes
 rooted (joined {k = k} limits n parent place after m sound may e) t nodes =
     let s = stands k sound in
     join-first n parent place (place_of parent place (visits k.forest.nodes) (content_at n k.forest.nodes)) k may s (rooted m s.trees s.nodes) t

@@ -1,6 +1,6 @@
 -- Each change, from what rolling back gives before it to what it gives after it.
 use Rattle.std.proofs.Common.{◌≡◌, ℕ, Bool, true, false, cond, not, List, [], ◌∷◌, refl, ap, subst, inl, inr}
-use Rattle.std.specs.Prelude.{◌⊎◌, ◌≤◌, Some, Ok}
+use Rattle.std.specs.Prelude.{◌⊎◌, ◌≤◌, Some}
 use Rattle.std.proofs.lemmas.Bool.{cases_Bool}
 use Rattle.xf_doc.specs.declared.content.Content.{Content}
 use Rattle.xf_doc.specs.declared.content.Kind.{Kind}
@@ -8,13 +8,12 @@ use Rattle.xf_doc.specs.declared.content.Kind.TheVariants as kind
 use Rattle.xf_doc.specs.Visit.{has, numbers}
 use Rattle.xf_doc.specs.Forest.{is_root, is_element, is_attribute, kind_at, tree_of}
 use Rattle.xf_doc.specs.Changes.{placed, detached, standing}
-use Rattle.xf_doc.specs.Limits.{Limits}
-use Rattle.xf_doc.specs.Texts.{Keeping, Before, element_texts, attribute_text, texts_in, value_in, is_attribute_at, before_of, given_up, put_back, text_set}
+use Rattle.xf_doc.specs.Texts.{Keeping, element_texts, attribute_text, texts_in, value_in, is_attribute_at, before_of, given_up, put_back}
 use Rattle.xf_doc.specs.Needs.{IsSettable, MayAttach, MayDetach, goes_below}
 use Rattle.xf_doc.specs.WellFormed.{AreTrees}
 use Rattle.xf_doc.specs.Undo.{of_text, Ledger, with_note, with_set, is_known, text_filled}
 use Rattle.xf_doc.specs.Undo as undo
-use Rattle.xf_doc.proofs.BackLaws.{after_set}
+use Rattle.xf_rollback.specs.Made.{with_new_text}
 use Rattle.xf_rollback.proofs.Trees.{Trees, onto, times}
 use Rattle.xf_rollback.proofs.TreeShape.{Sound}
 use Rattle.xf_rollback.proofs.TreeMoved.{element-no_attribute}
@@ -22,7 +21,6 @@ use Rattle.xf_rollback.proofs.TreeFacts.{is_at}
 use Rattle.xf_rollback.proofs.KeepingTrees.{Stands, kind-any, attribute-test}
 use Rattle.xf_rollback.proofs.TreeTops.{RootsFirst}
 use Rattle.xf_rollback.proofs.Alike.{Alike, Back}
-use Rattle.xf_rollback.proofs.Outcomes.{unless-ok}
 use Rattle.xf_rollback.proofs.TextSteps.{element-known, element-may, element-alike}
 use Rattle.xf_rollback.proofs.ValueSteps.{attribute-known, attribute-may, attribute-alike}
 use Rattle.xf_rollback.proofs.JoinSteps.{Moves, element-moves, attribute-moves, joins, joined-below, joined-kind, joined-alike}
@@ -38,10 +36,10 @@ use Rattle.xf_rollback.proofs.KnownLemmas.{without_number, cut_known, has-not, h
 abbrev pub Goal : Keeping → List ℕ → Ledger × Keeping → Type 0
 Goal start ns p = (t : Trees) → p.1.forest.nodes ≡ onto 0 t [] → Sound false t → ((n : ℕ) → times n t ≤ 1) → (k2 : Keeping) → Alike ns t p.1 k2 → Back start p.0 k2
 
-module _ (start : Keeping) (l : Ledger) (k : Keeping) (n : ℕ) (text : List ℕ) (sound : AreTrees k) (able : IsSettable n k.forest) (ns : List ℕ)
-    (found : is_known n (after_set n text k) l.entries ≡ true → has n ns ≡ true) (s : Stands k) (back : (k2 : Keeping) → Alike ns s.trees k k2 → Back start l k2) where
+module _ (start : Keeping) (l : Ledger) (k : Keeping) (number more n : ℕ) (text : List ℕ) (sound : AreTrees k) (able : IsSettable n k.forest) (ns : List ℕ)
+    (found : is_known n (with_new_text number more n text k) l.entries ≡ true → has n ns ≡ true) (s : Stands k) (back : (k2 : Keeping) → Alike ns s.trees k k2 → Back start l k2) where
   abbrev after : Keeping
-  after = after_set n text k
+  after = with_new_text number more n text k
 
   element-case : is_attribute_at n k.forest.nodes ≡ false → Goal start (n ∷ ns) (with_set n (element_texts (numbers (texts_in (tree_of n k.forest.nodes)))) l.entries l.next after)
   element-case other = by (is_known n after l.entries) found
@@ -49,10 +47,10 @@ module _ (start : Keeping) (l : Ledger) (k : Keeping) (n : ℕ) (text : List ℕ
       by : (known : Bool) → (known ≡ true → has n ns ≡ true)
           → Goal start (n ∷ ns) (cond known (record { entries = l.entries; next = l.next }, given_up (element_texts (numbers (texts_in (tree_of n k.forest.nodes)))) after)
           (record { entries = undo.set n (element_texts (numbers (texts_in (tree_of n k.forest.nodes)))) ∷ l.entries; next = l.next }, after))
-      by true h t nodes whole once k2 a = back k2 (element-known n text k sound able s other t nodes whole (once n) ns (h refl) k2 a)
+      by true h t nodes whole once k2 a = back k2 (element-known number more n text k sound able s other t nodes whole (once n) ns (h refl) k2 a)
       by false h t nodes whole once k2 a =
-          let r = back (put_back n (element_texts (numbers (texts_in (tree_of n k.forest.nodes)))) k2) (element-alike n text k sound able s other t nodes whole (once n) ns k2 a) in
-          record { changes = (element-may n text k sound able s other t nodes whole (once n) ns k2 a, r.changes); rest = r.rest; same = r.same }
+          let r = back (put_back n (element_texts (numbers (texts_in (tree_of n k.forest.nodes)))) k2) (element-alike number more n text k sound able s other t nodes whole (once n) ns k2 a) in
+          record { changes = (element-may number more n text k sound able s other t nodes whole (once n) ns k2 a, r.changes); rest = r.rest; same = r.same }
 
   attribute-case : is_attribute_at n k.forest.nodes ≡ true → Goal start (n ∷ ns) (with_set n (attribute_text (value_in (tree_of n k.forest.nodes))) l.entries l.next after)
   attribute-case is = by (is_known n after l.entries) found
@@ -60,10 +58,10 @@ module _ (start : Keeping) (l : Ledger) (k : Keeping) (n : ℕ) (text : List ℕ
       by : (known : Bool) → (known ≡ true → has n ns ≡ true)
           → Goal start (n ∷ ns) (cond known (record { entries = l.entries; next = l.next }, given_up (attribute_text (value_in (tree_of n k.forest.nodes))) after)
           (record { entries = undo.set n (attribute_text (value_in (tree_of n k.forest.nodes))) ∷ l.entries; next = l.next }, after))
-      by true h t nodes whole once k2 a = back k2 (attribute-known n text k sound able s is t nodes whole (once n) ns k2 a (h refl))
+      by true h t nodes whole once k2 a = back k2 (attribute-known number more n text k sound able s is t nodes whole (once n) ns k2 a (h refl))
       by false h t nodes whole once k2 a =
-          let r = back (put_back n (attribute_text (value_in (tree_of n k.forest.nodes))) k2) (attribute-alike n text k sound able s is t nodes whole (once n) ns k2 a) in
-          record { changes = (attribute-may n text k sound able s is t nodes whole (once n) ns k2 a, r.changes); rest = r.rest; same = r.same }
+          let r = back (put_back n (attribute_text (value_in (tree_of n k.forest.nodes))) k2) (attribute-alike number more n text k sound able s is t nodes whole (once n) ns k2 a) in
+          record { changes = (attribute-may number more n text k sound able s is t nodes whole (once n) ns k2 a, r.changes); rest = r.rest; same = r.same }
 
   set-case : Goal start (n ∷ ns) (with_set n (before_of n k.forest.nodes) l.entries l.next after)
   set-case =
@@ -78,10 +76,8 @@ module _ (start : Keeping) (l : Ledger) (k : Keeping) (n : ℕ) (text : List ℕ
       had_texts : is_attribute_at n k.forest.nodes ≡ false → element_texts (numbers (texts_in (tree_of n k.forest.nodes))) ≡ before_of n k.forest.nodes
       had_texts e = rw e refl
 
-  pub text-case : (limits : Limits) (before : Before) (later : Keeping) → text_set limits n text k ≡ Ok (before, later)
-      → Goal start (n ∷ ns) (text_filled before (with_note (of_text n) l) later)
-  text-case limits before later e =
-      subst (λ (w : Before × Keeping). Goal start (n ∷ ns) (with_set n w.0 l.entries l.next w.1)) (unless-ok _ (before_of n k.forest.nodes, after) (before, later) e) set-case
+  pub text-case : Goal start (n ∷ ns) (text_filled (before_of n k.forest.nodes) (with_note (of_text n) l) after)
+  text-case = set-case
 
 -- ---- a tree that was attached
 

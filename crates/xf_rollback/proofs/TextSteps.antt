@@ -9,11 +9,14 @@ use Rattle.xf_doc.specs.declared.content.Kind.TheVariants as kind
 use Rattle.xf_doc.specs.Forest.{is_element, is_attribute, own_text, kind_at, tree_of}
 use Rattle.xf_doc.specs.Visit.{has, numbers, visits}
 use Rattle.xf_doc.specs.Shape.{has_elements}
-use Rattle.xf_doc.specs.Texts.{Keeping, KeptText, element_texts, one_text, with_texts, is_attribute_at, texts_in, kept_from, before_of, taken_from, with_text, put_back, given_up, is_of, without, back}
+use Rattle.xf_doc.specs.Texts.{Keeping, KeptText, element_texts, one_text, with_texts, is_attribute_at, texts_in, kept_from, before_of, taken_from, put_back, given_up, is_of, without, back}
 use Rattle.xf_doc.specs.Needs.{IsSettable, MayPutBack, are_kept_of}
 use Rattle.xf_doc.specs.WellFormed.{AreTrees, are_first}
 use Rattle.xf_doc.proofs.RunLemmas.{IsLeafAt}
-use Rattle.xf_doc.proofs.BackLaws.{HasText, after_set, put_back-after_set, outside-all, false-true, and-true, one_number}
+use Rattle.xf_doc.specs.Settle.{with_numbered_text}
+use Rattle.xf_doc.proofs.SettleLaws.{put_back-after_numbered}
+use Rattle.xf_doc.proofs.BackLaws.{HasText, outside-all, false-true, and-true, one_number}
+use Rattle.xf_rollback.specs.Made.{with_new_text}
 use Rattle.xf_rollback.proofs.Trees.{Trees, none, tree, onto, followed, times, times-followed, onto-inj}
 use Rattle.xf_rollback.proofs.TreeTexts.{lone, attributes, retexted, texts-onto, retexted-absent}
 use Rattle.xf_rollback.proofs.TreeVisits.{elements, elements-are}
@@ -76,12 +79,12 @@ is-old n k s h =
       | inr e ↦ let ge : k.forest.next ≤ n = grind (arith, nat_tests, e) in let z = s.old n ge in let no : ⊥ = omega (arith, z, h) in absurd no
     ]
 
-module _ (n : ℕ) (text : List ℕ) (k : Keeping) (sound : AreTrees k) (able : IsSettable n k.forest) (s : Stands k) (other : is_attribute_at n k.forest.nodes ≡ false) where
+module _ (number more n : ℕ) (text : List ℕ) (k : Keeping) (sound : AreTrees k) (able : IsSettable n k.forest) (s : Stands k) (other : is_attribute_at n k.forest.nodes ≡ false) where
   abbrev texts : List Node
   texts = texts_in (tree_of n k.forest.nodes)
 
   abbrev new : List Node
-  new = one_text k.forest.next text
+  new = one_text number text
 
   is-element : kind_at n k.forest.nodes ≡ Some kind.Element
   is-element = by able.kind
@@ -105,7 +108,7 @@ module _ (n : ℕ) (text : List ℕ) (k : Keeping) (sound : AreTrees k) (able : 
   element-leaf : LeafAt n s.trees
   element-leaf = leaf-of n false false s.trees s.sound (let b = s.once n in omega (arith, b)) element-at element-none
 
-  pub after-nodes : (with_text n text k.forest).nodes ≡ onto 0 (retexted n (lone new) s.trees) []
+  pub after-nodes : with_numbered_text number n text k.forest.nodes ≡ onto 0 (retexted n (lone new) s.trees) []
   after-nodes = rw other (ap (with_texts n new) s.nodes ∙ texts-onto n new 0 s.trees [] element-once (bare-leaf n s.trees element-leaf) tt)
 
   before-is : before_of n k.forest.nodes ≡ element_texts (numbers texts)
@@ -117,11 +120,11 @@ module _ (n : ℕ) (text : List ℕ) (k : Keeping) (sound : AreTrees k) (able : 
   has_texts : HasText n k.forest.nodes
   has_texts = inr (other, subst (IsLeafAt n) (sym s.nodes) (leaf-onto n 0 s.trees [] element-leaf (ordered-onto 0 s.trees [] (subst (λ l. are_first l ≡ true) s.nodes sound.first)) tt tt))
 
-  undone-is : put_back n (element_texts (numbers texts)) (after_set n text k) ≡ record k { forest = record k.forest { next = (with_text n text k.forest).next } }
-  undone-is = subst (λ b. put_back n b (after_set n text k) ≡ record k { forest = record k.forest { next = (with_text n text k.forest).next } }) before-is
-      (put_back-after_set n text k sound.apart (outside-all k.forest.nodes k.kept sound.kept_outside) has_texts)
+  undone-is : put_back n (element_texts (numbers texts)) (with_new_text number more n text k) ≡ record k { forest = record k.forest { next = (k.forest.next + more) } }
+  undone-is = subst (λ b. put_back n b (with_new_text number more n text k) ≡ record k { forest = record k.forest { next = (k.forest.next + more) } }) before-is
+      (put_back-after_numbered number more n text k sound.apart (outside-all k.forest.nodes k.kept sound.kept_outside) has_texts)
 
-  module _ (t : Trees) (nodes : (with_text n text k.forest).nodes ≡ onto 0 t []) (sound_after : Sound false t) (once_after : times n t ≤ 1) (ns : List ℕ) where
+  module _ (t : Trees) (nodes : with_numbered_text number n text k.forest.nodes ≡ onto 0 t []) (sound_after : Sound false t) (once_after : times n t ≤ 1) (ns : List ℕ) where
     after-is : t ≡ retexted n (lone new) s.trees
     after-is = (onto-inj 0 t (retexted n (lone new) s.trees) [] [] tt tt (sym nodes ∙ after-nodes)).0
 
@@ -129,76 +132,76 @@ module _ (n : ℕ) (text : List ℕ) (k : Keeping) (sound : AreTrees k) (able : 
     after-at = ap (is_at is_element n) after-is ∙ at-retexted n (lone new) s.trees element-leaf element-at
 
     after-none : elements false n t ≡ false
-    after-none = ap (elements false n) after-is ∙ elements-retexted false n (lone new) s.trees (one_text-texts k.forest.next text) element-leaf element-none
+    after-none = ap (elements false n) after-is ∙ elements-retexted false n (lone new) s.trees (one_text-texts number text) element-leaf element-none
 
     after-leaf : LeafAt n t
     after-leaf = leaf-of n false false t sound_after once_after after-at after-none
 
     -- the forest before is alike where the texts do not count
-    pub element-known : has n ns ≡ true → (k2 : Keeping) → Alike (n ∷ ns) t (given_up (element_texts (numbers texts)) (after_set n text k)) k2 → Alike ns s.trees k k2
+    pub element-known : has n ns ≡ true → (k2 : Keeping) → Alike (n ∷ ns) t (given_up (element_texts (numbers texts)) (with_new_text number more n text k)) k2 → Alike ns s.trees k k2
     element-known within k2 a = record {
       later = a.later;
       extra = a.extra;
       nodes = a.nodes;
       kept = a.kept ∙ kept-is;
       next = let h = a.next in omega (arith, h);
-      fresh = fresh-less k.forest.next (with_text n text k.forest).next a.extra (omega arith) a.fresh;
+      fresh = fresh-less k.forest.next (k.forest.next + more) a.extra (omega arith) a.fresh;
       new_sound = a.new_sound;
       sound = a.sound;
       first = a.first;
       once = λ p. subst (λ l. times p a.later + kept_times p l ≤ 1) kept-is (a.once p);
       like =
-          subst (λ x. Moved x (blank ns a.later)) (blank-followed ns t a.extra ∙ ap (λ x. followed x (blank ns a.extra)) (ap (blank ns) after-is ∙ retexted-within n (lone new) ns s.trees within (one_text-texts k.forest.next text) element-leaf) ∙ sym (blank-followed ns s.trees a.extra))
-          (moved-more (n ∷ ns) ns more (followed t a.extra) a.later a.like);
+          subst (λ x. Moved x (blank ns a.later)) (blank-followed ns t a.extra ∙ ap (λ x. followed x (blank ns a.extra)) (ap (blank ns) after-is ∙ retexted-within n (lone new) ns s.trees within (one_text-texts number text) element-leaf) ∙ sym (blank-followed ns s.trees a.extra))
+          (moved-more (n ∷ ns) ns wider (followed t a.extra) a.later a.like);
     }
       where
-        kept-is : without (numbers texts) (after_set n text k).kept ≡ k.kept
+        kept-is : without (numbers texts) (with_new_text number more n text k).kept ≡ k.kept
         kept-is = ap (λ x. x.kept) undone-is
 
-        more : (m : ℕ) → has m (n ∷ ns) ≡ true → has m ns ≡ true
-        more m h = elim (cases_Bool (m == n)) [ inl p ↦ subst (λ x. has x ns ≡ true) (sym (one_number m n p)) within | inr p ↦ (rw p at h) ]
+        wider : (m : ℕ) → has m (n ∷ ns) ≡ true → has m ns ≡ true
+        wider m h = elim (cases_Bool (m == n)) [ inl p ↦ subst (λ x. has x ns ≡ true) (sym (one_number m n p)) within | inr p ↦ (rw p at h) ]
 
     -- what was before is put back
-    module _ (k2 : Keeping) (a : Alike (n ∷ ns) t (after_set n text k) k2) where
+    module _ (k2 : Keeping) (a : Alike (n ∷ ns) t (with_new_text number more n text k) k2) where
       abbrev came : Trees
-      came = lone (back (filter (is_of (numbers texts)) (after_set n text k).kept))
+      came = lone (back (filter (is_of (numbers texts)) (with_new_text number more n text k).kept))
 
-      after-old : n < (with_text n text k.forest).next
+      after-old : n < (k.forest.next + more)
       after-old = let h = element-old in omega (arith, h)
 
       came-is : retexted n came t ≡ s.trees
       came-is =
           (onto-inj 0 (retexted n came t) s.trees [] [] tt tt
-          (sym (texts-onto n (back (filter (is_of (numbers texts)) (after_set n text k).kept)) 0 t [] (let x = at-times is_element n t after-at in omega (arith, x, once_after)) (bare-leaf n t after-leaf) tt)
-          ∙ ap (with_texts n (back (filter (is_of (numbers texts)) (after_set n text k).kept))) (sym nodes)
+          (sym (texts-onto n (back (filter (is_of (numbers texts)) (with_new_text number more n text k).kept)) 0 t [] (let x = at-times is_element n t after-at in omega (arith, x, once_after)) (bare-leaf n t after-leaf) tt)
+          ∙ ap (with_texts n (back (filter (is_of (numbers texts)) (with_new_text number more n text k).kept))) (sym nodes)
           ∙ ap (λ x. x.forest.nodes) undone-is ∙ s.nodes)).0
 
       again-at : is_at is_element n a.later ≡ true
-      again-at = later-at n (n ∷ ns) t (after_set n text k) k2 sound_after a after-old is_element (blind-element n) ∙ after-at
+      again-at = later-at n (n ∷ ns) t (with_new_text number more n text k) k2 sound_after a after-old is_element (blind-element n) ∙ after-at
 
       again-once : times n a.later ≤ 1
-      again-once = later-once n (n ∷ ns) t (after_set n text k) k2 sound_after a after-old
+      again-once = later-once n (n ∷ ns) t (with_new_text number more n text k) k2 sound_after a after-old
 
       again-leaf : LeafAt n a.later
-      again-leaf = leaf-of n false false a.later a.sound again-once again-at (later-elements n (n ∷ ns) t (after_set n text k) k2 sound_after a after-old ∙ after-none)
+      again-leaf = leaf-of n false false a.later a.sound again-once again-at (later-elements n (n ∷ ns) t (with_new_text number more n text k) k2 sound_after a after-old ∙ after-none)
 
       came-absent : times n a.extra ≡ 0
-      came-absent = extra-absent n (n ∷ ns) t (after_set n text k) k2 sound_after a after-old
+      came-absent = extra-absent n (n ∷ ns) t (with_new_text number more n text k) k2 sound_after a after-old
 
       pub element-may : MayPutBack n (element_texts (numbers texts)) k2
       element-may = record {
         fits = (
-          later-kind n (n ∷ ns) t (after_set n text k) k2 sound_after a after-old kind.Element is_element element-test (blind-element n) after-at,
+          later-kind n (n ∷ ns) t (with_new_text number more n text k) k2 sound_after a after-old kind.Element is_element element-test (blind-element n) after-at,
           subst (λ l. are_kept_of n (numbers texts) l ≡ true) (sym (a.kept ∙ ap (λ l. k.kept ++ l) taken-is)) (are_kept-more n (numbers texts) k.kept (kept_from n texts) (own-kept n texts)),
         );
-        childless = later-childless n (n ∷ ns) t (after_set n text k) k2 sound_after a after-old after-none;
+        childless = later-childless n (n ∷ ns) t (with_new_text number more n text k) k2 sound_after a after-old after-none;
       }
 
       back-once : (p : ℕ) → times p (retexted n came a.later) + kept_times p k.kept ≤ 1
       back-once p =
           let one = retexted-times p n came a.later again-once in
-          let two = back-times p (numbers texts) (after_set n text k).kept in
-          let left : kept_times p (without (numbers texts) (after_set n text k).kept) ≡ kept_times p k.kept = ap (λ x. kept_times p x.kept) undone-is in
+          let two = back-times p (numbers texts) (with_new_text number more n text k).kept in
+          let left : kept_times p (without (numbers texts) (with_new_text number more n text k).kept) ≡ kept_times p k.kept = ap (λ x. kept_times p x.kept) undone-is in
           let all = a.once p in
           omega (arith, one, two, left, all)
 
@@ -208,20 +211,20 @@ module _ (n : ℕ) (text : List ℕ) (k : Keeping) (sound : AreTrees k) (able : 
         extra = a.extra;
         nodes =
             ap (λ l. with_texts n (back (filter (is_of (numbers texts)) l)) k2.forest.nodes) a.kept
-            ∙ ap (with_texts n (back (filter (is_of (numbers texts)) (after_set n text k).kept))) a.nodes
-            ∙ texts-onto n (back (filter (is_of (numbers texts)) (after_set n text k).kept)) 0 a.later []
+            ∙ ap (with_texts n (back (filter (is_of (numbers texts)) (with_new_text number more n text k).kept))) a.nodes
+            ∙ texts-onto n (back (filter (is_of (numbers texts)) (with_new_text number more n text k).kept)) 0 a.later []
             (let x = at-times is_element n a.later again-at in let y = again-once in omega (arith, x, y)) (bare-leaf n a.later again-leaf) tt;
         kept = ap (without (numbers texts)) a.kept ∙ ap (λ x. x.kept) undone-is;
         next = let h = a.next in omega (arith, h);
-        fresh = fresh-less k.forest.next (with_text n text k.forest).next a.extra (omega arith) a.fresh;
+        fresh = fresh-less k.forest.next (k.forest.next + more) a.extra (omega arith) a.fresh;
         new_sound = a.new_sound;
-        sound = sound-retexted false n came a.later (back-texts (filter (is_of (numbers texts)) (after_set n text k).kept)) again-leaf a.sound;
-        first = ordered-retexted n came a.later (back-texts (filter (is_of (numbers texts)) (after_set n text k).kept)) a.first;
+        sound = sound-retexted false n came a.later (back-texts (filter (is_of (numbers texts)) (with_new_text number more n text k).kept)) again-leaf a.sound;
+        first = ordered-retexted n came a.later (back-texts (filter (is_of (numbers texts)) (with_new_text number more n text k).kept)) a.first;
         once = back-once;
         like =
             subst (λ x. Moved (blank ns x) (blank ns (retexted n came a.later)))
             (retexted-followed n came t a.extra ∙ ap (λ x. followed x (retexted n came a.extra)) came-is ∙ ap (followed s.trees) (retexted-absent n came a.extra came-absent))
-            (retexted-alike n came ns (followed t a.extra) a.later (back-texts (filter (is_of (numbers texts)) (after_set n text k).kept))
+            (retexted-alike n came ns (followed t a.extra) a.later (back-texts (filter (is_of (numbers texts)) (with_new_text number more n text k).kept))
             (let x = times-followed n t a.extra in let y = came-absent in omega (arith, x, y, once_after)) again-once
             (leaf-followed n t a.extra after-leaf (leaf-absent n a.extra came-absent)) again-leaf a.like);
       }

@@ -6,10 +6,13 @@ use Rattle.xf_doc.specs.declared.content.Kind.TheVariants as kind
 use Rattle.xf_doc.specs.Forest.{is_element, is_attribute, tree_of}
 use Rattle.xf_doc.specs.Visit.{has, visits}
 use Rattle.xf_doc.specs.Shape.{has_elements}
-use Rattle.xf_doc.specs.Texts.{Keeping, attribute_text, with_value, with_attribute_text, is_attribute_at, value_in, before_of, taken_from, with_text, put_back}
+use Rattle.xf_doc.specs.Texts.{Keeping, attribute_text, with_value, with_attribute_text, is_attribute_at, value_in, before_of, taken_from, put_back}
 use Rattle.xf_doc.specs.Needs.{IsSettable, MayPutBack}
 use Rattle.xf_doc.specs.WellFormed.{AreTrees}
-use Rattle.xf_doc.proofs.BackLaws.{after_set, put_back-after_set, outside-all, one_number}
+use Rattle.xf_doc.specs.Settle.{with_numbered_text}
+use Rattle.xf_doc.proofs.SettleLaws.{put_back-after_numbered}
+use Rattle.xf_doc.proofs.BackLaws.{outside-all, one_number}
+use Rattle.xf_rollback.specs.Made.{with_new_text}
 use Rattle.xf_rollback.proofs.Trees.{Trees, none, tree, onto, followed, times, times-followed, onto-inj}
 use Rattle.xf_rollback.proofs.TreeTexts.{revalued, valued-onto, times-split}
 use Rattle.xf_rollback.proofs.TreeVisits.{elements, elements-are}
@@ -56,7 +59,7 @@ elements-revalued u n text (tree m c k r) =
     by true = value-element text c
     by false = refl
 
-module _ (n : ℕ) (text : List ℕ) (k : Keeping) (sound : AreTrees k) (able : IsSettable n k.forest) (s : Stands k) (is : is_attribute_at n k.forest.nodes ≡ true) where
+module _ (number more n : ℕ) (text : List ℕ) (k : Keeping) (sound : AreTrees k) (able : IsSettable n k.forest) (s : Stands k) (is : is_attribute_at n k.forest.nodes ≡ true) where
   abbrev value : List ℕ
   value = value_in (tree_of n k.forest.nodes)
 
@@ -69,7 +72,7 @@ module _ (n : ℕ) (text : List ℕ) (k : Keeping) (sound : AreTrees k) (able : 
   attribute-childless : elements false n s.trees ≡ false
   attribute-childless = sym (elements-are n s.trees) ∙ ap (λ l. has_elements (visits l) n) (sym s.nodes) ∙ able.childless
 
-  pub valued-nodes : (with_text n text k.forest).nodes ≡ onto 0 (revalued n text s.trees) []
+  pub valued-nodes : with_numbered_text number n text k.forest.nodes ≡ onto 0 (revalued n text s.trees) []
   valued-nodes = rw is (ap (with_attribute_text n text) s.nodes ∙ valued-onto n text 0 s.trees [])
 
   value-is : before_of n k.forest.nodes ≡ attribute_text value
@@ -81,12 +84,12 @@ module _ (n : ℕ) (text : List ℕ) (k : Keeping) (sound : AreTrees k) (able : 
   kept-same : k.kept ++ taken_from n k.forest.nodes ≡ k.kept
   kept-same = ap (λ l. k.kept ++ l) none-taken ∙ append-nil k.kept
 
-  unvalued-is : put_back n (attribute_text value) (after_set n text k) ≡ record k { forest = record k.forest { next = (with_text n text k.forest).next } }
-  unvalued-is = subst (λ b. put_back n b (after_set n text k) ≡ record k { forest = record k.forest { next = (with_text n text k.forest).next } }) value-is
-      (put_back-after_set n text k sound.apart (outside-all k.forest.nodes k.kept sound.kept_outside) (inl is))
+  unvalued-is : put_back n (attribute_text value) (with_new_text number more n text k) ≡ record k { forest = record k.forest { next = (k.forest.next + more) } }
+  unvalued-is = subst (λ b. put_back n b (with_new_text number more n text k) ≡ record k { forest = record k.forest { next = (k.forest.next + more) } }) value-is
+      (put_back-after_numbered number more n text k sound.apart (outside-all k.forest.nodes k.kept sound.kept_outside) (inl is))
 
-  module _ (t : Trees) (nodes : (with_text n text k.forest).nodes ≡ onto 0 t []) (sound_after : Sound false t) (once_after : times n t ≤ 1) (ns : List ℕ)
-      (k2 : Keeping) (a : Alike (n ∷ ns) t (after_set n text k) k2) where
+  module _ (t : Trees) (nodes : with_numbered_text number n text k.forest.nodes ≡ onto 0 t []) (sound_after : Sound false t) (once_after : times n t ≤ 1) (ns : List ℕ)
+      (k2 : Keeping) (a : Alike (n ∷ ns) t (with_new_text number more n text k) k2) where
     valued-is : t ≡ revalued n text s.trees
     valued-is = (onto-inj 0 t (revalued n text s.trees) [] [] tt tt (sym nodes ∙ valued-nodes)).0
 
@@ -96,7 +99,7 @@ module _ (n : ℕ) (text : List ℕ) (k : Keeping) (sound : AreTrees k) (able : 
     valued-none : elements false n t ≡ false
     valued-none = ap (elements false n) valued-is ∙ elements-revalued false n text s.trees ∙ attribute-childless
 
-    valued-old : n < (with_text n text k.forest).next
+    valued-old : n < (k.forest.next + more)
     valued-old = let h = attribute-old in omega (arith, h)
 
     value-back : revalued n value t ≡ s.trees
@@ -105,13 +108,13 @@ module _ (n : ℕ) (text : List ℕ) (k : Keeping) (sound : AreTrees k) (able : 
         (sym (valued-onto n value 0 t []) ∙ ap (with_attribute_text n value) (sym nodes) ∙ ap (λ x. x.forest.nodes) unvalued-is ∙ s.nodes)).0
 
     later-attribute : is_at is_attribute n a.later ≡ true
-    later-attribute = later-at n (n ∷ ns) t (after_set n text k) k2 sound_after a valued-old is_attribute (blind-attribute n) ∙ valued-at
+    later-attribute = later-at n (n ∷ ns) t (with_new_text number more n text k) k2 sound_after a valued-old is_attribute (blind-attribute n) ∙ valued-at
 
     value-absent : times n a.extra ≡ 0
-    value-absent = extra-absent n (n ∷ ns) t (after_set n text k) k2 sound_after a valued-old
+    value-absent = extra-absent n (n ∷ ns) t (with_new_text number more n text k) k2 sound_after a valued-old
 
     value-once : times n a.later ≤ 1
-    value-once = later-once n (n ∷ ns) t (after_set n text k) k2 sound_after a valued-old
+    value-once = later-once n (n ∷ ns) t (with_new_text number more n text k) k2 sound_after a valued-old
 
     attribute-there : AttributeAt n (followed t a.extra)
     attribute-there = attribute-of n false (followed t a.extra) (sound-followed false t a.extra sound_after a.new_sound)
@@ -125,23 +128,23 @@ module _ (n : ℕ) (text : List ℕ) (k : Keeping) (sound : AreTrees k) (able : 
       nodes = a.nodes;
       kept = a.kept ∙ kept-same;
       next = let h = a.next in omega (arith, h);
-      fresh = fresh-less k.forest.next (with_text n text k.forest).next a.extra (omega arith) a.fresh;
+      fresh = fresh-less k.forest.next (k.forest.next + more) a.extra (omega arith) a.fresh;
       new_sound = a.new_sound;
       sound = a.sound;
       first = a.first;
       once = λ p. subst (λ l. times p a.later + kept_times p l ≤ 1) kept-same (a.once p);
       like =
           subst (λ x. Moved x (blank ns a.later)) (blank-followed ns t a.extra ∙ ap (λ x. followed x (blank ns a.extra)) (ap (blank ns) valued-is ∙ revalued-within n text ns s.trees within) ∙ sym (blank-followed ns s.trees a.extra))
-          (moved-more (n ∷ ns) ns more (followed t a.extra) a.later a.like);
+          (moved-more (n ∷ ns) ns wider (followed t a.extra) a.later a.like);
     }
       where
-        more : (m : ℕ) → has m (n ∷ ns) ≡ true → has m ns ≡ true
-        more m h = elim (cases_Bool (m == n)) [ inl p ↦ subst (λ x. has x ns ≡ true) (sym (one_number m n p)) within | inr p ↦ (rw p at h) ]
+        wider : (m : ℕ) → has m (n ∷ ns) ≡ true → has m ns ≡ true
+        wider m h = elim (cases_Bool (m == n)) [ inl p ↦ subst (λ x. has x ns ≡ true) (sym (one_number m n p)) within | inr p ↦ (rw p at h) ]
 
     pub attribute-may : MayPutBack n (attribute_text value) k2
     attribute-may = record {
-      fits = later-kind n (n ∷ ns) t (after_set n text k) k2 sound_after a valued-old kind.Attribute is_attribute attribute-test (blind-attribute n) valued-at;
-      childless = later-childless n (n ∷ ns) t (after_set n text k) k2 sound_after a valued-old valued-none;
+      fits = later-kind n (n ∷ ns) t (with_new_text number more n text k) k2 sound_after a valued-old kind.Attribute is_attribute attribute-test (blind-attribute n) valued-at;
+      childless = later-childless n (n ∷ ns) t (with_new_text number more n text k) k2 sound_after a valued-old valued-none;
     }
 
     pub attribute-alike : Alike ns s.trees k (put_back n (attribute_text value) k2)
@@ -151,7 +154,7 @@ module _ (n : ℕ) (text : List ℕ) (k : Keeping) (sound : AreTrees k) (able : 
       nodes = ap (with_attribute_text n value) a.nodes ∙ valued-onto n value 0 a.later [];
       kept = a.kept ∙ kept-same;
       next = let h = a.next in omega (arith, h);
-      fresh = fresh-less k.forest.next (with_text n text k.forest).next a.extra (omega arith) a.fresh;
+      fresh = fresh-less k.forest.next (k.forest.next + more) a.extra (omega arith) a.fresh;
       new_sound = a.new_sound;
       sound = sound-revalued false n value a.later a.sound;
       first = ordered-revalued n value a.later a.first;

@@ -6,7 +6,8 @@ use Rattle.xf_doc.specs.Forest.{Forest, is_root}
 use Rattle.xf_doc.specs.Limits.{Limits}
 use Rattle.xf_doc.specs.Plant.{numbered_from}
 use Rattle.xf_doc.specs.Changes.{attached, detached, standing, in_detached}
-use Rattle.xf_doc.specs.Texts.{Keeping, Before, text_set}
+use Rattle.xf_doc.specs.Texts.{Keeping, before_of, taken_from}
+use Rattle.xf_doc.specs.Settle.{reserved, with_numbered_text}
 use Rattle.xf_doc.specs.Needs.{IsSettable, MayAttach, MayDetach}
 use Rattle.xf_doc.specs.WellFormed.{AreTrees}
 use Rattle.xf_doc.specs.Undo.{Change, of_text, of_attach, of_detach, Ledger, kept_at, with_note, text_filled, attach_filled, place_filled}
@@ -25,14 +26,24 @@ pub record IsGrowth (contents : List (ℕ × Content)) : Type 0 where
 abbrev pub with_growth : List (ℕ × Content) → Keeping → Keeping
 with_growth contents k = record k { forest = record { nodes = k.forest.nodes ++ numbered_from k.forest.next contents; next = k.forest.next + length contents } }
 
+-- with a text at a node, which has this number where it is an element's; so many numbers are passed over
+abbrev pub with_new_text : ℕ → ℕ → ℕ → List ℕ → Keeping → Keeping
+with_new_text number more n text k = record {
+  forest = record { nodes = with_numbered_text number n text k.forest.nodes; next = k.forest.next + more };
+  kept = k.kept ++ taken_from n k.forest.nodes;
+}
+
 -- from the forest that was kept, the ledger as it stands and the forest as it stands
 pub data Made (start : Keeping) : Ledger → Keeping → Type 0 where
   begun : AreTrees start → start.kept ≡ [] → in_detached start.forest.nodes ≡ [] → Made start (kept_at start.forest) start
   -- a change that was noted, and not made
   noted : {l : Ledger} {k : Keeping} → (change : Change) → Made start l k → Made start (with_note change l) k
-  texts : {l : Ledger} {k : Keeping} → (limits : Limits) (n : ℕ) (text : List ℕ) (before : Before) (after : Keeping)
-      → Made start l k → AreTrees k → IsSettable n k.forest → text_set limits n text k ≡ Ok (before, after)
-      → Made start (text_filled before (with_note (of_text n) l) after).0 (text_filled before (with_note (of_text n) l) after).1
+  -- a text that was set, whatever number it has
+  texts : {l : Ledger} {k : Keeping} → (number more n : ℕ) (text : List ℕ) → Made start l k → AreTrees k → IsSettable n k.forest
+      → Made start (text_filled (before_of n k.forest.nodes) (with_note (of_text n) l) (with_new_text number more n text k)).0
+      (text_filled (before_of n k.forest.nodes) (with_note (of_text n) l) (with_new_text number more n text k)).1
+  -- so many numbers that were reserved
+  passed : {l : Ledger} {k : Keeping} → (count : ℕ) → Made start l k → Made start l (record k { forest = reserved count k.forest })
   joined : {l : Ledger} {k : Keeping} → (limits : Limits) (n parent place : ℕ) (after : Forest)
       → Made start l k → AreTrees k → MayAttach n parent place k.forest → attached limits n parent place k.forest ≡ Ok after
       → Made start (attach_filled (with_note (of_attach n) l)) (record k { forest = after })

@@ -14,7 +14,7 @@ use xf_name::Axis;
 use xf_tree::Forest;
 
 /// The nodes are those of trees, and their numbers are not those of texts. This tells contracts so, and does nothing.
-pub(crate) fn is_sound(forest: &Forest)
+pub fn is_sound(forest: &Forest)
     ensures { Sound forest.now.forest }
 {
     forest.are_trees();
@@ -53,7 +53,7 @@ pub(crate) fn is_element(forest: &Forest, node: NodeId) -> bool
 }
 
 /// Whether the node has a list of attributes and children: a root or an element.
-pub(crate) fn has_list(forest: &Forest, node: NodeId) -> bool
+pub fn has_list(forest: &Forest, node: NodeId) -> bool
     ensures { result ≡ has_list_in (content_at node.number forest.now.forest.nodes) }
 {
     match forest.content(node) {
@@ -83,7 +83,7 @@ pub(crate) fn stands(forest: &Forest, node: NodeId) -> bool
 }
 
 /// Whether the node is a text.
-pub(crate) fn is_text(forest: &Forest, node: NodeId) -> bool
+pub fn is_text(forest: &Forest, node: NodeId) -> bool
     ensures { result ≡ is_text_in (content_at node.number forest.now.forest.nodes) }
 {
     match forest.content(node) {
@@ -104,7 +104,7 @@ fn is_beside(forest: &Forest, node: NodeId) -> bool
 }
 
 /// The node as one of the shape, or as a text that the shape does not have.
-pub(crate) fn entered(forest: &Forest, node: NodeId) -> Spot
+pub fn entered(forest: &Forest, node: NodeId) -> Spot
     requires { IsLive node.number forest.now.forest }
     ensures number { number_at result ≡ node.number }
     ensures spot { is_spot forest.now.forest.nodes result ≡ true }

@@ -10,5 +10,10 @@ mod spot;
 mod steps;
 mod walk;
 
-pub use nodes::selected;
+pub use leaf::{entered, has_list, is_sound, is_text};
+pub use nodes::{alone, document, selected};
+pub use order::in_order;
+pub use predicates::kept_by_all;
 pub use spot::Spot;
+pub use steps::{all_below, begun, taken};
+pub use walk::is_kind;

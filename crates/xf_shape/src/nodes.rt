@@ -229,11 +229,7 @@ fn call_nodes<A: Around>(
 }
 
 /// The document element of the instance that a literal names: the first where none is written.
-pub(crate) fn document<A: Around>(
-    around: &A,
-    arguments: &[Expr],
-    context: &Context,
-) -> Option<NodeId>
+pub fn document<A: Around>(around: &A, arguments: &[Expr], context: &Context) -> Option<NodeId>
     ensures value { IsDocument (A.given around.now) arguments.now context.now.model (option_map (λ n. n.number) result) }
     ensures live { (nodes : List Node) → AroundStands (A.given around.now) nodes → AllLive (as_list (option_map (λ n. n.number) result)) nodes }
 {
@@ -245,11 +241,7 @@ pub(crate) fn document<A: Around>(
 }
 
 /// The node alone, where there is one.
-pub(crate) fn alone(
-    alloc: Global,
-    forest: &Forest,
-    node: Option<NodeId>,
-) -> Result<Vec<Spot>, AllocError>
+pub fn alone(alloc: Global, forest: &Forest, node: Option<NodeId>) -> Result<Vec<Spot>, AllocError>
     requires { AllLive (as_list (option_map (λ n. n.number) node)) forest.now.forest.nodes }
     ensures value { IfOk result (λ spots. numbers_at spots.items ≡ as_list (option_map (λ n. n.number) node)) }
     ensures spots { IfOk result (λ spots. AreSpots forest.now.forest.nodes spots.items) }

@@ -16,11 +16,7 @@ use xf_doc::{Content, NodeId, NodeList};
 use xf_tree::Forest;
 
 /// Nodes of the shape in document order, each once.
-pub(crate) fn in_order(
-    alloc: Global,
-    forest: &Forest,
-    spots: &[Spot],
-) -> Result<Vec<Spot>, AllocError>
+pub fn in_order(alloc: Global, forest: &Forest, spots: &[Spot]) -> Result<Vec<Spot>, AllocError>
     requires { AreSpots forest.now.forest.nodes spots.now }
     ensures value { IfOk result (λ found. numbers_at found.items ≡ in_order (shaped forest.now.forest.nodes) (numbers_at spots.now)) }
     ensures spots { IfOk result (λ found. AreSpots forest.now.forest.nodes found.items) }

@@ -19,7 +19,7 @@ use xf_lang::Context;
 use xf_tree::Forest;
 
 /// The nodes that all predicates keep, each asked of those that the one before left.
-pub(crate) fn kept_by_all<A: Around>(
+pub fn kept_by_all<A: Around>(
     alloc: Global,
     forest: &Forest,
     around: &A,

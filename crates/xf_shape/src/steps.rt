@@ -76,11 +76,7 @@ fn stepped<A: Around>(
 }
 
 /// All from these nodes down, where a step behind `//` begins.
-pub(crate) fn all_below(
-    alloc: Global,
-    forest: &Forest,
-    from: &[Spot],
-) -> Result<Vec<Spot>, AllocError>
+pub fn all_below(alloc: Global, forest: &Forest, from: &[Spot]) -> Result<Vec<Spot>, AllocError>
     requires { AreSpots forest.now.forest.nodes from.now }
     ensures value { IfOk result (λ found. numbers_at found.items ≡ begun_at true (shaped forest.now.forest.nodes) (numbers_at from.now)) }
     ensures spots { IfOk result (λ found. AreSpots forest.now.forest.nodes found.items) }
@@ -94,7 +90,7 @@ pub(crate) fn all_below(
 }
 
 /// What the axis, the test and the predicates of a step select from each of these nodes, in document order, each once.
-pub(crate) fn taken<A: Around>(
+pub fn taken<A: Around>(
     alloc: Global,
     forest: &Forest,
     around: &A,
@@ -142,7 +138,7 @@ fn from_one<A: Around>(
 }
 
 /// Where a path begins: at the top of the context node's tree, or at the context node.
-pub(crate) fn begun(
+pub fn begun(
     alloc: Global,
     forest: &Forest,
     start: Start,

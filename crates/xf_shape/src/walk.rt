@@ -90,7 +90,7 @@ fn in_texts(
 }
 
 /// Whether the test tells texts apart.
-pub(crate) fn is_kind(test: &Test) -> bool
+pub fn is_kind(test: &Test) -> bool
     ensures { result ≡ is_kind test.now }
 {
     match test {

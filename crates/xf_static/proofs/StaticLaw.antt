@@ -364,13 +364,13 @@ level (Expr-F.From k ks) r =
 
 step-level : (y : Step-F Part LinkPart StepPart) →
     IsKnownStep (step_static (map-Step Part LinkPart StepPart Static LinkStatic (Option ℕ) (λ e. e.0) (λ e. e.0) (λ e. e.0) y)) (step_as_read (map-Step Part LinkPart StepPart Bool Bool Bool (λ e. e.1) (λ e. e.1) (λ e. e.1) y))
-    (step_facts false (map-Step Part LinkPart StepPart Facts LinkFacts Bool (λ e. e.2) (λ e. e.2) (λ e. e.2) y))
+    (step_facts (map-Step Part LinkPart StepPart Facts LinkFacts Bool (λ e. e.2) (λ e. e.2) (λ e. e.2) y))
 step-level y r h =
     let p = and-true (is_told y.is_written y.axis y.test) (all_of (reads y.predicates)) r in
-    both (is_told y.is_written y.axis y.test && true) (all_placed (all_facts y.predicates)) (both (is_told y.is_written y.axis y.test) true p.0 refl) (placed-all y.predicates p.1 h)
+    both (is_told y.is_written y.axis y.test) (all_placed (all_facts y.predicates)) p.0 (placed-all y.predicates p.1 h)
 
-pub known : (x : Expr) → IsKnown (static_of x) (is_as_read x) (facts_of false x)
-known = triple_keeps Static LinkStatic (Option ℕ) expr_static link_static step_static Bool Bool Bool expr_as_read link_as_read step_as_read Facts LinkFacts Bool expr_facts link_facts (step_facts false) IsKnown IsKnownLink IsKnownStep
+pub known : (x : Expr) → IsKnown (static_of x) (is_as_read x) (facts_of x)
+known = triple_keeps Static LinkStatic (Option ℕ) expr_static link_static step_static Bool Bool Bool expr_as_read link_as_read step_as_read Facts LinkFacts Bool expr_facts link_facts step_facts IsKnown IsKnownLink IsKnownStep
     level (λ y. (refl, λ r. y.right.3 r)) step-level
 
 pub static_covered : StaticCovered

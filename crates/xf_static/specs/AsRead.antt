@@ -55,11 +55,11 @@ abbrev pub ReadAsMade : Type 0
 ReadAsMade = (d : ℕ) (b : Bindings) (text : List ℕ) (expr : Expr) → parsed d b text ≡ Ok expr → is_as_read expr ≡ true
 
 abbrev pub StaticCovered : Type 0
-StaticCovered = (expr : Expr) → is_as_read expr ≡ true → static_fault expr ≡ None → is_covered false expr ≡ true
+StaticCovered = (expr : Expr) → is_as_read expr ≡ true → static_fault expr ≡ None → is_covered expr ≡ true
 
 -- so a text that is read as a static expression is covered
 abbrev pub ReadCovered : Type 0
-ReadCovered = (d : ℕ) (b : Bindings) (text : List ℕ) (expr : Expr) → parsed d b text ≡ Ok expr → static_fault expr ≡ None → is_covered false expr ≡ true
+ReadCovered = (d : ℕ) (b : Bindings) (text : List ℕ) (expr : Expr) → parsed d b text ≡ Ok expr → static_fault expr ≡ None → is_covered expr ≡ true
 
 -- ---- of a form
 
@@ -69,4 +69,4 @@ IsReadStatic d b None = Unit {0}
 IsReadStatic d b (Some expr) = (text : List ℕ) × (parsed d b text ≡ Ok expr) × (static_fault expr ≡ None)
 
 abbrev pub FormCovered : Type 0
-FormCovered = (d : ℕ) (b : Bindings) (tables : Tables) → AllOf (λ (bind : Bind). IsReadStatic d b bind.properties.calculate) tables.binds → AreCovered false tables
+FormCovered = (d : ℕ) (b : Bindings) (tables : Tables) → AllOf (λ (bind : Bind). IsReadStatic d b bind.properties.calculate) tables.binds → AreCovered tables

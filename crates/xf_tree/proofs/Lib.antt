@@ -6,6 +6,7 @@ pub mod ClimbLemmas
 pub mod PasteLemmas
 pub mod NodeLemmas
 pub mod StackLemmas
+pub mod StandLemmas
 pub mod PlaceLemmas
 pub mod ParentLemmas
 pub mod TextLemmas

@@ -44,7 +44,7 @@ node-none n (z ∷ zs) h = let q = absent-parts n z zs h in rw q.0 (node-none n 
 pub kind-none : (n : ℕ) (zs : List Node) → has_number n zs ≡ false → kind_at n zs ≡ None
 kind-none n zs h = ap (λ o. option_map kind_of (option_map (λ (x : Node). x.content) o)) (node-none n zs h)
 
-from-none : (n : ℕ) (zs : List Node) → has_number n zs ≡ false → from_node n zs ≡ []
+pub from-none : (n : ℕ) (zs : List Node) → has_number n zs ≡ false → from_node n zs ≡ []
 from-none n [] h = refl
 from-none n (z ∷ zs) h = let q = absent-parts n z zs h in rw q.0 (from-none n zs q.1)
 
@@ -118,7 +118,8 @@ part-has s m to k at rows kept next sound there =
           ]
     ]
 
-tree-means : (s : Slab Slot) (n at : ℕ) (rows : List Row) (kept : List ℕ) (next : ℕ) → IsSound s rows kept next → StandsAt s rows n at
+-- what stands in a tree, by its rows
+pub tree-means : (s : Slab Slot) (n at : ℕ) (rows : List Row) (kept : List ℕ) (next : ℕ) → IsSound s rows kept next → StandsAt s rows n at
     → tree_of_node n (map (node_of s) rows) ≡ map (node_of s) (take (length (tree_of (drop at rows))) (drop at rows))
 tree-means s n at rows kept next sound here =
     let f = node_of s in

@@ -1,26 +1,25 @@
 -- The text of an element is set: its texts go to the kept ones, and one text or none comes in their place.
-use Rattle.std.proofs.Common.{◌≡◌, ℕ, ◌+◌, ◌-◌, ◌<◌, ◌≤◌, ◌^◌, ◌==◌, ◌||◌, not, cond, if◌then◌else◌, Bool, true, false, List, [], ◌∷◌, ◌++◌, map, length, get_or, IsSome, Option, Some, None, nat_lt, refl, sym, ap, ◌∙◌, subst, inl, inr, arith}
+use Rattle.std.proofs.Common.{◌≡◌, ℕ, ◌+◌, ◌-◌, ◌<◌, ◌≤◌, ◌^◌, ◌==◌, ◌||◌, not, cond, if◌then◌else◌, Bool, true, false, List, [], ◌∷◌, ◌++◌, map, length, get_or, IsSome, Some, None, refl, sym, ap, ◌∙◌, subst, inl, inr, arith}
 use Rattle.std.specs.Prelude.{is_some}
-use Rattle.std.proofs.lemmas.Bool.{cases_Bool, cases_lt, false≢true}
+use Rattle.std.specs.List.{list_any}
+use Rattle.std.proofs.lemmas.Bool.{cases_Bool, false≢true}
 use Rattle.std.proofs.lemmas.List.{length-map, get_or-map}
 use Rattle.slab.specs.Slab.{Slab, get, Updates}
 use Rattle.xf_doc.specs.declared.content.Node.{Node}
 use Rattle.xf_doc.specs.declared.content.Content.{Content}
 use Rattle.xf_doc.specs.declared.content.Content.TheVariants.{Root, Element, Attribute, Text}
 use Rattle.xf_doc.specs.declared.content.Kind.TheVariants as kind
-use Rattle.xf_doc.specs.declared.fault.TreeFault.{TreeFault}
-use Rattle.xf_doc.specs.declared.fault.TreeFault.TheVariants.{Nodes, NodeText}
 use Rattle.xf_doc.specs.Forest.{is_root, is_element, is_attribute, is_text, kind_at}
 use Rattle.xf_doc.specs.Visit.{visits, numbers}
 use Rattle.xf_doc.specs.Shape.{has_elements}
-use Rattle.xf_doc.specs.Limits.{limits, unless, node_count, all_size}
-use Rattle.xf_doc.specs.Texts.{at_depth, one_text, with_texts, kept_from, is_attribute_at, text_set, element_texts}
+use Rattle.xf_doc.specs.Limits.{limits, unless, node_count, all_size, passed_by_text}
+use Rattle.xf_doc.specs.Texts.{Keeping, KeptText, at_depth, one_text, with_texts, kept_from, is_attribute_at, with_text, text_set, element_texts}
 use Rattle.xf_tree.specs.declared.rows.Row.{Row}
 use Rattle.xf_tree.specs.declared.slot.Slot.{Slot}
 use Rattle.xf_tree.specs.Tree.{AreSteps, depths, node_of, kept_of, number_in, content_in, times, kept_times, AllLive, StandsAt, no_row, IsState, keeping_of}
 use Rattle.xf_tree.specs.Texts.{passed_by, text_slot, text_count, has_key, attributes, children, keys_of, numbers_at, depth_at, run_of}
+use Rattle.xf_tree.specs.Settled.{text_written}
 use Rattle.xf_tree.proofs.NodeLemmas.{eq-true, eq-false}
-use Rattle.xf_tree.proofs.SizedLemmas.{lt-true}
 use Rattle.xf_tree.proofs.FreeLemmas.{same-key}
 use Rattle.xf_tree.proofs.CountLemmas.{nodes-append, sizes-append, nodes-cons, sizes-cons, count-alike, size-alike}
 use Rattle.xf_tree.proofs.StepLemmas.{depth-bound}
@@ -151,53 +150,60 @@ numbers-at : (s : Slab Slot) (rs : List Row) → numbers (map (node_of s) rs) �
 numbers-at s [] = refl
 numbers-at s (r ∷ rs) = ap (λ l. number_in (get s r.key) ∷ l) (numbers-at s rs)
 
--- no text that passes is long
-pub passed-short : (count len bytes : ℕ) → passed_by count len bytes ≡ None → len ≤ 65536
-passed-short count len bytes e = elim (cases_lt 65536 len) [
-  | inr l ↦ l
-  | inl l ↦ absurd (by (nat_lt 65536 count) (rw (lt-true 65536 len l) at e))
+pub kept-absent : (n : ℕ) (ts : List KeptText) → list_any (λ (t : KeptText). t.number == n) ts ≡ false → kept_times n ts ≡ 0
+kept-absent n [] h = refl
+kept-absent n (t ∷ ts) h = elim (cases_Bool (t.number == n)) [
+  | inl e ↦ absurd (false≢true (sym (rw e at h)))
+  | inr e ↦ rw e (omega (arith, kept-absent n ts (rw e at h)))
 ]
-  where
-    some : (f : TreeFault) → ◌≡◌ {A = Option TreeFault} (Some f) None → ⊥
-    some f e = cc e
 
-    by : (b : Bool) → ◌≡◌ {A = Option TreeFault} (if b then Some Nodes else Some NodeText) None → ⊥
-    by true e = some Nodes e
-    by false e = some NodeText e
+-- an element's text is set as one that has the next number is written
+pub set-written : (n : ℕ) (text : List ℕ) (k : Keeping) → is_attribute_at n k.forest.nodes ≡ false
+    → text_set limits n text k ≡ unless (passed_by_text limits (length text) (with_text n text k.forest).nodes) (text_written k.forest.next (k.forest.next + text_count text) n text k)
+set-written n text k none =
+    let more = one-length k.forest.next text in
+    rw none (rw more refl)
 
-module _ (s : Slab Slot) (n at : ℕ) (text : List ℕ) (rows : List Row) (kept : List ℕ) (next total size room : ℕ) (state : IsState s rows kept next total size room) (here : StandsAt s rows n at)
+module _ (s : Slab Slot) (n at number : ℕ) (text : List ℕ) (rows : List Row) (kept : List ℕ) (next total size room : ℕ) (state : IsState s rows kept next total size room) (here : StandsAt s rows n at)
     (kind : kind_at n (map (node_of s) rows) ≡ Some kind.Element) (childless : has_elements (visits (map (node_of s) rows)) n ≡ false) where
   abbrev pub gone : List Row
   gone = children s (run_of at rows)
 
   abbrev pub after : List Node
-  after = with_texts n (one_text next text) (map (node_of s) rows)
+  after = with_texts n (one_text number text) (map (node_of s) rows)
 
   pub after-count : node_count after ≡ total - length gone + text_count text
   after-count =
-      let a = with-sum s n at rows kept next state.sound here kind childless node_count nodes-append count-flat (one_text next text) in
+      let a = with-sum s n at rows kept next state.sound here kind childless node_count nodes-append count-flat (one_text number text) in
       let b = stay-parts s n at rows kept next state.sound here kind childless node_count nodes-append in
-      omega (arith, a, b, texts-count s gone (run-all_texts s n at rows kept next state.sound here kind childless), one-count next text, state.counted.count)
+      omega (arith, a, b, texts-count s gone (run-all_texts s n at rows kept next state.sound here kind childless), one-count number text, state.counted.count)
 
   pub after-size : all_size after ≡ size - all_size (map (node_of s) gone) + length text
   after-size =
-      let a = with-sum s n at rows kept next state.sound here kind childless all_size sizes-append size-flat (one_text next text) in
+      let a = with-sum s n at rows kept next state.sound here kind childless all_size sizes-append size-flat (one_text number text) in
       let b = stay-parts s n at rows kept next state.sound here kind childless all_size sizes-append in
-      omega (arith, a, b, one-size next text, state.counted.bytes)
+      omega (arith, a, b, one-size number text, state.counted.bytes)
 
-  no-attribute : is_attribute_at n (map (node_of s) rows) ≡ false
+  pub no-attribute : is_attribute_at n (map (node_of s) rows) ≡ false
   no-attribute =
       attribute-at n (map (node_of s) rows) _ _ _ (element-parted s n at rows kept next state.sound here kind childless)
       ∙ element-no_attribute (content_in (get s (get_or rows at no_row).key)) (is-element s n at rows kept next state.sound here kind childless)
 
-  -- what is given where the text is set
-  pub content-set : text_set limits n text (keeping_of s rows kept next)
-      ≡ unless (passed_by (total - length gone + text_count text) (length text) (size - all_size (map (node_of s) gone) + length text))
-      (element_texts (numbers_at s gone), record { forest = record { nodes = after; next = next + text_count text }; kept = map (kept_of s) kept ++ kept_from n (map (node_of s) gone) })
-  content-set =
-      let count = after-count in
-      let bytes = after-size in
+  -- what is given where the text is written
+  pub content-written : (next2 : ℕ) → text_written number next2 n text (keeping_of s rows kept next)
+      ≡ (element_texts (numbers_at s gone), record { forest = record { nodes = after; next = next2 }; kept = map (kept_of s) kept ++ kept_from n (map (node_of s) gone) })
+  content-written next2 =
       let texts = texts-are s n at rows kept next state.sound here kind childless in
       let had = numbers-at s gone in
-      let more = one-length next text in
-      rw no-attribute (rw (texts, had, more, count, bytes) refl)
+      rw no-attribute (rw (texts, had) refl)
+
+module _ (s : Slab Slot) (n at : ℕ) (text : List ℕ) (rows : List Row) (kept : List ℕ) (next total size room : ℕ) (state : IsState s rows kept next total size room) (here : StandsAt s rows n at)
+    (kind : kind_at n (map (node_of s) rows) ≡ Some kind.Element) (childless : has_elements (visits (map (node_of s) rows)) n ≡ false) where
+  -- the limit that is passed where the text is set
+  pub content-passed : passed_by_text limits (length text) (with_text n text (record { nodes = map (node_of s) rows; next = next })).nodes
+      ≡ passed_by (total - length (children s (run_of at rows)) + text_count text) (length text) (size - all_size (map (node_of s) (children s (run_of at rows))) + length text)
+  content-passed =
+      let none = no-attribute s n at next text rows kept next total size room state here kind childless in
+      let count = after-count s n at next text rows kept next total size room state here kind childless in
+      let bytes = after-size s n at next text rows kept next total size room state here kind childless in
+      rw none (rw (count, bytes) refl)

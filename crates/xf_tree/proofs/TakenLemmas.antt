@@ -112,13 +112,13 @@ slot-size : (next : ℕ) (text : List ℕ) → size_of (content_in (text_slot ne
 slot-size next [] = omega arith
 slot-size next (c ∷ cs) = omega arith
 
-module _ (s s1 s2 s3 : Slab Slot) (n at place : ℕ) (text : List ℕ) (rows new : List Row) (kept : List ℕ) (next total size room : ℕ) (state : IsState s rows kept next total size room) (here : StandsAt s rows n at)
+module _ (s s1 s2 s3 : Slab Slot) (n at place number : ℕ) (text : List ℕ) (rows new : List Row) (kept : List ℕ) (next total size room : ℕ) (state : IsState s rows kept next total size room) (here : StandsAt s rows n at)
     (kind : kind_at n (map (node_of s) rows) ≡ Some kind.Element) (childless : has_elements (visits (map (node_of s) rows)) n ≡ false)
-    (same1 : (key : ℕ) → get s1 key ≡ get s key) (vacant : get s1 place ≡ None) (slot : Updates s1 s2 place (text_slot next text))
+    (same1 : (key : ℕ) → get s1 key ≡ get s key) (vacant : get s1 place ≡ None) (slot : Updates s1 s2 place (text_slot number text))
     (owned : IsOwned n (keys_of (children s2 (run_of at rows))) s2 s3)
-    (rows_are : map unsized new ≡ map unsized (with_text_rows s3 at (take (text_count text) (record { number = next; place = place } ∷ [])) rows)) where
+    (rows_are : map unsized new ≡ map unsized (with_text_rows s3 at (take (text_count text) (record { number = number; place = place } ∷ [])) rows)) where
   keeps2 : (key : ℕ) → IsSome (get s key) → get s2 key ≡ get s key
-  keeps2 = added-keeps s s1 s2 place next text same1 vacant slot
+  keeps2 = added-keeps s s1 s2 place number text same1 vacant slot
 
   content2 : (key : ℕ) → IsSome (get s key) → content_in (get s2 key) ≡ content_in (get s key)
   content2 key some = ap content_in (keeps2 key some)
@@ -129,7 +129,7 @@ module _ (s s1 s2 s3 : Slab Slot) (n at place : ℕ) (text : List ℕ) (rows new
   run-live : AllLive s (run_of at rows)
   run-live = live-run s n at rows kept next state.sound here kind childless
 
-  pub gone-is : children s2 (run_of at rows) ≡ gone s n at text rows kept next total size room state here kind childless
+  pub gone-is : children s2 (run_of at rows) ≡ gone s n at number text rows kept next total size room state here kind childless
   gone-is = children-alike s s2 (run_of at rows) run-live content2
 
   abbrev went : List Row
@@ -156,82 +156,85 @@ module _ (s s1 s2 s3 : Slab Slot) (n at place : ℕ) (text : List ℕ) (rows new
   pub kept-now : map (kept_of s3) (kept ++ keys_of went) ≡ map (kept_of s) kept ++ kept_from n (map (node_of s) went)
   kept-now = map-append (kept_of s3) kept (keys_of went) ∙ ap (λ l. l ++ map (kept_of s3) (keys_of went)) kept-old ∙ ap (λ l. map (kept_of s) kept ++ l) (taken-kept s s3 n [] went went-live owned3)
 
-  number3 : number_in (get s3 place) ≡ number_in (text_slot next text)
+  number3 : number_in (get s3 place) ≡ number_in (text_slot number text)
   number3 = ap number_in (owned place) ∙ owned-number (has_key place (keys_of (children s2 (run_of at rows)))) n (get s2 place) ∙ ap number_in slot.changed
 
-  place3 : content_in (get s3 place) ≡ content_in (text_slot next text)
+  place3 : content_in (get s3 place) ≡ content_in (text_slot number text)
   place3 = ap content_in (owned place) ∙ owned-content (has_key place (keys_of (children s2 (run_of at rows)))) n (get s2 place) ∙ ap content_in slot.changed
 
   abbrev texts : List NodeId
-  texts = take (text_count text) (record { number = next; place = place } ∷ [])
+  texts = take (text_count text) (record { number = number; place = place } ∷ [])
 
-  news : map (node_of s3) (map (text_row (depth_at at rows + 1)) texts) ≡ map (at_depth (suc (depth_at at rows))) (one_text next text)
-  news = new-row s3 next place (depth_at at rows) text number3 place3
+  news : map (node_of s3) (map (text_row (depth_at at rows + 1)) texts) ≡ map (at_depth (suc (depth_at at rows))) (one_text number text)
+  news = new-row s3 number place (depth_at at rows) text number3 place3
 
   news-live : AllLive s3 (map (text_row (depth_at at rows + 1)) texts)
-  news-live = new-live s3 next place (depth_at at rows + 1) text (λ some. subst IsSome (sym (owned place)) (owned-some (has_key place (keys_of (children s2 (run_of at rows)))) n (get s2 place) (subst IsSome (sym slot.changed) some)))
+  news-live = new-live s3 number place (depth_at at rows + 1) text (λ some. subst IsSome (sym (owned place)) (owned-some (has_key place (keys_of (children s2 (run_of at rows)))) n (get s2 place) (subst IsSome (sym slot.changed) some)))
 
   alike : attributes s3 (run_of at rows) ≡ attributes s (run_of at rows)
   alike = attributes-alike s s3 (run_of at rows) run-live content3
 
-  pub nodes-now : map (node_of s3) new ≡ with_texts n (one_text next text) (map (node_of s) rows)
-  nodes-now = swap-nodes s n at rows kept next state.sound here kind childless s3 s3 texts (one_text next text) new rows_are alike same news (one-texts next text) news-live
+  pub nodes-now : map (node_of s3) new ≡ with_texts n (one_text number text) (map (node_of s) rows)
+  nodes-now = swap-nodes s n at rows kept next state.sound here kind childless s3 s3 texts (one_text number text) new rows_are alike same news (one-texts number text) news-live
 
-  times-now : (m : ℕ) → times m (map (node_of s3) new) + kept_times m (map (kept_of s3) (kept ++ keys_of went)) ≡ times m (map (node_of s) rows) + kept_times m (map (kept_of s) kept) + times m (one_text next text)
+  times-now : (m : ℕ) → times m (map (node_of s3) new) + kept_times m (map (kept_of s3) (kept ++ keys_of went)) ≡ times m (map (node_of s) rows) + kept_times m (map (kept_of s) kept) + times m (one_text number text)
   times-now m =
-      let a = ap (times m) nodes-now ∙ with-parts s n at rows kept next state.sound here kind childless (times m) (times-append m) (times-flat m) (one_text next text) in
+      let a = ap (times m) nodes-now ∙ with-parts s n at rows kept next state.sound here kind childless (times m) (times-append m) (times-flat m) (one_text number text) in
       let b = ap (kept_times m) kept-now ∙ kept_times-append m (map (kept_of s) kept) (kept_from n (map (node_of s) went)) in
       omega (arith, a, b, parts m, from-times m n (map (node_of s) went))
 
   pub length-now : length new + length went ≡ length rows + length texts
-  length-now = swap-length s n at rows kept next state.sound here kind childless s3 s3 texts (one_text next text) new rows_are alike same news (one-texts next text) news-live
+  length-now = swap-length s n at rows kept next state.sound here kind childless s3 s3 texts (one_text number text) new rows_are alike same news (one-texts number text) news-live
 
   texts-long : length texts ≤ text_count text
-  texts-long = texts-most text (record { number = next; place = place })
+  texts-long = texts-most text (record { number = number; place = place })
 
   kept-long : length (kept ++ keys_of went) ≡ length kept + length went
   kept-long = omega (arith, length-append kept (keys_of went), length-map went (λ (r : Row). r.key))
 
-  sound-now : Sized new → length rows + length kept + 1 < 2 ^ 31 → IsSound s3 new (kept ++ keys_of went) (next + text_count text)
-  sound-now sized few = record {
+  -- with any number that is not there, so that the next one then is behind it
+  sound-now : (next2 : ℕ) → times number (map (node_of s) rows) + kept_times number (map (kept_of s) kept) ≡ 0 → next ≤ next2 → number + text_count text ≤ next2
+      → Sized new → length rows + length kept + 1 < 2 ^ 31 → IsSound s3 new (kept ++ keys_of went) next2
+  sound-now next2 free later below sized few = record {
     sized = sized;
-    steps = swap-steps s n at rows kept next state.sound here kind childless s3 s3 texts (one_text next text) new rows_are alike same news (one-texts next text) news-live;
+    steps = swap-steps s n at rows kept next state.sound here kind childless s3 s3 texts (one_text number text) new rows_are alike same news (one-texts number text) news-live;
     few = omega (arith, length-now, texts-long, kept-long, few, count-most text);
-    live = swap-live s n at rows kept next state.sound here kind childless s3 s3 texts (one_text next text) new rows_are alike same news (one-texts next text) news-live;
+    live = swap-live s n at rows kept next state.sound here kind childless s3 s3 texts (one_text number text) new rows_are alike same news (one-texts number text) news-live;
     kept_live = all-kept s3 kept (keys_of went) (kept-texts s s3 kept state.sound.kept_live content3)
         (taken-texts s s3 went went-live (run-all_texts s n at rows kept next state.sound here kind childless) content3);
-    tops = swap-tops s n at rows kept next state.sound here kind childless s3 s3 texts (one_text next text) new rows_are alike same news (one-texts next text) news-live;
-    leaves = swap-leaves s n at rows kept next state.sound here kind childless s3 s3 texts (one_text next text) new rows_are alike same news (one-texts next text) news-live;
-    first = swap-first s n at rows kept next state.sound here kind childless s3 s3 texts (one_text next text) new rows_are alike same news (one-texts next text) news-live;
-    apart = λ m. elim (same-key next m) [
-      | inl ne ↦ omega (arith, times-now m, state.sound.apart m, one-other m next text ne)
-      | inr e ↦ omega (arith, times-now m, state.sound.fresh m (omega arith), one-most m next text)
+    tops = swap-tops s n at rows kept next state.sound here kind childless s3 s3 texts (one_text number text) new rows_are alike same news (one-texts number text) news-live;
+    leaves = swap-leaves s n at rows kept next state.sound here kind childless s3 s3 texts (one_text number text) new rows_are alike same news (one-texts number text) news-live;
+    first = swap-first s n at rows kept next state.sound here kind childless s3 s3 texts (one_text number text) new rows_are alike same news (one-texts number text) news-live;
+    apart = λ m. elim (same-key number m) [
+      | inl ne ↦ omega (arith, times-now m, state.sound.apart m, one-other m number text ne)
+      | inr e ↦ omega (arith, times-now m, subst (λ k. times k (map (node_of s) rows) + kept_times k (map (kept_of s) kept) ≡ 0) e free, one-most m number text)
     ];
-    fresh = λ m h. omega (arith, times-now m, state.sound.fresh m (omega arith), one-fresh m next text h);
+    fresh = λ m h. omega (arith, times-now m, state.sound.fresh m (omega (arith, later, h)), one-fresh m number text (omega (arith, below, h)));
   }
 
-  small-now : length text ≤ 65536 → (key : ℕ) → size_of (content_in (get s3 key)) ≤ 2 ^ 66
+  small-now : length text ≤ 2 ^ 66 → (key : ℕ) → size_of (content_in (get s3 key)) ≤ 2 ^ 66
   small-now short key =
       let e = ap size_of (ap content_in (owned key) ∙ owned-content (has_key key (keys_of (children s2 (run_of at rows)))) n (get s2 key)) in
       elim (same-key key place) [
         | inl ne ↦ omega (arith, e, ap (λ o. size_of (content_in o)) (slot.others key ne ∙ same1 key), state.counted.small key)
-        | inr q ↦ omega (arith, e, ap (λ k. size_of (content_in (get s2 k))) q, ap (λ o. size_of (content_in o)) slot.changed, slot-size next text, short)
+        | inr q ↦ omega (arith, e, ap (λ k. size_of (content_in (get s2 k))) q, ap (λ o. size_of (content_in o)) slot.changed, slot-size number text, short)
       ]
 
-  pub state-now : (room2 : ℕ) → Sized new → length rows + length kept + 1 < 2 ^ 31 → length rows + (length kept + 1) ≤ room2 → length text ≤ 65536
-      → IsState s3 new (kept ++ keys_of went) (next + text_count text) (total - length went + text_count text) (size - all_size (map (node_of s) went) + length text) room2
-  state-now room2 sized few spare short = record {
-    sound = sound-now sized few;
+  pub state-now : (next2 room2 : ℕ) → times number (map (node_of s) rows) + kept_times number (map (kept_of s) kept) ≡ 0 → next ≤ next2 → number + text_count text ≤ next2
+      → Sized new → length rows + length kept + 1 < 2 ^ 31 → length rows + (length kept + 1) ≤ room2 → length text ≤ 2 ^ 66
+      → IsState s3 new (kept ++ keys_of went) next2 (total - length went + text_count text) (size - all_size (map (node_of s) went) + length text) room2
+  state-now next2 room2 free later below sized few spare short = record {
+    sound = sound-now next2 free later below sized few;
     counted = record {
-      count = sym (ap node_count nodes-now ∙ after-count s n at text rows kept next total size room state here kind childless);
-      bytes = sym (ap all_size nodes-now ∙ after-size s n at text rows kept next total size room state here kind childless);
+      count = sym (ap node_count nodes-now ∙ after-count s n at number text rows kept next total size room state here kind childless);
+      bytes = sym (ap all_size nodes-now ∙ after-size s n at number text rows kept next total size room state here kind childless);
       small = small-now short;
     };
     room = omega (arith, length-now, texts-long, kept-long, spare, count-most text);
   }
 
-  pub view-now : keeping_of s3 new (kept ++ keys_of went) (next + text_count text)
-      ≡ record { forest = record { nodes = with_texts n (one_text next text) (map (node_of s) rows); next = next + text_count text }; kept = map (kept_of s) kept ++ kept_from n (map (node_of s) went) }
-  view-now =
-      let whole : List Node → List KeptText → Keeping = λ l k. record { forest = record { nodes = l; next = next + text_count text }; kept = k } in
-      ap (λ l. whole l (map (kept_of s3) (kept ++ keys_of went))) nodes-now ∙ ap (whole (with_texts n (one_text next text) (map (node_of s) rows))) kept-now
+  pub view-now : (next2 : ℕ) → keeping_of s3 new (kept ++ keys_of went) next2
+      ≡ record { forest = record { nodes = with_texts n (one_text number text) (map (node_of s) rows); next = next2 }; kept = map (kept_of s) kept ++ kept_from n (map (node_of s) went) }
+  view-now next2 =
+      let whole : List Node → List KeptText → Keeping = λ l k. record { forest = record { nodes = l; next = next2 }; kept = k } in
+      ap (λ l. whole l (map (kept_of s3) (kept ++ keys_of went))) nodes-now ∙ ap (whole (with_texts n (one_text number text) (map (node_of s) rows))) kept-now

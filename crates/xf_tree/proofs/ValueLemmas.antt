@@ -11,6 +11,7 @@ use Rattle.xf_doc.specs.declared.content.Kind.TheVariants as kind
 use Rattle.xf_doc.specs.Forest.{is_root, is_attribute, is_text, own_text, kind_of, kind_at, has_number, first_tree, tree_of}
 use Rattle.xf_doc.specs.Limits.{limits, unless, node_count, all_size, size_of}
 use Rattle.xf_doc.specs.Texts.{KeptText, Keeping, attribute_text, with_value, with_attribute_text, is_attribute_at, value_in, text_set}
+use Rattle.xf_doc.specs.Settle.{numbered_text_set}
 use Rattle.xf_tree.specs.declared.rows.Row.{Row}
 use Rattle.xf_tree.specs.declared.slot.Slot.{Slot}
 use Rattle.xf_tree.specs.Tree.{node_of, kept_of, number_in, content_in, times, kept_times, AllLive, AllKept, AllTops, StandsAt, no_row, IsSound, IsState, keeping_of}
@@ -235,6 +236,14 @@ module _ (s : Slab Slot) (n at : ℕ) (text : List ℕ) (rows : List Row) (kept 
       let count = set-count in
       let bytes = set-all in
       rw value-there (rw (plus, nil, had, count, bytes) refl)
+
+  -- and where it is written, whatever number comes with it
+  pub value-written : (number : ℕ) → numbered_text_set number n text (keeping_of s rows kept next)
+      ≡ (attribute_text (own_text x.content), record { forest = record { nodes = with_attribute_text n text (map (node_of s) rows); next = next }; kept = map (kept_of s) kept })
+  value-written number =
+      let nil = append-nil (map (kept_of s) kept) in
+      let had = value-had in
+      rw value-there (rw (nil, had) refl)
 
   module _ (s2 : Slab Slot) (up : Updates s s2 (get_or rows at no_row).key (option_map (valued_slot text) (get s (get_or rows at no_row).key))) where
     value-parts : map (node_of s2) rows ≡ us ++ (y ∷ xs)

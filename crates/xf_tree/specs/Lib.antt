@@ -11,4 +11,5 @@ pub mod Reads
 pub mod Below
 pub mod Siblings
 pub mod Texts
+pub mod Settled
 pub mod Print

@@ -30,6 +30,7 @@ mod root;
 mod rows;
 mod run;
 mod set;
+mod settle;
 mod shown;
 mod siblings;
 mod slot;

@@ -13,14 +13,12 @@ ghost use Rattle.xf_tree.specs.Texts.{numbers_in};
 use crate::before::{Before, Had};
 use crate::forest::Forest;
 use crate::kept::{
-    add_text, change_value, free_all, free_texts, keep_texts, make_room, passed, size_of_texts,
-    take_kept, text_count, texts_in,
+    change_value, free_all, free_texts, passed, size_of_texts, take_kept, text_count, texts_in,
 };
 use crate::lookup::row_of;
 use crate::rows::end_of;
 use crate::run::change_texts;
 use crate::slot::own;
-use crate::tree::hint_at;
 use xf_doc::{Kind, NodeId, TreeFault};
 use xf_name::Word;
 
@@ -82,33 +80,9 @@ impl Forest {
         if let Some(fault) = passed(count, text.len(), bytes) {
             return Err(fault);
         }
-        let word = Word::from_str(self.alloc, text)?;
-        let mut had = Vec::with_capacity(self.alloc, taken)?;
-        make_room(&mut self.rows, &mut self.slots, &mut self.kept, taken)?;
         let number = self.next;
-        let place = add_text(&mut self.slots, number, word);
-        keep_texts(
-            &self.rows[at + 1..end],
-            &mut self.slots,
-            &mut self.kept,
-            &mut had,
-            node.number,
-        );
-        hint_at(&mut self.hints, place);
-        let texts = [NodeId { number, place }];
-        change_texts(
-            &mut self.rows,
-            &self.slots,
-            &mut self.hints,
-            at,
-            &texts[..more],
-        );
-        self.next = number + more as u128;
-        self.count = count;
-        self.bytes = bytes;
-        Ok(Before {
-            had: Had::Texts(had),
-        })
+        let before = self.write_content(node, text, number, number + more as u128)?;
+        Ok(before)
     }
 
     /// Gives a node back what it had: the kept texts with their numbers, or the attribute's text. Takes no memory.

@@ -136,6 +136,15 @@ pub fn is_attribute_at(slots: &Slab<Slot>, key: usize) -> bool
     }
 }
 
+pub fn is_text_at(slots: &Slab<Slot>, key: usize) -> bool
+    ensures { result ≡ is_text (content_in (get slots.now key)) }
+{
+    match slots.get(key) {
+        Some(slot) => is_text(&slot.content),
+        None => false,
+    }
+}
+
 pub fn is_text(content: &Content) -> bool
     ensures { result ≡ is_text content.now }
 {

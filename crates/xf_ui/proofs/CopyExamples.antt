@@ -9,7 +9,8 @@ use Rattle.xf_ui.specs.Interface as sort
 use Rattle.xf_ui.specs.Index.{Index}
 use Rattle.xf_ui.specs.Cases.{first_cases, is_selected}
 use Rattle.xf_ui.specs.Places.{places}
-use Rattle.xf_ui.specs.Copies.{Marks, Copy, copies, copy_count}
+use Rattle.xf_ui.specs.declared.marks.Marks.{Marks}
+use Rattle.xf_ui.specs.Copies.{Copy, copies, copy_count}
 use Rattle.xf_ui.specs.Notifications.{Notification, notifications}
 use Rattle.xf_ui.specs.Examples
 use Rattle.xf_ui.specs.Examples.{inside, around, as_usual}

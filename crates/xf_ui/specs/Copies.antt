@@ -6,6 +6,7 @@ use Rattle.xf_lang.specs.Setting.{Focus, Meaning, ◌>>=◌, each}
 use Rattle.xf_lang.specs.Meaning.{text_worth}
 use Rattle.xf_lang.specs.Conversions.{string_of_node}
 use Rattle.xf_ui.specs.declared.answers.Item.{Item}
+use Rattle.xf_ui.specs.declared.marks.Marks.{Marks}
 use Rattle.xf_ui.specs.Interface.{Bound, unbound, Sort, Element, Interface, repeated, output, select}
 use Rattle.xf_ui.specs.Elements.{element_at, ancestors, is_container}
 use Rattle.xf_ui.specs.Around.{Around, setting, first_bound}
@@ -14,13 +15,6 @@ use Rattle.xf_ui.specs.Index.{Index, seeing}
 use Rattle.xf_ui.specs.Cases.{is_in_selected}
 use Rattle.xf_ui.specs.Items.{items_of}
 use Rattle.xf_ui.specs.Places.{places}
-
--- the properties of a node
-pub record Marks : Type 0 where
-  pub relevant : Bool
-  pub readonly : Bool
-  pub required : Bool
-  pub valid : Bool
 
 pub record Copy : Type 0 where
   pub element : ℕ

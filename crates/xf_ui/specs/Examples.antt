@@ -15,7 +15,7 @@ use Rattle.xf_lang.specs.Examples.{functions, child, here, up, path}
 use Rattle.xf_ui.specs.Interface.{Bound, unbound, nodes, by_bind, Sort, Element, Interface}
 use Rattle.xf_ui.specs.Interface as sort
 use Rattle.xf_ui.specs.Around.{Around}
-use Rattle.xf_ui.specs.Copies.{Marks}
+use Rattle.xf_ui.specs.declared.marks.Marks.{Marks}
 
 -- ---- elements
 

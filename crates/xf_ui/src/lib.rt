@@ -1,7 +1,9 @@
-//! What the user interface of a form means: rows and indexes, control copies, items, texts, notifications, the handlers of an event.
+//! What the user interface of a form means: rows and indexes of repeats, control copies, items, texts, notifications, the handlers of an event.
 //! Definitions, and the types in which they answer.
 #![tactic(auto)]
 
 mod answers;
+mod marks;
 
 pub use answers::{CallList, Item, ItemList};
+pub use marks::{Marks, NodeMarks};

@@ -1,12 +1,12 @@
 //! A forest that can be given back: it and the ledger of its changes.
-ghost use Rattle.std.specs.Prelude.{◌≡◌, ◌<◌, ◌^◌, OnOk, OnErr};
+ghost use Rattle.std.specs.Prelude.{◌≡◌, ◌<◌, ◌^◌, [], OnOk, OnErr};
 ghost use Rattle.xf_base.specs.Gives.{Gives};
 ghost use Rattle.xf_doc.specs.Changes.{attached, copied, detached};
 ghost use Rattle.xf_doc.specs.Limits.{limits};
 ghost use Rattle.xf_doc.specs.Needs.{IsSettable, MayAttach, MayCopy, MayDetach};
 ghost use Rattle.xf_doc.specs.Planted.{planted, planted_bare};
 ghost use Rattle.xf_doc.specs.Texts.{text_set, without_detached};
-ghost use Rattle.xf_undo.specs.Draft.{kept_as, alone, with_text, with_forest, with_tree};
+ghost use Rattle.xf_undo.specs.Draft.{kept_as, alone, changed, with_text, with_forest, with_tree, with_reserved, IsUnused, with_settled};
 
 use crate::entry::Change;
 use crate::ledger::Ledger;
@@ -21,6 +21,10 @@ use xf_tree::Forest;
 pub struct Draft {
     forest: Forest,
     ledger: Ledger,
+    // The first of the numbers that were reserved, and those of them that were used: they are kept so that a number that is
+    // neither a node's nor a kept text's is known as such.
+    first: u128,
+    used: Vec<u128>,
 }
 
 impl Model for Draft {
@@ -30,9 +34,9 @@ impl Model for Draft {
 
     ghost use Rattle.xf_undo.specs.Draft.{draft_of, IsDraft};
 
-    ghost view = { λ d. draft_of d.ledger d.forest };
+    ghost view = { λ d. draft_of d.ledger d.forest d.first d.used.items };
 
-    ghost invariant = { λ d. IsDraft d.ledger d.forest };
+    ghost invariant = { λ d. IsDraft d.ledger d.forest d.first d.used.items };
 }
 
 impl Draft {
@@ -44,7 +48,14 @@ impl Draft {
         forest.drop_detached();
         forest.are_trees();
         let ledger = Ledger::new(alloc, &forest);
-        Draft { forest, ledger }
+        let first = forest.next_number();
+        let used = Vec::new(alloc);
+        Draft {
+            forest,
+            ledger,
+            first,
+            used,
+        }
     }
 
     /// The forest as it stands.
@@ -66,6 +77,36 @@ impl Draft {
         let before = self.forest.set_text(node, text)?;
         self.ledger.fill_text(&mut self.forest, before);
         self.forest.are_trees();
+        give_up_numbers(&mut self.first, &mut self.used, &self.forest);
+        Ok(())
+    }
+
+    /// Reserves so many numbers for texts that are settled: no other new node takes them. Those that were reserved before are
+    /// given up, and so are these by any other change than a settling.
+    pub fn reserve_numbers(&mut self, count: u32)
+        requires { self.old.now.next < 2 ^ 126 }
+        ensures { self.new ≡ with_reserved count self.old }
+    {
+        self.forest.are_trees();
+        give_up_numbers(&mut self.first, &mut self.used, &self.forest);
+        self.forest.reserve_numbers(count);
+        self.forest.are_trees();
+    }
+
+    /// Sets the text of an attribute, or of an element without element children: there it has this number. No limit is asked.
+    pub fn settle_text(&mut self, node: NodeId, text: &str, number: u128) -> Result<(), AllocError>
+        requires may { IsSettable node.number self.old.now }
+        requires number { IsUnused number self.old }
+        ensures ok { OnOk result (self.new ≡ with_settled number node.number text.now self.old) }
+        ensures err { OnErr result (self.new ≡ self.old) }
+    {
+        self.forest.are_trees();
+        self.used.reserve(1)?;
+        self.ledger.note(Change::Text(node))?;
+        let before = self.forest.settle_text(node, text, number)?;
+        self.ledger.fill_text(&mut self.forest, before);
+        self.forest.are_trees();
+        self.used.push_reserved(number);
         Ok(())
     }
 
@@ -81,13 +122,14 @@ impl Draft {
         self.forest.attach(node, parent, place)?;
         self.ledger.fill_attach();
         self.forest.are_trees();
+        give_up_numbers(&mut self.first, &mut self.used, &self.forest);
         Ok(())
     }
 
     /// Cuts off a tree that has a parent: it stands last then.
     pub fn detach(&mut self, node: NodeId) -> Result<(), AllocError>
         requires { MayDetach node.number self.old.now }
-        ensures ok { OnOk result (self.new ≡ record self.old { now = detached node.number self.old.now }) }
+        ensures ok { OnOk result (self.new ≡ changed self.old (detached node.number self.old.now)) }
         ensures err { OnErr result (self.new ≡ self.old) }
     {
         self.forest.are_trees();
@@ -95,6 +137,7 @@ impl Draft {
         let (parent, place) = self.forest.detach(node);
         self.ledger.fill_place(parent, place);
         self.forest.are_trees();
+        give_up_numbers(&mut self.first, &mut self.used, &self.forest);
         Ok(())
     }
 
@@ -108,6 +151,7 @@ impl Draft {
         self.forest.are_trees();
         let copied = self.forest.copy(node)?;
         self.forest.are_trees();
+        give_up_numbers(&mut self.first, &mut self.used, &self.forest);
         Ok(copied)
     }
 
@@ -120,6 +164,7 @@ impl Draft {
         self.forest.are_trees();
         let top = self.forest.plant(lit, prefixes, space)?;
         self.forest.are_trees();
+        give_up_numbers(&mut self.first, &mut self.used, &self.forest);
         Ok(top)
     }
 
@@ -132,6 +177,7 @@ impl Draft {
         self.forest.are_trees();
         let top = self.forest.plant_bare(tree, prefixes)?;
         self.forest.are_trees();
+        give_up_numbers(&mut self.first, &mut self.used, &self.forest);
         Ok(top)
     }
 
@@ -143,6 +189,7 @@ impl Draft {
         self.forest.drop_detached();
         self.forest.are_trees();
         self.ledger.commit(&self.forest);
+        give_up_numbers(&mut self.first, &mut self.used, &self.forest);
     }
 
     /// Gives the forest back that was kept, with the number that was next. Takes no memory.
@@ -152,5 +199,15 @@ impl Draft {
         self.forest.are_trees();
         self.ledger.roll_back(&mut self.forest);
         self.forest.are_trees();
+        give_up_numbers(&mut self.first, &mut self.used, &self.forest);
     }
+}
+
+/// No number is reserved any more.
+fn give_up_numbers(first: &mut u128, used: &mut Vec<u128>, forest: &Forest)
+    ensures first { first.new ≡ forest.now.forest.next }
+    ensures used { used.new.items ≡ [] }
+{
+    *first = forest.next_number();
+    used.clear();
 }

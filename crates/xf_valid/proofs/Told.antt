@@ -6,7 +6,7 @@ use Rattle.xf_doc.specs.declared.content.Node.{Node}
 use Rattle.xf_doc.specs.declared.node.NodeId.{NodeId}
 use Rattle.xf_doc.specs.Forest.{has_number}
 use Rattle.xf_binds.specs.Kept.{Kept}
-use Rattle.xf_valid.specs.declared.marks.Marks.{Marks}
+use Rattle.xf_ui.specs.declared.marks.Marks.{Marks}
 use Rattle.xf_valid.specs.declared.marks.Passed.{Passed}
 use Rattle.xf_valid.specs.Chain.{AreTold}
 use Rattle.xf_valid.specs.Nodes.{relevant_in, readonly_in}

@@ -6,7 +6,7 @@ use Rattle.xf_doc.specs.declared.content.Node.{Node}
 use Rattle.xf_doc.specs.Visit.{visits, has}
 use Rattle.xf_model.specs.Properties.{is_relevant, is_readonly, is_required}
 use Rattle.xf_binds.specs.Kept.{Kept, values_in}
-use Rattle.xf_valid.specs.declared.marks.Marks.{Marks}
+use Rattle.xf_ui.specs.declared.marks.Marks.{Marks}
 
 abbrev pub relevant_in : List Kept → List Node → ℕ → Bool
 relevant_in table nodes n = is_relevant (visits nodes) (values_in table) n

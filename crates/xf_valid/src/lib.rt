@@ -6,5 +6,6 @@ mod marks;
 mod nodes;
 
 pub use invalid::revalidate;
-pub use marks::{Marks, marks_of};
+pub use marks::marks_of;
 pub use nodes::{is_readonly, is_relevant, is_required, is_valid};
+pub use xf_ui::Marks;

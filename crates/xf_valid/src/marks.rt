@@ -12,15 +12,7 @@ use xf_binds::Table;
 use xf_doc::{NodeId, NodeList};
 use xf_model::Property;
 use xf_tree::Forest;
-
-/// The properties of a node.
-#[derive(Clone, Copy, Debug, PartialEq, Eq)]
-pub struct Marks {
-    pub relevant: bool,
-    pub readonly: bool,
-    pub required: bool,
-    pub valid: bool,
-}
+use xf_ui::Marks;
 
 /// A node that was passed, with what those below it have from it.
 #[derive(Clone, Copy, Debug)]

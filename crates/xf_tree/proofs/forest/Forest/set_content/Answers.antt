@@ -1,27 +1,22 @@
-use Rattle.std.proofs.Common.{◌≡◌, ℕ, ◌+◌, ◌-◌, ◌<◌, ◌≤◌, ◌^◌, ◌++◌, ◌∷◌, [], List, length, map, take, drop, Some, Result, Ok, inr, sym, ap, ◌∙◌, subst, arith, false, vec_capacity}
+use Rattle.std.proofs.Common.{◌≡◌, ℕ, ◌+◌, ◌-◌, ◌≤◌, length, map, take, drop, List, false, Some, Ok, inr, sym, ap, ◌∙◌, subst, arith}
 use Rattle.std.proofs.lemmas.List.{length-map}
-use Rattle.slab.specs.Slab.{Updates}
-use Rattle.xf_doc.specs.declared.node.NodeId.{NodeId}
-use Rattle.xf_doc.specs.declared.fault.TreeFault.{TreeFault}
 use Rattle.xf_doc.specs.declared.content.Kind.TheVariants.{Element}
 use Rattle.xf_doc.specs.Forest.{kind_at}
 use Rattle.xf_doc.specs.Visit.{visits}
 use Rattle.xf_doc.specs.Shape.{has_elements}
 use Rattle.xf_doc.specs.Limits.{limits, unless, all_size}
-use Rattle.xf_doc.specs.Texts.{text_set, Before, Keeping, element_texts, one_text, with_texts, kept_from}
+use Rattle.xf_doc.specs.Texts.{Before, Keeping, text_set}
 use Rattle.xf_tree.specs.declared.rows.Row.{Row}
 use Rattle.xf_tree.specs.Rows.{tree_of, deeper}
-use Rattle.xf_tree.specs.Tree.{StandsAt, unsized, content_in, keeping_of, node_of, kept_of, IsState}
-use Rattle.xf_tree.specs.Texts.{passed_by, text_count, children, numbers_at, run_of, depth_at, AreAt, IsOwned, keys_of, text_slot, with_text_rows, numbers_in}
-use Rattle.xf_tree.proofs.AddLemmas.{bytes-most, same-state}
+use Rattle.xf_tree.specs.Tree.{StandsAt, node_of, keeping_of, times, kept_times}
+use Rattle.xf_tree.specs.Texts.{passed_by, text_count, children, run_of, depth_at}
+use Rattle.xf_tree.specs.Settled.{text_written}
+use Rattle.xf_tree.proofs.AddLemmas.{bytes-most}
 use Rattle.xf_tree.proofs.CountLemmas.{nodes-most}
 use Rattle.xf_tree.proofs.PlaceLemmas.{tree-size}
-use Rattle.xf_tree.proofs.ChildlessLemmas.{run-flat}
-use Rattle.xf_tree.proofs.SetLemmas.{children-alike, numbers-alike, added-keeps, content-set, passed-short, count-most, depth-most}
-use Rattle.xf_tree.proofs.SwapLemmas.{live-run}
-use Rattle.xf_tree.proofs.TakenLemmas.{state-now, view-now, gone-is, live-children}
+use Rattle.xf_tree.proofs.SetLemmas.{content-passed, no-attribute, set-written, count-most}
 use Rattle.xf_tree.proofs.forest.Forest.set_content.Goals as goal
-use Rattle.xf_tree.proofs.forest.Forest.set_content.Goals.{After-passed as Passed, After-keep_texts as Kept, After-change_texts as Changed}
+use Rattle.xf_tree.proofs.forest.Forest.set_content.Goals.{After-passed as Passed}
 
 stands-in : (c : Passed) → StandsAt c.self.inside.slots c.self.inside.rows.items c.args.node.number c.in-Some.at
 stands-in c = subst (λ r. StandsAt c.self.inside.slots r c.args.node.number c.in-Some.at) c.deref.ensures.value c.in-Some.ensures
@@ -68,158 +63,46 @@ bytes-in c =
     let b = bytes-most c.self.inside.slots c.self.inside.rows.items c.self.invariant.counted.small in
     omega (arith, c.saturating_add-bytes.ensures, c.saturating_sub-rest.ensures, size-in c, b, c.self.invariant.counted.bytes, c.self.invariant.sound.few)
 
-abbrev value-in : (c : Passed) → Before × Keeping
-value-in c = (
-  element_texts (numbers_at c.self.inside.slots (children c.self.inside.slots (run_of c.in-Some.at c.self.inside.rows.items))),
-  record {
-    forest = record {
-      nodes = with_texts c.args.node.number (one_text c.self.inside.next c.args.text.now) (map (node_of c.self.inside.slots) c.self.inside.rows.items);
-      next = c.self.inside.next + text_count c.args.text.now;
-    };
-    kept = map (kept_of c.self.inside.slots) c.self.inside.kept.items
-        ++ kept_from c.args.node.number (map (node_of c.self.inside.slots) (children c.self.inside.slots (run_of c.in-Some.at c.self.inside.rows.items)));
-  },
-)
-
 passed-in : (c : Passed) → c.passed.result ≡ passed_by (c.self.inside.count - length (children c.self.inside.slots (run_of c.in-Some.at c.self.inside.rows.items)) + text_count c.args.text.now) (length c.args.text.now)
     (c.self.inside.bytes - all_size (map (node_of c.self.inside.slots) (children c.self.inside.slots (run_of c.in-Some.at c.self.inside.rows.items))) + length c.args.text.now)
 passed-in c =
     c.passed.ensures ∙ ap (λ k. passed_by k (length c.args.text.now) c.saturating_add-bytes.result) (count-in c)
     ∙ ap (λ b. passed_by (c.self.inside.count - length (children c.self.inside.slots (run_of c.in-Some.at c.self.inside.rows.items)) + text_count c.args.text.now) (length c.args.text.now) b) (bytes-in c)
 
-set-in : (c : Passed) → text_set limits c.args.node.number c.args.text.now c.args.self.now ≡ unless c.passed.result (value-in c)
+-- the text has the next number, and the one behind it is next then
+set-in : (c : Passed) → text_set limits c.args.node.number c.args.text.now c.args.self.now
+    ≡ unless c.passed.result (text_written c.self.inside.next (c.self.inside.next + text_count c.args.text.now) c.args.node.number c.args.text.now c.args.self.now)
 set-in c =
-    ap (text_set limits c.args.node.number c.args.text.now) (sym c.self.view_is)
-    ∙ content-set c.self.inside.slots c.args.node.number c.in-Some.at c.args.text.now c.self.inside.rows.items c.self.inside.kept.items c.self.inside.next c.self.inside.count c.self.inside.bytes _
-    c.self.invariant (stands-in c) (kind-in c) (childless-in c)
-    ∙ ap (λ o. unless o (value-in c)) (sym (passed-in c))
+    let s = c.self.inside.slots in
+    let n = c.args.node.number in
+    let text = c.args.text.now in
+    let rows = c.self.inside.rows.items in
+    let next = c.self.inside.next in
+    let k = keeping_of s rows c.self.inside.kept.items next in
+    let written : Keeping → Before × Keeping = text_written next (next + text_count text) n text in
+    let none = no-attribute s n c.in-Some.at next text rows c.self.inside.kept.items next c.self.inside.count c.self.inside.bytes _ c.self.invariant (stands-in c) (kind-in c) (childless-in c) in
+    let limit = content-passed s n c.in-Some.at text rows c.self.inside.kept.items next c.self.inside.count c.self.inside.bytes _ c.self.invariant (stands-in c) (kind-in c) (childless-in c) in
+    ap (text_set limits n text) (sym c.self.view_is) ∙ set-written n text k none ∙ ap (λ o. unless o (written k)) (limit ∙ sym (passed-in c))
+    ∙ ap (λ (k : Keeping). unless c.passed.result (written k)) c.self.view_is
 
 pub returns-in-Some-passed-clause-answer : goal.returns-in-Some-passed-clause-answer
 returns-in-Some-passed-clause-answer c =
     let p = (goal.at.returns-in-Some-passed-clause-answer c).After-passed in
-    inr (set-in p ∙ ap (λ o. unless o (value-in p)) c.in-Some-passed.is)
+    inr (set-in p ∙ ap (λ o. unless o (text_written c.self.inside.next (c.self.inside.next + text_count c.args.text.now) c.args.node.number c.args.text.now c.args.self.now)) c.in-Some-passed.is)
 
-pub invariant_of-self : goal.invariant_of-self
-invariant_of-self c =
-    let s1 = c.make_room.new.slots in
+pub write_content-requires-clause-number : goal.write_content-requires-clause-number
+write_content-requires-clause-number c =
     let next = c.self.inside.next in
-    let count = c.self.inside.count in
-    let bytes = c.self.inside.bytes in
-    let state = same-state c.self.inside.slots s1 c.self.inside.rows.items c.self.inside.kept.items next count bytes _ (vec_capacity c.make_room.new.rows) c.make_room.ensures.same c.make_room.ensures.spare c.self.invariant in
-    subst (λ k. IsState s1 c.make_room.new.rows.items k next count bytes (vec_capacity c.make_room.new.rows)) (sym c.make_room.ensures.kept)
-    (subst (λ r. IsState s1 r c.self.inside.kept.items next count bytes (vec_capacity c.make_room.new.rows)) (sym c.make_room.ensures.rows) state)
-
-pub change_texts-requires-clause-flat : goal.change_texts-requires-clause-flat
-change_texts-requires-clause-flat c =
-    let p = (goal.at.change_texts-requires-clause-flat c).After-passed in
-    subst (λ r. AreAt (depth_at c.in-Some.at r + 1) (run_of c.in-Some.at r)) (sym c.make_room.ensures.rows)
-    (run-flat c.self.inside.slots c.args.node.number c.in-Some.at c.self.inside.rows.items c.self.inside.kept.items c.self.inside.next c.self.invariant.sound (stands-in p) (kind-in p) (childless-in p))
-
-pub change_texts-requires-clause-deep : goal.change_texts-requires-clause-deep
-change_texts-requires-clause-deep c =
-    let p = (goal.at.change_texts-requires-clause-deep c).After-passed in
-    let rows = c.self.inside.rows.items in
-    let at = c.in-Some.at in
-    let deep : depth_at at rows + 1 < 2 ^ 32 = depth-most at rows (stands-in p).within c.self.invariant.sound.steps (omega (arith, c.self.invariant.sound.few)) in
-    subst (λ r. depth_at at r + 1 < 2 ^ 32) (sym c.make_room.ensures.rows) deep
-
-pub keep_texts-requires-clause-had : goal.keep_texts-requires-clause-had
-keep_texts-requires-clause-had c =
-    let p = (goal.at.keep_texts-requires-clause-had c).After-passed in
-    let s = c.self.inside.slots in
-    let s2 = c.add_text-place.new.slots in
-    let run = run-in p c.deref-5.result.now (c.deref-5.ensures.value ∙ c.make_room.ensures.rows) in
-    let slot = subst (λ t. Updates c.make_room.new.slots s2 c.add_text-place.result (text_slot c.self.inside.next t)) c.in_ok-word.ensures c.add_text-place.ensures.slot in
-    let keeps = added-keeps s c.make_room.new.slots s2 c.add_text-place.result c.self.inside.next c.args.text.now c.make_room.ensures.same c.add_text-place.ensures.vacant slot in
-    let live = live-run s c.args.node.number c.in-Some.at c.self.inside.rows.items c.self.inside.kept.items c.self.inside.next c.self.invariant.sound (stands-in p) (kind-in p) (childless-in p) in
-    let same = children-alike s s2 (run_of c.in-Some.at c.self.inside.rows.items) live (λ key some. ap content_in (keeps key some)) in
-    let long = ap (λ l. length (children s2 l)) run ∙ ap length same in
-    omega (arith, long, taken-in p, c.in_ok-had.ensures.exact, c.in_ok-had.ensures.len)
-
--- what the steps after the last refusal have done
-slot-in : (c : Changed) → Updates c.make_room.new.slots c.add_text-place.new.slots c.add_text-place.result (text_slot c.self.inside.next c.args.text.now)
-slot-in c = subst (λ t. Updates c.make_room.new.slots c.add_text-place.new.slots c.add_text-place.result (text_slot c.self.inside.next t)) c.in_ok-word.ensures c.add_text-place.ensures.slot
-
-owned-in : (c : Changed) → take (c.end_of-end.result - (c.in-Some.at + 1)) (drop (c.in-Some.at + 1) c.deref-5.result.now) ≡ run_of c.in-Some.at c.self.inside.rows.items
-    → IsOwned c.args.node.number (keys_of (children c.add_text-place.new.slots (run_of c.in-Some.at c.self.inside.rows.items))) c.add_text-place.new.slots c.keep_texts.new.slots
-owned-in c run = subst (λ l. IsOwned c.args.node.number (keys_of (children c.add_text-place.new.slots l)) c.add_text-place.new.slots c.keep_texts.new.slots) run c.keep_texts.ensures.slots
-
-rows-in : (c : Changed) → map unsized c.change_texts.new.rows.items
-    ≡ map unsized (with_text_rows c.keep_texts.new.slots c.in-Some.at (take (text_count c.args.text.now) (record { number = c.self.inside.next; place = c.add_text-place.result } ∷ [])) c.self.inside.rows.items)
-rows-in c =
-    let texts : ℕ → List NodeId = λ k. take k (record { number = c.self.inside.next; place = c.add_text-place.result } ∷ []) in
-    let is : map unsized c.change_texts.new.rows.items ≡ map unsized (with_text_rows c.keep_texts.new.slots c.in-Some.at (texts c.text_count-more.result) c.make_room.new.rows.items) = c.change_texts.ensures.rows in
-    is ∙ ap (λ k. map unsized (with_text_rows c.keep_texts.new.slots c.in-Some.at (texts k) c.make_room.new.rows.items)) c.text_count-more.ensures
-    ∙ ap (λ r. map unsized (with_text_rows c.keep_texts.new.slots c.in-Some.at (texts (text_count c.args.text.now)) r)) c.make_room.ensures.rows
-
-kept-in : (c : Changed) → take (c.end_of-end.result - (c.in-Some.at + 1)) (drop (c.in-Some.at + 1) c.deref-5.result.now) ≡ run_of c.in-Some.at c.self.inside.rows.items
-    → c.keep_texts.new.kept.items ≡ c.self.inside.kept.items ++ keys_of (children c.add_text-place.new.slots (run_of c.in-Some.at c.self.inside.rows.items))
-kept-in c run =
-    c.keep_texts.ensures.kept ∙ ap (λ l. c.make_room.new.kept.items ++ keys_of (children c.add_text-place.new.slots l)) run
-    ∙ ap (λ l. l ++ keys_of (children c.add_text-place.new.slots (run_of c.in-Some.at c.self.inside.rows.items))) c.make_room.ensures.kept
-
-pub invariant_of-self-2 : goal.invariant_of-self-2
-invariant_of-self-2 c =
-    let p = (goal.at.invariant_of-self-2 c).After-passed in
-    let k = (goal.at.invariant_of-self-2 c).After-change_texts in
-    let s = c.self.inside.slots in
-    let n = c.args.node.number in
-    let at = c.in-Some.at in
-    let text = c.args.text.now in
-    let rows = c.self.inside.rows.items in
-    let kept = c.self.inside.kept.items in
-    let next = c.self.inside.next in
-    let s3 = c.keep_texts.new.slots in
-    let new = c.change_texts.new.rows.items in
-    let went = children s (run_of at rows) in
-    let run = run-in p c.deref-5.result.now (c.deref-5.ensures.value ∙ c.make_room.ensures.rows) in
-    let here = stands-in p in
-    let kind = kind-in p in
-    let childless = childless-in p in
-    let few : length rows + length kept + 1 < 2 ^ 31 = omega (arith, c.in_ok-make_room.ensures.few, c.self.inside.rows.ok.0, c.self.inside.kept.ok.0) in
-    let spare : length rows + (length kept + 1) ≤ vec_capacity c.change_texts.new.rows =
-    omega (arith, c.in_ok-make_room.ensures.row, c.change_texts.ensures.room, c.self.inside.rows.ok.0, c.self.inside.kept.ok.0) in
-    let short = passed-short c.saturating_add-count.result (length text) c.saturating_add-bytes.result (sym c.passed.ensures ∙ c.in_default-passed.is) in
-    let same = gone-is s c.make_room.new.slots c.add_text-place.new.slots s3 n at c.add_text-place.result text rows new kept next c.self.inside.count c.self.inside.bytes _ c.self.invariant here kind childless
-    c.make_room.ensures.same c.add_text-place.ensures.vacant (slot-in k) (owned-in k run) (rows-in k) in
-    let state = state-now s c.make_room.new.slots c.add_text-place.new.slots s3 n at c.add_text-place.result text rows new kept next c.self.inside.count c.self.inside.bytes _ c.self.invariant here kind childless
-    c.make_room.ensures.same c.add_text-place.ensures.vacant (slot-in k) (owned-in k run) (rows-in k) (vec_capacity c.change_texts.new.rows) c.change_texts.ensures.sized few spare short in
-    let kept2 : c.keep_texts.new.kept.items ≡ kept ++ keys_of went = kept-in k run ∙ ap (λ l. kept ++ keys_of l) same in
-    subst (λ l. IsState s3 new l (next + c.text_count-more.result) c.saturating_add-count.result c.saturating_add-bytes.result (vec_capacity c.change_texts.new.rows)) (sym kept2)
-    (subst (λ m. IsState s3 new (kept ++ keys_of went) (next + m) c.saturating_add-count.result c.saturating_add-bytes.result (vec_capacity c.change_texts.new.rows)) (sym c.text_count-more.ensures)
-    (subst (λ m. IsState s3 new (kept ++ keys_of went) (next + text_count text) m c.saturating_add-bytes.result (vec_capacity c.change_texts.new.rows)) (sym (count-in p))
-    (subst (λ b. IsState s3 new (kept ++ keys_of went) (next + text_count text) (c.self.inside.count - length went + text_count text) b (vec_capacity c.change_texts.new.rows)) (sym (bytes-in p)) state)))
+    let free = c.self.invariant.sound.fresh next (omega arith) in
+    record {
+      free = subst (λ (k : Keeping). times next k.forest.nodes + kept_times next k.kept ≡ 0) c.self.view_is free;
+      later = subst (λ (k : Keeping). k.forest.next ≤ next + c.text_count-more.result) c.self.view_is (omega arith);
+      below = omega (arith, c.text_count-more.ensures);
+    }
 
 pub returns-clause-answer : goal.returns-clause-answer
 returns-clause-answer c =
     let p = (goal.at.returns-clause-answer c).After-passed in
-    let k = (goal.at.returns-clause-answer c).After-change_texts in
-    let s = c.self.inside.slots in
-    let s2 = c.add_text-place.new.slots in
-    let n = c.args.node.number in
-    let at = c.in-Some.at in
-    let text = c.args.text.now in
-    let rows = c.self.inside.rows.items in
-    let kept = c.self.inside.kept.items in
-    let next = c.self.inside.next in
-    let s3 = c.keep_texts.new.slots in
-    let new = c.change_texts.new.rows.items in
-    let went = children s (run_of at rows) in
-    let run = run-in p c.deref-5.result.now (c.deref-5.ensures.value ∙ c.make_room.ensures.rows) in
-    let here = stands-in p in
-    let kind = kind-in p in
-    let childless = childless-in p in
-    let same = gone-is s c.make_room.new.slots s2 s3 n at c.add_text-place.result text rows new kept next c.self.inside.count c.self.inside.bytes _ c.self.invariant here kind childless
-    c.make_room.ensures.same c.add_text-place.ensures.vacant (slot-in k) (owned-in k run) (rows-in k) in
-    let view = view-now s c.make_room.new.slots s2 s3 n at c.add_text-place.result text rows new kept next c.self.inside.count c.self.inside.bytes _ c.self.invariant here kind childless
-    c.make_room.ensures.same c.add_text-place.ensures.vacant (slot-in k) (owned-in k run) (rows-in k) in
-    let kept2 : c.keep_texts.new.kept.items ≡ kept ++ keys_of went = kept-in k run ∙ ap (λ l. kept ++ keys_of l) same in
-    let keeps = added-keeps s c.make_room.new.slots s2 c.add_text-place.result next text c.make_room.ensures.same c.add_text-place.ensures.vacant (slot-in k) in
-    let live = live-children s (run_of at rows) (live-run s n at rows kept next c.self.invariant.sound here kind childless) in
-    let had : numbers_in c.keep_texts.new.had.items ≡ numbers_at s went =
-    c.keep_texts.ensures.had ∙ ap (λ l. numbers_in l ++ numbers_at s2 (children s2 (take (c.end_of-end.result - (at + 1)) (drop (at + 1) c.deref-5.result.now)))) c.in_ok-had.ensures.items
-    ∙ ap (λ l. numbers_at s2 (children s2 l)) run ∙ ap (numbers_at s2) same ∙ numbers-alike s s2 went live keeps in
-    let pair : List ℕ → Keeping → Result (Before × Keeping) TreeFault = λ t k. Ok (element_texts t, k) in
-    let now : keeping_of s3 new c.keep_texts.new.kept.items (next + c.text_count-more.result) ≡ (value-in p).1 =
-    ap (λ l. keeping_of s3 new l (next + c.text_count-more.result)) kept2 ∙ ap (λ m. keeping_of s3 new (kept ++ keys_of went) (next + m)) c.text_count-more.ensures ∙ view in
-    set-in p ∙ ap (λ o. unless o (value-in p)) c.in_default-passed.is ∙ ap (λ t. pair t (value-in p).1) (sym had) ∙ ap (pair (numbers_in c.keep_texts.new.had.items)) (sym now)
+    let written : ℕ → Before × Keeping = λ next2. text_written c.self.inside.next next2 c.args.node.number c.args.text.now c.args.self.now in
+    set-in p ∙ ap (λ o. unless o (written (c.self.inside.next + text_count c.args.text.now))) c.in_default-passed.is
+    ∙ ap (λ m. Ok (written (c.self.inside.next + m))) (sym c.text_count-more.ensures) ∙ ap Ok (sym c.in_ok-before.ensures.ok)

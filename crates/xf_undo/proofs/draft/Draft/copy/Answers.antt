@@ -5,7 +5,7 @@ use Rattle.xf_undo.specs.Draft.{Draft, with_tree}
 use Rattle.xf_doc.specs.Changes.{copied}
 use Rattle.xf_doc.specs.Needs.{MayCopy}
 use Rattle.xf_rollback.proofs.GrowthLaws.{copied-made}
-use Rattle.xf_undo.proofs.DraftLemmas.{drafted, made-as, trees-as, with_kept}
+use Rattle.xf_undo.proofs.DraftLemmas.{drafted, made-as, trees-as, with_kept, none-free}
 use Rattle.xf_undo.proofs.draft.Draft.copy.Goals as goal
 use Rattle.xf_undo.proofs.draft.Draft.copy.Goals.{After-are_trees-2}
 
@@ -16,10 +16,10 @@ made-then c =
     made-as (copied-made limits c.args.node.number c.in_ok-copied.copied.number c.copy.new.self.forest c.self.invariant.made c.are_trees.ensures (subst (λ (d : Draft). MayCopy c.args.node.number d.now) (sym c.self.view_is) c.requires.may) c.in_ok-copied.ensures.answer (trees-as c.are_trees-2.ensures (sym beside))) refl beside
 
 pub invariant_of-self-2 : goal.invariant_of-self-2
-invariant_of-self-2 c = record { start = c.self.invariant.start; made = made-then (goal.at.invariant_of-self-2 c).After-are_trees-2 }
+invariant_of-self-2 c = record { start = c.self.invariant.start; made = made-then (goal.at.invariant_of-self-2 c).After-are_trees-2; free = none-free _ _ c.copy.new.self c.give_up_numbers.ensures.first }
 
 pub returns-clause-answer : goal.returns-clause-answer
 returns-clause-answer c =
     let made = made-then (goal.at.returns-clause-answer c).After-are_trees-2 in
     ap (λ (d : Draft). with_tree c.args.self.now (copied limits c.args.node.number d.now)) (sym c.self.view_is) ∙ ap (with_tree c.args.self.now) c.in_ok-copied.ensures.answer
-    ∙ ap (λ (d : Draft). Ok (c.in_ok-copied.copied.number, d)) (sym (drafted c.args.self.now c.self.view_is c.self.invariant.made c.are_trees.ensures made c.are_trees-2.ensures))
+    ∙ ap (λ (d : Draft). Ok (c.in_ok-copied.copied.number, d)) (sym (drafted c.args.self.now c.self.view_is c.self.invariant.made c.are_trees.ensures made c.are_trees-2.ensures c.give_up_numbers.ensures.first c.give_up_numbers.ensures.used))

@@ -3,9 +3,9 @@ use Rattle.xf_doc.specs.Changes.{detached}
 use Rattle.xf_doc.specs.Needs.{MayDetach}
 use Rattle.xf_doc.specs.Texts.{Keeping}
 use Rattle.xf_doc.specs.Undo.{place_filled}
-use Rattle.xf_undo.specs.Draft.{Draft}
+use Rattle.xf_undo.specs.Draft.{Draft, changed}
 use Rattle.xf_rollback.specs.Made.{Made, cut}
-use Rattle.xf_undo.proofs.DraftLemmas.{drafted, made-as}
+use Rattle.xf_undo.proofs.DraftLemmas.{drafted, made-as, none-free}
 use Rattle.xf_undo.proofs.draft.Draft.detach.Goals.{After-are_trees-2}
 use Rattle.xf_undo.proofs.draft.Draft.detach.Goals as goal
 
@@ -17,11 +17,11 @@ made-then c =
     (c.fill_place.ensures ∙ ap (place_filled c.detach-place.result.0.number c.detach-place.result.1) c.in_ok-note.ensures.ok) c.detach-place.ensures.moved
 
 pub invariant_of-self-2 : goal.invariant_of-self-2
-invariant_of-self-2 c = record { start = c.self.invariant.start; made = made-then (goal.at.invariant_of-self-2 c).After-are_trees-2 }
+invariant_of-self-2 c = record { start = c.self.invariant.start; made = made-then (goal.at.invariant_of-self-2 c).After-are_trees-2; free = none-free _ _ c.detach-place.new.self c.give_up_numbers.ensures.first }
 
 pub returns-clause-ok : goal.returns-clause-ok
 returns-clause-ok c =
     let k = (goal.at.returns-clause-ok c).After-are_trees-2 in
-    let kept = c.args.self.now.kept in
-    drafted c.args.self.now c.self.view_is c.self.invariant.made c.are_trees.ensures (made-then k) c.are_trees-2.ensures ∙ ap (λ (k : Keeping). record { kept = kept; now = k.forest }) c.detach-place.ensures.moved
-    ∙ ap (λ (d : Draft). record { kept = kept; now = detached c.args.node.number d.now }) c.self.view_is
+    let d = c.args.self.now in
+    drafted d c.self.view_is c.self.invariant.made c.are_trees.ensures (made-then k) c.are_trees-2.ensures c.give_up_numbers.ensures.first c.give_up_numbers.ensures.used ∙ ap (λ (k : Keeping). changed d k.forest) c.detach-place.ensures.moved
+    ∙ ap (λ (e : Draft). changed d (detached c.args.node.number e.now)) c.self.view_is

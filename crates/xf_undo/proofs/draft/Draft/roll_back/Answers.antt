@@ -1,10 +1,10 @@
 use Rattle.std.proofs.Common.{◌≡◌, ap, ◌∙◌}
 use Rattle.xf_doc.specs.Texts.{Keeping}
-use Rattle.xf_undo.specs.Draft.{Draft}
+use Rattle.xf_undo.specs.Draft.{Draft, plain, changed}
 use Rattle.xf_rollback.specs.Made.{Made}
 use Rattle.xf_rollback.proofs.Laws.{can_roll_back, rolls_back}
 use Rattle.xf_rollback.proofs.MadeLemmas.{keeps-again}
-use Rattle.xf_undo.proofs.DraftLemmas.{drafted, made-as}
+use Rattle.xf_undo.proofs.DraftLemmas.{drafted, made-as, none-free}
 use Rattle.xf_undo.proofs.draft.Draft.roll_back.Goals.{After-are_trees-2}
 use Rattle.xf_undo.proofs.draft.Draft.roll_back.Goals as goal
 
@@ -19,10 +19,11 @@ made-then : (c : After-are_trees-2) → Made c.self.invariant.start c.roll_back.
 made-then c = made-as (keeps-again c.self.invariant.made) c.roll_back.ensures.none (back-is c)
 
 pub invariant_of-self : goal.invariant_of-self
-invariant_of-self c = record { start = c.self.invariant.start; made = made-then (goal.at.invariant_of-self c).After-are_trees-2 }
+invariant_of-self c = record { start = c.self.invariant.start; made = made-then (goal.at.invariant_of-self c).After-are_trees-2; free = none-free _ _ c.roll_back.new.forest c.give_up_numbers.ensures.first }
 
 pub returns : goal.returns
 returns c =
     let k = (goal.at.returns c).After-are_trees-2 in
-    drafted c.args.self.now c.self.view_is c.self.invariant.made c.are_trees.ensures (made-then k) c.are_trees-2.ensures
-    ∙ ap (λ (k : Keeping). record { kept = c.args.self.now.kept; now = k.forest }) c.roll_back.ensures.back ∙ ap (λ (d : Draft). record { kept = c.args.self.now.kept; now = d.kept }) c.self.view_is
+    let d = c.args.self.now in
+    drafted d c.self.view_is c.self.invariant.made c.are_trees.ensures (made-then k) c.are_trees-2.ensures c.give_up_numbers.ensures.first c.give_up_numbers.ensures.used ∙ ap (λ (k : Keeping). changed d k.forest) c.roll_back.ensures.back
+    ∙ ap (λ (e : Draft). plain d.kept e.kept) c.self.view_is

@@ -1,0 +1,13 @@
+-- What is written is flushed, one part after another.
+use Rattle.std.proofs.Common.{◌≤◌, ℕ, arith, inl, inr, subst, sym}
+use Rattle.xf_answers.specs.Out.{Taken, IsOut, IsOutOrFailed}
+
+pub out_again : (first mid last : Taken) → IsOut first mid → IsOut mid last → IsOut first last
+out_again first mid last before (inl same) = subst (IsOut first) (sym same) before
+out_again first mid last before (inr flushed) = inr flushed
+
+-- and where the sink failed in one of them, it has counted it
+pub out_or_failed : (first mid last : Taken) (a b c : ℕ) → a ≤ b → b ≤ c → IsOutOrFailed first mid (a, b) → IsOutOrFailed mid last (b, c) → IsOutOrFailed first last (a, c)
+out_or_failed first mid last a b c before after (inl is_out) (inl goes_on) = inl (out_again first mid last is_out goes_on)
+out_or_failed first mid last a b c before after (inl is_out) (inr failed) = inr (omega (arith, before, failed))
+out_or_failed first mid last a b c before after (inr failed) more = inr (omega (arith, after, failed))

@@ -1,0 +1,72 @@
+-- What is written for the lines of a stream by whoever answers one line (who answers it may be free to choose among several replies): each
+-- line is answered in the state that the one before left.
+use Rattle.std.specs.Prelude.{ℕ, ◌≡◌, ◌≤◌, ◌<◌, Bool, true, false, List, [], ◌∷◌, ◌++◌, length, take, drop, nat_lt, codes, Some, None, if◌then◌else◌}
+use Rattle.std.specs.declared.option.Option.{Option as Known}
+use Rattle.xf_base.specs.Limits.{line_limit, stream_limit}
+use Rattle.xf_io.specs.Lines.{lines_of, ended_lines}
+use Rattle.xf_answers.specs.declared.lines.Ending.{Ending}
+use Rattle.xf_answers.specs.declared.lines.Ending.TheVariants.{Done, ReadFault, SinkFault, TooMuch, Memory}
+
+-- for a line in a state these bytes may be written, and that state stands after it
+abbrev pub Replies : Type 0 → Type 1
+Replies A = A → List ℕ → List ℕ → A → Type 0
+
+abbrev pub too_long_reply : List ℕ
+too_long_reply = codes "no E1 LineTooLong\n"
+
+-- ---- a line: one that is too long is passed over
+
+abbrev pub takes_by : Bool → Type 0 → Type 0 → Type 0
+takes_by true long short = long
+takes_by false long short = short
+
+abbrev pub Takes : {A : Type 0} → Replies A → A → List ℕ → List ℕ → A → Type 0
+Takes replies s line text after = takes_by (nat_lt line_limit (length line)) ((text ≡ too_long_reply) × (after ≡ s)) (replies s line text after)
+
+-- ---- lines
+
+-- all of them are answered, one after the other
+abbrev pub TakesAll : {A : Type 0} → Replies A → A → List (List ℕ) → List ℕ → A → Type 0
+TakesAll replies s [] written last = (written ≡ []) × (last ≡ s)
+TakesAll replies s (line ∷ lines) written last =
+    (text rest : List ℕ) × (after : _) × Takes replies s line text after × TakesAll replies after lines rest last × (written ≡ text ++ rest)
+
+abbrev pub Exactly : {A : Type 0} → Replies A → A → List (List ℕ) → List ℕ → Type 0
+Exactly replies first lines written = (last : _) × TakesAll replies first lines written last
+
+abbrev pub IsFront : List ℕ → List ℕ → Type 0
+IsFront front whole = (rest : List ℕ) × (whole ≡ front ++ rest)
+
+-- of the next line, if there is one, a front of a reply is written
+abbrev pub IsBegun : {A : Type 0} → Replies A → A → List (List ℕ) → List ℕ → Type 0
+IsBegun replies s [] part = part ≡ []
+IsBegun replies s (line ∷ lines) part = (text : List ℕ) × (after : _) × Takes replies s line text after × IsFront part text
+
+-- the first lines are answered, and so much of the next one
+abbrev pub AsFarAs : {A : Type 0} → Replies A → A → List (List ℕ) → List ℕ → List ℕ → Type 0
+AsFarAs replies first lines part written =
+    (count : ℕ) × (done : List ℕ) × (now : _) × TakesAll replies first (take count lines) done now × IsBegun replies now (drop count lines) part × (written ≡ done ++ part)
+
+-- the first lines are answered
+abbrev pub SomeOf : {A : Type 0} → Replies A → A → List (List ℕ) → List ℕ → Type 0
+SomeOf replies first lines written = (count : ℕ) × (last : _) × TakesAll replies first (take count lines) written last
+
+-- ---- how the answers end
+
+-- the lines that are answered where nothing fails
+abbrev pub answered_lines : List ℕ → List (List ℕ)
+answered_lines events = if nat_lt stream_limit (length events) then ended_lines (take stream_limit events) else lines_of events
+
+-- what is written as the answers to the lines end so: the events were these bytes, and those are left
+abbrev pub Answers : {A : Type 0} → Replies A → Ending → A → List ℕ → List ℕ → List ℕ → Type 0
+Answers replies Done first events left written = (left ≡ []) × (length events ≤ stream_limit) × Exactly replies first (lines_of events) written
+Answers replies ReadFault first events left written = (given : List ℕ) × (events ≡ given ++ left) × Exactly replies first (ended_lines given) written
+Answers replies SinkFault first events left written = (part : List ℕ) × AsFarAs replies first (answered_lines events) part written
+Answers replies TooMuch first events left written = (stream_limit < length events) × Exactly replies first (ended_lines (take stream_limit events)) written
+Answers replies Memory first events left written = SomeOf replies first (answered_lines events) written
+
+-- the same where the source tells its bytes
+abbrev pub AnswersKnown : {A : Type 0} → Replies A → Ending → A → Known (List ℕ) → Known (List ℕ) → List ℕ → Type 0
+AnswersKnown replies ending first None left written = Unit {0}
+AnswersKnown replies ending first (Some events) None written = ⊥
+AnswersKnown replies ending first (Some events) (Some left) written = Answers replies ending first events left written

@@ -1,0 +1,3 @@
+pub mod Out
+pub mod Answers
+pub mod Answering

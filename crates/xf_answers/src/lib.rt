@@ -1,0 +1,10 @@
+//! The answers to the lines of a stream, by whoever answers one line.
+#![tactic(auto)]
+
+mod answering;
+mod lines;
+mod output;
+
+pub use answering::Answering;
+pub use lines::{Ending, answer_lines};
+pub use output::write_reply;

@@ -1,0 +1,97 @@
+//! The answers to lines, one after the other.
+
+ghost use Rattle.std.specs.Prelude.{◌≡◌, ◌≤◌, true};
+ghost use Rattle.std.specs.Io.KnownBytes.{prepend_known, IsAtEnd};
+ghost use Rattle.xf_base.specs.Faults.{Rose};
+ghost use Rattle.xf_io.specs.Lines.{CountsBytes};
+ghost use Rattle.xf_answers.specs.Out.{IsOutOrFailed};
+ghost use Rattle.xf_answers.specs.Answering.{NextKnown, Answered, IsReplyOrEnd, Moves};
+
+use crate::answering::Answering;
+use crate::output::write_reply;
+use std::alloc::{AllocError, Global};
+use xf_io::{Line, Lines, Sink, Source};
+
+/// How the answers to the lines end.
+#[derive(Clone, Copy, Debug, PartialEq, Eq)]
+pub enum Ending {
+    /// All lines are answered.
+    Done,
+    /// The events could not be read on.
+    ReadFault,
+    /// A reply could not be written.
+    SinkFault,
+    /// The events have more than 67,108,864 bytes.
+    TooMuch,
+    Memory,
+}
+
+/// The reply to the next line, or how the lines end.
+#[derive(Drop)]
+enum Next {
+    Reply(String),
+    Ends(Ending),
+}
+
+/// Answers the lines of the events, one after the other, each reply written before the next line is read.
+pub fn answer_lines<A: Answering, E: Source, O: Sink>(
+    alloc: Global,
+    session: &mut A,
+    events: &mut E,
+    out: &mut O,
+) -> Ending
+    ensures answered { Answered A.answers result session.old (E.left events.old) (E.left events.new) (O.taken out.old) (O.taken out.new) }
+    ensures read { result ≡ Ending.ReadFault → Rose (E.faults events.old) (E.faults events.new) }
+    ensures written { result ≡ Ending.SinkFault → Rose (O.faults out.old) (O.faults out.new) }
+    ensures flushed { IsOutOrFailed (O.taken out.old, O.flushed out.old) (O.taken out.new, O.flushed out.new) (O.faults out.old, O.faults out.new) }
+    ensures later { O.faults out.old ≤ O.faults out.new }
+{
+    let mut lines = Lines::new();
+    loop {
+        match next_reply(alloc, session, &mut lines, events) {
+            Next::Reply(reply) => match write_reply(out, reply.as_bytes()) {
+                Ok(()) => continue,
+                Err(_) => return Ending::SinkFault,
+            },
+            Next::Ends(ending) => return ending,
+        }
+    }
+}
+
+// Reads the next line and does what it asks for.
+#[tactic(auto, using(crate::proofs::Said::takes_short, crate::proofs::Said::takes_long))]
+fn next_reply<A: Answering, E: Source>(
+    alloc: Global,
+    session: &mut A,
+    lines: &mut Lines,
+    events: &mut E,
+) -> Next
+    requires one_source { lines.old.ended ≡ true → IsAtEnd (E.left events.old) }
+    ensures next { NextKnown A.answers session.old session.new (prepend_known lines.old.bytes (E.left events.old)) (prepend_known lines.new.bytes (E.left events.new)) lines.new result }
+    ensures counts { CountsBytes (prepend_known lines.old.bytes (E.left events.old)) (prepend_known lines.new.bytes (E.left events.new)) lines.old.given lines.new.given }
+    ensures moves { Moves result lines.old.given lines.new.given }
+    ensures done { lines.old.ended ≡ true → result ≡ Next.Ends Ending.Done }
+    ensures one_source { lines.new.ended ≡ true → IsAtEnd (E.left events.new) }
+    ensures later { E.faults events.old ≤ E.faults events.new }
+    ensures fault { result ≡ Next.Ends Ending.ReadFault → Rose (E.faults events.old) (E.faults events.new) }
+    ensures no_sink { result ≡ Next.Ends Ending.SinkFault → ⊥ }
+{
+    match lines.next(alloc, events) {
+        Line::Text(line) => reply_or_end(session.answer(alloc, line.as_slice())),
+        Line::TooLong => reply_or_end(String::from_str(alloc, "no E1 LineTooLong\n")),
+        Line::End => Next::Ends(Ending::Done),
+        Line::ReadFault => Next::Ends(Ending::ReadFault),
+        Line::TooMuch => Next::Ends(Ending::TooMuch),
+        Line::Memory => Next::Ends(Ending::Memory),
+    }
+}
+
+// A reply, or the end for want of memory.
+fn reply_or_end(reply: Result<String, AllocError>) -> Next
+    ensures { IsReplyOrEnd reply result }
+{
+    match reply {
+        Ok(reply) => Next::Reply(reply),
+        Err(_) => Next::Ends(Ending::Memory),
+    }
+}

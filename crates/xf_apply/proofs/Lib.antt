@@ -1,0 +1,5 @@
+pub mod AddLaws
+pub mod StandingLaws
+pub mod SetLaws
+pub mod Chains
+pub mod EntryLaws

@@ -1,0 +1,4 @@
+pub mod Standing
+pub mod Adding
+pub mod Fault
+pub mod Reached

@@ -1,0 +1,11 @@
+pub mod OptionLaws
+pub mod PlaceLaws
+pub mod PathLaws
+pub mod HandedLaws
+pub mod BelowLaws
+pub mod FormLaws
+pub mod WholeLaws
+pub mod CodeLaws
+pub mod NodeLaws
+pub mod WalkLaws
+pub mod ToldLaws

@@ -1,0 +1,170 @@
+//! What an element binds (XForms 1.1, sections 3.2.3 and 3.2.4).
+
+ghost use Rattle.std.specs.Prelude.{◌≡◌, IfOk, map, option_map, slice_get, unwrap_or};
+ghost use Rattle.xf_plain_values.specs.Bounded.{GivesBounded};
+ghost use Rattle.xf_name.specs.declared.axis.Axis.TheVariants.{Child};
+ghost use Rattle.xf_doc.specs.Axis.{axis_of};
+ghost use Rattle.xf_doc.specs.Forest.{IsLive};
+ghost use Rattle.xf_doc.specs.Visit.{first_of, visits};
+ghost use Rattle.xf_lang.specs.Meaning.{meaning};
+ghost use Rattle.xf_eval.specs.Live.{AroundStands};
+ghost use Rattle.xf_nested.specs.StandIns.{stand_ins_of};
+ghost use Rattle.xf_ui.specs.Around.{alone, first_bound};
+ghost use Rattle.xf_ui.specs.Context.{named_model};
+ghost use Rattle.xf_ui.specs.Interface.{binding_of, interface_of, sent_of};
+ghost use Rattle.xf_controls.specs.Below as below;
+ghost use Rattle.xf_controls.specs.Seen.{IsThere, number, seen_bound};
+ghost use Rattle.xf_controls.specs.Surrounded.{around_in, first_from};
+
+use std::alloc::Global;
+use xf_ast::{Binding, Element, Expr, Form, Kind, Selection, Tables};
+use xf_doc::{Kind as NodeKind, NodeId};
+use xf_eval::{Around, Context, EvalFault, nodes_in, value_at};
+use xf_name::Axis;
+use xf_nested::nested;
+use xf_tree::Forest;
+
+/// What an element binds.
+#[derive(Clone, Copy)]
+pub(crate) enum Bound<'a> {
+    Unbound,
+    /// The nodes that an expression selects.
+    Nodes(&'a Expr),
+    /// Those of the bind of this number.
+    ByBind(u32),
+}
+
+/// What an element binds: a submission, what it selects.
+pub(crate) fn binding_of<'a>(tables: &'a Tables, element: &'a Element) -> Bound<'a>
+    ensures { seen_bound result ≡ binding_of tables.now element.now.kind element.now.binding }
+{
+    match &element.kind {
+        Kind::Submission(submission) => sent_by(tables, *submission),
+        _ => match &element.binding {
+            Binding::Absent => Bound::Unbound,
+            Binding::Nodes(expr) => Bound::Nodes(expr),
+            Binding::Bind(bind) => Bound::ByBind(*bind),
+        },
+    }
+}
+
+fn sent_by(tables: &Tables, submission: u32) -> Bound<'_>
+    ensures { seen_bound result ≡ sent_of (slice_get tables.now.submissions submission) }
+{
+    match tables.submissions.as_slice().get(submission as usize) {
+        Some(submission) => match &submission.selection {
+            Selection::Whole => Bound::Unbound,
+            Selection::Ref(expr) => Bound::Nodes(expr),
+            Selection::Bind(bind) => Bound::ByBind(*bind),
+        },
+        None => Bound::Unbound,
+    }
+}
+
+pub(crate) fn is_bound(binding: Bound<'_>) -> bool
+    ensures { result ≡ below.is_bound (seen_bound binding.entry) }
+{
+    match binding {
+        Bound::Unbound => false,
+        _ => true,
+    }
+}
+
+/// The model in scope: that of its bind, else that of `model`, else that of the element around.
+pub(crate) fn scope_of(form: &Form, outer: u32, binding: Bound<'_>, model: Option<u32>) -> u32
+    ensures { result ≡ unwrap_or (named_model (interface_of form.now) (seen_bound binding.entry) model) outer }
+{
+    match binding {
+        Bound::ByBind(bind) => match form.tables.binds.as_slice().get(bind as usize) {
+            Some(bind) => bind.model,
+            None => outer,
+        },
+        _ => match model {
+            Some(model) => model,
+            None => outer,
+        },
+    }
+}
+
+/// The first node that is selected, and then what stands for it.
+pub(crate) fn first_bound<A: Around>(
+    alloc: Global,
+    forest: &Forest,
+    tables: &Tables,
+    around: &A,
+    model: u32,
+    binding: Bound<'_>,
+    focus: Option<NodeId>,
+) -> Result<Option<NodeId>, EvalFault>
+    requires around { AroundStands (A.given around.now) forest.now.forest.nodes }
+    requires focus { IsThere focus forest.now.forest.nodes }
+    ensures value { GivesBounded EvalFault.Memory EvalFault.Long (option_map number) result (first_bound (around_in (A.given around.now) tables.now forest.now.forest.nodes) model (seen_bound binding.entry) (option_map (λ n. alone n.number) focus)) }
+    ensures live { IfOk result (λ found. IsThere found forest.now.forest.nodes) }
+{
+    let Some(focus) = focus else {
+        return Ok(None);
+    };
+    match binding {
+        Bound::Unbound => Ok(None),
+        Bound::Nodes(expr) => first_selected(alloc, forest, around, model, expr, focus),
+        Bound::ByBind(bind) => {
+            let nodes = nested(alloc, forest, tables, bind, around)?;
+            Ok(nodes.get(0))
+        }
+    }
+}
+
+fn first_selected<A: Around>(
+    alloc: Global,
+    forest: &Forest,
+    around: &A,
+    model: u32,
+    expr: &Expr,
+    focus: NodeId,
+) -> Result<Option<NodeId>, EvalFault>
+    requires around { AroundStands (A.given around.now) forest.now.forest.nodes }
+    requires focus { IsLive focus.number forest.now.forest }
+    ensures value { GivesBounded EvalFault.Memory EvalFault.Long (option_map number) result (first_from (A.given around.now) forest.now.forest.nodes model (meaning expr.now) focus.number) }
+    ensures live { IfOk result (λ found. IsThere found forest.now.forest.nodes) }
+{
+    let value = value_at(alloc, forest, around, expr, &context_at(model, focus))?;
+    let nodes = nodes_in(alloc, value);
+    match nodes.get(0) {
+        Some(node) => Ok(stands_for(forest, node)),
+        None => Ok(None),
+    }
+}
+
+/// A node alone as the context.
+pub(crate) fn context_at(model: u32, node: NodeId) -> Context
+    ensures { result ≡ record { model = model; node = node; position = 1; size = 1; current = node } }
+{
+    Context {
+        model,
+        node,
+        position: 1,
+        size: 1,
+        current: node,
+    }
+}
+
+/// A text stands for its parent, and a root for its document element.
+fn stands_for(forest: &Forest, node: NodeId) -> Option<NodeId>
+    requires live { IsLive node.number forest.now.forest }
+    ensures value { option_map number result ≡ first_of (stand_ins_of (visits forest.now.forest.nodes) node.number) }
+    ensures live { IsThere result forest.now.forest.nodes }
+{
+    match forest.kind(node) {
+        NodeKind::Root => first_child(forest, node),
+        NodeKind::Text => forest.parent(node),
+        NodeKind::Element | NodeKind::Attribute => Some(node),
+    }
+}
+
+fn first_child(forest: &Forest, node: NodeId) -> Option<NodeId>
+    requires live { IsLive node.number forest.now.forest }
+    ensures { option_map number result ≡ first_of (axis_of Child node.number (visits forest.now.forest.nodes)) }
+{
+    let mut walk = forest.axis(node, Axis::Child);
+    walk.next()
+}

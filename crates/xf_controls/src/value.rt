@@ -1,0 +1,85 @@
+//! The values of copies (XForms 1.1, section 8.1.1): that of the bound node, or of an output's expression where there is a context node.
+
+ghost use Rattle.std.specs.Prelude.{◌≡◌, None, option_map};
+ghost use Rattle.xf_plain_values.specs.Bounded.{GivesBounded};
+ghost use Rattle.xf_doc.specs.Forest.{IsLive};
+ghost use Rattle.xf_doc.specs.Visit.{visits};
+ghost use Rattle.xf_lang.specs.Meaning.{meaning};
+ghost use Rattle.xf_eval.specs.Live.{AroundStands};
+ghost use Rattle.xf_ui.specs.Around.{alone};
+ghost use Rattle.xf_ui.specs.Copies as copies;
+ghost use Rattle.xf_ui.specs.Interface.{sort_of};
+ghost use Rattle.xf_controls.specs.Seen.{IsThere, number, seen_bound};
+ghost use Rattle.xf_controls.specs.Surrounded.{around_in, printed_from, string_in};
+
+use crate::binding::{Bound, context_at};
+use crate::element::printed_in;
+use std::alloc::Global;
+use xf_ast::{Expr, Kind, Tables};
+use xf_doc::NodeId;
+use xf_eval::{Around, EvalFault, text_of, value_at};
+use xf_name::Word;
+use xf_tree::Forest;
+
+/// No string of an evaluation has more bytes.
+const STRING_LIMIT: u32 = 4_194_304;
+
+/// The value of what binds a node: `None` is no value.
+pub(crate) fn value_of<A: Around>(
+    alloc: Global,
+    forest: &Forest,
+    tables: &Tables,
+    around: &A,
+    model: u32,
+    kind: &Kind,
+    binding: Bound<'_>,
+    focus: Option<NodeId>,
+    node: Option<NodeId>,
+) -> Result<Option<Word>, EvalFault>
+    requires around { AroundStands (A.given around.now) forest.now.forest.nodes }
+    requires focus { IsThere focus forest.now.forest.nodes }
+    requires node { IsThere node forest.now.forest.nodes }
+    ensures { GivesBounded EvalFault.Memory EvalFault.Long (λ value. value) result (copies.value_by (around_in (A.given around.now) tables.now forest.now.forest.nodes) (record { model = model; focus = option_map (λ n. alone n.number) focus }) (seen_bound binding.entry) (sort_of kind.now) (option_map number node)) }
+{
+    match node {
+        Some(node) => Ok(Some(string_of(forest, node)?)),
+        None => match binding {
+            Bound::Unbound => value_printed(alloc, forest, around, model, printed_in(kind), focus),
+            _ => Ok(None),
+        },
+    }
+}
+
+/// The string value of a node.
+fn string_of(forest: &Forest, node: NodeId) -> Result<Word, EvalFault>
+    requires { IsLive node.number forest.now.forest }
+    ensures { GivesBounded EvalFault.Memory EvalFault.Long (λ text. text) result (string_in forest.now.forest.nodes node.number) }
+{
+    match forest.string_value(node, STRING_LIMIT)? {
+        Some(text) => Ok(text),
+        None => Err(EvalFault::Long),
+    }
+}
+
+/// The text of an expression, where one is written and there is a context node.
+fn value_printed<A: Around>(
+    alloc: Global,
+    forest: &Forest,
+    around: &A,
+    model: u32,
+    expr: Option<&Expr>,
+    focus: Option<NodeId>,
+) -> Result<Option<Word>, EvalFault>
+    requires around { AroundStands (A.given around.now) forest.now.forest.nodes }
+    requires focus { IsThere focus forest.now.forest.nodes }
+    ensures { GivesBounded EvalFault.Memory EvalFault.Long (λ value. value) result (printed_from (A.given around.now) forest.now.forest.nodes model (option_map (λ e. meaning e.now) expr.entry) (option_map number focus)) }
+{
+    let Some(expr) = expr else {
+        return Ok(None);
+    };
+    let Some(focus) = focus else {
+        return Ok(None);
+    };
+    let value = value_at(alloc, forest, around, expr, &context_at(model, focus))?;
+    Ok(Some(text_of(alloc, forest, &value)?))
+}

@@ -1,0 +1,2 @@
+pub mod FixedLaw
+pub mod BindsLaw
