@@ -3,3 +3,5 @@ pub mod Places
 pub mod Truths
 pub mod Items
 pub mod NodeSets
+pub mod Tellings
+pub mod Sinces

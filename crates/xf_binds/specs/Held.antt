@@ -1,5 +1,5 @@
 -- The entries and types that the binds of a model set, each with the truth that its value had, and where those of a node stand among them.
-use Rattle.std.specs.Prelude.{ℕ, ◌≡◌, Bool, false, List, map, find, Option, Some, None, slice_get, nat_eq, ◌==◌}
+use Rattle.std.specs.Prelude.{ℕ, ◌≡◌, Bool, false, List, [], ◌∷◌, map, find, Option, Some, None, slice_get, nat_eq, ◌==◌}
 use Rattle.indexmap.specs.IndexMap.{IndexMap, get}
 use Rattle.xf_model.specs.declared.property.Property.{Property}
 use Rattle.xf_model.specs.declared.property.Property.TheVariants.{Kind, Calculate, Relevant, Readonly, Required, Constraint}
@@ -30,6 +30,12 @@ holds items = map held_of items
 
 abbrev pub entries_in : List Held → List applied.Entry
 entries_in held = map (λ h. h.entry) held
+
+-- entries with these truths, by their places: one past them has none
+abbrev pub held_by : List applied.Entry → List (Option Bool) → List Held
+held_by [] truths = []
+held_by (e ∷ es) [] = newly_held e ∷ held_by es []
+held_by (e ∷ es) (t ∷ truths) = record { entry = e; truth = t } ∷ held_by es truths
 
 -- ---- one entry among them
 

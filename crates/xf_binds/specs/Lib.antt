@@ -2,3 +2,4 @@ pub mod NodeSet
 pub mod Held
 pub mod Kept
 pub mod Table
+pub mod Since
