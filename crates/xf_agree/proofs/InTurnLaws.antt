@@ -68,7 +68,7 @@ module _ (b : Bounds) (scope : Scope) (all : List Visit) where
 
   -- ---- none reads what is to come
 
-  abbrev ReadsNone : List Entry → Entry → Type 0
+  abbrev pub ReadsNone : List Entry → Entry → Type 0
   ReadsNone es e = AllOf (λ x. touches (shape all) (reads_of scope (shape all) e) x.node ≡ false) es
 
   abbrev pub AreReadBack : List Entry → Type 0
@@ -79,7 +79,7 @@ module _ (b : Bounds) (scope : Scope) (all : List Visit) where
   back-later [] after h = h
   back-later (e ∷ es) after h = back-later es after h.1
 
-  untouched : (e : Entry) (es : List Entry) → ReadsNone es e → (n : ℕ) → touches (shape all) (reads_of scope (shape all) e) n ≡ true → list_any (λ x. x.node == n) es ≡ false
+  pub untouched : (e : Entry) (es : List Entry) → ReadsNone es e → (n : ℕ) → touches (shape all) (reads_of scope (shape all) e) n ≡ true → list_any (λ x. x.node == n) es ≡ false
   untouched e es h n touched = none-any (λ (x : Entry). x.node == n) es (each_then _ (λ (x : Entry). (x.node == n) ≡ false) (λ x off. of x off (x.node == n) refl) es h)
     where
       of : (x : Entry) → touches (shape all) (reads_of scope (shape all) e) x.node ≡ false → (c : Bool) → (x.node == n) ≡ c → c ≡ false
@@ -175,19 +175,19 @@ module _ (b : Bounds) (scope : Scope) (entries : List Entry) (forest : Forest) (
   pub back : AreReadBack b scope all es
   back = back-from t.ordered.places es t.ordered.at_places t.ordered.order.reads_back
 
-  abbrev Within : (n : ℕ) → Type 0
+  abbrev pub Within : (n : ℕ) → Type 0
   Within n = list_any (λ e. e.node == n) (calculates entries) ≡ false
 
   none-of : (n : ℕ) → Within n → AllOf (λ e. (e.node == n) ≡ false) (calculates entries)
   none-of n h = each-none (λ (e : Entry). e.node == n) (calculates entries) h
 
-  within : (n : ℕ) → Within n → list_any (λ e. e.node == n) es ≡ false
+  pub within : (n : ℕ) → Within n → list_any (λ e. e.node == n) es ≡ false
   within n h = none-any (λ (e : Entry). e.node == n) es (each-in_turn (λ e. (e.node == n) ≡ false) (none-of n h))
 
-  abbrev Agreeing : Entry → Type 0
+  abbrev pub Agreeing : Entry → Type 0
   Agreeing e = AgreesText b scope all entries e
 
-  agreeing : AllOf Agreeing es
+  pub agreeing : AllOf Agreeing es
   agreeing = each-in_turn Agreeing (each_then _ Agreeing (λ e s one other of_one of_other agree. one-text b scope entries forest t.around t.static e s one other of_one of_other agree) (calculates entries) t.static)
 
   abbrev pub ended : Contents

@@ -25,7 +25,7 @@ use Rattle.xf_agree.proofs.TurnLists.{all-later, at-stands, each-stands, none-an
 use Rattle.xf_agree.proofs.FormEntries.{all-filter}
 use Rattle.xf_agree.proofs.InTurnLaws.{each-in_turn, stands-in_turn, text-in_turn, turn-append}
 
-any-stands : {X : Type 0} (p : X → Bool) (xs : List X) (k : ℕ) (x : X) → StandsAt xs k x → p x ≡ true → list_any p xs ≡ true
+pub any-stands : {X : Type 0} (p : X → Bool) (xs : List X) (k : ℕ) (x : X) → StandsAt xs k x → p x ≡ true → list_any p xs ≡ true
 any-stands p [] k x s h = absurd s
 any-stands p (y ∷ ys) zero x s h = or_left (p y) (list_any p ys) (ap p s ∙ h)
 any-stands p (y ∷ ys) (suc k) x s h = or_right (p y) (list_any p ys) (any-stands p ys k x s h)

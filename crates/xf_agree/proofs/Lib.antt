@@ -23,7 +23,9 @@ pub mod FormSettled
 pub mod TurnLists
 pub mod InTurnLaws
 pub mod InTurnLimits
+pub mod InTurnDone
 pub mod FormInTurn
+pub mod FormSettable
 pub mod EvaluatedLaws
 pub mod AskedStand
 pub mod ForestsMeet

@@ -1,6 +1,6 @@
 -- Calculates evaluated one after the other, each over data that hold the texts of those before it, as a recalculation does (XForms 1.1,
 -- section 4.3.2 and appendix C). In an order of their graph they have the settled texts, and pass a limit where the settled ones do.
-use Rattle.std.specs.Prelude.{ℕ, ◌≡◌, Bool, true, false, List, [], ◌∷◌, ◌++◌, length, Option, Some, None, nat_lt, slice_get, ◌==◌}
+use Rattle.std.specs.Prelude.{ℕ, ◌≡◌, Bool, true, false, List, [], ◌∷◌, ◌++◌, filter, length, Option, Some, None, nat_lt, slice_get, ◌==◌}
 use Rattle.std.specs.List.{list_any}
 use Rattle.xf_ast.specs.declared.form.Tables.{Tables}
 use Rattle.xf_doc.specs.Forest.{Forest}
@@ -13,9 +13,9 @@ use Rattle.xf_model.specs.Rules.{Scope, scope_of}
 use Rattle.xf_model.specs.Applied.{Entry}
 use Rattle.xf_model.specs.Entries.{text_of}
 use Rattle.xf_model.specs.Circular.{by_nodes, graph_over}
-use Rattle.xf_model.specs.Settled.{Bounds, Contents, content_of, holding, calculates, content_by, settled_contents, settled, Passed, long, text, is_long, is_over, passed}
+use Rattle.xf_model.specs.Settled.{Bounds, Contents, content_of, holding, calculates, content_by, fitting, settled_contents, settled, Passed, long, text, is_long, is_over, passed}
 use Rattle.xf_model.specs.Pertinent.{AllOf}
-use Rattle.xf_model.specs.Stands.{AreStanding}
+use Rattle.xf_model.specs.Stands.{IsSettled, AreStanding}
 use Rattle.xf_agree.specs.Settles.{Surrounds, IsStatic}
 use Rattle.xf_agree.specs.FormSettles.{AreCovered, Applies}
 
@@ -67,6 +67,24 @@ abbrev pub InTurnTexts : Type 0
 InTurnTexts = (b : Bounds) (scope : Scope) (entries : List Entry) (forest : Forest) (es : List Entry) → AreInTurn b scope entries forest es →
     (before after : List Entry) (e : Entry) → es ≡ before ++ e ∷ after →
     text_of (Some b.string) scope (holding (visits forest.nodes) (in_turn b scope (visits forest.nodes) before [])) e ≡ text_of (Some b.string) scope (settled b scope entries (visits forest.nodes)) e
+
+-- and it has that text while some stand: where those before it have their settled contents, and those after it have none yet
+abbrev pub InTurnDone : Type 0
+InTurnDone = (b : Bounds) (scope : Scope) (entries : List Entry) (forest : Forest) (es : List Entry) → AreInTurn b scope entries forest es →
+    (before after : List Entry) (e : Entry) → es ≡ before ++ e ∷ after → (done : ℕ → Bool) → AllOf (λ f. done f.node ≡ true) before → AllOf (λ f. done f.node ≡ false) (e ∷ after) →
+    text_of (Some b.string) scope (holding (visits forest.nodes) (filter (λ p. done p.0) (settled_contents b scope entries (visits forest.nodes)))) e
+    ≡ text_of (Some b.string) scope (settled b scope entries (visits forest.nodes)) e
+
+-- which makes its settled content, cut off where it is too long
+abbrev pub InTurnContent : Type 0
+InTurnContent = (b : Bounds) (scope : Scope) (entries : List Entry) (forest : Forest) (es : List Entry) → AreInTurn b scope entries forest es →
+    AllOf (λ e. content_of (settled_contents b scope entries (visits forest.nodes)) e.node
+    ≡ Some (fitting b.limits.text (text_of (Some b.string) scope (settled b scope entries (visits forest.nodes)) e))) es
+
+-- and these are settled
+abbrev pub InTurnStands : Type 0
+InTurnStands = (b : Bounds) (scope : Scope) (entries : List Entry) (forest : Forest) (es : List Entry) → AreInTurn b scope entries forest es →
+    IsSettled b scope entries (visits forest.nodes) (settled_contents b scope entries (visits forest.nodes))
 
 -- ---- limits
 

@@ -4,9 +4,9 @@
 
 ghost use Rattle.xf_agree.specs.Settles.{CalculatesAgree, SettlesOnce, Settles};
 ghost use Rattle.xf_agree.specs.Forests.{TwoForestsValue, TwoForests, TwoForestsButNumbers};
-ghost use Rattle.xf_agree.specs.FormSettles.{FormAgrees, FormSettlesOnce, FormSettles};
-ghost use Rattle.xf_agree.specs.Evaluated.{EvaluatedText, EvaluatedTruth};
-ghost use Rattle.xf_agree.specs.InTurn.{InTurnContents, InTurnSettled, InTurnTexts, InTurnPassed, InTurnFitting, FormInTurn};
+ghost use Rattle.xf_agree.specs.FormSettles.{FormAgrees, FormSettlesOnce, FormSettles, FormSettable};
+ghost use Rattle.xf_agree.specs.Evaluated.{EvaluatedText, EvaluatedTruth, EvaluatedLong, EvaluatedPassed, SurroundingsStay, SolidNumbers};
+ghost use Rattle.xf_agree.specs.InTurn.{InTurnContents, InTurnSettled, InTurnTexts, InTurnDone, InTurnContent, InTurnStands, InTurnPassed, InTurnFitting, FormInTurn};
 
 /// Two forests that agree on what a covered expression reads and looks at, texts counted, give it one value, and one text.
 pub fn two_forests()
@@ -37,12 +37,20 @@ pub fn form_settles()
     ensures settled { FormSettles }
 {}
 
+/// The text of each calculated node of a form can be set.
+pub fn form_settable()
+    ensures { FormSettable }
+{}
+
 /// Static calculates that are evaluated in an order of their graph, each over data that hold the texts of those before it, have the settled
 /// texts, and pass the limits of strings and texts where those do.
 pub fn in_turn()
     ensures contents { InTurnContents }
     ensures settled { InTurnSettled }
     ensures texts { InTurnTexts }
+    ensures done { InTurnDone }
+    ensures content { InTurnContent }
+    ensures stands { InTurnStands }
     ensures passed { InTurnPassed }
     ensures fitting { InTurnFitting }
 {}
@@ -56,4 +64,8 @@ pub fn form_in_turn()
 pub fn evaluated()
     ensures text { EvaluatedText }
     ensures truth { EvaluatedTruth }
+    ensures long { EvaluatedLong }
+    ensures passed { EvaluatedPassed }
+    ensures surroundings { SurroundingsStay }
+    ensures numbers { SolidNumbers }
 {}

@@ -11,7 +11,7 @@ use Rattle.xf_lang.specs.Asked as lang
 use Rattle.xf_lang.specs.Reads.{listed}
 use Rattle.xf_lang.specs.Setting as setting
 use Rattle.xf_lang.proofs.VisitFacts.{filter-and}
-use Rattle.xf_lang.proofs.ForestVisits.{Each, each-map, self-found}
+use Rattle.xf_lang.proofs.ForestVisits.{each-map, self-found}
 use Rattle.xf_shape.specs.Spots.{shaped}
 use Rattle.xf_shape.specs.Woven.{is_shown}
 use Rattle.xf_shape.proofs.Bounds.{shown-order}

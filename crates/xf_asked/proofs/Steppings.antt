@@ -1,5 +1,5 @@
 -- What a step tells stands to what it asks as what was told before.
-use Rattle.std.proofs.Common.{◌≡◌, ℕ, ◌+◌, ◌<◌, ◌≤◌, ◌==◌, Bool, true, false, ◌&&◌, ◌||◌, List, [], ◌∷◌, ◌++◌, map, drop, get_or, length, Option, Some, None, refl, sym, ap, ◌∙◌, subst, append_assoc}
+use Rattle.std.proofs.Common.{◌≡◌, ℕ, ◌+◌, ◌<◌, ◌≤◌, ◌==◌, Bool, true, false, ◌&&◌, ◌||◌, List, [], ◌∷◌, ◌++◌, map, drop, get_or, length, Option, Some, None, refl, sym, ap, ◌∙◌, subst}
 use Rattle.std.specs.Prelude.{filter, unwrap_or, option_map}
 use Rattle.std.specs.List.{flat_map}
 use Rattle.std.proofs.lemmas.List.{at_drop_all, at_drop_more}
@@ -15,7 +15,7 @@ use Rattle.xf_doc.proofs.RenumberLaws.{filter-through}
 use Rattle.xf_lang.specs.Agree.{are_apart, numbers_of}
 use Rattle.xf_lang.specs.Asked.{as_set, found, lists_below, read_for}
 use Rattle.xf_lang.specs.Asked as lang
-use Rattle.xf_lang.specs.AskedSteps.{asked_from, filtered, if_tight, is_pair, kind_read, lists_of, read_if, stepped, tells_kinds, text_beside, walks_asked}
+use Rattle.xf_lang.specs.AskedSteps.{filtered, if_tight, is_pair, kind_read, lists_of, read_if, stepped, tells_kinds, text_beside, walks_asked}
 use Rattle.xf_lang.specs.Meaning.{meaning}
 use Rattle.xf_lang.specs.Reads.{trace, trace_of_step}
 use Rattle.xf_lang.specs.Setting.{Setting, Meaning, ◌>>=◌, each, in_order, joined}

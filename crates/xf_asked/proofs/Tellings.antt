@@ -3,12 +3,10 @@ use Rattle.std.proofs.Common.{◌≡◌, ℕ, ◌+◌, ◌<◌, Bool, true, fals
 use Rattle.std.specs.Prelude.{filter}
 use Rattle.std.specs.List.{flat_map, list_all}
 use Rattle.xf_doc.specs.declared.content.Node.{Node}
-use Rattle.xf_doc.specs.Forest.{Forest}
 use Rattle.xf_doc.proofs.BackLaws.{and-true}
 use Rattle.xf_lang.specs.Asked.{as_plain, as_set, as_truth, asked_first, both, converted, first_node, lists_below, read_for, with_read}
 use Rattle.xf_lang.specs.Asked as lang
 use Rattle.xf_lang.specs.AskedSteps.{read_if}
-use Rattle.xf_lang.specs.AskedCalls.{asked_by_both, beside, computed, either}
 use Rattle.xf_lang.specs.Setting.{Setting}
 use Rattle.xf_lang.specs.Setting as setting
 use Rattle.xf_lang.proofs.VisitFacts.{filter-append}
@@ -16,10 +14,10 @@ use Rattle.xf_shape.specs.declared.spot.Spot.{Spot}
 use Rattle.xf_shape.specs.Spots.{AreSpots, is_spot, number_at, numbers_at, shaped}
 use Rattle.xf_shape.specs.Woven.{is_shown}
 use Rattle.xf_shape.proofs.Lists.{filter-flat}
-use Rattle.xf_shape.proofs.Rounds.{each-round, flat-round, numbers-append}
+use Rattle.xf_shape.proofs.Rounds.{flat-round, numbers-append}
 use Rattle.xf_asked.specs.declared.asked.Asked.{Asked}
-use Rattle.xf_asked.specs.Tells.{Stands, Tells, first_spots, is_list}
-use Rattle.xf_asked.proofs.Listings.{all-append, reads-shown}
+use Rattle.xf_asked.specs.Tells.{Tells, first_spots, is_list}
+use Rattle.xf_asked.proofs.Spotted.{all-append}
 
 -- ---- two together
 

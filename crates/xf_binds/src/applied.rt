@@ -6,7 +6,7 @@ ghost use Rattle.std.specs.List.{list_any};
 ghost use Rattle.xf_model.specs.Applied.{sets_same};
 ghost use Rattle.xf_model.specs.Entries.{is_computed};
 ghost use Rattle.xf_binds.specs.Kept.{truth_from, valued_in};
-ghost use Rattle.xf_binds.specs.Held.{entries_in, entry_of, held_at, held_by, held_of, held_on, held_same, holds, is_seat, newly_held, passes, seats_or};
+ghost use Rattle.xf_binds.specs.Held.{entries_in, entry_of, held_at, held_by, held_of, held_on, held_same, holds, is_seat, newly_held, passes, place_on, seats_or};
 ghost use Rattle.indexmap.specs.IndexMap.{get};
 
 use crate::entry::{Entry, Item, Seats};
@@ -66,6 +66,13 @@ impl Applied {
             Some(item) => Some(item.entry),
             None => None,
         }
+    }
+
+    /// The place of the entry that sets the property of a node, from 0.
+    pub fn place(&self, node: NodeId, property: Property) -> Option<usize>
+        ensures { result ≡ place_on (entries_in self.now) node.number property }
+    {
+        self.seat(node, property)
     }
 
     /// Where the property of the node is set.

@@ -55,7 +55,15 @@ pub(crate) fn found_at<A: Around, M: NodeMarks>(
     let model = scope_of(over.form, handed.model, binding, here.model);
     let place = place_for(&here.kind, handed.place);
     let focus = focus_in(over.forest, tables, over.around, model, place);
-    let node = first_bound(alloc, over.forest, tables, over.around, model, binding, focus)?;
+    let node = first_bound(
+        alloc,
+        over.forest,
+        tables,
+        over.around,
+        model,
+        binding,
+        focus,
+    )?;
     let marks = marks_if(over.marks, node);
     Ok(Found {
         node,

@@ -141,10 +141,42 @@ fn push_differences(
     ensures { OnOk result (map seen_notification all.new ≡ map seen_notification all.old ++ told.told (seen_copy new.now) (told.names_of (seen_copy old.now) (seen_copy new.now))) }
 {
     push_value(alloc, old, new, all)?;
-    push_state(alloc, "xforms-valid", "xforms-invalid", old.valid, new.valid, new, all)?;
-    push_state(alloc, "xforms-readwrite", "xforms-readonly", old.readwrite, new.readwrite, new, all)?;
-    push_state(alloc, "xforms-required", "xforms-optional", old.required, new.required, new, all)?;
-    push_state(alloc, "xforms-enabled", "xforms-disabled", old.enabled, new.enabled, new, all)
+    push_state(
+        alloc,
+        "xforms-valid",
+        "xforms-invalid",
+        old.valid,
+        new.valid,
+        new,
+        all,
+    )?;
+    push_state(
+        alloc,
+        "xforms-readwrite",
+        "xforms-readonly",
+        old.readwrite,
+        new.readwrite,
+        new,
+        all,
+    )?;
+    push_state(
+        alloc,
+        "xforms-required",
+        "xforms-optional",
+        old.required,
+        new.required,
+        new,
+        all,
+    )?;
+    push_state(
+        alloc,
+        "xforms-enabled",
+        "xforms-disabled",
+        old.enabled,
+        new.enabled,
+        new,
+        all,
+    )
 }
 
 /// Where the value is another one, tells so.

@@ -6,7 +6,6 @@ use Rattle.xf_ast.specs.declared.form.Instance.{Instance}
 use Rattle.xf_ast.specs.declared.form.Bind.{Bind}
 use Rattle.xf_ast.specs.declared.form.Properties.{Properties}
 use Rattle.xf_name.specs.Bindings.{Bindings}
-use Rattle.xf_types.specs.declared.kind.SimpleType.{SimpleType}
 use Rattle.xf_vocabulary.specs.Attributes.{Shown, known_in, text_in}
 use Rattle.xf_vocabulary.specs.Faults.{type_of}
 use Rattle.xf_vocabulary.specs.declared.attribute.TheConstants as at

@@ -4,3 +4,4 @@ pub mod SameLaws
 pub mod QuietEvents
 pub mod QuietKeeps
 pub mod QuietLaws
+pub mod WrittenContents

@@ -46,9 +46,7 @@ pub(crate) fn asked_of<A: Around>(
             let way = way_of(kind);
             call_asked(alloc, forest, around, way, arguments.as_slice(), context)
         }
-        Expr::Negated(_, _, operand) => {
-            one_converted(alloc, forest, around, operand.get(), context)
-        }
+        Expr::Negated(_, _, part) => one_converted(alloc, forest, around, part.get(), context),
         Expr::Chain(first, links) => {
             let asked = asked_of(alloc, forest, around, first.get(), context)?;
             links_asked(alloc, forest, around, links.as_slice(), asked, context)

@@ -5,3 +5,4 @@ pub mod NamedLemmas
 pub mod NodeLaws
 pub mod StateLaws
 pub mod WordLemmas
+pub mod ShownLaws

@@ -4,3 +4,4 @@ pub mod Lines
 pub mod Named
 pub mod Refusals
 pub mod States
+pub mod Shown

@@ -9,6 +9,7 @@ mod names;
 mod nodes;
 mod note;
 mod refusal;
+mod shown;
 mod state;
 mod text;
 
@@ -18,5 +19,6 @@ pub use instance::push_instance;
 pub use names::numbers_of;
 pub use note::push_notes;
 pub use refusal::{PathList, Refusal, push_construct_refusal, push_ready_refusal, push_refusal};
+pub use shown::shown_copies;
 pub use state::{ShownControls, ShownRepeat, ShownSwitch, push_state};
 pub use xf_ui::{Marks, NodeMarks};

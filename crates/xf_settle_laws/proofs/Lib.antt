@@ -1,5 +1,13 @@
+pub mod KindLemmas
 pub mod Put
 pub mod Spots
 pub mod Bridge
 pub mod WrittenLaws
 pub mod Held
+pub mod Renamed
+pub mod Single
+pub mod HoldLemmas
+pub mod Many
+pub mod AlikeLaws
+pub mod StillLaws
+pub mod MeasureLaws

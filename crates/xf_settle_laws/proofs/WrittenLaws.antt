@@ -1,5 +1,5 @@
 -- Where some contents were written, one more may be written at any time: what stands does not tell the order.
-use Rattle.std.proofs.Common.{◌≡◌, ℕ, ◌+◌, ◌==◌, ◌&&◌, Bool, true, false, List, [], ◌∷◌, length, Some, refl, sym, ap, ◌∙◌, subst, inl, inr, arith}
+use Rattle.std.proofs.Common.{◌≡◌, ℕ, ◌+◌, ◌==◌, ◌&&◌, Bool, true, false, List, [], ◌∷◌, length, Some, refl, sym, ap, ◌∙◌, inl, inr, arith}
 use Rattle.std.specs.Prelude.{◌⊎◌, ◌≤◌, ◌<◌}
 use Rattle.std.specs.List.{list_any}
 use Rattle.std.proofs.lemmas.Bool.{cases_lt}
@@ -20,8 +20,8 @@ use Rattle.xf_rollback.proofs.TreeAgain.{AttributeAt}
 use Rattle.xf_rollback.proofs.TreeFacts.{is_at, at-times}
 use Rattle.xf_rollback.proofs.TreeLeaves.{leaf-of, attribute-of}
 use Rattle.xf_rollback.proofs.KeepingTrees.{Stands, stands, any-is, kind-any, element-test, attribute-test}
-use Rattle.xf_settle_laws.specs.Written.{Contents, written, and_one, nodes_of, AreSettable, MayWrite}
-use Rattle.xf_settle_laws.proofs.Put.{put, put_all, put-more, with_one}
+use Rattle.xf_settle_laws.specs.Written.{Contents, written, and_one, AreSettable, MayWrite}
+use Rattle.xf_settle_laws.proofs.Put.{put_all, put-more, with_one}
 use Rattle.xf_settle_laws.proofs.Spots.{Fits}
 use Rattle.xf_settle_laws.proofs.Bridge.{AreReady, settled-onto, written-onto, fits-all, ready-of}
 
@@ -51,14 +51,14 @@ fits-attribute n none h = tt
 fits-attribute n (tree m c k r) h = (λ e. inl (h.0 e).0, fits-attribute n k h.1, fits-attribute n r h.2)
 
 module _ (forest : Forest) (s : Stands (alone forest)) where
-  once : (n : ℕ) → times n s.trees ≤ 1
+  pub once : (n : ℕ) → times n s.trees ≤ 1
   once n = let o = s.once n in omega (arith, o)
 
-  at-node : (q : Content → Bool) (n : ℕ) → list_any (λ (x : Node). (x.number == n) && q x.content) forest.nodes ≡ true → is_at q n s.trees ≡ true
+  pub at-node : (q : Content → Bool) (n : ℕ) → list_any (λ (x : Node). (x.number == n) && q x.content) forest.nodes ≡ true → is_at q n s.trees ≡ true
   at-node q n h = sym (any-is q n s.trees) ∙ ap (list_any (λ (x : Node). (x.number == n) && q x.content)) (sym s.nodes) ∙ h
 
   -- a node whose text can be set
-  settable-fits : (n : ℕ) → IsSettable n forest → Fits n s.trees
+  pub settable-fits : (n : ℕ) → IsSettable n forest → Fits n s.trees
   settable-fits n able = by able.kind
     where
       none_below : elements false n s.trees ≡ false
@@ -69,7 +69,7 @@ module _ (forest : Forest) (s : Stands (alone forest)) where
       by (inr h) = fits-leaf n s.trees (leaf-of n false false s.trees s.sound (once n) (at-node is_element n (kind-any kind.Element is_element element-test n forest.nodes h)) none_below)
 
   -- it stands, so that its number is an old one
-  settable-old : (n : ℕ) → IsSettable n forest → n < forest.next
+  pub settable-old : (n : ℕ) → IsSettable n forest → n < forest.next
   settable-old n able = by able.kind
     where
       old : 1 ≤ times n s.trees → n < forest.next

@@ -1,4 +1,5 @@
 use Rattle.xf_agree.proofs.InTurnLaws.{in_turn_contents, in_turn_settled, in_turn_texts}
+use Rattle.xf_agree.proofs.InTurnDone.{in_turn_done, in_turn_content, in_turn_stands}
 use Rattle.xf_agree.proofs.InTurnLimits.{in_turn_passed, in_turn_fitting}
 use Rattle.xf_agree.proofs.in_turn.Goals as goal
 
@@ -16,3 +17,12 @@ returns-clause-passed c = in_turn_passed
 
 pub returns-clause-fitting : goal.returns-clause-fitting
 returns-clause-fitting c = in_turn_fitting
+
+pub returns-clause-done : goal.returns-clause-done
+returns-clause-done c = in_turn_done
+
+pub returns-clause-content : goal.returns-clause-content
+returns-clause-content c = in_turn_content
+
+pub returns-clause-stands : goal.returns-clause-stands
+returns-clause-stands c = in_turn_stands

@@ -57,7 +57,7 @@ expression::asked_of-returns-in-Negated-clause-tells g t c =
     let s = shape_at (g.A.Around.given c.args.around.now) c.args.forest.now.forest.nodes c.args.context.now in
     let f = focus_of c.args.context.now in
     let part = c.get.result.now in
-    let same = ap (λ y. converted s ((trace y).asked s f)) c.get.ensures ∙ sym (negated-asks s f c.args.expr.now c.in-Negated.field-0 c.in-Negated.field-1 c.in-Negated.operand c.in-Negated.is) in
+    let same = ap (λ y. converted s ((trace y).asked s f)) c.get.ensures ∙ sym (negated-asks s f c.args.expr.now c.in-Negated.field-0 c.in-Negated.field-1 c.in-Negated.part c.in-Negated.is) in
     tells-same nodes c.one_converted.result (converted s ((trace part).asked s f)) ((trace c.args.expr.now).asked s f) same c.one_converted.ensures.tells
 
 pub expression::asked_of-returns-in_ok-asked-in-Chain-clause-tells : goal.expression::asked_of-returns-in_ok-asked-in-Chain-clause-tells

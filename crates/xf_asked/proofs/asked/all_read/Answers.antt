@@ -1,7 +1,7 @@
-use Rattle.std.proofs.Common.{sym, ap, ◌∙◌, subst}
+use Rattle.std.proofs.Common.{ap, ◌∙◌, subst}
 use Rattle.std.proofs.lemmas.Result.{IfOk-weaker}
 use Rattle.xf_lang.specs.Asked.{with_read}
-use Rattle.xf_shape.specs.Spots.{AreSpots, numbers_at, shaped}
+use Rattle.xf_shape.specs.Spots.{numbers_at, shaped}
 use Rattle.xf_asked.specs.Tells.{Tells}
 use Rattle.xf_asked.proofs.asked.all_read.Goals as goal
 

@@ -1,5 +1,4 @@
 use Rattle.std.proofs.Common.{sym, ap, ◌∙◌, subst}
-use Rattle.std.specs.Prelude.{filter}
 use Rattle.std.proofs.lemmas.Result.{IfOk-weaker}
 use Rattle.xf_lang.specs.Asked.{asked_first, with_read}
 use Rattle.xf_shape.specs.Spots.{AreSpots, numbers_at, shaped}

@@ -1,9 +1,4 @@
-use Rattle.std.proofs.Common.{map, refl, sym, ap, ◌∙◌}
-use Rattle.std.specs.Prelude.{unwrap_or, []}
-use Rattle.xf_lang.specs.AskedSteps.{if_tight}
-use Rattle.xf_lang.specs.Meaning.{meaning}
-use Rattle.xf_lang.specs.Reads.{trace}
-use Rattle.xf_lang.specs.Steps.{kept_by_all}
+use Rattle.std.proofs.Common.{refl}
 use Rattle.xf_shape.specs.Over.{shape_at}
 use Rattle.xf_asked.proofs.Steppings.{filtered-loose, filtered-tight}
 use Rattle.xf_asked.proofs.steps.filtered.Goals as goal

@@ -1,8 +1,5 @@
-use Rattle.std.proofs.Common.{sym, ap, ◌∙◌, subst, refl}
-use Rattle.xf_lang.specs.Asked as lang
-use Rattle.xf_lang.specs.AskedSteps.{walks_asked}
+use Rattle.std.proofs.Common.{subst, refl}
 use Rattle.xf_lang.specs.Reads.{trace_of_step}
-use Rattle.xf_ast.specs.declared.expr.Step.{Step}
 use Rattle.xf_shape.specs.Over.{shape_at}
 use Rattle.xf_asked.specs.Tells.{Tells}
 use Rattle.xf_asked.proofs.Steppings.{walks-end, walks-round}

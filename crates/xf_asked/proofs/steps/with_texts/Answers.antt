@@ -1,9 +1,5 @@
-use Rattle.std.proofs.Common.{◌++◌, refl, sym, ap, ◌∙◌}
-use Rattle.std.specs.List.{flat_map}
-use Rattle.std.proofs.lemmas.List.{take_all}
-use Rattle.std.proofs.lemmas.Result.{IfOk-weaker}
-use Rattle.xf_lang.specs.Setting.{in_order}
-use Rattle.xf_shape.specs.Spots.{numbers_at, shaped}
+use Rattle.std.proofs.Common.{refl}
+use Rattle.xf_shape.specs.Spots.{shaped}
 use Rattle.xf_asked.specs.Beside.{text_of}
 use Rattle.xf_asked.proofs.Tellings.{onward}
 use Rattle.xf_asked.proofs.steps.with_texts.Goals as goal
