@@ -5,3 +5,5 @@ pub mod Items
 pub mod NodeSets
 pub mod Seats
 pub mod Counts
+pub mod Tellings
+pub mod Sinces

@@ -31,6 +31,12 @@ holds items = map held_of items
 abbrev pub entries_in : List Held → List applied.Entry
 entries_in held = map (λ h. h.entry) held
 
+-- entries with these truths, by their places: one past them has none
+abbrev pub held_by : List applied.Entry → List (Option Bool) → List Held
+held_by [] truths = []
+held_by (e ∷ es) [] = newly_held e ∷ held_by es []
+held_by (e ∷ es) (t ∷ truths) = record { entry = e; truth = t } ∷ held_by es truths
+
 -- ---- one entry among them
 
 abbrev pub held_on : ℕ → Property → Held → Bool

@@ -3,3 +3,4 @@ pub mod Held
 pub mod Kept
 pub mod Table
 pub mod Asked
+pub mod Since

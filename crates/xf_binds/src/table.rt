@@ -7,13 +7,14 @@ ghost use Rattle.xf_model.specs.Applied.{is_property};
 ghost use Rattle.xf_model.specs.Properties.{sets_on};
 ghost use Rattle.xf_binds.specs.Asked.{asked_by_all, asked_of, asking};
 ghost use Rattle.xf_binds.specs.Held.{entries_in, entry_of};
-ghost use Rattle.xf_binds.specs.Kept.{no_kept, truth_in};
-ghost use Rattle.xf_binds.specs.Table.{held_or, kept_at, truth_among, web_or, with_kept};
+ghost use Rattle.xf_binds.specs.Kept.{no_kept, recalculated, truth_in};
+ghost use Rattle.xf_binds.specs.Table.{all_committed, all_rolled_back, held_or, kept_at, truth_among, web_or, with_kept};
 
 use crate::applied::Applied;
 use crate::entry::Entry;
 use crate::kept::Kept;
 use crate::node_set::NodeSet;
+use crate::truth_list::TruthList;
 use crate::web::{Asks, Web};
 use std::alloc::{AllocError, Global};
 use std::marker::Model;
@@ -160,6 +161,28 @@ impl Table {
         self.models[model as usize].rebuild(present, web);
     }
 
+    /// Keeps the truths that a recalculation found, by the places of the entries, and forgets the marks. Takes no memory.
+    pub fn recalculated(&mut self, model: u32, truths: TruthList)
+        requires { model < length self.old }
+        ensures { self.new ≡ with_kept self.old model (recalculated truths (kept_at self.old model)) }
+    {
+        self.models[model as usize].recalculated(truths);
+    }
+
+    /// Keeps all as it stands: this is what a later `roll_back` gives back. Takes no memory.
+    pub fn commit(&mut self)
+        ensures { self.new ≡ all_committed self.old }
+    {
+        commit_all(&mut self.models);
+    }
+
+    /// Gives all back as it was at the last commit. Takes no memory.
+    pub fn roll_back(&mut self)
+        ensures { self.new ≡ all_rolled_back self.old }
+    {
+        roll_back_all(&mut self.models);
+    }
+
     /// Marks a node that has another text.
     pub fn mark_text(&mut self, model: u32, node: NodeId) -> Result<(), AllocError>
         requires { model < length self.old }
@@ -176,6 +199,24 @@ impl Table {
         ensures err { OnErr result (self.new ≡ self.old) }
     {
         self.models[model as usize].mark_list(node)
+    }
+}
+
+fn commit_all(models: &mut Vec<Kept>)
+    ensures { models.new.items ≡ all_committed models.old.items }
+{
+    let count = models.len();
+    for at in 0..count {
+        models[at].commit();
+    }
+}
+
+fn roll_back_all(models: &mut Vec<Kept>)
+    ensures { models.new.items ≡ all_rolled_back models.old.items }
+{
+    let count = models.len();
+    for at in 0..count {
+        models[at].roll_back();
     }
 }
 

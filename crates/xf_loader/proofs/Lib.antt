@@ -10,3 +10,4 @@ pub mod FormTrees
 pub mod OrderedElements
 pub mod KindNumbers
 pub mod OrderLaw
+pub mod DocumentLaw

@@ -151,11 +151,11 @@ bind_static b all place r known h fine = record {
 
 -- ---- an element that is not refused
 
-unless_none : (o : Option NameFault) (x : Option ℕ) → unless_fault o x ≡ None → x ≡ None
+pub unless_none : (o : Option NameFault) (x : Option ℕ) → unless_fault o x ≡ None → x ≡ None
 unless_none None x h = h
 unless_none (Some fault) x h = cc
 
-if_none : (c : Bool) (n : ℕ) (rest : Option ℕ) → cond c (Some n) rest ≡ None → (c ≡ false) × (rest ≡ None)
+pub if_none : (c : Bool) (n : ℕ) (rest : Option ℕ) → cond c (Some n) rest ≡ None → (c ≡ false) × (rest ≡ None)
 if_none false n rest h = (refl, h)
 if_none true n rest h = (cc, cc)
 
@@ -175,7 +175,7 @@ row_fine b all m place r none holds =
 
 -- ---- all of them
 
-later_none : (place : ℕ) (o : Option ℕ) (later : Option Refusal) → or_later place o later ≡ None → (o ≡ None) × (later ≡ None)
+pub later_none : (place : ℕ) (o : Option ℕ) (later : Option Refusal) → or_later place o later ≡ None → (o ≡ None) × (later ≡ None)
 later_none place None later h = (refl, h)
 later_none place (Some n) later h = (cc, cc)
 
@@ -191,7 +191,7 @@ binds_static b all m place (r ∷ rs) none =
 
 -- ---- a form that is loaded
 
-none_said : (all : List Seen) (o : Option Refusal) → by_element all o ≡ None → o ≡ None
+pub none_said : (all : List Seen) (o : Option Refusal) → by_element all o ≡ None → o ≡ None
 none_said all None h = refl
 none_said all (Some r) h = cc
 

@@ -12,3 +12,4 @@ pub mod Counts
 pub mod Plan
 pub mod Computed
 pub mod Ordered
+pub mod Documents

@@ -22,7 +22,7 @@ mod trees;
 mod written;
 
 pub use fault::FormFault;
-pub use laws::{loaded_ordered, loaded_static};
+pub use laws::{loaded_documents, loaded_ordered, loaded_static};
 pub use loaded::Loaded;
 pub use loading::load;
 pub use trees::lit_at;
