@@ -19,8 +19,11 @@ pub record Held : Type 0 where
   -- None where it had no value yet
   pub truth : Option Bool
 
+abbrev pub held_with : applied.Entry → Option Bool → Held
+held_with e truth = record { entry = e; truth = truth }
+
 abbrev pub newly_held : applied.Entry → Held
-newly_held e = record { entry = e; truth = None }
+newly_held e = held_with e None
 
 abbrev pub held_of : Item → Held
 held_of item = record { entry = entry_of item.entry; truth = item.truth }

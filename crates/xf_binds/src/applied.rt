@@ -4,7 +4,7 @@ ghost use Rattle.std.specs.Prelude.{◌≡◌, ℕ, nat_eq, ◌∷◌, [], ◌++
 ghost use Rattle.std.specs.Bool.{OnTrue, OnFalse};
 ghost use Rattle.std.specs.List.{list_any};
 ghost use Rattle.xf_model.specs.Applied.{sets_same};
-ghost use Rattle.xf_binds.specs.Held.{entries_in, entry_of, held_at, held_of, held_on, held_same, is_seat, newly_held, passes, seats_or};
+ghost use Rattle.xf_binds.specs.Held.{entries_in, entry_of, held_at, held_of, held_on, held_same, held_with, is_seat, newly_held, passes, seats_or};
 ghost use Rattle.indexmap.specs.IndexMap.{get};
 
 use crate::entry::{Entry, Item, Seats};
@@ -108,12 +108,21 @@ impl Applied {
         ensures added { IfOk result (λ is_new. OnTrue is_new (self.new ≡ self.old ++ newly_held (entry_of entry) ∷ [])) }
         ensures kept { IfOk result (λ is_new. OnFalse is_new (self.new ≡ self.old)) }
     {
+        self.add_valued(entry, None)
+    }
+
+    /// Adds an entry with the truth of its value, as `add` adds one.
+    pub fn add_valued(&mut self, entry: Entry, truth: Option<bool>) -> Result<bool, AllocError>
+        ensures new { IfOk result (λ is_new. is_new ≡ not (list_any (sets_same (entry_of entry)) (entries_in self.old))) }
+        ensures added { IfOk result (λ is_new. OnTrue is_new (self.new ≡ self.old ++ held_with (entry_of entry) truth ∷ [])) }
+        ensures kept { IfOk result (λ is_new. OnFalse is_new (self.new ≡ self.old)) }
+    {
         let mut seats = seats_in(&self.seats, entry.node.number);
         if seats.at(entry.property).is_some() {
             return Ok(false);
         }
         seats.set(entry.property, self.items.len());
-        self.items.push(Item { entry, truth: None })?;
+        self.items.push(Item { entry, truth })?;
         match self.seats.insert(entry.node.number, seats) {
             Ok(_) => Ok(true),
             Err(_) => {

@@ -1,7 +1,7 @@
 use Rattle.std.proofs.Common.{◌≡◌, length, sym, ◌∙◌, ap, arith}
 use Rattle.xf_binds.specs.Held.{entry_of, seats_with}
 use Rattle.xf_binds.proofs.Items.{added, added-not, added-new}
-use Rattle.xf_binds.proofs.applied.Applied.add.Goals as goal
+use Rattle.xf_binds.proofs.applied.Applied.add_valued.Goals as goal
 
 pub returns-then-is_some-clause-new : goal.returns-then-is_some-clause-new
 returns-then-is_some-clause-new c =
@@ -16,5 +16,5 @@ returns-in-Ok-clause-new c =
 pub invariant_of-self-in-Ok : goal.invariant_of-self-in-Ok
 invariant_of-self-in-Ok c =
     let size : c.len.result ≡ length c.self.inside.items.items = omega (arith, c.len.ensures, c.self.inside.items.ok) in
-    added c.self.inside.items.items c.push.new.self.items c.args.self.now c.args.entry c.self.inside.seats c.insert.new.self c.seats_in-seats.result c.set.new.self c.at.result
+    added c.self.inside.items.items c.push.new.self.items c.args.self.now c.args.entry c.args.truth c.self.inside.seats c.insert.new.self c.seats_in-seats.result c.set.new.self c.at.result
     c.self.view_is c.self.invariant c.in_ok-push.ensures.items c.seats_in-seats.ensures c.at.ensures (sym c.is_some.ensures ∙ c.if-is_some.false) (c.set.ensures ∙ ap (seats_with c.seats_in-seats.result c.args.entry.property) size) (λ q. c.in-Ok.ensures.updates.0 q)

@@ -1,0 +1,73 @@
+//! The recalculation of a model (XForms 1.1, section 4.3.2).
+
+ghost use Rattle.std.specs.Prelude.{◌≡◌, length, slice_get, IfOk, IfErr};
+ghost use Rattle.xf_doc.specs.Visit.{visits};
+ghost use Rattle.xf_model.specs.Settled.{calculates};
+ghost use Rattle.xf_binds.specs.Table.{kept_at};
+ghost use Rattle.xf_settle.specs.Settles.{IsSettled, IsTold, MaySettle, scope_in, words_of};
+ghost use Rattle.xf_settle.specs.Turns.{is_calculate_at};
+
+use crate::fault::SettleFault;
+use crate::order::turns_of;
+use crate::truths::held;
+use crate::turn::settle_turns;
+use std::alloc::Global;
+use xf_ast::Tables;
+use xf_binds::{Applied, Table};
+use xf_doc::TreeFault;
+use xf_eval::Around;
+use xf_model::Property;
+use xf_undo::Draft;
+
+/// Evaluates the calculates of a model, each after those that it reads, and writes their texts; then evaluates each entry. The answer is the
+/// entries with the truths of their values. What was reserved or written before an `Err` stays in the draft until it is rolled back.
+pub fn settle<A: Around>(
+    alloc: Global,
+    tables: &Tables,
+    draft: &mut Draft,
+    model: u32,
+    table: &Table,
+    around: &A,
+) -> Result<Applied, SettleFault>
+    requires { MaySettle (A.given around.now) tables.now model draft.old.now (kept_at table.now model).entries }
+    ensures ok { IfOk result (λ held. IsSettled (scope_in (A.given around.now) tables.now model) (kept_at table.now model).entries draft.old.now draft.new.now held) }
+    ensures err { IfErr result (λ fault. IsTold fault (words_of (scope_in (A.given around.now) tables.now model) (kept_at table.now model).entries draft.old.now)) }
+    ensures kept { draft.new.kept ≡ draft.old.kept }
+{
+    let count = calculate_count(table, model);
+    if count > u32::MAX as usize {
+        // No memory holds so many.
+        return Err(SettleFault::Memory);
+    }
+    let turns = turns_of(alloc, tables, draft.forest(), model, table, around)?;
+    settle_turns(alloc, tables, draft, model, table, turns.as_slice(), count as u32, around)?;
+    let held = held(alloc, tables, draft.forest(), model, table, around)?;
+    match draft.forest().passed() {
+        Some(TreeFault::Nodes) => Err(SettleFault::Nodes),
+        Some(_) => Err(SettleFault::AllTexts),
+        None => Ok(held),
+    }
+}
+
+/// How many calculates a model has.
+fn calculate_count(table: &Table, model: u32) -> usize
+    ensures { result ≡ length (calculates (kept_at table.now model).entries) }
+{
+    let mut count = 0;
+    for at in 0..table.len(model) {
+        if is_calculate_at(table, model, at) {
+            count += 1;
+        }
+    }
+    count
+}
+
+/// Whether the entry at a place is a calculate.
+fn is_calculate_at(table: &Table, model: u32, at: usize) -> bool
+    ensures { result ≡ is_calculate_at (slice_get (kept_at table.now model).entries at) }
+{
+    match table.entry(model, at) {
+        Some(entry) => entry.property == Property::Calculate,
+        None => false,
+    }
+}
