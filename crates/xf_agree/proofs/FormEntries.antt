@@ -5,8 +5,8 @@ use Rattle.std.specs.List.{list_any, flat_map}
 use Rattle.std.proofs.lemmas.Bool.{eqb-true}
 use Rattle.xf_doc.specs.declared.content.Content.{Content}
 use Rattle.xf_doc.specs.declared.content.Content.TheVariants as content
-use Rattle.xf_doc.specs.Forest.{is_text, is_element, is_attribute}
-use Rattle.xf_doc.specs.Visit.{Visit, has, is_first, first_of}
+use Rattle.xf_doc.specs.Forest.{is_root, is_text, is_element, is_attribute}
+use Rattle.xf_doc.specs.Visit.{Visit, has, has_parent, is_first, first_of}
 use Rattle.xf_doc.specs.Shape.{erased, without_text, shape, has_elements}
 use Rattle.xf_lang.specs.declared.value.Value.{Value}
 use Rattle.xf_lang.specs.Setting.{◌>>=◌, each, in_order, joined}
@@ -75,8 +75,9 @@ each-made {X = X} {Y = Y} made (x ∷ xs) ys e = by (made x) refl (each made xs)
 -- ---- nodes of binds
 
 module _ (all : List Visit) (v : AreVisits all) (hung : (k : ℕ) (x : Visit) → found k all ≡ Some x → is_text x.content ≡ true → (q : ℕ) × (z : Visit) × (found q all ≡ Some z) × (is_element z.content ≡ true) × (x.above ≡ q ∷ z.above)) where
+  -- no text, and no root with nothing above it
   abbrev pub IsSolid : ℕ → Type 0
-  IsSolid k = (x : Visit) × (found k (untexted all) ≡ Some x)
+  IsSolid k = (x : Visit) × (found k (untexted all) ≡ Some x) × (is_root x.content ≡ true → has_parent x.above ≡ true)
 
   element-solid : (c : Content) → is_element c ≡ true → is_text c ≡ false
   element-solid content.Root h = refl
@@ -84,8 +85,22 @@ module _ (all : List Visit) (v : AreVisits all) (hung : (k : ℕ) (x : Visit) �
   element-solid (content.Attribute name text) h = refl
   element-solid (content.Text text) h = no h
 
-  solid-at : (k : ℕ) (x : Visit) → found k all ≡ Some x → is_text x.content ≡ false → IsSolid k
-  solid-at k x e t = (x, found-in (λ y. not (is_text y.content)) k all x v.apart e (ap not t))
+  element-root : (c : Content) → is_element c ≡ true → is_root c ≡ false
+  element-root content.Root h = no h
+  element-root (content.Element name) h = refl
+  element-root (content.Attribute name text) h = no h
+  element-root (content.Text text) h = no h
+
+  parent-first : (n : ℕ) (ns : List ℕ) → is_first n ns ≡ true → has_parent ns ≡ true
+  parent-first n [] h = h
+  parent-first n (m ∷ ms) h = refl
+
+  solid-at : (k : ℕ) (x : Visit) → found k all ≡ Some x → is_text x.content ≡ false → (is_root x.content ≡ true → has_parent x.above ≡ true) → IsSolid k
+  solid-at k x e t r = (x, found-in (λ y. not (is_text y.content)) k all x v.apart e (ap not t), r)
+
+  -- no root
+  plain-at : (k : ℕ) (x : Visit) → found k all ≡ Some x → is_text x.content ≡ false → is_root x.content ≡ false → IsSolid k
+  plain-at k x e t r = solid-at k x e t (λ h. no (sym r ∙ h))
 
   one-solid : (k n : ℕ) → IsSolid n → has k (n ∷ []) ≡ true → IsSolid k
   one-solid k n s h = elim (or-cases (k == n) false h) [ inl a ↦ subst IsSolid (sym (eqb-true k n a)) s | inr b ↦ no b ]
@@ -97,17 +112,17 @@ module _ (all : List Visit) (v : AreVisits all) (hung : (k : ℕ) (x : Visit) �
       by y.0 y.1 (and-true (is_first x.number y.0.above) (not (is_attribute y.0.content)) y.2).0 (is_text y.0.content) refl
     where
       by : (y : Visit) → found k all ≡ Some y → is_first x.number y.above ≡ true → (b : Bool) → is_text y.content ≡ b → IsSolid k
-      by y j f false t = solid-at k y j t
+      by y j f false t = solid-at k y j t (λ r. parent-first x.number y.above f)
       by y j f true t =
           let p = hung k y j t in
           let same : x.number ≡ p.0 = first-same x.number p.0 y.above p.1.above p.4 f in
           let z : p.1 ≡ x = some-same (sym p.2 ∙ ap (λ q. found q all) (sym same ∙ found-number n all x e) ∙ e) in
           no (sym (ap is_element i) ∙ ap (λ (q : Visit). is_element q.content) (sym z) ∙ p.3)
-  stand-solid n x e (content.Element name) i k h = one-solid k x.number (subst IsSolid (sym (found-number n all x e)) (solid-at n x e (ap is_text i))) h
-  stand-solid n x e (content.Attribute name text) i k h = one-solid k x.number (subst IsSolid (sym (found-number n all x e)) (solid-at n x e (ap is_text i))) h
+  stand-solid n x e (content.Element name) i k h = one-solid k x.number (subst IsSolid (sym (found-number n all x e)) (plain-at n x e (ap is_text i) (ap is_root i))) h
+  stand-solid n x e (content.Attribute name text) i k h = one-solid k x.number (subst IsSolid (sym (found-number n all x e)) (plain-at n x e (ap is_text i) (ap is_root i))) h
   stand-solid n x e (content.Text text) i k h =
       let p = hung n x e (ap is_text i) in
-      one-solid k p.0 (solid-at p.0 p.1 p.2 (element-solid p.1.content p.3)) (ap (λ ns. has k (as_list (first_of ns))) (sym p.4) ∙ h)
+      one-solid k p.0 (plain-at p.0 p.1 p.2 (element-solid p.1.content p.3) (element-root p.1.content p.3)) (ap (λ ns. has k (as_list (first_of ns))) (sym p.4) ∙ h)
 
   bound-solid : (ns : List ℕ) (k : ℕ) → has k (bound_nodes all ns) ≡ true → IsSolid k
   bound-solid ns k h =

@@ -62,13 +62,13 @@ module _ (b : Bounds) (functions : Functions) (given : Given) (tables : Tables) 
   abbrev all : List Visit
   all = visits forest.nodes
 
-  same_shape : map erased (shape all) ≡ shape all
+  pub same_shape : map erased (shape all) ≡ shape all
   same_shape = shape-erased all
 
-  v : AreVisits (shape all)
+  pub v : AreVisits (shape all)
   v = subst AreVisits same_shape (shape-visits forest around.trees around.below)
 
-  hung : AreHung (shape all)
+  pub hung : AreHung (shape all)
   hung = subst AreHung same_shape (shape-in_elements scope b forest [] around tt)
 
   abbrev pub made : List Entry
@@ -98,7 +98,7 @@ module _ (b : Bounds) (functions : Functions) (given : Given) (tables : Tables) 
       zero-plus : (k : ℕ) → 0 + k ≡ k
       zero-plus k = omega arith
 
-  both : AllOf (λ e. Stands (shape all) v hung scope.rules 0 e × (is_calculate e ≡ true → has_elements (shape all) e.node ≡ false)) made
+  pub both : AllOf (λ e. Stands (shape all) v hung scope.rules 0 e × (is_calculate e ≡ true → has_elements (shape all) e.node ≡ false)) made
   both = each_both _ _ made (entries-standing (shape all) v hung scope) (leaves (shape all) v hung [] made applied-parts.0)
 
   static-made : AllOf (IsStatic scope forest) (calculates made)

@@ -154,7 +154,7 @@ map-itself (x ∷ xs) h = ap (λ y. y ∷ map erased xs) h.0 ∙ ap (λ l. x ∷
 
 -- ---- roots have nothing above them
 
-abbrev IsTop : Visit → Type 0
+abbrev pub IsTop : Visit → Type 0
 IsTop v = is_root v.content ≡ true → v.above ≡ []
 
 no-depth : (d : ℕ) → nat_lt d 0 ≡ false
@@ -164,7 +164,7 @@ none-above : (stack : List Node) → still_above 0 stack ≡ []
 none-above [] = refl
 none-above (y ∷ ys) = ap (λ b. cond b (y ∷ ys) (still_above 0 ys)) (no-depth y.depth) ∙ none-above ys
 
-tops-from : (stack xs : List Node) → list_all (λ (x : Node). not (is_root x.content) || (x.depth == 0)) xs ≡ true → Each IsTop (visits_from stack xs)
+pub tops-from : (stack xs : List Node) → list_all (λ (x : Node). not (is_root x.content) || (x.depth == 0)) xs ≡ true → Each IsTop (visits_from stack xs)
 tops-from stack [] h = tt
 tops-from stack (x ∷ xs) h =
     let parts = and-true (not (is_root x.content) || (x.depth == 0)) (list_all (λ (y : Node). not (is_root y.content) || (y.depth == 0)) xs) h in

@@ -25,6 +25,7 @@ pub mod InTurnLaws
 pub mod InTurnLimits
 pub mod InTurnDone
 pub mod FormInTurn
+pub mod FormSettable
 pub mod EvaluatedLaws
 pub mod AskedStand
 pub mod ForestsMeet

@@ -5,12 +5,13 @@ use Rattle.xf_ast.specs.declared.expr.Expr.{Expr}
 use Rattle.xf_ast.specs.declared.form.Bind.{Bind}
 use Rattle.xf_ast.specs.declared.form.Tables.{Tables}
 use Rattle.xf_doc.specs.Forest.{Forest}
+use Rattle.xf_doc.specs.Needs.{IsSettable}
 use Rattle.xf_doc.specs.Visit.{visits}
 use Rattle.xf_plain_values.specs.Functions.{Functions}
 use Rattle.xf_lang.specs.Given.{Given}
 use Rattle.xf_model.specs.Rules.{scope_of}
 use Rattle.xf_model.specs.Applied.{Entry, applied}
-use Rattle.xf_model.specs.Settled.{Bounds, Contents, settled_contents}
+use Rattle.xf_model.specs.Settled.{Bounds, Contents, calculates, settled_contents}
 use Rattle.xf_model.specs.Pertinent.{AllOf}
 use Rattle.xf_model.specs.Stands.{IsSettled, Agrees, AreAcyclic}
 use Rattle.xf_agree.specs.Covered.{is_covered}
@@ -49,3 +50,9 @@ FormSettles = (b : Bounds) (functions : Functions) (given : Given) (tables : Tab
     AreCovered tables → Surrounds (scope_of functions given tables model) b.string forest → Applies functions given tables model forest entries →
     AreAcyclic (scope_of functions given tables model) entries (visits forest.nodes) →
     IsSettled b (scope_of functions given tables model) entries (visits forest.nodes) (settled_contents b (scope_of functions given tables model) entries (visits forest.nodes))
+
+-- the text of each calculated node can be set
+abbrev pub FormSettable : Type 0
+FormSettable = (b : Bounds) (functions : Functions) (given : Given) (tables : Tables) (model : ℕ) (forest : Forest) (entries : List Entry) →
+    AreCovered tables → Surrounds (scope_of functions given tables model) b.string forest → Applies functions given tables model forest entries →
+    AllOf (λ e. IsSettable e.node forest) (calculates entries)

@@ -4,7 +4,7 @@
 
 ghost use Rattle.xf_agree.specs.Settles.{CalculatesAgree, SettlesOnce, Settles};
 ghost use Rattle.xf_agree.specs.Forests.{TwoForestsValue, TwoForests, TwoForestsButNumbers};
-ghost use Rattle.xf_agree.specs.FormSettles.{FormAgrees, FormSettlesOnce, FormSettles};
+ghost use Rattle.xf_agree.specs.FormSettles.{FormAgrees, FormSettlesOnce, FormSettles, FormSettable};
 ghost use Rattle.xf_agree.specs.Evaluated.{EvaluatedText, EvaluatedTruth, EvaluatedLong, EvaluatedPassed, SurroundingsStay, SolidNumbers};
 ghost use Rattle.xf_agree.specs.InTurn.{InTurnContents, InTurnSettled, InTurnTexts, InTurnDone, InTurnContent, InTurnStands, InTurnPassed, InTurnFitting, FormInTurn};
 
@@ -35,6 +35,11 @@ pub fn form_agrees()
 pub fn form_settles()
     ensures once { FormSettlesOnce }
     ensures settled { FormSettles }
+{}
+
+/// The text of each calculated node of a form can be set.
+pub fn form_settable()
+    ensures { FormSettable }
 {}
 
 /// Static calculates that are evaluated in an order of their graph, each over data that hold the texts of those before it, have the settled

@@ -1,12 +1,12 @@
 -- A number that no node and no kept text has comes in with no text but one that has it.
-use Rattle.std.proofs.Common.{◌≡◌, ℕ, suc, ◌≤◌, ◌==◌, Bool, true, false, not, ◌&&◌, ◌||◌, if◌then◌else◌, List, [], ◌∷◌, ◌++◌, map, nat_lt, refl, sym, ap, ◌∙◌, inl, inr, arith}
+use Rattle.std.proofs.Common.{◌≡◌, ℕ, suc, ◌≤◌, ◌==◌, Bool, true, false, not, ◌&&◌, ◌||◌, List, [], ◌∷◌, ◌++◌, map, nat_lt, refl, ap, ◌∙◌, inl, inr, arith}
 use Rattle.std.specs.Prelude.{filter}
 use Rattle.std.specs.List.{list_any, list_all}
 use Rattle.std.proofs.lemmas.Bool.{cases_Bool}
 use Rattle.std.proofs.lemmas.Bool.Decides.{nat_tests}
 use Rattle.xf_doc.specs.declared.content.Node.{Node}
-use Rattle.xf_doc.specs.Forest.{is_attribute, is_text, own_text, has_number, from_node, below, past, first_tree, tree_of}
-use Rattle.xf_doc.specs.Texts.{KeptText, Keeping, Before, attribute_text, element_texts, at_depth, one_text, with_content, with_texts, valued, with_attribute_text, is_attribute_at, texts_in, kept_from, taken_from, without, is_of, given_up}
+use Rattle.xf_doc.specs.Forest.{is_attribute, is_text, has_number, from_node, below, past, first_tree, tree_of}
+use Rattle.xf_doc.specs.Texts.{KeptText, Keeping, Before, attribute_text, element_texts, at_depth, one_text, with_content, with_texts, valued, with_attribute_text, is_attribute_at, texts_in, kept_from, taken_from, is_of, given_up}
 use Rattle.xf_doc.specs.Settle.{with_numbered_text}
 use Rattle.xf_doc.specs.WellFormed.{are_below}
 

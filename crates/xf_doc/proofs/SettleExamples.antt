@@ -1,6 +1,6 @@
 -- Texts settled on small forests.
 use Rattle.std.proofs.Common.{◌≡◌, [], ◌∷◌, ◌++◌, take, drop, true, false, refl}
-use Rattle.std.specs.Prelude.{ℕ, List, codes}
+use Rattle.std.specs.Prelude.{List, codes}
 use Rattle.xf_doc.specs.declared.content.Node.{Node}
 use Rattle.xf_doc.specs.Texts.{element_texts}
 use Rattle.xf_doc.specs.Settle.{reserved, numbered_text_set, has_text, with_settled_text}

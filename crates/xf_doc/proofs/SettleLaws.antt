@@ -1,5 +1,5 @@
 -- A text with a given number: its setting is that of a text where this number is the next one, and is put back in the same way.
-use Rattle.std.proofs.Common.{◌≡◌, ℕ, ◌+◌, true, false, List, ◌++◌, refl, sym, ap, ◌∙◌, inl, inr}
+use Rattle.std.proofs.Common.{◌≡◌, ℕ, ◌+◌, true, List, ◌++◌, refl, sym, ap, ◌∙◌, inl, inr}
 use Rattle.std.proofs.lemmas.Bool.{cases_Bool}
 use Rattle.xf_doc.specs.declared.content.Node.{Node}
 use Rattle.xf_doc.specs.Texts.{Keeping, Before, attribute_text, element_texts, is_attribute_at, with_text, put_back, before_of, taken_from}

@@ -1,12 +1,12 @@
 -- Where some contents were written, the data hold them: but for the numbers of texts their visits are those that hold what was written.
-use Rattle.std.proofs.Common.{◌≡◌, ℕ, ◌+◌, ◌^◌, ◌==◌, ◌&&◌, Bool, true, false, List, [], ◌∷◌, length, map, Some, refl, sym, ap, ◌∙◌, subst, inl, inr, arith}
+use Rattle.std.proofs.Common.{◌≡◌, ℕ, ◌+◌, ◌^◌, ◌==◌, ◌&&◌, Bool, true, false, [], ◌∷◌, length, map, sym, ap, ◌∙◌, subst, inl, inr, arith}
 use Rattle.std.specs.Prelude.{◌≤◌, is_some}
 use Rattle.std.specs.List.{list_any}
 use Rattle.std.proofs.lemmas.Bool.{cases_Bool}
 use Rattle.std.proofs.lemmas.Bool.Decides.{nat_tests}
 use Rattle.xf_doc.specs.declared.content.Node.{Node}
 use Rattle.xf_doc.specs.Forest.{Forest, is_text}
-use Rattle.xf_doc.specs.Visit.{Visit, visits}
+use Rattle.xf_doc.specs.Visit.{visits}
 use Rattle.xf_doc.specs.Same.{renumbered_visit}
 use Rattle.xf_doc.specs.Shape.{with_contents}
 use Rattle.xf_doc.specs.WellFormed.{are_first}
@@ -14,7 +14,6 @@ use Rattle.xf_rollback.proofs.Trees.{Trees, none, tree, onto}
 use Rattle.xf_rollback.proofs.TreeVisits.{seen, visits-seen}
 use Rattle.xf_rollback.proofs.TreeShape.{Sound}
 use Rattle.xf_rollback.proofs.TreeOrder.{Ordered, ordered-onto}
-use Rattle.xf_rollback.proofs.TreeFacts.{is_at}
 use Rattle.xf_rollback.proofs.KeepingTrees.{stands, any-is}
 use Rattle.xf_settle_laws.specs.Written.{Contents, written, MayWrite}
 use Rattle.xf_settle_laws.specs.Alike.{content_of, done_of, AreAlike}

@@ -1,7 +1,6 @@
 -- A settling in the list of nodes is one in the trees, and leaves them such that the next one is, too.
-use Rattle.std.proofs.Common.{◌≡◌, ℕ, zero, suc, ◌+◌, ◌==◌, Bool, true, false, cond, ◌&&◌, if◌then◌else◌, List, [], ◌∷◌, map, refl, sym, ap, ◌∙◌, subst, inl, inr, arith}
+use Rattle.std.proofs.Common.{◌≡◌, ℕ, zero, suc, ◌==◌, Bool, true, false, cond, ◌&&◌, List, [], ◌∷◌, map, refl, sym, ap, ◌∙◌, inl, inr, arith}
 use Rattle.std.specs.Prelude.{◌⊎◌, ◌≤◌, ◌<◌, ⊤}
-use Rattle.std.specs.List.{list_any}
 use Rattle.std.specs.Str.{bytes_eq}
 use Rattle.std.proofs.lemmas.Bool.{cases_Bool}
 use Rattle.std.proofs.lemmas.Bool.Decides.{nat_tests}
@@ -9,12 +8,12 @@ use Rattle.std.proofs.lemmas.Slice.Eq.{bytes_eq-Decides}
 use Rattle.xf_doc.specs.declared.content.Node.{Node}
 use Rattle.xf_doc.specs.declared.content.Content.{Content}
 use Rattle.xf_doc.specs.declared.content.Content.TheVariants.{Root, Element, Attribute, Text}
-use Rattle.xf_doc.specs.Forest.{is_element, is_attribute, is_text, own_text, tree_of, from_node, first_tree}
+use Rattle.xf_doc.specs.Forest.{is_element, is_attribute, is_text, own_text, tree_of, first_tree}
 use Rattle.xf_doc.specs.Shape.{as_texts}
 use Rattle.xf_doc.specs.Texts.{with_value, one_text, with_texts, with_attribute_text, is_attribute_at, texts_in, value_in}
-use Rattle.xf_doc.specs.Settle.{are_texts, has_text, with_settled_text}
+use Rattle.xf_doc.specs.Settle.{are_texts, with_settled_text}
 use Rattle.xf_rollback.proofs.Trees.{Trees, none, tree, onto, followed, times}
-use Rattle.xf_rollback.proofs.TreeTexts.{lone, attributes, retexted, revalued, valued-onto, texts-onto, texts-skip}
+use Rattle.xf_rollback.proofs.TreeTexts.{lone, attributes, valued-onto, texts-onto, texts-skip}
 use Rattle.xf_rollback.proofs.TreeShape.{is_leaf}
 use Rattle.xf_rollback.proofs.TreeBlank.{AreLeaves}
 use Rattle.xf_rollback.proofs.TreeFacts.{is_at, at-absent}
@@ -22,7 +21,7 @@ use Rattle.xf_rollback.proofs.TreeLeaves.{bare-leaf, retexted-times, revalued-ti
 use Rattle.xf_rollback.proofs.KeepingTrees.{any-is}
 use Rattle.xf_settle_laws.specs.Written.{Contents, written}
 use Rattle.xf_settle_laws.proofs.Put.{texts_top, same_texts, content, valued, put, valued-attribute, valued-element, put_all, with_one}
-use Rattle.xf_settle_laws.proofs.Spots.{FitsHere, Fits, Spot, spot, put-absent, from-skip, attribute-no_element, texts-same, leaf-texts}
+use Rattle.xf_settle_laws.proofs.Spots.{FitsHere, Fits, Spot, spot, put-absent, from-skip, texts-same, leaf-texts}
 
 -- ---- what fits stays so
 

@@ -1,5 +1,5 @@
 -- Data that hold other contents, as trees: what `holding` makes of their visits.
-use Rattle.std.proofs.Common.{◌≡◌, ℕ, ◌==◌, Bool, true, false, cond, not, ◌&&◌, ◌||◌, if◌then◌else◌, List, [], ◌∷◌, ◌++◌, map, Option, Some, None, refl, sym, ap, ◌∙◌, subst, inl, inr, append-nil}
+use Rattle.std.proofs.Common.{◌≡◌, ℕ, Bool, true, false, not, ◌&&◌, if◌then◌else◌, List, [], ◌∷◌, ◌++◌, map, Option, Some, None, refl, sym, ap, ◌∙◌, inl, inr, append-nil}
 use Rattle.std.specs.Prelude.{◌⊎◌, ⊤, filter, is_some}
 use Rattle.std.proofs.lemmas.Bool.{cases_Bool}
 use Rattle.xf_doc.specs.declared.content.Content.{Content}

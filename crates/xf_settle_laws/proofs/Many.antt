@@ -1,6 +1,6 @@
 -- Many settlings, and the trees that hold all of their texts: they are the same but for the numbers of texts.
-use Rattle.std.proofs.Common.{◌≡◌, ℕ, zero, suc, ◌+◌, ◌^◌, ◌==◌, Bool, true, false, cond, not, ◌&&◌, ◌||◌, if◌then◌else◌, List, [], ◌∷◌, length, Option, Some, None, option_map, refl, sym, ap, ◌∙◌, subst, inl, inr, arith}
-use Rattle.std.specs.Prelude.{◌⊎◌, ◌≤◌, ◌<◌, filter, find, is_some}
+use Rattle.std.proofs.Common.{◌≡◌, ℕ, suc, ◌+◌, ◌^◌, ◌==◌, Bool, true, false, cond, not, ◌&&◌, ◌||◌, List, [], ◌∷◌, length, Option, Some, None, refl, sym, ap, ◌∙◌, subst, inl, inr, arith}
+use Rattle.std.specs.Prelude.{◌⊎◌, ◌≤◌, ◌<◌}
 use Rattle.std.proofs.Math.Path.{fun_ext}
 use Rattle.std.proofs.lemmas.Bool.{cases_Bool, cases_lt}
 use Rattle.std.proofs.lemmas.Bool.Decides.{nat_tests}
@@ -9,7 +9,7 @@ use Rattle.xf_doc.specs.declared.content.Content.TheVariants.{Root, Element, Att
 use Rattle.xf_doc.specs.Forest.{is_element, is_attribute, is_text}
 use Rattle.xf_doc.specs.Visit.{has}
 use Rattle.xf_doc.specs.Same.{IsRenumbering}
-use Rattle.xf_doc.specs.Shape.{text_number, as_texts, value_given}
+use Rattle.xf_doc.specs.Shape.{text_number, as_texts}
 use Rattle.xf_doc.specs.Texts.{with_value, one_text}
 use Rattle.xf_rollback.proofs.Trees.{Trees, none, tree, followed, times}
 use Rattle.xf_rollback.proofs.TreeTexts.{lone, attributes, retexted, revalued}
@@ -22,7 +22,7 @@ use Rattle.xf_settle_laws.specs.Written.{Contents, nodes_of, are_different}
 use Rattle.xf_settle_laws.specs.Alike.{content_of, done_of}
 use Rattle.xf_settle_laws.proofs.Put.{texts_top, same_texts, content, valued, put, put_all}
 use Rattle.xf_settle_laws.proofs.Spots.{FitsHere, Fits, spot, put-absent}
-use Rattle.xf_settle_laws.proofs.Bridge.{AreReady, ready-later, ready-put, times-put, lone-other}
+use Rattle.xf_settle_laws.proofs.Bridge.{AreReady, ready-later, ready-put, lone-other}
 use Rattle.xf_settle_laws.proofs.Held.{Given, hold}
 use Rattle.xf_settle_laws.proofs.HoldLemmas.{hold-nothing, with_only, hold-both, hold-renamed}
 use Rattle.xf_settle_laws.proofs.Renamed.{swap, swap-other, swap-renumbers, renamed, renamed-by, only}

@@ -10,7 +10,7 @@ use Rattle.xf_doc.specs.Limits.{node_count, all_size, size_of}
 use Rattle.xf_doc.specs.Same.{renumbered_visit}
 use Rattle.xf_doc.specs.Shape.{with_contents}
 use Rattle.xf_settle_laws.specs.Written.{Contents, written, MayWrite}
-use Rattle.xf_settle_laws.specs.Alike.{content_of, done_of, AreAlike}
+use Rattle.xf_settle_laws.specs.Alike.{content_of, done_of}
 use Rattle.xf_settle_laws.proofs.AlikeLaws.{written-alike}
 
 -- a measure of contents is the same of visits as of nodes, and under a renumbering

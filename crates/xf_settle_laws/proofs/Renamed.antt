@@ -1,27 +1,22 @@
 -- One text settled in trees is the same text held by them, but for its number: two numbers change places.
-use Rattle.std.proofs.Common.{◌≡◌, ℕ, zero, suc, ◌+◌, ◌^◌, ◌==◌, Bool, true, false, cond, ◌&&◌, ◌||◌, if◌then◌else◌, List, [], ◌∷◌, ◌++◌, map, Option, Some, None, refl, sym, ap, ◌∙◌, subst, inl, inr, arith}
-use Rattle.std.specs.Prelude.{◌⊎◌, ◌≤◌, ◌<◌, ⊤}
-use Rattle.std.specs.Str.{bytes_eq}
+use Rattle.std.proofs.Common.{◌≡◌, ℕ, ◌==◌, true, false, if◌then◌else◌, List, [], ◌∷◌, map, Some, None, refl, sym, ap, ◌∙◌, inl, inr, arith}
 use Rattle.std.proofs.lemmas.Bool.{cases_Bool}
 use Rattle.std.proofs.lemmas.Bool.Decides.{nat_tests}
-use Rattle.std.proofs.lemmas.Slice.Eq.{bytes_eq-Decides}
 use Rattle.xf_doc.specs.declared.content.Content.{Content}
 use Rattle.xf_doc.specs.declared.content.Content.TheVariants.{Root, Element, Attribute, Text}
-use Rattle.xf_doc.specs.Forest.{is_element, is_attribute, is_text, own_text}
+use Rattle.xf_doc.specs.Forest.{is_attribute, is_text, own_text}
 use Rattle.xf_doc.specs.Visit.{Visit}
 use Rattle.xf_doc.specs.Same.{IsRenumbering, renumbered_visit}
-use Rattle.xf_doc.specs.Shape.{text_number, as_texts, value_given}
-use Rattle.xf_doc.specs.Texts.{with_value, one_text}
+use Rattle.xf_doc.specs.Shape.{value_given}
+use Rattle.xf_doc.specs.Texts.{with_value}
 use Rattle.xf_rollback.proofs.Trees.{Trees, none, tree, followed, times}
-use Rattle.xf_rollback.proofs.TreeTexts.{lone, attributes, times-split, Where, here, inside, later, where_is}
+use Rattle.xf_rollback.proofs.TreeTexts.{attributes, times-split}
 use Rattle.xf_rollback.proofs.TreeVisits.{seen}
 use Rattle.xf_rollback.proofs.TreeShape.{is_leaf}
 use Rattle.xf_rollback.proofs.TreeBlank.{AreLeaves}
-use Rattle.xf_rollback.proofs.TreeOrder.{NoAttributes, AttributesFirst, Ordered}
-use Rattle.xf_rollback.proofs.TreeFacts.{is_at, at-times}
-use Rattle.xf_settle_laws.proofs.Put.{texts_top, same_texts, content, put}
-use Rattle.xf_settle_laws.proofs.Spots.{FitsHere, Fits, put-absent, attribute-no_element}
-use Rattle.xf_settle_laws.proofs.Held.{Given, held_below, hold, held-attribute}
+use Rattle.xf_rollback.proofs.TreeOrder.{NoAttributes, AttributesFirst}
+use Rattle.xf_settle_laws.proofs.Put.{texts_top}
+use Rattle.xf_settle_laws.proofs.Held.{Given, hold}
 
 -- ---- two numbers change places
 

@@ -1,14 +1,14 @@
 -- One settling, and the trees that hold its text.
-use Rattle.std.proofs.Common.{◌≡◌, ℕ, zero, suc, ◌+◌, ◌^◌, ◌==◌, Bool, true, false, cond, ◌&&◌, ◌||◌, if◌then◌else◌, List, [], ◌∷◌, Option, Some, None, refl, sym, ap, ◌∙◌, subst, inl, inr, arith}
-use Rattle.std.specs.Prelude.{◌⊎◌, ◌≤◌, ◌<◌}
+use Rattle.std.proofs.Common.{◌≡◌, ℕ, zero, suc, ◌+◌, ◌^◌, ◌==◌, Bool, true, false, ◌&&◌, ◌||◌, List, [], ◌∷◌, Option, Some, None, refl, sym, ap, ◌∙◌, subst, inl, inr, arith}
+use Rattle.std.specs.Prelude.{◌⊎◌, ◌≤◌}
 use Rattle.std.specs.Str.{bytes_eq}
 use Rattle.std.proofs.lemmas.Bool.{cases_Bool}
 use Rattle.std.proofs.lemmas.Bool.Decides.{nat_tests}
 use Rattle.std.proofs.lemmas.Slice.Eq.{bytes_eq-Decides}
 use Rattle.xf_doc.specs.declared.content.Content.{Content}
-use Rattle.xf_doc.specs.declared.content.Content.TheVariants.{Root, Element, Attribute, Text}
-use Rattle.xf_doc.specs.Forest.{is_element, is_attribute, is_text, own_text}
-use Rattle.xf_doc.specs.Shape.{text_number, as_texts, value_given}
+use Rattle.xf_doc.specs.declared.content.Content.TheVariants.{Text}
+use Rattle.xf_doc.specs.Forest.{is_element, is_attribute, is_text}
+use Rattle.xf_doc.specs.Shape.{text_number, value_given}
 use Rattle.xf_doc.specs.Texts.{with_value, one_text}
 use Rattle.xf_rollback.proofs.Trees.{Trees, none, tree, followed, times, times-followed}
 use Rattle.xf_rollback.proofs.TreeTexts.{lone, attributes, Where, here, inside, later, where_is}
@@ -17,8 +17,8 @@ use Rattle.xf_rollback.proofs.TreeOrder.{AttributesFirst, Ordered}
 use Rattle.xf_rollback.proofs.TreeFacts.{is_at, at-times}
 use Rattle.xf_settle_laws.proofs.Put.{texts_top, same_texts, content, put}
 use Rattle.xf_settle_laws.proofs.Spots.{FitsHere, Fits, put-absent, attribute-no_element}
-use Rattle.xf_settle_laws.proofs.Held.{held_below, hold, held-attribute}
-use Rattle.xf_settle_laws.proofs.Renamed.{swap, swap-other, renamed, renamed-followed, renamed-absent, renamed-itself, only, hold-absent, value-none, value-some, OneText, attributes-all, one-text, turned}
+use Rattle.xf_settle_laws.proofs.Held.{hold}
+use Rattle.xf_settle_laws.proofs.Renamed.{swap, swap-other, renamed, renamed-followed, renamed-absent, renamed-itself, only, hold-absent, value-none, value-some, attributes-all, one-text, turned}
 
 -- the text's number in the trees that hold it changes places with this one: with itself, the new one, or that of the text which stands
 pub record Single (a n : ℕ) (text : List ℕ) (t : Trees) : Type 0 where

@@ -1,13 +1,13 @@
 -- Where a number stands once: what a settling there makes of the trees, and what the list of nodes says of it.
-use Rattle.std.proofs.Common.{◌≡◌, ℕ, zero, suc, ◌+◌, ◌==◌, Bool, true, false, cond, ◌&&◌, ◌||◌, if◌then◌else◌, List, [], ◌∷◌, ◌++◌, map, refl, sym, ap, ◌∙◌, subst, inl, inr, arith}
-use Rattle.std.specs.Prelude.{◌⊎◌, ◌≤◌, ⊤, filter}
+use Rattle.std.proofs.Common.{◌≡◌, ℕ, suc, ◌==◌, Bool, true, false, ◌&&◌, ◌||◌, List, [], ◌∷◌, map, refl, sym, ap, ◌∙◌, subst, inl, inr, arith}
+use Rattle.std.specs.Prelude.{◌⊎◌, ⊤}
 use Rattle.std.specs.Str.{bytes_eq}
 use Rattle.std.proofs.lemmas.Bool.{cases_Bool}
 use Rattle.std.proofs.lemmas.Bool.Decides.{nat_tests}
 use Rattle.xf_doc.specs.declared.content.Node.{Node}
 use Rattle.xf_doc.specs.declared.content.Content.{Content}
 use Rattle.xf_doc.specs.declared.content.Content.TheVariants.{Root, Element, Attribute, Text}
-use Rattle.xf_doc.specs.Forest.{is_element, is_attribute, is_text, own_text, from_node, first_tree, below}
+use Rattle.xf_doc.specs.Forest.{is_element, is_attribute, is_text, own_text, from_node, first_tree}
 use Rattle.xf_doc.specs.Shape.{as_texts}
 use Rattle.xf_doc.specs.Texts.{with_value, one_text, texts_in}
 use Rattle.xf_doc.specs.Settle.{are_texts}
@@ -15,7 +15,7 @@ use Rattle.xf_rollback.proofs.Trees.{Trees, none, tree, onto, followed, times, S
 use Rattle.xf_rollback.proofs.TreeTexts.{lone, attributes, retexted, revalued, below-onto, times-split, retexted-absent, Where, here, inside, later, where_is}
 use Rattle.xf_rollback.proofs.TreeBlank.{AreLeaves, LeafAt, leaf-absent}
 use Rattle.xf_rollback.proofs.TreeFacts.{is_at, at-absent}
-use Rattle.xf_settle_laws.proofs.Put.{texts_top, same_texts, content, valued, put}
+use Rattle.xf_settle_laws.proofs.Put.{texts_top, same_texts, put}
 
 -- a node with this number is an attribute, or an element with attributes and texts alone below it
 abbrev pub FitsHere : Content → Trees → Type 0

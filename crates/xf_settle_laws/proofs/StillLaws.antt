@@ -1,26 +1,22 @@
 -- While texts are settled, nodes stay what they are: a text that could be set can be set still.
-use Rattle.std.proofs.Common.{◌≡◌, ℕ, suc, ◌+◌, ◌==◌, Bool, true, false, cond, ◌&&◌, ◌||◌, List, [], ◌∷◌, Some, refl, sym, ap, ◌∙◌, subst, inl, inr, arith}
-use Rattle.std.specs.Prelude.{◌⊎◌, ◌≤◌, ◌<◌}
-use Rattle.std.specs.List.{list_any}
+use Rattle.std.proofs.Common.{◌≡◌, ℕ, suc, ◌==◌, Bool, true, false, cond, ◌&&◌, ◌||◌, List, [], ◌∷◌, Some, refl, sym, ap, ◌∙◌, subst, inl, inr, arith}
 use Rattle.std.proofs.lemmas.Bool.{cases_Bool}
-use Rattle.xf_doc.specs.declared.content.Node.{Node}
 use Rattle.xf_doc.specs.declared.content.Content.{Content}
 use Rattle.xf_doc.specs.declared.content.Content.TheVariants.{Root, Element, Attribute, Text}
-use Rattle.xf_doc.specs.declared.content.Kind.{Kind}
 use Rattle.xf_doc.specs.declared.content.Kind.TheVariants as kind
 use Rattle.xf_doc.specs.Forest.{Forest, is_element, is_attribute, is_text, kind_at}
 use Rattle.xf_doc.specs.Visit.{visits}
 use Rattle.xf_doc.specs.Shape.{has_elements, as_texts}
 use Rattle.xf_doc.specs.Needs.{IsSettable}
 use Rattle.xf_doc.specs.Texts.{with_value, one_text}
-use Rattle.xf_rollback.proofs.Trees.{Trees, none, tree, onto, followed, times}
+use Rattle.xf_rollback.proofs.Trees.{Trees, none, tree, onto, followed}
 use Rattle.xf_rollback.proofs.TreeTexts.{lone, attributes}
 use Rattle.xf_rollback.proofs.TreeVisits.{elements, elements-are}
 use Rattle.xf_rollback.proofs.TreeShape.{is_leaf, times-onto}
 use Rattle.xf_rollback.proofs.TreeMoved.{value-attribute, value-element}
 use Rattle.xf_rollback.proofs.TreeBlank.{AreLeaves}
 use Rattle.xf_rollback.proofs.TreeFacts.{is_at, some-followed}
-use Rattle.xf_rollback.proofs.KeepingTrees.{KindTest, stands, any-is, any-kind, kind-any, element-test, attribute-test}
+use Rattle.xf_rollback.proofs.KeepingTrees.{stands, any-is, any-kind, kind-any, element-test, attribute-test}
 use Rattle.xf_settle_laws.specs.Written.{Contents, written, MayWrite}
 use Rattle.xf_settle_laws.proofs.Put.{texts_top, same_texts, content, valued, put, valued-element, put_all}
 use Rattle.xf_settle_laws.proofs.Spots.{FitsHere, Fits, attribute-no_element}

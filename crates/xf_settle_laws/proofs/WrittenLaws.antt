@@ -1,5 +1,5 @@
 -- Where some contents were written, one more may be written at any time: what stands does not tell the order.
-use Rattle.std.proofs.Common.{◌≡◌, ℕ, ◌+◌, ◌==◌, ◌&&◌, Bool, true, false, List, [], ◌∷◌, length, Some, refl, sym, ap, ◌∙◌, subst, inl, inr, arith}
+use Rattle.std.proofs.Common.{◌≡◌, ℕ, ◌+◌, ◌==◌, ◌&&◌, Bool, true, false, List, [], ◌∷◌, length, Some, refl, sym, ap, ◌∙◌, inl, inr, arith}
 use Rattle.std.specs.Prelude.{◌⊎◌, ◌≤◌, ◌<◌}
 use Rattle.std.specs.List.{list_any}
 use Rattle.std.proofs.lemmas.Bool.{cases_lt}
@@ -20,8 +20,8 @@ use Rattle.xf_rollback.proofs.TreeAgain.{AttributeAt}
 use Rattle.xf_rollback.proofs.TreeFacts.{is_at, at-times}
 use Rattle.xf_rollback.proofs.TreeLeaves.{leaf-of, attribute-of}
 use Rattle.xf_rollback.proofs.KeepingTrees.{Stands, stands, any-is, kind-any, element-test, attribute-test}
-use Rattle.xf_settle_laws.specs.Written.{Contents, written, and_one, nodes_of, AreSettable, MayWrite}
-use Rattle.xf_settle_laws.proofs.Put.{put, put_all, put-more, with_one}
+use Rattle.xf_settle_laws.specs.Written.{Contents, written, and_one, AreSettable, MayWrite}
+use Rattle.xf_settle_laws.proofs.Put.{put_all, put-more, with_one}
 use Rattle.xf_settle_laws.proofs.Spots.{Fits}
 use Rattle.xf_settle_laws.proofs.Bridge.{AreReady, settled-onto, written-onto, fits-all, ready-of}
 

@@ -1,0 +1,14 @@
+use Rattle.xf_written_laws.proofs.TurnLaws.{turn_writes, turn_text, turn_content, turn_passed}
+use Rattle.xf_written_laws.proofs.in_turn.Goals as goal
+
+pub returns-clause-writes : goal.returns-clause-writes
+returns-clause-writes c = turn_writes
+
+pub returns-clause-text : goal.returns-clause-text
+returns-clause-text c = turn_text
+
+pub returns-clause-content : goal.returns-clause-content
+returns-clause-content c = turn_content
+
+pub returns-clause-passed : goal.returns-clause-passed
+returns-clause-passed c = turn_passed
