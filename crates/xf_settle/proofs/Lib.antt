@@ -1,0 +1,4 @@
+mod Values
+mod HeldSteps
+mod ListLemmas
+mod Turning

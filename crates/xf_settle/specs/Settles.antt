@@ -5,7 +5,6 @@ use Rattle.std.specs.List.{list_any}
 use Rattle.xf_ast.specs.declared.form.Tables.{Tables}
 use Rattle.xf_doc.specs.Forest.{Forest}
 use Rattle.xf_doc.specs.Visit.{visits}
-use Rattle.xf_doc.specs.Needs.{IsSettable}
 use Rattle.xf_doc.specs.Settle.{reserved}
 use Rattle.xf_funcs.specs.Called.{called}
 use Rattle.xf_lang.specs.Given.{Document, Given}
@@ -13,7 +12,7 @@ use Rattle.xf_lang.specs.declared.fault.EvalFault.{EvalFault}
 use Rattle.xf_lang.specs.declared.fault.EvalFault.TheVariants as eval
 use Rattle.xf_model.specs.Rules.{Scope, scope_of}
 use Rattle.xf_model.specs.Applied.{Entry}
-use Rattle.xf_model.specs.Settled.{Contents, Passed, nodes, all_texts, bounds, calculates, settled_contents, values_over, passed}
+use Rattle.xf_model.specs.Settled.{Contents, Passed, nodes, all_texts, bounds, settled_contents, values_over, passed}
 use Rattle.xf_model.specs.Pertinent.{AllOf}
 use Rattle.xf_model.specs.Stands.{AreAcyclic}
 use Rattle.xf_agree.specs.Settles.{IsSolid, Surrounds}
@@ -36,9 +35,8 @@ pub record MaySettle (given : Given) (tables : Tables) (model : ℕ) (forest : F
   pub around : Surrounds (scope_in given tables model) bounds.string forest
   pub applies : Applies called given tables model forest entries
   pub acyclic : AreAcyclic (scope_in given tables model) entries (visits forest.nodes)
-  pub settable : AllOf (λ e. IsSettable e.node forest) (calculates entries)
   pub documents : AllOf (λ (d : Document). IsSolid (visits forest.nodes) d.element) given.documents
-  pub quiet : given.event ≡ None
+  pub no_event : given.event ≡ None
   pub small : forest.next < 2 ^ 126
 
 -- ---- what is left
@@ -57,8 +55,8 @@ words_of scope entries forest = passed bounds scope entries (visits forest.nodes
 
 -- the forest holds the settled texts, and the entries have the truths of their values over it; no limit is passed
 pub record IsSettled (scope : Scope) (entries : List Entry) (forest after : Forest) (held : List Held) : Type 0 where
-  pub forest : after ≡ settled_forest scope entries forest
-  pub entries : entries_in held ≡ entries
+  pub written : after ≡ settled_forest scope entries forest
+  pub same : entries_in held ≡ entries
   pub values : valued_in held ≡ map truly (values_over bounds scope entries (visits after.nodes))
   pub within : words_of scope entries forest ≡ []
 

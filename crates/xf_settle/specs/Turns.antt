@@ -18,7 +18,7 @@ use Rattle.xf_model.specs.Applied.{Entry, is_calculate, sets_same}
 use Rattle.xf_model.specs.Entries.{is_computed, value_of}
 use Rattle.xf_model.specs.Settled.{calculates}
 use Rattle.xf_model.specs.Pertinent.{AllOf}
-use Rattle.xf_agree.specs.InTurn.{IsOrdered}
+use Rattle.xf_agree.specs.InTurn.{AreSingle, IsOrdered}
 use Rattle.xf_undo.specs.Draft.{Draft, with_settled}
 use Rattle.xf_binds.specs.Held.{Held, entry_of, held_with}
 use Rattle.xf_settle.specs.declared.turn.Turn.{Turn}
@@ -31,6 +31,7 @@ entry_in t = entry_of t.entry
 -- the calculates in an order of their graph, each with its place among them
 pub record AreTurns (scope : Scope) (entries : List Entry) (all : List Visit) (turns : List Turn) : Type 0 where
   pub ordered : IsOrdered scope entries all (map entry_in turns)
+  pub single : AreSingle (map entry_in turns)
   pub placed : AllOf (λ t. slice_get (calculates entries) t.place ≡ Some (entry_in t)) turns
 
 -- ---- a turn

@@ -12,5 +12,5 @@ use Rattle.xf_settle.specs.Settles.{settled_forest}
 
 -- the settled texts stand, and each passes neither the limit of a string nor that of a text
 pub record IsWritten (scope : Scope) (entries : List Entry) (forest after : Forest) : Type 0 where
-  pub forest : after ≡ settled_forest scope entries forest
+  pub written : after ≡ settled_forest scope entries forest
   pub fitting : AllOf (λ e. IsFitting bounds.limits.text (text_of (Some bounds.string) scope (settled bounds scope entries (visits forest.nodes)) e)) (calculates entries)

@@ -4,9 +4,9 @@
 mod evaluate;
 mod fault;
 mod order;
-mod settle;
+mod recalculation;
 mod truths;
 mod turn;
 
 pub use fault::SettleFault;
-pub use settle::settle;
+pub use recalculation::settle;

@@ -1,7 +1,7 @@
 use Rattle.std.proofs.Common.{◌≡◌, ◌≤◌, length, take}
 use Rattle.xf_model.specs.Settled.{calculates}
 use Rattle.xf_binds.specs.Table.{kept_at}
-use Rattle.xf_settle.proofs.settle.calculate_count.Given as goal
+use Rattle.xf_settle.proofs.recalculation.calculate_count.Given as goal
 
 abbrev pub invariant-loop-at : goal.invariant-loop-at
 invariant-loop-at l = record {
