@@ -1,18 +1,25 @@
 -- The entries of a model, one after the other, each with the truth of its value.
-use Rattle.std.proofs.Common.{◌≡◌, ℕ, zero, suc, ◌+◌, ◌<◌, ◌≤◌, Bool, true, false, cond, not, ◌&&◌, List, [], ◌∷◌, ◌++◌, map, length, take, drop, get_or, Option, Some, None, option_map, slice_get, refl, sym, ap, ◌∙◌, arith}
-use Rattle.std.specs.Prelude.{filter}
+use Rattle.std.proofs.Common.{◌≡◌, ℕ, zero, suc, ◌+◌, ◌<◌, ◌≤◌, Bool, true, false, cond, not, ◌&&◌, ◌||◌, List, [], ◌∷◌, ◌++◌, map, length, take, drop, get_or, Option, Some, None, option_map, slice_get, refl, sym, ap, ◌∙◌, arith}
+use Rattle.std.specs.Prelude.{filter, is_none}
 use Rattle.std.specs.List.{list_all, list_any}
 use Rattle.std.proofs.lemmas.List.{map-append}
 use Rattle.xf_doc.specs.declared.content.Node.{Node}
 use Rattle.xf_doc.specs.Visit.{Visit}
 use Rattle.xf_doc.proofs.BackLaws.{and-true}
 use Rattle.xf_plain_values.specs.Bounded.{◌>>=◌}
-use Rattle.xf_lang.proofs.VisitFacts.{none-some, some-same}
+use Rattle.xf_base.specs.Limits.{string_limit}
+use Rattle.xf_lang.specs.declared.value.Value.{Value}
+use Rattle.xf_lang.specs.Conversions.{truth_of}
+use Rattle.xf_lang.proofs.VisitFacts.{no, none-some, some-same}
+use Rattle.xf_form_machine.specs.Behave.{truly}
+use Rattle.xf_model.specs.Entries.{is_computed, text_of, value_of}
+use Rattle.xf_model.specs.Pertinent.{AllOf}
 use Rattle.xf_model.specs.Rules.{Scope}
 use Rattle.xf_model.specs.Applied.{Entry, is_calculate, sets_same}
-use Rattle.xf_model.specs.Settled.{calculates}
+use Rattle.xf_model.specs.Settled.{Valued, bounds, calculates, is_long, values_over}
 use Rattle.xf_binds.specs.Held.{Held, entries_in, held_with}
-use Rattle.xf_settle.specs.Turns.{AreApart, held_if, held_over, held_step, is_calculate_at, is_new_at, is_there, is_there_at, truth_over}
+use Rattle.xf_binds.specs.Kept.{valued_in, valued_of}
+use Rattle.xf_settle.specs.Turns.{AreApart, held_if, held_over, held_step, is_calculate_at, is_new_at, is_there, is_there_at, truth_if, truth_over}
 
 plus-one : (k : ℕ) → k + 1 ≡ suc k
 plus-one k = omega arith
@@ -110,3 +117,94 @@ counted-suc (e ∷ es) (suc k) = by (is_calculate e) (counted-suc es k)
 
 pub counted : (es : List Entry) (k : ℕ) → length (calculates (take (k + 1) es)) ≡ length (calculates (take k es)) + one_if (is_calculate_at (slice_get es k))
 counted es k = ap (λ j. length (calculates (take j es))) (plus-one k) ∙ counted-suc es k
+
+-- ---- all entries
+
+append-more : (xs : List Held) (x : Held) (ys : List Entry) → entries_in (xs ++ x ∷ []) ++ ys ≡ entries_in xs ++ x.entry ∷ ys
+append-more [] x ys = refl
+append-more (y ∷ xs) x ys = ap (λ l. y.entry ∷ l) (append-more xs x ys)
+
+abbrev kept : List Held → List Held
+kept hs = filter (λ (h : Held). is_computed h.entry) hs
+
+valued-append : (xs ys : List Held) → valued_in (xs ++ ys) ≡ valued_in xs ++ valued_in ys
+valued-append [] ys = refl
+valued-append (x ∷ xs) ys = by (is_computed x.entry) (valued-append xs ys)
+  where
+    by : (b : Bool) → valued_in (xs ++ ys) ≡ valued_in xs ++ valued_in ys → map valued_of (cond b (x ∷ kept (xs ++ ys)) (kept (xs ++ ys))) ≡ map valued_of (cond b (x ∷ kept xs) (kept xs)) ++ valued_in ys
+    by true h = ap (λ l. valued_of x ∷ l) h
+    by false h = h
+
+append-two : {X : Type 0} (xs ys zs : List X) → (xs ++ ys) ++ zs ≡ xs ++ (ys ++ zs)
+append-two [] ys zs = refl
+append-two (x ∷ xs) ys zs = ap (λ l. x ∷ l) (append-two xs ys zs)
+
+module _ (scope : Scope) (all : List Visit) where
+  abbrev worth : Entry → Option Value
+  worth e = value_of (Some string_limit) scope all e
+
+  pub record Outcome (held : List Held) (es : List Entry) (h : List Held) : Type 0 where
+    pub entries : entries_in h ≡ entries_in held ++ es
+    pub values : valued_in h ≡ valued_in held ++ map truly (values_over bounds scope es all)
+    pub given : AllOf (λ e. is_computed e ≡ true → is_none (worth e) ≡ false) es
+
+  abbrev one : Entry → Valued
+  one e = record { entry = e; value = worth e }
+
+  one-more : (held : List Held) (e : Entry) (es : List Entry) (h : List Held) (truth : Option Bool) (c : Bool) → is_computed e ≡ c →
+      valued_in (held_with e truth ∷ []) ≡ map truly (cond c (one e ∷ []) []) → (is_computed e ≡ true → is_none (worth e) ≡ false) → Outcome (held ++ held_with e truth ∷ []) es h → Outcome held (e ∷ es) h
+  one-more held e es h truth c i own some o = record {
+      entries = o.entries ∙ append-more held (held_with e truth) es;
+      values =
+          o.values ∙ ap (λ l. l ++ map truly (values_over bounds scope es all)) (valued-append held (held_with e truth ∷ []))
+          ∙ append-two (valued_in held) (valued_in (held_with e truth ∷ [])) (map truly (values_over bounds scope es all))
+          ∙ ap (λ l. valued_in held ++ (l ++ map truly (values_over bounds scope es all))) own
+          ∙ ap (λ l. valued_in held ++ l) (joined c i);
+      given = (some, o.given);
+    }
+    where
+      joined : (b : Bool) → is_computed e ≡ b → map truly (cond b (one e ∷ []) []) ++ map truly (values_over bounds scope es all) ≡ map truly (values_over bounds scope (e ∷ es) all)
+      joined true j = ap (λ b. map truly (map one (cond b (e ∷ filter is_computed es) (filter is_computed es)))) (sym j)
+      joined false j = ap (λ b. map truly (map one (cond b (e ∷ filter is_computed es) (filter is_computed es)))) (sym j)
+
+  pub outcome : (held : List Held) (es : List Entry) (h : List Held) → held_over held scope all es ≡ Some h → Outcome held es h
+  outcome held [] h e = let same = some-same e in record {
+    entries = ap entries_in (sym same) ∙ sym (append-none (entries_in held));
+    values = ap valued_in (sym same) ∙ sym (append-none (valued_in held));
+    given = tt;
+  }
+  outcome held (e ∷ es) h i = by (is_computed e) refl (worth e) refl i (λ more j. outcome more es h j)
+    where
+      by : (c : Bool) → is_computed e ≡ c → (o : Option Value) → worth e ≡ o → (held_if held e (truth_if scope all e (is_computed e)) >>= λ more. held_over more scope all es) ≡ Some h →
+          ((more : List Held) → held_over more scope all es ≡ Some h → Outcome more es h) → Outcome held (e ∷ es) h
+      by false j o k l later =
+          one-more held e es h None false j (ap (λ b. map valued_of (cond b (held_with e None ∷ []) [])) j) (λ n. no (sym j ∙ n))
+          (later (held ++ held_with e None ∷ []) (sym (ap (λ b. held_if held e (truth_if scope all e b) >>= λ more. held_over more scope all es) j) ∙ l))
+      by true j None k l later =
+          none-some (sym (ap (λ b. held_if held e (truth_if scope all e b) >>= λ more. held_over more scope all es) j
+          ∙ ap (λ v. held_if held e (option_map (λ value. Some (truth_of value)) v) >>= λ more. held_over more scope all es) k) ∙ l)
+      by true j (Some v) k l later =
+          one-more held e es h (Some (truth_of v)) true j
+          (ap (λ b. map valued_of (cond b (held_with e (Some (truth_of v)) ∷ []) [])) j ∙ ap (λ w. truly (record { entry = e; value = w }) ∷ []) (sym k)) (λ n. ap is_none k)
+          (later (held ++ held_with e (Some (truth_of v)) ∷ []) (sym (ap (λ b. held_if held e (truth_if scope all e b) >>= λ more. held_over more scope all es) j
+          ∙ ap (λ w. held_if held e (option_map (λ value. Some (truth_of value)) w) >>= λ more. held_over more scope all es) k) ∙ l))
+
+  -- where one has none, its string is too long
+  pub none-long : (held : List Held) (es : List Entry) → held_over held scope all es ≡ None → list_any (is_long bounds scope all) (filter is_computed es) ≡ true
+  none-long held [] i = none-some (sym i)
+  none-long held (e ∷ es) i = by (is_computed e) refl (worth e) refl i (λ more j. none-long more es j)
+    where
+      or-right : (a b : Bool) → b ≡ true → (a || b) ≡ true
+      or-right true b h = refl
+      or-right false b h = h
+
+      by : (c : Bool) → is_computed e ≡ c → (o : Option Value) → worth e ≡ o → (held_if held e (truth_if scope all e (is_computed e)) >>= λ more. held_over more scope all es) ≡ None →
+          ((more : List Held) → held_over more scope all es ≡ None → list_any (is_long bounds scope all) (filter is_computed es) ≡ true) →
+          list_any (is_long bounds scope all) (cond c (e ∷ filter is_computed es) (filter is_computed es)) ≡ true
+      by false j o k l later = later (held ++ held_with e None ∷ []) (sym (ap (λ b. held_if held e (truth_if scope all e b) >>= λ more. held_over more scope all es) j) ∙ l)
+      by true j None k l later =
+          ap (λ w. (is_none w || (is_calculate e && is_none (text_of (Some string_limit) scope all e))) || list_any (is_long bounds scope all) (filter is_computed es)) k
+      by true j (Some v) k l later =
+          or-right (is_long bounds scope all e) (list_any (is_long bounds scope all) (filter is_computed es))
+          (later (held ++ held_with e (Some (truth_of v)) ∷ []) (sym (ap (λ b. held_if held e (truth_if scope all e b) >>= λ more. held_over more scope all es) j
+          ∙ ap (λ w. held_if held e (option_map (λ value. Some (truth_of value)) w) >>= λ more. held_over more scope all es) k) ∙ l))

@@ -2,3 +2,5 @@ mod Values
 mod HeldSteps
 mod ListLemmas
 mod Turning
+mod Surroundings
+mod Ending

@@ -15,6 +15,7 @@ use Rattle.xf_doc.specs.Visit.{Visit, has, visits}
 use Rattle.xf_funcs.specs.Called.{called}
 use Rattle.xf_lang.specs.Given.{Given}
 use Rattle.xf_lang.proofs.VisitFacts.{no, none-some, some-same}
+use Rattle.xf_model.specs.declared.property.Property.TheVariants.{Kind}
 use Rattle.xf_model.specs.Rules.{Scope}
 use Rattle.xf_model.specs.Applied.{Entry}
 use Rattle.xf_model.specs.Entries.{text_of}
@@ -59,6 +60,19 @@ pub record Going (scope : Scope) (entries : List Entry) (forest : Forest) (turns
   pub first : d.first ≡ forest.next
   pub used : (m : ℕ) → has m d.used ≡ true → list_any (λ (t : Turn). m == (forest.next + t.place)) turns ≡ true
   pub fit : AllOf (Fits scope entries forest) (map entry_in turns)
+
+abbrev pub no_turn : Turn
+no_turn = record { entry = record { node = record { number = 0; place = 0 }; property = Kind; bind = 0; position = 0; size = 0 }; place = 0 }
+
+-- a turn keeps what was kept
+pub turned-kept : (number n : ℕ) (d new : Draft) (o : Option (List ℕ)) → turned number n d o ≡ Ok new → new.kept ≡ d.kept
+turned-kept number n d new None h = cc h
+turned-kept number n d new (Some text) h = by (nat_lt limits.text (length text)) (has_text n text d.now.nodes) h
+  where
+    by : (b c : Bool) → cond b (Err Text) (Ok (cond c d (with_settled number n text d))) ≡ Ok new → new.kept ≡ d.kept
+    by true c i = cc i
+    by false true i = let same : d ≡ new = cc i in ap (λ (x : Draft). x.kept) (sym same)
+    by false false i = let same : with_settled number n text d ≡ new = cc i in ap (λ (x : Draft). x.kept) (sym same)
 
 written-same : (one other : ℕ → Bool) → ((m : ℕ) → one m ≡ other m) → (number : ℕ) (contents : Contents) (nodes : List Node) → written one number contents nodes ≡ written other number contents nodes
 written-same one other h number [] nodes = refl

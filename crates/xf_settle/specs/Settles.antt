@@ -1,8 +1,10 @@
 -- The work of a recalculation (XForms 1.1, section 4.3.2) over a forest: the texts of the calculates of one model are settled, and each
 -- entry has the truth of its value over these.
-use Rattle.std.specs.Prelude.{ℕ, ◌≡◌, ◌<◌, ◌^◌, Bool, true, false, List, [], map, length, None}
+use Rattle.std.specs.Prelude.{ℕ, ◌≡◌, ◌<◌, ◌^◌, Bool, true, false, List, [], map, length, Option, Some, None}
 use Rattle.std.specs.List.{list_any}
 use Rattle.xf_ast.specs.declared.form.Tables.{Tables}
+use Rattle.xf_doc.specs.declared.fault.TreeFault.{TreeFault}
+use Rattle.xf_doc.specs.declared.fault.TreeFault.TheVariants as tree
 use Rattle.xf_doc.specs.Forest.{Forest}
 use Rattle.xf_doc.specs.Visit.{visits}
 use Rattle.xf_doc.specs.Settle.{reserved}
@@ -77,6 +79,12 @@ IsTold Text words = list_any tells_text words ≡ true
 IsTold Nodes words = list_any tells_nodes words ≡ true
 IsTold AllTexts words = list_any tells_all words ≡ true
 IsTold Memory words = Unit {0}
+
+-- what the forest tells of its limits
+abbrev pub word_of : Option TreeFault → Option SettleFault
+word_of None = None
+word_of (Some tree.Nodes) = Some Nodes
+word_of (Some other) = Some AllTexts
 
 abbrev pub fault_of : EvalFault → SettleFault
 fault_of eval.Long = Long

@@ -1,10 +1,10 @@
 //! The recalculation of a model (XForms 1.1, section 4.3.2).
 
 ghost use Rattle.std.specs.Prelude.{◌≡◌, length, slice_get, IfOk, IfErr};
-ghost use Rattle.xf_doc.specs.Visit.{visits};
+ghost use Rattle.xf_doc.specs.Limits.{limits, passed_by_all};
 ghost use Rattle.xf_model.specs.Settled.{calculates};
 ghost use Rattle.xf_binds.specs.Table.{kept_at};
-ghost use Rattle.xf_settle.specs.Settles.{IsSettled, IsTold, MaySettle, scope_in, words_of};
+ghost use Rattle.xf_settle.specs.Settles.{IsSettled, IsTold, MaySettle, scope_in, word_of, words_of};
 ghost use Rattle.xf_settle.specs.Turns.{is_calculate_at};
 
 use crate::fault::SettleFault;
@@ -17,6 +17,7 @@ use xf_binds::{Applied, Table};
 use xf_doc::TreeFault;
 use xf_eval::Around;
 use xf_model::Property;
+use xf_tree::Forest;
 use xf_undo::Draft;
 
 /// Evaluates the calculates of a model, each after those that it reads, and writes their texts; then evaluates each entry. The answer is the
@@ -42,10 +43,20 @@ pub fn settle<A: Around>(
     let turns = turns_of(alloc, tables, draft.forest(), model, table, around)?;
     settle_turns(alloc, tables, draft, model, table, turns.as_slice(), count as u32, around)?;
     let held = held(alloc, tables, draft.forest(), model, table, around)?;
-    match draft.forest().passed() {
-        Some(TreeFault::Nodes) => Err(SettleFault::Nodes),
-        Some(_) => Err(SettleFault::AllTexts),
+    match limit_passed(draft.forest()) {
+        Some(fault) => Err(fault),
         None => Ok(held),
+    }
+}
+
+/// Which limit of the whole forest is passed, where one is.
+fn limit_passed(forest: &Forest) -> Option<SettleFault>
+    ensures { result ≡ word_of (passed_by_all limits forest.now.forest.nodes) }
+{
+    match forest.passed() {
+        Some(TreeFault::Nodes) => Some(SettleFault::Nodes),
+        Some(_) => Some(SettleFault::AllTexts),
+        None => None,
     }
 }
 
