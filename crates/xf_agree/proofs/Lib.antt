@@ -26,6 +26,8 @@ pub mod InTurnLimits
 pub mod InTurnDone
 pub mod FormInTurn
 pub mod FormSettable
+pub mod HungLaws
+pub mod HungChanges
 pub mod EvaluatedLaws
 pub mod AskedStand
 pub mod ForestsMeet

@@ -4,4 +4,5 @@ pub mod Settles
 pub mod FormSettles
 pub mod InTurn
 pub mod Evaluated
+pub mod Hung
 pub mod Forests

@@ -6,6 +6,7 @@ ghost use Rattle.xf_agree.specs.Settles.{CalculatesAgree, SettlesOnce, Settles};
 ghost use Rattle.xf_agree.specs.Forests.{TwoForestsValue, TwoForests, TwoForestsButNumbers};
 ghost use Rattle.xf_agree.specs.FormSettles.{FormAgrees, FormSettlesOnce, FormSettles, FormSettable};
 ghost use Rattle.xf_agree.specs.Evaluated.{EvaluatedText, EvaluatedTruth, EvaluatedLong, EvaluatedPassed, SurroundingsStay, SolidNumbers};
+ghost use Rattle.xf_agree.specs.Hung.{HungForest, HungText, HungDetached, HungPlaced, HungGrown, HungCopied, HungInstances};
 ghost use Rattle.xf_agree.specs.InTurn.{InTurnContents, InTurnSettled, InTurnTexts, InTurnDone, InTurnContent, InTurnStands, InTurnPassed, InTurnFitting, FormInTurn};
 
 /// Two forests that agree on what a covered expression reads and looks at, texts counted, give it one value, and one text.
@@ -68,4 +69,19 @@ pub fn evaluated()
     ensures passed { EvaluatedPassed }
     ensures surroundings { SurroundingsStay }
     ensures numbers { SolidNumbers }
+{}
+
+/// Where no text is a top, and none stands in a root, texts stand in elements.
+pub fn hung()
+    ensures { HungForest }
+{}
+
+/// And so they do after each change.
+pub fn hung_changes()
+    ensures text { HungText }
+    ensures detached { HungDetached }
+    ensures placed { HungPlaced }
+    ensures grown { HungGrown }
+    ensures copied { HungCopied }
+    ensures instances { HungInstances }
 {}

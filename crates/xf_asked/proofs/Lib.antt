@@ -1,4 +1,5 @@
 pub mod Listings
+pub mod Spotted
 pub mod Ends
 pub mod Tellings
 pub mod Steppings

@@ -17,7 +17,7 @@ use Rattle.xf_shape.proofs.Lists.{filter-flat}
 use Rattle.xf_shape.proofs.Rounds.{flat-round, numbers-append}
 use Rattle.xf_asked.specs.declared.asked.Asked.{Asked}
 use Rattle.xf_asked.specs.Tells.{Tells, first_spots, is_list}
-use Rattle.xf_asked.proofs.Listings.{all-append}
+use Rattle.xf_asked.proofs.Spotted.{all-append}
 
 -- ---- two together
 

@@ -65,13 +65,9 @@ fn step_asked<A: Around>(
 {
     is_sound(forest);
     let is_loose = is_loose_after(step, asked.is_loose);
-    let Asked {
-        set,
-        is_loose: _,
-        is_truth: _,
-        mut reads,
-        mut looks,
-    } = asked;
+    let set = asked.set;
+    let mut reads = asked.reads;
+    let mut looks = asked.looks;
     if !step.is_below {
         push_from(forest, step, &set, &mut reads, &mut looks)?;
         return Ok(Asked {

@@ -1,5 +1,5 @@
 -- The items of a list of entries, and what is looked up among them.
-use Rattle.std.proofs.Common.{◌≡◌, ℕ, Bool, true, false, cond, not, ◌<◌, List, [], ◌∷◌, ◌++◌, find, length, get_or, Option, Some, None, option_map, option_and_then, is_some, slice_get, nat_eq, ◌==◌, refl, sym, ap, ◌∙◌, subst}
+use Rattle.std.proofs.Common.{◌≡◌, ℕ, true, false, cond, not, ◌<◌, List, [], ◌∷◌, ◌++◌, find, length, get_or, Option, Some, None, option_map, option_and_then, is_some, slice_get, nat_eq, ◌==◌, refl, sym, ap, ◌∙◌, subst}
 use Rattle.std.specs.List.{list_any}
 use Rattle.std.proofs.lemmas.Option.{slice_get-map, slice_get_read}
 use Rattle.std.proofs.lemmas.List.{length-map, map-append}
@@ -14,7 +14,7 @@ use Rattle.xf_model.specs.Properties.{sets_on}
 use Rattle.xf_binds.specs.declared.entry.Entry.{Entry}
 use Rattle.xf_binds.specs.declared.entry.Item.{Item}
 use Rattle.xf_binds.specs.declared.entry.Seats.{Seats}
-use Rattle.xf_binds.specs.Held.{Held, IsSeated, entries_in, entry_of, held_at, held_of, held_on, held_same, held_with, holds, is_seat, passes, seat_in, seat_of, seats_or, seats_with}
+use Rattle.xf_binds.specs.Held.{Held, IsSeated, entries_in, entry_of, held_at, held_of, held_on, held_same, holds, is_seat, passes, seat_in, seat_of, seats_or, seats_with}
 use Rattle.xf_binds.specs.Kept.{truth_from, valued_in}
 use Rattle.xf_binds.proofs.Finds.{false-true, find-map, find-passes}
 use Rattle.xf_binds.proofs.Places.{held-some, same-some, seat-or, seat-within, seated-more, set-already, set-not}
@@ -64,17 +64,17 @@ same-else items held e seat j item view h some is bind =
 
 -- ---- an item more
 
-pub added : {S : Type 0} (items new_items : List Item) (held : List Held) (e : Entry) (t : Option Bool) (seats new : IndexMap ℕ Seats S) (s v : Seats) (at : Option ℕ)
-    → holds items ≡ held → IsSeated (holds items) seats → new_items ≡ items ++ record { entry = e; truth = t } ∷ []
+pub added : {S : Type 0} (items new_items : List Item) (held : List Held) (e : Entry) (seats new : IndexMap ℕ Seats S) (s v : Seats) (at : Option ℕ)
+    → holds items ≡ held → IsSeated (holds items) seats → new_items ≡ items ++ record { entry = e; truth = None } ∷ []
     → s ≡ seats_or (get nat_eq seats e.node.number) → at ≡ seat_of s e.property → is_some at ≡ false
     → v ≡ seats_with s e.property (length items)
     → ((q : ℕ) → get nat_eq new q ≡ cond (nat_eq e.node.number q) (Some v) (get nat_eq seats q))
     → IsSeated (holds new_items) new
-added items new_items held e t seats new s v at view seated more-is s-is at-is free v-is updates =
-    subst (λ l. IsSeated l new) (sym (ap holds more-is ∙ map-append held_of items (record { entry = e; truth = t } ∷ [])))
-    (seated-more (holds items) seats new (held_with (entry_of e) t) seated
-    (sym (seat-or (get nat_eq seats e.node.number) e.property) ∙ ap (λ u. seat_of u e.property) (sym s-is) ∙ sym at-is ∙ unset at free)
-    (λ m. updates m ∙ ap (λ u. cond (nat_eq e.node.number m) (Some u) (get nat_eq seats m)) (v-is ∙ ap (λ u. seats_with u e.property (length items)) s-is ∙ ap (seats_with (seats_or (get nat_eq seats e.node.number)) e.property) (sym (length-map items held_of)))))
+added items new_items held e seats new s v at view seated more-is s-is at-is free v-is updates =
+    subst (λ l. IsSeated l new) (sym (ap holds more-is ∙ map-append held_of items (record { entry = e; truth = None } ∷ [])))
+    (seated-more (holds items) seats new (entry_of e) seated
+    (sym (seat-or (get nat_eq seats e.node.number) e.property) ∙ ap (λ t. seat_of t e.property) (sym s-is) ∙ sym at-is ∙ unset at free)
+    (λ m. updates m ∙ ap (λ t. cond (nat_eq e.node.number m) (Some t) (get nat_eq seats m)) (v-is ∙ ap (λ t. seats_with t e.property (length items)) s-is ∙ ap (seats_with (seats_or (get nat_eq seats e.node.number)) e.property) (sym (length-map items held_of)))))
   where
     unset : (o : Option ℕ) → is_some o ≡ false → o ≡ None
     unset None h = refl

@@ -3,3 +3,7 @@ pub mod Places
 pub mod Truths
 pub mod Items
 pub mod NodeSets
+pub mod Seats
+pub mod Counts
+pub mod Tellings
+pub mod Sinces

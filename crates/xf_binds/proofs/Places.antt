@@ -192,14 +192,14 @@ more o n p k none m other same q i = by (nat_eq n m) same
         ∙ ap (λ t. is_seat (seat_in t q) i || ((k == i) && is_property p q)) (sym (g refl))
     by false g = or-none (is_seat (seat_in other q) i) ∙ ap (λ b. is_seat (seat_in other q) i || b) (sym (and-none (k == i) false refl))
 
-pub seated-more : {S : Type 0} (held : List Held) (seats new : IndexMap ℕ Seats S) (h : Held) → IsSeated held seats → seat_in (get nat_eq seats h.entry.node) h.entry.property ≡ None
-    → ((m : ℕ) → get nat_eq new m ≡ cond (nat_eq h.entry.node m) (Some (seats_with (seats_or (get nat_eq seats h.entry.node)) h.entry.property (length held))) (get nat_eq seats m))
-    → IsSeated (held ++ h ∷ []) new
-seated-more held seats new h seated none updates = λ m q i.
+pub seated-more : {S : Type 0} (held : List Held) (seats new : IndexMap ℕ Seats S) (e : applied.Entry) → IsSeated held seats → seat_in (get nat_eq seats e.node) e.property ≡ None
+    → ((m : ℕ) → get nat_eq new m ≡ cond (nat_eq e.node m) (Some (seats_with (seats_or (get nat_eq seats e.node)) e.property (length held))) (get nat_eq seats m))
+    → IsSeated (held ++ newly_held e ∷ []) new
+seated-more held seats new e seated none updates = λ m q i.
     ap (λ o. is_seat (seat_in o q) i) (updates m)
-    ∙ more (get nat_eq seats h.entry.node) h.entry.node h.entry.property (length held) none m (get nat_eq seats m) (λ e. ap (get nat_eq seats) (sym (eqb-true h.entry.node m e))) q i
-    ∙ ap (λ b. b || ((length held == i) && held_on m q h)) (seated m q i)
-    ∙ sym (passes-last (held_on m q) held h i)
+    ∙ more (get nat_eq seats e.node) e.node e.property (length held) none m (get nat_eq seats m) (λ h. ap (get nat_eq seats) (sym (eqb-true e.node m h))) q i
+    ∙ ap (λ b. b || ((length held == i) && held_on m q (newly_held e))) (seated m q i)
+    ∙ sym (passes-last (held_on m q) held (newly_held e) i)
 
 -- ---- whether a property is set already
 

@@ -1,5 +1,5 @@
 -- The entries and types that the binds of a model set, each with the truth that its value had, and where those of a node stand among them.
-use Rattle.std.specs.Prelude.{ℕ, ◌≡◌, Bool, false, List, map, find, Option, Some, None, slice_get, nat_eq, ◌==◌}
+use Rattle.std.specs.Prelude.{ℕ, suc, ◌≡◌, Bool, false, List, [], ◌∷◌, map, find, Option, Some, None, option_map, slice_get, nat_eq, ◌==◌, if◌then◌else◌}
 use Rattle.indexmap.specs.IndexMap.{IndexMap, get}
 use Rattle.xf_model.specs.declared.property.Property.{Property}
 use Rattle.xf_model.specs.declared.property.Property.TheVariants.{Kind, Calculate, Relevant, Readonly, Required, Constraint}
@@ -19,11 +19,8 @@ pub record Held : Type 0 where
   -- None where it had no value yet
   pub truth : Option Bool
 
-abbrev pub held_with : applied.Entry → Option Bool → Held
-held_with e truth = record { entry = e; truth = truth }
-
 abbrev pub newly_held : applied.Entry → Held
-newly_held e = held_with e None
+newly_held e = record { entry = e; truth = None }
 
 abbrev pub held_of : Item → Held
 held_of item = record { entry = entry_of item.entry; truth = item.truth }
@@ -33,6 +30,12 @@ holds items = map held_of items
 
 abbrev pub entries_in : List Held → List applied.Entry
 entries_in held = map (λ h. h.entry) held
+
+-- entries with these truths, by their places: one past them has none
+abbrev pub held_by : List applied.Entry → List (Option Bool) → List Held
+held_by [] truths = []
+held_by (e ∷ es) [] = newly_held e ∷ held_by es []
+held_by (e ∷ es) (t ∷ truths) = record { entry = e; truth = t } ∷ held_by es truths
 
 -- ---- one entry among them
 
@@ -49,6 +52,11 @@ held_at held n p = find (held_on n p) held
 -- the same attribute of the same bind for the same node
 abbrev pub held_same : List Held → applied.Entry → Option Held
 held_same held e = find (held_as e) held
+
+-- the place of the entry at the node that sets the property
+abbrev pub place_on : List applied.Entry → ℕ → Property → Option ℕ
+place_on [] n p = None
+place_on (e ∷ es) n p = if sets_on n p e then Some 0 else option_map suc (place_on es n p)
 
 -- ---- where they stand
 

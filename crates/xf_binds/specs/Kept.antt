@@ -10,7 +10,16 @@ use Rattle.xf_model.specs.Settled.{Valued}
 use Rattle.xf_model.specs.Pertinent.{is_same}
 use Rattle.xf_model.specs.Properties.{sets_on}
 use Rattle.xf_binds.specs.declared.web.Asks.{Asks}
-use Rattle.xf_binds.specs.Held.{Held, entries_in}
+use Rattle.xf_binds.specs.Held.{Held, held_by}
+
+-- as it was at the last commit
+pub record Was : Type 0 where
+  pub entries : List Entry
+  pub asks : List Asks
+  pub stood : List Valued
+  pub invalid : List ℕ
+  pub texts : List ℕ
+  pub lists : List ℕ
 
 pub record Kept : Type 0 where
   -- the entries and types that the last rebuild gave
@@ -24,9 +33,33 @@ pub record Kept : Type 0 where
   -- since the last recalculation: the nodes with another text, and those in whose list of attributes and children one came or went
   pub texts : List ℕ
   pub lists : List ℕ
+  pub before : Was
 
 abbrev pub no_kept : Kept
-no_kept = record { entries = []; asks = []; stood = []; invalid = []; texts = []; lists = [] }
+no_kept = record {
+  entries = [];
+  asks = [];
+  stood = [];
+  invalid = [];
+  texts = [];
+  lists = [];
+  before = record { entries = []; asks = []; stood = []; invalid = []; texts = []; lists = [] };
+}
+
+-- as it stands, and as it was
+abbrev pub committed : Kept → Kept
+committed k = record k { before = record { entries = k.entries; asks = k.asks; stood = k.stood; invalid = k.invalid; texts = k.texts; lists = k.lists } }
+
+abbrev pub rolled_back : Kept → Kept
+rolled_back k = record {
+  entries = k.before.entries;
+  asks = k.before.asks;
+  stood = k.before.stood;
+  invalid = k.before.invalid;
+  texts = k.before.texts;
+  lists = k.before.lists;
+  before = k.before;
+}
 
 -- ---- values
 
@@ -42,15 +75,9 @@ abbrev pub stood_of : List Held → Option (List Held) → List Held
 stood_of present None = present
 stood_of present (Some stood) = stood
 
-abbrev pub kept_of : List Held → List Asks → Option (List Held) → List ℕ → List ℕ → List ℕ → Kept
-kept_of present asks stood invalid texts lists = record {
-  entries = entries_in present;
-  asks = asks;
-  stood = valued_in (stood_of present stood);
-  invalid = invalid;
-  texts = texts;
-  lists = lists;
-}
+-- after a recalculation: the present entries stood, with these truths by their places, and nothing is marked
+abbrev pub recalculated : List (Option Bool) → Kept → Kept
+recalculated truths k = record k { stood = valued_in (held_by k.entries truths); texts = []; lists = [] }
 
 -- the value that an entry had, where it stood; its position and size do not count
 abbrev pub value_from : List Valued → Entry → Valued

@@ -2,3 +2,5 @@ pub mod NodeSet
 pub mod Held
 pub mod Kept
 pub mod Table
+pub mod Asked
+pub mod Since

@@ -1,14 +1,33 @@
 -- What is kept of all models, each by its number.
-use Rattle.std.specs.Prelude.{ℕ, Bool, List, [], ◌∷◌, get_or, slice_set, Option, Some, None}
+use Rattle.std.specs.Prelude.{ℕ, Bool, List, [], ◌∷◌, map, get_or, slice_set, Option, Some, None}
 use Rattle.xf_model.specs.declared.property.Property.{Property}
-use Rattle.xf_binds.specs.Kept.{Kept, no_kept, truth_in}
+use Rattle.xf_model.specs.Applied.{Entry}
+use Rattle.xf_binds.specs.declared.web.Asks.{Asks}
+use Rattle.xf_binds.specs.Held.{Held, entries_in}
+use Rattle.xf_binds.specs.Kept.{Kept, committed, no_kept, rolled_back, truth_in}
 
 abbrev pub kept_at : List Kept → ℕ → Kept
 kept_at table model = get_or table model no_kept
 
+-- a model that is not there has none
+abbrev pub held_or : Option (List Held) → List Entry
+held_or None = []
+held_or (Some held) = entries_in held
+
+abbrev pub web_or : Option (List Asks) → List Asks
+web_or None = []
+web_or (Some web) = web
+
 -- another is kept of one model
 abbrev pub with_kept : List Kept → ℕ → Kept → List Kept
 with_kept table model kept = slice_set table model kept
+
+-- all as they stand, and all as they were
+abbrev pub all_committed : List Kept → List Kept
+all_committed table = map committed table
+
+abbrev pub all_rolled_back : List Kept → List Kept
+all_rolled_back table = map rolled_back table
 
 abbrev pub unless_told : Option (Option Bool) → Option (Option Bool) → Option (Option Bool)
 unless_told None other = other

@@ -1,13 +1,16 @@
 //! The entries and types of a model, in the order in which its binds set them.
 
-ghost use Rattle.std.specs.Prelude.{◌≡◌, ℕ, nat_eq, ◌∷◌, [], ◌++◌, length, not, option_map, slice_get, IfOk, IsTrue, ◌↔◌};
+ghost use Rattle.std.specs.Prelude.{◌≡◌, ℕ, nat_eq, ◌∷◌, [], ◌++◌, length, not, option_map, true, slice_get, IfOk, IsTrue, ◌↔◌};
 ghost use Rattle.std.specs.Bool.{OnTrue, OnFalse};
 ghost use Rattle.std.specs.List.{list_any};
 ghost use Rattle.xf_model.specs.Applied.{sets_same};
-ghost use Rattle.xf_binds.specs.Held.{entries_in, entry_of, held_at, held_of, held_on, held_same, held_with, is_seat, newly_held, passes, seats_or};
+ghost use Rattle.xf_model.specs.Entries.{is_computed};
+ghost use Rattle.xf_binds.specs.Kept.{truth_from, valued_in};
+ghost use Rattle.xf_binds.specs.Held.{entries_in, entry_of, held_at, held_by, held_of, held_on, held_same, holds, is_seat, newly_held, passes, place_on, seats_or};
 ghost use Rattle.indexmap.specs.IndexMap.{get};
 
 use crate::entry::{Entry, Item, Seats};
+use crate::truth_list::TruthList;
 use indexmap::IndexMap;
 use std::alloc::{AllocError, Global};
 use std::marker::Model;
@@ -65,6 +68,13 @@ impl Applied {
         }
     }
 
+    /// The place of the entry that sets the property of a node, from 0.
+    pub fn place(&self, node: NodeId, property: Property) -> Option<usize>
+        ensures { result ≡ place_on (entries_in self.now) node.number property }
+    {
+        self.seat(node, property)
+    }
+
     /// Where the property of the node is set.
     fn seat(&self, node: NodeId, property: Property) -> Option<usize>
         ensures { (i : ℕ) → is_seat result i ≡ passes (held_on node.number property) (slice_get self.now i) }
@@ -102,19 +112,45 @@ impl Applied {
         }
     }
 
+    /// The truth that the same attribute of the same bind has for the same node, where the entry is here.
+    pub(crate) fn truth(&self, entry: &Entry) -> Option<bool>
+        requires { is_computed (entry_of entry.now) ≡ true }
+        ensures { result ≡ truth_from (valued_in self.now) (entry_of entry.now) }
+    {
+        match self.same(entry) {
+            Some(item) => item.truth,
+            None => None,
+        }
+    }
+
+    /// The same, where the entries have these truths.
+    pub(crate) fn told(&self, entry: &Entry, truths: &TruthList) -> Option<bool>
+        requires { is_computed (entry_of entry.now) ≡ true }
+        ensures { result ≡ truth_from (valued_in (held_by (entries_in self.now) truths.now)) (entry_of entry.now) }
+    {
+        match self.seat(entry.node, entry.property) {
+            Some(seat) => {
+                if self.items[seat].entry.bind == entry.bind {
+                    truths.at(seat)
+                } else {
+                    None
+                }
+            }
+            None => None,
+        }
+    }
+
+    /// Gives the entries these truths, by their places; one past them has none then. Takes no memory.
+    pub(crate) fn tell(&mut self, truths: &TruthList)
+        ensures { self.new ≡ held_by (entries_in self.old) truths.now }
+    {
+        give(&mut self.items, truths);
+    }
+
     /// Adds an entry behind the others, unless the property of the node is set already. The answer is whether it was added.
     pub fn add(&mut self, entry: Entry) -> Result<bool, AllocError>
         ensures new { IfOk result (λ is_new. is_new ≡ not (list_any (sets_same (entry_of entry)) (entries_in self.old))) }
         ensures added { IfOk result (λ is_new. OnTrue is_new (self.new ≡ self.old ++ newly_held (entry_of entry) ∷ [])) }
-        ensures kept { IfOk result (λ is_new. OnFalse is_new (self.new ≡ self.old)) }
-    {
-        self.add_valued(entry, None)
-    }
-
-    /// Adds an entry with the truth of its value, as `add` adds one.
-    pub fn add_valued(&mut self, entry: Entry, truth: Option<bool>) -> Result<bool, AllocError>
-        ensures new { IfOk result (λ is_new. is_new ≡ not (list_any (sets_same (entry_of entry)) (entries_in self.old))) }
-        ensures added { IfOk result (λ is_new. OnTrue is_new (self.new ≡ self.old ++ held_with (entry_of entry) truth ∷ [])) }
         ensures kept { IfOk result (λ is_new. OnFalse is_new (self.new ≡ self.old)) }
     {
         let mut seats = seats_in(&self.seats, entry.node.number);
@@ -122,7 +158,7 @@ impl Applied {
             return Ok(false);
         }
         seats.set(entry.property, self.items.len());
-        self.items.push(Item { entry, truth })?;
+        self.items.push(Item { entry, truth: None })?;
         match self.seats.insert(entry.node.number, seats) {
             Ok(_) => Ok(true),
             Err(_) => {
@@ -130,6 +166,17 @@ impl Applied {
                 Err(AllocError)
             }
         }
+    }
+}
+
+/// Gives the items these truths, by their places.
+fn give(items: &mut Vec<Item>, truths: &TruthList)
+    ensures { holds items.new.items ≡ held_by (entries_in (holds items.old.items)) truths.now }
+{
+    let count = items.len();
+    for at in 0..count {
+        let truth = truths.at(at);
+        items[at].truth = truth;
     }
 }
 

@@ -1,24 +1,42 @@
 //! What is kept of one model.
 
-ghost use Rattle.std.specs.Prelude.{◌≡◌, [], ◌∷◌, ◌++◌, false, true, find, option_map, OnOk, OnErr};
+ghost use Rattle.std.specs.Prelude.{◌≡◌, [], ◌∷◌, ◌++◌, false, true, find, length, option_map, unwrap_or, OnOk, OnErr};
 ghost use Rattle.xf_doc.specs.Visit.{has};
 ghost use Rattle.xf_model.specs.Applied.{is_property};
-ghost use Rattle.xf_model.specs.Properties.{sets_on};
-ghost use Rattle.xf_binds.specs.Held.{entries_in, entry_of};
 ghost use Rattle.xf_model.specs.Entries.{is_computed};
-ghost use Rattle.xf_binds.specs.Kept.{no_kept, truth_from, truth_in, valued_in};
+ghost use Rattle.xf_model.specs.Properties.{sets_on};
+ghost use Rattle.xf_binds.specs.Held.{entries_in, entry_of, held_by};
+ghost use Rattle.xf_binds.specs.Kept.{committed, no_kept, recalculated, rolled_back, stood_of, truth_from, truth_in};
+ghost use Rattle.xf_binds.specs.Since.{asks_in, built_more, is_told, marks_in, present_in, stood_since, told_more};
 
 use crate::applied::Applied;
 use crate::entry::Entry;
 use crate::node_set::NodeSet;
+use crate::truth_list::TruthList;
 use crate::web::Web;
 use std::alloc::{AllocError, Global};
 use std::marker::Model;
-use std::mem::replace;
+use std::mem::{replace, swap};
 use xf_doc::{NodeId, NodeList};
 use xf_model::Property;
 
-/// What is kept of the binds of one model.
+/// What came of entries since the last commit.
+#[derive(Drop)]
+pub(crate) enum Since {
+    Nothing,
+    /// A recalculation.
+    Told(TruthList),
+    /// A rebuild.
+    Built(Applied, Web),
+    /// A recalculation, and then a rebuild.
+    ToldBuilt(TruthList, Applied, Web),
+    /// A rebuild, and then a recalculation, which gave truths to its entries.
+    BuiltTold(Applied, Web),
+    /// The same, and then a rebuild: the last entries are those that stood.
+    Past(Applied, Web, Applied),
+}
+
+/// What is kept of the binds of one model: as it was at the last commit, and what came since. A change moves nothing that was kept.
 #[derive(Drop)]
 pub(crate) struct Kept {
     present: Applied,
@@ -26,17 +44,28 @@ pub(crate) struct Kept {
     // The entries that stood at the last recalculation, where they are not the present ones.
     stood: Option<Applied>,
     invalid: NodeSet,
+    // As many as are kept, and those that came since, unless a recalculation came.
     texts: NodeList,
     lists: NodeList,
+    texts_kept: usize,
+    lists_kept: usize,
+    since: Since,
+    checked: Option<NodeSet>,
+    // Those that came since a recalculation.
+    late_texts: NodeList,
+    late_lists: NodeList,
 }
 
 impl Model for Kept {
+    ghost use Rattle.std.specs.Prelude.{◌≤◌, length};
     ghost use Rattle.xf_binds.specs.Kept as kept;
-    ghost use Rattle.xf_binds.specs.Kept.{kept_of};
+    ghost use Rattle.xf_binds.specs.Since.{kept_of, was_of};
 
     ghost Value = { kept.Kept };
 
-    ghost view = { λ k. kept_of k.present k.web k.stood k.invalid k.texts k.lists };
+    ghost view = { λ k. kept_of k.present k.web k.stood k.invalid k.checked k.texts k.lists k.late_texts k.late_lists k.since (was_of k.present k.web k.stood k.invalid k.texts k.texts_kept k.lists k.lists_kept) };
+
+    ghost invariant = { λ k. (k.texts_kept ≤ length k.texts) × (k.lists_kept ≤ length k.lists) };
 }
 
 impl Kept {
@@ -50,6 +79,12 @@ impl Kept {
             invalid: NodeSet::new(alloc),
             texts: NodeList::new(alloc),
             lists: NodeList::new(alloc),
+            texts_kept: 0,
+            lists_kept: 0,
+            since: Since::Nothing,
+            checked: None,
+            late_texts: NodeList::new(alloc),
+            late_lists: NodeList::new(alloc),
         }
     }
 
@@ -57,14 +92,28 @@ impl Kept {
     pub(crate) fn present(&self) -> &Applied
         ensures { entries_in result.now ≡ self.now.entries }
     {
-        &self.present
+        match &self.since {
+            Since::Nothing => &self.present,
+            Since::Told(_) => &self.present,
+            Since::Built(now, _) => now,
+            Since::ToldBuilt(_, now, _) => now,
+            Since::BuiltTold(now, _) => now,
+            Since::Past(now, _, _) => now,
+        }
     }
 
     /// What the present entries ask of the data.
     pub(crate) fn web(&self) -> &Web
         ensures { result.now ≡ self.now.asks }
     {
-        &self.web
+        match &self.since {
+            Since::Nothing => &self.web,
+            Since::Told(_) => &self.web,
+            Since::Built(_, web) => web,
+            Since::ToldBuilt(_, _, web) => web,
+            Since::BuiltTold(_, web) => web,
+            Since::Past(_, web, _) => web,
+        }
     }
 
     /// The truth that the node's entry of this property has; `None` where it has no such entry, `Some(None)` where that has no value yet.
@@ -72,7 +121,7 @@ impl Kept {
         requires { is_property property Property.Kind ≡ false }
         ensures { result ≡ truth_in self.now property node.number }
     {
-        match self.present.at(node, property) {
+        match self.present().at(node, property) {
             Some(item) => Some(self.truth_of(&item.entry)),
             None => None,
         }
@@ -83,19 +132,13 @@ impl Kept {
         requires { is_computed (entry_of entry.now) ≡ true }
         ensures { result ≡ truth_from self.now.stood (entry_of entry.now) }
     {
-        match self.stood().same(entry) {
-            Some(item) => item.truth,
-            None => None,
-        }
-    }
-
-    /// The entries that stood at the last recalculation.
-    fn stood(&self) -> &Applied
-        ensures { valued_in result.now ≡ self.now.stood }
-    {
-        match &self.stood {
-            Some(stood) => stood,
-            None => &self.present,
+        match &self.since {
+            Since::Nothing => stood_in(&self.stood, &self.present).truth(entry),
+            Since::Told(truths) => self.present.told(entry, truths),
+            Since::Built(_, _) => stood_in(&self.stood, &self.present).truth(entry),
+            Since::ToldBuilt(truths, _, _) => self.present.told(entry, truths),
+            Since::BuiltTold(now, _) => now.truth(entry),
+            Since::Past(_, _, stood) => stood.truth(entry),
         }
     }
 
@@ -103,7 +146,7 @@ impl Kept {
     pub(crate) fn entry_on(&self, node: NodeId, property: Property) -> Option<Entry>
         ensures { option_map entry_of result ≡ find (sets_on node.number property) self.now.entries }
     {
-        match self.present.at(node, property) {
+        match self.present().at(node, property) {
             Some(item) => Some(item.entry),
             None => None,
         }
@@ -113,25 +156,35 @@ impl Kept {
     pub(crate) fn is_invalid(&self, node: NodeId) -> bool
         ensures { result ≡ has node.number self.now.invalid }
     {
-        self.invalid.has(node)
+        match &self.checked {
+            Some(checked) => checked.has(node),
+            None => self.invalid.has(node),
+        }
     }
 
     /// Keeps the nodes that were found not valid in place of those before.
     pub(crate) fn set_invalid(&mut self, invalid: NodeSet)
         ensures { self.new ≡ record self.old { invalid = invalid } }
     {
-        self.invalid = invalid;
+        self.checked = Some(invalid);
     }
 
     /// Keeps the entries of a rebuild. Those of the last recalculation are kept beside them.
     pub(crate) fn rebuild(&mut self, present: Applied, web: Web)
         ensures { self.new ≡ record self.old { entries = entries_in present; asks = web } }
     {
-        self.web = web;
-        let old = replace(&mut self.present, present);
-        if self.stood.is_none() {
-            self.stood = Some(old);
-        }
+        let since = replace(&mut self.since, Since::Nothing);
+        self.since = built(since, present, web);
+    }
+
+    /// Keeps the present entries with these truths as those of the last recalculation, and forgets the marks.
+    pub(crate) fn recalculated(&mut self, truths: TruthList)
+        ensures { self.new ≡ recalculated truths self.old }
+    {
+        let since = replace(&mut self.since, Since::Nothing);
+        self.since = told(since, truths);
+        self.late_texts.clear();
+        self.late_lists.clear();
     }
 
     /// Marks a node that has another text.
@@ -139,6 +192,9 @@ impl Kept {
         ensures ok { OnOk result (self.new ≡ record self.old { texts = self.old.texts ++ node.number ∷ [] }) }
         ensures err { OnErr result (self.new ≡ self.old) }
     {
+        if is_told(&self.since) {
+            return self.late_texts.push(node);
+        }
         self.texts.push(node)
     }
 
@@ -147,6 +203,151 @@ impl Kept {
         ensures ok { OnOk result (self.new ≡ record self.old { lists = self.old.lists ++ node.number ∷ [] }) }
         ensures err { OnErr result (self.new ≡ self.old) }
     {
+        if is_told(&self.since) {
+            return self.late_lists.push(node);
+        }
         self.lists.push(node)
     }
+
+    /// Keeps it as it stands.
+    pub(crate) fn commit(&mut self)
+        ensures { self.new ≡ committed self.old }
+    {
+        let is_told = is_told(&self.since);
+        self.texts_kept = settle_marks(is_told, &mut self.texts, &mut self.late_texts);
+        self.lists_kept = settle_marks(is_told, &mut self.lists, &mut self.late_lists);
+        let checked = replace(&mut self.checked, None);
+        settle_checked(&mut self.invalid, checked);
+        let since = replace(&mut self.since, Since::Nothing);
+        settle(&mut self.present, &mut self.web, &mut self.stood, since);
+    }
+
+    /// Gives it back as it was at the last commit.
+    pub(crate) fn roll_back(&mut self)
+        ensures { self.new ≡ rolled_back self.old }
+    {
+        self.since = Since::Nothing;
+        self.checked = None;
+        self.texts.truncate(self.texts_kept);
+        self.lists.truncate(self.lists_kept);
+    }
+}
+
+/// The entries that stood, where the present ones may be the same.
+fn stood_in<'a>(stood: &'a Option<Applied>, present: &'a Applied) -> &'a Applied
+    ensures { result.now ≡ stood_of present.now stood.now }
+{
+    match stood {
+        Some(stood) => stood,
+        None => present,
+    }
+}
+
+/// Whether a recalculation came.
+fn is_told(since: &Since) -> bool
+    ensures { result ≡ is_told since.now }
+{
+    match since {
+        Since::Nothing => false,
+        Since::Built(_, _) => false,
+        Since::Told(_) => true,
+        Since::ToldBuilt(_, _, _) => true,
+        Since::BuiltTold(_, _) => true,
+        Since::Past(_, _, _) => true,
+    }
+}
+
+/// With one rebuild more.
+fn built(since: Since, present: Applied, web: Web) -> Since
+    ensures { result ≡ built_more present web since }
+{
+    match since {
+        Since::Nothing => Since::Built(present, web),
+        Since::Told(truths) => Since::ToldBuilt(truths, present, web),
+        Since::Built(_old, _web) => Since::Built(present, web),
+        Since::ToldBuilt(truths, _old, _web) => Since::ToldBuilt(truths, present, web),
+        Since::BuiltTold(stood, _web) => Since::Past(present, web, stood),
+        Since::Past(_old, _web, stood) => Since::Past(present, web, stood),
+    }
+}
+
+/// With one recalculation more.
+fn told(since: Since, truths: TruthList) -> Since
+    ensures { result ≡ told_more truths since }
+{
+    match since {
+        Since::Nothing => Since::Told(truths),
+        Since::Told(_old) => Since::Told(truths),
+        Since::Built(now, web) => built_told(now, web, &truths),
+        Since::ToldBuilt(_old, now, web) => built_told(now, web, &truths),
+        Since::BuiltTold(now, web) => built_told(now, web, &truths),
+        Since::Past(now, web, _stood) => built_told(now, web, &truths),
+    }
+}
+
+fn built_told(now: Applied, web: Web, truths: &TruthList) -> Since
+    ensures { result ≡ Since.BuiltTold (held_by (entries_in now) truths.now) web }
+{
+    let mut now = now;
+    now.tell(truths);
+    Since::BuiltTold(now, web)
+}
+
+/// Keeps the entries as they stand.
+fn settle(present: &mut Applied, web: &mut Web, stood: &mut Option<Applied>, since: Since)
+    ensures entries { entries_in present.new ≡ entries_in (present_in present.old since) }
+    ensures asks { web.new ≡ asks_in web.old since }
+    ensures stood { stood_of present.new stood.new ≡ stood_since present.old stood.old since }
+{
+    match since {
+        Since::Nothing => {}
+        Since::Told(truths) => {
+            present.tell(&truths);
+            *stood = None;
+        }
+        Since::Built(now, asks) => {
+            let old = replace(present, now);
+            *web = asks;
+            if stood.is_none() {
+                *stood = Some(old);
+            }
+        }
+        Since::ToldBuilt(truths, now, asks) => {
+            present.tell(&truths);
+            let old = replace(present, now);
+            *stood = Some(old);
+            *web = asks;
+        }
+        Since::BuiltTold(now, asks) => {
+            *present = now;
+            *web = asks;
+            *stood = None;
+        }
+        Since::Past(now, asks, old) => {
+            *present = now;
+            *web = asks;
+            *stood = Some(old);
+        }
+    }
+}
+
+/// Keeps the nodes that were found not valid since, where some were looked for.
+fn settle_checked(invalid: &mut NodeSet, checked: Option<NodeSet>)
+    ensures { invalid.new ≡ unwrap_or checked invalid.old }
+{
+    match checked {
+        Some(checked) => *invalid = checked,
+        None => {}
+    }
+}
+
+/// Keeps marks as they stand. The answer is how many they are.
+fn settle_marks(is_told: bool, kept: &mut NodeList, late: &mut NodeList) -> usize
+    ensures kept { kept.new ≡ marks_in is_told kept.old late.old }
+    ensures count { result ≡ length kept.new }
+{
+    if is_told {
+        swap(kept, late);
+    }
+    kept.len()
 }

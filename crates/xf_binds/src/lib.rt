@@ -6,10 +6,12 @@ mod entry;
 mod kept;
 mod node_set;
 mod table;
+mod truth_list;
 mod web;
 
 pub use applied::Applied;
 pub use entry::Entry;
 pub use node_set::NodeSet;
 pub use table::Table;
+pub use truth_list::TruthList;
 pub use web::{Asks, Web};

@@ -1,18 +1,20 @@
 //! What is kept of all models.
 
-ghost use Rattle.std.specs.Prelude.{◌≡◌, ◌<◌, [], ◌∷◌, ◌++◌, false, find, length, replicate, option_map, slice_get, IfOk, OnOk, OnErr};
+ghost use Rattle.std.specs.Prelude.{◌≡◌, ◌<◌, ◌-◌, ◌^◌, [], ◌∷◌, ◌++◌, false, find, length, min, replicate, option_map, slice_get, slice_index_or, IfOk, OnOk, OnErr};
 ghost use Rattle.std.specs.List.{list_any};
 ghost use Rattle.xf_doc.specs.Visit.{has};
 ghost use Rattle.xf_model.specs.Applied.{is_property};
 ghost use Rattle.xf_model.specs.Properties.{sets_on};
+ghost use Rattle.xf_binds.specs.Asked.{asked_by_all, asked_of, asking};
 ghost use Rattle.xf_binds.specs.Held.{entries_in, entry_of};
-ghost use Rattle.xf_binds.specs.Kept.{no_kept, truth_in};
-ghost use Rattle.xf_binds.specs.Table.{kept_at, truth_among, with_kept};
+ghost use Rattle.xf_binds.specs.Kept.{no_kept, recalculated, truth_in};
+ghost use Rattle.xf_binds.specs.Table.{all_committed, all_rolled_back, held_or, kept_at, truth_among, web_or, with_kept};
 
 use crate::applied::Applied;
 use crate::entry::Entry;
 use crate::kept::Kept;
 use crate::node_set::NodeSet;
+use crate::truth_list::TruthList;
 use crate::web::{Asks, Web};
 use std::alloc::{AllocError, Global};
 use std::marker::Model;
@@ -68,6 +70,26 @@ impl Table {
         }
     }
 
+    /// The entries and types of a model.
+    pub fn present(&self, model: u32) -> Option<&Applied>
+        ensures { held_or (option_map (λ a. a.now) result) ≡ (kept_at self.now model).entries }
+    {
+        match self.models.get(model as usize) {
+            Some(kept) => Some(kept.present()),
+            None => None,
+        }
+    }
+
+    /// What each of them asks of the data.
+    pub fn web(&self, model: u32) -> Option<&Web>
+        ensures { web_or (option_map (λ w. w.now) result) ≡ (kept_at self.now model).asks }
+    {
+        match self.models.get(model as usize) {
+            Some(kept) => Some(kept.web()),
+            None => None,
+        }
+    }
+
     /// What an entry of a model asks of the data.
     pub fn asks(&self, model: u32, at: usize) -> Option<&Asks>
         ensures { option_map (λ a. a.now) result ≡ slice_get (kept_at self.now model).asks at }
@@ -76,6 +98,14 @@ impl Table {
             Some(kept) => kept.web().get(at),
             None => None,
         }
+    }
+
+    /// How many nodes the entries of all models read and look at together, where those of one model ask this; at most as many as 64
+    /// bits count.
+    pub fn asked_with(&self, model: u32, web: &Web) -> u64
+        ensures { result ≡ min (asked_by_all (asking self.now model web.now)) (2 ^ 64 - 1) }
+    {
+        asked_among(&self.models, model as usize, web)
     }
 
     /// The truth that the node's entry of this property has, of the first model in which it has one; `None` where it has no such
@@ -131,6 +161,28 @@ impl Table {
         self.models[model as usize].rebuild(present, web);
     }
 
+    /// Keeps the truths that a recalculation found, by the places of the entries, and forgets the marks. Takes no memory.
+    pub fn recalculated(&mut self, model: u32, truths: TruthList)
+        requires { model < length self.old }
+        ensures { self.new ≡ with_kept self.old model (recalculated truths (kept_at self.old model)) }
+    {
+        self.models[model as usize].recalculated(truths);
+    }
+
+    /// Keeps all as it stands: this is what a later `roll_back` gives back. Takes no memory.
+    pub fn commit(&mut self)
+        ensures { self.new ≡ all_committed self.old }
+    {
+        commit_all(&mut self.models);
+    }
+
+    /// Gives all back as it was at the last commit. Takes no memory.
+    pub fn roll_back(&mut self)
+        ensures { self.new ≡ all_rolled_back self.old }
+    {
+        roll_back_all(&mut self.models);
+    }
+
     /// Marks a node that has another text.
     pub fn mark_text(&mut self, model: u32, node: NodeId) -> Result<(), AllocError>
         requires { model < length self.old }
@@ -148,6 +200,46 @@ impl Table {
     {
         self.models[model as usize].mark_list(node)
     }
+}
+
+fn commit_all(models: &mut Vec<Kept>)
+    ensures { models.new.items ≡ all_committed models.old.items }
+{
+    let count = models.len();
+    for at in 0..count {
+        models[at].commit();
+    }
+}
+
+fn roll_back_all(models: &mut Vec<Kept>)
+    ensures { models.new.items ≡ all_rolled_back models.old.items }
+{
+    let count = models.len();
+    for at in 0..count {
+        models[at].roll_back();
+    }
+}
+
+/// What the models ask together, where one of them asks this.
+fn asked_among(models: &[Kept], model: usize, web: &Web) -> u64
+    ensures { result ≡ min (asked_by_all (asking models.now model web.now)) (2 ^ 64 - 1) }
+{
+    let mut sum: u64 = 0;
+    for at in 0..models.len() {
+        sum = sum.saturating_add(asked_at(models, model, web, at));
+    }
+    sum
+}
+
+/// What a model asks, where one of them asks this.
+fn asked_at(models: &[Kept], model: usize, web: &Web, at: usize) -> u64
+    requires { at < length models.now }
+    ensures { result ≡ min (asked_of (slice_index_or (asking models.now model web.now) at no_kept).asks) (2 ^ 64 - 1) }
+{
+    if at == model {
+        return web.asked();
+    }
+    models[at].web().asked()
 }
 
 /// The truth of the first of these models in which the node has such an entry.

@@ -1,6 +1,7 @@
 //! What the entries of a model ask of the data.
 
-ghost use Rattle.std.specs.Prelude.{◌≡◌, [], ◌∷◌, ◌++◌, length, option_map, slice_get, OnOk, OnErr};
+ghost use Rattle.std.specs.Prelude.{◌≡◌, ◌-◌, ◌^◌, [], ◌∷◌, ◌++◌, length, min, option_map, slice_get, OnOk, OnErr};
+ghost use Rattle.xf_binds.specs.Asked.{asked_of};
 
 use std::alloc::{AllocError, Global};
 use std::marker::Model;
@@ -18,6 +19,8 @@ pub struct Asks {
 #[derive(Drop)]
 pub struct Web {
     asks: Vec<Asks>,
+    // How much they read and look at together.
+    asked: u64,
 }
 
 impl Model for Web {
@@ -26,7 +29,11 @@ impl Model for Web {
 
     ghost Value = { List Asks };
 
+    ghost use Rattle.xf_binds.specs.Asked.{IsCounted};
+
     ghost view = { λ w. w.asks.items };
+
+    ghost invariant = { λ w. IsCounted w.asks.items w.asked };
 }
 
 impl Web {
@@ -35,6 +42,7 @@ impl Web {
     {
         Web {
             asks: Vec::new(alloc),
+            asked: 0,
         }
     }
 
@@ -42,6 +50,13 @@ impl Web {
         ensures { result ≡ length self.now }
     {
         self.asks.len()
+    }
+
+    /// How many nodes the entries read and look at together, at most as many as 64 bits count.
+    pub fn asked(&self) -> u64
+        ensures { result ≡ min (asked_of self.now) (2 ^ 64 - 1) }
+    {
+        self.asked
     }
 
     /// What the entry at a place asks.
@@ -56,7 +71,9 @@ impl Web {
         ensures ok { OnOk result (self.new ≡ self.old ++ asks ∷ []) }
         ensures err { OnErr result (self.new ≡ self.old) }
     {
+        let more = (asks.reads.len() as u64).saturating_add(asks.looks.len() as u64);
         self.asks.push(asks)?;
+        self.asked = self.asked.saturating_add(more);
         Ok(())
     }
 }

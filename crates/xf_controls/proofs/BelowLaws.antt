@@ -1,11 +1,11 @@
 -- The copies of an element and of those in it, by what is handed down, are those of the places below it.
-use Rattle.std.proofs.Common.{◌≡◌, ℕ, zero, suc, ◌+◌, ◌<◌, ◌≤◌, Bool, true, false, not, ◌&&◌, ◌||◌, List, [], ◌∷◌, ◌++◌, map, length, Option, Some, None, option_map, refl, sym, ap, ◌∙◌, arith}
+use Rattle.std.proofs.Common.{◌≡◌, ℕ, zero, suc, ◌+◌, ◌≤◌, Bool, true, false, not, ◌&&◌, ◌||◌, List, [], ◌∷◌, ◌++◌, length, Option, Some, None, option_map, refl, sym, ap, ◌∙◌, arith}
 use Rattle.std.specs.List.{flat_map}
 use Rattle.xf_ast.specs.declared.element.Part.{Part}
 use Rattle.xf_ast.specs.declared.element.Part.TheVariants as part
 use Rattle.xf_ast.specs.Ordered.{child_in}
 use Rattle.xf_lang.specs.Setting.{Focus, ◌>>=◌, each}
-use Rattle.xf_ui.specs.Interface.{Bound, unbound, nodes, by_bind, Element, Interface}
+use Rattle.xf_ui.specs.Interface.{Bound, unbound, nodes, by_bind, Interface}
 use Rattle.xf_ui.specs.Elements.{element_at, ancestors, children, is_control}
 use Rattle.xf_ui.specs.Around.{Around, first_bound}
 use Rattle.xf_ui.specs.Context.{enter, inside, focus_in, scope_of}
@@ -15,9 +15,9 @@ use Rattle.xf_ui.specs.Places.{Places}
 use Rattle.xf_ui.specs.Places as places
 use Rattle.xf_controls.specs.Plain.{is_plain}
 use Rattle.xf_controls.specs.Handed.{Handed, inside_of, place_for, node_in, handed_by, copy_by}
-use Rattle.xf_controls.specs.Below.{shows, some_shown, is_bound, is_passed, of_part, of_parts, if_control, copies_by, unless, copies_from}
+use Rattle.xf_controls.specs.Below.{shows, some_shown, is_bound, is_passed, of_parts, if_control, copies_by, unless, copies_from}
 use Rattle.xf_controls.proofs.OptionLaws.{after, after-nothing, alone, each-append, each-first}
-use Rattle.xf_controls.proofs.PlaceLaws.{plain-at, places_below, none-shown, none-shown-in}
+use Rattle.xf_controls.proofs.PlaceLaws.{plain-at, places_below, none-shown}
 use Rattle.xf_controls.proofs.PathLaws.{ancestors-child, inside-child}
 use Rattle.xf_controls.proofs.HandedLaws.{enter-is, open_all, open-below, copy-is, copy-lost, copy-out}
 

@@ -1,7 +1,8 @@
 -- Elements, parts and copies by their places in lists.
-use Rattle.std.proofs.Common.{◌≡◌, ◌==◌, ℕ, zero, suc, ◌+◌, ◌-◌, ◌<◌, ◌≤◌, Bool, true, false, not, ◌&&◌, ◌||◌, cond, List, [], ◌∷◌, ◌++◌, map, length, get_or, drop, take, Option, Some, None, option_map, refl, sym, ap, ◌∙◌, arith, append_assoc}
-use Rattle.std.specs.Prelude.{find, slice_get, nat_lt}
-use Rattle.std.specs.List.{list_all}
+use Rattle.std.proofs.Common.{◌≡◌, ℕ, zero, suc, ◌+◌, ◌<◌, ◌≤◌, Bool, true, false, ◌&&◌, ◌||◌, List, [], ◌∷◌, ◌++◌, map, length, get_or, drop, Option, Some, None, option_map, refl, sym, ap, ◌∙◌, append_assoc}
+use Rattle.std.specs.Prelude.{slice_get}
+use Rattle.std.specs.List.{flat_map}
+use Rattle.std.proofs.lemmas.List.Folds.{list_all-append}
 use Rattle.std.proofs.lemmas.List.{append-nil, drop_all, drop_more}
 use Rattle.xf_ast.specs.declared.element.Element as written
 use Rattle.xf_ast.specs.declared.element.Part.{Part}
@@ -12,34 +13,17 @@ use Rattle.xf_lang.specs.Setting.{◌>>=◌}
 use Rattle.xf_ui.specs.Interface.{Element, Interface, element_of, interface_of, sort_of}
 use Rattle.xf_ui.specs.Elements.{element_at, is_control, no_element}
 use Rattle.xf_ui.specs.Copies.{Copy}
-use Rattle.xf_controls.specs.declared.copy.ControlCopy.{ControlCopy}
-use Rattle.xf_controls.specs.Plain.{is_plain, is_plain_sort}
+use Rattle.xf_ast.specs.Ordered.{child_in, is_parent}
+use Rattle.xf_controls.specs.Plain.{are_children}
 use Rattle.xf_controls.specs.Below.{is_shown, of_part, of_parts, shows, some_shown}
-use Rattle.xf_controls.specs.Rising.{rises_from}
-use Rattle.xf_controls.specs.Seen.{seen_copy}
 
 -- ---- elements
 
-plain-of : (es : List written.Element) (tables : Tables) → list_all (λ (e : Element). is_plain_sort e.sort) (map (element_of tables) es) ≡ list_all (λ (e : written.Element). is_plain_sort (sort_of e.kind)) es
-plain-of [] tables = refl
-plain-of (e ∷ es) tables = ap (λ b. is_plain_sort (sort_of e.kind) && b) (plain-of es tables)
-
--- where one is not plain
-not-plain : (es : List written.Element) (i : ℕ) (e : written.Element) → i < length es → e ≡ get_or es i e → is_plain_sort (sort_of e.kind) ≡ false → false ≡ list_all (λ (x : written.Element). is_plain_sort (sort_of x.kind)) es
-not-plain [] i e l is h = absurd (omega (arith, l))
-not-plain (x ∷ es) zero e l is h = sym (ap (λ (y : written.Element). is_plain_sort (sort_of y.kind) && list_all (λ (z : written.Element). is_plain_sort (sort_of z.kind)) es) (sym is) ∙ ap (λ b. b && list_all (λ (z : written.Element). is_plain_sort (sort_of z.kind)) es) h)
-not-plain (x ∷ es) (suc i) e l is h = by (is_plain_sort (sort_of x.kind)) (not-plain es i e (omega (arith, l)) is h)
-  where
-    by : (b : Bool) → false ≡ list_all (λ (z : written.Element). is_plain_sort (sort_of z.kind)) es → false ≡ (b && list_all (λ (z : written.Element). is_plain_sort (sort_of z.kind)) es)
-    by true k = k
-    by false k = refl
-
-pub refused-plain : (form : Form) (es : List written.Element) (i : ℕ) (e : written.Element) → es ≡ form.elements → i < length es → e ≡ get_or es i e → is_plain_sort (sort_of e.kind) ≡ false → false ≡ is_plain (interface_of form)
-refused-plain form es i e same l is h =
-    not-plain es i e l is h ∙ ap (list_all (λ (x : written.Element). is_plain_sort (sort_of x.kind))) same ∙ sym (plain-of form.elements form.tables)
-
-pub all-plain : (form : Form) (es : List written.Element) → es ≡ form.elements → list_all (λ (x : written.Element). is_plain_sort (sort_of x.kind)) es ≡ true → true ≡ is_plain (interface_of form)
-all-plain form es same h = sym h ∙ ap (list_all (λ (x : written.Element). is_plain_sort (sort_of x.kind))) same ∙ sym (plain-of form.elements form.tables)
+pub children-more : (f : Interface) (n : ℕ) (ps : List Part) (i : ℕ) (p : Part) → i < length ps → p ≡ get_or ps i p
+    → are_children f n (flat_map child_in (drop i ps)) ≡ (are_children f n (child_in p) && are_children f n (flat_map child_in (drop (i + 1) ps)))
+children-more f n ps i p l is =
+    ap (λ qs. are_children f n (flat_map child_in qs)) (drop_more ps i p l) ∙ ap (λ q. are_children f n (child_in q ++ flat_map child_in (drop (i + 1) ps))) (sym is)
+    ∙ list_all-append (λ m. is_parent n (element_at f m).parent) (child_in p) (flat_map child_in (drop (i + 1) ps))
 
 at-none : (tables : Tables) (es : List written.Element) (n : ℕ) → slice_get es n ≡ None → get_or (map (element_of tables) es) n no_element ≡ no_element
 at-none tables [] n h = refl
@@ -80,30 +64,6 @@ shows-parts form most k n e m h control =
 pub shown-more : (further : ℕ → Bool) (ps : List Part) (i : ℕ) (p : Part) → i < length ps → p ≡ get_or ps i p → some_shown further (drop i ps) ≡ (is_shown further p || some_shown further (drop (i + 1) ps))
 shown-more further ps i p l is = ap (some_shown further) (drop_more ps i p l) ∙ ap (λ q. is_shown further q || some_shown further (drop (i + 1) ps)) (sym is)
 
--- ---- lists that rise
-
-pub rises-more : (least : ℕ) (cs : List ControlCopy) (i : ℕ) (c : ControlCopy) → i < length cs → c ≡ get_or cs i c → rises_from least (drop i cs) ≡ (not (nat_lt c.element least) && rises_from (suc c.element) (drop (i + 1) cs))
-rises-more least cs i c l is = ap (rises_from least) (drop_more cs i c l) ∙ ap (λ (d : ControlCopy). not (nat_lt d.element least) && rises_from (suc d.element) (drop (i + 1) cs)) (sym is)
-
--- ---- a copy that is looked for
-
-pub find-more : (test : Copy → Bool) (cs : List ControlCopy) (i : ℕ) (c : ControlCopy) → i < length cs → c ≡ get_or cs i c → find test (map seen_copy (drop i cs)) ≡ find test (seen_copy c ∷ map seen_copy (drop (i + 1) cs))
-find-more test cs i c l is = ap (λ ds. find test (map seen_copy ds)) (drop_more cs i c l) ∙ ap (λ d. find test (seen_copy d ∷ map seen_copy (drop (i + 1) cs))) (sym is)
-
-pub found-here : (test : Copy → Bool) (c : Copy) (cs : List Copy) → test c ≡ true → find test (c ∷ cs) ≡ Some c
-found-here test c cs h = by (test c) h
-  where
-    by : (b : Bool) → b ≡ true → cond b (Some c) (find test cs) ≡ Some c
-    by true e = refl
-    by false e = cc e
-
-pub not-here : (test : Copy → Bool) (c : Copy) (cs : List Copy) → test c ≡ false → find test (c ∷ cs) ≡ find test cs
-not-here test c cs h = by (test c) h
-  where
-    by : (b : Bool) → b ≡ false → cond b (Some c) (find test cs) ≡ find test cs
-    by true e = cc e
-    by false e = refl
-
 -- ---- copies put behind others
 
 pub put-nothing : (old : List Copy) (m : Option (List Copy)) → m ≡ Some [] → option_map (λ more. old ++ more) m ≡ Some old
@@ -117,11 +77,6 @@ put-step now next (Some xs) (Some ys) h = let is : now ++ xs ≡ next = cc h in 
 pub put-lost : (now : List Copy) (m : Option (List Copy)) → option_map (λ x. now ++ x) m ≡ None → m ≡ None
 put-lost now None h = refl
 put-lost now (Some xs) h = cc h
-
-pub then-lost : (own more : Option (List Copy)) → more ≡ None → (own >>= λ xs. more >>= λ ys. Some (xs ++ ys)) ≡ None
-then-lost None more h = refl
-then-lost (Some xs) None h = refl
-then-lost (Some xs) (Some ys) h = cc h
 
 pub parts-more : (further : ℕ → Option (List Copy)) (ps : List Part) (i : ℕ) (p : Part) → i < length ps → p ≡ get_or ps i p → of_parts further (drop i ps) ≡ (of_part further p >>= λ xs. of_parts further (drop (i + 1) ps) >>= λ ys. Some (xs ++ ys))
 parts-more further ps i p l is = ap (of_parts further) (drop_more ps i p l) ∙ ap (λ q. of_part further q >>= λ xs. of_parts further (drop (i + 1) ps) >>= λ ys. Some (xs ++ ys)) (sym is)

@@ -6,18 +6,6 @@ pub bind-some : {A : Type 0} (m : Option A) → (m >>= λ x. Some x) ≡ m
 bind-some None = refl
 bind-some (Some x) = refl
 
-pub bind-map : {A B C : Type 0} (f : A → B) (g : B → Option C) (m : Option A) → (option_map f m >>= g) ≡ (m >>= λ x. g (f x))
-bind-map f g None = refl
-bind-map f g (Some x) = refl
-
-pub bind-bind : {A B C : Type 0} (m : Option A) (f : A → Option B) (g : B → Option C) → ((m >>= f) >>= g) ≡ (m >>= λ x. f x >>= g)
-bind-bind None f g = refl
-bind-bind (Some x) f g = refl
-
-pub bind-none : {A B : Type 0} (m : Option A) → (m >>= λ x. let n : Option B = None in n) ≡ None
-bind-none None = refl
-bind-none (Some x) = refl
-
 pub each-some : {A B : Type 0} (f : A → Option B) (g : A → B) → ((x : A) → f x ≡ Some (g x)) → (xs : List A) → each f xs ≡ Some (map g xs)
 each-some f g h [] = refl
 each-some f g h (x ∷ xs) = ap (λ m. m >>= λ y. each f xs >>= λ ys. Some (y ∷ ys)) (h x) ∙ ap (λ m. m >>= λ ys. Some (g x ∷ ys)) (each-some f g h xs)

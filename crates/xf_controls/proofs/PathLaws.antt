@@ -1,5 +1,5 @@
 -- The way down to an element is the way to its parent, and then the parent.
-use Rattle.std.proofs.Common.{◌≡◌, ℕ, zero, suc, ◌+◌, ◌<◌, ◌≤◌, List, [], ◌∷◌, ◌++◌, map, length, Option, Some, None, refl, sym, ap, ◌∙◌, subst, arith}
+use Rattle.std.proofs.Common.{◌≡◌, ℕ, zero, suc, ◌<◌, ◌≤◌, List, [], ◌∷◌, ◌++◌, length, Option, Some, None, refl, ap, ◌∙◌, arith}
 use Rattle.std.specs.Prelude.{reverse}
 use Rattle.std.proofs.lemmas.List.{map-append, reverse-append}
 use Rattle.xf_lang.specs.Setting.{◌>>=◌}
@@ -7,7 +7,7 @@ use Rattle.xf_ui.specs.Interface.{Element, Interface}
 use Rattle.xf_ui.specs.Elements.{element_at, above, ancestors, path_to, elements_on}
 use Rattle.xf_ui.specs.Around.{Around}
 use Rattle.xf_ui.specs.Context.{Inside, enter, entered, inside, free}
-use Rattle.xf_controls.proofs.OptionLaws.{bind-some, bind-bind}
+use Rattle.xf_controls.proofs.OptionLaws.{bind-some}
 
 -- ---- ancestors
 

@@ -1,28 +1,34 @@
 -- The places of a plain form: each control or container stands once, in no row.
-use Rattle.std.proofs.Common.{◌≡◌, ℕ, zero, suc, Bool, true, false, ◌||◌, List, [], ◌∷◌, ◌++◌, map, get_or, length, Option, Some, option_map, refl, sym, ap, ◌∙◌}
+use Rattle.std.proofs.Common.{◌≡◌, ℕ, zero, suc, Bool, true, false, ◌||◌, ◌&&◌, List, [], ◌∷◌, ◌++◌, get_or, Option, Some, option_map, refl, ap, ◌∙◌}
 use Rattle.std.specs.List.{flat_map, list_all}
 use Rattle.std.proofs.lemmas.Bool.{and_parts}
 use Rattle.std.proofs.lemmas.List.Folds.{flat_map-map}
 use Rattle.xf_ast.specs.declared.element.Part.{Part}
 use Rattle.xf_ast.specs.declared.element.Part.TheVariants as part
-use Rattle.xf_ast.specs.Ordered.{child_in}
-use Rattle.xf_lang.specs.Setting.{each}
-use Rattle.xf_ui.specs.Interface.{Sort, Element, Interface, switch, one_case, repeated, select}
+use Rattle.xf_ast.specs.Ordered.{child_in, is_none, numbered_from}
+use Rattle.xf_ui.specs.Interface.{Sort, Element, Interface, repeated}
 use Rattle.xf_ui.specs.Elements.{element_at, no_element, children, is_control}
 use Rattle.xf_ui.specs.Around.{Around}
 use Rattle.xf_ui.specs.Places.{Places, places_at, places_by, places_in, all_places, if_control}
-use Rattle.xf_controls.specs.Plain.{is_plain, is_plain_sort}
-use Rattle.xf_controls.specs.Below.{shows, some_shown, is_shown}
+use Rattle.xf_controls.specs.Plain.{are_children, is_plain, is_plain_sort, is_top, stands_plainly}
+use Rattle.xf_controls.specs.Below.{shows, some_shown}
 use Rattle.xf_controls.proofs.OptionLaws.{each-some}
 
+pub stand-all : (f : Interface) → is_plain f ≡ true → list_all (stands_plainly f) (numbered_from 0 f.elements) ≡ true
+stand-all f h =
+    let all = list_all (stands_plainly f) (numbered_from 0 f.elements) in
+    (and_parts (is_none f.repeats) all (and_parts (is_top (element_at f 0).parent) (is_none f.repeats && all) h).1).1
+
 -- each element is plain, also one that does not stand in the form
-plain-among : (es : List Element) (n : ℕ) → list_all (λ e. is_plain_sort e.sort) es ≡ true → is_plain_sort (get_or es n no_element).sort ≡ true
-plain-among [] n h = refl
-plain-among (e ∷ es) zero h = (and_parts (is_plain_sort e.sort) (list_all (λ x. is_plain_sort x.sort) es) h).0
-plain-among (e ∷ es) (suc n) h = plain-among es n (and_parts (is_plain_sort e.sort) (list_all (λ x. is_plain_sort x.sort) es) h).1
+plain-among : (f : Interface) (k : ℕ) (es : List Element) (n : ℕ) → list_all (stands_plainly f) (numbered_from k es) ≡ true → is_plain_sort (get_or es n no_element).sort ≡ true
+plain-among f k [] n h = refl
+plain-among f k (e ∷ es) zero h =
+    let own : stands_plainly f (k, e) ≡ true = (and_parts (stands_plainly f (k, e)) (list_all (stands_plainly f) (numbered_from (suc k) es)) h).0 in
+    (and_parts (is_plain_sort e.sort) (are_children f k (flat_map child_in e.parts)) own).0
+plain-among f k (e ∷ es) (suc n) h = plain-among f (suc k) es n (and_parts (stands_plainly f (k, e)) (list_all (stands_plainly f) (numbered_from (suc k) es)) h).1
 
 pub plain-at : (f : Interface) (n : ℕ) → is_plain f ≡ true → is_plain_sort (element_at f n).sort ≡ true
-plain-at f n h = plain-among f.elements n h
+plain-at f n h = plain-among f 0 f.elements n (stand-all f h)
 
 -- ---- places
 
@@ -67,7 +73,3 @@ none-shown f (suc most) n h =
     let own : is_control e.sort ≡ false = or-left (is_control e.sort) (some_shown (shows most f) e.parts) h in
     ap (λ b. if_control b n [] (flat_map (places_below most f) (children f n))) own
     ∙ none-among (shows most f) (places_below most f) (none-shown f most) e.parts (or-right (is_control e.sort) (some_shown (shows most f) e.parts) h)
-
--- of those in an element alone
-pub none-shown-in : (f : Interface) (most n : ℕ) → some_shown (shows most f) (element_at f n).parts ≡ false → flat_map (places_below most f) (children f n) ≡ []
-none-shown-in f most n h = none-among (shows most f) (places_below most f) (none-shown f most) (element_at f n).parts h

@@ -1,12 +1,10 @@
 -- What is told, one name after another, and a copy at a place of a list that rises.
-use Rattle.std.proofs.Common.{◌≡◌, ◌==◌, ℕ, zero, suc, ◌+◌, ◌<◌, ◌≤◌, Bool, true, false, not, ◌&&◌, cond, List, [], ◌∷◌, ◌++◌, map, length, get_or, drop, Option, Some, None, refl, sym, ap, ◌∙◌, arith, append_assoc}
+use Rattle.std.proofs.Common.{◌≡◌, ◌==◌, ℕ, zero, suc, ◌<◌, ◌≤◌, Bool, true, false, not, ◌&&◌, cond, List, [], ◌∷◌, ◌++◌, map, length, get_or, Some, refl, sym, ap, ◌∙◌, arith, append_assoc}
 use Rattle.std.specs.Prelude.{find, nat_lt, bytes_eq}
-use Rattle.std.specs.List.{flat_map}
 use Rattle.std.proofs.lemmas.Bool.{and_parts}
 use Rattle.std.proofs.lemmas.Bool.Decides.{nat_tests}
-use Rattle.std.proofs.lemmas.List.{drop_more}
 use Rattle.xf_ui.specs.Copies.{Copy}
-use Rattle.xf_ui.specs.Notifications.{Notification, is_same_copy, notifications, told, told_since}
+use Rattle.xf_ui.specs.Notifications.{Notification, is_same_copy, told}
 use Rattle.xf_controls.specs.declared.copy.ControlCopy.{ControlCopy}
 use Rattle.xf_controls.specs.Rising.{rises_from}
 use Rattle.xf_controls.specs.Seen.{seen_copy}
@@ -23,14 +21,6 @@ pub told-five : (c : Copy) (a b d e g : List (List ℕ)) (n0 n1 n2 n3 n4 n5 : Li
     → n1 ≡ n0 ++ told c a → n2 ≡ n1 ++ told c b → n3 ≡ n2 ++ told c d → n4 ≡ n3 ++ told c e → n5 ≡ n4 ++ told c g → n5 ≡ n0 ++ told c (a ++ b ++ d ++ e ++ g)
 told-five c a b d e g n0 n1 n2 n3 n4 n5 h1 h2 h3 h4 h5 =
     told-two c (a ++ b ++ d ++ e) g n0 n4 n5 (told-two c (a ++ b ++ d) e n0 n3 n4 (told-two c (a ++ b) d n0 n2 n3 (told-two c a b n0 n1 n2 h1 h2) h3) h4) h5
-
--- ---- the list as far as it goes
-
-pub notified-more : (before : List Copy) (cs : List ControlCopy) (i : ℕ) (c : ControlCopy) → i < length cs → c ≡ get_or cs i c
-    → notifications before (map seen_copy (drop i cs)) ≡ told_since (find (is_same_copy (seen_copy c)) before) (seen_copy c) ++ notifications before (map seen_copy (drop (i + 1) cs))
-notified-more before cs i c l is =
-    ap (λ ds. notifications before (map seen_copy ds)) (drop_more cs i c l)
-    ∙ ap (λ d. told_since (find (is_same_copy (seen_copy d)) before) (seen_copy d) ++ notifications before (map seen_copy (drop (i + 1) cs))) (sym is)
 
 -- ---- in a list that rises
 
@@ -92,12 +82,3 @@ pub given-at : (cs : List ControlCopy) (c : Copy) (i : ℕ) (tested given : Cont
 given-at cs c i tested given h l is at same =
     let one : tested ≡ given = same-place cs i tested given l is at in
     sym (same-at 0 cs c i given h l at (ap (λ d. is_same_copy c (seen_copy d)) (sym one) ∙ same))
-
--- ---- a turn of the loop
-
-pub notified-turn : (before : List Copy) (cs : List ControlCopy) (i : ℕ) (c : ControlCopy) (now next : List Notification) → i < length cs → c ≡ get_or cs i c → next ≡ now ++ told_since (find (is_same_copy (seen_copy c)) before) (seen_copy c)
-    → next ++ notifications before (map seen_copy (drop (i + 1) cs)) ≡ now ++ notifications before (map seen_copy (drop i cs))
-notified-turn before cs i c now next l is more =
-    let own = told_since (find (is_same_copy (seen_copy c)) before) (seen_copy c) in
-    let rest = notifications before (map seen_copy (drop (i + 1) cs)) in
-    ap (λ x. x ++ rest) more ∙ append_assoc now own rest ∙ ap (λ x. now ++ x) (sym (notified-more before cs i c l is))

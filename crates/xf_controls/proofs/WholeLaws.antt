@@ -1,28 +1,26 @@
 -- The copies of a plain form are those that come by handing down from its first element.
-use Rattle.std.proofs.Common.{◌≡◌, ℕ, zero, suc, ◌+◌, ◌≤◌, true, List, [], ◌∷◌, ◌++◌, length, Option, Some, None, option_map, refl, sym, ap, ◌∙◌, subst, arith}
+use Rattle.std.proofs.Common.{◌≡◌, ℕ, zero, suc, ◌+◌, ◌≤◌, true, List, [], ◌++◌, length, Option, Some, None, option_map, refl, sym, ap, ◌∙◌, arith}
 use Rattle.std.specs.List.{flat_map}
 use Rattle.std.specs.Prelude.{reverse}
 use Rattle.xf_ast.specs.declared.form.Form.{Form}
 use Rattle.xf_ast.specs.declared.form.Tables.{Tables}
-use Rattle.xf_ast.specs.Ordered.{IsOrdered}
 use Rattle.xf_doc.specs.declared.content.Node.{Node}
 use Rattle.xf_lang.specs.Given.{Given}
 use Rattle.xf_lang.specs.Setting.{◌>>=◌, each}
-use Rattle.xf_eval.specs.Worth.{with_six}
 use Rattle.std.proofs.lemmas.List.{length-map}
 use Rattle.xf_ui.specs.Interface.{Interface, element_of, interface_of}
-use Rattle.xf_ui.specs.Elements.{element_at, above, ancestors, elements_on, is_container}
+use Rattle.xf_ui.specs.Elements.{element_at, above, ancestors, elements_on}
 use Rattle.xf_ui.specs.Around.{Around}
-use Rattle.xf_ui.specs.Context.{free, entered, inside}
+use Rattle.xf_ui.specs.Context.{entered}
 use Rattle.xf_ui.specs.Index.{Index, if_named, index_of, named_indexes, seeing}
 use Rattle.xf_ui.specs.Places.{places}
 use Rattle.xf_ui.specs.declared.marks.Marks.{Marks}
 use Rattle.xf_ui.specs.Copies.{Copy, copies}
 use Rattle.xf_controls.specs.Plain.{is_plain}
 use Rattle.xf_controls.specs.Surrounded.{IsQuiet, around_in}
-use Rattle.xf_controls.specs.Handed.{Handed, first_handed, inside_of}
+use Rattle.xf_controls.specs.Handed.{Handed, first_handed}
 use Rattle.xf_controls.specs.Below.{copies_from}
-use Rattle.xf_controls.proofs.PlaceLaws.{places-plain, places_below}
+use Rattle.xf_controls.proofs.PlaceLaws.{places-plain}
 use Rattle.xf_controls.proofs.PathLaws.{root_inside}
 use Rattle.xf_controls.proofs.HandedLaws.{open_all}
 use Rattle.xf_controls.proofs.BelowLaws.{Parents, Stands, copy_at, handed-down}
@@ -63,26 +61,26 @@ whole f a marks cases plain parents first =
     handed-down f a marks cases plain parents size 0 first_handed (first-stands f a marks first) short
     ∙ sym (ap (λ m. m >>= each (copy_at f a marks cases)) (places-plain f a plain size 0))
 
-pub copies-are : (form : Form) (given : Given) (nodes : List Node) (marks : ℕ → Marks) (cases : List ℕ) (indexes : List Index) → is_plain (interface_of form) ≡ true → IsOrdered form → IsQuiet given
+pub copies-are : (form : Form) (given : Given) (nodes : List Node) (marks : ℕ → Marks) (cases : List ℕ) (indexes : List Index) → is_plain (interface_of form) ≡ true → IsQuiet given
     → copies_from (length (interface_of form).elements) (interface_of form) (around_in given form.tables nodes) marks first_handed 0 ≡ copies (interface_of form) (around_in given form.tables nodes) marks cases indexes
-copies-are form given nodes marks cases indexes plain ordered quiet =
+copies-are form given nodes marks cases indexes plain quiet =
     let f = interface_of form in
     let a = around_in given form.tables nodes in
-    whole f a marks cases plain (parents-in form ordered) (first-alone form ordered)
-    ∙ sym (ap (λ b. places f b >>= each (copy_at f b marks cases)) (seeing-same f indexes given form.tables nodes (repeats-none form ordered plain) quiet))
+    whole f a marks cases plain (parents-in f plain) (first-alone f plain)
+    ∙ sym (ap (λ b. places f b >>= each (copy_at f b marks cases)) (seeing-same f indexes given form.tables nodes (repeats-none f plain) quiet))
 
 put-first : (m : Option (List Copy)) → option_map (λ more. [] ++ more) m ≡ m
 put-first None = refl
 put-first (Some xs) = refl
 
 -- as a call begins it
-pub begun-so : (form : Form) (given : Given) (nodes : List Node) (marks : ℕ → Marks) (cases : List ℕ) (indexes : List Index) (most : ℕ) (h : Handed) (old : List Copy) → is_plain (interface_of form) ≡ true → IsOrdered form → IsQuiet given
+pub begun-so : (form : Form) (given : Given) (nodes : List Node) (marks : ℕ → Marks) (cases : List ℕ) (indexes : List Index) (most : ℕ) (h : Handed) (old : List Copy) → is_plain (interface_of form) ≡ true → IsQuiet given
     → most ≡ length form.elements → h ≡ first_handed → old ≡ []
     → option_map (λ more. old ++ more) (copies_from most (interface_of form) (around_in given form.tables nodes) marks h 0) ≡ copies (interface_of form) (around_in given form.tables nodes) marks cases indexes
-begun-so form given nodes marks cases indexes most h old plain ordered quiet size first none =
+begun-so form given nodes marks cases indexes most h old plain quiet size first none =
     let f = interface_of form in
     let a = around_in given form.tables nodes in
     let whole_size : most ≡ length f.elements = size ∙ sym (length-map form.elements (element_of form.tables)) in
     ap (λ l. option_map (λ more. l ++ more) (copies_from most f a marks h 0)) none ∙ put-first (copies_from most f a marks h 0)
     ∙ ap (λ k. copies_from k f a marks h 0) whole_size ∙ ap (λ d. copies_from (length f.elements) f a marks d 0) first
-    ∙ copies-are form given nodes marks cases indexes plain ordered quiet
+    ∙ copies-are form given nodes marks cases indexes plain quiet

@@ -3,7 +3,7 @@ use Rattle.std.specs.Prelude.{ℕ, zero, suc, Bool, true, false, not, ◌&&◌, 
 use Rattle.xf_ast.specs.declared.element.Part.{Part}
 use Rattle.xf_ast.specs.declared.element.Part.TheVariants as part
 use Rattle.xf_lang.specs.Setting.{◌>>=◌}
-use Rattle.xf_ui.specs.Interface.{Bound, unbound, Sort, Element, Interface}
+use Rattle.xf_ui.specs.Interface.{Bound, unbound, Element, Interface}
 use Rattle.xf_ui.specs.Elements.{element_at, is_control}
 use Rattle.xf_ui.specs.Around.{Around}
 use Rattle.xf_ui.specs.declared.marks.Marks.{Marks}

@@ -1,5 +1,5 @@
 -- Copies and surroundings, as code has them and as definitions do.
-use Rattle.std.specs.Prelude.{ℕ, ◌≡◌, Bool, true, ◌&&◌, List, [], ◌∷◌, Option, Some, None, option_map, bytes_eq, ◌==◌}
+use Rattle.std.specs.Prelude.{ℕ, Bool, ◌&&◌, List, Option, Some, None, option_map, bytes_eq, ◌==◌}
 use Rattle.xf_doc.specs.declared.content.Node.{Node}
 use Rattle.xf_doc.specs.declared.node.NodeId.{NodeId}
 use Rattle.xf_lang.specs.Binding.{as_list}

@@ -1,25 +1,95 @@
 //! The elements of a form.
 
-ghost use Rattle.std.specs.Prelude.{◌≡◌, option_map, slice_get};
+ghost use Rattle.std.specs.Prelude.{◌≡◌, map, option_map, slice_get};
+ghost use Rattle.std.specs.List.{flat_map, list_all};
+ghost use Rattle.xf_ast.specs.Ordered.{child_in, is_parent, numbered_from};
 ghost use Rattle.xf_lang.specs.Meaning.{meaning};
-ghost use Rattle.xf_ui.specs.Elements.{is_container, is_control};
-ghost use Rattle.xf_ui.specs.Interface.{interface_of, sort_of};
+ghost use Rattle.xf_ui.specs.Elements.{element_at, is_container, is_control};
+ghost use Rattle.xf_ui.specs.Interface.{element_of, interface_of, sort_of};
 ghost use Rattle.xf_controls.specs.Below as below;
 ghost use Rattle.xf_controls.specs.Handed.{printed_in};
-ghost use Rattle.xf_controls.specs.Plain.{is_plain, is_plain_sort};
+ghost use Rattle.xf_controls.specs.Plain.{are_children, is_plain, is_plain_sort, is_top, stands_plainly};
 
 use xf_ast::{Control, Element, Expr, Form, Kind, Part};
 
-/// Whether each control and container of the form has one copy: no element of it is a repeat, a switch, a case or a select.
+/// Whether each control and container of the form has one copy: no element of it is a repeat, a switch, a case or a select. It also sees
+/// that each element stands where its parent says.
 pub fn is_plain(form: &Form) -> bool
     ensures { result ≡ is_plain (interface_of form.now) }
 {
-    for element in form.elements.as_slice() {
-        if !is_plain_kind(&element.kind) {
+    if !is_first_alone(form) {
+        return false;
+    }
+    if !form.repeats.is_empty() {
+        return false;
+    }
+    all_plain(form, form.elements.as_slice())
+}
+
+/// The first element has no parent.
+fn is_first_alone(form: &Form) -> bool
+    ensures { result ≡ is_top (element_at (interface_of form.now) 0).parent }
+{
+    match element_in(form, 0) {
+        Some(first) => match first.parent {
+            Some(_) => false,
+            None => true,
+        },
+        None => true,
+    }
+}
+
+fn all_plain(form: &Form, elements: &[Element]) -> bool
+    ensures { result ≡ list_all (stands_plainly (interface_of form.now)) (numbered_from 0 (map (element_of form.now.tables) elements.now)) }
+{
+    for (at, element) in elements.iter().enumerate() {
+        if !stands_plainly(form, at, element) {
             return false;
         }
     }
     true
+}
+
+fn stands_plainly(form: &Form, at: usize, element: &Element) -> bool
+    ensures { result ≡ stands_plainly (interface_of form.now) (at, element_of form.now.tables element.now) }
+{
+    if !is_plain_kind(&element.kind) {
+        return false;
+    }
+    are_children(form, at, element.parts.as_slice())
+}
+
+fn are_children(form: &Form, at: usize, parts: &[Part]) -> bool
+    ensures { result ≡ are_children (interface_of form.now) at (flat_map child_in parts.now) }
+{
+    for part in parts {
+        if !is_child(form, at, part) {
+            return false;
+        }
+    }
+    true
+}
+
+/// Whether what stands in an element, where it is an element itself, has it as parent.
+fn is_child(form: &Form, at: usize, part: &Part) -> bool
+    ensures { result ≡ are_children (interface_of form.now) at (child_in part.now) }
+{
+    match part {
+        Part::Text(_) => true,
+        Part::Element(child) => has_parent(form, *child, at),
+    }
+}
+
+fn has_parent(form: &Form, child: u32, at: usize) -> bool
+    ensures { result ≡ is_parent at (element_at (interface_of form.now) child).parent }
+{
+    match element_in(form, child) {
+        Some(found) => match found.parent {
+            Some(parent) => parent as usize == at,
+            None => false,
+        },
+        None => false,
+    }
 }
 
 fn is_plain_kind(kind: &Kind) -> bool

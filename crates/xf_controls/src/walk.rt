@@ -3,7 +3,6 @@
 
 ghost use Rattle.std.specs.Prelude.{◌≡◌, ◌++◌, ℕ, List, true, map, option_map};
 ghost use Rattle.xf_plain_values.specs.Bounded.{GivesBounded};
-ghost use Rattle.xf_ast.specs.Ordered.{IsOrdered};
 ghost use Rattle.xf_eval.specs.Live.{AroundStands};
 ghost use Rattle.xf_ui.specs.Copies as copies;
 ghost use Rattle.xf_ui.specs.Index.{Index};
@@ -41,7 +40,6 @@ pub fn controls<A: Around, M: NodeMarks>(
     marks: &M,
 ) -> Result<ControlList, EvalFault>
     requires plain { is_plain (interface_of form.now) ≡ true }
-    requires ordered { IsOrdered form.now }
     requires around { AroundStands (A.given around.now) forest.now.forest.nodes }
     requires quiet { IsQuiet (A.given around.now) }
     ensures { (cases : List ℕ) (indexes : List Index) → GivesBounded EvalFault.Memory EvalFault.Long (map seen_copy) result (copies.copies (interface_of form.now) (around_in (A.given around.now) form.now.tables forest.now.forest.nodes) (M.marks_of marks.now) cases indexes) }

@@ -2,3 +2,12 @@ pub mod CountLemmas
 pub mod TargetLemmas
 pub mod FirstLemmas
 pub mod PlaceLemmas
+pub mod LoadedLemmas
+pub mod StaticLaw
+pub mod Examples
+pub mod ElementTrees
+pub mod FormTrees
+pub mod OrderedElements
+pub mod KindNumbers
+pub mod OrderLaw
+pub mod DocumentLaw

@@ -1,5 +1,5 @@
 -- Places in the tree that a form was read from, and the numbers that digits are.
-use Rattle.std.proofs.Common.{◌≡◌, ◌≤◌, ◌<◌, ◌^◌, ℕ, zero, suc, ◌-◌, ◌+◌, ◌*◌, Bool, true, not, ◌&&◌, nat_eq, nat_le, rules, List, [], ◌∷◌, ◌++◌, length, slice_get, Some, Option, Result, Ok, Err, refl, ap, sym, ◌∙◌, subst, append_assoc, arith}
+use Rattle.std.proofs.Common.{◌≡◌, ◌≤◌, ℕ, suc, true, not, ◌&&◌, nat_eq, nat_le, rules, List, [], ◌∷◌, ◌++◌, length, slice_get, Some, Result, Ok, Err, ap, sym, ◌∙◌, append_assoc, arith}
 use Rattle.std.specs.List.{list_all}
 use Rattle.std.specs.Str.Parse.{ParsesUnsigned}
 use Rattle.std.proofs.lemmas.Bool.{and_parts, leb-true, cond-true}

@@ -1,5 +1,5 @@
 -- The actions of a form (XForms 1.1, section 10), and when they are called (XML Events, section 3).
-use Rattle.std.specs.Prelude.{ℕ, Bool, true, false, List, [], codes, unwrap_or, Option, Some, None, option_map, if◌then◌else◌}
+use Rattle.std.specs.Prelude.{ℕ, List, codes, unwrap_or, Option, Some, None, option_map, if◌then◌else◌}
 use Rattle.xf_ast.specs.declared.action.Action.{Action}
 use Rattle.xf_ast.specs.declared.action.DeleteWork.{DeleteWork}
 use Rattle.xf_ast.specs.declared.action.DispatchWork.{DispatchWork}
@@ -10,7 +10,7 @@ use Rattle.xf_ast.specs.declared.action.Phase.TheVariants as phase
 use Rattle.xf_ast.specs.declared.action.Work.{Work}
 use Rattle.xf_ast.specs.declared.action.Work.TheVariants as work
 use Rattle.xf_name.specs.Bindings.{Bindings}
-use Rattle.xf_vocabulary.specs.Attributes.{Shown, text_in}
+use Rattle.xf_vocabulary.specs.Attributes.{Shown}
 use Rattle.xf_vocabulary.specs.declared.attribute.TheConstants as at
 use Rattle.xf_vocabulary.specs.declared.tag.Tag.{Tag}
 use Rattle.xf_vocabulary.specs.declared.tag.Tag.TheVariants as tag

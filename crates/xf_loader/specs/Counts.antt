@@ -1,5 +1,5 @@
 -- How many elements of each kind stand before an element, as they are counted from the first to the last.
-use Rattle.std.specs.Prelude.{◌≡◌, ℕ, ◌+◌, Bool, if◌then◌else◌, List, [], ◌∷◌}
+use Rattle.std.specs.Prelude.{◌≡◌, ◌+◌, List, [], ◌∷◌}
 use Rattle.xf_refusals.specs.declared.classes.Class.TheVariants as class
 use Rattle.xf_refusals.specs.Classes.{is_of}
 use Rattle.xf_refusals.specs.Limits.{count_of}

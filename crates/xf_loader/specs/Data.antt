@@ -1,6 +1,6 @@
 -- The data of a form's instances as it was read, and its limits: its elements, attributes and texts are nodes, declarations of namespaces
 -- are none, and what stands beside the document element is passed over (XPath 1.0, section 5).
-use Rattle.std.specs.Prelude.{ℕ, ◌+◌, Bool, true, false, not, ◌&&◌, ◌||◌, nat_lt, List, [], ◌∷◌, length, bytes_eq, codes, count_by, sum_by, slice_get, option_and_then, Option, Some, None, if◌then◌else◌}
+use Rattle.std.specs.Prelude.{ℕ, ◌+◌, Bool, true, false, not, ◌&&◌, ◌||◌, nat_lt, List, [], ◌∷◌, length, codes, count_by, sum_by, slice_get, option_and_then, Option, Some, None, if◌then◌else◌}
 use Rattle.std.specs.List.{list_any}
 use Rattle.xf_ast.specs.declared.form.Instance.{Instance}
 use Rattle.xf_name.specs.Part.{Kind, no_declaration, of_default, of_prefix, kind_of}

@@ -1,5 +1,5 @@
 -- The elements of a form (XForms 1.1, sections 3, 8 and 9): what each binds, what stands in it, and what it is.
-use Rattle.std.specs.Prelude.{ℕ, ◌+◌, ◌-◌, ◌*◌, Bool, true, false, List, [], ◌∷◌, codes, flat_map, slice_get, Option, Some, None, option_map, if◌then◌else◌}
+use Rattle.std.specs.Prelude.{ℕ, ◌+◌, ◌-◌, ◌*◌, Bool, false, List, [], ◌∷◌, codes, flat_map, slice_get, Option, Some, None, option_map, if◌then◌else◌}
 use Rattle.xf_ast.specs.declared.element.Binding.{Binding}
 use Rattle.xf_ast.specs.declared.element.Binding.TheVariants as binding
 use Rattle.xf_ast.specs.declared.element.Control.{Control}

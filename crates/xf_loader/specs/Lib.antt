@@ -10,3 +10,6 @@ pub mod Data
 pub mod Loading
 pub mod Counts
 pub mod Plan
+pub mod Computed
+pub mod Ordered
+pub mod Documents

@@ -1,12 +1,11 @@
 -- The instances and binds of a form (XForms 1.1, sections 3.3.2, 3.3.4 and 6.1).
-use Rattle.std.specs.Prelude.{ℕ, zero, suc, List, [], ◌∷◌, ◌++◌, codes, slice_get, unwrap_or, Option, Some, None, option_map, option_and_then}
+use Rattle.std.specs.Prelude.{ℕ, zero, suc, ◌+◌, List, [], ◌∷◌, ◌++◌, codes, slice_get, unwrap_or, Option, Some, None, option_map, option_and_then}
 use Rattle.xf_ast.specs.declared.element.Part.{Part}
 use Rattle.xf_ast.specs.declared.element.Part.TheVariants as part
 use Rattle.xf_ast.specs.declared.form.Instance.{Instance}
 use Rattle.xf_ast.specs.declared.form.Bind.{Bind}
 use Rattle.xf_ast.specs.declared.form.Properties.{Properties}
 use Rattle.xf_name.specs.Bindings.{Bindings}
-use Rattle.xf_types.specs.declared.kind.SimpleType.{SimpleType}
 use Rattle.xf_vocabulary.specs.Attributes.{Shown, known_in, text_in}
 use Rattle.xf_vocabulary.specs.Faults.{type_of}
 use Rattle.xf_vocabulary.specs.declared.attribute.TheConstants as at
@@ -37,9 +36,9 @@ unfoldable pub places_to : ℕ → List Seen → ℕ → List ℕ
 places_to zero all place = []
 places_to (suc depth) all place = through (places_to depth all) (slice_get all place)
 
--- no form that is read nests deeper
+-- an element stands later than those around it, so that these are all
 abbrev pub places_of : List Seen → ℕ → List ℕ
-places_of all place = places_to 128 all place
+places_of all place = places_to (place + 1) all place
 
 -- ---- instances
 

@@ -1,5 +1,5 @@
 -- The submissions of a form (XForms 1.1, sections 11.1 and 11.9).
-use Rattle.std.specs.Prelude.{ℕ, suc, ◌==◌, Bool, true, false, not, List, [], ◌∷◌, bytes_eq, codes, unwrap_or, Option, Some, None, if◌then◌else◌}
+use Rattle.std.specs.Prelude.{ℕ, suc, ◌==◌, Bool, not, List, [], ◌∷◌, bytes_eq, codes, unwrap_or, Option, Some, None, if◌then◌else◌}
 use Rattle.xf_ast.specs.declared.expr.Expr.{Expr}
 use Rattle.xf_ast.specs.declared.form.Submission.{Submission}
 use Rattle.xf_ast.specs.declared.form.Selection.{Selection}

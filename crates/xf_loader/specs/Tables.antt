@@ -1,5 +1,5 @@
 -- The tables of a form (XForms 1.1, section 3): of each kind its elements in document order.
-use Rattle.std.specs.Prelude.{ℕ, suc, Bool, true, false, List, [], ◌∷◌, ◌++◌, Option, if◌then◌else◌}
+use Rattle.std.specs.Prelude.{ℕ, suc, List, [], ◌∷◌, ◌++◌, Option, if◌then◌else◌}
 use Rattle.xf_ast.specs.declared.element.Element.{Element}
 use Rattle.xf_ast.specs.declared.form.Bind.{Bind}
 use Rattle.xf_ast.specs.declared.form.Form.{Form}

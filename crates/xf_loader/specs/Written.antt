@@ -1,5 +1,5 @@
 -- What the attributes of an element say, which are known by their numbers.
-use Rattle.std.specs.Prelude.{ℕ, Bool, true, false, not, List, [], bytes_eq, codes, is_some, Option, Some, None, option_map, unwrap_or, Result, Ok, Err, if◌then◌else◌}
+use Rattle.std.specs.Prelude.{ℕ, Bool, false, not, List, [], bytes_eq, codes, is_some, Option, Some, None, option_map, unwrap_or, Result, Ok, Err, if◌then◌else◌}
 use Rattle.xf_ast.specs.declared.expr.Expr.{Expr}
 use Rattle.xf_ast.specs.declared.expr.Expr.TheVariants as e
 use Rattle.xf_ast.specs.declared.expr.Start.TheVariants as start

@@ -9,6 +9,7 @@ mod data;
 mod elements;
 mod fault;
 mod kinds;
+mod laws;
 mod loaded;
 mod loading;
 mod models;
@@ -21,6 +22,7 @@ mod trees;
 mod written;
 
 pub use fault::FormFault;
+pub use laws::{loaded_documents, loaded_ordered, loaded_static};
 pub use loaded::Loaded;
 pub use loading::load;
 pub use trees::lit_at;

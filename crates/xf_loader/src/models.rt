@@ -13,12 +13,9 @@ use std::alloc::{AllocError, Global};
 use xf_ast::{Bind, Expr, Instance, Part, PlaceList, Properties};
 use xf_base::Items;
 use xf_name::{Prefixes, Word};
-use xf_refusals::{Row, id_in};
+use xf_refusals::{Row, id_in, small};
 use xf_types::SimpleType;
 use xf_vocabulary::{Known, Tag, attribute as at, known_of, text_of, type_of};
-
-// How deep elements nest: a form that is read nests less.
-const NESTING_LIMIT: u32 = 128;
 
 /// A copy of the id of an element: empty where it has none.
 pub fn id_of(alloc: Global, row: &Row<'_>) -> Result<Word, AllocError>
@@ -49,7 +46,13 @@ pub fn instance_of(plan: &Plan<'_, '_>, place: u32, row: &Row<'_>) -> Result<Ins
             space: 0,
         });
     };
-    push_places(plan.rows, document, NESTING_LIMIT, &mut place)?;
+    // Each element stands later than the one around it.
+    push_places(
+        plan.rows,
+        document,
+        small(document as usize + 1)?,
+        &mut place,
+    )?;
     let space = space_at(plan.rows, document);
     Ok(Instance {
         model,

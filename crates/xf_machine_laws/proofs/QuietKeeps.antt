@@ -218,7 +218,7 @@ pub build-none : (p : Profile) (model : ℕ) → KeepsNone (build_model p model)
 build-none p model s t h e =
     none-then (rebuild p model s >>= recalculate p model) _ t
     (λ u q. none-then (rebuild p model s) (recalculate p model) u (λ v r. applied-none p model (applied (scope p s model) s.forest.nodes) s v h r)
-        (λ v w k r. passed-none _ v w _ (none-changed (recalculated_with _) model v.models (λ m i. ap {A = Flags} (λ f. record f { recalculate = false }) i) k) r) q)
+    (λ v w k r. passed-none _ v w _ (none-changed (recalculated_with _) model v.models (λ m i. ap {A = Flags} (λ f. record f { recalculate = false }) i) k) r) q)
     (λ u v k q. none-ends v (revalidate p model u) (none-changed (revalidated_with _) model u.models (λ m i. ap {A = Flags} (λ f. record f { revalidate = false }) i) k) q) e
 
 document-past-none : (words : List LimitWord) (top : ℕ) (forest : Forest) (m t u : State) → NoneDue u → rooted (unless_passed m words ((top, forest), u)) ≡ Ok t → NoneDue t

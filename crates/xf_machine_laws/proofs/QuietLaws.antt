@@ -111,7 +111,7 @@ rounds-same (suc k) once other same keeps s q =
     when-same (is_due s) _ _ s
     (spent-rounds s.turns s once other (rounds k once) (rounds k other)
     (λ t l. swap (once t) (other t) (rounds k once) (rounds k other) (same t (quiet-like s t q l))
-        (λ u e. rounds-same k once other same keeps u (quiet-like t u (quiet-like s t q l) (keeps t u e)))))
+    (λ u e. rounds-same k once other same keeps u (quiet-like t u (quiet-like s t q l) (keeps t u e)))))
 
 pub updates_quietly : UpdatesQuietly
 updates_quietly p s st q =
@@ -150,9 +150,9 @@ pub sets_quietly : SetsQuietly
 sets_quietly p n rows text s st q =
     swap (copy_named p s n rows) (or_no_target s (copy_at n rows s)) _ _ (copy-same p s n rows q)
     (λ c e. swap _ _ (settle p) (update_quietly p)
-        (ap (λ r. r >>= set_bound p text c.node) (tried-then _ _ _ s (take_rows p n rows) (take-none p n rows s q)))
-        (λ t k. updates_quietly p t st (quiet-like s t q
-            (keeps-then (try_set n c text s) (set_bound p text c.node) s t (λ u r. tried-is _ _ _ s u r) (bound-keeps p text c.node) k))))
+    (ap (λ r. r >>= set_bound p text c.node) (tried-then _ _ _ s (take_rows p n rows) (take-none p n rows s q)))
+    (λ t k. updates_quietly p t st (quiet-like s t q
+    (keeps-then (try_set n c text s) (set_bound p text c.node) s t (λ u r. tried-is _ _ _ s u r) (bound-keeps p text c.node) k))))
 
 -- ---- the start
 
@@ -201,9 +201,9 @@ constructs_quietly p form answers st q =
     let planted = in_turn (plant_document p) form.documents (unbuilt p form answers) in
     sym (bind-assoc planted (builds_in p) (shows p))
     ∙ then-same (built_of p form answers) (shows p) (first_shown p)
-        (λ t e. let l = built-like p form answers t e in
-            let k = quiet-like (unbuilt p form answers) t (unbuilt-quiet p form answers q) l in
-            ap (λ r. r >>= first_shown p) (ap (start_indexes p) (cases-none t k l.cases) ∙ starts-none p t st k))
+    (λ t e. let l = built-like p form answers t e in
+    let k = quiet-like (unbuilt p form answers) t (unbuilt-quiet p form answers q) l in
+    ap (λ r. r >>= first_shown p) (ap (start_indexes p) (cases-none t k l.cases) ∙ starts-none p t st k))
     ∙ bind-assoc planted (builds_in p) (first_shown p)
 
 -- ---- and what follows it

@@ -33,12 +33,13 @@ use Rattle.xf_machine_laws.proofs.WrittenContents.{all-written}
 use Rattle.xf_written_laws.proofs.TurnLaws.{all-kept, same-text, turn_passed}
 use Rattle.xf_form_machine.specs.Behave.{truly}
 use Rattle.xf_eval.specs.Live.{AroundStands}
-use Rattle.xf_binds.specs.Held.{Held}
+use Rattle.xf_binds.specs.Held.{held_by}
+use Rattle.xf_binds.specs.Kept.{valued_in}
 use Rattle.xf_settle.specs.declared.turn.Turn.{Turn}
 use Rattle.xf_settle.specs.declared.fault.SettleFault.{SettleFault}
 use Rattle.xf_settle.specs.declared.fault.SettleFault.TheVariants.{Long, Text, Nodes, AllTexts, Memory}
 use Rattle.xf_settle.specs.Settles.{IsSettled, IsTold, MaySettle, contents_in, fault_of, scope_in, tells_all, tells_nodes, word_of, words_of}
-use Rattle.xf_settle.specs.Turns.{AreTurns, entry_in, held_over, is_there}
+use Rattle.xf_settle.specs.Turns.{AreTurns, entry_in, found_over, is_there}
 use Rattle.xf_settle.specs.Whole.{IsWritten}
 use Rattle.xf_settle.proofs.HeldSteps.{none-long, outcome}
 use Rattle.xf_settle.proofs.ListLemmas.{any-left, any-right}
@@ -120,7 +121,7 @@ module _ (given : Given) (tables : Tables) (model : ℕ) (forest : Forest) (entr
   abbrev sizes : List Passed
   sizes = if_passed (nat_lt bounds.limits.all (sum_by (λ (x : Visit). size_of x.content) all)) passed.all_texts
 
-  pub long-after : held_over [] scope all entries ≡ None → list_any tells_long (words_of scope entries forest) ≡ true
+  pub long-after : found_over [] scope all entries ≡ None → list_any tells_long (words_of scope entries forest) ≡ true
   long-after none =
       ap (list_any tells_long) (sym words-after)
       ∙ any-left tells_long ((longs ++ texts) ++ counts) sizes (any-left tells_long (longs ++ texts) counts (any-left tells_long longs texts
@@ -201,14 +202,13 @@ module _ (given : Given) (tables : Tables) (model : ℕ) (forest : Forest) (entr
 
   -- ---- the whole
 
-  pub settled : (held : List Held) → held_over [] scope all entries ≡ Some held → None ≡ word_of (passed_by_all limits after.nodes) → IsSettled scope entries forest after held
-  settled held h fits =
-      let o = outcome scope all [] entries held h in
+  pub settled : (truths : List (Option Bool)) → found_over [] scope all entries ≡ Some truths → None ≡ word_of (passed_by_all limits after.nodes) → IsSettled scope entries forest after truths
+  settled truths h fits =
+      let o = outcome scope all [] entries truths h in
       let n = none-passed fits in
       record {
         written = w.written;
-        same = o.entries;
-        values = o.values;
+        values = ap (λ l. valued_in (held_by entries l)) o.is ∙ o.values;
         within =
             sym words-after
             ∙ ap (λ es. told (map (λ (e : Entry). long e.node) es) over_any (nat_lt bounds.limits.nodes (count_by (λ (x : Visit). not (is_root x.content)) all)) (nat_lt bounds.limits.all (sum_by (λ (x : Visit). size_of x.content) all))) (no-longs o.given)

@@ -18,29 +18,21 @@ use Rattle.xf_lang.specs.Conversions.{nodes_of}
 use Rattle.xf_lang.specs.Given.{Document, Given, document_of, property_of}
 use Rattle.xf_lang.proofs.VisitFacts.{no, none-some}
 use Rattle.xf_model.specs.Rules.{Scope}
-use Rattle.xf_model.specs.Applied.{Entry, Exception, on_parent, twice, exception_at, exception_from, is_calculate, or_later, sets_same}
+use Rattle.xf_model.specs.Applied.{Entry}
 use Rattle.xf_model.specs.Settled.{Contents, bounds}
 use Rattle.xf_model.specs.Pertinent.{AllOf}
 use Rattle.xf_model.proofs.EachLemmas.{each_then}
 use Rattle.xf_agree.specs.Settles.{IsSolid}
 use Rattle.xf_agree.proofs.FormSettable.{entries_solid}
-use Rattle.xf_agree.proofs.FormSettled.{applied-parts}
 use Rattle.xf_settle_laws.specs.Written.{written, MayWrite}
 use Rattle.xf_settle_laws.proofs.StillLaws.{solid-still}
 use Rattle.xf_eval.specs.Live.{AllLive, AroundStands}
 use Rattle.xf_settle.specs.Settles.{MaySettle, scope_in}
-use Rattle.xf_settle.specs.Turns.{AreApart, is_there}
-use Rattle.xf_settle.proofs.ListLemmas.{any-append}
+use Rattle.xf_settle.specs.Turns.{is_there}
 
 or-right : (a b : Bool) → b ≡ true → (a || b) ≡ true
 or-right true b h = refl
 or-right false b h = h
-
-swap : (a b : Bool) → (a || b) ≡ (b || (a || false))
-swap true true = refl
-swap true false = refl
-swap false true = refl
-swap false false = refl
 
 -- ---- nodes that are no texts
 
@@ -106,34 +98,7 @@ module _ (nodes : List Node) where
 
 -- ---- entries
 
-first-none : (o p : Option Exception) → or_later o p ≡ None → (o ≡ None) × (p ≡ None)
-first-none None p h = (refl, h)
-first-none (Some x) p h = none-some (sym h)
-
-module _ (all : List Visit) where
-  apart-at : (earlier : List Entry) (e : Entry) → exception_at all earlier e ≡ None → list_any (sets_same e) earlier ≡ false
-  apart-at earlier e h = by (list_any (sets_same e) earlier) (is_calculate e && has_elements all e.node) h
-    where
-      by : (a b : Bool) → cond a (Some (twice e.node)) (cond b (Some (on_parent e.node)) None) ≡ None → a ≡ false
-      by true b i = none-some (sym i)
-      by false b i = refl
-
-  -- the same entries, whatever their order
-  apart-from : (first second es : List Entry) → ((e : Entry) → list_any (sets_same e) first ≡ list_any (sets_same e) second) → exception_from all first es ≡ None → AreApart second es
-  apart-from first second [] same h = tt
-  apart-from first second (e ∷ es) same h =
-      let parts = first-none (exception_at all first e) (exception_from all (e ∷ first) es) h in
-      (sym (same e) ∙ apart-at first e parts.0, apart-from (e ∷ first) (second ++ e ∷ []) es (λ f. ap (λ b. sets_same f e || b) (same f) ∙ turned f e second) parts.1)
-    where
-      turned : (f g : Entry) (xs : List Entry) → (sets_same f g || list_any (sets_same f) xs) ≡ list_any (sets_same f) (xs ++ g ∷ [])
-      turned f g xs = swap (sets_same f g) (list_any (sets_same f) xs) ∙ sym (any-append (sets_same f) xs (g ∷ []))
-
 module _ (given : Given) (tables : Tables) (model : ℕ) (forest : Forest) (entries : List Entry) (may : MaySettle given tables model forest entries) where
-  pub are-apart : AreApart [] entries
-  are-apart =
-      let parts = applied-parts bounds called given tables model forest entries may.covered may.around may.applies in
-      apart-from (shape (visits forest.nodes)) [] [] entries (λ e. refl) (subst (λ es. exception_from (shape (visits forest.nodes)) [] es ≡ None) parts.1 parts.0)
-
   module _ (done : ℕ → Bool) (contents : Contents) (writes : MayWrite forest.next contents forest) where
     abbrev now : List Node
     now = written done forest.next contents forest.nodes

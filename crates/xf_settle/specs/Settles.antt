@@ -21,7 +21,7 @@ use Rattle.xf_agree.specs.Settles.{IsSolid, Surrounds}
 use Rattle.xf_agree.specs.FormSettles.{AreCovered, Applies}
 use Rattle.xf_agree.specs.InTurn.{tells_long, tells_text}
 use Rattle.xf_form_machine.specs.Behave.{with_contents, truly}
-use Rattle.xf_binds.specs.Held.{Held, entries_in}
+use Rattle.xf_binds.specs.Held.{held_by}
 use Rattle.xf_binds.specs.Kept.{valued_in}
 use Rattle.xf_settle.specs.declared.fault.SettleFault.{SettleFault}
 use Rattle.xf_settle.specs.declared.fault.SettleFault.TheVariants.{Long, Text, Nodes, AllTexts, Memory}
@@ -55,11 +55,10 @@ settled_forest scope entries forest =
 abbrev pub words_of : Scope → List Entry → Forest → List Passed
 words_of scope entries forest = passed bounds scope entries (visits forest.nodes)
 
--- the forest holds the settled texts, and the entries have the truths of their values over it; no limit is passed
-pub record IsSettled (scope : Scope) (entries : List Entry) (forest after : Forest) (held : List Held) : Type 0 where
+-- the forest holds the settled texts, and the entries have these truths of their values over it, by their places; no limit is passed
+pub record IsSettled (scope : Scope) (entries : List Entry) (forest after : Forest) (truths : List (Option Bool)) : Type 0 where
   pub written : after ≡ settled_forest scope entries forest
-  pub same : entries_in held ≡ entries
-  pub values : valued_in held ≡ map truly (values_over bounds scope entries (visits after.nodes))
+  pub values : valued_in (held_by entries truths) ≡ map truly (values_over bounds scope entries (visits after.nodes))
   pub within : words_of scope entries forest ≡ []
 
 -- ---- why it is refused

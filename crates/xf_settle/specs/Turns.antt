@@ -1,6 +1,5 @@
 -- One calculate after the other: what is done in a turn, and what each entry is found to be over the data that stand then.
-use Rattle.std.specs.Prelude.{ℕ, ◌≡◌, Bool, true, false, List, [], ◌∷◌, ◌++◌, map, length, nat_lt, not, Option, Some, None, option_map, Result, Ok, Err, slice_get, if◌then◌else◌}
-use Rattle.std.specs.List.{list_any}
+use Rattle.std.specs.Prelude.{ℕ, ◌≡◌, Bool, true, false, List, [], ◌∷◌, ◌++◌, map, length, nat_lt, Option, Some, None, option_map, Result, Ok, Err, slice_get, if◌then◌else◌}
 use Rattle.xf_ast.specs.declared.expr.Expr.{Expr}
 use Rattle.xf_ast.specs.declared.form.Properties.{Properties}
 use Rattle.xf_base.specs.Limits.{string_limit}
@@ -14,13 +13,13 @@ use Rattle.xf_lang.specs.Conversions.{truth_of}
 use Rattle.xf_model.specs.declared.property.Property.{Property}
 use Rattle.xf_model.specs.declared.property.Property.TheVariants.{Kind, Calculate, Relevant, Readonly, Required, Constraint}
 use Rattle.xf_model.specs.Rules.{Scope}
-use Rattle.xf_model.specs.Applied.{Entry, is_calculate, sets_same}
+use Rattle.xf_model.specs.Applied.{Entry, is_calculate}
 use Rattle.xf_model.specs.Entries.{is_computed, value_of}
 use Rattle.xf_model.specs.Settled.{calculates}
 use Rattle.xf_model.specs.Pertinent.{AllOf}
 use Rattle.xf_agree.specs.InTurn.{AreSingle, IsOrdered}
 use Rattle.xf_undo.specs.Draft.{Draft, with_settled}
-use Rattle.xf_binds.specs.Held.{Held, entry_of, held_with}
+use Rattle.xf_binds.specs.Held.{entry_of}
 use Rattle.xf_settle.specs.declared.turn.Turn.{Turn}
 use Rattle.xf_settle.specs.declared.fault.SettleFault.{SettleFault}
 use Rattle.xf_settle.specs.declared.fault.SettleFault.TheVariants.{Long, Text}
@@ -54,18 +53,18 @@ truth_if scope all e false = Some None
 abbrev pub truth_over : Scope → List Visit → Entry → Option (Option Bool)
 truth_over scope all e = truth_if scope all e (is_computed e)
 
-abbrev pub held_if : List Held → Entry → Option (Option Bool) → Option (List Held)
-held_if held e None = None
-held_if held e (Some truth) = Some (held ++ held_with e truth ∷ [])
+abbrev pub found_if : List (Option Bool) → Option (Option Bool) → Option (List (Option Bool))
+found_if found None = None
+found_if found (Some truth) = Some (found ++ truth ∷ [])
 
--- with the entry at a place, where there is one
-abbrev pub held_step : List Held → Scope → List Visit → Option Entry → Option (List Held)
-held_step held scope all None = Some held
-held_step held scope all (Some e) = held_if held e (truth_over scope all e)
+-- with that of the entry at a place, where there is one
+abbrev pub found_step : List (Option Bool) → Scope → List Visit → Option Entry → Option (List (Option Bool))
+found_step found scope all None = Some found
+found_step found scope all (Some e) = found_if found (truth_over scope all e)
 
-abbrev pub held_over : List Held → Scope → List Visit → List Entry → Option (List Held)
-held_over held scope all [] = Some held
-held_over held scope all (e ∷ es) = held_if held e (truth_over scope all e) >>= λ more. held_over more scope all es
+abbrev pub found_over : List (Option Bool) → Scope → List Visit → List Entry → Option (List (Option Bool))
+found_over found scope all [] = Some found
+found_over found scope all (e ∷ es) = found_if found (truth_over scope all e) >>= λ more. found_over more scope all es
 
 -- ---- what is known of an entry at a place
 
@@ -79,16 +78,6 @@ is_there_at nodes (Some e) = is_there nodes e
 abbrev pub is_calculate_at : Option Entry → Bool
 is_calculate_at None = false
 is_calculate_at (Some e) = is_calculate e
-
--- its property is not set yet
-abbrev pub is_new_at : List Entry → Option Entry → Bool
-is_new_at earlier None = true
-is_new_at earlier (Some e) = not (list_any (sets_same e) earlier)
-
--- no property of a node is set twice
-abbrev pub AreApart : List Entry → List Entry → Type 0
-AreApart earlier [] = Unit {0}
-AreApart earlier (e ∷ es) = (list_any (sets_same e) earlier ≡ false) × AreApart (earlier ++ e ∷ []) es
 
 -- ---- expressions
 

@@ -9,19 +9,19 @@ ghost use Rattle.xf_settle.specs.Turns.{is_calculate_at};
 
 use crate::fault::SettleFault;
 use crate::order::turns_of;
-use crate::truths::held;
+use crate::truths::truths_of;
 use crate::turn::settle_turns;
 use std::alloc::Global;
 use xf_ast::Tables;
-use xf_binds::{Applied, Table};
+use xf_binds::{Table, TruthList};
 use xf_doc::TreeFault;
 use xf_eval::Around;
 use xf_model::Property;
 use xf_tree::Forest;
 use xf_undo::Draft;
 
-/// Evaluates the calculates of a model, each after those that it reads, and writes their texts; then evaluates each entry. The answer is the
-/// entries with the truths of their values. What was reserved or written before an `Err` stays in the draft until it is rolled back.
+/// Evaluates the calculates of a model, each after those that it reads, and writes their texts; then evaluates each entry. The answer is
+/// the truths of their values, by the places of the entries. What was reserved or written before an `Err` stays in the draft until it is rolled back.
 pub fn settle<A: Around>(
     alloc: Global,
     tables: &Tables,
@@ -29,9 +29,9 @@ pub fn settle<A: Around>(
     model: u32,
     table: &Table,
     around: &A,
-) -> Result<Applied, SettleFault>
+) -> Result<TruthList, SettleFault>
     requires { MaySettle (A.given around.now) tables.now model draft.old.now (kept_at table.now model).entries }
-    ensures ok { IfOk result (λ held. IsSettled (scope_in (A.given around.now) tables.now model) (kept_at table.now model).entries draft.old.now draft.new.now held) }
+    ensures ok { IfOk result (λ truths. IsSettled (scope_in (A.given around.now) tables.now model) (kept_at table.now model).entries draft.old.now draft.new.now truths) }
     ensures err { IfErr result (λ fault. IsTold fault (words_of (scope_in (A.given around.now) tables.now model) (kept_at table.now model).entries draft.old.now)) }
     ensures kept { draft.new.kept ≡ draft.old.kept }
 {
@@ -42,10 +42,10 @@ pub fn settle<A: Around>(
     }
     let turns = turns_of(alloc, tables, draft.forest(), model, table, around)?;
     settle_turns(alloc, tables, draft, model, table, turns.as_slice(), count as u32, around)?;
-    let held = held(alloc, tables, draft.forest(), model, table, around)?;
+    let truths = truths_of(alloc, tables, draft.forest(), model, table, around)?;
     match limit_passed(draft.forest()) {
         Some(fault) => Err(fault),
-        None => Ok(held),
+        None => Ok(truths),
     }
 }
 

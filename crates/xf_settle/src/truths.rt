@@ -1,4 +1,4 @@
-//! The entries of a model, each with the truth of its value over the settled data.
+//! The truths of the values of a model's entries over the settled data.
 
 ghost use Rattle.std.specs.Prelude.{◌≡◌, ◌++◌, ◌∷◌, [], Some, None, true, false, option_map, slice_get, OnOk, IfOk};
 ghost use Rattle.std.specs.List.{list_all, list_any};
@@ -7,42 +7,41 @@ ghost use Rattle.xf_doc.specs.Visit.{visits};
 ghost use Rattle.xf_plain_values.specs.Bounded.{GivesBounded};
 ghost use Rattle.xf_model.specs.Applied.{is_property};
 ghost use Rattle.xf_eval.specs.Live.{AroundStands};
-ghost use Rattle.xf_binds.specs.Held.{entries_in, entry_of};
+ghost use Rattle.xf_binds.specs.Held.{entry_of};
 ghost use Rattle.xf_binds.specs.Table.{kept_at};
 ghost use Rattle.xf_settle.specs.Settles.{scope_in};
-ghost use Rattle.xf_settle.specs.Turns.{AreApart, held_over, held_step, is_new_at, is_there, is_there_at, truth_over};
+ghost use Rattle.xf_settle.specs.Turns.{found_over, found_step, is_there, is_there_at, truth_over};
 
 use crate::evaluate::entry_value;
 use std::alloc::Global;
 use xf_ast::Tables;
-use xf_binds::{Applied, Entry, Table};
+use xf_binds::{Entry, Table, TruthList};
 use xf_eval::{Around, EvalFault, truth_of};
 use xf_model::Property;
 use xf_tree::Forest;
 
-/// The entries and types of a model, each entry with the truth of its value over the forest as it stands.
-pub(crate) fn held<A: Around>(
+/// The truths of the values of a model's entries over the forest as it stands, by their places.
+pub(crate) fn truths_of<A: Around>(
     alloc: Global,
     tables: &Tables,
     forest: &Forest,
     model: u32,
     table: &Table,
     around: &A,
-) -> Result<Applied, EvalFault>
+) -> Result<TruthList, EvalFault>
     requires stands { AroundStands (A.given around.now) forest.now.forest.nodes }
     requires live { list_all (is_there forest.now.forest.nodes) (kept_at table.now model).entries ≡ true }
-    requires apart { AreApart [] (kept_at table.now model).entries }
-    ensures { GivesBounded EvalFault.Memory EvalFault.Long (λ held. held) result (held_over [] (scope_in (A.given around.now) tables.now model) (visits forest.now.forest.nodes) (kept_at table.now model).entries) }
+    ensures { GivesBounded EvalFault.Memory EvalFault.Long (λ truths. truths) result (found_over [] (scope_in (A.given around.now) tables.now model) (visits forest.now.forest.nodes) (kept_at table.now model).entries) }
 {
-    let mut held = Applied::new(alloc);
+    let mut found = TruthList::new(alloc);
     for at in 0..table.len(model) {
-        push_held(alloc, tables, forest, model, table, at, around, &mut held)?;
+        push_truth(alloc, tables, forest, model, table, at, around, &mut found)?;
     }
-    Ok(held)
+    Ok(found)
 }
 
-/// Adds the entry at a place.
-fn push_held<A: Around>(
+/// Adds that of the entry at a place.
+fn push_truth<A: Around>(
     alloc: Global,
     tables: &Tables,
     forest: &Forest,
@@ -50,17 +49,16 @@ fn push_held<A: Around>(
     table: &Table,
     at: usize,
     around: &A,
-    held: &mut Applied,
+    found: &mut TruthList,
 ) -> Result<(), EvalFault>
     requires stands { AroundStands (A.given around.now) forest.now.forest.nodes }
     requires live { is_there_at forest.now.forest.nodes (slice_get (kept_at table.now model).entries at) ≡ true }
-    requires new { is_new_at (entries_in held.old) (slice_get (kept_at table.now model).entries at) ≡ true }
-    ensures { GivesBounded EvalFault.Memory EvalFault.Long (λ u. held.new) result (held_step held.old (scope_in (A.given around.now) tables.now model) (visits forest.now.forest.nodes) (slice_get (kept_at table.now model).entries at)) }
+    ensures { GivesBounded EvalFault.Memory EvalFault.Long (λ u. found.new) result (found_step found.old (scope_in (A.given around.now) tables.now model) (visits forest.now.forest.nodes) (slice_get (kept_at table.now model).entries at)) }
 {
     match table.entry(model, at) {
         Some(entry) => {
             let truth = entry_truth(alloc, tables, forest, model, entry, around)?;
-            let _ = held.add_valued(entry, truth)?;
+            found.push(truth)?;
             Ok(())
         }
         None => Ok(()),

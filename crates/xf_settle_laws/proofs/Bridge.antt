@@ -1,14 +1,13 @@
 -- A settling in the list of nodes is one in the trees, and leaves them such that the next one is, too.
-use Rattle.std.proofs.Common.{◌≡◌, ℕ, zero, suc, ◌==◌, Bool, true, false, cond, ◌&&◌, List, [], ◌∷◌, map, refl, sym, ap, ◌∙◌, inl, inr, arith}
+use Rattle.std.proofs.Common.{◌≡◌, ℕ, suc, ◌==◌, Bool, true, false, cond, ◌&&◌, List, [], ◌∷◌, map, refl, sym, ap, ◌∙◌, inl, inr, arith}
 use Rattle.std.specs.Prelude.{◌⊎◌, ◌≤◌, ◌<◌, ⊤}
 use Rattle.std.specs.Str.{bytes_eq}
 use Rattle.std.proofs.lemmas.Bool.{cases_Bool}
 use Rattle.std.proofs.lemmas.Bool.Decides.{nat_tests}
-use Rattle.std.proofs.lemmas.Slice.Eq.{bytes_eq-Decides}
 use Rattle.xf_doc.specs.declared.content.Node.{Node}
 use Rattle.xf_doc.specs.declared.content.Content.{Content}
 use Rattle.xf_doc.specs.declared.content.Content.TheVariants.{Root, Element, Attribute, Text}
-use Rattle.xf_doc.specs.Forest.{is_element, is_attribute, is_text, own_text, tree_of, first_tree}
+use Rattle.xf_doc.specs.Forest.{is_element, is_attribute, own_text, tree_of, first_tree}
 use Rattle.xf_doc.specs.Shape.{as_texts}
 use Rattle.xf_doc.specs.Texts.{with_value, one_text, with_texts, with_attribute_text, is_attribute_at, texts_in, value_in}
 use Rattle.xf_doc.specs.Settle.{are_texts, with_settled_text}
@@ -20,16 +19,11 @@ use Rattle.xf_rollback.proofs.TreeFacts.{is_at, at-absent}
 use Rattle.xf_rollback.proofs.TreeLeaves.{bare-leaf, retexted-times, revalued-times}
 use Rattle.xf_rollback.proofs.KeepingTrees.{any-is}
 use Rattle.xf_settle_laws.specs.Written.{Contents, written}
+use Rattle.xf_settle_laws.proofs.KindLemmas.{element-no_attribute, element-no_text, leaf-no_element, same-bytes, few}
 use Rattle.xf_settle_laws.proofs.Put.{texts_top, same_texts, content, valued, put, valued-attribute, valued-element, put_all, with_one}
 use Rattle.xf_settle_laws.proofs.Spots.{FitsHere, Fits, Spot, spot, put-absent, from-skip, texts-same, leaf-texts}
 
 -- ---- what fits stays so
-
-pub leaf-no_element : (c : Content) → is_leaf c ≡ true → is_element c ≡ false
-leaf-no_element Root e = refl
-leaf-no_element (Element name) e = let no : false ≡ true = e in cc
-leaf-no_element (Attribute name text) e = refl
-leaf-no_element (Text text) e = refl
 
 valued-leaf : (n : ℕ) (text : List ℕ) (m : ℕ) (c : Content) → is_leaf (valued n text m c) ≡ is_leaf c
 valued-leaf n text m c = by (m == n) c
@@ -114,10 +108,6 @@ pub lone-other : (p a : ℕ) (text : List ℕ) → (a == p) ≡ false → times 
 lone-other p a [] other = refl
 lone-other p a (c ∷ cs) other = rw other (omega arith)
 
-few : (n : ℕ) → n ≤ 1 → (n ≡ 0) ⊎ (n ≡ 1)
-few zero h = inl refl
-few (suc n) h = inr (omega (arith, h))
-
 -- no number comes in but that of the new text
 pub times-put : (p b m : ℕ) (u : List ℕ) (t : Trees) → (b == p) ≡ false → Fits m t → times m t ≤ 1 → times p (put b m u t) ≤ times p t
 times-put p b m u t other fits once = by (few (times m t) once)
@@ -147,26 +137,11 @@ times-put p b m u t other fits once = by (few (times m t) once)
 
 -- ---- nodes and trees
 
-same-bytes : (xs ys : List ℕ) → bytes_eq xs ys ≡ true → xs ≡ ys
-same-bytes xs ys e = grind (arith, bytes_eq-Decides)
-
 value-again : (c : Content) (text : List ℕ) → is_attribute c ≡ true → own_text c ≡ text → with_value text c ≡ c
 value-again Root text e f = refl
 value-again (Element name) text e f = refl
 value-again (Attribute name old) text e f = ap (Attribute name) (sym f)
 value-again (Text old) text e f = refl
-
-element-no_attribute : (c : Content) → is_element c ≡ true → is_attribute c ≡ false
-element-no_attribute Root e = refl
-element-no_attribute (Element name) e = refl
-element-no_attribute (Attribute name text) e = let no : false ≡ true = e in cc
-element-no_attribute (Text text) e = refl
-
-element-no_text : (c : Content) → is_element c ≡ true → is_text c ≡ false
-element-no_text Root e = refl
-element-no_text (Element name) e = refl
-element-no_text (Attribute name text) e = refl
-element-no_text (Text text) e = let no : false ≡ true = e in cc
 
 module _ (a n : ℕ) (text : List ℕ) (t : Trees) where
   abbrev nodes : List Node

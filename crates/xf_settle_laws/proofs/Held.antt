@@ -14,7 +14,8 @@ use Rattle.xf_rollback.proofs.TreeVisits.{seen, visits-seen}
 use Rattle.xf_rollback.proofs.TreeShape.{is_leaf}
 use Rattle.xf_rollback.proofs.TreeBlank.{AreLeaves}
 use Rattle.xf_rollback.proofs.TreeOrder.{NoAttributes, AttributesFirst}
-use Rattle.xf_settle_laws.proofs.Spots.{FitsHere, attribute-no_element}
+use Rattle.xf_settle_laws.proofs.KindLemmas.{attribute-no_element, attribute-no_text, attribute-leaf, leaf-text, and-none}
+use Rattle.xf_settle_laws.proofs.Spots.{FitsHere}
 
 abbrev pub Given : Type 0
 Given = ℕ → Option (List ℕ)
@@ -65,24 +66,6 @@ given-text (Some text) (Element name) = refl
 given-text (Some text) (Attribute name old) = refl
 given-text (Some text) (Text old) = refl
 
-attribute-leaf : (c : Content) → is_attribute c ≡ true → is_leaf c ≡ true
-attribute-leaf Root e = let no : false ≡ true = e in cc
-attribute-leaf (Element name) e = let no : false ≡ true = e in cc
-attribute-leaf (Attribute name text) e = refl
-attribute-leaf (Text text) e = refl
-
-attribute-no_text : (c : Content) → is_attribute c ≡ true → is_text c ≡ false
-attribute-no_text Root e = refl
-attribute-no_text (Element name) e = refl
-attribute-no_text (Attribute name text) e = refl
-attribute-no_text (Text text) e = let no : false ≡ true = e in cc
-
-leaf-text : (c : Content) → is_leaf c ≡ true → is_attribute c ≡ false → is_text c ≡ true
-leaf-text Root e f = e
-leaf-text (Element name) e f = e
-leaf-text (Attribute name text) e f = let no : true ≡ false = f in cc
-leaf-text (Text text) e f = refl
-
 pub held-attribute : (n : ℕ) (c : Content) (o : Option (List ℕ)) (k : Trees) → is_element c ≡ false → held_below n c o k ≡ k
 held-attribute n c None k e = refl
 held-attribute n c (Some text) k e = rw e refl
@@ -90,10 +73,6 @@ held-attribute n c (Some text) k e = rw e refl
 pub seen-followed : (up : List ℕ) (t s : Trees) (vs : List Visit) → seen up (followed t s) vs ≡ seen up t (seen up s vs)
 seen-followed up none s vs = refl
 seen-followed up (tree n c k r) s vs = ap (λ l. record { number = n; above = up; content = c } ∷ seen (n ∷ up) k l) (seen-followed up r s vs)
-
-and-false : (b : Bool) → (b && false) ≡ false
-and-false true = refl
-and-false false = refl
 
 module _ (given : Given) where
   abbrev texts : Texts
@@ -142,7 +121,7 @@ module _ (given : Given) where
       → put_in waiting (visit_of m up c ∷ vs) ≡ waiting ++ held_visit m up c ∷ put_in (visits_in texts (held_visit m up c)) vs
   unborne m up c waiting vs kept out =
       let same = given-attribute (given m) c in
-      ap (filled (visits_in texts) waiting) (stays m up c vs (ap (λ b. is_text c && b) kept ∙ and-false (is_text c))) ∙ rw (same, out) refl
+      ap (filled (visits_in texts) waiting) (stays m up c vs (ap (λ b. is_text c && b) kept ∙ and-none (is_text c))) ∙ rw (same, out) refl
 
   -- below an element whose texts go
   replaced-law : (m : ℕ) (up : List ℕ) (k : Trees) (vs waiting : List Visit) → is_some (given m) ≡ true → AreLeaves k → Flushes vs
@@ -224,7 +203,7 @@ module _ (given : Given) where
   flushing t up vs law kept out flush waiting = law up vs kept out flush waiting ∙ ap (λ l. waiting ++ l) (sym (law up vs kept out flush []))
 
   out-here : (up : List ℕ) (m : ℕ) (c : Content) (k r : Trees) → ((has_parent up ≡ false) ⊎ NoAttributes (tree m c k r)) → (is_attribute c && has_parent up) ≡ false
-  out-here up m c k r (inl e) = ap (λ b. is_attribute c && b) e ∙ and-false (is_attribute c)
+  out-here up m c k r (inl e) = ap (λ b. is_attribute c && b) e ∙ and-none (is_attribute c)
   out-here up m c k r (inr h) = ap (λ b. b && has_parent up) h.0
 
   out-next : (up : List ℕ) (m : ℕ) (c : Content) (k r : Trees) → ((has_parent up ≡ false) ⊎ NoAttributes (tree m c k r)) → (has_parent up ≡ false) ⊎ NoAttributes r

@@ -1,3 +1,4 @@
+pub mod KindLemmas
 pub mod Put
 pub mod Spots
 pub mod Bridge

@@ -20,13 +20,14 @@ use Rattle.xf_rollback.proofs.FirstLemmas.{ordered-retexted, ordered-revalued}
 use Rattle.xf_rollback.proofs.TextSteps.{one_text-texts}
 use Rattle.xf_settle_laws.specs.Written.{Contents, nodes_of, are_different}
 use Rattle.xf_settle_laws.specs.Alike.{content_of, done_of}
+use Rattle.xf_settle_laws.proofs.KindLemmas.{attribute-no_text, element-no_text, few, or-parts, and-parts, not-true}
 use Rattle.xf_settle_laws.proofs.Put.{texts_top, same_texts, content, valued, put, put_all}
 use Rattle.xf_settle_laws.proofs.Spots.{FitsHere, Fits, spot, put-absent}
 use Rattle.xf_settle_laws.proofs.Bridge.{AreReady, ready-later, ready-put, lone-other}
 use Rattle.xf_settle_laws.proofs.Held.{Given, hold}
 use Rattle.xf_settle_laws.proofs.HoldLemmas.{hold-nothing, with_only, hold-both, hold-renamed}
 use Rattle.xf_settle_laws.proofs.Renamed.{swap, swap-other, swap-renumbers, renamed, renamed-by, only}
-use Rattle.xf_settle_laws.proofs.Single.{Single, Facts, held-single, few}
+use Rattle.xf_settle_laws.proofs.Single.{Single, Facts, held-single}
 
 -- ---- contents
 
@@ -38,10 +39,6 @@ content-none done ((n, text) ∷ rest) m h =
     let other : (n == m) ≡ false = grind (arith, nat_tests, first) in
     let i = content-none done rest m parts.1 in
     elim (cases_Bool (done n)) [ inl e ↦ rw (e, other) i | inr e ↦ rw e i ]
-  where
-    or-parts : (a b : Bool) → (a || b) ≡ false → (a ≡ false) × (b ≡ false)
-    or-parts true b h = let no : true ≡ false = h in cc
-    or-parts false b h = (refl, h)
 
 content-first : (n : ℕ) (text : List ℕ) (cs : Contents) (m : ℕ) → content_of ((n, text) ∷ cs) m ≡ with_only n text (content_of cs) m
 content-first n text cs m = elim (cases_Bool (n == m)) [ inl e ↦ rw e refl | inr e ↦ rw e refl ]
@@ -56,31 +53,15 @@ no-text n (tree m c k r) h =
     let next = no-text n r h.2 in
     elim (cases_Bool (m == n)) [ inl e ↦ let plain = kind (h.0 e) in rw (e, plain, below, next) refl | inr e ↦ rw (e, below, next) refl ]
   where
-    plain-attribute : (c : Content) → is_attribute c ≡ true → is_text c ≡ false
-    plain-attribute Root e = refl
-    plain-attribute (Element name) e = refl
-    plain-attribute (Attribute name text) e = refl
-    plain-attribute (Text text) e = let no : false ≡ true = e in cc
-
-    plain-element : (c : Content) → is_element c ≡ true → is_text c ≡ false
-    plain-element Root e = refl
-    plain-element (Element name) e = refl
-    plain-element (Attribute name text) e = refl
-    plain-element (Text text) e = let no : false ≡ true = e in cc
-
     kind : FitsHere c k → is_text c ≡ false
-    kind (inl e) = plain-attribute c e
-    kind (inr e) = plain-element c e.0
-
-or-split : (a b : Bool) → (a || b) ≡ false → (a ≡ false) × (b ≡ false)
-or-split true b h = let no : true ≡ false = h in cc
-or-split false b h = (refl, h)
+    kind (inl e) = attribute-no_text c e
+    kind (inr e) = element-no_text c e.0
 
 text-attributes : (m : ℕ) (t : Trees) → is_at is_text m t ≡ false → is_at is_text m (attributes t) ≡ false
 text-attributes m none h = refl
 text-attributes m (tree p c k r) h =
-    let a = or-split ((p == m) && is_text c) (is_at is_text m k || is_at is_text m r) h in
-    let b = or-split (is_at is_text m k) (is_at is_text m r) a.1 in
+    let a = or-parts ((p == m) && is_text c) (is_at is_text m k || is_at is_text m r) h in
+    let b = or-parts (is_at is_text m k) (is_at is_text m r) a.1 in
     let i = text-attributes m r b.1 in
     elim (cases_Bool (is_attribute c)) [ inl e ↦ rw e (all ((p == m) && is_text c) (is_at is_text m k) (is_at is_text m (attributes r)) a.0 b.0 i) | inr e ↦ rw e i ]
   where
@@ -91,8 +72,8 @@ text-attributes m (tree p c k r) h =
 text-put : (m a n : ℕ) (text : List ℕ) (t : Trees) → (a == m) ≡ false → is_at is_text m t ≡ false → is_at is_text m (put a n text t) ≡ false
 text-put m a n text none other h = refl
 text-put m a n text (tree p c k r) other h =
-    let x = or-split ((p == m) && is_text c) (is_at is_text m k || is_at is_text m r) h in
-    let y = or-split (is_at is_text m k) (is_at is_text m r) x.1 in
+    let x = or-parts ((p == m) && is_text c) (is_at is_text m k || is_at is_text m r) h in
+    let y = or-parts (is_at is_text m k) (is_at is_text m r) x.1 in
     all ((p == m) && is_text (valued n text p c)) (is_at is_text m (cond ((p == n) && is_element c) (content a text k) (put a n text k))) (is_at is_text m (put a n text r))
     (ap (λ b. (p == m) && b) (kind (p == n) c) ∙ x.0) (inner ((p == n) && is_element c) y.0 (text-put m a n text k other y.0)) (text-put m a n text r other y.1)
   where
@@ -198,14 +179,6 @@ renamed-plain (tree m c k r) = ap (λ x. tree m c x (renamed (λ m. m) r)) (rena
 small-first : (number : ℕ) (p : ℕ × List ℕ) (rest : Contents) → number + length (p ∷ rest) ≤ 2 ^ 128 → suc number + length rest ≤ 2 ^ 128
 small-first number p rest h = let e : number + suc (length rest) ≡ suc number + length rest = omega arith in omega (arith, h, e)
 
-and-split : (a b : Bool) → (a && b) ≡ true → (a ≡ true) × (b ≡ true)
-and-split true b h = (refl, h)
-and-split false b h = let no : false ≡ true = h in cc
-
-not-so : (b : Bool) → not b ≡ true → b ≡ false
-not-so true h = let no : false ≡ true = h in cc
-not-so false h = refl
-
 module _ (done : ℕ → Bool) where
   abbrev given : Contents → Given
   given contents = content_of (done_of done contents)
@@ -296,11 +269,11 @@ module _ (done : ℕ → Bool) where
     is = renamed-plain (hold (given []) t) ∙ hold-nothing (given []) t (λ m. refl);
   }
   held-all number ((n, text) ∷ rest) t ready different f small =
-      let parts = and-split (not (has n (nodes_of rest))) (are_different (nodes_of rest)) different in
+      let parts = and-parts (not (has n (nodes_of rest))) (are_different (nodes_of rest)) different in
       let less = small-first number (n, text) rest small in
       let later_f : Facts (suc number) t = record { once = f.once; old = λ m le. f.old m (omega (arith, le)); first = f.first } in
       elim (cases_Bool (done n)) [
-        | inl e ↦ rw e (same-first number n text rest t ready (not-so (has n (nodes_of rest)) parts.0) f less
+        | inl e ↦ rw e (same-first number n text rest t ready (not-true (has n (nodes_of rest)) parts.0) f less
             (held-all (suc number) rest (put number n text t) (ready-later number rest (put number n text t) (ready-put number n text rest t ready.0 ready.1 ready.3)) parts.1 (facts-put number n text t ready.0 f) less))
         | inr e ↦ rw e (weaker (held-all (suc number) rest t (ready-later number rest t ready.3) parts.1 later_f less))
       ]

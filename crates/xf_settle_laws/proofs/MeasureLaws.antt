@@ -1,5 +1,5 @@
 -- How many nodes and bytes there are where some contents were written; and what stands before the first one, and after the last.
-use Rattle.std.proofs.Common.{◌≡◌, ℕ, suc, ◌+◌, ◌^◌, Bool, true, false, cond, not, ◌&&◌, List, [], ◌∷◌, length, map, refl, sym, ap, ◌∙◌}
+use Rattle.std.proofs.Common.{◌≡◌, ℕ, suc, ◌+◌, ◌^◌, Bool, true, false, cond, not, List, [], ◌∷◌, length, map, refl, sym, ap, ◌∙◌}
 use Rattle.std.specs.Prelude.{◌≤◌, fold, sum_by}
 use Rattle.std.specs.List.{list_all}
 use Rattle.xf_doc.specs.declared.content.Node.{Node}
@@ -11,6 +11,7 @@ use Rattle.xf_doc.specs.Same.{renumbered_visit}
 use Rattle.xf_doc.specs.Shape.{with_contents}
 use Rattle.xf_settle_laws.specs.Written.{Contents, written, MayWrite}
 use Rattle.xf_settle_laws.specs.Alike.{content_of, done_of}
+use Rattle.xf_settle_laws.proofs.KindLemmas.{and-parts}
 use Rattle.xf_settle_laws.proofs.AlikeLaws.{written-alike}
 
 -- a measure of contents is the same of visits as of nodes, and under a renumbering
@@ -58,10 +59,6 @@ written-none number (p ∷ ps) nodes = written-none (suc number) ps nodes
 pub written-all : (done : ℕ → Bool) (number : ℕ) (contents : Contents) (nodes : List Node) → list_all (λ p. done p.0) contents ≡ true → written done number contents nodes ≡ written all_done number contents nodes
 written-all done number [] nodes h = refl
 written-all done number ((n, text) ∷ rest) nodes h =
-    let parts = and-split (done n) (list_all (λ p. done p.0) rest) h in
+    let parts = and-parts (done n) (list_all (λ p. done p.0) rest) h in
     let here_ = parts.0 in
     rw here_ (written-all done (suc number) rest _ parts.1)
-  where
-    and-split : (a b : Bool) → (a && b) ≡ true → (a ≡ true) × (b ≡ true)
-    and-split true b h = (refl, h)
-    and-split false b h = let no : false ≡ true = h in cc

@@ -13,6 +13,7 @@ use Rattle.xf_rollback.proofs.Trees.{Trees, none, tree, followed}
 use Rattle.xf_rollback.proofs.TreeTexts.{lone, attributes}
 use Rattle.xf_rollback.proofs.TreeMoved.{value-attribute, value-element}
 use Rattle.xf_settle_laws.specs.Written.{Contents, and_one, nodes_of, are_different}
+use Rattle.xf_settle_laws.proofs.KindLemmas.{or-parts, and-parts, not-true, and-none}
 
 -- ---- what it is
 
@@ -72,10 +73,6 @@ text-stays n text m old = by (m == n)
     by true = refl
     by false = refl
 
-and-none : (b : Bool) → (b && false) ≡ false
-and-none true = refl
-and-none false = refl
-
 pub lone-stays : (b m : ℕ) (u : List ℕ) (a : ℕ) (text : List ℕ) → put b m u (lone (one_text a text)) ≡ lone (one_text a text)
 lone-stays b m u a [] = refl
 lone-stays b m u a (c ∷ cs) = rw (and-none (a == m)) (ap (λ x. tree a x none none) (text-stays m u a (c ∷ cs)))
@@ -83,12 +80,6 @@ lone-stays b m u a (c ∷ cs) = rw (and-none (a == m)) (ap (λ x. tree a x none 
 pub put-followed : (b m : ℕ) (u : List ℕ) (t s : Trees) → put b m u (followed t s) ≡ followed (put b m u t) (put b m u s)
 put-followed b m u none s = refl
 put-followed b m u (tree p c k r) s = ap (tree p (valued m u p c) (if (p == m) && is_element c then content b u k else put b m u k)) (put-followed b m u r s)
-
-attribute-no_element : (c : Content) → is_attribute c ≡ true → is_element c ≡ false
-attribute-no_element Root e = refl
-attribute-no_element (Element name) e = let no : false ≡ true = e in cc
-attribute-no_element (Attribute name text) e = refl
-attribute-no_element (Text text) e = refl
 
 pub put-attributes : (b m : ℕ) (u : List ℕ) (t : Trees) → attributes (put b m u t) ≡ put b m u (attributes t)
 put-attributes b m u none = refl
@@ -176,10 +167,6 @@ put-past a n text done number ((m, u) ∷ rest) t out =
     after true h = let no : true ≡ false = h in cc
     after false h = h
 
-or-parts : (a b : Bool) → (a || b) ≡ false → (a ≡ false) × (b ≡ false)
-or-parts true b h = let no : true ≡ false = h in cc
-or-parts false b h = (refl, h)
-
 -- of other nodes the same are done
 same-done : (n : ℕ) (done : ℕ → Bool) (number : ℕ) (contents : Contents) (t : Trees) → has n (nodes_of contents) ≡ false → put_all (and_one n done) number contents t ≡ put_all done number contents t
 same-done n done number [] t out = refl
@@ -199,14 +186,6 @@ has-in n ((m, u) ∷ front) text back = rw (has-in n front text back) (or-true (
     or-true : (b : Bool) → (b || true) ≡ true
     or-true true = refl
     or-true false = refl
-
-and-parts : (a b : Bool) → (a && b) ≡ true → (a ≡ true) × (b ≡ true)
-and-parts true b h = (refl, h)
-and-parts false b h = let no : false ≡ true = h in cc
-
-not-true : (b : Bool) → not b ≡ true → b ≡ false
-not-true true h = let no : false ≡ true = h in cc
-not-true false h = refl
 
 pub put-more : (done : ℕ → Bool) (number n : ℕ) (text : List ℕ) (front back : Contents) (t : Trees) → done n ≡ false → are_different (nodes_of (with_one front n text back)) ≡ true
     → put (number + length front) n text (put_all done number (with_one front n text back) t) ≡ put_all (and_one n done) number (with_one front n text back) t

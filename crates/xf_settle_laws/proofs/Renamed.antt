@@ -12,9 +12,9 @@ use Rattle.xf_doc.specs.Texts.{with_value}
 use Rattle.xf_rollback.proofs.Trees.{Trees, none, tree, followed, times}
 use Rattle.xf_rollback.proofs.TreeTexts.{attributes, times-split}
 use Rattle.xf_rollback.proofs.TreeVisits.{seen}
-use Rattle.xf_rollback.proofs.TreeShape.{is_leaf}
 use Rattle.xf_rollback.proofs.TreeBlank.{AreLeaves}
 use Rattle.xf_rollback.proofs.TreeOrder.{NoAttributes, AttributesFirst}
+use Rattle.xf_settle_laws.proofs.KindLemmas.{attribute-no_text, leaf-text}
 use Rattle.xf_settle_laws.proofs.Put.{texts_top}
 use Rattle.xf_settle_laws.proofs.Held.{Given, hold}
 
@@ -135,18 +135,6 @@ attributes-all (tree m c k r) h e =
   where
     nothing : (x : List ℕ) (xs : List (List ℕ)) → x ∷ xs ≡ [] → ⊥
     nothing x xs e = cc e
-
-    attribute-no_text : (c : Content) → is_attribute c ≡ true → is_text c ≡ false
-    attribute-no_text Root e = refl
-    attribute-no_text (Element name) e = refl
-    attribute-no_text (Attribute name text) e = refl
-    attribute-no_text (Text text) e = let no : false ≡ true = e in cc
-
-    leaf-text : (c : Content) → is_leaf c ≡ true → is_attribute c ≡ false → is_text c ≡ true
-    leaf-text Root e f = e
-    leaf-text (Element name) e f = e
-    leaf-text (Attribute name text) e f = let no : true ≡ false = f in cc
-    leaf-text (Text text) e f = refl
 
 -- there is one text, behind the attributes
 pub record OneText (k : Trees) (text : List ℕ) : Type 0 where

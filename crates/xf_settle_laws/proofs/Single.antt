@@ -1,10 +1,9 @@
 -- One settling, and the trees that hold its text.
-use Rattle.std.proofs.Common.{◌≡◌, ℕ, zero, suc, ◌+◌, ◌^◌, ◌==◌, Bool, true, false, ◌&&◌, ◌||◌, List, [], ◌∷◌, Option, Some, None, refl, sym, ap, ◌∙◌, subst, inl, inr, arith}
+use Rattle.std.proofs.Common.{◌≡◌, ℕ, ◌+◌, ◌^◌, ◌==◌, Bool, true, false, ◌&&◌, ◌||◌, List, [], ◌∷◌, Option, Some, None, refl, sym, ap, ◌∙◌, subst, inl, inr, arith}
 use Rattle.std.specs.Prelude.{◌⊎◌, ◌≤◌}
 use Rattle.std.specs.Str.{bytes_eq}
 use Rattle.std.proofs.lemmas.Bool.{cases_Bool}
 use Rattle.std.proofs.lemmas.Bool.Decides.{nat_tests}
-use Rattle.std.proofs.lemmas.Slice.Eq.{bytes_eq-Decides}
 use Rattle.xf_doc.specs.declared.content.Content.{Content}
 use Rattle.xf_doc.specs.declared.content.Content.TheVariants.{Text}
 use Rattle.xf_doc.specs.Forest.{is_element, is_attribute, is_text}
@@ -15,8 +14,9 @@ use Rattle.xf_rollback.proofs.TreeTexts.{lone, attributes, Where, here, inside, 
 use Rattle.xf_rollback.proofs.TreeBlank.{AreLeaves}
 use Rattle.xf_rollback.proofs.TreeOrder.{AttributesFirst, Ordered}
 use Rattle.xf_rollback.proofs.TreeFacts.{is_at, at-times}
+use Rattle.xf_settle_laws.proofs.KindLemmas.{attribute-no_element, same-bytes, few}
 use Rattle.xf_settle_laws.proofs.Put.{texts_top, same_texts, content, put}
-use Rattle.xf_settle_laws.proofs.Spots.{FitsHere, Fits, put-absent, attribute-no_element}
+use Rattle.xf_settle_laws.proofs.Spots.{FitsHere, Fits, put-absent}
 use Rattle.xf_settle_laws.proofs.Held.{hold}
 use Rattle.xf_settle_laws.proofs.Renamed.{swap, swap-other, renamed, renamed-followed, renamed-absent, renamed-itself, only, hold-absent, value-none, value-some, attributes-all, one-text, turned}
 
@@ -41,9 +41,6 @@ less-followed m (tree p c k r) =
 split-once : (m p : ℕ) (c : Content) (k r : Trees) → times m (tree p c k r) ≤ 1 → times m k + times m r ≤ 1
 split-once m p c k r h = omega (arith, h)
 
-same-bytes : (xs ys : List ℕ) → bytes_eq xs ys ≡ true → xs ≡ ys
-same-bytes xs ys e = grind (arith, bytes_eq-Decides)
-
 one-same : (text : List ℕ) (us : List (List ℕ)) → same_texts (text ∷ []) us ≡ true → us ≡ text ∷ []
 one-same text [] e = let no : false ≡ true = e in cc
 one-same text (u ∷ []) e = by (bytes_eq u text) refl e
@@ -64,10 +61,6 @@ none-same (u ∷ us) e = let no : false ≡ true = e in cc
 nothing-after : (t : Trees) → followed t none ≡ t
 nothing-after none = refl
 nothing-after (tree m c k r) = ap (tree m c k) (nothing-after r)
-
-pub few : (x : ℕ) → x ≤ 1 → (x ≡ 0) ⊎ (x ≡ 1)
-few zero h = inl refl
-few (suc x) h = inr (omega (arith, h))
 
 module _ (a n : ℕ) (small : a ≤ 2 ^ 128) where
   abbrev T : ℕ

@@ -15,6 +15,7 @@ use Rattle.xf_rollback.proofs.Trees.{Trees, none, tree, onto, followed, times, S
 use Rattle.xf_rollback.proofs.TreeTexts.{lone, attributes, retexted, revalued, below-onto, times-split, retexted-absent, Where, here, inside, later, where_is}
 use Rattle.xf_rollback.proofs.TreeBlank.{AreLeaves, LeafAt, leaf-absent}
 use Rattle.xf_rollback.proofs.TreeFacts.{is_at, at-absent}
+use Rattle.xf_settle_laws.proofs.KindLemmas.{attribute-no_element}
 use Rattle.xf_settle_laws.proofs.Put.{texts_top, same_texts, put}
 
 -- a node with this number is an attribute, or an element with attributes and texts alone below it
@@ -60,12 +61,6 @@ pub record Spot (n d : ℕ) (t : Trees) (ys : List Node) : Type 0 where
   pub same_value : (text : List ℕ) → with_value text held ≡ held → revalued n text t ≡ t
   pub texts : (a : ℕ) (text : List ℕ) → is_element held ≡ true → same_texts (as_texts text) (texts_top below_it) ≡ false → put a n text t ≡ retexted n (lone (one_text a text)) t
   pub same : (a : ℕ) (text : List ℕ) → is_element held ≡ true → same_texts (as_texts text) (texts_top below_it) ≡ true → put a n text t ≡ t
-
-pub attribute-no_element : (c : Content) → is_attribute c ≡ true → is_element c ≡ false
-attribute-no_element Root e = refl
-attribute-no_element (Element name) e = let no : false ≡ true = e in cc
-attribute-no_element (Attribute name text) e = refl
-attribute-no_element (Text text) e = refl
 
 element-value : (text : List ℕ) (c : Content) → is_element c ≡ true → with_value text c ≡ c
 element-value text Root e = refl

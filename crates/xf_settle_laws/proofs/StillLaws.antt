@@ -4,7 +4,7 @@ use Rattle.std.proofs.lemmas.Bool.{cases_Bool}
 use Rattle.std.specs.List.{list_any}
 use Rattle.xf_doc.specs.declared.content.Node.{Node}
 use Rattle.xf_doc.specs.declared.content.Content.{Content}
-use Rattle.xf_doc.specs.declared.content.Content.TheVariants.{Root, Element, Attribute, Text}
+use Rattle.xf_doc.specs.declared.content.Content.TheVariants.{Text}
 use Rattle.xf_doc.specs.declared.content.Kind.TheVariants as kind
 use Rattle.xf_doc.specs.Forest.{Forest, is_element, is_attribute, is_text, kind_at}
 use Rattle.xf_doc.specs.Visit.{visits}
@@ -14,15 +14,16 @@ use Rattle.xf_doc.specs.Texts.{with_value, one_text}
 use Rattle.xf_rollback.proofs.Trees.{Trees, none, tree, onto, followed}
 use Rattle.xf_rollback.proofs.TreeTexts.{lone, attributes}
 use Rattle.xf_rollback.proofs.TreeVisits.{elements, elements-are}
-use Rattle.xf_rollback.proofs.TreeShape.{is_leaf, times-onto}
+use Rattle.xf_rollback.proofs.TreeShape.{times-onto}
 use Rattle.xf_rollback.proofs.TreeMoved.{value-attribute, value-element}
 use Rattle.xf_rollback.proofs.TreeBlank.{AreLeaves}
 use Rattle.xf_rollback.proofs.TreeFacts.{is_at, some-followed}
 use Rattle.xf_rollback.proofs.KeepingTrees.{stands, any-is, any-kind, kind-any, element-test, attribute-test}
 use Rattle.xf_settle_laws.specs.Written.{Contents, written, MayWrite}
+use Rattle.xf_settle_laws.proofs.KindLemmas.{attribute-no_element, text-no_attribute, text-no_element, leaf-no_element, leaf-text, and-none}
 use Rattle.xf_settle_laws.proofs.Put.{texts_top, same_texts, content, valued, put, valued-element, put_all}
-use Rattle.xf_settle_laws.proofs.Spots.{FitsHere, Fits, attribute-no_element}
-use Rattle.xf_settle_laws.proofs.Bridge.{AreReady, ready-later, ready-put, written-onto, fits-all, leaf-no_element, leaves-content}
+use Rattle.xf_settle_laws.proofs.Spots.{FitsHere, Fits}
+use Rattle.xf_settle_laws.proofs.Bridge.{AreReady, ready-later, ready-put, written-onto, fits-all, leaves-content}
 use Rattle.xf_settle_laws.proofs.WrittenLaws.{alone, alone-trees, ready, once, settable-fits, settable-old, at-node}
 
 -- ---- elements below a node
@@ -63,16 +64,6 @@ module _ (q : Content → Bool) (keeps : (text : List ℕ) (c : Content) → q (
       by : (b : Bool) → q (cond b (with_value text c) c) ≡ q c
       by true = keeps text c
       by false = refl
-
-  leaf-text : (c : Content) → is_leaf c ≡ true → is_attribute c ≡ false → is_text c ≡ true
-  leaf-text Root e f = e
-  leaf-text (Element name) e f = e
-  leaf-text (Attribute name text) e f = let no : true ≡ false = f in cc
-  leaf-text (Text text) e f = refl
-
-  and-none : (b : Bool) → (b && false) ≡ false
-  and-none true = refl
-  and-none false = refl
 
   at-attributes : (n : ℕ) (k : Trees) → AreLeaves k → is_at q n (attributes k) ≡ is_at q n k
   at-attributes n none h = refl
@@ -132,18 +123,6 @@ elements-all done number ((m, text) ∷ rest) t u n h =
       | inl e ↦ rw e (elements-all done (suc number) rest (put number m text t) u n (ready-later number rest (put number m text t) (ready-put number m text rest t h.0 h.1 h.3)) ∙ elements-put number m text u n t h.0)
       | inr e ↦ rw e (elements-all done (suc number) rest t u n (ready-later number rest t h.3))
     ]
-
-text-no_attribute : (c : Content) → is_text c ≡ true → is_attribute c ≡ false
-text-no_attribute Root e = refl
-text-no_attribute (Element name) e = refl
-text-no_attribute (Attribute name text) e = let no : false ≡ true = e in cc
-text-no_attribute (Text text) e = refl
-
-text-no_element : (c : Content) → is_text c ≡ true → is_element c ≡ false
-text-no_element Root e = refl
-text-no_element (Element name) e = let no : false ≡ true = e in cc
-text-no_element (Attribute name text) e = refl
-text-no_element (Text text) e = refl
 
 -- ---- the law
 

@@ -5,7 +5,7 @@ use Rattle.std.proofs.lemmas.List.{take_all}
 use Rattle.xf_lang.specs.Asked.{lists_below, read_for}
 use Rattle.xf_shape.specs.Spots.{is_spot, numbers_at, shaped}
 use Rattle.xf_asked.specs.Tells.{is_list}
-use Rattle.xf_asked.proofs.Listings.{reads-shown}
+use Rattle.xf_asked.proofs.Spotted.{reads-shown}
 use Rattle.xf_asked.proofs.Tellings.{onward, read-tells, reads-stand}
 use Rattle.xf_asked.proofs.asked.with_read.Goals as goal
 

@@ -4,7 +4,7 @@ use Rattle.xf_doc.specs.Forest.{has_number}
 use Rattle.xf_doc.proofs.BackLaws.{and-true}
 use Rattle.xf_shape.specs.Spots.{is_spot}
 use Rattle.xf_shape.proofs.Filled.{append-none}
-use Rattle.xf_asked.proofs.Listings.{around-is, around_of}
+use Rattle.xf_asked.proofs.Spotted.{around-is, around_of}
 use Rattle.xf_asked.proofs.lists.push_around.Goals as goal
 
 pub push_parent-requires : goal.push_parent-requires

@@ -4,7 +4,7 @@ use Rattle.xf_doc.specs.Forest.{has_number}
 use Rattle.xf_doc.proofs.BackLaws.{and-true}
 use Rattle.xf_shape.specs.Spots.{is_spot}
 use Rattle.xf_shape.proofs.Filled.{append-none}
-use Rattle.xf_asked.proofs.Listings.{below-is, below_of, no-below}
+use Rattle.xf_asked.proofs.Spotted.{below-is, below_of, no-below}
 use Rattle.xf_asked.proofs.lists.push_below.Goals as goal
 
 pub push_down-requires : goal.push_down-requires

@@ -1,7 +1,7 @@
 use Rattle.std.proofs.Common.{◌++◌, sym, ap, ◌∙◌}
 use Rattle.std.proofs.lemmas.Result.{on_ok_weaker}
 use Rattle.xf_shape.proofs.Filled.{append-none}
-use Rattle.xf_asked.proofs.Listings.{own-is, own_of, no-own}
+use Rattle.xf_asked.proofs.Spotted.{own-is, own_of, no-own}
 use Rattle.xf_asked.proofs.lists.push_own.Goals as goal
 
 pub returns-in-Node : goal.returns-in-Node

@@ -4,7 +4,7 @@ use Rattle.xf_doc.specs.Forest.{has_number}
 use Rattle.xf_doc.proofs.BackLaws.{and-true}
 use Rattle.xf_shape.specs.Spots.{is_spot}
 use Rattle.xf_shape.proofs.Filled.{append-none}
-use Rattle.xf_asked.proofs.Listings.{read-is, read_of}
+use Rattle.xf_asked.proofs.Spotted.{read-is, read_of}
 use Rattle.xf_asked.proofs.lists.push_read.Goals as goal
 
 pub reader_of-requires : goal.reader_of-requires

@@ -3,7 +3,7 @@ use Rattle.xf_shape.specs.Spots.{number_at, numbers_at}
 use Rattle.xf_shape.specs.Steps.{if_so}
 use Rattle.xf_shape.proofs.Filled.{append-none}
 use Rattle.xf_shape.proofs.Rounds.{numbers-append}
-use Rattle.xf_asked.proofs.Listings.{text-is}
+use Rattle.xf_asked.proofs.Spotted.{text-is}
 use Rattle.xf_asked.proofs.steps.push_text.Goals as goal
 
 pub returns-in_ok-push-clause-value : goal.returns-in_ok-push-clause-value

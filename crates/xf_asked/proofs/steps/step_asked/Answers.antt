@@ -5,7 +5,7 @@ use Rattle.xf_lang.specs.Asked.{read_for}
 use Rattle.xf_shape.specs.Over.{shape_at}
 use Rattle.xf_lang.specs.Steps.{begun_at}
 use Rattle.xf_shape.specs.Spots.{AreSpots, numbers_at, shaped}
-use Rattle.xf_asked.proofs.Listings.{if-shown, kinds-shown, reads-shown}
+use Rattle.xf_asked.proofs.Spotted.{if-shown, kinds-shown, reads-shown}
 use Rattle.xf_asked.proofs.Tellings.{reads-stand}
 use Rattle.xf_asked.proofs.Steppings.{step-below, step-here}
 use Rattle.xf_asked.proofs.steps.step_asked.Goals as goal

@@ -1,4 +1,4 @@
-use Rattle.std.proofs.Common.{◌≡◌, ◌-◌, ◌++◌, suc, map, Some, None, option_map, ap, sym, ◌∙◌, arith}
+use Rattle.std.proofs.Common.{◌≡◌, ◌-◌, ◌++◌, suc, map, option_map, ap, sym, ◌∙◌, arith}
 use Rattle.std.proofs.lemmas.Result.{err_from_is_err_and}
 use Rattle.xf_lang.specs.declared.fault.EvalFault.TheVariants.{Long, Memory}
 use Rattle.xf_eval.proofs.Bounded.{part-long}

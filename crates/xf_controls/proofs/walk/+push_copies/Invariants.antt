@@ -1,8 +1,7 @@
 use Rattle.std.proofs.Common.{◌≡◌, ◌-◌, ◌++◌, map, drop, option_map}
-use Rattle.xf_eval.specs.Live.{AroundStands}
 use Rattle.xf_ui.specs.Interface.{interface_of}
 use Rattle.xf_controls.specs.Below.{copies_from, of_parts}
-use Rattle.xf_controls.specs.Seen.{IsThere, node_of_place, seen_copy, seen_handed}
+use Rattle.xf_controls.specs.Seen.{seen_copy, seen_handed}
 use Rattle.xf_controls.specs.Surrounded.{around_in}
 use Rattle.xf_controls.proofs.walk.+push_copies.Given as goal
 

@@ -17,7 +17,7 @@ returns-in_err-push_copies g c = λ cases indexes.
     let marks = g.M.NodeMarks.marks_of c.args.marks.now in
     let p = err_from_is_err_and c.from_residual.result c.from_residual.ensures.1 in
     rw (p.1, p.2) (part-long Memory Long _ _ (copies (interface_of form) (around_in given form.tables nodes) marks cases indexes) c.in_err-push_copies.ensures
-    (λ lost. sym (begun-so form given nodes marks cases indexes c.len-most.result (seen_handed c.nothing_around.result) (map seen_copy c.new-copies.result) c.requires.plain c.requires.ordered c.requires.quiet c.len-most.ensures c.nothing_around.ensures.value
+    (λ lost. sym (begun-so form given nodes marks cases indexes c.len-most.result (seen_handed c.nothing_around.result) (map seen_copy c.new-copies.result) c.requires.plain c.requires.quiet c.len-most.ensures c.nothing_around.ensures.value
     (ap (map seen_copy) c.new-copies.ensures)) ∙ lost))
 
 pub returns : goal.returns
@@ -26,5 +26,5 @@ returns g c = λ cases indexes.
     let given = g.A.Around.given c.args.around.now in
     let nodes = c.args.forest.now.forest.nodes in
     let marks = g.M.NodeMarks.marks_of c.args.marks.now in
-    sym (begun-so form given nodes marks cases indexes c.len-most.result (seen_handed c.nothing_around.result) (map seen_copy c.new-copies.result) c.requires.plain c.requires.ordered c.requires.quiet c.len-most.ensures c.nothing_around.ensures.value
+    sym (begun-so form given nodes marks cases indexes c.len-most.result (seen_handed c.nothing_around.result) (map seen_copy c.new-copies.result) c.requires.plain c.requires.quiet c.len-most.ensures c.nothing_around.ensures.value
     (ap (map seen_copy) c.new-copies.ensures)) ∙ c.in_ok-push_copies.ensures

@@ -1,4 +1,4 @@
-use Rattle.std.proofs.Common.{◌∙◌, ap}
+use Rattle.std.proofs.Common.{◌∙◌}
 use Rattle.xf_loader.proofs.CountLemmas.{counts_found}
 use Rattle.xf_loader.proofs.counts.counts_at.Goals as goal
 

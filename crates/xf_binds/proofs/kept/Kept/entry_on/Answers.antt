@@ -5,9 +5,8 @@ use Rattle.xf_binds.proofs.kept.Kept.entry_on.Goals as goal
 
 pub returns-in-Some : goal.returns-in-Some
 returns-in-Some c =
-    found-entry c.self.inside.present c.args.node.number c.args.property (Some c.in-Some.item) c.in-Some.ensures
-    ∙ ap (λ k. find (sets_on c.args.node.number c.args.property) k.entries) c.self.view_is
+    found-entry c.present.result.now c.args.node.number c.args.property (Some c.in-Some.item) c.in-Some.ensures ∙ ap (find (sets_on c.args.node.number c.args.property)) c.present.ensures
 
 pub returns-in-None : goal.returns-in-None
 returns-in-None c =
-    found-entry c.self.inside.present c.args.node.number c.args.property None c.in-None.ensures ∙ ap (λ k. find (sets_on c.args.node.number c.args.property) k.entries) c.self.view_is
+    found-entry c.present.result.now c.args.node.number c.args.property None c.in-None.ensures ∙ ap (find (sets_on c.args.node.number c.args.property)) c.present.ensures

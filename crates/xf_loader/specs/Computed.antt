@@ -1,0 +1,30 @@
+-- The computed expressions of a form (XForms 1.1, section 6.1): each is the expression that a text is, and static.
+use Rattle.std.specs.Prelude.{◌≡◌, ℕ, List, [], ◌∷◌, Option, Some, None, Ok}
+use Rattle.xf_ast.specs.declared.expr.Expr.{Expr}
+use Rattle.xf_ast.specs.declared.form.Bind.{Bind}
+use Rattle.xf_name.specs.Bindings.{Bindings}
+use Rattle.xf_path.specs.Grammar.{parsed}
+use Rattle.xf_path.specs.Static.{static_fault}
+use Rattle.xf_loader.specs.declared.loaded.Loaded.{Loaded}
+use Rattle.xf_loader.specs.Loading.{loaded_in}
+
+-- the expression, if there is one, was read from a text, and is static
+abbrev pub IsReadStatic : Bindings → Option Expr → Type 0
+IsReadStatic b None = Unit {0}
+IsReadStatic b (Some expr) = (text : List ℕ) × (parsed 6 b text ≡ Ok expr) × (static_fault expr ≡ None)
+
+pub record AreReadStatic (b : Bindings) (bind : Bind) : Type 0 where
+  pub node_set : IsReadStatic b (Some bind.node_set)
+  pub calculate : IsReadStatic b bind.properties.calculate
+  pub relevant : IsReadStatic b bind.properties.relevant
+  pub readonly : IsReadStatic b bind.properties.readonly
+  pub required : IsReadStatic b bind.properties.required
+  pub constraint : IsReadStatic b bind.properties.constraint
+
+abbrev pub AllReadStatic : Bindings → List Bind → Type 0
+AllReadStatic b [] = Unit {0}
+AllReadStatic b (bind ∷ binds) = AreReadStatic b bind × AllReadStatic b binds
+
+-- so it is in a form that is loaded
+abbrev pub LoadedStatic : Type 0
+LoadedStatic = (bytes : List ℕ) (loaded : Loaded) → loaded_in bytes ≡ Ok loaded → AllReadStatic loaded.prefixes loaded.form.tables.binds

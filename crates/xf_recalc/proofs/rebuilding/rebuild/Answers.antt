@@ -1,0 +1,19 @@
+use Rattle.std.proofs.Common.{Ok, ap, refl, sym, ◌∙◌}
+use Rattle.xf_funcs.specs.Called.{called}
+use Rattle.xf_model.specs.Rules.{scope_of}
+use Rattle.xf_binds.specs.Held.{entries_in}
+use Rattle.xf_recalc.proofs.Expressions.{node-sets}
+use Rattle.xf_recalc.proofs.Rebuilds.{entries-there}
+use Rattle.xf_recalc.proofs.rebuilding.rebuild.Goals as goal
+
+pub apply-requires-clause-fixed : goal.apply-requires-clause-fixed
+apply-requires-clause-fixed g c = node-sets c.args.tables.now.binds c.requires.fixed
+
+pub web_of-requires-clause-there : goal.web_of-requires-clause-there
+web_of-requires-clause-there g c =
+    entries-there (scope_of called (g.A.Around.given c.args.around.now) c.args.tables.now c.args.model) c.args.forest.now.forest (entries_in c.in-Ok.applied) c.in-Ok.ensures
+
+pub returns-in-Ok-checked-clause-answer : goal.returns-in-Ok-checked-clause-answer
+returns-in-Ok-checked-clause-answer g c =
+    let scope = scope_of called (g.A.Around.given c.args.around.now) c.args.tables.now c.args.model in
+    c.in-Ok-checked.ensures scope refl c.in-Ok.ensures c.in_ok-web.ensures.web c.in_ok-web.ensures.small ∙ ap Ok (sym c.rebuild.ensures)
