@@ -2,15 +2,15 @@
 
 ghost use Rattle.std.specs.Prelude.{◌≡◌, length, slice_get, IfOk, IfErr};
 ghost use Rattle.xf_doc.specs.Limits.{limits, passed_by_all};
+ghost use Rattle.xf_doc.specs.Visit.{visits};
 ghost use Rattle.xf_model.specs.Settled.{calculates};
 ghost use Rattle.xf_binds.specs.Table.{kept_at};
 ghost use Rattle.xf_settle.specs.Settles.{IsSettled, IsTold, MaySettle, scope_in, word_of, words_of};
-ghost use Rattle.xf_settle.specs.Turns.{is_calculate_at};
+ghost use Rattle.xf_settle.specs.Turns.{AreTurns, is_calculate_at};
 
 use crate::fault::SettleFault;
-use crate::order::turns_of;
 use crate::truths::truths_of;
-use crate::turn::settle_turns;
+use crate::turn::{Turn, settle_turns};
 use std::alloc::Global;
 use xf_ast::Tables;
 use xf_binds::{Table, TruthList};
@@ -20,17 +20,19 @@ use xf_model::Property;
 use xf_tree::Forest;
 use xf_undo::Draft;
 
-/// Evaluates the calculates of a model, each after those that it reads, and writes their texts; then evaluates each entry. The answer is
-/// the truths of their values, by the places of the entries. What was reserved or written before an `Err` stays in the draft until it is rolled back.
-pub fn settle<A: Around>(
+/// Evaluates the calculates of a model in their turns, and writes their texts; then evaluates each entry. The answer is the truths of their
+/// values, by the places of the entries. What was reserved or written before an `Err` stays in the draft until it is rolled back.
+pub fn settle_in_turn<A: Around>(
     alloc: Global,
     tables: &Tables,
     draft: &mut Draft,
     model: u32,
     table: &Table,
+    turns: &[Turn],
     around: &A,
 ) -> Result<TruthList, SettleFault>
-    requires { MaySettle (A.given around.now) tables.now model draft.old.now (kept_at table.now model).entries }
+    requires may { MaySettle (A.given around.now) tables.now model draft.old.now (kept_at table.now model).entries }
+    requires turns { AreTurns (scope_in (A.given around.now) tables.now model) (kept_at table.now model).entries (visits draft.old.now.nodes) turns.now }
     ensures ok { IfOk result (λ truths. IsSettled (scope_in (A.given around.now) tables.now model) (kept_at table.now model).entries draft.old.now draft.new.now truths) }
     ensures err { IfErr result (λ fault. IsTold fault (words_of (scope_in (A.given around.now) tables.now model) (kept_at table.now model).entries draft.old.now)) }
     ensures kept { draft.new.kept ≡ draft.old.kept }
@@ -40,8 +42,7 @@ pub fn settle<A: Around>(
         // No memory holds so many.
         return Err(SettleFault::Memory);
     }
-    let turns = turns_of(alloc, tables, draft.forest(), model, table, around)?;
-    settle_turns(alloc, tables, draft, model, table, turns.as_slice(), count as u32, around)?;
+    settle_turns(alloc, tables, draft, model, table, turns, count as u32, around)?;
     let truths = truths_of(alloc, tables, draft.forest(), model, table, around)?;
     match limit_passed(draft.forest()) {
         Some(fault) => Err(fault),

@@ -28,7 +28,7 @@ const TEXT_LIMIT: u32 = 65_536;
 
 /// A calculate, with its place among those of the model in the order in which binds set them.
 #[derive(Clone, Copy, Debug)]
-pub(crate) struct Turn {
+pub struct Turn {
     pub entry: Entry,
     pub place: u32,
 }

@@ -4,7 +4,7 @@ use Rattle.std.proofs.lemmas.Bool.{cases_Bool}
 use Rattle.std.specs.List.{list_any}
 use Rattle.xf_doc.specs.declared.content.Node.{Node}
 use Rattle.xf_doc.specs.declared.content.Content.{Content}
-use Rattle.xf_doc.specs.declared.content.Content.TheVariants.{Text}
+use Rattle.xf_doc.specs.declared.content.Content.TheVariants.{Root, Element, Attribute, Text}
 use Rattle.xf_doc.specs.declared.content.Kind.TheVariants as kind
 use Rattle.xf_doc.specs.Forest.{Forest, is_element, is_attribute, is_text, kind_at}
 use Rattle.xf_doc.specs.Visit.{visits}
