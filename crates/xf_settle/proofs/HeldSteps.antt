@@ -106,11 +106,11 @@ module _ (scope : Scope) (all : List Visit) where
   one-more : (found : List (Option Bool)) (e : Entry) (es : List Entry) (h : List (Option Bool)) (truth : Option Bool) (c : Bool) → is_computed e ≡ c →
       (c ≡ true → valued_of (with_truth e truth) ≡ truly (one e)) → (is_computed e ≡ true → is_none (worth e) ≡ false) → Outcome (found ++ truth ∷ []) es h → Outcome found (e ∷ es) h
   one-more found e es h truth c i own some o = record {
-      rest = truth ∷ o.rest;
-      is = o.is ∙ append-one found truth o.rest;
-      values = by c i own;
-      given = (some, o.given);
-    }
+    rest = truth ∷ o.rest;
+    is = o.is ∙ append-one found truth o.rest;
+    values = by c i own;
+    given = (some, o.given);
+  }
     where
       others : List Held
       others = filter (λ (x : Held). is_computed x.entry) (held_by es o.rest)

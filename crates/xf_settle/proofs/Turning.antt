@@ -165,8 +165,8 @@ module _ (given : Given) (tables : Tables) (model : ℕ) (forest : Forest) (entr
     pub settable : (d : Draft) → Going scope entries forest before d → IsSettable x.entry.node.number d.now
     settable d g =
         let able = at-stands (λ (f : Entry). IsSettable f.node forest) es (length bs) (entry_in x)
-            (each-in_turn bounds scope entries forest es in-turn (λ f. IsSettable f.node forest) (form_settable bounds called given tables model forest entries may.covered may.around may.applies))
-            (subst (λ l. StandsAt l (length bs) (entry_in x)) (sym splits) (stands-here bs (entry_in x) (map entry_in after))) in
+        (each-in_turn bounds scope entries forest es in-turn (λ f. IsSettable f.node forest) (form_settable bounds called given tables model forest entries may.covered may.around may.applies))
+        (subst (λ l. StandsAt l (length bs) (entry_in x)) (sym splits) (stands-here bs (entry_in x) (map entry_in after))) in
         subst (λ nodes. IsSettable x.entry.node.number (record { nodes = nodes; next = d.now.next })) (sym g.nodes)
         (settable-still (done_by bs) forest.next contents forest x.entry.node.number d.now.next may-write able)
       where
@@ -276,7 +276,7 @@ module _ (given : Given) (tables : Tables) (model : ℕ) (forest : Forest) (entr
         going : (text : List ℕ) → text_of (Some bounds.string) scope over (entry_in x) ≡ Some text → nat_lt limits.text (length text) ≡ false → Going scope entries forest (before ++ x ∷ []) (written_once number x.entry.node.number text d)
         going text is fits =
             let own : made (entry_in x) ≡ (x.entry.node.number, text) =
-                ap (λ o. (x.entry.node.number, fitting bounds.limits.text o)) is ∙ ap (λ b. (x.entry.node.number, cond b [] text)) fits in
+            ap (λ o. (x.entry.node.number, fitting bounds.limits.text o)) is ∙ ap (λ b. (x.entry.node.number, cond b [] text)) fits in
             record {
               nodes = nodes-once x.entry.node.number text d ∙ ap (with_settled_text number x.entry.node.number text) g.nodes ∙ one-written text own
                   ∙ ap (λ l. written (done_by l) forest.next contents forest.nodes) (sym more);

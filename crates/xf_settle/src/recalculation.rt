@@ -42,7 +42,16 @@ pub fn settle_in_turn<A: Around>(
         // No memory holds so many.
         return Err(SettleFault::Memory);
     }
-    settle_turns(alloc, tables, draft, model, table, turns, count as u32, around)?;
+    settle_turns(
+        alloc,
+        tables,
+        draft,
+        model,
+        table,
+        turns,
+        count as u32,
+        around,
+    )?;
     let truths = truths_of(alloc, tables, draft.forest(), model, table, around)?;
     match limit_passed(draft.forest()) {
         Some(fault) => Err(fault),
