@@ -1,8 +1,10 @@
 -- While texts are settled, nodes stay what they are: a text that could be set can be set still.
-use Rattle.std.proofs.Common.{◌≡◌, ℕ, suc, ◌==◌, Bool, true, false, cond, ◌&&◌, ◌||◌, List, [], ◌∷◌, Some, refl, sym, ap, ◌∙◌, subst, inl, inr, arith}
+use Rattle.std.proofs.Common.{◌≡◌, ℕ, suc, ◌==◌, Bool, true, false, cond, not, ◌&&◌, ◌||◌, List, [], ◌∷◌, Some, refl, sym, ap, ◌∙◌, subst, inl, inr, arith}
 use Rattle.std.proofs.lemmas.Bool.{cases_Bool}
+use Rattle.std.specs.List.{list_any}
+use Rattle.xf_doc.specs.declared.content.Node.{Node}
 use Rattle.xf_doc.specs.declared.content.Content.{Content}
-use Rattle.xf_doc.specs.declared.content.Content.TheVariants.{Text}
+use Rattle.xf_doc.specs.declared.content.Content.TheVariants.{Root, Element, Attribute, Text}
 use Rattle.xf_doc.specs.declared.content.Kind.TheVariants as kind
 use Rattle.xf_doc.specs.Forest.{Forest, is_element, is_attribute, is_text, kind_at}
 use Rattle.xf_doc.specs.Visit.{visits}
@@ -149,3 +151,25 @@ settable-still done number contents forest n next may able =
           ap (λ l. has_elements (visits l) n) whole ∙ elements-are n (put_all done number contents s.trees) ∙ elements-all done number contents s.trees false n are_ready
           ∙ sym (elements-are n s.trees) ∙ ap (λ l. has_elements (visits l) n) (sym s.nodes) ∙ able.childless;
     }
+
+value-solid : (text : List ℕ) (c : Content) → not (is_text (with_value text c)) ≡ not (is_text c)
+value-solid text Root = refl
+value-solid text (Element name) = refl
+value-solid text (Attribute name old) = refl
+value-solid text (Text old) = refl
+
+text-solid : (c : Content) → is_text c ≡ true → not (is_text c) ≡ false
+text-solid c e = ap not e
+
+-- and what is no text stands still
+pub solid-still : (done : ℕ → Bool) (number : ℕ) (contents : Contents) (forest : Forest) (n : ℕ) → MayWrite number contents forest
+    → list_any (λ (x : Node). (x.number == n) && not (is_text x.content)) (written done number contents forest.nodes) ≡ list_any (λ (x : Node). (x.number == n) && not (is_text x.content)) forest.nodes
+solid-still done number contents forest n may =
+    let s = stands (alone forest) (alone-trees forest may.trees) in
+    let are_ready = ready forest s number may.later contents may.settable in
+    let solid : Content → Bool = λ c. not (is_text c) in
+    let whole = ap (written done number contents) s.nodes ∙ written-onto done number contents s.trees are_ready in
+    ap (list_any (λ (x : Node). (x.number == n) && solid x.content)) whole
+    ∙ any-is solid n (put_all done number contents s.trees)
+    ∙ at-all solid value-solid text-solid done number contents s.trees n are_ready
+    ∙ sym (any-is solid n s.trees) ∙ ap (list_any (λ (x : Node). (x.number == n) && solid x.content)) (sym s.nodes)

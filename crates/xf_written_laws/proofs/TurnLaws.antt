@@ -53,7 +53,7 @@ module _ (made : Entry → ℕ × List ℕ) (of_made : (e : Entry) → (made e).
       ap (λ n. not (has n (nodes_of (map made es))) && are_different (nodes_of (map made es))) (of_made e)
       ∙ ap (λ c. not c && are_different (nodes_of (map made es))) (not-there e.node es h.0) ∙ different es h.1
 
-all-kept : (contents : Contents) → filter (λ p. true) contents ≡ contents
+pub all-kept : (contents : Contents) → filter (λ p. true) contents ≡ contents
 all-kept [] = refl
 all-kept (p ∷ ps) = ap (λ l. p ∷ l) (all-kept ps)
 
@@ -68,7 +68,7 @@ module _ (b : Bounds) (functions : Functions) (given : Given) (tables : Tables) 
   abbrev contents : Contents
   contents = settled_contents b scope entries all
 
-  turn : AreInTurn b scope entries forest es
+  pub turn : AreInTurn b scope entries forest es
   turn = form_in_turn b functions given tables model forest entries es t.covered t.around t.applies t.ordered
 
   abbrev made : Contents
@@ -86,7 +86,7 @@ module _ (b : Bounds) (functions : Functions) (given : Given) (tables : Tables) 
     later = omega arith;
   })
 
-  room : forest.next + length contents ≤ 2 ^ 128
+  pub room : forest.next + length contents ≤ 2 ^ 128
   room = let same : length contents ≡ length (calculates entries) = ap length are-made ∙ length-map (calculates entries) (content_by b scope (settled b scope entries all)) in let fits = t.room in omega (arith, same, fits)
 
   module _ (done : ℕ → Bool) where
@@ -105,7 +105,7 @@ module _ (b : Bounds) (functions : Functions) (given : Given) (tables : Tables) 
     surroundings : renumbered_given alike.by given ≡ given
     surroundings = surroundings_stay alike.by given (each_then (λ (d : Document). IsSolid all d.element) (λ (d : Document). alike.by d.element ≡ d.element) (λ d s. stays d.element s) given.documents t.documents) t.no_event
 
-    same-text : (e : Entry) → IsSolid all e.node → text_of (Some b.string) scope held e ≡ text_of (Some b.string) scope now e
+    pub same-text : (e : Entry) → IsSolid all e.node → text_of (Some b.string) scope held e ≡ text_of (Some b.string) scope now e
     same-text e s = evaluated_text (Some b.string) functions given tables model held now e
         (record { by = alike.by; renumbers = alike.renumbers; visits = alike.visits; surroundings = surroundings; node = stays e.node s })
 

@@ -1,0 +1,6 @@
+mod Values
+mod HeldSteps
+mod ListLemmas
+mod Turning
+mod Surroundings
+mod Ending

@@ -1,0 +1,13 @@
+use Rattle.std.proofs.Common.{◌≡◌, [], drop}
+use Rattle.xf_doc.specs.Visit.{visits}
+use Rattle.xf_binds.specs.Table.{kept_at}
+use Rattle.xf_settle.specs.Settles.{scope_in}
+use Rattle.xf_settle.specs.Turns.{found_over}
+use Rattle.xf_settle.proofs.truths.truths_of.Given as goal
+
+abbrev pub invariant-loop-at : goal.invariant-loop-at
+invariant-loop-at g l =
+    let scope = scope_in (g.A.Around.given l.fn.around) l.fn.tables l.fn.model in
+    let all = visits l.fn.forest.forest.nodes in
+    let entries = (kept_at l.fn.table l.fn.model).entries in
+    found_over l.found scope all (drop l.at entries) ≡ found_over [] scope all entries

@@ -1,0 +1,117 @@
+use Rattle.std.proofs.Common.{◌≡◌, ◌+◌, ◌<◌, ◌^◌, List, [], ◌∷◌, ◌++◌, Some, Err, Ok, map, length, take, take_all, drop, get_or, refl, sym, ap, ◌∙◌, subst, arith, inl, inr}
+use Rattle.std.proofs.lemmas.List.{take_more}
+use Rattle.std.proofs.lemmas.Result.{err_from_is_err_and}
+use Rattle.xf_base.specs.Limits.{string_limit}
+use Rattle.xf_doc.specs.Visit.{visits}
+use Rattle.xf_model.specs.Entries.{text_of}
+use Rattle.xf_model.specs.Settled.{calculates}
+use Rattle.xf_eval.specs.Live.{AroundStands}
+use Rattle.xf_undo.specs.Draft.{IsUnused}
+use Rattle.xf_binds.specs.Table.{kept_at}
+use Rattle.xf_settle.specs.Settles.{IsTold, contents_in, scope_in, words_of}
+use Rattle.xf_settle.specs.Turns.{entry_in, turned}
+use Rattle.xf_settle.specs.Whole.{IsWritten}
+use Rattle.xf_settle.proofs.ListLemmas.{done_by, split-at}
+use Rattle.xf_settle.proofs.Surroundings.{stands-now}
+use Rattle.xf_settle.proofs.Turning.{Going, ended, may-write, no_turn, refused, settable, start, step, turned-kept, unused}
+use Rattle.xf_settle.proofs.turn.settle_turns.Goals as goal
+
+pub loop-turn-init : goal.loop-turn-init
+loop-turn-init g c =
+    let given = g.A.Around.given c.args.around.now in
+    let entries = (kept_at c.args.table.now c.args.model).entries in
+    let scope = scope_in given c.args.tables.now c.args.model in
+    let d = c.args.draft.now in
+    let few : length (calculates entries) < 2 ^ 32 = let fits = c.ranges.count.fits in let is = c.requires.count in omega (arith, fits, is) in
+    record {
+      going = subst (Going scope entries d.now []) (sym c.reserve_numbers.ensures)
+          (start given c.args.tables.now c.args.model d.now entries c.requires.may c.args.turns.now c.requires.turns few d c.args.count refl c.requires.count);
+      kept = ap (λ x. x.kept) c.reserve_numbers.ensures;
+    }
+
+pub settle_turn-requires-clause-stands : goal.settle_turn-requires-clause-stands
+settle_turn-requires-clause-stands g c =
+    let given = g.A.Around.given c.args.around.now in
+    let entries = (kept_at c.args.table.now c.args.model).entries in
+    let scope = scope_in given c.args.tables.now c.args.model in
+    let d = c.args.draft.now in
+    let few : length (calculates entries) < 2 ^ 32 = let fits = c.ranges.count.fits in let is = c.requires.count in omega (arith, fits, is) in
+    subst (AroundStands given) (sym c.loop-turn.invariant.going.nodes)
+    (stands-now given c.args.tables.now c.args.model d.now entries c.requires.may (done_by (map entry_in (take c.loop-turn.turn-index c.args.turns.now))) (contents_in scope entries d.now)
+    (may-write given c.args.tables.now c.args.model d.now entries c.requires.may c.args.turns.now c.requires.turns few))
+
+pub settle_turn-requires-clause-may : goal.settle_turn-requires-clause-may
+settle_turn-requires-clause-may g c =
+    let given = g.A.Around.given c.args.around.now in
+    let entries = (kept_at c.args.table.now c.args.model).entries in
+    let d = c.args.draft.now in
+    let k = c.loop-turn.turn-index in
+    let turns = c.args.turns.now in
+    let few : length (calculates entries) < 2 ^ 32 = let fits = c.ranges.count.fits in let is = c.requires.count in omega (arith, fits, is) in
+    settable given c.args.tables.now c.args.model d.now entries c.requires.may turns c.requires.turns few (take k turns) (drop (k + 1) turns) (get_or turns k no_turn)
+    (split-at turns k no_turn c.loop-turn-test.true) c.loop-turn.draft c.loop-turn.invariant.going
+
+pub settle_turn-requires-clause-number : goal.settle_turn-requires-clause-number
+settle_turn-requires-clause-number g c =
+    let given = g.A.Around.given c.args.around.now in
+    let entries = (kept_at c.args.table.now c.args.model).entries in
+    let d = c.args.draft.now in
+    let k = c.loop-turn.turn-index in
+    let turns = c.args.turns.now in
+    let few : length (calculates entries) < 2 ^ 32 = let fits = c.ranges.count.fits in let is = c.requires.count in omega (arith, fits, is) in
+    let first : c.next_number-first.result ≡ d.now.next = c.next_number-first.ensures ∙ ap (λ f. f.next) c.forest.ensures in
+    subst (λ n. IsUnused (n + (get_or turns k no_turn).place) c.loop-turn.draft) (sym first)
+    (unused given c.args.tables.now c.args.model d.now entries c.requires.may turns c.requires.turns few (take k turns) (drop (k + 1) turns) (get_or turns k no_turn)
+    (split-at turns k no_turn c.loop-turn-test.true) c.loop-turn.draft c.loop-turn.invariant.going)
+
+pub returns-in_err-settle_turn-clause-err : goal.returns-in_err-settle_turn-clause-err
+returns-in_err-settle_turn-clause-err g c =
+    let given = g.A.Around.given c.args.around.now in
+    let entries = (kept_at c.args.table.now c.args.model).entries in
+    let scope = scope_in given c.args.tables.now c.args.model in
+    let d = c.args.draft.now in
+    let k = c.loop-turn.turn-index in
+    let turns = c.args.turns.now in
+    let x = get_or turns k no_turn in
+    let few : length (calculates entries) < 2 ^ 32 = let fits = c.ranges.count.fits in let is = c.requires.count in omega (arith, fits, is) in
+    let first : c.next_number-first.result ≡ d.now.next = c.next_number-first.ensures ∙ ap (λ f. f.next) c.forest.ensures in
+    let text = text_of (Some string_limit) scope (visits c.loop-turn.draft.now.nodes) (entry_in x) in
+    let p = err_from_is_err_and c.from_residual.result c.from_residual.ensures.1 in
+    rw (p.1, p.2) (elim c.in_err-settle_turn.ensures.answer [
+      | inl m ↦ subst (λ f. IsTold f (words_of scope entries d.now)) (sym m) tt
+      | inr h ↦
+          refused given c.args.tables.now c.args.model d.now entries c.requires.may turns c.requires.turns few (take k turns) (drop (k + 1) turns) x
+          (split-at turns k no_turn c.loop-turn-test.true) c.loop-turn.draft _ c.loop-turn.invariant.going
+          (ap (λ n. turned (n + x.place) x.entry.node.number c.loop-turn.draft text) (sym first) ∙ h)
+    ])
+
+pub loop-turn-preserved : goal.loop-turn-preserved
+loop-turn-preserved g c =
+    let given = g.A.Around.given c.args.around.now in
+    let entries = (kept_at c.args.table.now c.args.model).entries in
+    let scope = scope_in given c.args.tables.now c.args.model in
+    let d = c.args.draft.now in
+    let k = c.loop-turn.turn-index in
+    let turns = c.args.turns.now in
+    let x = get_or turns k no_turn in
+    let few : length (calculates entries) < 2 ^ 32 = let fits = c.ranges.count.fits in let is = c.requires.count in omega (arith, fits, is) in
+    let first : c.next_number-first.result ≡ d.now.next = c.next_number-first.ensures ∙ ap (λ f. f.next) c.forest.ensures in
+    let text = text_of (Some string_limit) scope (visits c.loop-turn.draft.now.nodes) (entry_in x) in
+    record {
+      going = subst (λ l. Going scope entries d.now l c.settle_turn.new.draft) (sym (take_more turns k no_turn c.loop-turn-test.true))
+          (step given c.args.tables.now c.args.model d.now entries c.requires.may turns c.requires.turns few (take k turns) (drop (k + 1) turns) x
+          (split-at turns k no_turn c.loop-turn-test.true) c.loop-turn.draft c.settle_turn.new.draft c.loop-turn.invariant.going
+          (ap (λ n. turned (n + x.place) x.entry.node.number c.loop-turn.draft text) (sym first) ∙ c.in_ok-settle_turn.ensures.answer));
+      kept = turned-kept (c.next_number-first.result + x.place) x.entry.node.number c.loop-turn.draft c.settle_turn.new.draft text c.in_ok-settle_turn.ensures.answer ∙ c.loop-turn.invariant.kept;
+    }
+
+pub returns-clause-ok : goal.returns-clause-ok
+returns-clause-ok g c =
+    let given = g.A.Around.given c.args.around.now in
+    let entries = (kept_at c.args.table.now c.args.model).entries in
+    let scope = scope_in given c.args.tables.now c.args.model in
+    let d = c.args.draft.now in
+    let turns = c.args.turns.now in
+    let few : length (calculates entries) < 2 ^ 32 = let fits = c.ranges.count.fits in let is = c.requires.count in omega (arith, fits, is) in
+    ended given c.args.tables.now c.args.model d.now entries c.requires.may turns c.requires.turns few c.loop-turn.draft
+    (subst (λ l. Going scope entries d.now l c.loop-turn.draft) (take_all c.loop-turn.turn-index turns c.loop-turn-test.false) c.loop-turn.invariant.going)

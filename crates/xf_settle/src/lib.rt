@@ -1,0 +1,12 @@
+//! The work of a recalculation (XForms 1.1, section 4.3.2).
+#![tactic(auto)]
+
+mod evaluate;
+mod fault;
+mod recalculation;
+mod truths;
+mod turn;
+
+pub use fault::SettleFault;
+pub use recalculation::settle_in_turn;
+pub use turn::Turn;

@@ -1,0 +1,90 @@
+//! One calculate after the other, in an order of their graph (XForms 1.1, section 4.3.2 and appendix C).
+
+ghost use Rattle.std.specs.Prelude.{◌≡◌, ◌+◌, ◌<◌, ◌^◌, Some, length, IfErr, OnOk, OnErr};
+ghost use Rattle.xf_base.specs.Gives.{Gives};
+ghost use Rattle.xf_base.specs.Limits.{string_limit};
+ghost use Rattle.xf_doc.specs.Needs.{IsSettable};
+ghost use Rattle.xf_doc.specs.Visit.{visits};
+ghost use Rattle.xf_model.specs.Entries.{text_of};
+ghost use Rattle.xf_model.specs.Settled.{calculates};
+ghost use Rattle.xf_eval.specs.Live.{AroundStands};
+ghost use Rattle.xf_undo.specs.Draft.{IsUnused};
+ghost use Rattle.xf_binds.specs.Held.{entry_of};
+ghost use Rattle.xf_binds.specs.Table.{kept_at};
+ghost use Rattle.xf_settle.specs.Settles.{IsTold, MaySettle, scope_in, words_of};
+ghost use Rattle.xf_settle.specs.Turns.{AreTurns, turned};
+ghost use Rattle.xf_settle.specs.Whole.{IsWritten};
+
+use crate::evaluate::entry_text;
+use crate::fault::SettleFault;
+use std::alloc::Global;
+use xf_ast::Tables;
+use xf_binds::{Entry, Table};
+use xf_eval::Around;
+use xf_undo::Draft;
+
+/// No text of a node has more bytes.
+const TEXT_LIMIT: u32 = 65_536;
+
+/// A calculate, with its place among those of the model in the order in which binds set them.
+#[derive(Clone, Copy, Debug)]
+pub struct Turn {
+    pub entry: Entry,
+    pub place: u32,
+}
+
+/// Reserves a number for each of the calculates, evaluates each in its turn and writes its text. What was reserved or written before an
+/// `Err` stays.
+pub(crate) fn settle_turns<A: Around>(
+    alloc: Global,
+    tables: &Tables,
+    draft: &mut Draft,
+    model: u32,
+    table: &Table,
+    turns: &[Turn],
+    count: u32,
+    around: &A,
+) -> Result<(), SettleFault>
+    requires may { MaySettle (A.given around.now) tables.now model draft.old.now (kept_at table.now model).entries }
+    requires turns { AreTurns (scope_in (A.given around.now) tables.now model) (kept_at table.now model).entries (visits draft.old.now.nodes) turns.now }
+    requires count { count ≡ length (calculates (kept_at table.now model).entries) }
+    ensures ok { OnOk result (IsWritten (scope_in (A.given around.now) tables.now model) (kept_at table.now model).entries draft.old.now draft.new.now) }
+    ensures err { IfErr result (λ fault. IsTold fault (words_of (scope_in (A.given around.now) tables.now model) (kept_at table.now model).entries draft.old.now)) }
+    ensures kept { draft.new.kept ≡ draft.old.kept }
+{
+    let first = draft.forest().next_number();
+    draft.reserve_numbers(count);
+    for turn in turns {
+        let number = first + turn.place as u128;
+        settle_turn(alloc, tables, draft, model, turn.entry, number, around)?;
+    }
+    Ok(())
+}
+
+/// Evaluates a calculate, and writes its text where it does not stand already: there it has this number.
+fn settle_turn<A: Around>(
+    alloc: Global,
+    tables: &Tables,
+    draft: &mut Draft,
+    model: u32,
+    entry: Entry,
+    number: u128,
+    around: &A,
+) -> Result<(), SettleFault>
+    requires stands { AroundStands (A.given around.now) draft.old.now.nodes }
+    requires may { IsSettable entry.node.number draft.old.now }
+    requires number { IsUnused number draft.old }
+    ensures answer { Gives SettleFault.Memory (λ u. draft.new) result (turned number entry.node.number draft.old
+        (text_of (Some string_limit) (scope_in (A.given around.now) tables.now model) (visits draft.old.now.nodes) (entry_of entry))) }
+    ensures err { OnErr result (draft.new ≡ draft.old) }
+{
+    let text = entry_text(alloc, tables, draft.forest(), model, entry, around)?;
+    if text.len() > TEXT_LIMIT as usize {
+        return Err(SettleFault::Text);
+    }
+    if draft.forest().has_text(entry.node, text.as_str()) {
+        return Ok(());
+    }
+    draft.settle_text(entry.node, text.as_str(), number)?;
+    Ok(())
+}
