@@ -46,15 +46,17 @@ all-lines f plain (c ∷ cs) =
 
 copies-seen : (p : Profile) (s : State) → is_plain (interface s) ≡ true → (cs : List Copy) → AreCopies p s (interface s) cs (map shown_of cs)
 copies-seen p s plain [] = tt
-copies-seen p s plain (c ∷ cs) =
-    (record {
-      form = refl;
-      element = refl;
-      rows = ap (λ rs. row_numbers p s [] rs c.rows) (none-among (interface s) plain (path_to (interface s) c.element));
-      marks = refl;
-      value = refl;
-      items = refl;
-    }, copies-seen p s plain cs)
+copies-seen p s plain (c ∷ cs) = (
+  record {
+    form = refl;
+    element = refl;
+    rows = ap (λ rs. row_numbers p s [] rs c.rows) (none-among (interface s) plain (path_to (interface s) c.element));
+    marks = refl;
+    value = refl;
+    items = refl;
+  },
+  copies-seen p s plain cs,
+)
 
 pub are-shown : (p : Profile) (s : State) (cs : List Copy) (xs : List Seen) → is_plain (interface s) ≡ true → s.controls ≡ cs → xs ≡ map shown_of cs
     → AreCopies p s (interface s) (filter (λ c. has_line (element_at (interface s) c.element).sort) s.controls) xs

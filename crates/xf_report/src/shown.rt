@@ -18,10 +18,7 @@ use xf_name::Word;
 use xf_ui::Marks;
 
 /// The copies of a plain form as they are printed: none of them stands in a row, and each has a line.
-pub fn shown_copies(
-    alloc: Global,
-    copies: &ControlList,
-) -> Result<Vec<ShownCopy<'_>>, AllocError>
+pub fn shown_copies(alloc: Global, copies: &ControlList) -> Result<Vec<ShownCopy<'_>>, AllocError>
     ensures { IfOk result (λ shown. (p : Profile) (s : State) → is_plain (interface s) ≡ true → s.controls ≡ map controls.seen_copy copies.now → AreCopies p s (interface s) (filter (λ c. has_line (element_at (interface s) c.element).sort) s.controls) (map seen_copy shown.items)) }
 {
     all_shown(alloc, copies.as_slice())
