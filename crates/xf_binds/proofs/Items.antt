@@ -39,7 +39,7 @@ seat-there items held n p seat j view h e =
     let same : length held ≡ length items = ap length (sym view) ∙ length-map items held_of in
     subst (λ m. j < m) same k
 
-item-there : (items : List Item) (held : List Held) (j : ℕ) (item : Item) → holds items ≡ held → j < length items → item ≡ get_or items j item → slice_get held j ≡ Some (held_of item)
+pub item-there : (items : List Item) (held : List Held) (j : ℕ) (item : Item) → holds items ≡ held → j < length items → item ≡ get_or items j item → slice_get held j ≡ Some (held_of item)
 item-there items held j item view within is =
     ap (λ l. slice_get l j) (sym view) ∙ slice_get-map held_of items j ∙ ap (option_map held_of) (slice_get_read items (length items) j item refl within is)
 

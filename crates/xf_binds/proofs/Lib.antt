@@ -7,3 +7,4 @@ pub mod Seats
 pub mod Counts
 pub mod Tellings
 pub mod Sinces
+pub mod Onlys

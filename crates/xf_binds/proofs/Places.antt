@@ -266,7 +266,7 @@ held-some n p held seat j h e =
 
 -- the same attribute of the same bind
 
-same-on : (e : applied.Entry) (h : Held) → held_as e h ≡ (held_on e.node e.property h && (e.bind == h.entry.bind))
+pub same-on : (e : applied.Entry) (h : Held) → held_as e h ≡ (held_on e.node e.property h && (e.bind == h.entry.bind))
 same-on e h =
     ap (λ b. (b && is_property e.property h.entry.property) && (e.bind == h.entry.bind)) (turned e.node h.entry.node)
     ∙ ap (λ b. ((h.entry.node == e.node) && b) && (e.bind == h.entry.bind)) (property-turned e.property h.entry.property)
@@ -274,7 +274,7 @@ same-on e h =
     turned : (a b : ℕ) → (a == b) ≡ (b == a)
     turned a b = grind (arith, nat_tests)
 
-and-first : (a b : Bool) → (a && b) ≡ true → a ≡ true
+pub and-first : (a b : Bool) → (a && b) ≡ true → a ≡ true
 and-first true b h = refl
 and-first false b h = h
 

@@ -31,6 +31,10 @@ eq-same a b h = eqb-true a b h
 computed-same : (e other : Entry) → is_computed e ≡ true → is_property e.property other.property ≡ true → is_computed other ≡ true
 computed-same e other c h = ap (λ k. not (k == 0)) (sym (eq-same (place_of e.property) (place_of other.property) h)) ∙ c
 
+pub computed-held : (e : Entry) (h : Held) → is_computed e ≡ true → held_as e h ≡ true → is_computed h.entry ≡ true
+computed-held e h c s =
+    computed-same e h.entry c (and-right (e.node == h.entry.node) (is_property e.property h.entry.property) (and-left ((e.node == h.entry.node) && is_property e.property h.entry.property) (e.bind == h.entry.bind) s))
+
 pub computed-on : (n : ℕ) (p : Property) (e : Entry) → is_property p Kind ≡ false → sets_on n p e ≡ true → is_computed e ≡ true
 computed-on n p e c h = ap (λ k. not (k == 0)) (eq-same (place_of e.property) (place_of p) (and-right (e.node == n) (is_property e.property p) h)) ∙ ap not c
 
@@ -47,12 +51,9 @@ pub truth-stood : (held : List Held) (e : Entry) → is_computed e ≡ true → 
 truth-stood held e c =
     ap (λ v. option_map truth_of (option_and_then (λ w. w.value) v))
     (find-map valued_of (λ v. is_same e v.entry) (filter (λ h. is_computed h.entry) held)
-    ∙ ap (option_map valued_of) (find-filter (held_as e) (λ h. is_computed h.entry) (λ h s. same h s) held))
+    ∙ ap (option_map valued_of) (find-filter (held_as e) (λ h. is_computed h.entry) (λ h s. computed-held e h c s) held))
     ∙ by (held_same held e)
   where
-    same : (h : Held) → held_as e h ≡ true → is_computed h.entry ≡ true
-    same h s = computed-same e h.entry c (and-right (e.node == h.entry.node) (is_property e.property h.entry.property) (and-left ((e.node == h.entry.node) && is_property e.property h.entry.property) (e.bind == h.entry.bind) s))
-
     by : (o : Option Held) → option_map truth_of (option_and_then (λ w. w.value) (option_map valued_of o)) ≡ option_and_then (λ h. h.truth) o
     by None = refl
     by (Some h) = truth-back h

@@ -1,5 +1,6 @@
 -- The entries and types that the binds of a model set, each with the truth that its value had, and where those of a node stand among them.
-use Rattle.std.specs.Prelude.{ℕ, suc, ◌≡◌, Bool, false, List, [], ◌∷◌, map, find, Option, Some, None, option_map, slice_get, nat_eq, ◌==◌, if◌then◌else◌}
+use Rattle.std.specs.Prelude.{ℕ, suc, ◌≡◌, Bool, false, ◌&&◌, List, [], ◌∷◌, map, find, Option, Some, None, option_map, slice_get, nat_eq, ◌==◌, if◌then◌else◌}
+use Rattle.std.specs.List.{list_any}
 use Rattle.indexmap.specs.IndexMap.{IndexMap, get}
 use Rattle.xf_model.specs.declared.property.Property.{Property}
 use Rattle.xf_model.specs.declared.property.Property.TheVariants.{Kind, Calculate, Relevant, Readonly, Required, Constraint}
@@ -99,3 +100,7 @@ passes test (Some x) = test x
 -- the seat is the one place at which the property of the node is set: so no property of a node is set twice
 abbrev pub IsSeated : {S : Type 0} → List Held → IndexMap ℕ Seats S → Type 0
 IsSeated held seats = (n : ℕ) (p : Property) (i : ℕ) → is_seat (seat_in (get nat_eq seats n) p) i ≡ passes (held_on n p) (slice_get held i)
+
+-- where one entry at most is the same attribute of the same bind for the same node, this is it
+abbrev pub IsOnly : List applied.Entry → applied.Entry → Option applied.Entry → Type 0
+IsOnly entries e found = (test : applied.Entry → Bool) → list_any (λ old. is_same e old && test old) entries ≡ passes test found

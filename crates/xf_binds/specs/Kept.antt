@@ -70,6 +70,10 @@ valued_of h = record { entry = h.entry; value = option_map Truth h.truth }
 abbrev pub valued_in : List Held → List Valued
 valued_in held = map valued_of (filter (λ h. is_computed h.entry) held)
 
+-- the entries that have one
+abbrev pub entries_of : List Valued → List Entry
+entries_of values = map (λ v. v.entry) values
+
 -- those that stood, where the present ones may be the same
 abbrev pub stood_of : List Held → Option (List Held) → List Held
 stood_of present None = present

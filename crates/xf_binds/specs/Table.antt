@@ -18,6 +18,10 @@ abbrev pub web_or : Option (List Asks) → List Asks
 web_or None = []
 web_or (Some web) = web
 
+abbrev pub nodes_or : Option (List ℕ) → List ℕ
+nodes_or None = []
+nodes_or (Some nodes) = nodes
+
 -- another is kept of one model
 abbrev pub with_kept : List Kept → ℕ → Kept → List Kept
 with_kept table model kept = slice_set table model kept

@@ -6,7 +6,7 @@ ghost use Rattle.std.specs.List.{list_any};
 ghost use Rattle.xf_model.specs.Applied.{sets_same};
 ghost use Rattle.xf_model.specs.Entries.{is_computed};
 ghost use Rattle.xf_binds.specs.Kept.{truth_from, valued_in};
-ghost use Rattle.xf_binds.specs.Held.{entries_in, entry_of, held_at, held_by, held_of, held_on, held_same, holds, is_seat, newly_held, passes, place_on, seats_or};
+ghost use Rattle.xf_binds.specs.Held.{IsOnly, entries_in, entry_of, held_at, held_by, held_of, held_on, held_same, holds, is_seat, newly_held, passes, place_on, seats_or};
 ghost use Rattle.indexmap.specs.IndexMap.{get};
 
 use crate::entry::{Entry, Item, Seats};
@@ -104,6 +104,23 @@ impl Applied {
                 let item = self.items[seat];
                 if item.entry.bind == entry.bind {
                     Some(item)
+                } else {
+                    None
+                }
+            }
+            None => None,
+        }
+    }
+
+    /// The same: there is one at most.
+    pub(crate) fn only(&self, entry: &Entry) -> Option<Entry>
+        ensures { IsOnly (entries_in self.now) (entry_of entry.now) (option_map entry_of result) }
+    {
+        match self.seat(entry.node, entry.property) {
+            Some(seat) => {
+                let item = self.items[seat];
+                if item.entry.bind == entry.bind {
+                    Some(item.entry)
                 } else {
                     None
                 }

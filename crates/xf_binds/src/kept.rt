@@ -5,8 +5,8 @@ ghost use Rattle.xf_doc.specs.Visit.{has};
 ghost use Rattle.xf_model.specs.Applied.{is_property};
 ghost use Rattle.xf_model.specs.Entries.{is_computed};
 ghost use Rattle.xf_model.specs.Properties.{sets_on};
-ghost use Rattle.xf_binds.specs.Held.{entries_in, entry_of, held_by};
-ghost use Rattle.xf_binds.specs.Kept.{committed, no_kept, recalculated, rolled_back, stood_of, truth_from, truth_in};
+ghost use Rattle.xf_binds.specs.Held.{IsOnly, entries_in, entry_of, held_by};
+ghost use Rattle.xf_binds.specs.Kept.{committed, entries_of, no_kept, recalculated, rolled_back, stood_of, truth_from, truth_in};
 ghost use Rattle.xf_binds.specs.Since.{asks_in, built_more, is_told, marks_in, present_in, stood_since, told_more};
 
 use crate::applied::Applied;
@@ -140,6 +140,41 @@ impl Kept {
             Since::BuiltTold(now, _) => now.truth(entry),
             Since::Past(_, _, stood) => stood.truth(entry),
         }
+    }
+
+    /// The entry that the same attribute of the same bind gave to the same node at the last recalculation.
+    pub(crate) fn stood(&self, entry: &Entry) -> Option<Entry>
+        requires { is_computed (entry_of entry.now) ≡ true }
+        ensures { IsOnly (entries_of self.now.stood) (entry_of entry.now) (option_map entry_of result) }
+    {
+        match &self.since {
+            Since::Nothing => stood_in(&self.stood, &self.present).only(entry),
+            Since::Told(_) => self.present.only(entry),
+            Since::Built(_, _) => stood_in(&self.stood, &self.present).only(entry),
+            Since::ToldBuilt(_, _, _) => self.present.only(entry),
+            Since::BuiltTold(now, _) => now.only(entry),
+            Since::Past(_, _, stood) => stood.only(entry),
+        }
+    }
+
+    /// The nodes that have another text since the last recalculation.
+    pub(crate) fn texts(&self) -> &NodeList
+        ensures { result.now ≡ self.now.texts }
+    {
+        if is_told(&self.since) {
+            return &self.late_texts;
+        }
+        &self.texts
+    }
+
+    /// The nodes in whose list of attributes and children one came or went since.
+    pub(crate) fn lists(&self) -> &NodeList
+        ensures { result.now ≡ self.now.lists }
+    {
+        if is_told(&self.since) {
+            return &self.late_lists;
+        }
+        &self.lists
     }
 
     /// The node's entry of this property.

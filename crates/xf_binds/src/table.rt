@@ -1,14 +1,15 @@
 //! What is kept of all models.
 
-ghost use Rattle.std.specs.Prelude.{◌≡◌, ◌<◌, ◌-◌, ◌^◌, [], ◌∷◌, ◌++◌, false, find, length, min, replicate, option_map, slice_get, slice_index_or, IfOk, OnOk, OnErr};
+ghost use Rattle.std.specs.Prelude.{◌≡◌, ◌<◌, ◌-◌, ◌^◌, [], ◌∷◌, ◌++◌, false, true, find, length, min, replicate, option_map, slice_get, slice_index_or, IfOk, OnOk, OnErr};
 ghost use Rattle.std.specs.List.{list_any};
 ghost use Rattle.xf_doc.specs.Visit.{has};
 ghost use Rattle.xf_model.specs.Applied.{is_property};
+ghost use Rattle.xf_model.specs.Entries.{is_computed};
 ghost use Rattle.xf_model.specs.Properties.{sets_on};
 ghost use Rattle.xf_binds.specs.Asked.{asked_by_all, asked_of, asking};
-ghost use Rattle.xf_binds.specs.Held.{entries_in, entry_of};
-ghost use Rattle.xf_binds.specs.Kept.{no_kept, recalculated, truth_in};
-ghost use Rattle.xf_binds.specs.Table.{all_committed, all_rolled_back, held_or, kept_at, truth_among, web_or, with_kept};
+ghost use Rattle.xf_binds.specs.Held.{IsOnly, entries_in, entry_of};
+ghost use Rattle.xf_binds.specs.Kept.{entries_of, no_kept, recalculated, truth_in};
+ghost use Rattle.xf_binds.specs.Table.{all_committed, all_rolled_back, held_or, kept_at, nodes_or, truth_among, web_or, with_kept};
 
 use crate::applied::Applied;
 use crate::entry::Entry;
@@ -18,7 +19,7 @@ use crate::truth_list::TruthList;
 use crate::web::{Asks, Web};
 use std::alloc::{AllocError, Global};
 use std::marker::Model;
-use xf_doc::NodeId;
+use xf_doc::{NodeId, NodeList};
 use xf_model::Property;
 
 /// What the binds of each model set, the values of these entries, the nodes that are not valid, and the marks of what has changed
@@ -134,6 +135,37 @@ impl Table {
     {
         match self.models.get(model as usize) {
             Some(kept) => kept.entry_on(node, property),
+            None => None,
+        }
+    }
+
+    /// The entry that the same attribute of the same bind gave to the same node at the last recalculation of a model.
+    pub fn stood(&self, model: u32, entry: &Entry) -> Option<Entry>
+        requires { is_computed (entry_of entry.now) ≡ true }
+        ensures { IsOnly (entries_of (kept_at self.now model).stood) (entry_of entry.now) (option_map entry_of result) }
+    {
+        match self.models.get(model as usize) {
+            Some(kept) => kept.stood(entry),
+            None => None,
+        }
+    }
+
+    /// The nodes of a model that have another text since its last recalculation.
+    pub fn texts(&self, model: u32) -> Option<&NodeList>
+        ensures { nodes_or (option_map (λ n. n.now) result) ≡ (kept_at self.now model).texts }
+    {
+        match self.models.get(model as usize) {
+            Some(kept) => Some(kept.texts()),
+            None => None,
+        }
+    }
+
+    /// Those in whose list of attributes and children one came or went since.
+    pub fn lists(&self, model: u32) -> Option<&NodeList>
+        ensures { nodes_or (option_map (λ n. n.now) result) ≡ (kept_at self.now model).lists }
+    {
+        match self.models.get(model as usize) {
+            Some(kept) => Some(kept.lists()),
             None => None,
         }
     }

@@ -6,3 +6,4 @@ pub mod NodeLaws
 pub mod StateLaws
 pub mod WordLemmas
 pub mod ShownLaws
+pub mod PathLaws

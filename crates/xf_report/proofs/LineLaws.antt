@@ -33,7 +33,7 @@ pair-for : (s : State) (place : ℕ) (o : Option Instance) → pair_by s place (
 pair-for s place None = refl
 pair-for s place (Some i) = refl
 
-pair-is : (s : State) (place : ℕ) → pair_at s place ≡ pair_among (instances_in s) place
+pub pair-is : (s : State) (place : ℕ) → pair_at s place ≡ pair_among (instances_in s) place
 pair-is s place = pair-for s place (slice_get (instances_in s) place)
 
 -- ---- one node
@@ -42,7 +42,7 @@ elements-same : (s : State) (o : Option ℕ) → has_elements_in s o ≡ has_ele
 elements-same s None = refl
 elements-same s (Some n) = refl
 
-path-is : (s : State) (n place : ℕ) → instance_holding s n ≡ Some place → path_in s n ≡ braced (pair_at s place) ++ path_of n (all_in s)
+pub path-is : (s : State) (n place : ℕ) → instance_holding s n ≡ Some place → path_in s n ≡ braced (pair_at s place) ++ path_of n (all_in s)
 path-is s n place h = ap (λ o. before_path s o ++ path_of n (all_in s)) h
 
 line-same : (s : State) (m : ℕ → Marks) (place : ℕ) (x : Visit) (content : Content) → ((n : ℕ) → marks_in s n ≡ m n) → found x.number (all_in s) ≡ Some x → instance_holding s x.number ≡ Some place

@@ -56,7 +56,7 @@ gone m root x xs h k e = by (m == root) refl
     by true i = no (sym (not-true (has_number x.number xs) h) ∙ ap (λ n. has_number n xs) (eqb-true x.number m e ∙ eqb-true m root i) ∙ k)
 
 -- a node is the root of an instance exactly where it is the one with that place
-is-root : (place m root : ℕ) (nodes : List Node) → are_apart nodes ≡ true → root_of place nodes ≡ Some root → is_place place (instance_of m nodes) ≡ (m == root)
+pub is-root : (place m root : ℕ) (nodes : List Node) → are_apart nodes ≡ true → root_of place nodes ≡ Some root → is_place place (instance_of m nodes) ≡ (m == root)
 is-root zero m root [] h e = none-some e
 is-root (suc place) m root [] h e = none-some e
 is-root zero m root (x ∷ xs) h e = by (is_root x.content) e (is-root zero m root xs parts.1)
@@ -91,7 +91,7 @@ is-root (suc place) m root (x ∷ xs) h e = by (is-root place m root xs parts.1)
     by past same false i = same i
 
 -- without such a root no node has this place
-no-root : (place m : ℕ) (nodes : List Node) → root_of place nodes ≡ None → is_place place (instance_of m nodes) ≡ false
+pub no-root : (place m : ℕ) (nodes : List Node) → root_of place nodes ≡ None → is_place place (instance_of m nodes) ≡ false
 no-root zero m [] e = refl
 no-root (suc place) m [] e = refl
 no-root zero m (x ∷ xs) e = by (no-root zero m xs) (is_root x.content) e

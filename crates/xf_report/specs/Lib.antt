@@ -2,6 +2,7 @@ pub mod Answers
 pub mod Controls
 pub mod Lines
 pub mod Named
+pub mod Paths
 pub mod Refusals
 pub mod States
 pub mod Shown

@@ -106,7 +106,7 @@ fn push_pair(text: &mut String, pair: (u64, u64)) -> Result<(), AllocError>
 }
 
 /// What stands before the paths of the nodes of an instance.
-fn braces_of(alloc: Global, pair: (u64, u64)) -> Result<String, AllocError>
+pub(crate) fn braces_of(alloc: Global, pair: (u64, u64)) -> Result<String, AllocError>
     ensures { IfOk result (λ text. string_bytes text ≡ braced pair) }
 {
     let mut text = String::new(alloc);

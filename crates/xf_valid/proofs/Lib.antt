@@ -3,3 +3,4 @@ pub mod Inherited
 pub mod InvalidLemmas
 pub mod Told
 pub mod Pieces
+pub mod Dead

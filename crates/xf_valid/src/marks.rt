@@ -33,10 +33,10 @@ pub fn marks_of(
     ensures { IfOk result (λ marks. marks.items ≡ map (marks_in table.now forest.now.forest.nodes) nodes.now) }
 {
     let mut marks = Vec::with_capacity(alloc, nodes.len())?;
-    let mut open = Vec::new(alloc);
+    let mut chain = Vec::new(alloc);
     for node in nodes.as_slice() {
-        let passed = pass(forest, table, *node, &mut open);
-        open.push(passed)?;
+        let passed = pass(forest, table, *node, &mut chain);
+        chain.push(passed)?;
         marks.push(Marks {
             relevant: passed.relevant,
             readonly: passed.readonly,
@@ -48,10 +48,10 @@ pub fn marks_of(
 }
 
 /// What a node has, by what its parent has: those that were passed are left where its parent is the last one.
-fn pass(forest: &Forest, table: &Table, node: NodeId, open: &mut Vec<Passed>) -> Passed
+fn pass(forest: &Forest, table: &Table, node: NodeId, chain: &mut Vec<Passed>) -> Passed
     requires live { IsLive node.number forest.now.forest }
-    requires told { AreTold table.now forest.now.forest.nodes open.old.items }
-    ensures told { AreTold table.now forest.now.forest.nodes open.new.items }
+    requires told { AreTold table.now forest.now.forest.nodes chain.old.items }
+    ensures told { AreTold table.now forest.now.forest.nodes chain.new.items }
     ensures node { result.node ≡ node }
     ensures relevant { result.relevant ≡ relevant_in table.now forest.now.forest.nodes node.number }
     ensures readonly { result.readonly ≡ readonly_in table.now forest.now.forest.nodes node.number }
@@ -61,7 +61,7 @@ fn pass(forest: &Forest, table: &Table, node: NodeId, open: &mut Vec<Passed>) ->
     let readonly = own_readonly(table, node);
     match forest.parent(node) {
         Some(parent) => {
-            let above = passed_at(forest, table, parent, open);
+            let above = passed_at(forest, table, parent, chain);
             Passed {
                 node,
                 relevant: both(relevant, above.relevant),
@@ -89,23 +89,23 @@ fn either(one: bool, other: bool) -> bool
 }
 
 /// What is known of a node: it is left the last of those that were passed, where it is one of them, and else none are left.
-fn passed_at(forest: &Forest, table: &Table, node: NodeId, open: &mut Vec<Passed>) -> Passed
+fn passed_at(forest: &Forest, table: &Table, node: NodeId, chain: &mut Vec<Passed>) -> Passed
     requires live { IsLive node.number forest.now.forest }
-    requires told { AreTold table.now forest.now.forest.nodes open.old.items }
-    ensures told { AreTold table.now forest.now.forest.nodes open.new.items }
+    requires told { AreTold table.now forest.now.forest.nodes chain.old.items }
+    ensures told { AreTold table.now forest.now.forest.nodes chain.new.items }
     ensures relevant { result.relevant ≡ relevant_in table.now forest.now.forest.nodes node.number }
     ensures readonly { result.readonly ≡ readonly_in table.now forest.now.forest.nodes node.number }
 {
-    let mut at = open.len();
+    let mut at = chain.len();
     while at > 0 {
         at -= 1;
-        let passed = open[at];
+        let passed = chain[at];
         if passed.node.number == node.number {
-            open.truncate(at + 1);
+            chain.truncate(at + 1);
             return passed;
         }
     }
-    open.clear();
+    chain.clear();
     Passed {
         node,
         relevant: is_relevant(forest, table, node),

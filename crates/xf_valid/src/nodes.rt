@@ -6,12 +6,13 @@ ghost use Rattle.xf_model.specs.Applied.{is_property};
 ghost use Rattle.xf_model.specs.Properties.{own, own_readonly};
 ghost use Rattle.xf_binds.specs.Kept.{values_in};
 ghost use Rattle.xf_binds.specs.Table.{truth_told};
-ghost use Rattle.xf_valid.specs.Nodes.{readonly_in, relevant_in, required_in, valid_in};
+ghost use Rattle.xf_valid.specs.Nodes.{marks_in, readonly_in, relevant_in, required_in, valid_in};
 
 use xf_binds::Table;
 use xf_doc::NodeId;
 use xf_model::Property;
 use xf_tree::Forest;
+use xf_ui::Marks;
 
 /// Whether it and all its ancestors are relevant (section 6.1.4). It costs one look for each of these.
 pub fn is_relevant(forest: &Forest, table: &Table, node: NodeId) -> bool
@@ -67,6 +68,26 @@ pub fn is_valid(table: &Table, node: NodeId) -> bool
     ensures { result ≡ valid_in table.now node.number }
 {
     !table.is_invalid(node)
+}
+
+/// All of them. A node that does not stand in the forest has nothing above it.
+pub fn marks_at(forest: &Forest, table: &Table, node: NodeId) -> Marks
+    ensures { result ≡ marks_in table.now forest.now.forest.nodes node.number }
+{
+    if !forest.is_live(node) {
+        return Marks {
+            relevant: own(table, node, Property::Relevant, true),
+            readonly: own_readonly(table, node),
+            required: is_required(table, node),
+            valid: is_valid(table, node),
+        };
+    }
+    Marks {
+        relevant: is_relevant(forest, table, node),
+        readonly: is_readonly(forest, table, node),
+        required: is_required(table, node),
+        valid: is_valid(table, node),
+    }
 }
 
 /// The truth that the node's own entry has.

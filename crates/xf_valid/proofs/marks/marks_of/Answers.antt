@@ -20,7 +20,7 @@ loop-node-preserved c =
     record {
       told =
           subst (AreTold table nodes) (sym c.in_ok-push.ensures.items)
-          (told-more table nodes c.pass-passed.new.open.items passed c.pass-passed.ensures.told
+          (told-more table nodes c.pass-passed.new.chain.items passed c.pass-passed.ensures.told
           (c.pass-passed.ensures.relevant ∙ ap (λ (n : NodeId). relevant_in table nodes n.number) (sym c.pass-passed.ensures.node))
           (c.pass-passed.ensures.readonly ∙ ap (λ (n : NodeId). readonly_in table nodes n.number) (sym c.pass-passed.ensures.node)));
       so_far =

@@ -6,6 +6,6 @@ use Rattle.xf_valid.proofs.marks.marks_of.Given as goal
 
 abbrev pub invariant-loop-node : goal.invariant-loop-node
 invariant-loop-node l = record {
-  told : AreTold l.table l.forest.forest.nodes l.open.items;
+  told : AreTold l.table l.forest.forest.nodes l.chain.items;
   so_far : l.marks.items ≡ map (marks_in l.table l.forest.forest.nodes) (numbers_of (take l.node-index l.node-items));
 }

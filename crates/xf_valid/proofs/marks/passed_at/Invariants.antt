@@ -4,8 +4,8 @@ use Rattle.xf_valid.proofs.marks.passed_at.Given as goal
 
 abbrev pub invariant-loop-at : goal.invariant-loop-at
 invariant-loop-at l = record {
-  within : l.at ≤ vec_len l.open;
-  told : AreTold l.table l.forest.forest.nodes l.open.items;
+  within : l.at ≤ vec_len l.chain;
+  told : AreTold l.table l.forest.forest.nodes l.chain.items;
 }
 
 abbrev pub decreases-loop-at : goal.decreases-loop-at
