@@ -29,15 +29,16 @@ pub record Like (s t : State) : Type 0 where
   pub indexes : t.indexes ≡ s.indexes
   pub cases : t.cases ≡ s.cases
   pub count : length t.models ≡ length s.models
+  pub accepted : t.accepted ≡ s.accepted
 
 abbrev pub KeepsLike : Run → Type 0
 KeepsLike run = (s t : State) → run s ≡ Ok t → Like s t
 
 pub like-same : (s : State) → Like s s
-like-same s = record { form = refl; indexes = refl; cases = refl; count = refl }
+like-same s = record { form = refl; indexes = refl; cases = refl; count = refl; accepted = refl }
 
 pub like-then : (s t u : State) → Like s t → Like t u → Like s u
-like-then s t u h k = record { form = k.form ∙ h.form; indexes = k.indexes ∙ h.indexes; cases = k.cases ∙ h.cases; count = k.count ∙ h.count }
+like-then s t u h k = record { form = k.form ∙ h.form; indexes = k.indexes ∙ h.indexes; cases = k.cases ∙ h.cases; count = k.count ∙ h.count; accepted = k.accepted ∙ h.accepted }
 
 abbrev fine : State → Result State Refused
 fine s = Ok s
@@ -51,7 +52,7 @@ changed-length change zero (m ∷ ms) = refl
 changed-length change (suc k) (m ∷ ms) = ap suc (changed-length change k ms)
 
 pub model-like : (change : Model → Model) (model : ℕ) (s : State) → Like s (in_model change model s)
-model-like change model s = record { form = refl; indexes = refl; cases = refl; count = changed-length change model s.models }
+model-like change model s = record { form = refl; indexes = refl; cases = refl; count = changed-length change model s.models; accepted = refl }
 
 -- ---- one after the other
 
@@ -69,7 +70,7 @@ keeps-turn run (x ∷ xs) k s t e = keeps-then (run x s) (in_turn run xs) s t (�
 
 spent-like : (k : ℕ) (s t : State) → spent_from k s ≡ Ok t → Like s t
 spent-like zero s t e = cc
-spent-like (suc k) s t e = ends s t (record s { turns = k }) (record { form = refl; indexes = refl; cases = refl; count = refl }) e
+spent-like (suc k) s t e = ends s t (record s { turns = k }) (record { form = refl; indexes = refl; cases = refl; count = refl; accepted = refl }) e
 
 pub spend-keeps : KeepsLike spend
 spend-keeps s t e = spent-like s.turns s t e
@@ -98,7 +99,7 @@ passed-like (word ∷ words) s t after h e = cc
 
 pub recalculate-keeps : (p : Profile) (model : ℕ) → KeepsLike (recalculate p model)
 recalculate-keeps p model s t e =
-    passed-like _ s t _ (record { form = refl; indexes = refl; cases = refl; count = changed-length _ model s.models }) e
+    passed-like _ s t _ (record { form = refl; indexes = refl; cases = refl; count = changed-length _ model s.models; accepted = refl }) e
 
 pub revalidate-keeps : (p : Profile) (model : ℕ) → KeepsLike (λ s. Ok (revalidate p model s))
 revalidate-keeps p model s t e = ends s t (revalidate p model s) (model-like _ model s) e
@@ -112,13 +113,13 @@ due-keeps p model s t e =
 -- ---- a text that is set
 
 grown_past-like : (words : List LimitWord) (forest : Forest) (s m t u : State) → Like s u → grown_to (unless_passed m words (forest, u)) ≡ Ok t → Like s t
-grown_past-like [] forest s m t u h e = ends s t (with_forest forest u) (record { form = h.form; indexes = h.indexes; cases = h.cases; count = h.count }) e
+grown_past-like [] forest s m t u h e = ends s t (with_forest forest u) (record { form = h.form; indexes = h.indexes; cases = h.cases; count = h.count; accepted = h.accepted }) e
 grown_past-like (word ∷ words) forest s m t u h e = cc
 
 grown-like : (p : Profile) (count : ℕ) (r : Result Forest TreeFault) (m s t : State) → Like s m → grown_to (grown p count r m) ≡ Ok t → Like s t
 grown-like p count (Err fault) m s t h e = cc
 grown-like p count (Ok forest) m s t h e =
-    grown_past-like (over_made p (m.made + count)) forest s m t (record m { made = m.made + count }) (record { form = h.form; indexes = h.indexes; cases = h.cases; count = h.count }) e
+    grown_past-like (over_made p (m.made + count)) forest s m t (record m { made = m.made + count }) (record { form = h.form; indexes = h.indexes; cases = h.cases; count = h.count; accepted = h.accepted }) e
 
 some-like : (change : Model → Model) (o : Option ℕ) (s : State) → Like s (in_some_model change o s)
 some-like change None s = like-same s
@@ -138,13 +139,13 @@ bound-keeps p text (Some n) s t e = parent-keeps _ n (set_text p n text) (text-k
 -- ---- of the construction
 
 rooted-past-like : (words : List LimitWord) (top : ℕ) (forest : Forest) (m s t u : State) → Like s u → rooted (unless_passed m words ((top, forest), u)) ≡ Ok t → Like s t
-rooted-past-like [] top forest m s t u h e = ends s t (with_forest (with_root top forest).1 u) (record { form = h.form; indexes = h.indexes; cases = h.cases; count = h.count }) e
+rooted-past-like [] top forest m s t u h e = ends s t (with_forest (with_root top forest).1 u) (record { form = h.form; indexes = h.indexes; cases = h.cases; count = h.count; accepted = h.accepted }) e
 rooted-past-like (word ∷ words) top forest m s t u h e = cc
 
 rooted-like : (p : Profile) (count : ℕ) (r : Result (ℕ × Forest) TreeFault) (s t : State) → rooted (grown p count r s) ≡ Ok t → Like s t
 rooted-like p count (Err fault) s t e = cc
 rooted-like p count (Ok (top, forest)) s t e =
-    rooted-past-like (over_made p (s.made + count)) top forest s s t (record s { made = s.made + count }) (record { form = refl; indexes = refl; cases = refl; count = refl }) e
+    rooted-past-like (over_made p (s.made + count)) top forest s s t (record s { made = s.made + count }) (record { form = refl; indexes = refl; cases = refl; count = refl; accepted = refl }) e
 
 pub document-keeps : (p : Profile) (contents : List (ℕ × Content)) → KeepsLike (plant_document p contents)
 document-keeps p contents s t e = rooted-like p _ _ s t e

@@ -88,9 +88,9 @@ shown-keeps : (p : Profile) (r : Result (List Copy) Refused) (s t : State)
 shown-keeps p (Err x) s t e = cc
 shown-keeps p (Ok list) s t e =
     let h = spend-for-keeps (notifications s.controls list) (all_cleared (record s { controls = list })) t e in
-    record { form = h.form; indexes = h.indexes; cases = h.cases; count = h.count ∙ length-map s.models no_refresh }
+    record { form = h.form; indexes = h.indexes; cases = h.cases; count = h.count ∙ length-map s.models no_refresh; accepted = h.accepted }
 
-round-keeps : (p : Profile) → KeepsLike (round_quietly p)
+pub round-keeps : (p : Profile) → KeepsLike (round_quietly p)
 round-keeps p s t e =
     keeps-then (in_turn (due_revalidation p) (counted_from 0 (length s.models)) s) _ s t
     (λ u q. keeps-turn (due_revalidation p) _ (due-keeps p) s u q)
@@ -99,7 +99,7 @@ round-keeps p s t e =
 spent-rounds : (k : ℕ) (s : State) (once other : Run) (next more : Run) → ((t : State) → Like s t → (once t >>= next) ≡ (other t >>= more))
     → spent_from k s >>= once >>= next ≡ spent_from k s >>= other >>= more
 spent-rounds zero s once other next more h = refl
-spent-rounds (suc k) s once other next more h = h (record s { turns = k }) (record { form = refl; indexes = refl; cases = refl; count = refl })
+spent-rounds (suc k) s once other next more h = h (record s { turns = k }) (record { form = refl; indexes = refl; cases = refl; count = refl; accepted = refl })
 
 swap : {A : Type 0} (r q : Result A Refused) (f g : A → Result State Refused) → r ≡ q → ((t : A) → q ≡ Ok t → f t ≡ g t) → r >>= f ≡ q >>= g
 swap r q f g e h = ap (λ x. x >>= f) e ∙ then-same q f g h
@@ -112,6 +112,15 @@ rounds-same (suc k) once other same keeps s q =
     (spent-rounds s.turns s once other (rounds k once) (rounds k other)
     (λ t l. swap (once t) (other t) (rounds k once) (rounds k other) (same t (quiet-like s t q l))
     (λ u e. rounds-same k once other same keeps u (quiet-like t u (quiet-like s t q l) (keeps t u e)))))
+
+rounds-keep : (k : ℕ) (once : Run) → KeepsLike once → KeepsLike (rounds k once)
+rounds-keep zero once h s t e = cc
+rounds-keep (suc k) once h s t e =
+    keeps-when (is_due s) _
+    (λ u v q. keeps-then (spend u >>= once) (rounds k once) u v (λ w r. keeps-then (spend u) once u w (λ x y. spend-keeps u x y) h r) (rounds-keep k once h) q) s t e
+
+pub update-keeps : (p : Profile) → KeepsLike (update_quietly p)
+update-keeps p s t e = rounds-keep (suc s.turns) (round_quietly p) (round-keeps p) s t e
 
 pub updates_quietly : UpdatesQuietly
 updates_quietly p s st q =
@@ -140,7 +149,7 @@ tried-then false true c s next h = refl
 tried-then false false true s next h = refl
 tried-then false false false s next h = h
 
-tried-is : (a b c : Bool) (s t : State) → unless a disabled s >>= unless b readonly >>= unless c not_an_item ≡ Ok t → Like s t
+pub tried-is : (a b c : Bool) (s t : State) → unless a disabled s >>= unless b readonly >>= unless c not_an_item ≡ Ok t → Like s t
 tried-is true b c s t e = cc
 tried-is false true c s t e = cc
 tried-is false false true s t e = cc
@@ -224,7 +233,7 @@ built-rests : (r : Result State Refused) (p : Profile) (t : State) → ((u : Sta
 built-rests (Err x) p t h e = cc
 built-rests (Ok u) p t h e = shown-rests (shown p u) u t (h u refl).0 (h u refl).1 e
 
-constructed-rests : (p : Profile) (form : Program) (answers : Option (List Answer)) → IsQuiet form.interface → (t : State)
+pub constructed-rests : (p : Profile) (form : Program) (answers : Option (List Answer)) → IsQuiet form.interface → (t : State)
     → construct_quietly p form answers ≡ Ok t → Quiet t × NoneDue t
 unfolding builds_in
 constructed-rests p form answers q t e =
@@ -232,7 +241,7 @@ constructed-rests p form answers q t e =
     (λ u r. (quiet-like (unbuilt p form answers) u (unbuilt-quiet p form answers q) (built-like p form answers u r), built-none p form answers u r))
     (bind-assoc (in_turn (plant_document p) form.documents (unbuilt p form answers)) (builds_in p) (first_shown p) ∙ e)
 
-tells-same : (p : Profile) (name : List ℕ) (ms : List ℕ) (s : State) → HasSteps p → Idle name → handlers (interface s) ≡ [] → NoneDue s
+pub tells-same : (p : Profile) (name : List ℕ) (ms : List ℕ) (s : State) → HasSteps p → Idle name → handlers (interface s) ≡ [] → NoneDue s
     → in_turn (tell_model p name) ms s ≡ spend_for ms s
 tells-same p name [] s st i h n = refl
 tells-same p name (m ∷ ms) s st i h n =
@@ -241,13 +250,13 @@ tells-same p name (m ∷ ms) s st i h n =
     ∙ spent-then s.turns s _ _ (λ t. tells-same p name ms (record s { turns = t }) st i h n)
 
 -- a run whose result has still nothing due and the same form
-abbrev Rests : Result State Refused → Type 0
+abbrev pub Rests : Result State Refused → Type 0
 Rests r = (t : State) → r ≡ Ok t → Quiet t × NoneDue t
 
-told-model : (p : Profile) (name : List ℕ) → HasSteps p → Idle name → (r : Result State Refused) → Rests r → r >>= tell_models p name ≡ r >>= spend_by_model
+pub told-model : (p : Profile) (name : List ℕ) → HasSteps p → Idle name → (r : Result State Refused) → Rests r → r >>= tell_models p name ≡ r >>= spend_by_model
 told-model p name st i r h = then-same r _ _ (λ t e. tells-same p name (counted_from 0 (length t.models)) t st i ((h t e).0).form.unheard (h t e).1)
 
-spends-rest : (r : Result State Refused) → Rests r → Rests (r >>= spend_by_model)
+pub spends-rest : (r : Result State Refused) → Rests r → Rests (r >>= spend_by_model)
 spends-rest (Err x) h t e = cc
 spends-rest (Ok s) h t e =
     let k = h s refl in
