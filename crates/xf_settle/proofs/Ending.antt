@@ -1,6 +1,6 @@
 -- What stands once all calculates were written: the entries have the truths of their values over it, and what limits it passes, the settled
 -- texts pass.
-use Rattle.std.proofs.Common.{◌≡◌, ℕ, ◌+◌, ◌^◌, ◌<◌, Bool, true, false, cond, not, ◌||◌, ◌&&◌, List, [], ◌∷◌, ◌++◌, map, length, Option, Some, None, option_map, nat_lt, refl, sym, ap, ◌∙◌, subst, inl, inr}
+use Rattle.std.proofs.Common.{◌≡◌, ℕ, ◌+◌, ◌^◌, ◌<◌, Bool, true, false, cond, not, ◌||◌, ◌&&◌, List, [], ◌∷◌, ◌++◌, map, length, Option, Some, None, nat_lt, refl, sym, ap, ◌∙◌, subst, inl, inr}
 use Rattle.std.specs.Prelude.{◌⊎◌, filter, fold, is_none, count_by, sum_by}
 use Rattle.std.specs.List.{list_any, list_all}
 use Rattle.xf_ast.specs.declared.form.Tables.{Tables}
@@ -31,13 +31,11 @@ use Rattle.xf_settle_laws.specs.Written.{written}
 use Rattle.xf_settle_laws.proofs.MeasureLaws.{all_done}
 use Rattle.xf_machine_laws.proofs.WrittenContents.{all-written}
 use Rattle.xf_written_laws.proofs.TurnLaws.{all-kept, same-text, turn_passed}
-use Rattle.xf_form_machine.specs.Behave.{truly}
 use Rattle.xf_eval.specs.Live.{AroundStands}
 use Rattle.xf_binds.specs.Held.{held_by}
 use Rattle.xf_binds.specs.Kept.{valued_in}
 use Rattle.xf_settle.specs.declared.turn.Turn.{Turn}
 use Rattle.xf_settle.specs.declared.fault.SettleFault.{SettleFault}
-use Rattle.xf_settle.specs.declared.fault.SettleFault.TheVariants.{Long, Text, Nodes, AllTexts, Memory}
 use Rattle.xf_settle.specs.Settles.{IsSettled, IsTold, MaySettle, contents_in, fault_of, scope_in, tells_all, tells_nodes, word_of, words_of}
 use Rattle.xf_settle.specs.Turns.{AreTurns, entry_in, found_over, is_there}
 use Rattle.xf_settle.specs.Whole.{IsWritten}

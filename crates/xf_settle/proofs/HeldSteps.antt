@@ -1,5 +1,5 @@
 -- The entries of a model, one after the other, and the truths of their values.
-use Rattle.std.proofs.Common.{◌≡◌, ℕ, zero, suc, ◌+◌, ◌<◌, ◌≤◌, Bool, true, false, cond, not, ◌&&◌, ◌||◌, List, [], ◌∷◌, ◌++◌, map, length, take, drop, get_or, Option, Some, None, option_map, slice_get, refl, sym, ap, ◌∙◌, arith}
+use Rattle.std.proofs.Common.{◌≡◌, ℕ, zero, suc, ◌+◌, Bool, true, false, cond, ◌&&◌, ◌||◌, List, [], ◌∷◌, ◌++◌, map, length, take, drop, Option, Some, None, option_map, slice_get, refl, sym, ap, ◌∙◌, arith}
 use Rattle.std.specs.Prelude.{filter, is_none}
 use Rattle.std.specs.List.{list_all, list_any}
 use Rattle.xf_doc.specs.declared.content.Node.{Node}
@@ -18,7 +18,7 @@ use Rattle.xf_model.specs.Applied.{Entry, is_calculate}
 use Rattle.xf_model.specs.Settled.{Valued, bounds, calculates, is_long, values_over}
 use Rattle.xf_binds.specs.Held.{Held, held_by}
 use Rattle.xf_binds.specs.Kept.{valued_in, valued_of}
-use Rattle.xf_settle.specs.Turns.{found_if, found_over, found_step, is_calculate_at, is_there, is_there_at, truth_if, truth_over}
+use Rattle.xf_settle.specs.Turns.{found_if, found_over, found_step, is_calculate_at, is_there, is_there_at, truth_if}
 
 plus-one : (k : ℕ) → k + 1 ≡ suc k
 plus-one k = omega arith

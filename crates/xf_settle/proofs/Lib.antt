@@ -1,6 +1,9 @@
 mod Values
 mod HeldSteps
 mod ListLemmas
+mod PlacedLists
+mod InOrder
 mod Turning
 mod Surroundings
 mod Ending
+mod Left

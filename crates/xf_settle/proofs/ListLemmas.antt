@@ -1,15 +1,14 @@
 -- Lists and their elements by place.
-use Rattle.std.proofs.Common.{◌≡◌, ℕ, zero, suc, ◌+◌, ◌<◌, ◌==◌, Bool, true, false, cond, not, ◌||◌, ◌&&◌, List, [], ◌∷◌, ◌++◌, map, length, Option, Some, None, option_map, slice_get, take, drop, get_or, refl, sym, ap, ◌∙◌, arith}
-use Rattle.std.specs.Prelude.{filter}
+use Rattle.std.proofs.Common.{◌≡◌, ℕ, zero, suc, ◌+◌, ◌<◌, ◌==◌, Bool, true, false, ◌||◌, List, [], ◌∷◌, ◌++◌, map, length, Some, option_map, slice_get, take, drop, get_or, refl, sym, ap, ◌∙◌}
 use Rattle.std.specs.List.{list_any}
 use Rattle.std.proofs.lemmas.Bool.{or_left, or_right, eq-eqb}
-use Rattle.std.proofs.lemmas.List.{take-append-drop, drop_more, take_more}
-use Rattle.xf_lang.proofs.VisitFacts.{no, none-some, some-same}
+use Rattle.std.proofs.lemmas.List.{take-append-drop, drop_more}
+use Rattle.xf_lang.proofs.VisitFacts.{none-some, some-same}
 use Rattle.xf_model.specs.Applied.{Entry}
 use Rattle.xf_model.specs.Pertinent.{AllOf}
 use Rattle.xf_model.proofs.EachLemmas.{each_then, each_both, of_each}
 use Rattle.xf_agree.specs.InTurn.{AreSingle}
-use Rattle.xf_agree.proofs.TurnLists.{each-none, all-later, none-any}
+use Rattle.xf_agree.proofs.TurnLists.{each-none, all-later}
 
 pub got-map : {X Y : Type 0} (f : X → Y) (xs : List X) (k : ℕ) (x : X) → slice_get xs k ≡ Some x → slice_get (map f xs) k ≡ Some (f x)
 got-map f [] k x h = none-some h

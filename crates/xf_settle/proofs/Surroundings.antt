@@ -1,5 +1,5 @@
 -- What surrounds the expressions of a form stands, whichever texts were written; and so do the nodes of its entries, each once for a property.
-use Rattle.std.proofs.Common.{◌≡◌, ℕ, ◌==◌, Bool, true, false, not, cond, ◌&&◌, ◌||◌, List, [], ◌∷◌, ◌++◌, map, find, Option, Some, None, option_map, refl, sym, ap, ◌∙◌, subst}
+use Rattle.std.proofs.Common.{◌≡◌, ℕ, ◌==◌, Bool, true, false, not, cond, ◌&&◌, ◌||◌, List, [], ◌∷◌, map, find, Some, None, option_map, refl, sym, ap, ◌∙◌}
 use Rattle.std.specs.Prelude.{unwrap_or}
 use Rattle.std.specs.List.{list_any, list_all}
 use Rattle.xf_ast.specs.declared.form.Tables.{Tables}
@@ -8,7 +8,7 @@ use Rattle.xf_doc.specs.declared.content.Content.{Content}
 use Rattle.xf_doc.specs.declared.content.Content.TheVariants as content
 use Rattle.xf_doc.specs.Forest.{Forest, has_number, is_text}
 use Rattle.xf_doc.specs.Visit.{Visit, still_above, visit, visits_from, visits}
-use Rattle.xf_doc.specs.Shape.{erased, has_elements, shape, without_text}
+use Rattle.xf_doc.specs.Shape.{erased, without_text}
 use Rattle.xf_funcs.specs.Called.{called}
 use Rattle.xf_lang.specs.declared.value.Value.TheVariants.{Nodes}
 use Rattle.xf_lang.specs.Asked.{found}
@@ -16,8 +16,7 @@ use Rattle.xf_lang.specs.Agree.{untexted}
 use Rattle.xf_lang.specs.Binding.{as_list}
 use Rattle.xf_lang.specs.Conversions.{nodes_of}
 use Rattle.xf_lang.specs.Given.{Document, Given, document_of, property_of}
-use Rattle.xf_lang.proofs.VisitFacts.{no, none-some}
-use Rattle.xf_model.specs.Rules.{Scope}
+use Rattle.xf_lang.proofs.VisitFacts.{none-some}
 use Rattle.xf_model.specs.Applied.{Entry}
 use Rattle.xf_model.specs.Settled.{Contents, bounds}
 use Rattle.xf_model.specs.Pertinent.{AllOf}
@@ -27,7 +26,7 @@ use Rattle.xf_agree.proofs.FormSettable.{entries_solid}
 use Rattle.xf_settle_laws.specs.Written.{written, MayWrite}
 use Rattle.xf_settle_laws.proofs.StillLaws.{solid-still}
 use Rattle.xf_eval.specs.Live.{AllLive, AroundStands}
-use Rattle.xf_settle.specs.Settles.{MaySettle, scope_in}
+use Rattle.xf_settle.specs.Settles.{MaySettle}
 use Rattle.xf_settle.specs.Turns.{is_there}
 
 or-right : (a b : Bool) → b ≡ true → (a || b) ≡ true

@@ -1,20 +1,19 @@
 -- What stands after some of the turns, and after one more.
-use Rattle.std.proofs.Common.{◌≡◌, ℕ, zero, suc, ◌+◌, ◌^◌, ◌<◌, ◌≤◌, ◌==◌, Bool, true, false, cond, not, ◌||◌, ◌&&◌, List, [], ◌∷◌, ◌++◌, map, length, Option, Some, None, option_map, slice_get, nat_lt, Result, Ok, Err, refl, sym, ap, ◌∙◌, subst, arith, inl, inr}
-use Rattle.std.specs.Prelude.{filter}
+use Rattle.std.proofs.Common.{◌≡◌, ℕ, suc, ◌+◌, ◌^◌, ◌<◌, ◌==◌, Bool, true, false, cond, ◌||◌, ◌&&◌, List, [], ◌∷◌, ◌++◌, map, length, Option, Some, None, slice_get, nat_lt, Ok, Err, refl, sym, ap, ◌∙◌, subst, arith}
 use Rattle.std.specs.List.{list_any, list_all}
-use Rattle.std.proofs.lemmas.Bool.{cases_Bool, eqb-true}
+use Rattle.std.proofs.lemmas.Bool.{eqb-true}
 use Rattle.std.proofs.lemmas.List.{length-map}
 use Rattle.std.proofs.lemmas.Option.{slice_get_within}
 use Rattle.xf_ast.specs.declared.form.Tables.{Tables}
 use Rattle.xf_doc.specs.declared.content.Node.{Node}
-use Rattle.xf_doc.specs.Forest.{Forest, is_text}
+use Rattle.xf_doc.specs.Forest.{Forest}
 use Rattle.xf_doc.specs.Limits.{limits}
 use Rattle.xf_doc.specs.Needs.{IsSettable}
 use Rattle.xf_doc.specs.Settle.{has_text, with_settled_text, with_numbered_text}
 use Rattle.xf_doc.specs.Visit.{Visit, has, visits}
 use Rattle.xf_funcs.specs.Called.{called}
 use Rattle.xf_lang.specs.Given.{Given}
-use Rattle.xf_lang.proofs.VisitFacts.{no, none-some, some-same}
+use Rattle.xf_lang.proofs.VisitFacts.{no, some-same}
 use Rattle.xf_model.specs.declared.property.Property.TheVariants.{Kind}
 use Rattle.xf_model.specs.Rules.{Scope}
 use Rattle.xf_model.specs.Applied.{Entry}
@@ -33,7 +32,7 @@ use Rattle.xf_settle_laws.specs.Written.{written, and_one, MayWrite}
 use Rattle.xf_settle_laws.proofs.Put.{with_one}
 use Rattle.xf_settle_laws.proofs.WrittenLaws.{one-more}
 use Rattle.xf_settle_laws.proofs.StillLaws.{settable-still}
-use Rattle.xf_settle_laws.proofs.MeasureLaws.{all_done, written-all, written-none}
+use Rattle.xf_settle_laws.proofs.MeasureLaws.{written-all, written-none}
 use Rattle.xf_machine_laws.proofs.WrittenContents.{all-written}
 use Rattle.xf_written_laws.specs.Turn.{AreTurned}
 use Rattle.xf_written_laws.proofs.TurnLaws.{turn, turn_writes, turn_text}
@@ -41,11 +40,11 @@ use Rattle.xf_form_machine.specs.Behave.{with_contents}
 use Rattle.xf_undo.specs.Draft.{Draft, IsUnused, with_reserved, with_settled}
 use Rattle.xf_settle.specs.declared.turn.Turn.{Turn}
 use Rattle.xf_settle.specs.declared.fault.SettleFault.{SettleFault}
-use Rattle.xf_settle.specs.declared.fault.SettleFault.TheVariants.{Long, Text, Nodes, AllTexts, Memory}
-use Rattle.xf_settle.specs.Settles.{MaySettle, IsTold, scope_in, contents_in, settled_forest, words_of}
+use Rattle.xf_settle.specs.declared.fault.SettleFault.TheVariants.{Long, Text}
+use Rattle.xf_settle.specs.Settles.{MaySettle, IsTold, scope_in, contents_in, words_of}
 use Rattle.xf_settle.specs.Turns.{AreTurns, entry_in, turned, written_once}
 use Rattle.xf_settle.specs.Whole.{IsWritten}
-use Rattle.xf_settle.proofs.ListLemmas.{got-map, slice-split, map-append, all-map, all-first, any-append, any-left, any-right, same-self, done_by, done-each, done-none, done-more}
+use Rattle.xf_settle.proofs.ListLemmas.{got-map, slice-split, map-append, all-first, any-append, any-left, any-right, same-self, done_by, done-each, done-none, done-more}
 
 abbrev pub over_settled : Scope → List Entry → Forest → List Visit
 over_settled scope entries forest = settled bounds scope entries (visits forest.nodes)

@@ -1,5 +1,5 @@
 -- The value of an entry is what its expression means in its context, and its text is that of the value.
-use Rattle.std.proofs.Common.{◌≡◌, ℕ, List, [], Some, None, refl, sym, ap, ◌∙◌}
+use Rattle.std.proofs.Common.{◌≡◌, ℕ, List, [], Some, None, sym, ap, ◌∙◌}
 use Rattle.xf_base.specs.Limits.{string_limit}
 use Rattle.xf_ast.specs.declared.expr.Expr.{Expr}
 use Rattle.xf_ast.specs.declared.form.Tables.{Tables}

@@ -8,6 +8,7 @@ use Rattle.xf_doc.specs.declared.fault.TreeFault.TheVariants as tree
 use Rattle.xf_doc.specs.Forest.{Forest}
 use Rattle.xf_doc.specs.Visit.{visits}
 use Rattle.xf_doc.specs.Settle.{reserved}
+use Rattle.xf_settle_laws.specs.Written.{written}
 use Rattle.xf_funcs.specs.Called.{called}
 use Rattle.xf_lang.specs.Given.{Document, Given}
 use Rattle.xf_lang.specs.declared.fault.EvalFault.{EvalFault}
@@ -60,6 +61,11 @@ pub record IsSettled (scope : Scope) (entries : List Entry) (forest after : Fore
   pub written : after ≡ settled_forest scope entries forest
   pub values : valued_in (held_by entries truths) ≡ map truly (values_over bounds scope entries (visits after.nodes))
   pub within : words_of scope entries forest ≡ []
+
+-- of the nodes where it is refused: some of the settled texts were written
+pub record IsLeft (scope : Scope) (entries : List Entry) (forest after : Forest) : Type 0 where
+  pub done : ℕ → Bool
+  pub nodes : after.nodes ≡ written done forest.next (contents_in scope entries forest) forest.nodes
 
 -- ---- why it is refused
 

@@ -1,5 +1,6 @@
 -- One calculate after the other: what is done in a turn, and what each entry is found to be over the data that stand then.
-use Rattle.std.specs.Prelude.{ℕ, ◌≡◌, Bool, true, false, List, [], ◌∷◌, ◌++◌, map, length, nat_lt, Option, Some, None, option_map, Result, Ok, Err, slice_get, if◌then◌else◌}
+use Rattle.std.specs.Prelude.{ℕ, suc, ◌≡◌, Bool, true, false, List, [], ◌∷◌, ◌++◌, map, length, nat_lt, Option, Some, None, option_map, Result, Ok, Err, slice_get, if◌then◌else◌}
+use Rattle.std.specs.List.{flat_map}
 use Rattle.xf_ast.specs.declared.expr.Expr.{Expr}
 use Rattle.xf_ast.specs.declared.form.Properties.{Properties}
 use Rattle.xf_base.specs.Limits.{string_limit}
@@ -8,6 +9,7 @@ use Rattle.xf_doc.specs.declared.content.Node.{Node}
 use Rattle.xf_doc.specs.Forest.{has_number}
 use Rattle.xf_doc.specs.Visit.{Visit}
 use Rattle.xf_doc.specs.Settle.{has_text}
+use Rattle.xf_graph.specs.Order.{IsOrder}
 use Rattle.xf_plain_values.specs.Bounded.{◌>>=◌}
 use Rattle.xf_lang.specs.Conversions.{truth_of}
 use Rattle.xf_model.specs.declared.property.Property.{Property}
@@ -17,9 +19,13 @@ use Rattle.xf_model.specs.Applied.{Entry, is_calculate}
 use Rattle.xf_model.specs.Entries.{is_computed, value_of}
 use Rattle.xf_model.specs.Settled.{calculates}
 use Rattle.xf_model.specs.Pertinent.{AllOf}
+use Rattle.xf_model.specs.Properties.{sets_on}
 use Rattle.xf_agree.specs.InTurn.{AreSingle, IsOrdered}
 use Rattle.xf_undo.specs.Draft.{Draft, with_settled}
 use Rattle.xf_binds.specs.Held.{entry_of}
+use Rattle.xf_form_machine.specs.Cycles.{reported_cycle}
+use Rattle.xf_recalc.specs.Links.{Source, links, nodes_in}
+use Rattle.xf_recalc.specs.Order.{nodes_of}
 use Rattle.xf_settle.specs.declared.turn.Turn.{Turn}
 use Rattle.xf_settle.specs.declared.fault.SettleFault.{SettleFault}
 use Rattle.xf_settle.specs.declared.fault.SettleFault.TheVariants.{Long, Text}
@@ -32,6 +38,44 @@ pub record AreTurns (scope : Scope) (entries : List Entry) (all : List Visit) (t
   pub ordered : IsOrdered scope entries all (map entry_in turns)
   pub single : AreSingle (map entry_in turns)
   pub placed : AllOf (λ t. slice_get (calculates entries) t.place ≡ Some (entry_in t)) turns
+
+-- ---- how the turns are found
+
+-- a calculate with its place among them
+pub record Placed : Type 0 where
+  pub entry : Entry
+  pub place : ℕ
+
+abbrev pub placed_of : Turn → Placed
+placed_of t = record { entry = entry_in t; place = t.place }
+
+-- the place of the next calculate, where this entry may be one
+abbrev pub place_after : ℕ → Entry → ℕ
+place_after k e = if is_calculate e then suc k else k
+
+-- with each entry how many calculates stand before it, counted from this number on
+abbrev pub places_from : ℕ → List Entry → List ℕ
+places_from k [] = []
+places_from k (e ∷ es) = k ∷ places_from (place_after k e) es
+
+-- the calculate of a node, where it has one: the first
+abbrev pub placed_from : ℕ → List Entry → ℕ → List Placed
+placed_from k [] n = []
+placed_from k (e ∷ es) n = if sets_on n Calculate e then record { entry = e; place = k } ∷ [] else placed_from (place_after k e) es n
+
+abbrev pub placed_at : Option Entry → Option ℕ → List Placed
+placed_at None place = []
+placed_at (Some e) None = []
+placed_at (Some e) (Some k) = record { entry = e; place = k } ∷ []
+
+-- those of nodes, one after the other
+abbrev pub placed_on : List Entry → List ℕ → List Placed
+placed_on entries ns = flat_map (λ n. placed_from 0 entries n) ns
+
+-- the calculates of the nodes in an order of the graph by what is kept of them; none where a cycle is reported
+abbrev pub AreInOrder : List Source → List Entry → Option (List Turn) → Type 0
+AreInOrder sources entries None = reported_cycle (links sources) ≡ None → ⊥
+AreInOrder sources entries (Some turns) = (places : List ℕ) × IsOrder (links sources) places × (map placed_of turns ≡ placed_on entries (nodes_in (nodes_of sources) places))
 
 -- ---- a turn
 

@@ -1,5 +1,5 @@
 -- All calculates were written in their turns.
-use Rattle.std.specs.Prelude.{◌≡◌, false, List, length, Some, nat_lt}
+use Rattle.std.specs.Prelude.{◌≡◌, List, Some}
 use Rattle.xf_doc.specs.Forest.{Forest}
 use Rattle.xf_doc.specs.Visit.{visits}
 use Rattle.xf_model.specs.Rules.{Scope}

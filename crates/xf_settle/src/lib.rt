@@ -3,10 +3,10 @@
 
 mod evaluate;
 mod fault;
+mod order;
 mod recalculation;
 mod truths;
 mod turn;
 
 pub use fault::SettleFault;
-pub use recalculation::settle_in_turn;
-pub use turn::Turn;
+pub use recalculation::settle;

@@ -1,14 +1,17 @@
 //! The recalculation of a model (XForms 1.1, section 4.3.2).
 
-ghost use Rattle.std.specs.Prelude.{◌≡◌, length, slice_get, IfOk, IfErr};
+ghost use Rattle.std.specs.Prelude.{◌≡◌, length, map, IfOk, IfErr, OnErr};
 ghost use Rattle.xf_doc.specs.Limits.{limits, passed_by_all};
+ghost use Rattle.xf_doc.specs.Shape.{shape_of};
 ghost use Rattle.xf_doc.specs.Visit.{visits};
 ghost use Rattle.xf_model.specs.Settled.{calculates};
 ghost use Rattle.xf_binds.specs.Table.{kept_at};
-ghost use Rattle.xf_settle.specs.Settles.{IsSettled, IsTold, MaySettle, scope_in, word_of, words_of};
-ghost use Rattle.xf_settle.specs.Turns.{AreTurns, is_calculate_at};
+ghost use Rattle.xf_recalc.specs.Web.{asks_of};
+ghost use Rattle.xf_settle.specs.Settles.{IsLeft, IsSettled, IsTold, MaySettle, scope_in, word_of, words_of};
+ghost use Rattle.xf_settle.specs.Turns.{AreTurns};
 
 use crate::fault::SettleFault;
+use crate::order::{is_calculate, turns_of};
 use crate::truths::truths_of;
 use crate::turn::{Turn, settle_turns};
 use std::alloc::Global;
@@ -16,13 +19,36 @@ use xf_ast::Tables;
 use xf_binds::{Table, TruthList};
 use xf_doc::TreeFault;
 use xf_eval::Around;
-use xf_model::Property;
 use xf_tree::Forest;
 use xf_undo::Draft;
 
-/// Evaluates the calculates of a model in their turns, and writes their texts; then evaluates each entry. The answer is the truths of their
-/// values, by the places of the entries. What was reserved or written before an `Err` stays in the draft until it is rolled back.
-pub fn settle_in_turn<A: Around>(
+/// Evaluates the calculates of a model in an order of their graph, and writes their texts; then evaluates each entry. The answer is the truths
+/// of their values, by the places of the entries. What was reserved or written before an `Err` stays in the draft
+/// until it is rolled back.
+pub fn settle<A: Around>(
+    alloc: Global,
+    tables: &Tables,
+    draft: &mut Draft,
+    model: u32,
+    table: &Table,
+    around: &A,
+) -> Result<TruthList, SettleFault>
+    requires may { MaySettle (A.given around.now) tables.now model draft.old.now (kept_at table.now model).entries }
+    requires asked { (kept_at table.now model).asks ≡ map (asks_of (scope_in (A.given around.now) tables.now model) (shape_of draft.old.now.nodes)) (kept_at table.now model).entries }
+    ensures ok { IfOk result (λ truths. IsSettled (scope_in (A.given around.now) tables.now model) (kept_at table.now model).entries draft.old.now draft.new.now truths) }
+    ensures err { IfErr result (λ fault. IsTold fault (words_of (scope_in (A.given around.now) tables.now model) (kept_at table.now model).entries draft.old.now)) }
+    ensures left { OnErr result (IsLeft (scope_in (A.given around.now) tables.now model) (kept_at table.now model).entries draft.old.now draft.new.now) }
+    ensures kept { draft.new.kept ≡ draft.old.kept }
+{
+    match turns_of(alloc, draft.forest(), model, table)? {
+        Some(turns) => settle_in_turn(alloc, tables, draft, model, table, turns.as_slice(), around),
+        // No calculates depend on each other in a ring.
+        None => unreachable!(),
+    }
+}
+
+/// The same, where the turns are given.
+fn settle_in_turn<A: Around>(
     alloc: Global,
     tables: &Tables,
     draft: &mut Draft,
@@ -35,6 +61,7 @@ pub fn settle_in_turn<A: Around>(
     requires turns { AreTurns (scope_in (A.given around.now) tables.now model) (kept_at table.now model).entries (visits draft.old.now.nodes) turns.now }
     ensures ok { IfOk result (λ truths. IsSettled (scope_in (A.given around.now) tables.now model) (kept_at table.now model).entries draft.old.now draft.new.now truths) }
     ensures err { IfErr result (λ fault. IsTold fault (words_of (scope_in (A.given around.now) tables.now model) (kept_at table.now model).entries draft.old.now)) }
+    ensures left { OnErr result (IsLeft (scope_in (A.given around.now) tables.now model) (kept_at table.now model).entries draft.old.now draft.new.now) }
     ensures kept { draft.new.kept ≡ draft.old.kept }
 {
     let count = calculate_count(table, model);
@@ -76,19 +103,9 @@ fn calculate_count(table: &Table, model: u32) -> usize
 {
     let mut count = 0;
     for at in 0..table.len(model) {
-        if is_calculate_at(table, model, at) {
+        if is_calculate(table.entry(model, at)) {
             count += 1;
         }
     }
     count
-}
-
-/// Whether the entry at a place is a calculate.
-fn is_calculate_at(table: &Table, model: u32, at: usize) -> bool
-    ensures { result ≡ is_calculate_at (slice_get (kept_at table.now model).entries at) }
-{
-    match table.entry(model, at) {
-        Some(entry) => entry.property == Property::Calculate,
-        None => false,
-    }
 }

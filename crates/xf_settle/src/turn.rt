@@ -11,7 +11,7 @@ ghost use Rattle.xf_eval.specs.Live.{AroundStands};
 ghost use Rattle.xf_undo.specs.Draft.{IsUnused};
 ghost use Rattle.xf_binds.specs.Held.{entry_of};
 ghost use Rattle.xf_binds.specs.Table.{kept_at};
-ghost use Rattle.xf_settle.specs.Settles.{IsTold, MaySettle, scope_in, words_of};
+ghost use Rattle.xf_settle.specs.Settles.{IsLeft, IsTold, MaySettle, scope_in, words_of};
 ghost use Rattle.xf_settle.specs.Turns.{AreTurns, turned};
 ghost use Rattle.xf_settle.specs.Whole.{IsWritten};
 
@@ -28,7 +28,7 @@ const TEXT_LIMIT: u32 = 65_536;
 
 /// A calculate, with its place among those of the model in the order in which binds set them.
 #[derive(Clone, Copy, Debug)]
-pub struct Turn {
+pub(crate) struct Turn {
     pub entry: Entry,
     pub place: u32,
 }
@@ -50,6 +50,7 @@ pub(crate) fn settle_turns<A: Around>(
     requires count { count ≡ length (calculates (kept_at table.now model).entries) }
     ensures ok { OnOk result (IsWritten (scope_in (A.given around.now) tables.now model) (kept_at table.now model).entries draft.old.now draft.new.now) }
     ensures err { IfErr result (λ fault. IsTold fault (words_of (scope_in (A.given around.now) tables.now model) (kept_at table.now model).entries draft.old.now)) }
+    ensures left { OnErr result (IsLeft (scope_in (A.given around.now) tables.now model) (kept_at table.now model).entries draft.old.now draft.new.now) }
     ensures kept { draft.new.kept ≡ draft.old.kept }
 {
     let first = draft.forest().next_number();

@@ -1,4 +1,4 @@
-use Rattle.std.proofs.Common.{◌≡◌, ◌<◌, ◌^◌, [], Some, None, length, sym, ap, ◌∙◌, subst, arith}
+use Rattle.std.proofs.Common.{◌<◌, ◌^◌, [], length, refl, sym, ap, ◌∙◌, subst, arith}
 use Rattle.std.specs.List.{list_all}
 use Rattle.std.proofs.lemmas.Result.{err_from_is_err_and}
 use Rattle.xf_doc.specs.Limits.{limits, passed_by_all}
@@ -9,6 +9,7 @@ use Rattle.xf_binds.specs.Table.{kept_at}
 use Rattle.xf_settle.specs.Settles.{scope_in, word_of, words_of}
 use Rattle.xf_settle.specs.Turns.{found_over, is_there}
 use Rattle.xf_settle.proofs.Ending.{limit-told, long-after, long-told, settled, stands-after, there-after}
+use Rattle.xf_settle.proofs.Left.{left-all, left-none}
 use Rattle.xf_settle.proofs.recalculation.settle_in_turn.Goals as goal
 
 pub truths_of-requires-clause-stands : goal.truths_of-requires-clause-stands
@@ -58,3 +59,18 @@ returns-in-None-clause-ok g c =
     settled given c.args.tables.now c.args.model c.args.draft.now.now entries c.requires.may c.args.turns.now c.requires.turns few c.settle_turns.new.draft.now c.in_ok-settle_turns.ensures.ok
     c.in_ok-truths.truths (ap (λ f. found_over [] scope (visits f.nodes) entries) (sym c.forest.ensures) ∙ c.in_ok-truths.ensures)
     (c.in-None.ensures ∙ ap (λ f. word_of (passed_by_all limits f.nodes)) c.forest-2.ensures)
+
+pub returns-then-count-clause-left : goal.returns-then-count-clause-left
+returns-then-count-clause-left g c =
+    left-none (scope_in (g.A.Around.given c.args.around.now) c.args.tables.now c.args.model) (kept_at c.args.table.now c.args.model).entries c.args.draft.now.now c.args.draft.now.now refl
+
+pub returns-in_err-truths-clause-left : goal.returns-in_err-truths-clause-left
+returns-in_err-truths-clause-left g c =
+    let p = err_from_is_err_and c.from_residual-in_err-truths.result c.from_residual-in_err-truths.ensures.1 in
+    rw p.1 (left-all (scope_in (g.A.Around.given c.args.around.now) c.args.tables.now c.args.model) (kept_at c.args.table.now c.args.model).entries c.args.draft.now.now c.settle_turns.new.draft.now
+    c.in_ok-settle_turns.ensures.ok)
+
+pub returns-in-Some-clause-left : goal.returns-in-Some-clause-left
+returns-in-Some-clause-left g c =
+    left-all (scope_in (g.A.Around.given c.args.around.now) c.args.tables.now c.args.model) (kept_at c.args.table.now c.args.model).entries c.args.draft.now.now c.settle_turns.new.draft.now
+    c.in_ok-settle_turns.ensures.ok

@@ -1,4 +1,3 @@
-use Rattle.std.proofs.Common.{◌≡◌, Some, None, sym, ap, ◌∙◌}
 use Rattle.std.proofs.lemmas.Result.{err_from_is_err_and}
 use Rattle.xf_doc.specs.Visit.{visits}
 use Rattle.xf_lang.specs.declared.fault.EvalFault.TheVariants.{Long, Memory}

@@ -1,4 +1,4 @@
-use Rattle.std.proofs.Common.{◌≡◌, true, inl, inr, ap, sym, ◌∙◌}
+use Rattle.std.proofs.Common.{◌≡◌, true, inl, inr, ap, ◌∙◌}
 use Rattle.xf_doc.specs.declared.content.Kind.TheVariants.{Attribute, Element}
 use Rattle.xf_doc.specs.Forest.{has_number}
 use Rattle.xf_tree.proofs.ValueLemmas.{kind-live}

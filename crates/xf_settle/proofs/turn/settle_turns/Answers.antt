@@ -1,4 +1,4 @@
-use Rattle.std.proofs.Common.{◌≡◌, ◌+◌, ◌<◌, ◌^◌, List, [], ◌∷◌, ◌++◌, Some, Err, Ok, map, length, take, take_all, drop, get_or, refl, sym, ap, ◌∙◌, subst, arith, inl, inr}
+use Rattle.std.proofs.Common.{◌≡◌, ◌+◌, ◌<◌, ◌^◌, [], Some, map, length, take, take_all, drop, get_or, refl, sym, ap, ◌∙◌, subst, arith, inl, inr}
 use Rattle.std.proofs.lemmas.List.{take_more}
 use Rattle.std.proofs.lemmas.Result.{err_from_is_err_and}
 use Rattle.xf_base.specs.Limits.{string_limit}
@@ -8,9 +8,8 @@ use Rattle.xf_model.specs.Settled.{calculates}
 use Rattle.xf_eval.specs.Live.{AroundStands}
 use Rattle.xf_undo.specs.Draft.{IsUnused}
 use Rattle.xf_binds.specs.Table.{kept_at}
-use Rattle.xf_settle.specs.Settles.{IsTold, contents_in, scope_in, words_of}
+use Rattle.xf_settle.specs.Settles.{IsLeft, IsTold, contents_in, scope_in, words_of}
 use Rattle.xf_settle.specs.Turns.{entry_in, turned}
-use Rattle.xf_settle.specs.Whole.{IsWritten}
 use Rattle.xf_settle.proofs.ListLemmas.{done_by, split-at}
 use Rattle.xf_settle.proofs.Surroundings.{stands-now}
 use Rattle.xf_settle.proofs.Turning.{Going, ended, may-write, no_turn, refused, settable, start, step, turned-kept, unused}
@@ -115,3 +114,14 @@ returns-clause-ok g c =
     let few : length (calculates entries) < 2 ^ 32 = let fits = c.ranges.count.fits in let is = c.requires.count in omega (arith, fits, is) in
     ended given c.args.tables.now c.args.model d.now entries c.requires.may turns c.requires.turns few c.loop-turn.draft
     (subst (λ l. Going scope entries d.now l c.loop-turn.draft) (take_all c.loop-turn.turn-index turns c.loop-turn-test.false) c.loop-turn.invariant.going)
+
+pub returns-in_err-settle_turn-clause-left : goal.returns-in_err-settle_turn-clause-left
+returns-in_err-settle_turn-clause-left g c =
+    let entries = (kept_at c.args.table.now c.args.model).entries in
+    let scope = scope_in (g.A.Around.given c.args.around.now) c.args.tables.now c.args.model in
+    let left : IsLeft scope entries c.args.draft.now.now c.settle_turn.new.draft.now = record {
+      done = done_by (map entry_in (take c.loop-turn.turn-index c.args.turns.now));
+      nodes = ap (λ d. d.now.nodes) c.in_err-settle_turn.ensures.err ∙ c.loop-turn.invariant.going.nodes;
+    } in
+    let p = err_from_is_err_and c.from_residual.result c.from_residual.ensures.1 in
+    rw p.1 left

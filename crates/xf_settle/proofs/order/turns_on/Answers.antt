@@ -1,0 +1,10 @@
+use Rattle.std.proofs.Common.{◌++◌, ◌∙◌, ap, sym}
+use Rattle.xf_binds.specs.Held.{entries_in}
+use Rattle.xf_settle.specs.Turns.{placed_from}
+use Rattle.xf_settle.proofs.PlacedLists.{on-next}
+use Rattle.xf_settle.proofs.order.turns_on.Goals as goal
+
+pub loop-at-preserved : goal.loop-at-preserved
+loop-at-preserved c =
+    let entries = entries_in c.args.applied.now in
+    c.in_ok-push_turn.ensures ∙ ap (λ l. l ++ placed_from 0 entries c.at.result.number) c.loop-at.invariant ∙ sym (on-next entries c.loop-at.at c.args.nodes.now c.at.result.number c.at.ensures)
