@@ -1,0 +1,7 @@
+pub mod Lists
+pub mod Members
+pub mod Spreads
+pub mod Begins
+pub mod Ups
+pub mod Counted
+mod Examples

@@ -1,0 +1,5 @@
+pub mod OfTable
+pub mod Places
+pub mod Called
+pub mod Begun
+pub mod Spread

@@ -1,0 +1,32 @@
+//! Marks of entries, by their places.
+
+ghost use Rattle.std.specs.Prelude.{◌≡◌, filter, length};
+ghost use Rattle.xf_pertinent.specs.Places.{is_marked};
+
+use xf_base::Items;
+
+/// Which entries are marked.
+pub(crate) type MarkList = Items<bool>;
+
+/// Whether the entry at a place is marked: past them none is.
+pub(crate) fn is_marked(marks: &MarkList, place: usize) -> bool
+    ensures { result ≡ is_marked marks.now place }
+{
+    match marks.get(place) {
+        Some(mark) => *mark,
+        None => false,
+    }
+}
+
+/// How many are marked.
+pub(crate) fn count(marks: &MarkList) -> u64
+    ensures { result ≡ length (filter (λ mark. mark) marks.now) }
+{
+    let mut count: u64 = 0;
+    for place in 0..marks.len() {
+        if is_marked(marks, place) {
+            count += 1;
+        }
+    }
+    count
+}
