@@ -1,0 +1,113 @@
+-- What stands at the end of an event, and what a roll-back gives back.
+use Rattle.std.proofs.Common.{◌≡◌, ℕ, zero, suc, ◌<◌, ◌^◌, List, [], ◌∷◌, refl, sym, ap, ◌∙◌, subst}
+use Rattle.xf_doc.specs.Forest.{Forest}
+use Rattle.xf_doc.specs.Texts.{without_detached}
+use Rattle.xf_form_machine.specs.Step.{at_end}
+use Rattle.xf_binds.specs.Kept.{Kept, committed, rolled_back}
+use Rattle.xf_binds.specs.Table.{all_committed, all_rolled_back, kept_at}
+use Rattle.xf_controls.specs.declared.copy.ControlCopy.{ControlCopy}
+use Rattle.xf_loader.specs.declared.loaded.Loaded.{Loaded}
+use Rattle.xf_undo.specs.Draft.{Draft, alone, kept_as}
+use Rattle.xf_work.specs.declared.flags.Flags.{Flags}
+use Rattle.xf_work.specs.declared.tally.Tally.{Tally}
+use Rattle.xf_work.specs.Built.{IsWhole}
+use Rattle.xf_work.specs.Does.{profile}
+use Rattle.xf_work.specs.Parts.{IsSound, standing_of}
+use Rattle.xf_work.specs.Standing.{Standing, state_of}
+use Rattle.xf_work.specs.Tally.{begun}
+use Rattle.xf_work.proofs.DeepLaws.{all-instances}
+use Rattle.xf_work.proofs.Models.{back-again, committed-models, kept-models, map-length}
+use Rattle.xf_work.proofs.WholeLaws.{IsSame, built-same}
+
+-- ---- one of the models
+
+committed-at : (ks : List Kept) (n : ℕ) → IsSame (kept_at ks n) (kept_at (all_committed ks) n)
+committed-at [] n = record { entries = refl; asks = refl }
+committed-at (k ∷ ks) zero = record { entries = refl; asks = refl }
+committed-at (k ∷ ks) (suc n) = committed-at ks n
+
+back-at : (ks : List Kept) (n : ℕ) → IsSame (kept_at ks n) (kept_at (all_rolled_back (all_committed ks)) n)
+back-at [] n = record { entries = refl; asks = refl }
+back-at (k ∷ ks) zero = record { entries = refl; asks = refl }
+back-at (k ∷ ks) (suc n) = back-at ks n
+
+whole-as : (l : Loaded) (forest : Forest) (table other : List Kept) (built : ℕ) → ((n : ℕ) → IsSame (kept_at table n) (kept_at other n)) → IsWhole l forest table built → IsWhole l forest other built
+whole-as l forest table other built same w = record {
+  hung = w.hung;
+  alone = w.alone;
+  models = λ model less. built-same _ forest.nodes (kept_at table model) (kept_at other model) (same model) (w.models model less);
+}
+
+-- ---- the invariant
+
+abbrev dropped : Forest → Forest
+dropped forest = (without_detached (alone forest)).forest
+
+module _ (l : Loaded) (draft : Draft) (table : List Kept) (flags old : List Flags) (built old_built : ℕ) (s : IsSound l draft table flags old built old_built) where
+  dropped-same : dropped draft.now ≡ draft.now
+  dropped-same = ap (λ ns. record draft.now { nodes = ns }) (all-instances draft.now.nodes s.now.alone)
+
+  committed-core : IsSound l (kept_as draft.now) (all_committed table) flags flags built built
+  committed-core = record {
+    loaded = s.loaded;
+    many = map-length table committed ∙ s.many;
+    kept = refl;
+    few = s.few;
+    now = whole-as l draft.now table (all_committed table) built (committed-at table) s.now;
+    before = whole-as l draft.now table (all_rolled_back (all_committed table)) built (back-at table) s.now;
+  }
+
+  pub committed-sound : (d : Draft) (t : List Kept) (fs : List Flags) → d ≡ kept_as (dropped draft.now) → t ≡ all_committed table → fs ≡ flags → IsSound l d t flags fs built built
+  committed-sound d t fs drafted tabled flagged =
+      subst (λ x. IsSound l x t flags fs built built) (sym (drafted ∙ ap kept_as dropped-same))
+      (subst (λ x. IsSound l (kept_as draft.now) x flags fs built built) (sym tabled)
+      (subst (λ x. IsSound l (kept_as draft.now) (all_committed table) flags x built built) (sym flagged) committed-core))
+
+  back-core : IsSound l (kept_as draft.kept) (all_rolled_back table) old old old_built old_built
+  back-core = record {
+    loaded = s.loaded;
+    many = map-length table rolled_back ∙ s.many ∙ sym s.kept;
+    kept = refl;
+    few = subst (λ n. n < 2 ^ 32) (sym s.kept) s.few;
+    now = s.before;
+    before = subst (λ t. IsWhole l draft.kept t old_built) (sym (back-again table)) s.before;
+  }
+
+  pub back-sound : (d : Draft) (t : List Kept) (fs : List Flags) → d ≡ kept_as draft.kept → t ≡ all_rolled_back table → fs ≡ old → IsSound l d t fs old old_built old_built
+  back-sound d t fs drafted tabled flagged =
+      subst (λ x. IsSound l x t fs old old_built old_built) (sym drafted)
+      (subst (λ x. IsSound l (kept_as draft.kept) x fs old old_built old_built) (sym tabled)
+      (subst (λ x. IsSound l (kept_as draft.kept) (all_rolled_back table) x old old_built old_built) (sym flagged) back-core))
+
+-- ---- the states
+
+module _ (l : Loaded) (forest : Forest) (table : List Kept) (flags : List Flags) (controls : List ControlCopy) (tally : Tally) where
+  abbrev before : Standing
+  before = standing_of l forest table flags controls tally
+
+  pub committed-now : (d : Draft) (t : List Kept) (u : Tally) → d ≡ kept_as (dropped forest) → t ≡ all_committed table → u ≡ begun tally
+      → state_of (standing_of l d.now t flags controls u) ≡ at_end profile (state_of before)
+  committed-now d t u drafted tabled tallied =
+      ap (λ (x : Draft). state_of (standing_of l x.now t flags controls u)) drafted
+      ∙ ap (λ x. state_of (standing_of l (dropped forest) x flags controls u)) tabled
+      ∙ ap (λ x. state_of (standing_of l (dropped forest) (all_committed table) flags controls x)) tallied
+      ∙ ap (λ ms. record (at_end profile (state_of before)) { models = ms }) (committed-models table flags)
+
+  -- what is kept is what stands
+  pub committed-kept : (d : Draft) (t : List Kept) (fs : List Flags) (u : Tally) → d ≡ kept_as (dropped forest) → t ≡ all_committed table → fs ≡ flags
+      → standing_of l d.kept (all_rolled_back t) fs controls u ≡ standing_of l d.now t flags controls u
+  committed-kept d t fs u drafted tabled flagged =
+      ap (λ (x : Draft). standing_of l x.kept (all_rolled_back t) fs controls u) drafted
+      ∙ ap (λ x. standing_of l (dropped forest) (all_rolled_back x) fs controls u) tabled
+      ∙ ap (λ x. standing_of l (dropped forest) (all_rolled_back (all_committed table)) x controls u) flagged
+      ∙ ap (λ ms. record (standing_of l (dropped forest) (all_committed table) flags controls u) { models = ms }) (kept-models table flags)
+      ∙ ap (λ x. standing_of l (dropped forest) x flags controls u) (sym tabled)
+      ∙ ap (λ (x : Draft). standing_of l x.now t flags controls u) (sym drafted)
+
+-- what was kept is kept after a roll-back
+pub back-kept : (l : Loaded) (table : List Kept) (flags : List Flags) (controls : List ControlCopy) (tally : Tally) (d e : Draft) (t : List Kept) → d ≡ kept_as e.kept → t ≡ all_rolled_back table
+    → standing_of l d.kept (all_rolled_back t) flags controls tally ≡ standing_of l e.kept (all_rolled_back table) flags controls tally
+back-kept l table flags controls tally d e t drafted tabled =
+    ap (λ (x : Draft). standing_of l x.kept (all_rolled_back t) flags controls tally) drafted
+    ∙ ap (λ x. standing_of l e.kept (all_rolled_back x) flags controls tally) tabled
+    ∙ ap (λ x. standing_of l e.kept x flags controls tally) (back-again table)

@@ -1,0 +1,47 @@
+-- The texts of a model that is built may be settled.
+use Rattle.std.proofs.Common.{◌≡◌, ℕ, ◌^◌, ◌<◌, true, List, [], ◌∷◌, Option, Some, None, refl}
+use Rattle.xf_name.specs.Bindings.{Bindings}
+use Rattle.xf_ast.specs.declared.expr.Expr.{Expr}
+use Rattle.xf_ast.specs.declared.form.Bind.{Bind}
+use Rattle.xf_doc.specs.Forest.{Forest}
+use Rattle.xf_doc.specs.WellFormed.{HasTrees}
+use Rattle.xf_model.specs.Pertinent.{AllOf}
+use Rattle.xf_agree.specs.FormSettles.{AreCovered}
+use Rattle.xf_agree.proofs.HungLaws.{hung_forest}
+use Rattle.xf_agree.specs.Hung.{are_hung}
+use Rattle.xf_static.specs.AsRead.{IsReadStatic}
+use Rattle.xf_static.proofs.FormLaw.{form_covered}
+use Rattle.xf_binds.specs.Kept.{Kept}
+use Rattle.xf_settle.specs.Settles.{MaySettle}
+use Rattle.xf_loader.specs.Computed.{AllReadStatic}
+use Rattle.xf_loader.specs.Computed as loader
+use Rattle.xf_loader.specs.declared.loaded.Loaded.{Loaded}
+use Rattle.xf_loader.proofs.StaticLaw.{loaded_static}
+use Rattle.xf_work.specs.Around.{given_in}
+use Rattle.xf_work.specs.Built.{IsBuilt, scope_at}
+use Rattle.xf_work.specs.Parts.{IsLoaded}
+use Rattle.xf_work.proofs.SolidLaws.{documents-solid}
+use Rattle.xf_work.proofs.SurroundLaws.{surrounds}
+
+read-static : (b : Bindings) (binds : List Bind) → AllReadStatic b binds → AllOf (λ (bind : Bind). IsReadStatic 6 b bind.properties.calculate) binds
+read-static b [] h = tt
+read-static b (bind ∷ binds) h = (by bind.properties.calculate h.0.calculate, read-static b binds h.1)
+  where
+    by : (o : Option Expr) → loader.IsReadStatic b o → IsReadStatic 6 b o
+    by None i = i
+    by (Some expr) i = i
+
+are-covered : (l : Loaded) → IsLoaded l → AreCovered l.form.tables
+are-covered l is = form_covered 6 l.prefixes l.form.tables (read-static l.prefixes l.form.tables.binds (loaded_static is.bytes l is.read))
+
+pub may-settle : (l : Loaded) (forest : Forest) (model : ℕ) (k : Kept) → IsLoaded l → HasTrees forest → are_hung forest.nodes ≡ true → forest.next < 2 ^ 126 → IsBuilt (scope_at l forest model) forest.nodes k
+    → MaySettle (given_in l.form.tables.instances l.prefixes forest) l.form.tables model forest k.entries
+may-settle l forest model k is trees hung small built = record {
+  covered = are-covered l is;
+  around = surrounds l forest model trees hung small;
+  applies = built.applies;
+  acyclic = built.acyclic;
+  documents = documents-solid forest trees (hung_forest forest trees hung) l.form.tables.instances;
+  no_event = refl;
+  small = small;
+}

@@ -1,0 +1,95 @@
+-- The list of the controls over a forest and a table is that of the state.
+use Rattle.std.proofs.Common.{◌≡◌, Bool, true, false, List, [], ◌∷◌, map, length, Option, Some, None, Result, Ok, Err, refl, sym, ap, ◌∙◌, subst, ◌⊎◌, inl, inr, arith}
+use Rattle.std.specs.Prelude.{nat_lt}
+use Rattle.xf_base.specs.Limits.{string_limit}
+use Rattle.xf_doc.specs.Forest.{Forest}
+use Rattle.xf_doc.specs.Visit.{visits}
+use Rattle.xf_funcs.specs.Called.{called}
+use Rattle.xf_lang.specs.Given.{Given}
+use Rattle.xf_lang.specs.declared.fault.EvalFault.{EvalFault}
+use Rattle.xf_lang.specs.declared.fault.EvalFault.TheVariants as eval
+use Rattle.xf_model.specs.Nested.{nested}
+use Rattle.xf_model.specs.Rules.{scope_of}
+use Rattle.xf_ui.specs.Around.{Around}
+use Rattle.xf_ui.specs.Copies as copies
+use Rattle.xf_ui.specs.Interface.{interface_of}
+use Rattle.xf_form_machine.specs.declared.limit.LimitWord.TheVariants.{Controls, Long}
+use Rattle.xf_form_machine.specs.Refusal.{limit, or_long, unless_passed, if_over}
+use Rattle.xf_form_machine.specs.Flow.{◌>>=◌}
+use Rattle.xf_form_machine.specs.State.{State}
+use Rattle.xf_form_machine.specs.Surround.{quiet}
+use Rattle.xf_form_machine.specs.Properties.{marks_in}
+use Rattle.xf_form_machine.specs.Update as update
+use Rattle.xf_form_machine.specs.Update.{within_controls}
+use Rattle.xf_binds.specs.Kept.{Kept}
+use Rattle.xf_controls.specs.declared.copy.ControlCopy.{ControlCopy}
+use Rattle.xf_controls.specs.Seen.{seen_copy}
+use Rattle.xf_controls.specs.Surrounded.{around_in}
+use Rattle.xf_valid.specs.Nodes as table_marks
+use Rattle.xf_loader.specs.declared.loaded.Loaded.{Loaded}
+use Rattle.xf_work.specs.declared.flags.Flags.{Flags}
+use Rattle.xf_work.specs.declared.tally.Tally.{Tally}
+use Rattle.xf_report.specs.declared.refusal.Refusal.TheVariants.{Limit}
+use Rattle.xf_work.specs.declared.fault.WorkFault.{WorkFault}
+use Rattle.xf_work.specs.declared.fault.WorkFault.TheVariants as fault
+use Rattle.xf_work.specs.Around.{given_in}
+use Rattle.xf_work.specs.Calls.{IsWithin}
+use Rattle.xf_work.specs.Does.{Finds, IsRefused, profile}
+use Rattle.xf_work.specs.Parts.{IsLoaded, standing_of}
+use Rattle.xf_work.specs.Standing.{state_of}
+use Rattle.xf_work.proofs.AroundLaws.{given-same}
+use Rattle.xf_work.proofs.MarkLaws.{marks-same}
+
+-- a string was too long
+pub none-long : {X : Type 0} (e : EvalFault) (given : Option X) → e ≡ eval.Long → (e ≡ eval.Memory) ⊎ ((e ≡ eval.Long) × (given ≡ None)) → given ≡ None
+none-long e given is (inl h) = cc (h, is)
+none-long e given is (inr h) = h.1
+
+module _ (loaded : Loaded) (is : IsLoaded loaded) (forest : Forest) (table : List Kept) (flags : List Flags) (controls : List ControlCopy) (tally : Tally)
+    (many : length table ≡ length flags) where
+  abbrev here : State
+  here = state_of (standing_of loaded forest table flags controls tally)
+
+  abbrev around_with : Given → Around
+  around_with g = record {
+    functions = called;
+    most = Some string_limit;
+    given = g;
+    all = visits forest.nodes;
+    bound = λ k. nested (Some string_limit) (scope_of called g loaded.form.tables 0) (visits forest.nodes) k;
+  }
+
+  abbrev listed : Option (List copies.Copy)
+  listed = copies.copies (interface_of loaded.form) (around_in (given_in loaded.form.tables.instances loaded.prefixes forest) loaded.form.tables forest.nodes) (table_marks.marks_in table forest.nodes) [] []
+
+  around-same : quiet profile here ≡ around_in (given_in loaded.form.tables.instances loaded.prefixes forest) loaded.form.tables forest.nodes
+  around-same = ap around_with (given-same (standing_of loaded forest table flags controls tally) is.plain)
+
+  pub shown-told : update.shown profile here ≡ (or_long here listed >>= λ list. within_controls profile list here)
+  shown-told =
+      ap (λ a. or_long here (copies.copies (interface_of loaded.form) a (marks_in here) [] []) >>= λ list. within_controls profile list here) around-same
+      ∙ ap (λ m. or_long here (copies.copies (interface_of loaded.form) (around_in (given_in loaded.form.tables.instances loaded.prefixes forest) loaded.form.tables forest.nodes) m [] []) >>= λ list. within_controls profile list here)
+      (marks-same loaded forest table flags controls tally many)
+
+  pub shown-long : listed ≡ None → update.shown profile here ≡ Err (record { why = limit (Long ∷ []); calls = [] })
+  shown-long e = shown-told ∙ ap (λ o. or_long here o >>= λ list. within_controls profile list here) e
+
+  pub shown-listed : (list : List copies.Copy) (b : Bool) → listed ≡ Some list → nat_lt 65536 (copies.copy_count list) ≡ b → update.shown profile here ≡ unless_passed here (if_over b Controls) list
+  shown-listed list b e h = shown-told ∙ ap (λ o. or_long here o >>= λ list. within_controls profile list here) e ∙ ap (λ c. unless_passed here (if_over c Controls) list) h
+
+  -- over surroundings that are the same
+  pub listed-same : (g : Given) → g ≡ given_in loaded.form.tables.instances loaded.prefixes forest
+      → copies.copies (interface_of loaded.form) (around_in g loaded.form.tables forest.nodes) (table_marks.marks_in table forest.nodes) [] [] ≡ listed
+  listed-same g e = ap (λ h. copies.copies (interface_of loaded.form) (around_in h loaded.form.tables forest.nodes) (table_marks.marks_in table forest.nodes) [] []) e
+
+  pub long-found : listed ≡ None → IsRefused (Limit Long) (update.shown profile here)
+  long-found e = subst (λ given. IsRefused (Limit Long) given) (sym (shown-long e)) ((Long ∷ [], refl, (0, omega arith, refl)), refl)
+
+  over-found : (list : List copies.Copy) → listed ≡ Some list → nat_lt 65536 (copies.copy_count list) ≡ true → IsRefused (Limit Controls) (update.shown profile here)
+  over-found list e h = subst (λ given. IsRefused (Limit Controls) given) (sym (shown-listed list true e h)) ((Controls ∷ [], refl, (0, omega arith, refl)), refl)
+
+  -- the list is given, unless it has too many copies
+  pub list-found : (list : List ControlCopy) (result : Result (List ControlCopy) WorkFault) → listed ≡ Some (map seen_copy list) → IsWithin result list → Finds (map seen_copy) result (update.shown profile here)
+  list-found list (Ok given) e w = shown-listed (map seen_copy list) false e w.1 ∙ ap (λ cs. Ok (map seen_copy cs)) (sym w.0)
+  list-found list (Err (fault.Refused refusal)) e w = subst (λ r. IsRefused r (update.shown profile here)) (sym w.0) (over-found (map seen_copy list) e w.1)
+  list-found list (Err fault.Memory) e w = absurd w

@@ -1,0 +1,90 @@
+use Rattle.std.proofs.Common.{◌<◌, ◌^◌, map, sym, ap, ◌∙◌, subst, arith}
+use Rattle.xf_doc.specs.Forest.{Forest}
+use Rattle.xf_doc.specs.Shape.{shape_of}
+use Rattle.xf_doc.specs.WellFormed.{HasTrees}
+use Rattle.xf_doc.proofs.TextLaws.{in_forest}
+use Rattle.xf_binds.specs.Table.{kept_at}
+use Rattle.xf_recalc.specs.Web.{asks_of}
+use Rattle.xf_settle.specs.Settles.{IsLeft, IsSettled, IsTold, MaySettle, scope_in, words_of}
+use Rattle.xf_work.specs.Around.{documents_from, given_in, numbers_of}
+use Rattle.xf_work.specs.Settling.{IsPassed}
+use Rattle.xf_work.proofs.FoundLaws.{given-found}
+use Rattle.xf_work.proofs.MaySettleLaws.{may-settle}
+use Rattle.xf_work.proofs.RecalculateLaws.{told-passed}
+use Rattle.xf_work.proofs.SettleLaws.{left-whole, settled-whole}
+use Rattle.xf_work.proofs.recalculating.settle_texts.Goals as goal
+
+pub settle-settled-requires-clause-may : goal.settle-settled-requires-clause-may
+settle-settled-requires-clause-may c =
+    let l = c.args.loaded.now in
+    let d = c.args.draft.now.now in
+    let given = given-found l.form.tables.instances c.as_slice-instances.result.now l.prefixes d (numbers_of c.as_slice.result.now) c.as_slice-instances.ensures
+    (ap numbers_of c.as_slice.ensures.value ∙ c.in_ok-documents.ensures.all ∙ ap (λ (f : Forest). documents_from 0 c.as_slice-instances.result.now f.nodes) c.forest.ensures) in
+    let trees : HasTrees d = subst HasTrees c.forest-2.ensures (in_forest c.are_trees.ensures) in
+    let n = c.next_number.ensures in
+    let f = ap (λ (x : Forest). x.next) c.forest-3.ensures in
+    let b = c.if-next_number-gt-NUMBERS.false in
+    let small : d.next < 2 ^ 126 = omega (arith, n, f, b) in
+    let may = may-settle l d c.args.model (kept_at c.args.table.now c.args.model) c.requires.loaded trees c.requires.hung small c.requires.built in
+    subst (λ g. MaySettle g l.form.tables c.args.model d (kept_at c.args.table.now c.args.model).entries) (sym given) may
+
+pub settle-settled-requires-clause-asked : goal.settle-settled-requires-clause-asked
+settle-settled-requires-clause-asked c =
+    let l = c.args.loaded.now in
+    let d = c.args.draft.now.now in
+    let given = given-found l.form.tables.instances c.as_slice-instances.result.now l.prefixes d (numbers_of c.as_slice.result.now) c.as_slice-instances.ensures
+    (ap numbers_of c.as_slice.ensures.value ∙ c.in_ok-documents.ensures.all ∙ ap (λ (f : Forest). documents_from 0 c.as_slice-instances.result.now f.nodes) c.forest.ensures) in
+    c.requires.built.asks
+    ∙ sym (ap (λ g. map (asks_of (scope_in g l.form.tables c.args.model) (shape_of d.nodes)) (kept_at c.args.table.now c.args.model).entries) given)
+
+pub returns-in-Ok-clause-ok : goal.returns-in-Ok-clause-ok
+returns-in-Ok-clause-ok c =
+    let l = c.args.loaded.now in
+    let d = c.args.draft.now.now in
+    let given = given-found l.form.tables.instances c.as_slice-instances.result.now l.prefixes d (numbers_of c.as_slice.result.now) c.as_slice-instances.ensures
+    (ap numbers_of c.as_slice.ensures.value ∙ c.in_ok-documents.ensures.all ∙ ap (λ (f : Forest). documents_from 0 c.as_slice-instances.result.now f.nodes) c.forest.ensures) in
+    subst (λ g. IsSettled (scope_in g l.form.tables c.args.model) (kept_at c.args.table.now c.args.model).entries d c.settle-settled.new.draft.now c.in-Ok.truths) given c.in-Ok.ensures.ok
+
+pub returns-in-Ok-clause-whole : goal.returns-in-Ok-clause-whole
+returns-in-Ok-clause-whole c =
+    let l = c.args.loaded.now in
+    let d = c.args.draft.now.now in
+    let given = given-found l.form.tables.instances c.as_slice-instances.result.now l.prefixes d (numbers_of c.as_slice.result.now) c.as_slice-instances.ensures
+    (ap numbers_of c.as_slice.ensures.value ∙ c.in_ok-documents.ensures.all ∙ ap (λ (f : Forest). documents_from 0 c.as_slice-instances.result.now f.nodes) c.forest.ensures) in
+    let trees : HasTrees d = subst HasTrees c.forest-2.ensures (in_forest c.are_trees.ensures) in
+    let n = c.next_number.ensures in
+    let f = ap (λ (x : Forest). x.next) c.forest-3.ensures in
+    let b = c.if-next_number-gt-NUMBERS.false in
+    let small : d.next < 2 ^ 126 = omega (arith, n, f, b) in
+    let may = may-settle l d c.args.model (kept_at c.args.table.now c.args.model) c.requires.loaded trees c.requires.hung small c.requires.built in
+    let e = c.settle-settled.new.draft.now in
+    let es = (kept_at c.args.table.now c.args.model).entries in
+    let stands : HasTrees e = subst HasTrees c.forest-4.ensures (in_forest c.are_trees-2.ensures) in
+    settled-whole _ l.form.tables c.args.model d es may l e stands (subst (λ g. IsSettled (scope_in g l.form.tables c.args.model) es d e c.in-Ok.truths) given c.in-Ok.ensures.ok).written
+
+pub returns-clause-err : goal.returns-clause-err
+returns-clause-err c =
+    let l = c.args.loaded.now in
+    let d = c.args.draft.now.now in
+    let given = given-found l.form.tables.instances c.as_slice-instances.result.now l.prefixes d (numbers_of c.as_slice.result.now) c.as_slice-instances.ensures
+    (ap numbers_of c.as_slice.ensures.value ∙ c.in_ok-documents.ensures.all ∙ ap (λ (f : Forest). documents_from 0 c.as_slice-instances.result.now f.nodes) c.forest.ensures) in
+    let es = (kept_at c.args.table.now c.args.model).entries in
+    let told = subst (λ g. IsTold c.in-Err.fault (words_of (scope_in g l.form.tables c.args.model) es d)) given c.in-Err.ensures.err in
+    subst (λ f. IsPassed f (words_of (scope_in (given_in l.form.tables.instances l.prefixes d) l.form.tables c.args.model) es d)) (sym c.told.ensures) (told-passed c.in-Err.fault _ told)
+
+pub returns-clause-whole : goal.returns-clause-whole
+returns-clause-whole c =
+    let l = c.args.loaded.now in
+    let d = c.args.draft.now.now in
+    let given = given-found l.form.tables.instances c.as_slice-instances.result.now l.prefixes d (numbers_of c.as_slice.result.now) c.as_slice-instances.ensures
+    (ap numbers_of c.as_slice.ensures.value ∙ c.in_ok-documents.ensures.all ∙ ap (λ (f : Forest). documents_from 0 c.as_slice-instances.result.now f.nodes) c.forest.ensures) in
+    let trees : HasTrees d = subst HasTrees c.forest-2.ensures (in_forest c.are_trees.ensures) in
+    let n = c.next_number.ensures in
+    let f = ap (λ (x : Forest). x.next) c.forest-3.ensures in
+    let b = c.if-next_number-gt-NUMBERS.false in
+    let small : d.next < 2 ^ 126 = omega (arith, n, f, b) in
+    let may = may-settle l d c.args.model (kept_at c.args.table.now c.args.model) c.requires.loaded trees c.requires.hung small c.requires.built in
+    let e = c.settle-settled.new.draft.now in
+    let es = (kept_at c.args.table.now c.args.model).entries in
+    let stands : HasTrees e = subst HasTrees c.forest-4.ensures (in_forest c.are_trees-2.ensures) in
+    left-whole _ l.form.tables c.args.model d es may l e stands (subst (λ g. IsLeft (scope_in g l.form.tables c.args.model) es d e) given c.in-Err.ensures.left)

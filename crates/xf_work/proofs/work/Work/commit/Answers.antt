@@ -1,0 +1,31 @@
+use Rattle.std.proofs.Common.{◌≡◌, length, sym, ap, ◌∙◌}
+use Rattle.std.proofs.lemmas.List.{with_items_is}
+use Rattle.xf_form_machine.specs.Step.{at_end}
+use Rattle.xf_work.specs.Does.{Twin, profile}
+use Rattle.xf_work.specs.Standing.{state_of}
+use Rattle.xf_work.proofs.EndLaws.{committed-sound, committed-now, committed-kept}
+use Rattle.xf_work.proofs.work.Work.commit.Goals as goal
+
+pub invariant_of-self : goal.invariant_of-self
+invariant_of-self c =
+    let w = c.self.inside in
+    let i = c.self.invariant in
+    let flags : c.copy.new.to ≡ w.flags.items = c.copy.ensures ∙ c.as_slice.ensures.value in
+    let items = with_items_is w.old_flags c.copy.new.to (ap length flags ∙ sym i.kept ∙ sym w.old_flags.ok.0) in
+    committed-sound w.loaded w.draft w.table w.flags.items w.old_flags.items w.built w.old_built i c.commit.new.self c.commit-2.new.self _ c.commit.ensures c.commit-2.ensures (items ∙ flags)
+
+pub returns : goal.returns
+returns c =
+    let w = c.self.inside in
+    let i = c.self.invariant in
+    let flags : c.copy.new.to ≡ w.flags.items = c.copy.ensures ∙ c.as_slice.ensures.value in
+    let items = with_items_is w.old_flags c.copy.new.to (ap length flags ∙ sym i.kept ∙ sym w.old_flags.ok.0) in
+    let d = c.commit.new.self in
+    let t = c.commit-2.new.self in
+    let u = c.begun-self-inside.result in
+    record {
+      now = committed-now w.loaded w.draft.now w.table w.flags.items w.controls w.tally d t u c.commit.ensures c.commit-2.ensures c.begun-self-inside.ensures
+          ∙ ap (λ (x : Twin). at_end profile (state_of x.now)) c.self.view_is;
+      kept = ap (λ s. record { standing = s; built = w.built }) (committed-kept w.loaded w.draft.now w.table w.flags.items w.controls w.tally d t _ u c.commit.ensures c.commit-2.ensures (items ∙ flags));
+      built = ap (λ (x : Twin). x.built) c.self.view_is;
+    }

@@ -1,0 +1,18 @@
+use Rattle.std.proofs.Common.{◌++◌, string_bytes, ap, ◌∙◌, subst}
+use Rattle.std.proofs.lemmas.Result.{on_ok_weaker}
+use Rattle.xf_form_machine.specs.ControlText.{state_text}
+use Rattle.xf_work.specs.Calls.{Writes}
+use Rattle.xf_work.specs.Does.{Twin, profile}
+use Rattle.xf_work.specs.Standing.{state_of}
+use Rattle.xf_work.proofs.work.Work.push_text.Goals as goal
+
+pub returns : goal.returns
+returns c =
+    let w = c.self.inside in
+    let before = string_bytes c.args.text.now in
+    let after = string_bytes c.push_text.new.text in
+    on_ok_weaker c.push_text.result
+    (λ (h : Writes w.loaded c.forest-forest.result.now.forest w.table w.controls before after).
+    subst (λ f. Writes w.loaded f w.table w.controls before after) c.forest-forest.ensures h w.flags.items w.tally c.self.invariant.many
+    ∙ ap (λ (t : Twin). before ++ state_text profile (state_of t.now)) c.self.view_is)
+    c.push_text.ensures

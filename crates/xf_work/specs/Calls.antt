@@ -1,0 +1,45 @@
+-- What the calls on the parts of a state do and give.
+use Rattle.std.specs.Prelude.{ℕ, ◌≡◌, ◌++◌, List, map, length, get_or, slice_set, nat_lt, Result, Ok, Err, false, true}
+use Rattle.xf_doc.specs.Forest.{Forest}
+use Rattle.xf_binds.specs.Kept.{Kept}
+use Rattle.xf_controls.specs.declared.copy.ControlCopy.{ControlCopy}
+use Rattle.xf_controls.specs.Seen.{seen_copy}
+use Rattle.xf_form_machine.specs.declared.limit.LimitWord.TheVariants.{Controls}
+use Rattle.xf_ui.specs.Copies.{copy_count}
+use Rattle.xf_form_machine.specs.Behave as machine
+use Rattle.xf_form_machine.specs.ControlText.{state_text}
+use Rattle.xf_form_machine.specs.Update as update
+use Rattle.xf_report.specs.declared.refusal.Refusal.TheVariants.{Limit}
+use Rattle.xf_loader.specs.declared.loaded.Loaded.{Loaded}
+use Rattle.xf_work.specs.declared.fault.WorkFault.{WorkFault}
+use Rattle.xf_work.specs.declared.fault.WorkFault.TheVariants.{Refused, Memory}
+use Rattle.xf_work.specs.declared.flags.Flag.TheVariants.{Rebuild}
+use Rattle.xf_work.specs.declared.flags.Flags.{Flags}
+use Rattle.xf_work.specs.declared.tally.Tally.{Tally}
+use Rattle.xf_work.specs.Does.{Does, Finds, profile}
+use Rattle.xf_work.specs.Flags.{none_due, without}
+use Rattle.xf_work.specs.Parts.{standing_of}
+use Rattle.xf_work.specs.Standing.{state_of}
+
+-- one thing is due no more of a model
+abbrev pub rebuilt_flags : List Flags → ℕ → List Flags
+rebuilt_flags flags model = slice_set flags model (without Rebuild (get_or flags model none_due))
+
+-- whatever is due, shown and counted besides
+abbrev pub Rebuilds : {X : Type 0} → Loaded → Forest → ℕ → List Kept → List Kept → Result X WorkFault → Type 0
+Rebuilds loaded forest model before after result = (flags : List Flags) (controls : List ControlCopy) (tally : Tally) → length before ≡ length flags →
+    Does result (standing_of loaded forest after (rebuilt_flags flags model) controls tally) (machine.rebuild profile model (state_of (standing_of loaded forest before flags controls tally)))
+
+abbrev pub Shows : Loaded → Forest → List Kept → Result (List ControlCopy) WorkFault → Type 0
+Shows loaded forest table result = (flags : List Flags) (controls : List ControlCopy) (tally : Tally) → length table ≡ length flags →
+    Finds (map seen_copy) result (update.shown profile (state_of (standing_of loaded forest table flags controls tally)))
+
+-- the list is given, unless it has too many copies
+abbrev pub IsWithin : Result (List ControlCopy) WorkFault → List ControlCopy → Type 0
+IsWithin (Ok given) list = (given ≡ list) × (nat_lt 65536 (copy_count (map seen_copy list)) ≡ false)
+IsWithin (Err (Refused refusal)) list = (refusal ≡ Limit Controls) × (nat_lt 65536 (copy_count (map seen_copy list)) ≡ true)
+IsWithin (Err Memory) list = ⊥
+
+abbrev pub Writes : Loaded → Forest → List Kept → List ControlCopy → List ℕ → List ℕ → Type 0
+Writes loaded forest table controls before after = (flags : List Flags) (tally : Tally) → length table ≡ length flags →
+    after ≡ before ++ state_text profile (state_of (standing_of loaded forest table flags controls tally))

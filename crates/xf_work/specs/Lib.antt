@@ -1,0 +1,14 @@
+pub mod Standing
+pub mod Documents
+pub mod Does
+pub mod Flags
+pub mod Tally
+pub mod Around
+pub mod Built
+pub mod Parts
+pub mod Calls
+pub mod Told
+pub mod Planting
+pub mod Grown
+pub mod Settling
+pub mod Setting

@@ -1,0 +1,31 @@
+-- The settling of a model's texts over a draft, and why it is refused.
+use Rattle.std.specs.Prelude.{ℕ, ◌≡◌, List, map, Contains}
+use Rattle.xf_doc.specs.Forest.{Forest}
+use Rattle.xf_form_machine.specs.declared.limit.LimitWord.{LimitWord}
+use Rattle.xf_form_machine.specs.declared.limit.LimitWord.TheVariants as word
+use Rattle.xf_form_machine.specs.Refusal.{word_of}
+use Rattle.xf_model.specs.Settled.{Passed}
+use Rattle.xf_report.specs.declared.refusal.Refusal.TheVariants.{Limit}
+use Rattle.xf_binds.specs.Kept.{Kept}
+use Rattle.xf_loader.specs.declared.loaded.Loaded.{Loaded}
+use Rattle.xf_settle.specs.declared.fault.SettleFault.{SettleFault}
+use Rattle.xf_settle.specs.declared.fault.SettleFault.TheVariants as settle
+use Rattle.xf_work.specs.declared.fault.WorkFault.{WorkFault}
+use Rattle.xf_work.specs.declared.fault.WorkFault.TheVariants.{Refused, Memory}
+use Rattle.xf_work.specs.Built.{IsWhole}
+
+-- whatever is built over the one is so over the other
+abbrev pub StaysWhole : Loaded → Forest → Forest → Type 0
+StaysWhole l before after = (table : List Kept) (built : ℕ) → IsWhole l before table built → IsWhole l after table built
+
+abbrev pub fault_of : SettleFault → WorkFault
+fault_of settle.Long = Refused (Limit word.Long)
+fault_of settle.Text = Refused (Limit word.Text)
+fault_of settle.Nodes = Refused (Limit word.Nodes)
+fault_of settle.AllTexts = Refused (Limit word.All)
+fault_of settle.Memory = Memory
+
+-- one of the limits is told that are passed; want of memory is free
+abbrev pub IsPassed : WorkFault → List Passed → Type 0
+IsPassed (Refused refusal) words = (word : LimitWord) × (refusal ≡ Limit word) × Contains (map word_of words) word
+IsPassed Memory words = Unit {0}

@@ -1,0 +1,42 @@
+-- What an engine has of the state of the form machine (XForms 1.1, section 4), of a form without repeats and switches, between events and in one.
+use Rattle.std.specs.Prelude.{ℕ, List, [], Some}
+use Rattle.xf_name.specs.Bindings.{Bindings}
+use Rattle.xf_ast.specs.declared.form.Form.{Form}
+use Rattle.xf_doc.specs.declared.content.Content.{Content}
+use Rattle.xf_doc.specs.Forest.{Forest}
+use Rattle.xf_ui.specs.Copies.{Copy}
+use Rattle.xf_form_machine.specs.State.{Model, State}
+use Rattle.xf_form_machine.specs.Tables.{program_of}
+
+pub record Standing : Type 0 where
+  pub form : Form
+  pub prefixes : Bindings
+  -- of each instance the nodes with which it begins, with their depths
+  pub documents : List (List (ℕ × Content))
+  pub forest : Forest
+  pub models : List Model
+  -- those of the last refresh
+  pub controls : List Copy
+  pub accepted : ℕ
+  -- of one event: the turns that are left, the nodes made, the evaluations counted
+  pub turns : ℕ
+  pub made : ℕ
+  pub evaluated : ℕ
+
+-- there are no indexes and cases, no notes and no calls of the store
+abbrev pub state_of : Standing → State
+state_of s = record {
+  form = program_of s.form s.prefixes s.documents;
+  forest = s.forest;
+  indexes = [];
+  cases = [];
+  models = s.models;
+  controls = s.controls;
+  accepted = s.accepted;
+  notes = [];
+  turns = s.turns;
+  made = s.made;
+  evaluated = s.evaluated;
+  calls = [];
+  to_come = Some [];
+}

@@ -1,0 +1,126 @@
+//! The behaviours of models (XForms 1.1, sections 4.3.1 to 4.3.4).
+
+ghost use Rattle.std.specs.Prelude.{◌≡◌, ◌≤◌, ◌<◌, length, map, option_map, Ok};
+ghost use Rattle.xf_controls.specs.Seen.{seen_copy};
+ghost use Rattle.xf_form_machine.specs.Behave as machine;
+ghost use Rattle.xf_form_machine.specs.Step.{set_bound as bound_set};
+ghost use Rattle.xf_form_machine.specs.Update as update;
+ghost use Rattle.xf_work.specs.Does.{Does, Finds, built_after, profile};
+ghost use Rattle.xf_work.specs.Standing.{state_of};
+
+use crate::fault::WorkFault;
+use crate::flags::{Flag, clear};
+use crate::growing::grown;
+use crate::rebuilding::rebuild;
+use crate::recalculating::settle_texts;
+use crate::setting::{holder, is_other, mark, may_set, set_text};
+use crate::showing::shown;
+use crate::work::Work;
+use xf_controls::ControlList;
+use xf_doc::NodeId;
+use xf_pertinent::pertinent_count;
+use xf_valid::revalidate;
+
+impl Work {
+    /// Applies the binds of a model.
+    pub fn rebuild(&mut self, model: u32) -> Result<(), WorkFault>
+        requires model { model < length self.old.now.models }
+        requires built { model ≤ self.old.built }
+        ensures done { Does result self.new.now (machine.rebuild profile model (state_of self.old.now)) }
+        ensures kept { self.new.kept ≡ self.old.kept }
+        ensures built { self.new.built ≡ built_after result model self.old.built }
+        ensures models { length self.new.now.models ≡ length self.old.now.models }
+    {
+        let forest = self.draft.forest();
+        match rebuild(self.alloc, &self.loaded, forest, model, &mut self.table) {
+            Ok(()) => {
+                clear(self.flags.as_mut_slice(), model, Flag::Rebuild);
+                self.built = self.built.max(model as u64 + 1);
+                Ok(())
+            }
+            Err(fault) => Err(fault),
+        }
+    }
+
+    /// Settles the texts that are calculated.
+    pub fn recalculate(&mut self, model: u32) -> Result<(), WorkFault>
+        requires model { model < length self.old.now.models }
+        requires built { model < self.old.built }
+        ensures done { Does result self.new.now (machine.recalculate profile model (state_of self.old.now)) }
+        ensures kept { self.new.kept ≡ self.old.kept }
+        ensures built { self.new.built ≡ self.old.built }
+        ensures models { length self.new.now.models ≡ length self.old.now.models }
+    {
+        let tables = &self.loaded.form.tables;
+        let count = pertinent_count(self.alloc, tables, self.draft.forest(), &self.table, model)?;
+        let before = self.draft.forest().next_number();
+        let truths = settle_texts(
+            self.alloc,
+            &self.loaded,
+            &mut self.draft,
+            model,
+            &self.table,
+        )?;
+        let made = self.draft.forest().next_number() - before;
+        self.tally = grown(self.tally, made, count)?;
+        self.table.recalculated(model, truths);
+        clear(self.flags.as_mut_slice(), model, Flag::Recalculate);
+        Ok(())
+    }
+
+    /// Finds the nodes of a model that are not valid.
+    pub fn revalidate(&mut self, model: u32) -> Result<(), WorkFault>
+        requires model { model < length self.old.now.models }
+        ensures done { Does result self.new.now (Ok (machine.revalidate profile model (state_of self.old.now))) }
+        ensures kept { self.new.kept ≡ self.old.kept }
+        ensures built { self.new.built ≡ self.old.built }
+        ensures models { length self.new.now.models ≡ length self.old.now.models }
+    {
+        let forest = self.draft.forest();
+        revalidate(
+            self.alloc,
+            &self.loaded.form.tables,
+            forest,
+            model,
+            &mut self.table,
+        )?;
+        clear(self.flags.as_mut_slice(), model, Flag::Revalidate);
+        Ok(())
+    }
+
+    /// Sets the text of a node that a control binds, if it binds one.
+    pub fn set_bound(&mut self, text: &str, node: Option<NodeId>) -> Result<(), WorkFault>
+        ensures done { Does result self.new.now (bound_set profile text.now (option_map (λ n. n.number) node) (state_of self.old.now)) }
+        ensures kept { self.new.kept ≡ self.old.kept }
+        ensures built { self.new.built ≡ self.old.built }
+        ensures models { length self.new.now.models ≡ length self.old.now.models }
+    {
+        let Some(node) = node else {
+            return Ok(());
+        };
+        let instances = self.loaded.form.tables.instances.as_slice();
+        let forest = self.draft.forest();
+        may_set(self.alloc, instances, forest, node)?;
+        let holder = holder(instances, forest, node)?;
+        let is_other = is_other(forest, node, text)?;
+        forest.are_trees();
+        let made = set_text(&mut self.draft, node, text)?;
+        self.draft.forest().are_trees();
+        self.tally = grown(self.tally, made, 0)?;
+        mark(
+            &mut self.table,
+            self.flags.as_mut_slice(),
+            holder,
+            node,
+            is_other,
+        )?;
+        Ok(())
+    }
+
+    /// The controls made afresh.
+    pub fn shown(&self) -> Result<ControlList, WorkFault>
+        ensures { Finds (map seen_copy) result (update.shown profile (state_of self.now.now)) }
+    {
+        shown(self.alloc, &self.loaded, self.draft.forest(), &self.table)
+    }
+}

@@ -1,0 +1,70 @@
+//! The end of an event: what stands is kept, or what was kept stands again.
+
+ghost use Rattle.std.specs.Prelude.{◌≡◌, ◌+◌, None, length, OnOk};
+ghost use Rattle.xf_work.specs.Does.{IsKept};
+ghost use Rattle.xf_work.specs.Parts.{kept_or};
+
+use crate::fault::WorkFault;
+use crate::flags::Flags;
+use crate::work::Work;
+
+impl Work {
+    /// Counts the event that is handled as accepted. No run counts beyond 64 bits: that is told as want of memory.
+    pub fn count_event(&mut self) -> Result<(), WorkFault>
+        ensures now { OnOk result (self.new.now ≡ record self.old.now { accepted = self.old.now.accepted + 1 }) }
+        ensures kept { self.new.kept ≡ self.old.kept }
+        ensures built { self.new.built ≡ self.old.built }
+    {
+        match self.tally.counted() {
+            Some(tally) => {
+                self.tally = tally;
+                Ok(())
+            }
+            None => Err(WorkFault::Memory),
+        }
+    }
+
+    /// Keeps what stands: detached trees are dropped, and the next event has a whole budget. Takes no memory.
+    pub fn commit(&mut self)
+        ensures { IsKept self.old self.new }
+    {
+        self.draft.commit();
+        self.table.commit();
+        self.old_controls = None;
+        copy(self.flags.as_slice(), self.old_flags.as_mut_slice());
+        self.tally = self.tally.begun();
+        self.old_tally = self.tally;
+        self.old_built = self.built;
+    }
+
+    /// What was kept stands again. Takes no memory.
+    pub fn roll_back(&mut self)
+        ensures now { self.new.now ≡ self.old.kept.standing }
+        ensures kept { self.new.kept ≡ self.old.kept }
+        ensures built { self.new.built ≡ self.old.kept.built }
+    {
+        self.draft.roll_back();
+        self.table.roll_back();
+        put_back(&mut self.controls, &mut self.old_controls);
+        copy(self.old_flags.as_slice(), self.flags.as_mut_slice());
+        self.tally = self.old_tally;
+        self.built = self.old_built;
+    }
+}
+
+/// What was kept aside stands again.
+fn put_back<T: Drop>(now: &mut T, old: &mut Option<T>)
+    ensures now { now.new ≡ kept_or now.old old.old }
+    ensures old { old.new ≡ None }
+{
+    if let Some(kept) = old.take() {
+        *now = kept;
+    }
+}
+
+fn copy(from: &[Flags], to: &mut [Flags])
+    requires { length from.now ≡ length to.old }
+    ensures { to.new ≡ from.now }
+{
+    to.copy_from_slice(from);
+}

@@ -1,0 +1,36 @@
+//! What one event makes and evaluates, counted.
+
+ghost use Rattle.xf_work.specs.Grown.{IsGrown};
+
+use crate::fault::WorkFault;
+use crate::tally::Tally;
+use xf_form_machine::LimitWord;
+use xf_report::Refusal;
+
+/// The nodes that one event may make.
+pub(crate) const MADE: u64 = 4_294_967_296;
+
+/// Beyond all numbers of nodes that a form can take.
+pub(crate) const NUMBERS: u128 = 1 << 120;
+
+/// With so many nodes made and evaluations counted besides. No event counts evaluations beyond 64 bits: that is told as want of memory.
+pub(crate) fn grown(tally: Tally, made: u128, count: u64) -> Result<Tally, WorkFault>
+    ensures { IsGrown tally made count result }
+{
+    if made > MADE as u128 {
+        return Err(WorkFault::Refused(Refusal::Limit(LimitWord::Made)));
+    }
+    let all = tally.made as u128 + made;
+    if all > MADE as u128 {
+        return Err(WorkFault::Refused(Refusal::Limit(LimitWord::Made)));
+    }
+    match tally.evaluated.checked_add(count) {
+        Some(evaluated) => Ok(Tally {
+            accepted: tally.accepted,
+            turns: tally.turns,
+            made: all as u64,
+            evaluated,
+        }),
+        None => Err(WorkFault::Memory),
+    }
+}

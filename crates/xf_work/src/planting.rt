@@ -1,0 +1,126 @@
+//! The data with which a form begins (XForms 1.1, section 4.2.1).
+
+ghost use Rattle.std.specs.Prelude.{◌≡◌, [], true, OnOk};
+ghost use Rattle.xf_agree.specs.Hung.{are_hung};
+ghost use Rattle.xf_doc.specs.Changes.{in_detached};
+ghost use Rattle.xf_work.specs.Parts.{IsLoaded};
+ghost use Rattle.xf_work.specs.Planting.{Grows, IsPlanted, document_in, documents_grown, fault_of, planted_by};
+
+use crate::fault::WorkFault;
+use crate::flags::Flags;
+use crate::growing::{MADE, NUMBERS};
+use crate::tally::{TURNS, Tally};
+use crate::work::Work;
+use std::alloc::Global;
+use xf_ast::Instance;
+use xf_base::Items;
+use xf_binds::Table;
+use xf_doc::TreeFault;
+use xf_form_machine::LimitWord;
+use xf_loader::{Loaded, lit_at};
+use xf_report::Refusal;
+use xf_tree::Forest;
+use xf_undo::Draft;
+
+/// A form with its data, of which no model is built yet.
+pub fn planted(alloc: Global, loaded: Loaded) -> Result<Work, WorkFault>
+    requires { IsLoaded loaded }
+    ensures { IsPlanted result (planted_by loaded) }
+{
+    let count = loaded.form.models.len();
+    if count > u32::MAX as usize {
+        // No memory holds so many.
+        return Err(WorkFault::Memory);
+    }
+    let mut forest = Forest::new(alloc);
+    let made = plant_all(&mut forest, &loaded)?;
+    let table = Table::new(alloc, count as u32)?;
+    let flags = vec![in alloc; Flags::none(); count]?;
+    let old_flags = vec![in alloc; Flags::none(); count]?;
+    let tally = Tally {
+        accepted: 0,
+        turns: TURNS,
+        made,
+        evaluated: 0,
+    };
+    Ok(Work {
+        alloc,
+        loaded,
+        draft: Draft::new(alloc, forest),
+        table,
+        flags,
+        old_flags,
+        controls: Items::new(alloc),
+        old_controls: None,
+        tally,
+        old_tally: tally,
+        built: 0,
+        old_built: 0,
+    })
+}
+
+/// Plants the trees of all instances, each under a root. The answer is how many nodes were made.
+fn plant_all(forest: &mut Forest, loaded: &Loaded) -> Result<u64, WorkFault>
+    requires alone { in_detached forest.old.forest.nodes ≡ [] }
+    requires hung { are_hung forest.old.forest.nodes ≡ true }
+    ensures done { Grows result loaded.now forest.new.forest (documents_grown loaded.now loaded.now.form.tables.instances forest.old.forest 0) }
+    ensures alone { OnOk result (in_detached forest.new.forest.nodes ≡ []) }
+    ensures hung { OnOk result (are_hung forest.new.forest.nodes ≡ true) }
+{
+    let mut made = 0;
+    for instance in loaded.form.tables.instances.as_slice() {
+        made = plant(forest, loaded, instance, made)?;
+    }
+    Ok(made)
+}
+
+/// Plants the tree of an instance under a root of its own, after so many nodes were made. The answer is how many there are then.
+fn plant(
+    forest: &mut Forest,
+    loaded: &Loaded,
+    instance: &Instance,
+    made: u64,
+) -> Result<u64, WorkFault>
+    requires alone { in_detached forest.old.forest.nodes ≡ [] }
+    requires hung { are_hung forest.old.forest.nodes ≡ true }
+    ensures done { Grows result loaded.now forest.new.forest (document_in loaded.now instance.now forest.old.forest made) }
+    ensures alone { OnOk result (in_detached forest.new.forest.nodes ≡ []) }
+    ensures hung { OnOk result (are_hung forest.new.forest.nodes ≡ true) }
+{
+    forest.are_trees();
+    let next = forest.next_number();
+    if next > NUMBERS {
+        return Err(WorkFault::Memory);
+    }
+    let Some(tree) = lit_at(&loaded.lit, instance.place.as_slice()) else {
+        return Err(WorkFault::Memory);
+    };
+    match forest.plant(tree, &loaded.prefixes, instance.space) {
+        Ok(top) => {
+            let after = forest.next_number();
+            if after > NUMBERS || !forest.may_root(top) {
+                return Err(WorkFault::Memory);
+            }
+            let all = made as u128 + (after - next);
+            if all > MADE as u128 {
+                return Err(WorkFault::Refused(Refusal::Limit(LimitWord::Made)));
+            }
+            forest.add_root(top)?;
+            Ok(all as u64)
+        }
+        Err(fault) => Err(fault_of(fault)),
+    }
+}
+
+/// The limit of the forest that is passed. The names of a form that is loaded have no fault.
+pub(crate) fn fault_of(fault: TreeFault) -> WorkFault
+    ensures { result ≡ fault_of fault }
+{
+    match fault {
+        TreeFault::Nodes => WorkFault::Refused(Refusal::Limit(LimitWord::Nodes)),
+        TreeFault::NodeText => WorkFault::Refused(Refusal::Limit(LimitWord::Text)),
+        TreeFault::AllText => WorkFault::Refused(Refusal::Limit(LimitWord::All)),
+        TreeFault::Depth => WorkFault::Refused(Refusal::Limit(LimitWord::Depth)),
+        _ => WorkFault::Memory,
+    }
+}

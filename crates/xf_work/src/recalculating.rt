@@ -1,0 +1,69 @@
+//! The texts of a model, settled (XForms 1.1, section 4.3.2), and what its refusals mean.
+
+ghost use Rattle.std.specs.Prelude.{◌≡◌, true, IfOk, IfErr};
+ghost use Rattle.xf_agree.specs.Hung.{are_hung};
+ghost use Rattle.xf_binds.specs.Table.{kept_at};
+ghost use Rattle.xf_settle.specs.Settles.{IsSettled, words_of};
+ghost use Rattle.xf_work.specs.Built.{IsBuilt, scope_at};
+ghost use Rattle.xf_work.specs.Parts.{IsLoaded};
+ghost use Rattle.xf_work.specs.Settling.{IsPassed, StaysWhole, fault_of};
+
+use crate::around::{Quiet, documents};
+use crate::fault::WorkFault;
+use crate::growing::NUMBERS;
+use std::alloc::Global;
+use xf_binds::{Table, TruthList};
+use xf_form_machine::LimitWord;
+use xf_loader::Loaded;
+use xf_report::Refusal;
+use xf_settle::{SettleFault, settle};
+use xf_undo::Draft;
+
+/// Settles the texts of the calculates of a model. The answer is the truths of the entries, by their places. What was written before an
+/// `Err` stays.
+pub(crate) fn settle_texts(
+    alloc: Global,
+    loaded: &Loaded,
+    draft: &mut Draft,
+    model: u32,
+    table: &Table,
+) -> Result<TruthList, WorkFault>
+    requires loaded { IsLoaded loaded.now }
+    requires hung { are_hung draft.old.now.nodes ≡ true }
+    requires built { IsBuilt (scope_at loaded.now draft.old.now model) draft.old.now.nodes (kept_at table.now model) }
+    ensures ok { IfOk result (λ truths. IsSettled (scope_at loaded.now draft.old.now model) (kept_at table.now model).entries draft.old.now draft.new.now truths) }
+    ensures err { IfErr result (λ fault. IsPassed fault (words_of (scope_at loaded.now draft.old.now model) (kept_at table.now model).entries draft.old.now)) }
+    ensures whole { StaysWhole loaded.now draft.old.now draft.new.now }
+    ensures kept { draft.new.kept ≡ draft.old.kept }
+{
+    let instances = loaded.form.tables.instances.as_slice();
+    let documents = documents(alloc, instances, draft.forest())?;
+    let around = Quiet {
+        instances,
+        prefixes: &loaded.prefixes,
+        documents: documents.as_slice(),
+    };
+    draft.forest().are_trees();
+    if draft.forest().next_number() > NUMBERS {
+        return Err(WorkFault::Memory);
+    }
+    let settled = settle(alloc, &loaded.form.tables, draft, model, table, &around);
+    draft.forest().are_trees();
+    match settled {
+        Ok(truths) => Ok(truths),
+        Err(fault) => Err(told(fault)),
+    }
+}
+
+/// The limit that is passed.
+fn told(fault: SettleFault) -> WorkFault
+    ensures { result ≡ fault_of fault }
+{
+    match fault {
+        SettleFault::Long => WorkFault::Refused(Refusal::Limit(LimitWord::Long)),
+        SettleFault::Text => WorkFault::Refused(Refusal::Limit(LimitWord::Text)),
+        SettleFault::Nodes => WorkFault::Refused(Refusal::Limit(LimitWord::Nodes)),
+        SettleFault::AllTexts => WorkFault::Refused(Refusal::Limit(LimitWord::All)),
+        SettleFault::Memory => WorkFault::Memory,
+    }
+}

@@ -1,0 +1,74 @@
+//! The controls made afresh (XForms 1.1, section 4.3.4).
+
+ghost use Rattle.std.specs.Prelude.{◌≡◌, map, nat_lt};
+ghost use Rattle.xf_controls.specs.Seen.{seen_copy};
+ghost use Rattle.xf_ui.specs.Copies.{copy_count};
+ghost use Rattle.xf_work.specs.Calls.{IsWithin, Shows};
+ghost use Rattle.xf_work.specs.Parts.{IsLoaded};
+
+use crate::around::{Quiet, documents};
+use crate::fault::WorkFault;
+use crate::marks::Marked;
+use std::alloc::Global;
+use xf_binds::Table;
+use xf_controls::{ControlCopy, ControlList, controls};
+use xf_eval::EvalFault;
+use xf_form_machine::LimitWord;
+use xf_loader::Loaded;
+use xf_report::Refusal;
+use xf_tree::Forest;
+
+/// The copies of controls and items that a form may have.
+const CONTROLS: usize = 65_536;
+
+/// The controls of a form made afresh over its data and what its binds set.
+pub(crate) fn shown(
+    alloc: Global,
+    loaded: &Loaded,
+    forest: &Forest,
+    table: &Table,
+) -> Result<ControlList, WorkFault>
+    requires { IsLoaded loaded.now }
+    ensures { Shows loaded.now forest.now.forest table.now result }
+{
+    let instances = loaded.form.tables.instances.as_slice();
+    let documents = documents(alloc, instances, forest)?;
+    let around = Quiet {
+        instances,
+        prefixes: &loaded.prefixes,
+        documents: documents.as_slice(),
+    };
+    let marks = Marked { forest, table };
+    match controls(alloc, &loaded.form, forest, &around, &marks) {
+        Ok(list) => within(list),
+        Err(EvalFault::Long) => Err(WorkFault::Refused(Refusal::Limit(LimitWord::Long))),
+        Err(EvalFault::Memory) => Err(WorkFault::Memory),
+    }
+}
+
+/// The list, unless it has too many copies and items.
+fn within(list: ControlList) -> Result<ControlList, WorkFault>
+    ensures { IsWithin result list }
+{
+    if is_over(list.as_slice()) {
+        return Err(WorkFault::Refused(Refusal::Limit(LimitWord::Controls)));
+    }
+    Ok(list)
+}
+
+/// Whether there are more copies and items than a form may have.
+fn is_over(list: &[ControlCopy]) -> bool
+    ensures { result ≡ nat_lt 65536 (copy_count (map seen_copy list.now)) }
+{
+    if list.len() > CONTROLS {
+        return true;
+    }
+    let mut left = CONTROLS - list.len();
+    for copy in list {
+        if copy.items.len() > left {
+            return true;
+        }
+        left -= copy.items.len();
+    }
+    false
+}

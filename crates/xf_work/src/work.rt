@@ -1,0 +1,208 @@
+//! What an engine works on, and what is read of it.
+
+ghost use Rattle.std.specs.Prelude.{◌≡◌, ◌<◌, ◌++◌, [], true, map, find, length, option_map, string_bytes, OnOk};
+ghost use Rattle.xf_controls.specs.Plain.{is_plain};
+ghost use Rattle.xf_controls.specs.Seen.{is_copy_at, seen_copy};
+ghost use Rattle.xf_form_machine.specs.Behave.{model_at};
+ghost use Rattle.xf_form_machine.specs.ControlText.{state_text};
+ghost use Rattle.xf_form_machine.specs.Primitives.{spend as spent};
+ghost use Rattle.xf_form_machine.specs.Surround.{interface};
+ghost use Rattle.xf_form_machine.specs.Update as update;
+ghost use Rattle.xf_form_machine.specs.Update.{no_refresh};
+ghost use Rattle.xf_machine_laws.specs.Quiet.{Quiet};
+ghost use Rattle.xf_work.specs.Does.{Does, profile};
+ghost use Rattle.xf_work.specs.Flags.{flag_of};
+ghost use Rattle.xf_work.specs.Standing.{state_of};
+
+use crate::fault::WorkFault;
+use crate::flags::{Flag, Flags, clear_refresh, is_due, is_refresh_due};
+use crate::tally::Tally;
+use crate::telling::push_text;
+use std::alloc::{AllocError, Global};
+use std::marker::Model;
+use std::mem::replace;
+use xf_ast::Form;
+use xf_binds::Table;
+use xf_controls::{ControlCopy, ControlList, control_of};
+use xf_loader::Loaded;
+use xf_report::Refusal;
+use xf_undo::Draft;
+
+/// What an engine works on. Contracts see the states at the end of the last event and as it stands, and how many models are built.
+#[derive(Drop)]
+pub struct Work {
+    pub(crate) alloc: Global,
+    pub(crate) loaded: Loaded,
+    pub(crate) draft: Draft,
+    pub(crate) table: Table,
+    pub(crate) flags: Vec<Flags>,
+    pub(crate) old_flags: Vec<Flags>,
+    pub(crate) controls: ControlList,
+    // Those at the end of the last event, where they are others now.
+    pub(crate) old_controls: Option<ControlList>,
+    pub(crate) tally: Tally,
+    pub(crate) old_tally: Tally,
+    pub(crate) built: u64,
+    pub(crate) old_built: u64,
+}
+
+impl Model for Work {
+    ghost use Rattle.std.specs.Coded.{codes};
+    ghost use Rattle.xf_ast.specs.contracts.expr.Expr as expr;
+    ghost use Rattle.xf_binds.specs.Table.{all_rolled_back};
+    ghost use Rattle.xf_work.specs.Does.{Twin};
+    ghost use Rattle.xf_work.specs.Parts.{IsSound, kept_or, standing_of};
+
+    ghost Value = { Twin };
+
+    ghost coded = { Prim.hlevel (codes, expr.the_row.coded) };
+
+    ghost view = { λ w. record {
+      kept = record {
+        standing = standing_of w.loaded w.draft.kept (all_rolled_back w.table) w.old_flags.items (kept_or w.controls w.old_controls) w.old_tally;
+        built = w.old_built;
+      };
+      now = standing_of w.loaded w.draft.now w.table w.flags.items w.controls w.tally;
+      built = w.built;
+    } };
+
+    ghost invariant = { λ w. IsSound w.loaded w.draft w.table w.flags.items w.old_flags.items w.built w.old_built };
+}
+
+impl Work {
+    /// How many models the form has.
+    pub fn model_count(&self) -> u32
+        ensures { result ≡ length self.now.now.models }
+    {
+        self.flags.len() as u32
+    }
+
+    /// The form.
+    pub fn form(&self) -> &Form
+        ensures { result.now ≡ self.now.now.form }
+    {
+        &self.loaded.form
+    }
+
+    /// The turns that are left of the event that is handled.
+    pub fn turns(&self) -> u32
+        ensures { result ≡ self.now.now.turns }
+    {
+        self.tally.turns
+    }
+
+    /// Each control and container of the form has one copy. This tells contracts so, and does nothing.
+    pub fn plain(&self)
+        ensures { is_plain (interface (state_of self.now.now)) ≡ true }
+    {
+        let _ = &self.loaded;
+    }
+
+    /// No element of the form hears events, and nothing of it comes in rows. This tells contracts so, and does nothing.
+    pub fn quiet(&self)
+        ensures { Quiet (state_of self.now.now) }
+    {
+        let _ = &self.loaded;
+    }
+
+    /// Spends a turn.
+    pub fn spend(&mut self) -> Result<(), WorkFault>
+        ensures done { Does result self.new.now (spent (state_of self.old.now)) }
+        ensures kept { self.new.kept ≡ self.old.kept }
+        ensures built { self.new.built ≡ self.old.built }
+    {
+        match self.tally.spent() {
+            Some(tally) => {
+                self.tally = tally;
+                Ok(())
+            }
+            None => Err(WorkFault::Refused(Refusal::Budget)),
+        }
+    }
+
+    /// Whether a behaviour of one of the models is due.
+    pub fn is_due(&self) -> bool
+        ensures { result ≡ update.is_due (state_of self.now.now) }
+    {
+        is_due(self.flags.as_slice())
+    }
+
+    /// Whether the refresh of one of the models is due.
+    pub fn is_refresh_due(&self) -> bool
+        ensures { result ≡ update.is_refresh_due (state_of self.now.now) }
+    {
+        is_refresh_due(self.flags.as_slice())
+    }
+
+    /// Whether a behaviour of a model is due.
+    pub fn is_flagged(&self, model: u32, flag: Flag) -> bool
+        requires { model < length self.now.now.models }
+        ensures { result ≡ flag_of flag (model_at (state_of self.now.now) model).flags }
+    {
+        self.flags[model as usize].has(flag)
+    }
+
+    /// The controls of the last refresh.
+    pub fn controls(&self) -> &ControlList
+        ensures { map seen_copy result.now ≡ self.now.now.controls }
+    {
+        &self.controls
+    }
+
+    /// The copy of an element that stands in no row.
+    pub fn control(&self, element: u32) -> Option<&ControlCopy>
+        ensures { option_map (λ c. seen_copy c.now) result ≡ find (is_copy_at element []) self.now.now.controls }
+    {
+        control_of(&self.controls, element)
+    }
+
+    /// Keeps the controls that are shown now.
+    pub fn take_controls(&mut self, list: ControlList)
+        ensures now { self.new.now ≡ record self.old.now { controls = map seen_copy list } }
+        ensures kept { self.new.kept ≡ self.old.kept }
+        ensures built { self.new.built ≡ self.old.built }
+    {
+        let old = replace(&mut self.controls, list);
+        if self.old_controls.is_none() {
+            self.old_controls = Some(old);
+        }
+    }
+
+    /// No refresh is due any more.
+    pub fn clear_refresh(&mut self)
+        ensures now { self.new.now ≡ record self.old.now { models = map no_refresh self.old.now.models } }
+        ensures kept { self.new.kept ≡ self.old.kept }
+        ensures built { self.new.built ≡ self.old.built }
+    {
+        clear_refresh(self.flags.as_mut_slice());
+    }
+
+    /// How many events were accepted.
+    pub fn accepted(&self) -> u64
+        ensures { result ≡ self.now.now.accepted }
+    {
+        self.tally.accepted
+    }
+
+    /// How many evaluations the event made that is handled.
+    pub fn evaluated(&self) -> u64
+        ensures { result ≡ self.now.now.evaluated }
+    {
+        self.tally.evaluated
+    }
+
+    /// Appends the text of the state.
+    pub fn push_text(&self, text: &mut String) -> Result<(), AllocError>
+        ensures { OnOk result (string_bytes text.new ≡ string_bytes text.old ++ state_text profile (state_of self.now.now)) }
+    {
+        let forest = self.draft.forest();
+        push_text(
+            self.alloc,
+            &self.loaded,
+            forest,
+            &self.table,
+            &self.controls,
+            text,
+        )
+    }
+}
