@@ -1,0 +1,38 @@
+-- The construction and the start of a form in which nothing is heard, step by step.
+use Rattle.std.specs.Prelude.{◌≡◌, ◌≤◌, true, length, Result, Ok, Err}
+use Rattle.xf_form_machine.specs.Profile.{Profile}
+use Rattle.xf_form_machine.specs.State.{Model, State}
+use Rattle.xf_form_machine.specs.Refusal.{Refused}
+use Rattle.xf_form_machine.specs.Flow.{Run, ◌>>=◌, in_turn}
+use Rattle.xf_form_machine.specs.Cycles.{counted_from}
+use Rattle.xf_form_machine.specs.Behave.{no_flags}
+use Rattle.xf_form_machine.specs.Construct.{build_model}
+use Rattle.xf_machine_laws.specs.Quiet.{spend_by_model}
+use Rattle.xf_model.specs.Pertinent.{AllOf}
+use Rattle.xf_work.specs.declared.fault.WorkFault.{WorkFault}
+use Rattle.xf_work.specs.declared.fault.WorkFault.TheVariants as fault
+use Rattle.xf_work.specs.Standing.{state_of}
+use Rattle.xf_work.specs.Does.{Twin, IsRefused}
+use Rattle.xf_engine.specs.Stepped.{is_of_form}
+
+-- the models one after the other
+abbrev pub all_built : Profile → Run
+all_built p s = in_turn (build_model p) (counted_from 0 (length s.models)) s
+
+-- each model three times
+abbrev pub told_quietly : Run
+told_quietly s = spend_by_model s >>= spend_by_model >>= spend_by_model
+
+-- all models are built, and nothing is due
+pub record IsReady (w : Twin) : Type 0 where
+  pub built : length w.now.models ≤ w.built
+  pub rests : AllOf (λ (m : Model). m.flags ≡ no_flags) w.now.models
+
+pub record IsBuilt (w : Twin) (given : Result State Refused) : Type 0 where
+  pub is : given ≡ Ok (state_of w.now)
+  pub ready : IsReady w
+
+abbrev pub Builds : Result Twin WorkFault → Result State Refused → Type 0
+Builds (Ok w) given = IsBuilt w given
+Builds (Err (fault.Refused refusal)) given = IsRefused refusal given × (is_of_form refusal ≡ true)
+Builds (Err fault.Memory) given = Unit {0}

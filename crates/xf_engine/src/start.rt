@@ -1,0 +1,73 @@
+//! How a form starts (XForms 1.1, section 4.2): its data are planted, its models built, its controls shown, and its models told so.
+
+ghost use Rattle.std.specs.Prelude.{◌≡◌, ◌<◌, ◌≤◌, ◌+◌, [], Some, length, OnOk};
+ghost use Rattle.xf_form_machine.specs.Construct.{build_model as builds, construct as constructs};
+ghost use Rattle.xf_machine_laws.specs.Quiet.{spend_by_model};
+ghost use Rattle.xf_work.specs.Documents.{program_in};
+ghost use Rattle.xf_work.specs.Does.{Does, profile};
+ghost use Rattle.xf_work.specs.Standing.{state_of};
+ghost use Rattle.xf_engine.specs.Started.{Builds, all_built, told_quietly};
+ghost use Rattle.xf_engine.specs.Stepped.{IsFromBytes};
+
+use crate::updates::spend_times;
+use std::alloc::Global;
+use xf_loader::Loaded;
+use xf_work::{Work, WorkFault, planted};
+
+/// Constructs a form.
+pub(crate) fn constructed(alloc: Global, loaded: Loaded) -> Result<Work, WorkFault>
+    requires { IsFromBytes loaded }
+    ensures { Builds result (constructs profile (program_in loaded) (Some [])) }
+{
+    let mut work = planted(alloc, loaded)?;
+    build(&mut work)?;
+    let list = work.shown()?;
+    work.take_controls(list);
+    Ok(work)
+}
+
+/// The models one after the other.
+fn build(work: &mut Work) -> Result<(), WorkFault>
+    requires { work.old.built ≡ 0 }
+    ensures done { Does result work.new.now (all_built profile (state_of work.old.now)) }
+    ensures built { OnOk result (length work.new.now.models ≤ work.new.built) }
+{
+    let count = work.model_count();
+    for model in 0..count {
+        build_model(work, model)?;
+    }
+    Ok(())
+}
+
+/// The binds of a model are applied, its texts settled, its nodes validated.
+fn build_model(work: &mut Work, model: u32) -> Result<(), WorkFault>
+    requires model { model < length work.old.now.models }
+    requires built { work.old.built ≡ model }
+    ensures done { Does result work.new.now (builds profile model (state_of work.old.now)) }
+    ensures built { OnOk result (work.new.built ≡ model + 1) }
+{
+    work.rebuild(model)?;
+    work.recalculate(model)?;
+    work.revalidate(model)
+}
+
+/// Tells each model that it is constructed, and then that it is ready, which nobody hears: each event spends a turn.
+pub(crate) fn tell_models(work: &mut Work) -> Result<(), WorkFault>
+    ensures done { Does result work.new.now (told_quietly (state_of work.old.now)) }
+    ensures kept { work.new.kept ≡ work.old.kept }
+    ensures built { work.new.built ≡ work.old.built }
+{
+    tell_each(work)?; // xforms-model-construct
+    tell_each(work)?; // xforms-model-construct-done
+    tell_each(work) // xforms-ready
+}
+
+/// Tells each model of an event that nobody hears.
+fn tell_each(work: &mut Work) -> Result<(), WorkFault>
+    ensures done { Does result work.new.now (spend_by_model (state_of work.old.now)) }
+    ensures kept { work.new.kept ≡ work.old.kept }
+    ensures built { work.new.built ≡ work.old.built }
+{
+    let count = work.model_count();
+    spend_times(work, count as usize)
+}
