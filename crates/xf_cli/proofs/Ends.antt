@@ -1,24 +1,72 @@
 -- How a whole run ends.
-use Rattle.std.proofs.Common.{◌≡◌, ◌≤◌, ℕ, List, [], Ok, Some, None, subst, sym, inl, inr, arith, refl}
+use Rattle.std.proofs.Common.{◌≡◌, ◌≤◌, ℕ, List, [], codes, string_bytes, Some, Result, Ok, Err, Contains, refl, ap, sym, subst, arith, inl, inr}
 use Rattle.std.specs.declared.option.Option.{Option}
 use Rattle.std.specs.Io.KnownBytes.{Appends}
-use Rattle.std.proofs.KnownBytes.{Appends-trans, Appends-nil}
+use Rattle.std.proofs.KnownBytes.{Appends-nil, Appends-trans}
 use Rattle.xf_base.specs.Faults.{Rose}
-use Rattle.xf_form.specs.declared.form.Form.{Form}
-use Rattle.xf_machine.specs.State.{State, started}
-use Rattle.xf_machine.specs.Outside.{Outside, HasRisen, IsFormRead}
-use Rattle.xf_machine.specs.Written.{Writes, Ends, AppendsLine, FormGives, FromForm, SpellsTry, HasCauseIn, status_line}
-use Rattle.xf_machine.specs.declared.status.Ending.{Ending}
-use Rattle.xf_machine.specs.declared.status.Ending.TheVariants as ending
-use Rattle.xf_machine.specs.declared.status.Status.{Status}
-use Rattle.xf_machine.specs.declared.status.Status.TheVariants as status
-use Rattle.xf_cli.specs.Finish.{Says, Finishes, Runs, AnswersForm, IsRefused}
+use Rattle.xf_answers.specs.declared.lines.Ending.{Ending}
+use Rattle.xf_answers.specs.declared.lines.Ending.TheVariants as ending
+use Rattle.xf_loader.specs.declared.fault.FormFault.TheVariants as fault
+use Rattle.xf_loader.specs.declared.loaded.Loaded.{Loaded}
+use Rattle.xf_form_machine.specs.Program.{Program}
+use Rattle.xf_form_machine.specs.State.{State}
+use Rattle.xf_form_machine.specs.Refusal.{Refused}
+use Rattle.xf_form_machine.specs.Flow.{◌>>=◌}
+use Rattle.xf_form_machine.specs.Construct.{construct}
+use Rattle.xf_form_machine.specs.FormReplies.{construct_texts}
+use Rattle.xf_form_machine.specs.Start.{start, tell_models}
+use Rattle.xf_form_machine.specs.Step.{outcome, at_end}
+use Rattle.xf_work.specs.Documents.{program_in}
+use Rattle.xf_work.specs.Standing.{Standing, state_of}
+use Rattle.xf_work.specs.Does.{profile}
+use Rattle.xf_engine.specs.Stepped.{started, IsAccepted}
+use Rattle.xf_cli.specs.declared.status.Command.{Command}
+use Rattle.xf_cli.specs.declared.status.Command.TheVariants.{Try, Check}
+use Rattle.xf_cli.specs.declared.status.Status.{Status}
+use Rattle.xf_cli.specs.declared.status.Status.TheVariants as status
+use Rattle.xf_cli.specs.Outside.{Outside, HasRisen, IsFormRead}
+use Rattle.xf_cli.specs.Written.{Give, Spells, RefusesStart, RefusesProgram, RefusesBytes, IsAcceptable, FromForm, HasCauseIn, Writes, AppendsLine, status_line, Ends, IsStartRefused, refusal_line}
+use Rattle.xf_cli.specs.Finish.{IsRefusedWith, Says, Finishes, Runs, RunsLoaded, RunsConstructed}
 
--- ---- the answers over a form
+-- ---- a form that is constructed, and started
 
-from_form : (bytes : Option (List ℕ)) (form : Form) (holds : State → Type 0) → FormGives bytes (Ok form) → holds (started form) → FromForm bytes holds
-from_form None form holds is h = tt
-from_form (Some bytes) form holds is h = (form, is, h)
+start-same : (program : Program) (s : State) → construct profile program (Some []) ≡ Ok s → start profile program [] ≡ started s
+start-same program s e =
+    ap (λ (r : Result State Refused). outcome (at_end profile)
+    (r >>= tell_models profile (codes "xforms-model-construct") >>= tell_models profile (codes "xforms-model-construct-done") >>= tell_models profile (codes "xforms-ready"))) e
+
+pub tried : (l : Loaded) (c : Standing) (s : Status) (events left before after : Option (List ℕ)) → construct profile (program_in l) (Some []) ≡ Ok (state_of c)
+    → RunsConstructed (state_of c) events left before after s → RunsLoaded Try l events left before after s
+tried l c (status.Refused line) events left before after e h =
+    let started : IsStartRefused (start profile (program_in l) []) (string_bytes line) = subst (λ o. IsStartRefused o (string_bytes line)) (sym (start-same (program_in l) (state_of c) e)) h.1 in
+    (h.0, inr (subst (λ r. RefusesStart r (start profile (program_in l) []) (string_bytes line)) (sym e) started))
+tried l c status.NoRoom events left before after e h = h
+tried l c (status.Answered ending) events left before after e h =
+    (refl, (h.0, h.1, subst (λ o. IsAccepted o (state_of h.0) h.1) (sym (start-same (program_in l) (state_of c) e)) h.2, h.3))
+tried l c status.Checked events left before after e h = absurd h
+tried l c status.Usage events left before after e h = absurd h
+tried l c status.Unread events left before after e h = absurd h
+
+pub tried_by : (command : Command) (l : Loaded) (c : Standing) (s : Status) (events left before after : Option (List ℕ)) → command ≡ Try
+    → construct profile (program_in l) (Some []) ≡ Ok (state_of c) → RunsConstructed (state_of c) events left before after s → RunsLoaded command l events left before after s
+tried_by command l c s events left before after is e h =
+    subst (λ k. RunsLoaded k l events left before after s) (sym is) (tried l c s events left before after e h)
+
+pub refused_by : (command : Command) (l : Loaded) (line : List ℕ) → Contains (construct_texts (construct profile (program_in l) (Some []))) line → RefusesProgram command (program_in l) line
+refused_by Try l line h = inl h
+refused_by Check l line h = h
+
+-- ---- the run over a form
+
+from_form : (form : Option (List ℕ)) (l : Loaded) (first : Standing) (count : ℕ) (holds : Standing → Type 0) → Give form (Ok l)
+    → IsAccepted (start profile (program_in l) []) (state_of first) count → holds first → FromForm form holds
+from_form form l first count holds is a h = (l, first, count, is, a, h)
+
+refuses : (command : Command) (form : Option (List ℕ)) (l : Loaded) (line : List ℕ) → Give form (Ok l) → RefusesProgram command (program_in l) line → RefusesBytes command form line
+refuses command form l line is h = (Ok l, is, h)
+
+acceptable : (form : Option (List ℕ)) (l : Loaded) (s : State) → Give form (Ok l) → construct profile (program_in l) (Some []) ≡ Ok s → IsAcceptable form
+acceptable form l s is e = (l, s, is, e)
 
 cause_of : (e : Ending) (outside : Outside) → (status.Answered e ≡ status.Answered ending.ReadFault → HasRisen outside.event_faults)
     → (status.Answered e ≡ status.Answered ending.SinkFault → HasRisen outside.out_faults) → HasCauseIn e outside
@@ -31,14 +79,42 @@ cause_of ending.Memory outside read written = tt
 untouched : (a b : Option (List ℕ)) → b ≡ a → Appends a b []
 untouched a b e = subst (λ x. Appends a x []) (sym e) (Appends-nil a)
 
-pub runs_form : (s : Status) (form : Form) (outside : Outside) → SpellsTry outside.words → IsFormRead outside → FormGives outside.form (Ok form) → AnswersForm s form outside.events outside.left outside.before outside.after
+spells-try : (words : List (List ℕ)) (command : Command) → Spells words command → command ≡ Try → Spells words Try
+spells-try words command h e = subst (λ c. Spells words c) e h
+
+spells-check : (words : List (List ℕ)) (command : Command) → Spells words command → command ≡ Check → Spells words Check
+spells-check words command h e = subst (λ c. Spells words c) e h
+
+pub runs_loaded : (s : Status) (command : Command) (l : Loaded) (outside : Outside) → Spells outside.words command → IsFormRead outside → Give outside.form (Ok l)
+    → RunsLoaded command l outside.events outside.left outside.before outside.after s
     → (s ≡ status.Answered ending.ReadFault → HasRisen outside.event_faults) → (s ≡ status.Answered ending.SinkFault → HasRisen outside.out_faults) → Runs s outside
-runs_form (status.Answered e) form outside spells taken is answered read written =
-    (answered.0, (spells, taken, from_form outside.form form _ is answered.1, cause_of e outside read written), answered.2)
-runs_form status.NoRoom form outside spells taken is answered read written = ([], (spells, taken, answered.0, refl), untouched outside.before outside.after answered.1)
-runs_form status.Usage form outside spells taken is answered read written = absurd answered
-runs_form (status.Refused number place) form outside spells taken is answered read written = absurd answered
-runs_form status.Unread form outside spells taken is answered read written = absurd answered
+runs_loaded (status.Answered e) command l outside spells taken is h read written =
+    (h.1.3.0, (spells-try outside.words command spells h.0, taken, from_form outside.form l h.1.0 h.1.1 _ is h.1.2 h.1.3.1, cause_of e outside read written), h.1.3.2)
+runs_loaded (status.Refused line) command l outside spells taken is h read written =
+    ([], (command, (spells, taken, h.0.unread, refl), refuses command outside.form l (string_bytes line) is h.1), untouched outside.before outside.after h.0.unwritten)
+runs_loaded status.Checked command l outside spells taken is h read written =
+    ([], ((spells-check outside.words command spells h.1, taken, h.0.unread, refl), acceptable outside.form l h.2.0 is h.2.1), untouched outside.before outside.after h.0.unwritten)
+runs_loaded status.NoRoom command l outside spells taken is h read written =
+    ([], (command, (spells, taken, h.unread, refl)), untouched outside.before outside.after h.unwritten)
+runs_loaded status.Usage command l outside spells taken is h read written = absurd h
+runs_loaded status.Unread command l outside spells taken is h read written = absurd h
+
+-- ---- a form that is not loaded
+
+refuses-bytes : (command : Command) (form : Option (List ℕ)) (number : ℕ) (place line : List ℕ) → Give form (Err (fault.Refused number place)) → line ≡ refusal_line number place
+    → RefusesBytes command form line
+refuses-bytes command form number place line is e = (Err (fault.Refused number place), is, e)
+
+pub runs_refused : (s : Status) (command : Command) (number : ℕ) (place : List ℕ) (outside : Outside) → Spells outside.words command → IsFormRead outside
+    → Give outside.form (Err (fault.Refused number place)) → IsRefusedWith number place s → outside.left ≡ outside.events → outside.after ≡ outside.before → Runs s outside
+runs_refused (status.Refused line) command number place outside spells taken is h unread unwritten =
+    ([], (command, (spells, taken, unread, refl), refuses-bytes command outside.form number place (string_bytes line) is h), untouched outside.before outside.after unwritten)
+runs_refused status.NoRoom command number place outside spells taken is h unread unwritten =
+    ([], (command, (spells, taken, unread, refl)), untouched outside.before outside.after unwritten)
+runs_refused status.Checked command number place outside spells taken is h unread unwritten = absurd h
+runs_refused status.Usage command number place outside spells taken is h unread unwritten = absurd h
+runs_refused status.Unread command number place outside spells taken is h unread unwritten = absurd h
+runs_refused (status.Answered e) command number place outside spells taken is h unread unwritten = absurd h
 
 -- ---- the line for the status
 
@@ -61,17 +137,11 @@ cause_later ending.Memory outside after faults more h = tt
 
 writes_later : (s : Status) (outside : Outside) (after : Option (List ℕ)) (faults : ℕ) (written : List ℕ) → outside.out_faults.1 ≤ faults → Writes s outside written → Writes s (later outside after faults) written
 writes_later status.Usage outside after faults written more h = h
-writes_later (status.Refused number place) outside after faults written more h = h
+writes_later (status.Refused line) outside after faults written more h = h
+writes_later status.Checked outside after faults written more h = h
 writes_later status.Unread outside after faults written more h = h
 writes_later status.NoRoom outside after faults written more h = h
 writes_later (status.Answered e) outside after faults written more h = (h.0, h.1, h.2, cause_later e outside after faults more h.3)
-
-no_room_of : (s : Status) (outside : Outside) (written : List ℕ) → IsRefused s → Writes s outside written → Writes status.NoRoom outside written
-no_room_of (status.Refused number place) outside written refused h = (h.0, h.2, h.3, h.4)
-no_room_of status.Usage outside written refused h = absurd refused
-no_room_of status.Unread outside written refused h = absurd refused
-no_room_of status.NoRoom outside written refused h = absurd refused
-no_room_of (status.Answered e) outside written refused h = absurd refused
 
 says_line : (before mid after : Option (List ℕ)) (written line : List ℕ) (first faults now : ℕ) → first ≤ faults → Appends before mid written → Says mid after line faults now
     → AppendsLine before after written line (Rose first now)
@@ -82,15 +152,5 @@ says_line before mid after written line first faults now more wrote says = elim 
 
 pub finishes : (s : Status) (number : ℕ) (outside : Outside) (after : Option (List ℕ)) (faults : ℕ) → outside.out_faults.0 ≤ outside.out_faults.1 → outside.out_faults.1 ≤ faults
     → Runs s outside → Finishes s number outside.after after outside.out_faults.1 faults → Ends number (later outside after faults)
-finishes s number outside after faults before more runs ends = elim ends [
-  | inl told ↦ (s, told.0, (runs.0, writes_later s outside after faults runs.0 more runs.1, says_line outside.before outside.after after runs.0 (status_line s) outside.out_faults.0 outside.out_faults.1 faults before runs.2 told.1))
-  | inr unsaid ↦ (
-    status.NoRoom,
-    unsaid.1,
-    (
-      runs.0,
-      writes_later status.NoRoom outside after faults runs.0 more (no_room_of s outside runs.0 unsaid.0 runs.1),
-      says_line outside.before outside.after after runs.0 (status_line status.NoRoom) outside.out_faults.0 outside.out_faults.1 faults before runs.2 unsaid.2,
-    ),
-  )
-]
+finishes s number outside after faults before more runs told =
+    (s, told.0, (runs.0, writes_later s outside after faults runs.0 more runs.1, says_line outside.before outside.after after runs.0 (status_line s) outside.out_faults.0 outside.out_faults.1 faults before runs.2 told.1))

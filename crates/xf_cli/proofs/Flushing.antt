@@ -1,7 +1,6 @@
 -- What is written is flushed, one part after another.
 use Rattle.std.proofs.Common.{◌≤◌, ℕ, arith, inl, inr, subst, sym}
-use Rattle.xf_base.specs.Faults.{Rose}
-use Rattle.xf_machine.specs.Outside.{Taken, IsOut, IsOutOrFailed}
+use Rattle.xf_answers.specs.Out.{Taken, IsOut, IsOutOrFailed}
 
 pub out_again : (first mid last : Taken) → IsOut first mid → IsOut mid last → IsOut first last
 out_again first mid last before (inl same) = subst (IsOut first) (sym same) before

@@ -1,5 +1,5 @@
-pub mod Ends
 pub mod Flushing
-pub mod Loops
-pub mod Progress
+pub mod ReplyLaws
+pub mod FormBytes
+pub mod Ends
 pub mod Words

@@ -1,3 +1,4 @@
-pub mod Answering
+pub mod Outside
+pub mod Replies
+pub mod Written
 pub mod Finish
-pub mod Reading

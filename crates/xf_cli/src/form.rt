@@ -1,14 +1,14 @@
 //! Reading a form.
 
-ghost use Rattle.std.specs.Prelude.{◌≡◌, ◌≤◌, IfOk, Ok, Err};
+ghost use Rattle.std.specs.Prelude.{◌≡◌};
 ghost use Rattle.xf_base.specs.Faults.{Rose};
-ghost use Rattle.xf_machine.specs.Written.{FormGives};
-ghost use Rattle.xf_machine.specs.Outside.{TakesForm};
-ghost use Rattle.xf_cli.specs.Reading.{GivesReading, GivesLoaded, IsLoadedIndependent};
+ghost use Rattle.xf_cli.specs.Outside.{TakesForm};
+ghost use Rattle.xf_cli.specs.Finish.{GivesReading, GivesLoaded};
 
 use std::alloc::Global;
-use xf_form::{Form, FormFault, load};
 use xf_io::{Bytes, Source};
+use xf_loader as loader;
+use xf_loader::{FormFault, load};
 use xf_name::Word;
 
 // The most bytes of a form.
@@ -25,18 +25,17 @@ enum Reading {
 
 /// What comes of loading a form.
 #[derive(Drop)]
-pub enum Loaded {
-    Form(Form),
+pub(crate) enum Loaded {
+    Form(loader::Loaded),
     Refused(u8, Word),
     Unread,
     NoRoom,
 }
 
 /// Reads a form and loads it.
-pub fn load_form<F: Source>(alloc: Global, form: &mut F) -> Loaded
+pub(crate) fn load_form<F: Source>(alloc: Global, form: &mut F) -> Loaded
     ensures loaded { GivesLoaded (F.left form.old) result }
     ensures left { TakesForm (F.left form.old) (F.left form.new) }
-    ensures independent { IsLoadedIndependent result }
     ensures fault { result ≡ Loaded.Unread → Rose (F.faults form.old) (F.faults form.new) }
 {
     match read_form(alloc, form) {

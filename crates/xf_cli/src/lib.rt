@@ -1,12 +1,13 @@
 //! The work of the program, over the objects that it is given.
 #![tactic(auto)]
 
+mod begin;
+mod finish;
 mod form;
-mod lines;
-mod output;
-mod report;
+mod refusal;
 mod run;
 mod session;
-mod settle;
+mod status;
 
 pub use run::{no_room, xforms};
+pub use status::{Command, Status};

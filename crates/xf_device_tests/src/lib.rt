@@ -1,10 +1,12 @@
-//! What no contract of streams, stores, disks and journals says: what the runtime's files do, and each call once.
+//! What no contract of streams, stores, disks and journals says: what the runtime's files do, and each call once; and the counter of steps.
 #![tactic(auto)]
 
 #[cfg(test)]
 mod disks;
 #[cfg(test)]
 mod journals;
+#[cfg(test)]
+mod steps;
 #[cfg(test)]
 mod stores;
 #[cfg(test)]

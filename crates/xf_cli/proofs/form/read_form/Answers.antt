@@ -1,4 +1,4 @@
-use Rattle.std.proofs.Common.{◌++◌, length, take, arith, length-append, length-take}
+use Rattle.std.proofs.Common.{◌++◌, take, arith, length-append, length-take}
 use Rattle.std.proofs.KnownBytes.{Consumes-trans}
 use Rattle.xf_cli.proofs.form.read_form.Goals as goal
 

@@ -1,19 +1,14 @@
-use Rattle.std.proofs.Common.{◌≡◌, ◌+◌, List, ap, sym, ◌∙◌}
-use Rattle.xf_form.specs.declared.form.DataNode.{DataNode}
-use Rattle.xf_form.specs.declared.form.Form.{Form}
-use Rattle.xf_form.specs.declared.formula.Calculate.{Calculate}
-use Rattle.xf_machine.specs.State.{State, decimals, after_set}
-use Rattle.xf_machine.specs.Calculated.{round, set_value}
-use Rattle.xf_machine.proofs.SettleLaws.{settled_at_once}
+use Rattle.std.proofs.Common.{arith, sym}
+use Rattle.xf_cli.proofs.ReplyLaws.{from_empty, accepted_with, refused_with}
 use Rattle.xf_cli.proofs.session.Session.set.Goals as goal
 
-pub returns-clause-ok : goal.returns-clause-ok
-returns-clause-ok c =
-    let form : Form = c.self.inside.form in
-    let changed : List DataNode = set_value c.self.inside.nodes.items c.args.place c.args.text in
-    let by_calculates : List Calculate → List DataNode = λ calculates. round decimals calculates changed in
-    let settles : c.set_and_settle.new.nodes.items ≡ after_set form c.self.inside.nodes.items c.args.place c.args.text =
-    c.in_ok-set_and_settle.ensures.ok ∙ ap by_calculates c.as_slice.ensures ∙ sym (settled_at_once decimals form changed c.self.invariant) in
-    let with_nodes : List DataNode → State = λ nodes. record { form = form; nodes = nodes; accepted = c.self.inside.accepted + 1 } in
-    let after : State → State = λ s. record { form = s.form; nodes = after_set s.form s.nodes c.args.place c.args.text; accepted = s.accepted + 1 } in
-    ap with_nodes settles ∙ ap after c.self.view_is
+pub returns-in-Ok-clause-reply : goal.returns-in-Ok-clause-reply
+returns-in-Ok-clause-reply c =
+    accepted_with c.args.self.now c.self.inside.engine c.set.new.self c.in-Ok.field-0 c.in-Some.accepted c.args.id.now c.args.rows.now c.args.text.now _ (sym c.self.view_is) c.in-Ok.ensures
+    (omega (arith, c.in-Some.ensures, c.accepted.ensures))
+    (λ counts t posted h. from_empty _ _ _ (c.in_ok-push_ok.ensures counts t posted h) c.new-reply.ensures.bytes)
+
+pub returns-in-Err-Refused-clause-reply : goal.returns-in-Err-Refused-clause-reply
+returns-in-Err-Refused-clause-reply c =
+    refused_with c.args.self.now c.self.inside.engine c.set.new.self c.in-Err-Refused.field-0 c.in-Err-Refused.refusal c.args.id.now c.args.rows.now c.args.text.now
+    c.refused_text.result (sym c.self.view_is) c.in-Err-Refused.field-0-is c.in-Err-Refused.ensures c.refused_text.ensures

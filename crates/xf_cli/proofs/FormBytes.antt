@@ -1,0 +1,47 @@
+-- The bytes that were read of a form give what all of its bytes give.
+use Rattle.std.proofs.Common.{◌≡◌, ◌⊎◌, ◌≤◌, ◌^◌, ℕ, List, [], ◌++◌, length, nat_lt, Bool, true, false, Option, Some, None, Result, Err, refl, ap, sym, ◌∙◌, arith, length-append, if◌then◌else◌, inl, inr}
+use Rattle.std.specs.Io.KnownBytes.{Consumes, IsAtEnd}
+use Rattle.std.proofs.lemmas.Bool.Decides.{nat_tests}
+use Rattle.std.proofs.lemmas.List.{append-nil}
+use Rattle.xf_json.specs.Element.{lit_in}
+use Rattle.xf_loader.specs.declared.fault.FormFault.{FormFault}
+use Rattle.xf_loader.specs.declared.fault.FormFault.TheVariants.{Refused, Memory}
+use Rattle.xf_loader.specs.declared.loaded.Loaded.{Loaded}
+use Rattle.xf_loader.specs.Loading.{loaded_in, by_json, form_limit}
+use Rattle.xf_cli.specs.Written.{Give}
+
+abbrev by_size : Bool → Result Loaded FormFault → Result Loaded FormFault
+by_size large r = if large then Err (Refused 2 []) else r
+
+too_large : (bytes : List ℕ) → nat_lt form_limit (length bytes) ≡ true → loaded_in bytes ≡ Err (Refused 2 [])
+too_large bytes h = ap (λ large. by_size large (by_json (lit_in bytes))) h
+
+larger : (xs read ys : List ℕ) → xs ≡ read ++ ys → nat_lt form_limit (length read) ≡ true → nat_lt form_limit (length xs) ≡ true
+larger xs read ys c h =
+    let l : form_limit ≤ length read = grind (arith, nat_tests, h) in
+    let same = ap length c ∙ length-append read ys in
+    grind (arith, nat_tests, same, h)
+
+no_more : (n : ℕ) → nat_lt form_limit n ≡ false → n ≤ 2 ^ 20
+no_more n h = grind (arith, nat_tests, h)
+
+pub gives : (form left : Option (List ℕ)) (read : List ℕ) (given : Result Loaded FormFault) → Consumes form left read → (length read ≤ 2 ^ 20 → IsAtEnd left) → loaded_in read ≡ given → Give form given
+gives None left read given c e r = record { bytes = read; of = tt; give = r }
+gives (Some xs) None read given c e r = absurd c
+gives (Some xs) (Some ys) read given c e r = by (nat_lt form_limit (length read)) refl
+  where
+    by : (large : Bool) → nat_lt form_limit (length read) ≡ large → Give (Some xs) given
+    by true h = record { bytes = xs; of = refl; give = too_large xs (larger xs read ys c h) ∙ sym (too_large read h) ∙ r }
+    by false h = record { bytes = xs; of = refl; give = ap loaded_in (c ∙ ap (λ l. read ++ l) (e (no_more (length read) h)) ∙ append-nil read) ∙ r }
+
+-- ---- what loading them answers
+
+pub gives_form : (form left : Option (List ℕ)) (read seen : List ℕ) (given : Result Loaded FormFault) → Consumes form left read × (length read ≤ 2 ^ 20 → IsAtEnd left)
+    → seen ≡ read → loaded_in seen ≡ given → Give form given
+gives_form form left read seen given was same e = gives form left read given was.0 was.1 (ap loaded_in (sym same) ∙ e)
+
+pub gives_refusal : (form left : Option (List ℕ)) (read seen : List ℕ) (fault : FormFault) (number : ℕ) (place : List ℕ)
+    → Consumes form left read × (length read ≤ 2 ^ 20 → IsAtEnd left) → seen ≡ read → fault ≡ Refused number place → (fault ≡ Memory) ⊎ (loaded_in seen ≡ Err fault)
+    → Give form (Err (Refused number place))
+gives_refusal form left read seen fault number place was same is (inl memory) = cc
+gives_refusal form left read seen fault number place was same is (inr e) = gives_form form left read seen (Err (Refused number place)) was same (e ∙ ap Err is)

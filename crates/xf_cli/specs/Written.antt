@@ -1,0 +1,183 @@
+-- What a run has written as it ends.
+use Rattle.std.specs.Prelude.{ℕ, ◌≡◌, ◌⊎◌, List, [], ◌∷◌, ◌++◌, codes, decimal, string_bytes, Some, None, Result, Ok, Err, Contains, ◌==◌, if◌then◌else◌}
+use Rattle.std.specs.declared.option.Option.{Option as Known}
+use Rattle.std.specs.Io.KnownBytes.{Appends}
+use Rattle.xf_answers.specs.declared.lines.Ending.{Ending}
+use Rattle.xf_answers.specs.declared.lines.Ending.TheVariants.{Done, ReadFault, SinkFault, TooMuch, Memory}
+use Rattle.xf_answers.specs.Answers.{IsFront, AnswersKnown}
+use Rattle.xf_loader.specs.declared.fault.FormFault.{FormFault}
+use Rattle.xf_loader.specs.declared.fault.FormFault.TheVariants as fault
+use Rattle.xf_loader.specs.declared.loaded.Loaded.{Loaded}
+use Rattle.xf_loader.specs.Loading.{loaded_in}
+use Rattle.xf_form_machine.specs.Program.{Program}
+use Rattle.xf_form_machine.specs.State.{State}
+use Rattle.xf_form_machine.specs.Refusal as machine
+use Rattle.xf_form_machine.specs.Construct.{construct}
+use Rattle.xf_form_machine.specs.Start.{start}
+use Rattle.xf_form_machine.specs.Step.{Outcome, accepted, refused}
+use Rattle.xf_form_machine.specs.FormReplies.{construct_texts, ready_text}
+use Rattle.xf_form_machine.specs.StateText.{line_of}
+use Rattle.xf_work.specs.Documents.{program_in}
+use Rattle.xf_work.specs.Standing.{Standing, state_of}
+use Rattle.xf_work.specs.Does.{profile}
+use Rattle.xf_engine.specs.Stepped.{IsAccepted}
+use Rattle.xf_cli.specs.declared.status.Command.{Command}
+use Rattle.xf_cli.specs.declared.status.Command.TheVariants.{Try, Check}
+use Rattle.xf_cli.specs.declared.status.Status.{Status}
+use Rattle.xf_cli.specs.declared.status.Status.TheVariants.{Usage, Refused, Checked, Unread, NoRoom, Answered}
+use Rattle.xf_cli.specs.Outside.{Outside, HasRisen, IsUntouched, IsFormUntouched, IsFormRead}
+use Rattle.xf_cli.specs.Replies.{Answers}
+
+-- ---- words
+
+abbrev pub word_of : Command → List ℕ
+word_of Try = codes "try"
+word_of Check = codes "check"
+
+abbrev pub Spells : List (List ℕ) → Command → Type 0
+Spells words command = words ≡ word_of command ∷ []
+
+-- ---- a form that is not loaded
+
+abbrev pub refusal_name : ℕ → List ℕ
+refusal_name number =
+    if number == 1 then codes "NotJson"
+    else if number == 2 then codes "TooLarge"
+    else if number == 3 then codes "NotElement"
+    else if number == 4 then codes "BadName"
+    else if number == 5 then codes "Prefix"
+    else if number == 6 then codes "NoModel"
+    else if number == 7 then codes "Expression"
+    else if number == 8 then codes "NotStatic"
+    else if number == 9 then codes "UnknownElement"
+    else if number == 10 then codes "BadAttribute"
+    else if number == 11 then codes "DoubleId"
+    else if number == 12 then codes "NoSuchId"
+    else if number == 13 then codes "UnknownType"
+    else if number == 17 then codes "Limit"
+    else codes "NotBuilt"
+
+abbrev pub place_part : List ℕ → List ℕ
+place_part [] = []
+place_part (b ∷ bs) = codes " " ++ b ∷ bs
+
+abbrev pub refusal_line : ℕ → List ℕ → List ℕ
+refusal_line number place = codes "form F" ++ decimal number ++ codes " " ++ refusal_name number ++ place_part place ++ codes "\n"
+
+-- ---- a form that is loaded
+
+-- the start is refused
+abbrev pub IsStartRefused : Outcome → List ℕ → Type 0
+IsStartRefused (accepted s posted) line = ⊥
+IsStartRefused (refused why calls) line = line ≡ line_of (ready_text why)
+
+-- the construction is accepted, and the start refused
+abbrev pub RefusesStart : Result State machine.Refused → Outcome → List ℕ → Type 0
+RefusesStart (Ok s) started line = IsStartRefused started line
+RefusesStart (Err refusal) started line = ⊥
+
+-- the construction is refused, or the start where it is asked for
+abbrev pub RefusesProgram : Command → Program → List ℕ → Type 0
+RefusesProgram Try program line =
+    Contains (construct_texts (construct profile program (Some []))) line ⊎ RefusesStart (construct profile program (Some [])) (start profile program []) line
+RefusesProgram Check program line = Contains (construct_texts (construct profile program (Some []))) line
+
+abbrev pub RefusesForm : Command → Result Loaded FormFault → List ℕ → Type 0
+RefusesForm command (Err (fault.Refused number place)) line = line ≡ refusal_line number place
+RefusesForm command (Err fault.Memory) line = ⊥
+RefusesForm command (Ok loaded) line = RefusesProgram command (program_in loaded) line
+
+-- ---- the bytes of a form
+
+-- they are those of the form, where it tells them
+abbrev pub AreOf : Known (List ℕ) → List ℕ → Type 0
+AreOf None bytes = Unit {0}
+AreOf (Some told) bytes = told ≡ bytes
+
+-- they give this
+pub record Give (form : Known (List ℕ)) (given : Result Loaded FormFault) : Type 0 where
+  pub bytes : List ℕ
+  pub of : AreOf form bytes
+  pub give : loaded_in bytes ≡ given
+
+-- they are refused with this line
+abbrev pub RefusesBytes : Command → Known (List ℕ) → List ℕ → Type 0
+RefusesBytes command form line = (given : Result Loaded FormFault) × Give form given × RefusesForm command given line
+
+-- they give a form that is constructed
+abbrev pub IsAcceptable : Known (List ℕ) → Type 0
+IsAcceptable form = (loaded : Loaded) × (s : State) × Give form (Ok loaded) × (construct profile (program_in loaded) (Some []) ≡ Ok s)
+
+-- they give a form from whose state after the start this holds
+abbrev pub FromForm : Known (List ℕ) → (Standing → Type 0) → Type 0
+FromForm form holds =
+    (loaded : Loaded) × (first : Standing) × (count : ℕ) × Give form (Ok loaded) × IsAccepted (start profile (program_in loaded) []) (state_of first) count × holds first
+
+-- ---- a whole run
+
+-- a fault is told only where the object that was handed in counted one
+abbrev pub HasCauseIn : Ending → Outside → Type 0
+HasCauseIn Done outside = Unit {0}
+HasCauseIn ReadFault outside = HasRisen outside.event_faults
+HasCauseIn SinkFault outside = HasRisen outside.out_faults
+HasCauseIn TooMuch outside = Unit {0}
+HasCauseIn Memory outside = Unit {0}
+
+-- the words spell a command, no more of the form was read than a form may have, and nothing of the events
+abbrev pub BeforeEvents : Command → Outside → List ℕ → Type 0
+BeforeEvents command outside written = Spells outside.words command × IsFormRead outside × IsUntouched outside × (written ≡ [])
+
+-- when a run ends so, and what it has written then, the line for its status left out
+abbrev pub Writes : Status → Outside → List ℕ → Type 0
+Writes Usage outside written = ((command : Command) → ¬ Spells outside.words command) × IsFormUntouched outside × IsUntouched outside × (written ≡ [])
+Writes (Refused line) outside written = (command : Command) × BeforeEvents command outside written × RefusesBytes command outside.form (string_bytes line)
+Writes Checked outside written = BeforeEvents Check outside written × IsAcceptable outside.form
+Writes Unread outside written = (command : Command) × BeforeEvents command outside written × HasRisen outside.form_faults
+Writes NoRoom outside written = (command : Command) × BeforeEvents command outside written
+Writes (Answered ending) outside written =
+    Spells outside.words Try × IsFormRead outside × FromForm outside.form (λ first. AnswersKnown Answers ending first outside.events outside.left written) × HasCauseIn ending outside
+
+-- ---- the line for a status
+
+abbrev pub ending_line : Ending → List ℕ
+ending_line Done = []
+ending_line ReadFault = codes "fault read\n"
+ending_line SinkFault = []
+ending_line TooMuch = codes "fault too much\n"
+ending_line Memory = codes "fault memory\n"
+
+abbrev pub status_line : Status → List ℕ
+status_line Usage = codes "usage: xforms try | check\n"
+status_line (Refused line) = string_bytes line
+status_line Checked = codes "form ok\n"
+status_line Unread = codes "fault read\n"
+status_line NoRoom = codes "fault memory\n"
+status_line (Answered ending) = ending_line ending
+
+abbrev pub ending_code : Ending → ℕ
+ending_code Done = 0
+ending_code ReadFault = 4
+ending_code SinkFault = 5
+ending_code TooMuch = 8
+ending_code Memory = 9
+
+-- the number that the program ends with
+abbrev pub status_code : Status → ℕ
+status_code Usage = 2
+status_code (Refused line) = 3
+status_code Checked = 0
+status_code Unread = 4
+status_code NoRoom = 9
+status_code (Answered ending) = ending_code ending
+
+-- after some bytes the line was written, or a front of it where the sink failed
+abbrev pub AppendsLine : Known (List ℕ) → Known (List ℕ) → List ℕ → List ℕ → Type 0 → Type 0
+AppendsLine before after written line failed = Appends before after (written ++ line) ⊎ (failed × ((front : List ℕ) × IsFront front line × Appends before after (written ++ front)))
+
+-- the run ends with this status
+abbrev pub EndsWith : Status → Outside → Type 0
+EndsWith status outside = (written : List ℕ) × Writes status outside written × AppendsLine outside.before outside.after written (status_line status) (HasRisen outside.out_faults)
+
+-- the run ends with this number
+abbrev pub Ends : ℕ → Outside → Type 0
+Ends number outside = (status : Status) × (number ≡ status_code status) × EndsWith status outside

@@ -1,0 +1,66 @@
+//! How a form that is loaded begins.
+
+ghost use Rattle.xf_work.specs.Standing.{state_of};
+ghost use Rattle.xf_engine.specs.Stepped.{IsFromBytes};
+ghost use Rattle.xf_cli.specs.Finish.{IsBegun, IsStarted};
+
+use crate::session::Session;
+use std::alloc::Global;
+use xf_engine as engine;
+use xf_engine::Constructed;
+use xf_loader::Loaded;
+use xf_report::{push_construct_refusal, push_ready_refusal};
+use xf_work::WorkFault;
+
+/// What comes of constructing a form.
+#[derive(Drop)]
+pub(crate) enum Begun {
+    Constructed(Constructed),
+    /// It is refused, with this line.
+    Refused(String),
+    NoRoom,
+}
+
+/// What comes of starting a form.
+#[derive(Drop)]
+pub(crate) enum Started {
+    Session(Session),
+    /// It is refused, with this line.
+    Refused(String),
+    NoRoom,
+}
+
+/// Constructs a form.
+pub(crate) fn construct(alloc: Global, loaded: Loaded) -> Begun
+    requires { IsFromBytes loaded }
+    ensures { IsBegun loaded result }
+{
+    match engine::construct(alloc, loaded) {
+        Ok(constructed) => Begun::Constructed(constructed),
+        Err(WorkFault::Refused(refusal)) => {
+            let mut line = String::new(alloc);
+            match push_construct_refusal(&mut line, &refusal) {
+                Ok(()) => Begun::Refused(line),
+                Err(_) => Begun::NoRoom,
+            }
+        }
+        Err(WorkFault::Memory) => Begun::NoRoom,
+    }
+}
+
+/// Starts a form that is constructed.
+pub(crate) fn start(alloc: Global, constructed: Constructed) -> Started
+    ensures { IsStarted (state_of constructed) result }
+{
+    match constructed.start() {
+        Ok(engine) => Started::Session(Session { engine }),
+        Err(WorkFault::Refused(refusal)) => {
+            let mut line = String::new(alloc);
+            match push_ready_refusal(&mut line, &refusal) {
+                Ok(()) => Started::Refused(line),
+                Err(_) => Started::NoRoom,
+            }
+        }
+        Err(WorkFault::Memory) => Started::NoRoom,
+    }
+}

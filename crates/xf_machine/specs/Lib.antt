@@ -1,5 +1,0 @@
-pub mod Calculated
-pub mod State
-pub mod Replies
-pub mod Outside
-pub mod Written
