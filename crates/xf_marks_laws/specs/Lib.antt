@@ -1,0 +1,7 @@
+pub mod Marks
+pub mod Outside
+pub mod Instances
+pub mod Again
+pub mod Paths
+pub mod Binds
+pub mod Edits

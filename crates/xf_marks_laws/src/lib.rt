@@ -1,0 +1,74 @@
+//! The laws on which a recalculation rests that evaluates only what a change can reach: from the marks of what changed to one value. Each
+//! function does nothing: its contract is a law.
+#![tactic(auto)]
+
+ghost use Rattle.xf_marks_laws.specs.Marks.{EntryKeepsValue, EntryKeepsText};
+ghost use Rattle.xf_marks_laws.specs.Outside.{ButNumbersValue, ButNumbersText, OutsideStood, OutsideValue, OutsideTruth, OutsideText};
+ghost use Rattle.xf_marks_laws.specs.Instances.{WholeForests, InstancesTruth, InstancesText};
+ghost use Rattle.xf_marks_laws.specs.Edits.{SameAtFirst, SameRenumbered, TextMarked, TextSet, ListMarked, TreeCut, TreePlanted};
+ghost use Rattle.xf_marks_laws.specs.Binds.{BindStays, BindOfInstances, BindStaysInInstances};
+ghost use Rattle.xf_marks_laws.specs.Again.{BareAgain};
+ghost use Rattle.xf_marks_laws.specs.Paths.{PathNamesOne};
+
+/// An entry that reads nothing that is marked, and looks at no list that is, has the value, and the text, that it had.
+pub fn entry_keeps()
+    ensures value { EntryKeepsValue }
+    ensures text { EntryKeepsText }
+{}
+
+/// So it has where the data of before agree with those of now but for the numbers of nodes, and it stands at another place that it does not ask for.
+pub fn but_numbers()
+    ensures value { ButNumbersValue }
+    ensures text { ButNumbersText }
+{}
+
+/// An entry outside the pertinent ones stood at the last recalculation, and has the value, the truth and the text that it had then.
+pub fn outside_pertinent()
+    ensures stood { OutsideStood }
+    ensures value { OutsideValue }
+    ensures truth { OutsideTruth }
+    ensures text { OutsideText }
+{}
+
+/// What is told of the instances of two forests holds of the whole forests, once the other nodes of the first one have new numbers.
+pub fn whole_forests()
+    ensures { WholeForests }
+{}
+
+/// So an entry of an instance outside the pertinent ones has the truth and the text of then, whatever trees were detached.
+pub fn outside_in_instances()
+    ensures truth { InstancesTruth }
+    ensures text { InstancesText }
+{}
+
+/// What is told of the data of now and of then is so at first, and stays so where both are renumbered, and where a text is set and its node is marked.
+pub fn texts_marked()
+    ensures first { SameAtFirst }
+    ensures renumbered { SameRenumbered }
+    ensures marked { TextMarked }
+    ensures set { TextSet }
+{}
+
+/// It stays so where nodes come into a list or go out of it and the list is marked: so where a tree is cut off or planted.
+pub fn lists_marked()
+    ensures marked { ListMarked }
+    ensures cut { TreeCut }
+    ensures planted { TreePlanted }
+{}
+
+/// A bind sets the same on the same nodes where no list is marked that its node set, or one around it, looks at; and over the instances alone.
+pub fn bind_stays()
+    ensures stays { BindStays }
+    ensures instances { BindOfInstances }
+    ensures in_instances { BindStaysInInstances }
+{}
+
+/// The bare tree of a planted element is planted as that element is.
+pub fn bare_again()
+    ensures { BareAgain }
+{}
+
+/// The printed path of a node names one node of an instance.
+pub fn path_names_one()
+    ensures { PathNamesOne }
+{}
