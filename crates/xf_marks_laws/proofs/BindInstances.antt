@@ -30,7 +30,7 @@ and-both : (a b : Bool) → a ≡ true → b ≡ true → (a && b) ≡ true
 and-both true b h i = i
 and-both false b h i = h
 
-front-number : (n : ℕ) (nodes : List Node) → has_number n nodes ≡ false → has_number n (in_instances nodes) ≡ false
+pub front-number : (n : ℕ) (nodes : List Node) → has_number n nodes ≡ false → has_number n (in_instances nodes) ≡ false
 front-number n [] h = refl
 front-number n (x ∷ xs) h = by (is_detached_top x) (x.number == n) refl h (front-number n xs)
   where
@@ -91,7 +91,7 @@ front-first (x ∷ y ∷ ys) h = by (is_detached_top x) (is_detached_top y) refl
         ap (λ d. are_first (x ∷ cond d [] (y ∷ in_instances ys))) e
         ∙ and-both (stands_first x y) (are_first (y ∷ in_instances ys)) parts.0 (sym (ap (λ d. are_first (cond d [] (y ∷ in_instances ys))) e) ∙ i)
 
-front-trees : (forest : Forest) → HasTrees forest → HasTrees (instances_of forest)
+pub front-trees : (forest : Forest) → HasTrees forest → HasTrees (instances_of forest)
 front-trees forest h = record {
   apart = front-apart_too forest.nodes h.apart;
   below = front-all (λ x. nat_lt x.number forest.next) forest.nodes h.below;

@@ -1,5 +1,5 @@
 -- A tree that is cut off, or planted, changes one list of the visits.
-use Rattle.std.proofs.Common.{◌≡◌, ℕ, ◌==◌, Bool, true, false, not, cond, ◌&&◌, ◌||◌, List, [], ◌∷◌, ◌++◌, map, nat_lt, Some, refl, sym, ap, ◌∙◌, subst, inl, inr, arith}
+use Rattle.std.proofs.Common.{◌≡◌, ℕ, ◌==◌, Bool, true, false, not, cond, ◌&&◌, ◌||◌, List, [], ◌∷◌, ◌++◌, nat_lt, Some, refl, sym, ap, ◌∙◌, subst, inl, inr, arith}
 use Rattle.std.specs.Prelude.{⊤}
 use Rattle.std.proofs.lemmas.Bool.{cases_Bool, eqb-true}
 use Rattle.std.proofs.lemmas.Bool.Decides.{nat_tests}
@@ -20,7 +20,7 @@ use Rattle.xf_lang.proofs.ForestVisits.{Each, each-found}
 use Rattle.xf_marks_laws.specs.Edits.{without_nodes, StandsUnder, IsRelisted, StandsIn, TreeCut, TreePlanted}
 use Rattle.xf_marks_laws.proofs.ListEdits.{list_marked_law}
 
-or-right : (a b : Bool) → b ≡ true → (a || b) ≡ true
+pub or-right : (a b : Bool) → b ≡ true → (a || b) ≡ true
 or-right true b h = refl
 or-right false b h = h
 
@@ -63,7 +63,7 @@ numbers-has k (x ∷ xs) = ap (λ b. b || has k (numbers xs)) (turned k x.number
     turned : (m n : ℕ) → (m == n) ≡ (n == m)
     turned m n = grind (arith, nat_tests)
 
-absent-past : (k d : ℕ) (xs : List Node) → has_number k xs ≡ false → has_number k (past d xs) ≡ false
+pub absent-past : (k d : ℕ) (xs : List Node) → has_number k xs ≡ false → has_number k (past d xs) ≡ false
 absent-past k d [] e = refl
 absent-past k d (x ∷ xs) e =
     elim (cases_Bool (nat_lt d x.depth)) [
@@ -71,7 +71,7 @@ absent-past k d (x ∷ xs) e =
       | inr q ↦ rw q e
     ]
 
-below-part : (k d : ℕ) (xs : List Node) → has_number k (below d xs) ≡ true → has_number k xs ≡ true
+pub below-part : (k d : ℕ) (xs : List Node) → has_number k (below d xs) ≡ true → has_number k xs ≡ true
 below-part k d [] e = e
 below-part k d (x ∷ xs) e = by (nat_lt d x.depth) (below-part k d xs) e
   where
@@ -83,7 +83,7 @@ below-part k d (x ∷ xs) e = by (nat_lt d x.depth) (below-part k d xs) e
         of true g j = refl
         of false g j = g j
 
-tree-part : (k n : ℕ) (xs : List Node) → has_number k (tree_of n xs) ≡ true → has_number k xs ≡ true
+pub tree-part : (k n : ℕ) (xs : List Node) → has_number k (tree_of n xs) ≡ true → has_number k xs ≡ true
 tree-part k n [] e = e
 tree-part k n (x ∷ xs) e =
     elim (cases_Bool (x.number == n)) [
@@ -95,7 +95,7 @@ tree-part k n (x ∷ xs) e =
     here true j = refl
     here false j = below-part k x.depth xs j
 
-parts-apart : (k d : ℕ) (xs : List Node) → are_nodes_apart xs ≡ true → has_number k (below d xs) ≡ true → has_number k (past d xs) ≡ false
+pub parts-apart : (k d : ℕ) (xs : List Node) → are_nodes_apart xs ≡ true → has_number k (below d xs) ≡ true → has_number k (past d xs) ≡ false
 parts-apart k d [] a e = no e
 parts-apart k d (x ∷ xs) a e =
     elim (cases_Bool (nat_lt d x.depth)) [
@@ -132,7 +132,7 @@ tree-apart k n (x ∷ xs) a e =
 
 -- ---- nodes that are open
 
-still-has : (k d : ℕ) (ys : List Node) → has k (numbers (still_above d ys)) ≡ true → has k (numbers ys) ≡ true
+pub still-has : (k d : ℕ) (ys : List Node) → has k (numbers (still_above d ys)) ≡ true → has k (numbers ys) ≡ true
 still-has k d [] h = h
 still-has k d (y ∷ ys) h =
     elim (cases_Bool (nat_lt y.depth d)) [
@@ -140,11 +140,11 @@ still-has k d (y ∷ ys) h =
       | inr q ↦ or-right (k == y.number) (has k (numbers ys)) (still-has k d ys (ap (λ b. has k (numbers (cond b (y ∷ ys) (still_above d ys)))) (sym q) ∙ h))
     ]
 
-first-has : (k : ℕ) (ns : List ℕ) → is_first k ns ≡ true → has k ns ≡ true
+pub first-has : (k : ℕ) (ns : List ℕ) → is_first k ns ≡ true → has k ns ≡ true
 first-has k [] h = h
 first-has k (m ∷ ms) h = or-left (k == m) (has k ms) h
 
-still-within : (d e : ℕ) (above : List Node) → nat_lt d e ≡ false → still_above e (still_above d above) ≡ still_above e above
+pub still-within : (d e : ℕ) (above : List Node) → nat_lt d e ≡ false → still_above e (still_above d above) ≡ still_above e above
 still-within d e [] h = refl
 still-within d e (y ∷ ys) h =
     elim (cases_Bool (nat_lt y.depth d)) [
@@ -163,7 +163,7 @@ abbrev AreIn : List ℕ → List Node → Type 0
 AreIn moved [] = ⊤
 AreIn moved (x ∷ xs) = (has x.number moved ≡ true) × AreIn moved xs
 
-deeper : (d : ℕ) (xs : List Node) → AreDeeper d (below d xs)
+pub deeper : (d : ℕ) (xs : List Node) → AreDeeper d (below d xs)
 deeper d [] = tt
 deeper d (x ∷ xs) = elim (cases_Bool (nat_lt d x.depth)) [ inl e ↦ rw e (e, deeper d xs) | inr e ↦ rw e tt ]
 

@@ -27,3 +27,9 @@ pub mod TextSetLaws
 pub mod RenumberedNodes
 pub mod ListEdits
 pub mod CutLaws
+pub mod FrontEdits
+pub mod Attached
+pub mod TextAgain
+pub mod StandsThere
+pub mod NamesFree
+pub mod ElsewhereLaws

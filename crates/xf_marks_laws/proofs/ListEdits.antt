@@ -1,5 +1,5 @@
 -- A list that got or lost nodes keeps what is so of the data of now beside those of before, once it is marked.
-use Rattle.std.proofs.Common.{◌≡◌, ℕ, ◌==◌, Bool, true, false, not, cond, ◌&&◌, ◌||◌, List, [], ◌∷◌, map, Option, Some, None, option_map, refl, sym, ap, ◌∙◌}
+use Rattle.std.proofs.Common.{◌≡◌, ℕ, ◌==◌, Bool, true, false, not, cond, ◌&&◌, ◌||◌, List, [], ◌∷◌, map, Some, refl, sym, ap, ◌∙◌}
 use Rattle.std.specs.Prelude.{filter}
 use Rattle.std.specs.List.{list_any}
 use Rattle.std.proofs.lemmas.Bool.{eqb-true}
@@ -9,9 +9,9 @@ use Rattle.xf_doc.specs.Shape.{erased, has_elements}
 use Rattle.xf_doc.proofs.BackLaws.{and-true, or-false}
 use Rattle.xf_doc.proofs.RenumberLaws.{filter-through}
 use Rattle.xf_lang.specs.Asked.{found}
-use Rattle.xf_lang.specs.Agree.{numbers_of, are_apart, untexted}
-use Rattle.xf_lang.proofs.VisitFacts.{no, or-left, self-same, filter-and, filter-same, found-number, present, found-in, found-out}
-use Rattle.xf_lang.proofs.ForestVisits.{Each, each-map, self-found}
+use Rattle.xf_lang.specs.Agree.{numbers_of, are_apart}
+use Rattle.xf_lang.proofs.VisitFacts.{no, or-left, self-same, filter-and, found-number, present, found-in, found-out}
+use Rattle.xf_lang.proofs.ForestVisits.{each-map, self-found}
 use Rattle.xf_agree.specs.Kept.{keeps}
 use Rattle.xf_agree.proofs.Parts.{part-apart}
 use Rattle.xf_agree.proofs.HeldShape.{original}

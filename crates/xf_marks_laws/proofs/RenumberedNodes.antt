@@ -1,7 +1,6 @@
 -- What is so of the data of now beside those of before is so where both have other numbers.
-use Rattle.std.proofs.Common.{◌≡◌, ℕ, ◌==◌, Bool, true, false, not, cond, ◌&&◌, ◌||◌, List, [], ◌∷◌, map, Option, Some, None, option_map, refl, sym, ap, ◌∙◌, subst}
+use Rattle.std.proofs.Common.{◌≡◌, ℕ, ◌==◌, false, not, ◌&&◌, ◌||◌, List, [], ◌∷◌, map, Option, Some, None, option_map, refl, sym, ap, ◌∙◌}
 use Rattle.std.specs.Prelude.{filter}
-use Rattle.std.specs.List.{list_any}
 use Rattle.xf_doc.specs.Forest.{is_text, is_element}
 use Rattle.xf_doc.specs.Visit.{Visit, has, is_first}
 use Rattle.xf_doc.specs.Shape.{erased, has_elements}

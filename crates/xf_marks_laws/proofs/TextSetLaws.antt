@@ -107,7 +107,7 @@ texts-all : (d : ℕ) (xs : List Node) → AreTexts d xs → AllText xs
 texts-all d [] h = tt
 texts-all d (x ∷ xs) h = (h.0, texts-all d xs h.2)
 
-run-at : (d : ℕ) (xs : List Node) → IsRun d xs → AreAt (suc d) xs
+pub run-at : (d : ℕ) (xs : List Node) → IsRun d xs → AreAt (suc d) xs
 run-at d [] h = tt
 run-at d (x ∷ xs) (inl h) = (h.1, run-at d xs h.2)
 run-at d (x ∷ xs) (inr h) = (h.1, texts-at d xs h.2)

@@ -5,3 +5,4 @@ pub mod Again
 pub mod Paths
 pub mod Binds
 pub mod Edits
+pub mod InstanceEdits

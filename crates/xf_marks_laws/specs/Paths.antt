@@ -1,6 +1,9 @@
 -- The printed path of a node names one node of an instance.
-use Rattle.std.specs.Prelude.{ℕ, ◌≡◌, ◌<◌, ◌^◌, Bool, true, not, ◌&&◌, ◌||◌, ◌==◌, List, length, Some}
+use Rattle.std.specs.Prelude.{ℕ, ◌≡◌, ◌<◌, ◌^◌, Bool, true, not, ◌&&◌, ◌||◌, ◌==◌, ◌⊎◌, List, [], length, Some}
 use Rattle.std.specs.List.{list_any, list_all}
+use Rattle.std.specs.Str.{IsUtf8}
+use Rattle.xf_name.specs.Part.{is_part}
+use Rattle.xf_doc.specs.declared.content.Name.{Name}
 use Rattle.xf_doc.specs.declared.content.Content.{Content}
 use Rattle.xf_doc.specs.declared.content.Content.TheVariants.{Root, Element, Attribute}
 use Rattle.xf_doc.specs.Forest.{Forest, is_attribute, name_in, written, written_in, content_at, has_number}
@@ -34,3 +37,8 @@ pub record ArePathed (forest : Forest) : Type 0 where
 abbrev pub PathNamesOne : Type 0
 PathNamesOne = (forest : Forest) (root m n : ℕ) → ArePathed forest → content_at root forest.nodes ≡ Some Root → has_number m forest.nodes ≡ true → has_number n forest.nodes ≡ true →
     top_of m (visits forest.nodes) ≡ root → top_of n (visits forest.nodes) ≡ root → path_of m (visits forest.nodes) ≡ path_of n (visits forest.nodes) → m ≡ n
+
+-- names that consist of parts (Namespaces in XML 1.0, section 3) are such names
+abbrev pub NamesFree : Type 0
+NamesFree = (name : Name) (text : List ℕ) → IsUtf8 name.prefix → IsUtf8 name.meaning.local → is_part name.meaning.local ≡ true → (name.prefix ≡ []) ⊎ (is_part name.prefix ≡ true) →
+    (is_named (Element name) ≡ true) × (is_named (Attribute name text) ≡ true)
