@@ -11,3 +11,7 @@ pub mod Bounded
 pub mod Arguments
 pub mod Kept
 pub mod Falls
+pub mod Ordered
+pub mod Walked
+pub mod Positions
+pub mod Numbers

@@ -15,7 +15,7 @@ use Rattle.xf_doc.specs.Shape.{erased}
 use Rattle.xf_doc.specs.Texts.{Keeping}
 use Rattle.xf_doc.specs.WellFormed.{AreTrees, HasTrees}
 use Rattle.xf_doc.proofs.OrderLaws.{Sub, done, skip, keep, axis-in_order, visits-different}
-use Rattle.xf_doc.proofs.LiveLaws.{in_order-live}
+use Rattle.xf_doc.proofs.LiveLaws.{axis-all_live, in_order-live}
 use Rattle.xf_lang.specs.Setting.{in_order}
 use Rattle.xf_lang.specs.Steps.{reached}
 use Rattle.xf_lang.specs.Tests.{meets}
@@ -146,3 +146,9 @@ reached-met axis t n k sound =
     reached-erased axis t (visits k.forest.nodes) n
     ∙ met-listed axis t k.forest.nodes (axis_from axis (visits k.forest.nodes) (find (λ x. x.number == n) (visits k.forest.nodes))) (axis-told axis k.forest.nodes (trees-told k.forest trees) (find (λ x. x.number == n) (visits k.forest.nodes)))
     )
+
+-- what a step reaches is live
+pub reached-live : (axis : Axis) (t : Test) (n : ℕ) (k : Keeping) → AreTrees k → AllLive (reached axis t (map erased (visits k.forest.nodes)) n) k.forest.nodes
+reached-live axis t n k sound =
+    live-is k.forest.nodes (sym (reached-met axis t n k sound))
+    (live-filter (λ m. is_met axis t (content_at m k.forest.nodes)) (axis_of axis n (visits k.forest.nodes)) k.forest.nodes (axis-all_live axis n k.forest.nodes))

@@ -13,16 +13,16 @@ use Rattle.xf_lang.specs.declared.context.Context.{Context}
 use Rattle.xf_lang.specs.declared.fault.EvalFault.{EvalFault}
 use Rattle.xf_lang.specs.declared.fault.EvalFault.TheVariants.{Long, Memory}
 use Rattle.xf_lang.specs.declared.value.Value.{Value}
-use Rattle.xf_lang.specs.declared.value.Value.TheVariants.{Nodes, Truth}
+use Rattle.xf_lang.specs.declared.value.Value.TheVariants.{Nodes, Number, Truth}
 use Rattle.xf_lang.specs.Given.{Given}
 use Rattle.xf_lang.specs.Setting.{Focus, Meaning, Setting, each, in_order, joined}
-use Rattle.xf_lang.specs.Conversions.{truth_of}
+use Rattle.xf_lang.specs.Conversions.{number_of, truth_of}
 use Rattle.xf_lang.specs.Functions as functions
 use Rattle.xf_lang.specs.Meaning.{focus_of, meaning, or_long, setting_of, walk_of}
-use Rattle.xf_lang.specs.Operators.{and_then, linked, or_else, truly}
+use Rattle.xf_lang.specs.Operators.{and_then, linked, or_else, signed, truly}
 use Rattle.xf_lang.specs.Steps.{begun_at, from_one}
 use Rattle.xf_lang.specs.Table.{function_at}
-use Rattle.xf_lang.proofs.Equations.{meaning-Call, walk-step}
+use Rattle.xf_lang.proofs.Equations.{meaning-Call, meaning-Negated, walk-step}
 use Rattle.xf_eval.specs.declared.kinds.Kind.{Kind}
 use Rattle.xf_eval.specs.declared.kinds.Kind.TheVariants as kind
 use Rattle.xf_eval.specs.Kinds.{function_in}
@@ -30,9 +30,9 @@ use Rattle.xf_eval.specs.Answered.{answered, decides}
 use Rattle.xf_eval.specs.ByKind.{argument_or, by_kind}
 use Rattle.xf_eval.specs.OfOne.{one_worth}
 use Rattle.xf_eval.specs.Taken.{taken}
-use Rattle.xf_eval.specs.Worth.{setting_at, setting_in}
+use Rattle.xf_eval.specs.Worth.{negated_worth, setting_at, setting_in}
 use Rattle.xf_eval.proofs.Called.{by-kind}
-use Rattle.xf_eval.proofs.Settings.{answered-same}
+use Rattle.xf_eval.proofs.Settings.{answered-same, number-same}
 
 -- ---- steps
 
@@ -83,6 +83,15 @@ linked-both o left right m given nodes context c h e =
 -- a side that is too long
 pub linked-long : (o : Operator) (left : Value) (m : Meaning) (s : Setting) (c : Focus) → decides o (truth_of left) ≡ false → m s c ≡ None → linked o left m s c ≡ None
 linked-long o left m s c h e = linked-each o left m s c h ∙ ap (λ x. x >>= answered o s left) e
+
+pub negated-is : (place signs : ℕ) (operand : Expr) (given : Given) (nodes : List Node) (context : Context) →
+    meaning (expr.Negated place signs operand) (setting_at given nodes context) (focus_of context) ≡ negated_worth signs nodes (meaning operand (setting_at given nodes context) (focus_of context))
+negated-is place signs operand given nodes context =
+    ap (λ m. m (setting_at given nodes context) (focus_of context)) (meaning-Negated place signs operand) ∙ by (meaning operand (setting_at given nodes context) (focus_of context))
+  where
+    by : (m : Option Value) → option_map (λ k. Number (signed signs k)) (m >>= number_of (setting_at given nodes context)) ≡ negated_worth signs nodes m
+    by None = refl
+    by (Some v) = ap (option_map (λ k. Number (signed signs k))) (number-same given nodes context v)
 
 -- ---- calls
 

@@ -1,6 +1,10 @@
 -- Loops that go on from what one item made: where an item is too long, where there are more, and at the end.
 use Rattle.std.proofs.Common.{◌≡◌, ℕ, suc, ◌+◌, ◌<◌, ◌≤◌, Bool, true, false, List, [], ◌∷◌, ◌++◌, map, drop, length, get_or, Option, Some, None, option_map, refl, sym, ap, ◌∙◌, append_assoc}
+use Rattle.std.specs.Prelude.{fold}
 use Rattle.std.proofs.lemmas.List.{at_drop_more, at_drop_all}
+use Rattle.xf_doc.specs.declared.content.Node.{Node}
+use Rattle.xf_doc.specs.declared.node.NodeId.{NodeId}
+use Rattle.xf_plain_values.specs.Conversions.{Decimal}
 use Rattle.xf_ast.specs.declared.expr.Expr.{Expr}
 use Rattle.xf_ast.specs.declared.expr.Link.{Link}
 use Rattle.xf_ast.specs.declared.expr.Step.{Step}
@@ -10,6 +14,8 @@ use Rattle.xf_lang.specs.Meaning.{meaning, meaning_of_link, walk_of}
 use Rattle.xf_lang.specs.Operators.{chained, linked}
 use Rattle.xf_lang.specs.Steps.{is_true_at, kept_by_all, kept_from, walked, with_first}
 use Rattle.xf_lang.proofs.Equations.{meaning-link}
+use Rattle.xf_eval.specs.declared.kinds.Kind.{Kind}
+use Rattle.xf_eval.specs.Texts.{combined, folded, number_at}
 use Rattle.xf_eval.proofs.Lists.{onto}
 
 -- ---- any such loop
@@ -84,6 +90,32 @@ pub kept-stuck : (s : Setting) (m : Meaning) (size position n : ℕ) (ns kept : 
     onto kept (kept_from s m size position (n ∷ ns)) ≡ None
 kept-stuck s m size position n ns kept h = ap (λ given. onto kept (given >>= λ value. kept_from s m size (suc position) ns >>= λ rs. Some (with_first n (is_true_at s.given.decimals position value) rs))) h
 
+-- ---- numbers of nodes
+
+fold-goes : (kind : Kind) (nodes : List Node) → Goes (λ (ids : List NodeId) (at : Decimal). folded kind nodes at (map (λ (i : NodeId). i.number) ids)) (λ id at. option_map (combined kind at) (number_at nodes id.number))
+fold-goes kind nodes id ids at = by (number_at nodes id.number) (each (number_at nodes) (map (λ (i : NodeId). i.number) ids))
+  where
+    by : (m : Option Decimal) (rest : Option (List Decimal)) →
+        option_map (fold (combined kind) at) (m >>= λ y. rest >>= λ ys. Some (y ∷ ys)) ≡ (option_map (combined kind at) m >>= λ next. option_map (fold (combined kind) next) rest)
+    by None rest = refl
+    by (Some y) None = refl
+    by (Some y) (Some ys) = refl
+
+pub fold-stuck : (kind : Kind) (nodes : List Node) (ids : List NodeId) (i : ℕ) (d : NodeId) (at : Decimal) (worth : Option Decimal) →
+    folded kind nodes at (map (λ (i : NodeId). i.number) (drop i ids)) ≡ worth → i < length ids → number_at nodes (get_or ids i d).number ≡ None → worth ≡ None
+fold-stuck kind nodes ids i d at worth inv l h =
+    run-stuck (λ (ids : List NodeId) (at : Decimal). folded kind nodes at (map (λ (i : NodeId). i.number) ids)) (λ id at. option_map (combined kind at) (number_at nodes id.number)) (fold-goes kind nodes) ids i d at worth inv l (ap (option_map (combined kind at)) h)
+
+pub fold-more : (kind : Kind) (nodes : List Node) (ids : List NodeId) (i : ℕ) (d : NodeId) (at next : Decimal) (worth : Option Decimal) →
+    folded kind nodes at (map (λ (i : NodeId). i.number) (drop i ids)) ≡ worth → i < length ids → number_at nodes (get_or ids i d).number ≡ Some next →
+    folded kind nodes (combined kind at next) (map (λ (i : NodeId). i.number) (drop (i + 1) ids)) ≡ worth
+fold-more kind nodes ids i d at next worth inv l h =
+    run-more (λ (ids : List NodeId) (at : Decimal). folded kind nodes at (map (λ (i : NodeId). i.number) ids)) (λ id at. option_map (combined kind at) (number_at nodes id.number)) (fold-goes kind nodes) ids i d at (combined kind at next) worth inv l (ap (option_map (combined kind at)) h)
+
+pub fold-done : (kind : Kind) (nodes : List Node) (ids : List NodeId) (i : ℕ) (at : Decimal) (worth : Option Decimal) →
+    folded kind nodes at (map (λ (i : NodeId). i.number) (drop i ids)) ≡ worth → length ids ≤ i → worth ≡ Some at
+fold-done kind nodes ids i at worth inv l = run-done (λ (ids : List NodeId) (at : Decimal). folded kind nodes at (map (λ (i : NodeId). i.number) ids)) ids i at worth inv l
+
 -- ---- chains of operators
 
 chain-goes : (s : Setting) (c : Focus) → Goes (λ (links : List Link) (left : Value). chained (map meaning_of_link links) left s c) (λ link left. linked link.operator left (meaning link.right) s c)
@@ -112,3 +144,23 @@ joined-more made done n ns found h = by (made n) (each made ns) h
     by None rest e = cc e
     by (Some y) None e = refl
     by (Some y) (Some ys) e = let i : y ≡ found = cc e in ap (λ z. Some (done ++ (z ++ joined ys))) i ∙ ap Some (sym (append_assoc done found (joined ys)))
+
+-- one node's are put behind those that are found
+pub joined-onto : {A : Type 0} (made : A → Option (List ℕ)) (done next : List ℕ) (n : A) (ns : List A) → option_map (λ kept. done ++ kept) (made n) ≡ Some next →
+    option_map (λ sets. done ++ joined sets) (each made (n ∷ ns)) ≡ option_map (λ sets. next ++ joined sets) (each made ns)
+joined-onto {A = A} made done next n ns h = by (made n) refl h
+  where
+    by : (m : Option (List ℕ)) → made n ≡ m → option_map (λ kept. done ++ kept) m ≡ Some next →
+        option_map (λ sets. done ++ joined sets) (each made (n ∷ ns)) ≡ option_map (λ sets. next ++ joined sets) (each made ns)
+    by None i e = cc e
+    by (Some found) i e =
+        let is : done ++ found ≡ next = cc e in
+        joined-more made done n ns found i ∙ ap (λ l. option_map (λ sets. l ++ joined sets) (each made ns)) is
+
+pub joined-none : {A : Type 0} (made : A → Option (List ℕ)) (done : List ℕ) (n : A) (ns : List A) → option_map (λ kept. done ++ kept) (made n) ≡ None →
+    option_map (λ sets. done ++ joined sets) (each made (n ∷ ns)) ≡ None
+joined-none made done n ns h = by (made n) (each made ns) h
+  where
+    by : (m : Option (List ℕ)) (rest : Option (List (List ℕ))) → option_map (λ kept. done ++ kept) m ≡ None → option_map (λ sets. done ++ joined sets) (m >>= λ y. rest >>= λ ys. Some (y ∷ ys)) ≡ None
+    by None rest e = refl
+    by (Some found) rest e = cc e

@@ -7,3 +7,5 @@ pub mod Answered
 pub mod OfNodes
 pub mod OfOne
 pub mod ByKind
+pub mod Texts
+pub mod Places

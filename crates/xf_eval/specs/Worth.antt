@@ -1,5 +1,5 @@
 -- The setting in which values of a forest are converted and expressions evaluated (XPath 1.0, sections 1 and 4), with six decimals.
-use Rattle.std.specs.Prelude.{ℕ, List, [], map, Option, Some, None}
+use Rattle.std.specs.Prelude.{ℕ, List, [], map, Option, Some, None, option_map}
 use Rattle.xf_base.specs.Limits.{string_limit}
 use Rattle.xf_doc.specs.declared.content.Node.{Node}
 use Rattle.xf_doc.specs.Visit.{Visit, visits}
@@ -7,7 +7,9 @@ use Rattle.xf_doc.specs.Shape.{erased}
 use Rattle.xf_lang.specs.declared.context.Context.{Context}
 use Rattle.xf_lang.specs.declared.value.Value.{Value}
 use Rattle.xf_lang.specs.Given.{Given}
-use Rattle.xf_lang.specs.Setting.{Setting, setting_over}
+use Rattle.xf_lang.specs.declared.value.Value.TheVariants.{Number}
+use Rattle.xf_lang.specs.Setting.{Setting, ◌>>=◌, setting_over}
+use Rattle.xf_lang.specs.Operators.{signed}
 use Rattle.xf_lang.specs.Conversions.{number_of, string_of}
 use Rattle.xf_lang.specs.Meaning.{setting_of}
 use Rattle.xf_plain_values.specs.Conversions.{Decimal}
@@ -36,3 +38,7 @@ text_worth nodes value = string_of (setting_in nodes) value
 
 abbrev pub number_worth : List Node → Value → Option Decimal
 number_worth nodes value = number_of (setting_in nodes) value
+
+-- the number of a value behind so many signs
+abbrev pub negated_worth : ℕ → List Node → Option Value → Option Value
+negated_worth signs nodes value = option_map (λ k. Number (signed signs k)) (value >>= number_worth nodes)

@@ -9,6 +9,7 @@ ghost use Rattle.xf_lang.specs.Conversions.{nodes_of, truth_of, string_of_node, 
 ghost use Rattle.xf_eval.specs.Live.{AllLive};
 ghost use Rattle.xf_eval.specs.Worth.{setting_in, text_worth, number_worth};
 
+use crate::texts::{STRING_LIMIT, first_value};
 use std::alloc::Global;
 use xf_doc::{NodeId, NodeList};
 use xf_lang::{EvalFault, Value};
@@ -16,9 +17,6 @@ use xf_name::Word;
 use xf_num::Num;
 use xf_plain_values::Plain;
 use xf_tree::Forest;
-
-/// No string of an evaluation has more bytes.
-const STRING_LIMIT: u32 = 4_194_304;
 
 /// The units in one.
 const ONE: u64 = 1_000_000;
@@ -119,7 +117,7 @@ pub fn number_of(alloc: Global, forest: &Forest, value: &Value) -> Result<Num, E
     ensures { GivesBounded EvalFault.Memory EvalFault.Long (λ number. number) result (number_worth forest.now.forest.nodes value.now) }
 {
     match value {
-        Value::Nodes(nodes) => Ok(Num::read(first_string(alloc, forest, nodes)?.as_str())),
+        Value::Nodes(nodes) => Ok(Num::read(first_value(alloc, forest, nodes)?.as_str())),
         Value::Text(text) => Ok(Num::read(text.as_str())),
         Value::Number(number) => Ok(*number),
         Value::Truth(truth) => Ok(number_of_truth(*truth)),

@@ -8,7 +8,7 @@ ghost use Rattle.xf_lang.specs.Conversions.{nodes_of};
 ghost use Rattle.xf_lang.specs.Operators.{signed};
 ghost use Rattle.xf_lang.specs.Meaning.{focus_of, meaning, value_of};
 ghost use Rattle.xf_eval.specs.Live.{AllLive, IsReady};
-ghost use Rattle.xf_eval.specs.Worth.{setting_at};
+ghost use Rattle.xf_eval.specs.Worth.{negated_worth, setting_at};
 
 use crate::around::Around;
 use crate::calls::call_value;
@@ -72,9 +72,7 @@ pub fn value_at<A: Around>(
             )
         }
         Expr::Negated(_, signs, operand) => {
-            let value = value_at(alloc, forest, around, operand.get(), context)?;
-            let number = number_of(alloc, forest, &value)?;
-            Ok(Value::Number(signed(*signs, number)))
+            negated(alloc, forest, around, *signs, operand.get(), context)
         }
         Expr::Chain(first, links) => {
             let left = value_at(alloc, forest, around, first.get(), context)?;
@@ -83,7 +81,8 @@ pub fn value_at<A: Around>(
         Expr::Filter(first, predicates) => {
             let value = value_at(alloc, forest, around, first.get(), context)?;
             let nodes = nodes_in(alloc, value);
-            let kept = kept_by_all(alloc, forest, around, predicates.as_slice(), nodes, context)?;
+            let asked = predicates.as_slice();
+            let kept = kept_by_all(alloc, forest, around, asked, 0, nodes, context)?;
             Ok(Value::Nodes(kept))
         }
         Expr::Path(_, start, steps) => {
@@ -98,6 +97,25 @@ pub fn value_at<A: Around>(
             Ok(Value::Nodes(nodes))
         }
     }
+}
+
+/// The number that an expression is behind so many signs.
+#[cycle(value)]
+fn negated<A: Around>(
+    alloc: Global,
+    forest: &Forest,
+    around: &A,
+    signs: u32,
+    operand: &Expr,
+    context: &Context,
+) -> Result<Value, EvalFault>
+    requires { IsReady (A.given around.now) forest.now.forest.nodes context.now }
+    ensures value { GivesBounded EvalFault.Memory EvalFault.Long (λ value. value) result (negated_worth signs forest.now.forest.nodes (meaning operand.now (setting_at (A.given around.now) forest.now.forest.nodes context.now) (focus_of context.now))) }
+    ensures live { IfOk result (λ value. AllLive (nodes_of value) forest.now.forest.nodes) }
+{
+    let value = value_at(alloc, forest, around, operand, context)?;
+    let number = number_of(alloc, forest, &value)?;
+    Ok(Value::Number(signed(signs, number)))
 }
 
 /// The number behind so many signs.

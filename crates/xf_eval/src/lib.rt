@@ -10,8 +10,11 @@ mod kinds;
 mod node_test;
 mod of_nodes;
 mod operators;
+mod order;
+mod places;
 mod sets;
 mod steps;
+mod texts;
 
 pub use around::Around;
 pub use convert::{number_of, text_of, truth_of};

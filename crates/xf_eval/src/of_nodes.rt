@@ -1,23 +1,25 @@
 //! Functions of nodes (XPath 1.0, sections 4.1 and 4.4; XForms 1.1, section 7.7).
 
 ghost use Rattle.std.specs.Prelude.{◌≡◌, length, map, filter, option_and_then, option_map, Some};
-ghost use Rattle.xf_num.specs.Written.{read_at};
 ghost use Rattle.xf_base.specs.Limits.{string_limit};
 ghost use Rattle.xf_doc.specs.Forest.{name_in, written};
 ghost use Rattle.xf_plain_values.specs.Bounded.{GivesBounded, capped};
 ghost use Rattle.xf_plain_values.specs.Conversions.{whole};
 ghost use Rattle.xf_lang.specs.Conversions.{is_filled, nodes_of, strings_of};
-ghost use Rattle.xf_lang.specs.Functions.{total, extreme};
+ghost use Rattle.xf_lang.specs.Functions.{average, total, extreme};
+ghost use Rattle.xf_lang.specs.Setting.{each};
 ghost use Rattle.xf_eval.specs.Live.{AllLive};
 ghost use Rattle.xf_eval.specs.OfNodes.{better, name_worth, set_worth};
+ghost use Rattle.xf_eval.specs.Texts.{combined, folded, number_at};
 ghost use Rattle.xf_eval.specs.Worth.{setting_in};
 
 use crate::around::Around;
-use crate::convert::{kept_text, string_of_node, whole};
+use crate::convert::{kept_text, whole};
 use crate::kinds::Kind;
+use crate::texts::{number_of_node, value_of_node};
 use std::alloc::Global;
 use std::cmp::Ordering;
-use xf_doc::{Content, Name, NodeList};
+use xf_doc::{Content, Name, NodeId, NodeList};
 use xf_lang::{EvalFault, Value};
 use xf_name::Word;
 use xf_num::Num;
@@ -35,22 +37,10 @@ pub(crate) fn of_nodes(
 {
     match kind {
         Kind::CountingFilled => Ok(Value::Number(filled_count(alloc, forest, nodes)?)),
-        Kind::Adding => {
-            let numbers = numbers_of(alloc, forest, nodes)?;
-            Ok(Value::Number(total(numbers.as_slice())))
-        }
-        Kind::Averaging => {
-            let numbers = numbers_of(alloc, forest, nodes)?;
-            Ok(Value::Number(total(numbers.as_slice()).div(whole(numbers.len()))))
-        }
-        Kind::Greatest => {
-            let numbers = numbers_of(alloc, forest, nodes)?;
-            Ok(Value::Number(extreme(true, numbers.as_slice())))
-        }
-        Kind::Least => {
-            let numbers = numbers_of(alloc, forest, nodes)?;
-            Ok(Value::Number(extreme(false, numbers.as_slice())))
-        }
+        Kind::Adding => Ok(Value::Number(total(alloc, forest, nodes)?)),
+        Kind::Averaging => Ok(Value::Number(average(alloc, forest, nodes)?)),
+        Kind::Greatest => Ok(Value::Number(extreme(alloc, forest, kind, nodes)?)),
+        Kind::Least => Ok(Value::Number(extreme(alloc, forest, kind, nodes)?)),
         _ => Ok(Value::Number(whole(nodes.len()))),
     }
 }
@@ -62,48 +52,75 @@ fn filled_count(alloc: Global, forest: &Forest, nodes: &NodeList) -> Result<Num,
 {
     let mut count: usize = 0;
     for node in nodes.as_slice() {
-        if !string_of_node(alloc, forest, *node)?.is_empty() {
+        if !value_of_node(alloc, forest, *node)?.as_str().is_empty() {
             count += 1;
         }
     }
     Ok(whole(count))
 }
 
-/// The numbers that the nodes have, in document order.
-fn numbers_of(alloc: Global, forest: &Forest, nodes: &NodeList) -> Result<Vec<Num>, EvalFault>
+/// The sum of the numbers of the nodes.
+fn total(alloc: Global, forest: &Forest, nodes: &NodeList) -> Result<Num, EvalFault>
     requires { AllLive nodes.now forest.now.forest.nodes }
-    ensures { GivesBounded EvalFault.Memory EvalFault.Long (λ numbers. numbers.items) result (option_map (map (read_at 6)) (strings_of (setting_in forest.now.forest.nodes) nodes.now)) }
+    ensures { GivesBounded EvalFault.Memory EvalFault.Long (λ sum. sum) result (option_map total (each (number_at forest.now.forest.nodes) nodes.now)) }
 {
-    let mut numbers = Vec::with_capacity(alloc, nodes.len())?;
-    for node in nodes.as_slice() {
-        numbers.push(Num::read(string_of_node(alloc, forest, *node)?.as_str()))?;
-    }
-    Ok(numbers)
+    folded(
+        alloc,
+        forest,
+        Kind::Adding,
+        Num::of_units(0),
+        nodes.as_slice(),
+    )
 }
 
-/// The sum of numbers.
-fn total(numbers: &[Num]) -> Num
-    ensures { result ≡ total numbers.now }
+/// Their sum, divided by how many they are.
+fn average(alloc: Global, forest: &Forest, nodes: &NodeList) -> Result<Num, EvalFault>
+    requires { AllLive nodes.now forest.now.forest.nodes }
+    ensures { GivesBounded EvalFault.Memory EvalFault.Long (λ average. average) result (option_map (average 6) (each (number_at forest.now.forest.nodes) nodes.now)) }
 {
-    let mut sum = Num::of_units(0);
-    for number in numbers {
-        sum = sum.add(*number);
-    }
-    sum
+    let sum = total(alloc, forest, nodes)?;
+    Ok(sum.div(whole(nodes.len())))
 }
 
-/// The greatest of numbers, or the least; NaN where there is none, or one of them is NaN.
-fn extreme(greatest: bool, numbers: &[Num]) -> Num
-    ensures { result ≡ extreme (better greatest) numbers.now }
+/// The greatest of their numbers, or the least; NaN where there is none, or one of them is NaN.
+fn extreme(alloc: Global, forest: &Forest, kind: Kind, nodes: &NodeList) -> Result<Num, EvalFault>
+    requires { AllLive nodes.now forest.now.forest.nodes }
+    ensures { GivesBounded EvalFault.Memory EvalFault.Long (λ best. best) result (option_map (extreme (combined kind)) (each (number_at forest.now.forest.nodes) nodes.now)) }
 {
-    let Some((first, rest)) = numbers.split_first() else {
-        return Num::nan();
+    let Some((first, rest)) = nodes.as_slice().split_first() else {
+        return Ok(Num::nan());
     };
-    let mut best = *first;
-    for number in rest {
-        best = better(greatest, best, *number);
+    let best = number_of_node(alloc, forest, *first)?;
+    folded(alloc, forest, kind, best, rest)
+}
+
+/// What a function makes of a first number and of those of these nodes, from left to right.
+fn folded(
+    alloc: Global,
+    forest: &Forest,
+    kind: Kind,
+    first: Num,
+    nodes: &[NodeId],
+) -> Result<Num, EvalFault>
+    requires { AllLive (map (λ n. n.number) nodes.now) forest.now.forest.nodes }
+    ensures { GivesBounded EvalFault.Memory EvalFault.Long (λ number. number) result (folded kind forest.now.forest.nodes first (map (λ n. n.number) nodes.now)) }
+{
+    let mut number = first;
+    for node in nodes {
+        let next = number_of_node(alloc, forest, *node)?;
+        number = combined(kind, number, next);
     }
-    best
+    Ok(number)
+}
+
+fn combined(kind: Kind, one: Num, other: Num) -> Num
+    ensures { result ≡ combined kind one other }
+{
+    match kind {
+        Kind::Greatest => better(true, one, other),
+        Kind::Least => better(false, one, other),
+        _ => one.add(other),
+    }
 }
 
 /// The greater of two numbers, or the lesser; NaN where one of them is NaN.

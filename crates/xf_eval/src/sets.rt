@@ -1,6 +1,6 @@
 //! Sets of nodes.
 
-ghost use Rattle.std.specs.Prelude.{◌≡◌, [], ◌∷◌, ◌++◌, true, option_map, IfOk, OnOk};
+ghost use Rattle.std.specs.Prelude.{◌≡◌, [], ◌∷◌, ◌++◌, true, option_map, slice_get, IfOk, OnOk};
 ghost use Rattle.xf_name.specs.declared.axis.Axis.TheVariants.{DescendantOrSelf};
 ghost use Rattle.xf_ast.specs.declared.expr.Test.TheVariants.{Node};
 ghost use Rattle.xf_doc.specs.Forest.{IsLive, content_at};
@@ -33,12 +33,53 @@ pub fn reached(
 {
     forest.are_trees();
     let mut found = NodeList::new(alloc);
+    reach(&mut found, forest, node, axis, test)?;
+    Ok(found)
+}
+
+/// Puts behind other nodes what the axis and the test select from a node.
+pub(crate) fn reach(
+    found: &mut NodeList,
+    forest: &Forest,
+    node: NodeId,
+    axis: Axis,
+    test: &Test,
+) -> Result<(), AllocError>
+    requires { IsLive node.number forest.now.forest }
+    ensures { OnOk result (found.new ≡ found.old ++ reached axis test.now (seen forest.now.forest.nodes) node.number) }
+{
+    forest.are_trees();
     for other in forest.axis(node, axis) {
         if is_met(forest, other, axis, test) {
             found.push(other)?;
         }
     }
-    Ok(found)
+    Ok(())
+}
+
+/// The node at a place, from 0, of what the axis and the test select from a node. The walk goes no further.
+pub(crate) fn reached_at(
+    forest: &Forest,
+    node: NodeId,
+    axis: Axis,
+    test: &Test,
+    at: usize,
+) -> Option<NodeId>
+    requires { IsLive node.number forest.now.forest }
+    ensures { option_map (λ n. n.number) result ≡ slice_get (reached axis test.now (seen forest.now.forest.nodes) node.number) at }
+{
+    forest.are_trees();
+    let mut left = at;
+    for other in forest.axis(node, axis) {
+        if !is_met(forest, other, axis, test) {
+            continue;
+        }
+        if left == 0 {
+            return Some(other);
+        }
+        left -= 1;
+    }
+    None
 }
 
 /// Whether a node meets the test on an axis.
@@ -59,10 +100,25 @@ fn all_below(alloc: Global, forest: &Forest, nodes: &NodeList) -> Result<NodeLis
 {
     let mut found = NodeList::new(alloc);
     for node in nodes.as_slice() {
-        let more = reached(alloc, forest, *node, Axis::DescendantOrSelf, &Test::Node)?;
-        append(&mut found, &more)?;
+        reach(
+            &mut found,
+            forest,
+            *node,
+            Axis::DescendantOrSelf,
+            &Test::Node,
+        )?;
     }
     forest.in_order(&found)
+}
+
+/// All nodes from one down: they are reached in document order.
+fn down_from(alloc: Global, forest: &Forest, node: NodeId) -> Result<NodeList, AllocError>
+    requires { IsLive node.number forest.now.forest }
+    ensures value { IfOk result (λ found. found ≡ begun_at true (seen forest.now.forest.nodes) (node.number ∷ [])) }
+    ensures live { IfOk result (λ found. AllLive found forest.now.forest.nodes) }
+{
+    forest.are_trees();
+    reached(alloc, forest, node, Axis::DescendantOrSelf, &Test::Node)
 }
 
 /// Where a step begins: at these nodes, behind `//` at all nodes from these down.
@@ -76,10 +132,13 @@ pub(crate) fn started(
     ensures value { IfOk result (λ start. start ≡ begun_at is_below (seen forest.now.forest.nodes) nodes) }
     ensures live { IfOk result (λ start. AllLive start forest.now.forest.nodes) }
 {
-    if is_below {
-        return all_below(alloc, forest, &nodes);
+    if !is_below {
+        return Ok(nodes);
     }
-    Ok(nodes)
+    if nodes.len() == 1 {
+        return down_from(alloc, forest, nodes.at(0));
+    }
+    all_below(alloc, forest, &nodes)
 }
 
 /// Puts nodes behind others.

@@ -1,10 +1,10 @@
 //! Location paths: steps and predicates (XPath 1.0, sections 2 to 2.5).
 
-ghost use Rattle.std.specs.Prelude.{◌≡◌, IfOk, length, map};
+ghost use Rattle.std.specs.Prelude.{◌≡◌, ◌++◌, IfOk, drop, length, map, option_map};
 ghost use Rattle.xf_doc.specs.Forest.{IsLive};
 ghost use Rattle.xf_plain_values.specs.Bounded.{GivesBounded};
 ghost use Rattle.xf_plain_values.specs.Conversions.{whole};
-ghost use Rattle.xf_lang.specs.Steps.{begun, is_true_at, kept_from, kept_by_all, walked};
+ghost use Rattle.xf_lang.specs.Steps.{begun, from_one, is_true_at, kept_from, kept_by_all, walked};
 ghost use Rattle.xf_lang.specs.Meaning.{focus_of, meaning, walk_of};
 ghost use Rattle.xf_eval.specs.Live.{AllLive, IsReady};
 ghost use Rattle.xf_eval.specs.Worth.{setting_at, setting_in};
@@ -13,11 +13,13 @@ ghost use Rattle.xf_eval.specs.Taken.{taken};
 use crate::around::Around;
 use crate::convert::{truth_of, whole};
 use crate::expression::value_at;
-use crate::sets::{append, reached, single, started};
+use crate::order::ordered;
+use crate::places::{number_first, placed, reached_placed};
+use crate::sets::{append, reach, reached, single, started};
 use std::alloc::{AllocError, Global};
 use std::cmp::Ordering;
 use xf_ast::{Expr, Start, Step};
-use xf_doc::NodeList;
+use xf_doc::{NodeId, NodeList};
 use xf_lang::{Context, EvalFault, Value};
 use xf_tree::Forest;
 
@@ -59,40 +61,89 @@ fn taken<A: Around>(
     ensures value { GivesBounded EvalFault.Memory EvalFault.Long (λ found. found) result (taken step.now.axis step.now.test (map meaning step.now.predicates) (setting_at (A.given around.now) forest.now.forest.nodes context.now) from.now) }
     ensures live { IfOk result (λ found. AllLive found forest.now.forest.nodes) }
 {
+    if from.len() == 1 {
+        forest.are_trees();
+        let kept = from_one(alloc, forest, around, step, from.at(0), context)?;
+        return Ok(ordered(forest, step.axis, kept)?);
+    }
     let mut found = NodeList::new(alloc);
     for node in from.as_slice() {
-        let nodes = reached(alloc, forest, *node, step.axis, &step.test)?;
-        let kept = kept_by_all(
-            alloc,
-            forest,
-            around,
-            step.predicates.as_slice(),
-            nodes,
-            context,
-        )?;
-        append(&mut found, &kept)?;
+        take(&mut found, alloc, forest, around, step, *node, context)?;
     }
     Ok(forest.in_order(&found)?)
 }
 
-/// The nodes that all predicates keep, each asked of those that the one before left.
+/// Puts behind other nodes what a step selects from a node.
+#[cycle(value)]
+fn take<A: Around>(
+    found: &mut NodeList,
+    alloc: Global,
+    forest: &Forest,
+    around: &A,
+    step: &Step,
+    node: NodeId,
+    context: &Context,
+) -> Result<(), EvalFault>
+    requires ready { IsReady (A.given around.now) forest.now.forest.nodes context.now }
+    requires node { IsLive node.number forest.now.forest }
+    ensures value { GivesBounded EvalFault.Memory EvalFault.Long (λ _. found.new) result (option_map (λ kept. found.old ++ kept) (from_one step.now.axis step.now.test (map meaning step.now.predicates) (setting_at (A.given around.now) forest.now.forest.nodes context.now) node.number)) }
+{
+    if step.predicates.is_empty() {
+        reach(found, forest, node, step.axis, &step.test)?;
+        return Ok(());
+    }
+    let kept = from_one(alloc, forest, around, step, node, context)?;
+    append(found, &kept)?;
+    Ok(())
+}
+
+/// What a step selects from one node, in the order of its axis: positions count from that node.
+#[cycle(value)]
+fn from_one<A: Around>(
+    alloc: Global,
+    forest: &Forest,
+    around: &A,
+    step: &Step,
+    node: NodeId,
+    context: &Context,
+) -> Result<NodeList, EvalFault>
+    requires ready { IsReady (A.given around.now) forest.now.forest.nodes context.now }
+    requires node { IsLive node.number forest.now.forest }
+    ensures value { GivesBounded EvalFault.Memory EvalFault.Long (λ kept. kept) result (from_one step.now.axis step.now.test (map meaning step.now.predicates) (setting_at (A.given around.now) forest.now.forest.nodes context.now) node.number) }
+    ensures live { IfOk result (λ kept. AllLive kept forest.now.forest.nodes) }
+{
+    let predicates = step.predicates.as_slice();
+    match number_first(predicates) {
+        Some(number) => {
+            let first = reached_placed(alloc, forest, node, step.axis, &step.test, number)?;
+            kept_by_all(alloc, forest, around, predicates, 1, first, context)
+        }
+        None => {
+            let nodes = reached(alloc, forest, node, step.axis, &step.test)?;
+            kept_by_all(alloc, forest, around, predicates, 0, nodes, context)
+        }
+    }
+}
+
+/// The nodes that all predicates keep but so many first ones, each asked of those that the one before left.
 #[cycle(value)]
 pub(crate) fn kept_by_all<A: Around>(
     alloc: Global,
     forest: &Forest,
     around: &A,
     predicates: &[Expr],
+    asked: usize,
     nodes: NodeList,
     context: &Context,
 ) -> Result<NodeList, EvalFault>
     requires ready { IsReady (A.given around.now) forest.now.forest.nodes context.now }
     requires from { AllLive nodes forest.now.forest.nodes }
-    ensures value { GivesBounded EvalFault.Memory EvalFault.Long (λ found. found) result (kept_by_all (setting_at (A.given around.now) forest.now.forest.nodes context.now) (map meaning predicates.now) nodes) }
+    ensures value { GivesBounded EvalFault.Memory EvalFault.Long (λ found. found) result (kept_by_all (setting_at (A.given around.now) forest.now.forest.nodes context.now) (map meaning (drop asked predicates.now)) nodes) }
     ensures live { IfOk result (λ found. AllLive found forest.now.forest.nodes) }
 {
     let mut left = nodes;
-    for predicate in predicates {
-        left = kept_by(alloc, forest, around, predicate, &left, context)?;
+    for at in asked..predicates.len() {
+        left = kept_by(alloc, forest, around, &predicates[at], &left, context)?;
     }
     Ok(left)
 }
@@ -100,6 +151,27 @@ pub(crate) fn kept_by_all<A: Around>(
 /// The nodes at which a predicate is true: each has its position among them.
 #[cycle(value)]
 fn kept_by<A: Around>(
+    alloc: Global,
+    forest: &Forest,
+    around: &A,
+    predicate: &Expr,
+    nodes: &NodeList,
+    context: &Context,
+) -> Result<NodeList, EvalFault>
+    requires ready { IsReady (A.given around.now) forest.now.forest.nodes context.now }
+    requires from { AllLive nodes.now forest.now.forest.nodes }
+    ensures value { GivesBounded EvalFault.Memory EvalFault.Long (λ found. found) result (kept_from (setting_at (A.given around.now) forest.now.forest.nodes context.now) (meaning predicate.now) (length nodes.now) 1 nodes.now) }
+    ensures live { IfOk result (λ found. AllLive found forest.now.forest.nodes) }
+{
+    if let Expr::Number(_, number) = predicate {
+        return Ok(placed(alloc, nodes, *number)?);
+    }
+    asked_of_each(alloc, forest, around, predicate, nodes, context)
+}
+
+/// The nodes at which a predicate is true, which is evaluated at each.
+#[cycle(value)]
+fn asked_of_each<A: Around>(
     alloc: Global,
     forest: &Forest,
     around: &A,

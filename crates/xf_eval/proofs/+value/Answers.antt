@@ -1,4 +1,4 @@
-use Rattle.std.proofs.Common.{◌≡◌, ◌*◌, suc, ◌+◌, ◌<◌, ◌≤◌, [], drop, Some, true, false, length, map, sym, ap, ◌∙◌, arith, rules, tests}
+use Rattle.std.proofs.Common.{◌≡◌, ◌*◌, suc, ◌+◌, ◌<◌, ◌≤◌, [], drop, Some, true, false, length, map, refl, sym, ap, ◌∙◌, arith, rules, tests}
 use denote.Param.Weighed.{most}
 use Rattle.std.proofs.lemmas.Result.{err_from_is_err_and}
 use Rattle.xf_ast.specs.declared.expr.Expr.{size-Expr}
@@ -11,7 +11,11 @@ use Rattle.xf_lang.specs.Functions.{branched, plain_arguments}
 use Rattle.xf_lang.specs.Meaning.{focus_of, meaning}
 use Rattle.xf_doc.specs.Forest.{has_number}
 use Rattle.xf_plain_values.specs.Bounded.{◌>>=◌}
-use Rattle.xf_lang.specs.Steps.{from_one, kept_from}
+use Rattle.xf_lang.specs.Steps.{from_one, kept_by_all, kept_from, reached}
+use Rattle.xf_lang.proofs.Equations.{meaning-Number}
+use Rattle.xf_eval.specs.Taken.{taken}
+use Rattle.xf_eval.proofs.Ordered.{alone-is, forward-in_order, taken-none, taken-one}
+use Rattle.xf_eval.proofs.Positions.{first-asked}
 use Rattle.xf_eval.specs.Answered.{decides}
 use Rattle.xf_eval.specs.ByKind.{argument_or, by_kind}
 use Rattle.xf_eval.specs.OfOne.{one_worth}
@@ -25,7 +29,7 @@ use Rattle.xf_eval.proofs.Parts.{argument-past, argument-within, by-other, call-
 use Rattle.xf_eval.proofs.Runs.{added}
 use Rattle.xf_eval.proofs.Bounded.{gives-same, part-long}
 use Rattle.xf_eval.proofs.+value.Goals as goal
-use Rattle.xf_eval.proofs.+value.Goals.{calls::branched-then-truth_of, calls::branched-else-truth_of, steps::kept_by-then-is_true_at+in_ok-push, steps::kept_by-else-is_true_at}
+use Rattle.xf_eval.proofs.+value.Goals.{calls::branched-then-truth_of, calls::branched-else-truth_of, steps::asked_of_each-then-is_true_at+in_ok-push, steps::asked_of_each-else-is_true_at}
 
 -- ---- calls
 
@@ -138,16 +142,16 @@ expression::value_at-chained-requires g t c =
 
 pub expression::value_at-kept_by_all-requires : goal.expression::value_at-kept_by_all-requires
 expression::value_at-kept_by_all-requires g t c =
-    let ps = c.as_slice-in-Filter.result.now in
-    let less : most size-Expr ps < size-Expr c.args.expr.now = filter-falls c.args.expr.now c.in-Filter.first c.in-Filter.predicates ps c.in-Filter.is c.as_slice-in-Filter.ensures in
-    let falls : 4 * most size-Expr ps + 2 < t = omega (arith, c.decreases, less) in
+    let ps = c.as_slice-asked.result.now in
+    let less : most size-Expr ps < size-Expr c.args.expr.now = filter-falls c.args.expr.now c.in-Filter.first c.in-Filter.predicates ps c.in-Filter.is c.as_slice-asked.ensures in
+    let falls : 4 * most size-Expr ps + 3 < t = omega (arith, c.decreases, less) in
     λ κs h. (falls, (search rules, (c.requires, live-is c.args.forest.now.forest.nodes c.nodes_in-nodes.ensures c.in_ok-value-in-Filter.ensures.live)))
 
 pub expression::value_at-walked-requires-in-From : goal.expression::value_at-walked-requires-in-From
 expression::value_at-walked-requires-in-From g t c =
     let ss = c.as_slice-in-From.result.now in
     let less : most size-Step ss < size-Expr c.args.expr.now = from-falls c.args.expr.now c.in-From.first c.in-From.steps ss c.in-From.is c.as_slice-in-From.ensures in
-    let falls : 4 * most size-Step ss + 1 < t = omega (arith, c.decreases, less) in
+    let falls : 4 * most size-Step ss + 3 < t = omega (arith, c.decreases, less) in
     λ κs h. (falls, (search rules, (c.requires, live-is c.args.forest.now.forest.nodes c.nodes_in-from.ensures c.in_ok-value-in-From.ensures.live)))
 
 pub expression::value_at-returns-in-Call-clause-value : goal.expression::value_at-returns-in-Call-clause-value
@@ -177,8 +181,8 @@ operators::linked-returns-clause-value g t c =
 
 -- ---- steps
 
-pub steps::kept_by-value_at-requires : goal.steps::kept_by-value_at-requires
-steps::kept_by-value_at-requires g t c = λ κs h. (
+pub steps::asked_of_each-value_at-requires : goal.steps::asked_of_each-value_at-requires
+steps::asked_of_each-value_at-requires g t c = λ κs h. (
   search rules,
   (
     search rules,
@@ -190,8 +194,8 @@ steps::kept_by-value_at-requires g t c = λ κs h. (
   ),
 )
 
-pub steps::kept_by-returns-in_err-value-clause-value : goal.steps::kept_by-returns-in_err-value-clause-value
-steps::kept_by-returns-in_err-value-clause-value g t c =
+pub steps::asked_of_each-returns-in_err-value-clause-value : goal.steps::asked_of_each-returns-in_err-value-clause-value
+steps::asked_of_each-returns-in_err-value-clause-value g t c =
     let s = setting_at (g.A.Around.given c.args.around.now) c.args.forest.now.forest.nodes c.args.context.now in
     let m = meaning c.args.predicate.now in
     let ns = c.args.nodes.now in
@@ -201,8 +205,8 @@ steps::kept_by-returns-in_err-value-clause-value g t c =
     rw (p.1, p.2) (part-long Memory Long _ _ (kept_from s m (length ns) 1 ns) c.in_err-value.ensures.value
     (λ h. ap (λ k. kept_from s m k 1 ns) (sym all) ∙ kept-long s m c.in-Ok.size c.loop-at.at c.at-node.result.number c.loop-at.kept ns c.loop-at.invariant.left within c.at-node.ensures h))
 
-pub steps::kept_by-loop-at-preserved : goal.steps::kept_by-loop-at-preserved
-steps::kept_by-loop-at-preserved g t c =
+pub steps::asked_of_each-loop-at-preserved : goal.steps::asked_of_each-loop-at-preserved
+steps::asked_of_each-loop-at-preserved g t c =
     let nodes = c.args.forest.now.forest.nodes in
     let s = setting_at (g.A.Around.given c.args.around.now) nodes c.args.context.now in
     let m = meaning c.args.predicate.now in
@@ -212,8 +216,8 @@ steps::kept_by-loop-at-preserved g t c =
     let within : c.loop-at.at < length ns = omega arith in
     let kept : c.if-is_true_at.kept ≡ added c.loop-at.kept n c.is_true_at.result =
     elim c.if-is_true_at.branch [
-      | steps::kept_by-then-is_true_at+in_ok-push w ↦ w.kept-is ∙ w.in_ok-push.ensures.ok ∙ ap (added c.loop-at.kept n) (sym w.if-is_true_at.true)
-      | steps::kept_by-else-is_true_at w ↦ w.kept-is ∙ ap (added c.loop-at.kept n) (sym w.if-is_true_at.false)
+      | steps::asked_of_each-then-is_true_at+in_ok-push w ↦ w.kept-is ∙ w.in_ok-push.ensures.ok ∙ ap (added c.loop-at.kept n) (sym w.if-is_true_at.true)
+      | steps::asked_of_each-else-is_true_at w ↦ w.kept-is ∙ ap (added c.loop-at.kept n) (sym w.if-is_true_at.false)
     ] in
     let live : has_number n nodes ≡ true = live-get ns c.loop-at.at n nodes c.requires.from c.at-node.ensures in
     record {
@@ -223,10 +227,57 @@ steps::kept_by-loop-at-preserved g t c =
           ∙ kept-next s m c.in-Ok.size c.loop-at.at n c.loop-at.kept ns c.in_ok-value.value c.is_true_at.result c.loop-at.invariant.left within c.at-node.ensures c.in_ok-value.ensures.value (sym c.is_true_at.ensures);
     }
 
-pub steps::taken-reached-requires : goal.steps::taken-reached-requires
-steps::taken-reached-requires g t c =
+pub steps::kept_by-returns-in-Number-clause-value : goal.steps::kept_by-returns-in-Number-clause-value
+steps::kept_by-returns-in-Number-clause-value g t c =
+    let s = setting_at (g.A.Around.given c.args.around.now) c.args.forest.now.forest.nodes c.args.context.now in
+    let ns = c.args.nodes.now in
+    ap (λ e. kept_from s (meaning e) (length ns) 1 ns) c.in-Number.is ∙ ap (λ m. kept_from s m (length ns) 1 ns) (meaning-Number c.in-Number.field-0 c.in-Number.number)
+    ∙ c.in_ok-placed.ensures.value s (length ns) refl
+
+pub steps::from_one-returns-in_ok-first-in-Some-clause-value : goal.steps::from_one-returns-in_ok-first-in-Some-clause-value
+steps::from_one-returns-in_ok-first-in-Some-clause-value g t c =
+    let s = setting_at (g.A.Around.given c.args.around.now) c.args.forest.now.forest.nodes c.args.context.now in
+    let step = c.args.step.now in
+    let ps = c.as_slice-predicates.result.now in
+    let ns = reached step.axis step.test s.all c.args.node.number in
+    gives-same Memory Long (λ v. v) c.kept_by_all.result _ _
+    (first-asked c.in-Some.number ps s ns c.in_ok-first-in-Some.first c.in-Some.ensures c.in_ok-first-in-Some.ensures.value refl ∙ ap (λ es. kept_by_all s (map meaning es) ns) c.as_slice-predicates.ensures)
+    c.kept_by_all.ensures.value
+
+pub steps::taken-from_one-requires : goal.steps::taken-from_one-requires
+steps::taken-from_one-requires g t c = λ κs h.
+    (search rules, (search rules, (c.requires.ready, live-get c.args.from.now 0 c.at.result.number c.args.forest.now.forest.nodes c.requires.from c.at.ensures)))
+
+pub steps::taken-take-requires : goal.steps::taken-take-requires
+steps::taken-take-requires g t c = λ κs h.
     let nodes = c.args.forest.now.forest.nodes in
-    live-item c.as_slice-node-items.result.now c.loop-node.node-index _ nodes (live-is nodes c.as_slice-node-items.ensures c.requires.from) c.loop-node-test.true
+    (search rules, (search rules, (c.requires.ready, live-item c.as_slice-node-items.result.now c.loop-node.node-index _ nodes (live-is nodes c.as_slice-node-items.ensures c.requires.from) c.loop-node-test.true)))
+
+pub steps::taken-ordered-requires-clause-forward : goal.steps::taken-ordered-requires-clause-forward
+steps::taken-ordered-requires-clause-forward g t c =
+    let s = setting_at (g.A.Around.given c.args.around.now) c.args.forest.now.forest.nodes c.args.context.now in
+    let step = c.args.step.now in
+    forward-in_order step.axis step.test (map meaning step.predicates) s c.at.result.number c.in_ok-kept.kept c.args.forest.now c.are_trees.ensures refl c.in_ok-kept.ensures.value
+
+pub steps::taken-returns-in_err-kept-clause-value : goal.steps::taken-returns-in_err-kept-clause-value
+steps::taken-returns-in_err-kept-clause-value g t c =
+    let s = setting_at (g.A.Around.given c.args.around.now) c.args.forest.now.forest.nodes c.args.context.now in
+    let step = c.args.step.now in
+    let ms = map meaning step.predicates in
+    let one : length c.args.from.now ≡ 1 = sym c.len.ensures ∙ c.if-len-eq1.true in
+    let alone = alone-is c.args.from.now c.at.result.number one c.at.ensures in
+    let p = err_from_is_err_and c.from_residual.result c.from_residual.ensures.1 in
+    rw (p.1, p.2) (part-long Memory Long _ _ (taken step.axis step.test ms s c.args.from.now) c.in_err-kept.ensures.value
+    (λ h. ap (taken step.axis step.test ms s) alone ∙ taken-none step.axis step.test ms s c.at.result.number h))
+
+pub steps::taken-returns-then-len-eq1-clause-value : goal.steps::taken-returns-then-len-eq1-clause-value
+steps::taken-returns-then-len-eq1-clause-value g t c =
+    let s = setting_at (g.A.Around.given c.args.around.now) c.args.forest.now.forest.nodes c.args.context.now in
+    let step = c.args.step.now in
+    let ms = map meaning step.predicates in
+    let one : length c.args.from.now ≡ 1 = sym c.len.ensures ∙ c.if-len-eq1.true in
+    let alone = alone-is c.args.from.now c.at.result.number one c.at.ensures in
+    ap (taken step.axis step.test ms s) alone ∙ taken-one step.axis step.test ms s c.at.result.number c.in_ok-kept.kept c.in_ok-kept.ensures.value ∙ ap Some (sym c.in_ok-ordered.ensures.value)
 
 pub steps::taken-returns-clause-value : goal.steps::taken-returns-clause-value
 steps::taken-returns-clause-value g t c =
@@ -234,7 +285,7 @@ steps::taken-returns-clause-value g t c =
     let s = setting_at (g.A.Around.given c.args.around.now) nodes c.args.context.now in
     let step = c.args.step.now in
     taken-done nodes (from_one step.axis step.test (map meaning step.predicates) s) c.loop-node.found c.in_ok-in_order.field-0 c.args.from.now c.as_slice-node-items.result.now c.loop-node.node-index
-    c.as_slice-node-items.ensures c.loop-node.invariant.left c.loop-node-test.false c.in_ok-in_order.ensures
+    c.as_slice-node-items.ensures c.loop-node.invariant c.loop-node-test.false c.in_ok-in_order.ensures
 
 pub steps::taken-returns-clause-live : goal.steps::taken-returns-clause-live
 steps::taken-returns-clause-live g t c =

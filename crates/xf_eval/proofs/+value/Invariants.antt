@@ -20,20 +20,18 @@ invariant-steps::walked-loop-step g l =
 abbrev pub invariant-steps::taken-loop-node : goal.invariant-steps::taken-loop-node
 invariant-steps::taken-loop-node g l =
     let s = setting_at (g.A.Around.given l.around) l.forest.forest.nodes l.context in
-    let one = from_one l.step.axis l.step.test (map meaning l.step.predicates) s in record {
-      live : AllLive l.found l.forest.forest.nodes;
-      left : option_map (λ sets. l.found ++ joined sets) (each one (map (λ n. n.number) (drop l.node-index l.node-items))) ≡ option_map joined (each one (map (λ n. n.number) l.node-items));
-    }
+    let one = from_one l.step.axis l.step.test (map meaning l.step.predicates) s in
+    option_map (λ sets. l.found ++ joined sets) (each one (map (λ n. n.number) (drop l.node-index l.node-items))) ≡ option_map joined (each one (map (λ n. n.number) l.node-items))
 
-abbrev pub invariant-steps::kept_by_all-loop-predicate : goal.invariant-steps::kept_by_all-loop-predicate
-invariant-steps::kept_by_all-loop-predicate g l =
+abbrev pub invariant-steps::kept_by_all-loop-at : goal.invariant-steps::kept_by_all-loop-at
+invariant-steps::kept_by_all-loop-at g l =
     let s = setting_at (g.A.Around.given l.around) l.forest.forest.nodes l.context in record {
       live : AllLive l.left l.forest.forest.nodes;
-      left : kept_by_all s (map meaning (drop l.predicate-index l.predicates)) l.left ≡ kept_by_all s (map meaning l.predicates) l.initial.left;
+      left : kept_by_all s (map meaning (drop l.at l.predicates)) l.left ≡ kept_by_all s (map meaning (drop l.asked l.predicates)) l.initial.left;
     }
 
-abbrev pub invariant-steps::kept_by-loop-at : goal.invariant-steps::kept_by-loop-at
-invariant-steps::kept_by-loop-at g l =
+abbrev pub invariant-steps::asked_of_each-loop-at : goal.invariant-steps::asked_of_each-loop-at
+invariant-steps::asked_of_each-loop-at g l =
     let s = setting_at (g.A.Around.given l.around) l.forest.forest.nodes l.context in
     let m = meaning l.predicate in record {
       all : l.size ≡ length l.nodes;

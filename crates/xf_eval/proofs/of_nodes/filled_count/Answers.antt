@@ -1,7 +1,7 @@
 use Rattle.xf_eval.proofs.Lives.{live-item, live-is}
 use Rattle.xf_eval.proofs.of_nodes.filled_count.Goals as goal
 
-pub string_of_node-requires : goal.string_of_node-requires
-string_of_node-requires c =
+pub value_of_node-requires : goal.value_of_node-requires
+value_of_node-requires c =
     let nodes = c.args.forest.now.forest.nodes in
     live-item c.as_slice-node-items.result.now c.loop-node.node-index _ nodes (live-is nodes c.as_slice-node-items.ensures c.requires) c.loop-node-test.true

@@ -13,8 +13,8 @@ use Rattle.xf_eval.proofs.Erased.{in_order-erased}
 use Rattle.xf_eval.proofs.Lives.{live-item, live-is, live-in_order}
 use Rattle.xf_eval.proofs.sets.all_below.Goals as goal
 
-pub reached-requires : goal.reached-requires
-reached-requires c =
+pub reach-requires : goal.reach-requires
+reach-requires c =
     let nodes = c.args.forest.now.forest.nodes in
     live-item c.as_slice-node-items.result.now c.loop-node.node-index _ nodes (live-is nodes c.as_slice-node-items.ensures c.requires) c.loop-node-test.true
 

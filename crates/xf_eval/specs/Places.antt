@@ -1,0 +1,30 @@
+-- Predicates that are literal numbers: each keeps the node at its own position, counted from 1 (XPath 1.0, section 2.4).
+use Rattle.std.specs.Prelude.{ℕ, zero, suc, ◌≡◌, ◌==◌, ◌<◌, List, ◌∷◌, drop, map, Option, Some, None, slice_get}
+use Rattle.xf_ast.specs.declared.expr.Expr.{Expr}
+use Rattle.xf_plain_values.specs.Conversions.{Decimal, whole}
+use Rattle.xf_lang.specs.declared.value.Value.TheVariants.{Number}
+use Rattle.xf_lang.specs.Setting.{Meaning, Setting}
+use Rattle.xf_lang.specs.Comparisons.{is_same_number}
+use Rattle.xf_lang.specs.Meaning.{meaning}
+use Rattle.xf_lang.specs.Steps.{kept_from}
+
+-- the predicate that is this number at each node
+abbrev pub constant : Decimal → Meaning
+constant k = λ s c. Some (Number k)
+
+-- the first of these predicates is this number
+abbrev pub BeginsWith : Decimal → List Expr → Type 0
+BeginsWith k predicates = map meaning predicates ≡ constant k ∷ map meaning (drop 1 predicates)
+
+-- a number is a position, and no other one; 0 stands for none
+abbrev pub IsPosition : Decimal → ℕ → Type 0
+IsPosition k place = (position : ℕ) → is_same_number k (whole 6 (suc position)) ≡ (suc position == place)
+
+-- the node at a position
+abbrev pub at_position : List ℕ → ℕ → Option ℕ
+at_position ns zero = None
+at_position ns (suc at) = slice_get ns at
+
+-- what this number keeps of these nodes, however many they were
+abbrev pub Keeps : Decimal → List ℕ → List ℕ → Type 0
+Keeps k ns kept = (s : Setting) (size : ℕ) → s.given.decimals ≡ 6 → kept_from s (constant k) size 1 ns ≡ Some kept
