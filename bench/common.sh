@@ -20,9 +20,11 @@ closure() {
         END { n = split(wanted, names, " "); for (i = 1; i <= n; i++) visit(names[i]) }' "$top/crates.txt"
 }
 
-# copy_bench NAME CRATE..: puts the program of main.rt.txt beside copies of these crates and of those below them.
+# copy_bench NAME CRATE..: puts the program of main.rt.txt, or of the file `program` with the modules `modules`, beside copies of these crates
+# and of those below them.
+# Where BENCH_LIBS is set, it is a command that puts libraries of these crates that were proved before in their place in a folder.
 copy_bench() {
-    local name=$1 crate
+    local name=$1 crate module
     shift
     git init -q "$work"
     mkdir -p "$work/crates/$name/src" "$work/crates/$name/specs"
@@ -31,8 +33,10 @@ copy_bench() {
         grep "^$crate:" "$top/crates.txt" >> "$work/crates.txt"
     done
     echo "$name: $*" >> "$work/crates.txt"
-    cp "$here/main.rt.txt" "$work/crates/$name/src/main.rt"
+    cp "$here/${program:-main.rt.txt}" "$work/crates/$name/src/main.rt"
+    for module in ${modules:-}; do cp "$here/$module.mod.txt" "$work/crates/$name/src/$module.rt"; done
     : > "$work/crates/$name/specs/Lib.antt"
+    if [ -n "${BENCH_LIBS:-}" ]; then "$BENCH_LIBS" "$work" > "$work/libraries"; fi
 }
 
 # make_bench NAME CRATE..: proves and builds this program, and the plain program of plain.rs, where there is one. They are then "$ours"
@@ -40,7 +44,7 @@ copy_bench() {
 make_bench() {
     local name=$1
     copy_bench "$@"
-    (cd "$work/crates/$name" && rt run > "$work/built" 2>&1) || true
+    (cd "$work/crates/$name" && rt run < /dev/null > "$work/built" 2>&1) || true
     ours=$work/crates/$name/out/$name
     [ -x "$ours" ] || { tail -n 20 "$work/built" >&2; exit 1; }
     if [ -f "$here/plain.rs" ]; then rustc -O -o "$work/plain" "$here/plain.rs"; fi

@@ -1,5 +1,5 @@
 #!/usr/bin/env python3
-"""Writes cases of expressions as literal trees, one a line, for main.rt.txt.
+"""Writes cases of expressions as literal trees, one a line, for cases.rt.txt.
 
 Usage: cases.py FILE. A line of FILE is a JSON object: a tree, with `tree`, `root` and `prefixes`, or a case of a tree, with `tree`,
 `context` (null where it is the document element), `expr` and `want`."""

@@ -1,10 +1,23 @@
 #!/usr/bin/env bash
-# Evaluates the expressions of a file of cases, by main.rt.txt over copies of the crates, before any proof (`rt try`), and prints which
-# came out otherwise, and how many. Usage: bench/eval/run.sh FILE; cases.py says what stands in FILE.
+# Measures xf_eval with xf_path beside libxml2: 271 expressions over four trees, from parsed form and from their texts, and how the time of
+# each kind grows with the tree. Both programs must print the same values. Where libxml2 cannot be compiled with, nothing is measured.
 . "$(dirname "$0")/../common.sh"
-copy_bench eval_bench xf_eval xf_json xf_path xf_tree xf_doc xf_name xf_num anyhow
-mkdir "$work/cases"
-python3 "$here/cases.py" "$1" > "$work/cases/all"
-(cd "$work/crates/eval_bench" && rt try --steps 1 --cases "$work/cases") > "$work/said" 2>&1 || true
-grep -vE '^(rt|note):' "$work/said" | tail -n 40
-grep -q ' as wanted, 0 not$' "$work/said"
+command -v xml2-config > "$work/found" || { echo "skipped: no xml2-config (libxml2-dev)"; exit 0; }
+# The flags are words.
+# shellcheck disable=SC2046
+gcc -O2 -Wall $(xml2-config --cflags) -o "$work/plain" "$here/plain.c" $(xml2-config --libs)
+program=speed.rt.txt modules=tree
+make_bench eval_bench xf_base xf_name xf_ast xf_doc xf_json xf_lang xf_path xf_tree xf_eval
+cp "$ours" "$work/ours"
+# input NAME EXPRESSIONS WORD..: the trees that these words name and the expressions, for both programs.
+input() {
+    local name=$1 expressions=$2
+    shift 2
+    { python3 "$here/trees.py" json "$@"; cat "$expressions"; } > "$work/ours.$name" 2> "$work/sizes"
+    { python3 "$here/trees.py" xml "$@"; cat "$expressions"; } > "$work/plain.$name" 2> "$work/sizes"
+}
+printf '1\tsum\ttotal\tsum(../item/sum)\n' > "$work/sum"
+input mix "$here/expressions.txt"
+input items "$work/sum" items 1000
+for size in 250 1000 4000; do input "$size" "$here/growth.txt" rows "$size"; done
+python3 "$here/measure.py" "$work"

@@ -1,0 +1,28 @@
+#!/usr/bin/env bash
+# Parses and evaluates an expression of 4,096 bytes, nested 64 deep, over a forest at its limits (limits.py), with each allocation of that
+# refused in turn: each time the answer must be `memory` or the right value, which libxml2 gives where it can be compiled with.
+# Usage: bench/eval/refused.sh [STEP]: with a number only each STEPth allocation is refused.
+. "$(dirname "$0")/../common.sh"
+program=refused.rt.txt modules=tree
+make_bench refused_bench xf_base xf_name xf_ast xf_doc xf_json xf_lang xf_path xf_tree xf_eval
+gcc -O2 -Wall -fno-builtin -shared -fPIC -o "$work/turns.so" "$here/turns.c"
+python3 "$here/limits.py" json > "$work/limits"
+ulimit -c 0
+"$ours" < "$work/limits" > "$work/said"
+right=$(tail -n 1 "$work/said")
+if command -v xml2-config > "$work/found"; then
+    # The flags are words.
+    # shellcheck disable=SC2046
+    gcc -O2 -Wall $(xml2-config --cflags) -o "$work/plain" "$here/plain.c" $(xml2-config --libs)
+    python3 "$here/limits.py" xml | "$work/plain" values ALL > "$work/other"
+    [ "$right" = "$(cat "$work/other")" ] || { echo "libxml2 gives $(cat "$work/other"), and ours $right"; exit 1; }
+fi
+TURNS_STEP=${1:-1} LD_PRELOAD="$work/turns.so" "$ours" < "$work/limits" > "$work/said" 2> "$work/told"
+cat "$work/told"
+memory=$(grep -cx memory "$work/said" || true)
+same=$(grep -cxF -- "$right" "$work/said" || true)
+# The first line is of the program's beginning, and the last one of the program itself.
+all=$(($(wc -l < "$work/said") - 2))
+echo "$all ended: $memory with memory, $((same - 1)) with the right value, $right"
+refused=$(sed -nE 's/^.* allocations, ([0-9]+) refused.*$/\1/p' "$work/told")
+[ "$memory" -gt 0 ] && [ "$((memory + same - 1))" -eq "$all" ] && [ "$all" -eq "$refused" ] && grep -q ' 0 copies ended by a fault$' "$work/told"
