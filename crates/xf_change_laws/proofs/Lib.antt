@@ -1,0 +1,10 @@
+pub mod Carry
+pub mod Fixed
+pub mod Aside
+pub mod TextsCarry
+pub mod TreesCarry
+pub mod OthersCarry
+pub mod MovedExample
+pub mod DocumentsStay
+pub mod Unchanged
+pub mod TakenNumbers

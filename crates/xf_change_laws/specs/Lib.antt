@@ -1,0 +1,4 @@
+pub mod Carried
+pub mod Steps
+pub mod Elsewhere
+pub mod Documents
