@@ -221,7 +221,7 @@ module _ (scope : Scope) (forest : Forest) (h : HasInstances scope forest) where
       let z = standing-at p.0 P q_in in
       (p.0, p.1, z.1 ∙ ap Some (some-same (sym (found-whole p.0 z.0 z.1) ∙ p.2)), p.3, p.4)
 
-  structure : SameStructure [] scope forest part
+  pub structure : SameStructure [] scope forest part
   structure = record {
     trees = h.trees;
     trees_before = front-trees forest h.trees;

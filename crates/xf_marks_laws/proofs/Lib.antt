@@ -19,6 +19,8 @@ pub mod PathBytes
 pub mod PathLaws
 pub mod ShapeHung
 pub mod BindLaws
+pub mod BindNodes
+pub mod BindChains
 pub mod BindStays
 pub mod BindInstances
 pub mod EditLaws

@@ -1,0 +1,10 @@
+pub mod Examples
+pub mod Filled
+pub mod Led
+pub mod Members
+pub mod Pair
+pub mod ShapeLists
+pub mod ShapeNodes
+pub mod ShapesMeet
+pub mod LooseBinds
+pub mod LooseInstances

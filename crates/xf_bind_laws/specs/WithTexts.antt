@@ -1,0 +1,49 @@
+-- An applied bind need not be applied again where no list is marked that its node set, or one around it, looks at, and no instance has another
+-- document element: for every static node set, also where a written `text()` or `node()` tells texts apart.
+use Rattle.std.specs.Prelude.{ℕ, ◌≡◌, true, false, List, map, filter}
+use Rattle.std.specs.List.{list_any}
+use Rattle.xf_ast.specs.declared.expr.Expr.{Expr}
+use Rattle.xf_doc.specs.Forest.{Forest}
+use Rattle.xf_doc.specs.Visit.{visits, has, is_first}
+use Rattle.xf_doc.specs.Shape.{has_elements, shape}
+use Rattle.xf_doc.specs.Changes.{in_instances}
+use Rattle.xf_lang.specs.Reads.{trace}
+use Rattle.xf_lang.specs.Agree.{numbers_of}
+use Rattle.xf_model.specs.Rules.{Rule, Scope, chains, chain_around}
+use Rattle.xf_model.specs.Applied.{entries_by}
+use Rattle.xf_model.specs.Pertinent.{AllOf}
+use Rattle.xf_agree.specs.Covered.{is_covered}
+use Rattle.xf_agree.specs.Forests.{bare, InBoth}
+use Rattle.xf_marks_laws.specs.Binds.{bind_looks, SameStructure, GivesTruths, instances_of, HasInstances}
+
+-- the data of now and of before, texts counted
+pub record SameWithTexts (lists : List ℕ) (scope : Scope) (now before : Forest) : Type 0 where
+  pub structure : SameStructure lists scope now before
+  -- texts that stand in both keep their order among the other nodes
+  pub order : filter (λ n. has n (numbers_of (bare before))) (numbers_of (bare now)) ≡ filter (λ n. has n (numbers_of (bare now))) (numbers_of (bare before))
+  -- where elements stand in a list that is not marked, the texts beside them are as they were: no other text is set there
+  pub mixed : (n : ℕ) → InBoth now before n → has n lists ≡ false → has_elements (visits now.nodes) n ≡ true → filter (λ y. is_first n y.above) (bare now) ≡ filter (λ y. is_first n y.above) (bare before)
+
+abbrev pub IsCovered : Expr → Type 0
+IsCovered e = is_covered e ≡ true
+
+abbrev pub AnyBindStays : Type 0
+AnyBindStays = (scope : Scope) (now before : Forest) (lists : List ℕ) (bind : ℕ) (r : Rule) (around : List Expr) (own : Expr) →
+    SameWithTexts lists scope now before → GivesTruths scope →
+    chain_around (chains scope) r.around ≡ map trace around → r.node_set ≡ trace own → AllOf IsCovered around → IsCovered own →
+    list_any (λ n. has n lists) (bind_looks scope (shape (visits now.nodes)) r) ≡ false →
+    entries_by scope (shape (visits now.nodes)) bind r ≡ entries_by scope (shape (visits before.nodes)) bind r
+
+-- trees that are detached make no difference
+abbrev pub AnyBindOfInstances : Type 0
+AnyBindOfInstances = (scope : Scope) (forest : Forest) (bind : ℕ) (r : Rule) (around : List Expr) (own : Expr) → HasInstances scope forest → GivesTruths scope →
+    chain_around (chains scope) r.around ≡ map trace around → r.node_set ≡ trace own → AllOf IsCovered around → IsCovered own →
+    entries_by scope (shape (visits forest.nodes)) bind r ≡ entries_by scope (shape (visits (in_instances forest.nodes))) bind r
+
+-- so the marks count by the instances
+abbrev pub AnyBindStaysInInstances : Type 0
+AnyBindStaysInInstances = (scope : Scope) (now before : Forest) (lists : List ℕ) (bind : ℕ) (r : Rule) (around : List Expr) (own : Expr) →
+    HasInstances scope now → HasInstances scope before → SameWithTexts lists scope (instances_of now) (instances_of before) → GivesTruths scope →
+    chain_around (chains scope) r.around ≡ map trace around → r.node_set ≡ trace own → AllOf IsCovered around → IsCovered own →
+    list_any (λ n. has n lists) (bind_looks scope (shape (visits (in_instances now.nodes))) r) ≡ false →
+    entries_by scope (shape (visits now.nodes)) bind r ≡ entries_by scope (shape (visits before.nodes)) bind r

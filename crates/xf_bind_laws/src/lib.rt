@@ -1,0 +1,12 @@
+//! The law of binds that need not be applied again, for every static node set: also where it tells texts apart. Each function does nothing: its
+//! contract is a law.
+#![tactic(auto)]
+
+ghost use Rattle.xf_bind_laws.specs.WithTexts.{AnyBindStays, AnyBindOfInstances, AnyBindStaysInInstances};
+
+/// A bind sets the same on the same nodes where no list is marked that its node set, or one around it, looks at; and over the instances alone.
+pub fn any_bind_stays()
+    ensures stays { AnyBindStays }
+    ensures instances { AnyBindOfInstances }
+    ensures in_instances { AnyBindStaysInInstances }
+{}
