@@ -40,6 +40,7 @@ use Rattle.xf_agree.specs.Settles.{IsSolid, Surrounds, IsStatic}
 use Rattle.xf_agree.proofs.Meeting.{Meeting, keeps, kept, is_known}
 use Rattle.xf_agree.proofs.Parts.{part-apart}
 use Rattle.xf_agree.proofs.Retexted.{retexted-same, forest-late}
+use Rattle.xf_agree.proofs.LooseValues.{in-converted}
 use Rattle.xf_agree.proofs.LooseAgreement as agreement
 use Rattle.xf_agree.proofs.HeldTexts.{kept-texts}
 use Rattle.xf_agree.proofs.HeldShape.{bare_visits, bare_below, shape_visits, shape-hung, calculated-leaf, held_visits, held_same, none-held, held-hung, held-shaped}
@@ -334,7 +335,12 @@ module _ (scope : Scope) (b : Bounds) (forest : Forest) (entries : List Entry) (
         not-of true h = sym h
         not-of false h = refl
 
-    -- one text of the calculate over both
+    -- one value of the calculate over both, and one text
+    pub value_same : meaning is_static.expr comparison.setting (focus_of e) ≡ meaning is_static.expr (over_other comparison) (focus_of e)
+    unfolding meeting_of
+    value_same = agreement.value-same meeting_of standing is_static.expr is_static.covered (focus_of e) (solid e.node is_static.node)
+        (in-converted meeting_of ((trace is_static.expr).asked (over_shape comparison) (focus_of e)) (record { reads = λ n h. h; looks = λ n h. h }))
+
     pub text_same : (meaning is_static.expr comparison.setting (focus_of e) >>= string_of comparison.setting) ≡ (meaning is_static.expr (over_other comparison) (focus_of e) >>= string_of (over_other comparison))
     unfolding meeting_of
     text_same = agreement.text-same meeting_of standing is_static.expr is_static.covered (focus_of e) (solid e.node is_static.node) (record { reads = λ n h. h; looks = λ n h. h })

@@ -10,17 +10,18 @@ use Rattle.xf_graph.proofs.Laws.{IsAcyclic-from_order}
 use Rattle.xf_lang.proofs.VisitFacts.{no}
 use Rattle.xf_model.specs.Rules.{Scope}
 use Rattle.xf_model.specs.Applied.{Entry}
-use Rattle.xf_model.specs.Entries.{text_of}
+use Rattle.xf_model.specs.Entries.{text_of, value_of}
 use Rattle.xf_model.specs.Circular.{calculated, graph_over}
 use Rattle.xf_model.specs.Settled.{Bounds, Contents, content_of, holding, calculates, content_by, settled_contents, settled, fitting}
 use Rattle.xf_model.specs.Pertinent.{AllOf}
-use Rattle.xf_model.specs.Stands.{IsSettled, AreCalculated}
+use Rattle.xf_model.specs.Stands.{IsSettled, AreCalculated, AgreeFor}
 use Rattle.xf_model.proofs.EachLemmas.{each_then, each_one}
 use Rattle.xf_model.proofs.CircularLemmas.{StandsAt, within-graph}
 use Rattle.xf_model.proofs.RoundLaws.{round-calculated}
-use Rattle.xf_agree.specs.InTurn.{AreInTurn, InTurnDone, InTurnContent, InTurnStands}
+use Rattle.xf_agree.specs.InTurn.{AreInTurn, InTurnDone, InTurnValue, InTurnContent, InTurnStands}
+use Rattle.xf_agree.specs.Settles.{IsStatic}
 use Rattle.xf_agree.proofs.TurnLists.{all-append, all-later, each-stands, none-any, each-none, only-one, find-only}
-use Rattle.xf_agree.proofs.SettledStatic.{settles}
+use Rattle.xf_agree.proofs.SettledStatic.{one-value, settles}
 use Rattle.xf_agree.proofs.InTurnLimits.{any-stands}
 use Rattle.xf_agree.proofs.InTurnLaws.{AreReadBack, untouched, back, back-later, Agreeing, agreeing, each-in_turn, stands-in_turn}
 
@@ -81,12 +82,14 @@ module _ (b : Bounds) (scope : Scope) (entries : List Entry) (forest : Forest) (
   none-calculated : (k : ℕ) → list_any (λ x. x.node == k) es ≡ false → list_any (λ x. x.node == k) (calculates entries) ≡ false
   none-calculated k i = elim (cases_Bool (list_any (λ (x : Entry). x.node == k) (calculates entries))) [ inl some ↦ no (sym i ∙ there k some) | inr none ↦ none ]
 
-  text-done : (before after : List Entry) (e : Entry) → es ≡ before ++ e ∷ after → (done : ℕ → Bool) → AllOf (λ f. done f.node ≡ true) before → AllOf (λ f. done f.node ≡ false) (e ∷ after) →
-      text_of (Some b.string) scope (holding all (some_of done ends)) e ≡ text_of (Some b.string) scope (settled b scope entries all) e
-  text-done before after e split done h later =
-      let agree = (all-later (Agreeing b scope entries forest es t) before (e ∷ after) (subst (AllOf (Agreeing b scope entries forest es t)) split (agreeing b scope entries forest es t))).0 in
+  some-calculated : (done : ℕ → Bool) → AreCalculated entries (some_of done ends)
+  some-calculated done n none = some-none done n ends (ends-calculated n none)
+
+  -- what the next one reads is done, or not calculated
+  agree-done : (before after : List Entry) (e : Entry) → es ≡ before ++ e ∷ after → (done : ℕ → Bool) → AllOf (λ f. done f.node ≡ true) before → AgreeFor scope all e (some_of done ends) ends
+  agree-done before after e split done h =
       let reads = (back-later b scope all before (e ∷ after) (subst (AreReadBack b scope all) split (back b scope entries forest es t))).0 in
-      agree (some_of done ends) ends (λ n none. some-none done n ends (ends-calculated n none)) ends-calculated (λ n touched. same n (untouched b scope all e (e ∷ after) reads n touched))
+      λ n touched. same n (untouched b scope all e (e ∷ after) reads n touched)
     where
       -- a node of no entry to come is done, or not calculated
       same : (n : ℕ) → list_any (λ x. x.node == n) (e ∷ after) ≡ false → content_of (some_of done ends) n ≡ content_of ends n
@@ -102,6 +105,19 @@ module _ (b : Bounds) (scope : Scope) (entries : List Entry) (forest : Forest) (
             some-none done n ends gone ∙ sym gone
       ]
 
+  text-done : (before after : List Entry) (e : Entry) → es ≡ before ++ e ∷ after → (done : ℕ → Bool) → AllOf (λ f. done f.node ≡ true) before →
+      text_of (Some b.string) scope (holding all (some_of done ends)) e ≡ text_of (Some b.string) scope (settled b scope entries all) e
+  text-done before after e split done h =
+      let agree = (all-later (Agreeing b scope entries forest es t) before (e ∷ after) (subst (AllOf (Agreeing b scope entries forest es t)) split (agreeing b scope entries forest es t))).0 in
+      agree (some_of done ends) ends (some-calculated done) ends-calculated (agree-done before after e split done h)
+
+  value-done : (before after : List Entry) (e : Entry) → es ≡ before ++ e ∷ after → (done : ℕ → Bool) → AllOf (λ f. done f.node ≡ true) before →
+      value_of (Some b.string) scope (holding all (some_of done ends)) e ≡ value_of (Some b.string) scope (settled b scope entries all) e
+  value-done before after e split done h =
+      let each = each-in_turn b scope entries forest es t (IsStatic scope forest) t.static in
+      let static = (all-later (IsStatic scope forest) before (e ∷ after) (subst (AllOf (IsStatic scope forest)) split each)).0 in
+      one-value b scope entries forest t.around t.static e static (some_of done ends) ends (some-calculated done) ends-calculated (agree-done before after e split done h)
+
   -- of the one calculate at a node
   content-at : AllOf (λ e. content_of ends e.node ≡ Some (fitting b.limits.text (text_of (Some b.string) scope (settled b scope entries all) e))) es
   content-at = each-in_turn b scope entries forest es t (λ e. content_of ends e.node ≡ Some (fitting b.limits.text (text_of (Some b.string) scope (settled b scope entries all) e)))
@@ -114,7 +130,10 @@ pub in_turn_stands : InTurnStands
 in_turn_stands b scope entries forest es t = stand b scope entries forest es t
 
 pub in_turn_done : InTurnDone
-in_turn_done b scope entries forest es t before after e split done h later = text-done b scope entries forest es t before after e split done h later
+in_turn_done b scope entries forest es t before after e split done h later = text-done b scope entries forest es t before after e split done h
+
+pub in_turn_value : InTurnValue
+in_turn_value b scope entries forest es t before after e split done h later = value-done b scope entries forest es t before after e split done h
 
 pub in_turn_content : InTurnContent
 in_turn_content b scope entries forest es t = content-at b scope entries forest es t

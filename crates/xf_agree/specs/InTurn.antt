@@ -11,7 +11,7 @@ use Rattle.xf_plain_values.specs.Functions.{Functions}
 use Rattle.xf_lang.specs.Given.{Given}
 use Rattle.xf_model.specs.Rules.{Scope, scope_of}
 use Rattle.xf_model.specs.Applied.{Entry}
-use Rattle.xf_model.specs.Entries.{text_of}
+use Rattle.xf_model.specs.Entries.{text_of, value_of}
 use Rattle.xf_model.specs.Circular.{by_nodes, graph_over}
 use Rattle.xf_model.specs.Settled.{Bounds, Contents, content_of, holding, calculates, content_by, fitting, settled_contents, settled, Passed, long, text, is_long, is_over, passed}
 use Rattle.xf_model.specs.Pertinent.{AllOf}
@@ -75,7 +75,14 @@ InTurnDone = (b : Bounds) (scope : Scope) (entries : List Entry) (forest : Fores
     text_of (Some b.string) scope (holding (visits forest.nodes) (filter (λ p. done p.0) (settled_contents b scope entries (visits forest.nodes)))) e
     ≡ text_of (Some b.string) scope (settled b scope entries (visits forest.nodes)) e
 
--- which makes its settled content, cut off where it is too long
+-- so it has the value that it has over the settled data
+abbrev pub InTurnValue : Type 0
+InTurnValue = (b : Bounds) (scope : Scope) (entries : List Entry) (forest : Forest) (es : List Entry) → AreInTurn b scope entries forest es →
+    (before after : List Entry) (e : Entry) → es ≡ before ++ e ∷ after → (done : ℕ → Bool) → AllOf (λ f. done f.node ≡ true) before → AllOf (λ f. done f.node ≡ false) (e ∷ after) →
+    value_of (Some b.string) scope (holding (visits forest.nodes) (filter (λ p. done p.0) (settled_contents b scope entries (visits forest.nodes)))) e
+    ≡ value_of (Some b.string) scope (settled b scope entries (visits forest.nodes)) e
+
+-- its text makes its settled content, cut off where it is too long
 abbrev pub InTurnContent : Type 0
 InTurnContent = (b : Bounds) (scope : Scope) (entries : List Entry) (forest : Forest) (es : List Entry) → AreInTurn b scope entries forest es →
     AllOf (λ e. content_of (settled_contents b scope entries (visits forest.nodes)) e.node

@@ -7,7 +7,7 @@ ghost use Rattle.xf_agree.specs.Forests.{TwoForestsValue, TwoForests, TwoForests
 ghost use Rattle.xf_agree.specs.FormSettles.{FormAgrees, FormSettlesOnce, FormSettles, FormSettable};
 ghost use Rattle.xf_agree.specs.Evaluated.{EvaluatedText, EvaluatedTruth, EvaluatedLong, EvaluatedPassed, SurroundingsStay, SolidNumbers};
 ghost use Rattle.xf_agree.specs.Hung.{HungForest, HungText, HungDetached, HungPlaced, HungGrown, HungCopied, HungInstances};
-ghost use Rattle.xf_agree.specs.InTurn.{InTurnContents, InTurnSettled, InTurnTexts, InTurnDone, InTurnContent, InTurnStands, InTurnPassed, InTurnFitting, FormInTurn};
+ghost use Rattle.xf_agree.specs.InTurn.{InTurnContents, InTurnSettled, InTurnTexts, InTurnDone, InTurnValue, InTurnContent, InTurnStands, InTurnPassed, InTurnFitting, FormInTurn};
 
 /// Two forests that agree on what a covered expression reads and looks at, texts counted, give it one value, and one text.
 pub fn two_forests()
@@ -50,6 +50,7 @@ pub fn in_turn()
     ensures settled { InTurnSettled }
     ensures texts { InTurnTexts }
     ensures done { InTurnDone }
+    ensures value { InTurnValue }
     ensures content { InTurnContent }
     ensures stands { InTurnStands }
     ensures passed { InTurnPassed }

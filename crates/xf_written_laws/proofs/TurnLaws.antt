@@ -1,5 +1,5 @@
 -- What is evaluated over the nodes where some contents were written is what is evaluated over the data that hold them.
-use Rattle.std.proofs.Common.{◌≡◌, ℕ, ◌+◌, ◌≤◌, ◌^◌, ◌==◌, Bool, true, false, not, ◌&&◌, ◌||◌, List, [], ◌∷◌, ◌++◌, map, length, Some, refl, sym, ap, ◌∙◌, subst, arith}
+use Rattle.std.proofs.Common.{◌≡◌, ℕ, ◌+◌, ◌≤◌, ◌^◌, ◌==◌, Bool, true, false, not, ◌&&◌, ◌||◌, List, [], ◌∷◌, ◌++◌, map, length, Some, option_map, refl, sym, ap, ◌∙◌, subst, arith}
 use Rattle.std.specs.Prelude.{filter}
 use Rattle.std.specs.List.{list_any}
 use Rattle.std.proofs.lemmas.List.{length-map}
@@ -9,11 +9,12 @@ use Rattle.xf_doc.specs.Needs.{IsSettable}
 use Rattle.xf_doc.specs.Visit.{Visit, has, visits}
 use Rattle.xf_plain_values.specs.Functions.{Functions}
 use Rattle.xf_lang.specs.Given.{Document, Given}
+use Rattle.xf_lang.specs.Conversions.{truth_of}
 use Rattle.xf_lang.specs.Same.{renumbered_given}
 use Rattle.xf_lang.proofs.VisitFacts.{no, turned}
 use Rattle.xf_model.specs.Rules.{Scope, scope_of}
 use Rattle.xf_model.specs.Applied.{Entry}
-use Rattle.xf_model.specs.Entries.{text_of}
+use Rattle.xf_model.specs.Entries.{text_of, value_of}
 use Rattle.xf_model.specs.Settled.{Bounds, Contents, holding, calculates, content_by, settled_contents, settled, passed_over, passed}
 use Rattle.xf_model.specs.Pertinent.{AllOf}
 use Rattle.xf_model.proofs.EachLemmas.{each_then}
@@ -24,12 +25,12 @@ use Rattle.xf_agree.specs.Settles.{IsSolid}
 use Rattle.xf_agree.specs.InTurn.{AreSingle, AreInTurn}
 use Rattle.xf_agree.specs.Evaluated as evaluated
 use Rattle.xf_agree.proofs.TurnLists.{all-later}
-use Rattle.xf_agree.proofs.EvaluatedLaws.{evaluated_text, evaluated_passed, surroundings_stay, solid_numbers}
+use Rattle.xf_agree.proofs.EvaluatedLaws.{evaluated_text, evaluated_truth, evaluated_passed, surroundings_stay, solid_numbers}
 use Rattle.xf_agree.proofs.FormInTurn.{form_in_turn}
 use Rattle.xf_agree.proofs.FormSettable.{form_settable, entries_solid}
 use Rattle.xf_agree.proofs.InTurnLaws.{each-in_turn}
-use Rattle.xf_agree.proofs.InTurnDone.{stand, in_turn_done, in_turn_content}
-use Rattle.xf_written_laws.specs.Turn.{AreTurned, TurnWrites, TurnText, TurnContent, TurnPassed}
+use Rattle.xf_agree.proofs.InTurnDone.{stand, in_turn_done, in_turn_value, in_turn_content}
+use Rattle.xf_written_laws.specs.Turn.{AreTurned, TurnWrites, TurnText, TurnTruth, TurnContent, TurnPassed}
 
 -- ---- contents that may be written
 
@@ -105,9 +106,14 @@ module _ (b : Bounds) (functions : Functions) (given : Given) (tables : Tables) 
     surroundings : renumbered_given alike.by given ≡ given
     surroundings = surroundings_stay alike.by given (each_then (λ (d : Document). IsSolid all d.element) (λ (d : Document). alike.by d.element ≡ d.element) (λ d s. stays d.element s) given.documents t.documents) t.no_event
 
+    alike-for : (e : Entry) → IsSolid all e.node → evaluated.AreAlike given held now e
+    alike-for e s = record { by = alike.by; renumbers = alike.renumbers; visits = alike.visits; surroundings = surroundings; node = stays e.node s }
+
     pub same-text : (e : Entry) → IsSolid all e.node → text_of (Some b.string) scope held e ≡ text_of (Some b.string) scope now e
-    same-text e s = evaluated_text (Some b.string) functions given tables model held now e
-        (record { by = alike.by; renumbers = alike.renumbers; visits = alike.visits; surroundings = surroundings; node = stays e.node s })
+    same-text e s = evaluated_text (Some b.string) functions given tables model held now e (alike-for e s)
+
+    same-truth : (e : Entry) → IsSolid all e.node → option_map truth_of (value_of (Some b.string) scope held e) ≡ option_map truth_of (value_of (Some b.string) scope now e)
+    same-truth e s = evaluated_truth (Some b.string) functions given tables model held now e (alike-for e s)
 
     same-passed : passed_over b scope entries held ≡ passed_over b scope entries now
     same-passed = evaluated_passed b functions given tables model held now entries alike.by alike.renumbers alike.visits surroundings
@@ -119,11 +125,21 @@ module _ (b : Bounds) (functions : Functions) (given : Given) (tables : Tables) 
   each-here : AllOf Here es
   each-here = each-in_turn b scope entries forest es turn Here (each_then _ Here (λ e s. s.node) (calculates entries) turn.static)
 
+  here-at : (before after : List Entry) (e : Entry) → es ≡ before ++ e ∷ after → Here e
+  here-at before after e split = (all-later Here before (e ∷ after) (subst (AllOf Here) split each-here)).0
+
   text-turned : (before after : List Entry) (e : Entry) → es ≡ before ++ e ∷ after → (done : ℕ → Bool) → AllOf (λ f. done f.node ≡ true) before → AllOf (λ f. done f.node ≡ false) (e ∷ after) →
       text_of (Some b.string) scope (now done) e ≡ text_of (Some b.string) scope (settled b scope entries all) e
   text-turned before after e split done h later =
-      sym (same-text done e (all-later Here before (e ∷ after) (subst (AllOf Here) split each-here)).0)
-      ∙ in_turn_done b scope entries forest es turn before after e split done h later
+      sym (same-text done e (here-at before after e split)) ∙ in_turn_done b scope entries forest es turn before after e split done h later
+
+  truth-turned : (before after : List Entry) (e : Entry) → es ≡ before ++ e ∷ after → (done : ℕ → Bool) → AllOf (λ f. done f.node ≡ true) before → AllOf (λ f. done f.node ≡ false) (e ∷ after) →
+      option_map truth_of (value_of (Some b.string) scope (now done) e) ≡ option_map truth_of (value_of (Some b.string) scope (now (λ n. true)) e)
+  truth-turned before after e split done h later =
+      sym (same-truth done e (here-at before after e split))
+      ∙ ap (option_map truth_of) (in_turn_value b scope entries forest es turn before after e split done h later)
+      ∙ ap (λ c. option_map truth_of (value_of (Some b.string) scope (holding all c) e)) (sym (all-kept contents))
+      ∙ same-truth (λ n. true) e (here-at before after e split)
 
   passed-turned : passed_over b scope entries (now (λ n. true)) ≡ passed b scope entries all
   passed-turned = sym (same-passed (λ n. true)) ∙ ap (λ c. passed_over b scope entries (holding all c)) (all-kept contents)
@@ -133,6 +149,9 @@ turn_writes b functions given tables model forest entries es t = may b functions
 
 pub turn_text : TurnText
 turn_text b functions given tables model forest entries es t before after e split done h later = text-turned b functions given tables model forest entries es t before after e split done h later
+
+pub turn_truth : TurnTruth
+turn_truth b functions given tables model forest entries es t before after e split done h later = truth-turned b functions given tables model forest entries es t before after e split done h later
 
 pub turn_content : TurnContent
 turn_content b functions given tables model forest entries es t = in_turn_content b (scope_of functions given tables model) entries forest es (turn b functions given tables model forest entries es t)

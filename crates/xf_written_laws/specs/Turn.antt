@@ -1,14 +1,15 @@
 -- The calculates of a form in an order of their graph, each evaluated over the nodes where those before it were written (XForms 1.1, section
 -- 4.3.2 and appendix C): each has its settled text, in whatever order these come in.
-use Rattle.std.specs.Prelude.{ℕ, ◌≡◌, ◌+◌, ◌≤◌, ◌^◌, Bool, true, false, List, ◌∷◌, ◌++◌, length, Some, None}
+use Rattle.std.specs.Prelude.{ℕ, ◌≡◌, ◌+◌, ◌≤◌, ◌^◌, Bool, true, false, List, ◌∷◌, ◌++◌, length, Some, None, option_map}
 use Rattle.xf_ast.specs.declared.form.Tables.{Tables}
 use Rattle.xf_doc.specs.Forest.{Forest}
 use Rattle.xf_doc.specs.Visit.{visits}
 use Rattle.xf_plain_values.specs.Functions.{Functions}
+use Rattle.xf_lang.specs.Conversions.{truth_of}
 use Rattle.xf_lang.specs.Given.{Document, Given}
 use Rattle.xf_model.specs.Rules.{scope_of}
 use Rattle.xf_model.specs.Applied.{Entry}
-use Rattle.xf_model.specs.Entries.{text_of}
+use Rattle.xf_model.specs.Entries.{text_of, value_of}
 use Rattle.xf_model.specs.Settled.{Bounds, Contents, content_of, calculates, fitting, settled_contents, settled, passed_over, passed}
 use Rattle.xf_model.specs.Pertinent.{AllOf}
 use Rattle.xf_settle_laws.specs.Written.{written, MayWrite}
@@ -46,7 +47,15 @@ TurnText = (b : Bounds) (functions : Functions) (given : Given) (tables : Tables
     text_of (Some b.string) (scope_of functions given tables model) (visits (written done forest.next (contents_of b functions given tables model forest entries) forest.nodes)) e
     ≡ text_of (Some b.string) (scope_of functions given tables model) (settled b (scope_of functions given tables model) entries (visits forest.nodes)) e
 
--- which makes its settled content, empty where it is too long
+-- and the truth that it has once all are written
+abbrev pub TurnTruth : Type 0
+TurnTruth = (b : Bounds) (functions : Functions) (given : Given) (tables : Tables) (model : ℕ) (forest : Forest) (entries es : List Entry) →
+    AreTurned b functions given tables model forest entries es →
+    (before after : List Entry) (e : Entry) → es ≡ before ++ e ∷ after → (done : ℕ → Bool) → AllOf (λ f. done f.node ≡ true) before → AllOf (λ f. done f.node ≡ false) (e ∷ after) →
+    option_map truth_of (value_of (Some b.string) (scope_of functions given tables model) (visits (written done forest.next (contents_of b functions given tables model forest entries) forest.nodes)) e)
+    ≡ option_map truth_of (value_of (Some b.string) (scope_of functions given tables model) (visits (written (λ n. true) forest.next (contents_of b functions given tables model forest entries) forest.nodes)) e)
+
+-- its text makes its settled content, empty where it is too long
 abbrev pub TurnContent : Type 0
 TurnContent = (b : Bounds) (functions : Functions) (given : Given) (tables : Tables) (model : ℕ) (forest : Forest) (entries es : List Entry) →
     AreTurned b functions given tables model forest entries es →

@@ -2,12 +2,13 @@
 //! the nodes where those before it were written. Each function does nothing: its contract is a law.
 #![tactic(auto)]
 
-ghost use Rattle.xf_written_laws.specs.Turn.{TurnWrites, TurnText, TurnContent, TurnPassed};
+ghost use Rattle.xf_written_laws.specs.Turn.{TurnWrites, TurnText, TurnTruth, TurnContent, TurnPassed};
 
-/// In such an order each calculate has its settled text in its turn, and what is written in the end passes the limits that settled texts do.
+/// In such an order each calculate has its settled text in its turn, and the truth of its value that it has in the end; and what is written in the end passes the limits that settled texts do.
 pub fn in_turn()
     ensures writes { TurnWrites }
     ensures text { TurnText }
+    ensures truth { TurnTruth }
     ensures content { TurnContent }
     ensures passed { TurnPassed }
 {}

@@ -1,5 +1,5 @@
 use Rattle.xf_agree.proofs.InTurnLaws.{in_turn_contents, in_turn_settled, in_turn_texts}
-use Rattle.xf_agree.proofs.InTurnDone.{in_turn_done, in_turn_content, in_turn_stands}
+use Rattle.xf_agree.proofs.InTurnDone.{in_turn_done, in_turn_value, in_turn_content, in_turn_stands}
 use Rattle.xf_agree.proofs.InTurnLimits.{in_turn_passed, in_turn_fitting}
 use Rattle.xf_agree.proofs.in_turn.Goals as goal
 
@@ -20,6 +20,9 @@ returns-clause-fitting c = in_turn_fitting
 
 pub returns-clause-done : goal.returns-clause-done
 returns-clause-done c = in_turn_done
+
+pub returns-clause-value : goal.returns-clause-value
+returns-clause-value c = in_turn_value
 
 pub returns-clause-content : goal.returns-clause-content
 returns-clause-content c = in_turn_content

@@ -1,4 +1,4 @@
-use Rattle.xf_written_laws.proofs.TurnLaws.{turn_writes, turn_text, turn_content, turn_passed}
+use Rattle.xf_written_laws.proofs.TurnLaws.{turn_writes, turn_text, turn_truth, turn_content, turn_passed}
 use Rattle.xf_written_laws.proofs.in_turn.Goals as goal
 
 pub returns-clause-writes : goal.returns-clause-writes
@@ -6,6 +6,9 @@ returns-clause-writes c = turn_writes
 
 pub returns-clause-text : goal.returns-clause-text
 returns-clause-text c = turn_text
+
+pub returns-clause-truth : goal.returns-clause-truth
+returns-clause-truth c = turn_truth
 
 pub returns-clause-content : goal.returns-clause-content
 returns-clause-content c = turn_content
