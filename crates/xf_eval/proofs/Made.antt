@@ -1,18 +1,13 @@
 -- What is made of each node of a set by its string value.
 use Rattle.std.proofs.Common.{ℕ, List, Option, option_map}
 use Rattle.xf_doc.specs.declared.content.Node.{Node}
-use Rattle.xf_num.specs.Written.{read_at}
 use Rattle.xf_plain_values.specs.declared.plain.Plain.{Plain}
 use Rattle.xf_plain_values.specs.declared.plain.Plain.TheVariants.{Text}
-use Rattle.xf_plain_values.specs.Conversions.{Decimal}
 use Rattle.xf_lang.specs.Conversions.{string_of_node}
 use Rattle.xf_eval.specs.Worth.{setting_in}
 
 abbrev pub text_made : List Node → ℕ → Option (List ℕ)
 text_made nodes n = string_of_node (setting_in nodes) n
-
-abbrev pub number_made : List Node → ℕ → Option Decimal
-number_made nodes n = option_map (read_at 6) (text_made nodes n)
 
 abbrev pub plain_made : List Node → ℕ → Option Plain
 plain_made nodes n = option_map Text (text_made nodes n)

@@ -1,14 +1,13 @@
 -- What a step keeps of a forward axis stands in document order, and so does a node alone.
-use Rattle.std.proofs.Common.{◌≡◌, ℕ, suc, ◌==◌, ◌<◌, Bool, true, false, not, cond, ◌&&◌, ◌||◌, List, [], ◌∷◌, ◌++◌, map, length, Option, Some, None, option_map, refl, sym, ap, ◌∙◌, subst, arith, slice_get}
+use Rattle.std.proofs.Common.{◌≡◌, ℕ, ◌==◌, ◌<◌, Bool, true, false, not, cond, ◌&&◌, ◌||◌, List, [], ◌∷◌, map, length, Option, Some, None, option_map, refl, sym, ap, ◌∙◌, subst, arith, slice_get}
 use Rattle.std.specs.Prelude.{filter, find, reverse}
-use Rattle.std.specs.List.{flat_map}
 use Rattle.std.proofs.lemmas.Bool.Decides.{nat_tests}
 use Rattle.xf_name.specs.declared.axis.Axis.{Axis}
 use Rattle.xf_name.specs.declared.axis.Axis.TheVariants.{DescendantOrSelf}
 use Rattle.xf_ast.specs.declared.expr.Test.{Test}
 use Rattle.xf_ast.specs.declared.expr.Test.TheVariants as test
 use Rattle.xf_doc.specs.declared.content.Node.{Node}
-use Rattle.xf_doc.specs.Forest.{Forest, has_number}
+use Rattle.xf_doc.specs.Forest.{has_number}
 use Rattle.xf_doc.specs.Visit.{Visit, visits, has}
 use Rattle.xf_doc.specs.Axis.{axis_from, is_reverse, on_axis}
 use Rattle.xf_doc.specs.Shape.{erased}
@@ -17,7 +16,7 @@ use Rattle.xf_doc.specs.WellFormed.{AreTrees, HasTrees}
 use Rattle.xf_doc.proofs.BackLaws.{and-true, or-false, not-true}
 use Rattle.xf_doc.proofs.OrderLaws.{Sub, done, skip, keep, are_different, axis-in_order, filter-sub, map-sub, sub-has, sub-none, sub-through, visits-different, seen-has}
 use Rattle.xf_doc.proofs.RenumberLaws.{filter-through, map-map}
-use Rattle.xf_lang.specs.Setting.{Meaning, Setting, ◌>>=◌, each, in_order, joined}
+use Rattle.xf_lang.specs.Setting.{Meaning, Setting, ◌>>=◌, in_order, joined}
 use Rattle.xf_lang.specs.Steps.{begun_at, from_one, kept_by_all, reached}
 use Rattle.xf_lang.specs.Tests.{meets}
 use Rattle.xf_lang.proofs.Options.{IfGiven, nothing, given}

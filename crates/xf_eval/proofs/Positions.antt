@@ -11,7 +11,7 @@ use Rattle.xf_doc.specs.declared.content.Node.{Node}
 use Rattle.xf_plain_values.specs.Conversions.{Decimal, whole}
 use Rattle.xf_lang.specs.declared.value.Value.TheVariants.{Number}
 use Rattle.xf_lang.specs.Binding.{as_list}
-use Rattle.xf_lang.specs.Setting.{Meaning, Setting, ◌>>=◌}
+use Rattle.xf_lang.specs.Setting.{Setting, ◌>>=◌}
 use Rattle.xf_lang.specs.Comparisons.{is_equal, is_same_number}
 use Rattle.xf_lang.specs.Meaning.{meaning}
 use Rattle.xf_lang.specs.Steps.{is_true_at, kept_by_all, kept_from, with_first}

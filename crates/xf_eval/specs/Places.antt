@@ -1,5 +1,5 @@
 -- Predicates that are literal numbers: each keeps the node at its own position, counted from 1 (XPath 1.0, section 2.4).
-use Rattle.std.specs.Prelude.{ℕ, zero, suc, ◌≡◌, ◌==◌, ◌<◌, List, ◌∷◌, drop, map, Option, Some, None, slice_get}
+use Rattle.std.specs.Prelude.{ℕ, zero, suc, ◌≡◌, ◌==◌, List, ◌∷◌, drop, map, Option, Some, None, slice_get}
 use Rattle.xf_ast.specs.declared.expr.Expr.{Expr}
 use Rattle.xf_plain_values.specs.Conversions.{Decimal, whole}
 use Rattle.xf_lang.specs.declared.value.Value.TheVariants.{Number}

@@ -61,15 +61,8 @@ pub fn value_at<A: Around>(
         Expr::Literal(_, text) => Ok(Value::Text(kept_text(alloc, text.as_str())?)),
         Expr::Call(_, code, arguments) => {
             let kind = kind_of(*code);
-            call_value(
-                alloc,
-                forest,
-                around,
-                kind,
-                *code,
-                arguments.as_slice(),
-                context,
-            )
+            let given = arguments.as_slice();
+            call_value(alloc, forest, around, kind, *code, given, context)
         }
         Expr::Negated(_, signs, operand) => {
             negated(alloc, forest, around, *signs, operand.get(), context)

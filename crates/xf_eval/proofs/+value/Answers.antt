@@ -135,8 +135,8 @@ calls::plain_arguments-returns g t c =
 
 pub expression::value_at-chained-requires : goal.expression::value_at-chained-requires
 expression::value_at-chained-requires g t c =
-    let ls = c.as_slice-in-Chain.result.now in
-    let less : most size-Link ls < size-Expr c.args.expr.now = chain-falls c.args.expr.now c.in-Chain.first c.in-Chain.links ls c.in-Chain.is c.as_slice-in-Chain.ensures in
+    let ls = c.as_slice.result.now in
+    let less : most size-Link ls < size-Expr c.args.expr.now = chain-falls c.args.expr.now c.in-Chain.first c.in-Chain.links ls c.in-Chain.is c.as_slice.ensures in
     let falls : 4 * most size-Link ls + 1 < t = omega (arith, c.decreases, less) in
     λ κs h. (falls, (search rules, (c.requires, c.in_ok-left-in-Chain.ensures.live)))
 
@@ -162,7 +162,7 @@ expression::value_at-returns-in-Call-clause-value g t c =
     let s = setting_at given nodes context in
     let f = focus_of context in
     gives-same Memory Long (λ v. v) c.call_value.result _ (meaning c.args.expr.now s f)
-    (ap (λ es. by_kind c.kind_of-kind.result c.in-Call.code given nodes context (map meaning es)) c.as_slice.ensures
+    (ap (λ es. by_kind c.kind_of-kind.result c.in-Call.code given nodes context (map meaning es)) c.as_slice-given.ensures
     ∙ sym (ap (λ e. meaning e s f) c.in-Call.is ∙ call-worth c.in-Call.field-0 c.in-Call.code c.in-Call.arguments c.kind_of-kind.result given nodes context c.kind_of-kind.ensures))
     c.call_value.ensures.value
 

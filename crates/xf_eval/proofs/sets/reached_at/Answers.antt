@@ -1,4 +1,4 @@
-use Rattle.std.proofs.Common.{◌≡◌, ap, ◌∙◌, sym, slice_get}
+use Rattle.std.proofs.Common.{ap, ◌∙◌, sym, slice_get}
 use Rattle.std.specs.Prelude.{filter}
 use Rattle.xf_doc.specs.Forest.{content_at}
 use Rattle.xf_eval.specs.Met.{is_met}
