@@ -1,0 +1,5 @@
+pub mod ElementLemmas
+mod AroundLemmas
+mod ScopeLemmas
+mod HandlerLemmas
+mod NameLemmas

@@ -1,0 +1,5 @@
+pub mod Around
+pub mod Bound
+pub mod Scope
+pub mod Handlers
+pub mod Names
