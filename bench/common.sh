@@ -40,16 +40,11 @@ copy_bench() {
 }
 
 # make_bench NAME CRATE..: proves and builds this program, and the plain program of plain.rs, where there is one. They are then "$ours"
-# and "$plain". BENCH_LIBS, where it is set, is a command that is given the folder and puts libraries there that are proved and built already.
+# and "$plain".
 make_bench() {
     local name=$1
     copy_bench "$@"
-<<<<<<< HEAD
     (cd "$work/crates/$name" && rt run < /dev/null > "$work/built" 2>&1) || true
-=======
-    if [ -n "${BENCH_LIBS:-}" ]; then $BENCH_LIBS "$work"; fi
-    (cd "$work/crates/$name" && rt run > "$work/built" 2>&1) || true
->>>>>>> loader/loader
     ours=$work/crates/$name/out/$name
     [ -x "$ours" ] || { tail -n 20 "$work/built" >&2; exit 1; }
     if [ -f "$here/plain.rs" ]; then rustc -O -o "$work/plain" "$here/plain.rs"; fi
