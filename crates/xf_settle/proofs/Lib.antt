@@ -3,6 +3,7 @@ mod HeldSteps
 mod ListLemmas
 mod PlacedLists
 mod InOrder
+mod Known
 mod Turning
 mod Surroundings
 mod Ending

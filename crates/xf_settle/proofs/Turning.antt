@@ -1,5 +1,5 @@
 -- What stands after some of the turns, and after one more.
-use Rattle.std.proofs.Common.{◌≡◌, ℕ, suc, ◌+◌, ◌^◌, ◌<◌, ◌==◌, Bool, true, false, cond, ◌||◌, ◌&&◌, List, [], ◌∷◌, ◌++◌, map, length, Option, Some, None, slice_get, nat_lt, Ok, Err, refl, sym, ap, ◌∙◌, subst, arith}
+use Rattle.std.proofs.Common.{◌≡◌, ℕ, suc, ◌+◌, ◌^◌, ◌<◌, ◌==◌, Bool, true, false, cond, ◌||◌, ◌&&◌, List, [], ◌∷◌, ◌++◌, map, length, Option, Some, None, option_map, slice_get, slice_set, nat_lt, Ok, Err, refl, sym, ap, ◌∙◌, subst, arith}
 use Rattle.std.specs.List.{list_any, list_all}
 use Rattle.std.proofs.lemmas.Bool.{eqb-true}
 use Rattle.std.proofs.lemmas.List.{length-map}
@@ -12,12 +12,13 @@ use Rattle.xf_doc.specs.Needs.{IsSettable}
 use Rattle.xf_doc.specs.Settle.{has_text, with_settled_text, with_numbered_text}
 use Rattle.xf_doc.specs.Visit.{Visit, has, visits}
 use Rattle.xf_funcs.specs.Called.{called}
+use Rattle.xf_lang.specs.Conversions.{truth_of}
 use Rattle.xf_lang.specs.Given.{Given}
 use Rattle.xf_lang.proofs.VisitFacts.{no, some-same}
 use Rattle.xf_model.specs.declared.property.Property.TheVariants.{Kind}
 use Rattle.xf_model.specs.Rules.{Scope}
 use Rattle.xf_model.specs.Applied.{Entry}
-use Rattle.xf_model.specs.Entries.{text_of}
+use Rattle.xf_model.specs.Entries.{text_of, value_of}
 use Rattle.xf_model.specs.Settled.{Contents, bounds, calculates, content_by, fitting, is_over, settled}
 use Rattle.xf_model.specs.Pertinent.{AllOf}
 use Rattle.xf_model.proofs.EachLemmas.{each_then, each_one, each_both}
@@ -35,15 +36,17 @@ use Rattle.xf_settle_laws.proofs.StillLaws.{settable-still}
 use Rattle.xf_settle_laws.proofs.MeasureLaws.{written-all, written-none}
 use Rattle.xf_machine_laws.proofs.WrittenContents.{all-written}
 use Rattle.xf_written_laws.specs.Turn.{AreTurned}
-use Rattle.xf_written_laws.proofs.TurnLaws.{turn, turn_writes, turn_text}
+use Rattle.xf_written_laws.proofs.TurnLaws.{turn, turn_writes, turn_text, turn_truth}
 use Rattle.xf_form_machine.specs.Behave.{with_contents}
 use Rattle.xf_undo.specs.Draft.{Draft, IsUnused, with_reserved, with_settled}
 use Rattle.xf_settle.specs.declared.turn.Turn.{Turn}
 use Rattle.xf_settle.specs.declared.fault.SettleFault.{SettleFault}
 use Rattle.xf_settle.specs.declared.fault.SettleFault.TheVariants.{Long, Text}
-use Rattle.xf_settle.specs.Settles.{MaySettle, IsTold, scope_in, contents_in, words_of}
+use Rattle.xf_settle.specs.Known.{AreKnown}
+use Rattle.xf_settle.specs.Settles.{MaySettle, IsTold, scope_in, contents_in, settled_forest, words_of}
 use Rattle.xf_settle.specs.Turns.{AreTurns, entry_in, turned, written_once}
 use Rattle.xf_settle.specs.Whole.{IsWritten}
+use Rattle.xf_settle.proofs.Known.{one-known}
 use Rattle.xf_settle.proofs.ListLemmas.{got-map, slice-split, map-append, all-first, any-append, any-left, any-right, same-self, done_by, done-each, done-none, done-more}
 
 abbrev pub over_settled : Scope → List Entry → Forest → List Visit
@@ -158,8 +161,23 @@ module _ (given : Given) (tables : Tables) (model : ℕ) (forest : Forest) (entr
         ap (λ nodes. text_of (Some bounds.string) scope (visits nodes) (entry_in x)) g.nodes
         ∙ turn_text bounds called given tables model forest entries es turned-form bs (map entry_in after) (entry_in x) splits (done_by bs) (done-each bs) done-later
 
+    -- and the truth of its value is the one in the end
+    truth-now : (d : Draft) → Going scope entries forest before d →
+        option_map truth_of (value_of (Some bounds.string) scope (visits d.now.nodes) (entry_in x))
+        ≡ option_map truth_of (value_of (Some bounds.string) scope (visits (settled_forest scope entries forest).nodes) (entry_in x))
+    truth-now d g =
+        ap (λ nodes. option_map truth_of (value_of (Some bounds.string) scope (visits nodes) (entry_in x))) g.nodes
+        ∙ turn_truth bounds called given tables model forest entries es turned-form bs (map entry_in after) (entry_in x) splits (done_by bs) (done-each bs) done-later
+        ∙ ap (λ nodes. option_map truth_of (value_of (Some bounds.string) scope (visits nodes) (entry_in x))) (all-written forest.next contents forest.nodes)
+
     placed : slice_get (calculates entries) x.place ≡ Some (entry_in x)
     placed = (all-later (λ (u : Turn). slice_get (calculates entries) u.place ≡ Some (entry_in u)) before (x ∷ after) (subst (AllOf (λ (u : Turn). slice_get (calculates entries) u.place ≡ Some (entry_in u))) split t.placed)).0
+
+    -- what was found in a turn is known of the settled data
+    pub one-told : (d : Draft) (known : List (Option Bool)) (truth : Bool) → Going scope entries forest before d → AreKnown scope (visits (settled_forest scope entries forest).nodes) entries known →
+        option_map truth_of (value_of (Some bounds.string) scope (visits d.now.nodes) (entry_in x)) ≡ Some truth →
+        AreKnown scope (visits (settled_forest scope entries forest).nodes) entries (slice_set known x.place (Some truth))
+    one-told d known truth g are found = one-known scope (visits (settled_forest scope entries forest).nodes) entries known x.place (entry_in x) truth are placed (sym (truth-now d g) ∙ found)
 
     pub settable : (d : Draft) → Going scope entries forest before d → IsSettable x.entry.node.number d.now
     settable d g =

@@ -1,3 +1,4 @@
 pub mod Settles
 pub mod Turns
+pub mod Known
 pub mod Whole

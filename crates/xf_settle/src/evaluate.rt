@@ -5,7 +5,7 @@ ghost use Rattle.xf_base.specs.Limits.{string_limit};
 ghost use Rattle.xf_doc.specs.Forest.{has_number};
 ghost use Rattle.xf_doc.specs.Visit.{visits};
 ghost use Rattle.xf_plain_values.specs.Bounded.{GivesBounded};
-ghost use Rattle.xf_lang.specs.Conversions.{nodes_of};
+ghost use Rattle.xf_lang.specs.Conversions.{nodes_of, truth_of};
 ghost use Rattle.xf_model.specs.Entries.{expression_in, text_of, value_of};
 ghost use Rattle.xf_model.specs.Rules.{computed_of, rule_of};
 ghost use Rattle.xf_eval.specs.Live.{AllLive, AroundStands};
@@ -17,26 +17,36 @@ use std::alloc::Global;
 use xf_ast::{Bind, Expr, Properties, Tables};
 use xf_binds::Entry;
 use xf_doc::NodeList;
-use xf_eval::{Around, Context, EvalFault, Value, text_of, value_at};
+use xf_eval::{Around, Context, EvalFault, Value, text_of, truth_of, value_at};
 use xf_model::Property;
 use xf_name::Word;
 use xf_tree::Forest;
 
-/// The text of an entry's value.
-pub(crate) fn entry_text<A: Around>(
+/// What an entry gives: the text of its value, and its truth.
+#[derive(Debug, Drop)]
+pub(crate) struct Evaluated {
+    pub text: Word,
+    pub truth: bool,
+}
+
+/// The text of an entry's value, and its truth.
+pub(crate) fn evaluated_entry<A: Around>(
     alloc: Global,
     tables: &Tables,
     forest: &Forest,
     model: u32,
     entry: Entry,
     around: &A,
-) -> Result<Word, EvalFault>
+) -> Result<Evaluated, EvalFault>
     requires stands { AroundStands (A.given around.now) forest.now.forest.nodes }
     requires live { has_number entry.node.number forest.now.forest.nodes ≡ true }
-    ensures { GivesBounded EvalFault.Memory EvalFault.Long (λ text. text) result (text_of (Some string_limit) (scope_in (A.given around.now) tables.now model) (visits forest.now.forest.nodes) (entry_of entry)) }
+    ensures text { GivesBounded EvalFault.Memory EvalFault.Long (λ given. given.text) result (text_of (Some string_limit) (scope_in (A.given around.now) tables.now model) (visits forest.now.forest.nodes) (entry_of entry)) }
+    ensures truth { IfOk result (λ given. option_map truth_of (value_of (Some string_limit) (scope_in (A.given around.now) tables.now model) (visits forest.now.forest.nodes) (entry_of entry)) ≡ Some given.truth) }
 {
     let value = entry_value(alloc, tables, forest, model, entry, around)?;
-    text_of(alloc, forest, &value)
+    let truth = truth_of(&value);
+    let text = text_of(alloc, forest, &value)?;
+    Ok(Evaluated { text, truth })
 }
 
 /// The value of an entry; one without an expression has no nodes.

@@ -22,7 +22,7 @@ use xf_eval::Around;
 use xf_tree::Forest;
 use xf_undo::Draft;
 
-/// Evaluates the calculates of a model in an order of their graph, and writes their texts; then evaluates each entry. The answer is the truths
+/// Evaluates the calculates of a model in an order of their graph, and writes their texts; then evaluates each other entry. The answer is the truths
 /// of their values, by the places of the entries. What was reserved or written before an `Err` stays in the draft
 /// until it is rolled back.
 pub fn settle<A: Around>(
@@ -69,7 +69,7 @@ fn settle_in_turn<A: Around>(
         // No memory holds so many.
         return Err(SettleFault::Memory);
     }
-    settle_turns(
+    let known = settle_turns(
         alloc,
         tables,
         draft,
@@ -79,7 +79,15 @@ fn settle_in_turn<A: Around>(
         count as u32,
         around,
     )?;
-    let truths = truths_of(alloc, tables, draft.forest(), model, table, around)?;
+    let truths = truths_of(
+        alloc,
+        tables,
+        draft.forest(),
+        model,
+        table,
+        known.as_slice(),
+        around,
+    )?;
     match limit_passed(draft.forest()) {
         Some(fault) => Err(fault),
         None => Ok(truths),

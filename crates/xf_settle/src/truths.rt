@@ -1,7 +1,7 @@
 //! The truths of the values of a model's entries over the settled data.
 
-ghost use Rattle.std.specs.Prelude.{◌≡◌, ◌++◌, ◌∷◌, [], Some, None, true, false, option_map, slice_get, OnOk, IfOk};
-ghost use Rattle.std.specs.List.{list_all, list_any};
+ghost use Rattle.std.specs.Prelude.{◌≡◌, [], Some, true, option_map};
+ghost use Rattle.std.specs.List.{list_all};
 ghost use Rattle.xf_doc.specs.Forest.{has_number};
 ghost use Rattle.xf_doc.specs.Visit.{visits};
 ghost use Rattle.xf_plain_values.specs.Bounded.{GivesBounded};
@@ -10,9 +10,11 @@ ghost use Rattle.xf_eval.specs.Live.{AroundStands};
 ghost use Rattle.xf_binds.specs.Held.{entry_of};
 ghost use Rattle.xf_binds.specs.Table.{kept_at};
 ghost use Rattle.xf_settle.specs.Settles.{scope_in};
+ghost use Rattle.xf_settle.specs.Known.{AreKnown, IsKnown, known_at};
 ghost use Rattle.xf_settle.specs.Turns.{found_over, found_step, is_there, is_there_at, truth_over};
 
 use crate::evaluate::entry_value;
+use crate::order::is_calculate;
 use std::alloc::Global;
 use xf_ast::Tables;
 use xf_binds::{Entry, Table, TruthList};
@@ -20,44 +22,69 @@ use xf_eval::{Around, EvalFault, truth_of};
 use xf_model::Property;
 use xf_tree::Forest;
 
-/// The truths of the values of a model's entries over the forest as it stands, by their places.
+/// The truths of the values of a model's entries over the forest as it stands, by their places. Those that are known of calculates, by their
+/// places among these, are not evaluated again.
 pub(crate) fn truths_of<A: Around>(
     alloc: Global,
     tables: &Tables,
     forest: &Forest,
     model: u32,
     table: &Table,
+    known: &[Option<bool>],
     around: &A,
 ) -> Result<TruthList, EvalFault>
     requires stands { AroundStands (A.given around.now) forest.now.forest.nodes }
     requires live { list_all (is_there forest.now.forest.nodes) (kept_at table.now model).entries ≡ true }
+    requires known { AreKnown (scope_in (A.given around.now) tables.now model) (visits forest.now.forest.nodes) (kept_at table.now model).entries known.now }
     ensures { GivesBounded EvalFault.Memory EvalFault.Long (λ truths. truths) result (found_over [] (scope_in (A.given around.now) tables.now model) (visits forest.now.forest.nodes) (kept_at table.now model).entries) }
 {
     let mut found = TruthList::new(alloc);
+    let mut place = 0;
     for at in 0..table.len(model) {
-        push_truth(alloc, tables, forest, model, table, at, around, &mut found)?;
+        let entry = table.entry(model, at);
+        let truth = known_at(entry, known, place);
+        push_truth(
+            alloc, tables, forest, model, entry, truth, around, &mut found,
+        )?;
+        if is_calculate(entry) {
+            place += 1;
+        }
     }
     Ok(found)
 }
 
-/// Adds that of the entry at a place.
+/// What is known of an entry, where so many calculates stand before it.
+fn known_at(entry: Option<Entry>, known: &[Option<bool>], place: usize) -> Option<bool>
+    ensures { result ≡ known_at (option_map entry_of entry) known.now place }
+{
+    if !is_calculate(entry) {
+        return None;
+    }
+    match known.get(place) {
+        Some(truth) => *truth,
+        None => None,
+    }
+}
+
+/// Adds the truth of an entry, where there is one.
 fn push_truth<A: Around>(
     alloc: Global,
     tables: &Tables,
     forest: &Forest,
     model: u32,
-    table: &Table,
-    at: usize,
+    entry: Option<Entry>,
+    known: Option<bool>,
     around: &A,
     found: &mut TruthList,
 ) -> Result<(), EvalFault>
     requires stands { AroundStands (A.given around.now) forest.now.forest.nodes }
-    requires live { is_there_at forest.now.forest.nodes (slice_get (kept_at table.now model).entries at) ≡ true }
-    ensures { GivesBounded EvalFault.Memory EvalFault.Long (λ u. found.new) result (found_step found.old (scope_in (A.given around.now) tables.now model) (visits forest.now.forest.nodes) (slice_get (kept_at table.now model).entries at)) }
+    requires live { is_there_at forest.now.forest.nodes (option_map entry_of entry) ≡ true }
+    requires known { IsKnown (scope_in (A.given around.now) tables.now model) (visits forest.now.forest.nodes) (option_map entry_of entry) known }
+    ensures { GivesBounded EvalFault.Memory EvalFault.Long (λ u. found.new) result (found_step found.old (scope_in (A.given around.now) tables.now model) (visits forest.now.forest.nodes) (option_map entry_of entry)) }
 {
-    match table.entry(model, at) {
+    match entry {
         Some(entry) => {
-            let truth = entry_truth(alloc, tables, forest, model, entry, around)?;
+            let truth = entry_truth(alloc, tables, forest, model, entry, known, around)?;
             found.push(truth)?;
             Ok(())
         }
@@ -65,19 +92,24 @@ fn push_truth<A: Around>(
     }
 }
 
-/// The truth of an entry's value; a type has none.
+/// The truth of an entry's value, which may be known; a type has none.
 fn entry_truth<A: Around>(
     alloc: Global,
     tables: &Tables,
     forest: &Forest,
     model: u32,
     entry: Entry,
+    known: Option<bool>,
     around: &A,
 ) -> Result<Option<bool>, EvalFault>
     requires stands { AroundStands (A.given around.now) forest.now.forest.nodes }
     requires live { has_number entry.node.number forest.now.forest.nodes ≡ true }
+    requires known { IsKnown (scope_in (A.given around.now) tables.now model) (visits forest.now.forest.nodes) (Some (entry_of entry)) known }
     ensures { GivesBounded EvalFault.Memory EvalFault.Long (λ truth. truth) result (truth_over (scope_in (A.given around.now) tables.now model) (visits forest.now.forest.nodes) (entry_of entry)) }
 {
+    if let Some(truth) = known {
+        return Ok(Some(truth));
+    }
     if is_type(entry.property) {
         return Ok(None);
     }

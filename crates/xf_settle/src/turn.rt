@@ -1,23 +1,25 @@
 //! One calculate after the other, in an order of their graph (XForms 1.1, section 4.3.2 and appendix C).
 
-ghost use Rattle.std.specs.Prelude.{◌≡◌, ◌+◌, ◌<◌, ◌^◌, Some, length, IfErr, OnOk, OnErr};
+ghost use Rattle.std.specs.Prelude.{◌≡◌, ◌+◌, ◌<◌, ◌^◌, Some, None, length, option_map, replicate, slice_set, IfErr, IfOk, OnOk, OnErr};
 ghost use Rattle.xf_base.specs.Gives.{Gives};
 ghost use Rattle.xf_base.specs.Limits.{string_limit};
 ghost use Rattle.xf_doc.specs.Needs.{IsSettable};
 ghost use Rattle.xf_doc.specs.Visit.{visits};
-ghost use Rattle.xf_model.specs.Entries.{text_of};
+ghost use Rattle.xf_lang.specs.Conversions.{truth_of};
+ghost use Rattle.xf_model.specs.Entries.{text_of, value_of};
 ghost use Rattle.xf_model.specs.Settled.{calculates};
 ghost use Rattle.xf_eval.specs.Live.{AroundStands};
 ghost use Rattle.xf_undo.specs.Draft.{IsUnused};
 ghost use Rattle.xf_binds.specs.Held.{entry_of};
 ghost use Rattle.xf_binds.specs.Table.{kept_at};
 ghost use Rattle.xf_settle.specs.Settles.{IsLeft, IsTold, MaySettle, scope_in, words_of};
+ghost use Rattle.xf_settle.specs.Known.{AreKnown};
 ghost use Rattle.xf_settle.specs.Turns.{AreTurns, turned};
 ghost use Rattle.xf_settle.specs.Whole.{IsWritten};
 
-use crate::evaluate::entry_text;
+use crate::evaluate::evaluated_entry;
 use crate::fault::SettleFault;
-use std::alloc::Global;
+use std::alloc::{AllocError, Global};
 use xf_ast::Tables;
 use xf_binds::{Entry, Table};
 use xf_eval::Around;
@@ -33,8 +35,8 @@ pub(crate) struct Turn {
     pub place: u32,
 }
 
-/// Reserves a number for each of the calculates, evaluates each in its turn and writes its text. What was reserved or written before an
-/// `Err` stays.
+/// Reserves a number for each of the calculates, evaluates each in its turn and writes its text. The answer is the truths of their values, by
+/// their places: a calculate is evaluated once. What was reserved or written before an `Err` stays.
 pub(crate) fn settle_turns<A: Around>(
     alloc: Global,
     tables: &Tables,
@@ -44,25 +46,44 @@ pub(crate) fn settle_turns<A: Around>(
     turns: &[Turn],
     count: u32,
     around: &A,
-) -> Result<(), SettleFault>
+) -> Result<Vec<Option<bool>>, SettleFault>
     requires may { MaySettle (A.given around.now) tables.now model draft.old.now (kept_at table.now model).entries }
     requires turns { AreTurns (scope_in (A.given around.now) tables.now model) (kept_at table.now model).entries (visits draft.old.now.nodes) turns.now }
     requires count { count ≡ length (calculates (kept_at table.now model).entries) }
     ensures ok { OnOk result (IsWritten (scope_in (A.given around.now) tables.now model) (kept_at table.now model).entries draft.old.now draft.new.now) }
+    ensures truths { IfOk result (λ truths. AreKnown (scope_in (A.given around.now) tables.now model) (visits draft.new.now.nodes) (kept_at table.now model).entries truths.items) }
     ensures err { IfErr result (λ fault. IsTold fault (words_of (scope_in (A.given around.now) tables.now model) (kept_at table.now model).entries draft.old.now)) }
     ensures left { OnErr result (IsLeft (scope_in (A.given around.now) tables.now model) (kept_at table.now model).entries draft.old.now draft.new.now) }
     ensures kept { draft.new.kept ≡ draft.old.kept }
 {
+    let mut truths = no_truths(alloc, count as usize)?;
     let first = draft.forest().next_number();
     draft.reserve_numbers(count);
     for turn in turns {
         let number = first + turn.place as u128;
-        settle_turn(alloc, tables, draft, model, turn.entry, number, around)?;
+        let truth = settle_turn(alloc, tables, draft, model, turn.entry, number, around)?;
+        tell(&mut truths, turn.place as usize, truth);
     }
-    Ok(())
+    Ok(truths)
 }
 
-/// Evaluates a calculate, and writes its text where it does not stand already: there it has this number.
+/// So many truths, none of which is known.
+fn no_truths(alloc: Global, count: usize) -> Result<Vec<Option<bool>>, AllocError>
+    ensures { IfOk result (λ truths. truths.items ≡ replicate count None) }
+{
+    vec![in alloc; None; count]
+}
+
+/// Tells the truth at a place, where it is one.
+fn tell(truths: &mut Vec<Option<bool>>, at: usize, truth: bool)
+    ensures { truths.new.items ≡ slice_set truths.old.items at (Some truth) }
+{
+    if at < truths.len() {
+        truths[at] = Some(truth);
+    }
+}
+
+/// Evaluates a calculate, and writes its text where it does not stand already: there it has this number. The answer is the truth of its value.
 fn settle_turn<A: Around>(
     alloc: Global,
     tables: &Tables,
@@ -71,21 +92,22 @@ fn settle_turn<A: Around>(
     entry: Entry,
     number: u128,
     around: &A,
-) -> Result<(), SettleFault>
+) -> Result<bool, SettleFault>
     requires stands { AroundStands (A.given around.now) draft.old.now.nodes }
     requires may { IsSettable entry.node.number draft.old.now }
     requires number { IsUnused number draft.old }
-    ensures answer { Gives SettleFault.Memory (λ u. draft.new) result (turned number entry.node.number draft.old
+    ensures answer { Gives SettleFault.Memory (λ truth. draft.new) result (turned number entry.node.number draft.old
         (text_of (Some string_limit) (scope_in (A.given around.now) tables.now model) (visits draft.old.now.nodes) (entry_of entry))) }
+    ensures truth { IfOk result (λ truth. option_map truth_of (value_of (Some string_limit) (scope_in (A.given around.now) tables.now model) (visits draft.old.now.nodes) (entry_of entry)) ≡ Some truth) }
     ensures err { OnErr result (draft.new ≡ draft.old) }
 {
-    let text = entry_text(alloc, tables, draft.forest(), model, entry, around)?;
-    if text.len() > TEXT_LIMIT as usize {
+    let given = evaluated_entry(alloc, tables, draft.forest(), model, entry, around)?;
+    if given.text.len() > TEXT_LIMIT as usize {
         return Err(SettleFault::Text);
     }
-    if draft.forest().has_text(entry.node, text.as_str()) {
-        return Ok(());
+    if draft.forest().has_text(entry.node, given.text.as_str()) {
+        return Ok(given.truth);
     }
-    draft.settle_text(entry.node, text.as_str(), number)?;
-    Ok(())
+    draft.settle_text(entry.node, given.text.as_str(), number)?;
+    Ok(given.truth)
 }

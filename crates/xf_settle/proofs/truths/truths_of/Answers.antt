@@ -1,22 +1,58 @@
+use Rattle.std.proofs.Common.{◌≡◌, ◌+◌, length, take, sym, ap, ◌∙◌, subst, arith}
 use Rattle.std.proofs.lemmas.Result.{err_from_is_err_and}
+use Rattle.std.specs.Prelude.{slice_get}
 use Rattle.xf_doc.specs.Visit.{visits}
 use Rattle.xf_lang.specs.declared.fault.EvalFault.TheVariants.{Long, Memory}
+use Rattle.xf_model.specs.Settled.{calculates}
 use Rattle.xf_eval.proofs.Bounded.{part-long}
 use Rattle.xf_binds.specs.Table.{kept_at}
+use Rattle.xf_settle.specs.Known.{IsKnown, known_at}
 use Rattle.xf_settle.specs.Settles.{scope_in}
-use Rattle.xf_settle.proofs.HeldSteps.{there-at, step-none, step-some}
+use Rattle.xf_settle.specs.Turns.{found_step, is_calculate_at, is_there_at}
+use Rattle.xf_settle.proofs.HeldSteps.{counted, one_if, plus-none, there-at, step-none, step-some}
+use Rattle.xf_settle.proofs.Known.{is-known}
 use Rattle.xf_settle.proofs.truths.truths_of.Goals as goal
+use Rattle.xf_settle.proofs.truths.truths_of.Goals.{then-is_calculate, else-is_calculate}
 
 pub push_truth-requires-clause-live : goal.push_truth-requires-clause-live
-push_truth-requires-clause-live g c = there-at c.args.forest.now.forest.nodes (kept_at c.args.table.now c.args.model).entries c.loop-at.at c.requires.live
+push_truth-requires-clause-live g c =
+    ap (is_there_at c.args.forest.now.forest.nodes) c.entry-entry.ensures ∙ there-at c.args.forest.now.forest.nodes (kept_at c.args.table.now c.args.model).entries c.loop-at.at c.requires.live
+
+pub push_truth-requires-clause-known : goal.push_truth-requires-clause-known
+push_truth-requires-clause-known g c =
+    let scope = scope_in (g.A.Around.given c.args.around.now) c.args.tables.now c.args.model in
+    let all = visits c.args.forest.now.forest.nodes in
+    let entries = (kept_at c.args.table.now c.args.model).entries in
+    let told = c.known_at-truth.ensures ∙ ap (λ e. known_at e c.args.known.now c.loop-at.place) c.entry-entry.ensures ∙ ap (known_at (slice_get entries c.loop-at.at) c.args.known.now) c.loop-at.invariant.so_far in
+    subst (λ e. IsKnown scope all e c.known_at-truth.result) (sym c.entry-entry.ensures)
+    (subst (IsKnown scope all (slice_get entries c.loop-at.at)) (sym told) (is-known scope all entries c.args.known.now c.requires.known c.loop-at.at))
 
 pub returns-in_err-push_truth : goal.returns-in_err-push_truth
 returns-in_err-push_truth g c =
+    let scope = scope_in (g.A.Around.given c.args.around.now) c.args.tables.now c.args.model in
+    let all = visits c.args.forest.now.forest.nodes in
     let p = err_from_is_err_and c.from_residual.result c.from_residual.ensures.1 in
     rw (p.1, p.2) (part-long Memory Long _ _ _ c.in_err-push_truth.ensures
-    (λ h. step-none (scope_in (g.A.Around.given c.args.around.now) c.args.tables.now c.args.model) (visits c.args.forest.now.forest.nodes) c.loop-at.found (kept_at c.args.table.now c.args.model).entries c.loop-at.at _ c.loop-at.invariant h))
+    (λ h. step-none scope all c.loop-at.found (kept_at c.args.table.now c.args.model).entries c.loop-at.at _ c.loop-at.invariant.found (ap (found_step c.loop-at.found scope all) (sym c.entry-entry.ensures) ∙ h)))
 
 pub loop-at-preserved : goal.loop-at-preserved
 loop-at-preserved g c =
-    step-some (scope_in (g.A.Around.given c.args.around.now) c.args.tables.now c.args.model) (visits c.args.forest.now.forest.nodes) c.loop-at.found c.push_truth.new.found (kept_at c.args.table.now c.args.model).entries c.loop-at.at _
-    c.loop-at.invariant c.in_ok-push_truth.ensures
+    let scope = scope_in (g.A.Around.given c.args.around.now) c.args.tables.now c.args.model in
+    let all = visits c.args.forest.now.forest.nodes in
+    let entries = (kept_at c.args.table.now c.args.model).entries in
+    let at = c.loop-at.at in
+    let old = c.loop-at.invariant in
+    let here : c.is_calculate.result ≡ is_calculate_at (slice_get entries at) = c.is_calculate.ensures ∙ ap is_calculate_at c.entry-entry.ensures in
+    let found = step-some scope all c.loop-at.found c.push_truth.new.found entries at _ old.found (ap (found_step c.loop-at.found scope all) (sym c.entry-entry.ensures) ∙ c.in_ok-push_truth.ensures) in
+    elim c.if-is_calculate.branch [
+      | then-is_calculate w ↦
+          let more = counted entries at ∙ ap (λ b. length (calculates (take at entries)) + one_if b) (sym here ∙ w.if-is_calculate.true) in
+          record { found = found; so_far = w.place-is ∙ ap (λ n. n + 1) old.so_far ∙ sym more; few = let f = old.few in let i = w.place-is in omega (arith, f, i) }
+      | else-is_calculate w ↦
+          let more = counted entries at ∙ ap (λ b. length (calculates (take at entries)) + one_if b) (sym here ∙ w.if-is_calculate.false) in
+          record {
+            found = found;
+            so_far = w.place-is ∙ old.so_far ∙ sym (more ∙ plus-none (length (calculates (take at entries))));
+            few = let f = old.few in let i = w.place-is in omega (arith, f, i);
+          }
+    ]

@@ -1,5 +1,6 @@
-use Rattle.std.proofs.Common.{◌≡◌, [], drop}
+use Rattle.std.proofs.Common.{◌≡◌, ◌≤◌, [], drop, length, take}
 use Rattle.xf_doc.specs.Visit.{visits}
+use Rattle.xf_model.specs.Settled.{calculates}
 use Rattle.xf_binds.specs.Table.{kept_at}
 use Rattle.xf_settle.specs.Settles.{scope_in}
 use Rattle.xf_settle.specs.Turns.{found_over}
@@ -10,4 +11,8 @@ invariant-loop-at g l =
     let scope = scope_in (g.A.Around.given l.fn.around) l.fn.tables l.fn.model in
     let all = visits l.fn.forest.forest.nodes in
     let entries = (kept_at l.fn.table l.fn.model).entries in
-    found_over l.found scope all (drop l.at entries) ≡ found_over [] scope all entries
+    record {
+      found : found_over l.found scope all (drop l.at entries) ≡ found_over [] scope all entries;
+      so_far : l.place ≡ length (calculates (take l.at entries));
+      few : l.place ≤ l.at;
+    }

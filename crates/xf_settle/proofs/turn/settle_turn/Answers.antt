@@ -4,8 +4,8 @@ use Rattle.xf_doc.specs.Forest.{has_number}
 use Rattle.xf_tree.proofs.ValueLemmas.{kind-live}
 use Rattle.xf_settle.proofs.turn.settle_turn.Goals as goal
 
-pub entry_text-requires-clause-live : goal.entry_text-requires-clause-live
-entry_text-requires-clause-live g c =
+pub evaluated_entry-requires-clause-live : goal.evaluated_entry-requires-clause-live
+evaluated_entry-requires-clause-live g c =
     let n = c.args.entry.node.number in
     let nodes = c.args.draft.now.now.nodes in
     let live : has_number n nodes ≡ true = elim c.requires.may.kind [ inl h ↦ kind-live n Attribute nodes h | inr h ↦ kind-live n Element nodes h ] in

@@ -8,11 +8,14 @@ use Rattle.xf_model.specs.Settled.{calculates}
 use Rattle.xf_eval.specs.Live.{AroundStands}
 use Rattle.xf_undo.specs.Draft.{IsUnused}
 use Rattle.xf_binds.specs.Table.{kept_at}
-use Rattle.xf_settle.specs.Settles.{IsLeft, IsTold, contents_in, scope_in, words_of}
+use Rattle.xf_settle.specs.Known.{AreKnown}
+use Rattle.xf_settle.specs.Settles.{IsLeft, IsTold, contents_in, scope_in, settled_forest, words_of}
 use Rattle.xf_settle.specs.Turns.{entry_in, turned}
+use Rattle.xf_settle.proofs.Known.{none-known}
+use Rattle.xf_settle.proofs.Left.{left-none}
 use Rattle.xf_settle.proofs.ListLemmas.{done_by, split-at}
 use Rattle.xf_settle.proofs.Surroundings.{stands-now}
-use Rattle.xf_settle.proofs.Turning.{Going, ended, may-write, no_turn, refused, settable, start, step, turned-kept, unused}
+use Rattle.xf_settle.proofs.Turning.{Going, ended, may-write, no_turn, one-told, refused, settable, start, step, turned-kept, unused}
 use Rattle.xf_settle.proofs.turn.settle_turns.Goals as goal
 
 pub loop-turn-init : goal.loop-turn-init
@@ -26,6 +29,8 @@ loop-turn-init g c =
       going = subst (Going scope entries d.now []) (sym c.reserve_numbers.ensures)
           (start given c.args.tables.now c.args.model d.now entries c.requires.may c.args.turns.now c.requires.turns few d c.args.count refl c.requires.count);
       kept = ap (λ x. x.kept) c.reserve_numbers.ensures;
+      known = subst (AreKnown scope (visits (settled_forest scope entries d.now).nodes) entries) (sym c.in_ok-truths.ensures)
+          (none-known scope (visits (settled_forest scope entries d.now).nodes) entries c.args.count);
     }
 
 pub settle_turn-requires-clause-stands : goal.settle_turn-requires-clause-stands
@@ -63,8 +68,8 @@ settle_turn-requires-clause-number g c =
     (unused given c.args.tables.now c.args.model d.now entries c.requires.may turns c.requires.turns few (take k turns) (drop (k + 1) turns) (get_or turns k no_turn)
     (split-at turns k no_turn c.loop-turn-test.true) c.loop-turn.draft c.loop-turn.invariant.going)
 
-pub returns-in_err-settle_turn-clause-err : goal.returns-in_err-settle_turn-clause-err
-returns-in_err-settle_turn-clause-err g c =
+pub returns-in_err-truth-clause-err : goal.returns-in_err-truth-clause-err
+returns-in_err-truth-clause-err g c =
     let given = g.A.Around.given c.args.around.now in
     let entries = (kept_at c.args.table.now c.args.model).entries in
     let scope = scope_in given c.args.tables.now c.args.model in
@@ -75,8 +80,8 @@ returns-in_err-settle_turn-clause-err g c =
     let few : length (calculates entries) < 2 ^ 32 = let fits = c.ranges.count.fits in let is = c.requires.count in omega (arith, fits, is) in
     let first : c.next_number-first.result ≡ d.now.next = c.next_number-first.ensures ∙ ap (λ f. f.next) c.forest.ensures in
     let text = text_of (Some string_limit) scope (visits c.loop-turn.draft.now.nodes) (entry_in x) in
-    let p = err_from_is_err_and c.from_residual.result c.from_residual.ensures.1 in
-    rw (p.1, p.2) (elim c.in_err-settle_turn.ensures.answer [
+    let p = err_from_is_err_and c.from_residual-in_err-truth.result c.from_residual-in_err-truth.ensures.1 in
+    rw (p.1, p.2) (elim c.in_err-truth.ensures.answer [
       | inl m ↦ subst (λ f. IsTold f (words_of scope entries d.now)) (sym m) tt
       | inr h ↦
           refused given c.args.tables.now c.args.model d.now entries c.requires.may turns c.requires.turns few (take k turns) (drop (k + 1) turns) x
@@ -100,9 +105,29 @@ loop-turn-preserved g c =
       going = subst (λ l. Going scope entries d.now l c.settle_turn.new.draft) (sym (take_more turns k no_turn c.loop-turn-test.true))
           (step given c.args.tables.now c.args.model d.now entries c.requires.may turns c.requires.turns few (take k turns) (drop (k + 1) turns) x
           (split-at turns k no_turn c.loop-turn-test.true) c.loop-turn.draft c.settle_turn.new.draft c.loop-turn.invariant.going
-          (ap (λ n. turned (n + x.place) x.entry.node.number c.loop-turn.draft text) (sym first) ∙ c.in_ok-settle_turn.ensures.answer));
-      kept = turned-kept (c.next_number-first.result + x.place) x.entry.node.number c.loop-turn.draft c.settle_turn.new.draft text c.in_ok-settle_turn.ensures.answer ∙ c.loop-turn.invariant.kept;
+          (ap (λ n. turned (n + x.place) x.entry.node.number c.loop-turn.draft text) (sym first) ∙ c.in_ok-truth.ensures.answer));
+      kept = turned-kept (c.next_number-first.result + x.place) x.entry.node.number c.loop-turn.draft c.settle_turn.new.draft text c.in_ok-truth.ensures.answer ∙ c.loop-turn.invariant.kept;
+      known = subst (AreKnown scope (visits (settled_forest scope entries d.now).nodes) entries) (sym c.tell.ensures)
+          (one-told given c.args.tables.now c.args.model d.now entries c.requires.may turns c.requires.turns few (take k turns) (drop (k + 1) turns) x
+          (split-at turns k no_turn c.loop-turn-test.true) c.loop-turn.draft c.loop-turn.truths.items c.in_ok-truth.truth c.loop-turn.invariant.going c.loop-turn.invariant.known c.in_ok-truth.ensures.truth);
     }
+
+pub returns-in_err-truths-clause-left : goal.returns-in_err-truths-clause-left
+returns-in_err-truths-clause-left g c =
+    let p = err_from_is_err_and c.from_residual.result c.from_residual.ensures.1 in
+    rw p.1 (left-none (scope_in (g.A.Around.given c.args.around.now) c.args.tables.now c.args.model) (kept_at c.args.table.now c.args.model).entries c.args.draft.now.now c.args.draft.now.now refl)
+
+pub returns-clause-truths : goal.returns-clause-truths
+returns-clause-truths g c =
+    let given = g.A.Around.given c.args.around.now in
+    let entries = (kept_at c.args.table.now c.args.model).entries in
+    let scope = scope_in given c.args.tables.now c.args.model in
+    let d = c.args.draft.now in
+    let turns = c.args.turns.now in
+    let few : length (calculates entries) < 2 ^ 32 = let fits = c.ranges.count.fits in let is = c.requires.count in omega (arith, fits, is) in
+    let w = ended given c.args.tables.now c.args.model d.now entries c.requires.may turns c.requires.turns few c.loop-turn.draft
+    (subst (λ l. Going scope entries d.now l c.loop-turn.draft) (take_all c.loop-turn.turn-index turns c.loop-turn-test.false) c.loop-turn.invariant.going) in
+    subst (λ f. AreKnown scope (visits f.nodes) entries c.loop-turn.truths.items) (sym w.written) c.loop-turn.invariant.known
 
 pub returns-clause-ok : goal.returns-clause-ok
 returns-clause-ok g c =
@@ -115,13 +140,13 @@ returns-clause-ok g c =
     ended given c.args.tables.now c.args.model d.now entries c.requires.may turns c.requires.turns few c.loop-turn.draft
     (subst (λ l. Going scope entries d.now l c.loop-turn.draft) (take_all c.loop-turn.turn-index turns c.loop-turn-test.false) c.loop-turn.invariant.going)
 
-pub returns-in_err-settle_turn-clause-left : goal.returns-in_err-settle_turn-clause-left
-returns-in_err-settle_turn-clause-left g c =
+pub returns-in_err-truth-clause-left : goal.returns-in_err-truth-clause-left
+returns-in_err-truth-clause-left g c =
     let entries = (kept_at c.args.table.now c.args.model).entries in
     let scope = scope_in (g.A.Around.given c.args.around.now) c.args.tables.now c.args.model in
     let left : IsLeft scope entries c.args.draft.now.now c.settle_turn.new.draft.now = record {
       done = done_by (map entry_in (take c.loop-turn.turn-index c.args.turns.now));
-      nodes = ap (λ d. d.now.nodes) c.in_err-settle_turn.ensures.err ∙ c.loop-turn.invariant.going.nodes;
+      nodes = ap (λ d. d.now.nodes) c.in_err-truth.ensures.err ∙ c.loop-turn.invariant.going.nodes;
     } in
-    let p = err_from_is_err_and c.from_residual.result c.from_residual.ensures.1 in
+    let p = err_from_is_err_and c.from_residual-in_err-truth.result c.from_residual-in_err-truth.ensures.1 in
     rw p.1 left
