@@ -8,3 +8,4 @@ pub mod ShapeNodes
 pub mod ShapesMeet
 pub mod LooseBinds
 pub mod LooseInstances
+pub mod NodesWithTexts

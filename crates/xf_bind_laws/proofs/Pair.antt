@@ -1,7 +1,6 @@
 -- Two forests of which the nodes that stand in both, texts counted, are the same and keep their order: so do those of their shapes.
-use Rattle.std.proofs.Common.{◌≡◌, ℕ, ◌==◌, ◌^◌, Bool, true, false, not, cond, ◌&&◌, List, [], ◌∷◌, nat_lt, Option, Some, None, option_map, refl, sym, ap, ◌∙◌, subst, inl, inr}
+use Rattle.std.proofs.Common.{◌≡◌, ℕ, ◌==◌, ◌^◌, Bool, true, false, not, cond, ◌&&◌, List, [], ◌∷◌, nat_lt, Some, None, refl, sym, ap, ◌∙◌, subst, inl, inr}
 use Rattle.std.specs.Prelude.{filter}
-use Rattle.std.proofs.lemmas.Bool.{eqb-true}
 use Rattle.xf_doc.specs.Forest.{Forest, is_element}
 use Rattle.xf_doc.specs.Visit.{Visit, visits, has, is_first}
 use Rattle.xf_doc.specs.Shape.{text_number, text_visit, given_visits, visits_in, is_gone, filled, has_elements, only_text, shape}
@@ -10,12 +9,13 @@ use Rattle.xf_doc.proofs.BackLaws.{and-true}
 use Rattle.xf_doc.proofs.RenumberLaws.{filter-through}
 use Rattle.xf_lang.specs.Asked.{found}
 use Rattle.xf_lang.specs.Agree.{numbers_of, untexted, AreVisits}
-use Rattle.xf_lang.proofs.VisitFacts.{self-same, no, some-same, none-some, filter-and, found-number, has-found, present}
+use Rattle.xf_lang.proofs.VisitFacts.{self-same, no, some-same, filter-and, found-number, present}
 use Rattle.xf_lang.proofs.SameKept.{region}
 use Rattle.xf_lang.proofs.UntextedLaws.{solid-found}
 use Rattle.xf_lang.proofs.ForestVisits.{Each, each-map, each-filter, self-found}
 use Rattle.xf_lang.proofs.ShapeVisits.{AreBelow}
 use Rattle.xf_agree.specs.Forests.{bare}
+use Rattle.xf_marks_laws.proofs.TextLists.{standing-at, headed, opened}
 use Rattle.xf_bind_laws.proofs.Filled.{filled-part, filled-on, led-stays, takes-all}
 use Rattle.xf_bind_laws.proofs.Led.{forest-led}
 use Rattle.xf_bind_laws.proofs.Members as members
@@ -46,30 +46,11 @@ pub both-hold : (a b : Bool) → a ≡ true → b ≡ true → (a && b) ≡ true
 both-hold true b h i = i
 both-hold false b h i = h
 
-both-true : (b : Bool) → (b && true) ≡ b
+pub both-true : (b : Bool) → (b && true) ≡ b
 both-true true = refl
 both-true false = refl
 
-pub standing : (k : ℕ) (all : List Visit) → has k (numbers_of all) ≡ true → (y : Visit) × (found k all ≡ Some y)
-standing k all h = by (found k all) refl (sym (has-found k all) ∙ h)
-  where
-    is : Option Visit → Bool
-    is None = false
-    is (Some y) = true
-
-    by : (o : Option Visit) → found k all ≡ o → is o ≡ true → (y : Visit) × (found k all ≡ Some y)
-    by None e i = no i
-    by (Some y) e i = (y, e)
-
-pub headed : (n : ℕ) (ns : List ℕ) → is_first n ns ≡ true → (ps : List ℕ) × (ns ≡ n ∷ ps)
-headed n [] h = no h
-headed n (m ∷ ms) h = (ms, ap (λ k. k ∷ ms) (sym (eqb-true n m h)))
-
-pub opened : (m : Option Visit) (ns : List ℕ) → option_map (λ (z : Visit). z.above) m ≡ Some ns → (z : Visit) × (m ≡ Some z) × (z.above ≡ ns)
-opened None ns h = none-some h
-opened (Some z) ns h = (z, refl, some-same h)
-
-filter-each : (p q : Visit → Bool) (xs : List Visit) → Each (λ y. p y ≡ q y) xs → filter p xs ≡ filter q xs
+pub filter-each : (p q : Visit → Bool) (xs : List Visit) → Each (λ y. p y ≡ q y) xs → filter p xs ≡ filter q xs
 filter-each p q [] e = refl
 filter-each p q (x ∷ xs) e = ap (λ b. cond b (x ∷ filter p xs) (filter p xs)) e.0 ∙ ap (λ l. cond (q x) (x ∷ l) l) (filter-each p q xs e.1)
 
@@ -147,7 +128,7 @@ module _ (c : Pair) where
   -- what stands above it stands in both
   pub up-both : (k n : ℕ) (y : Visit) → found k S ≡ Some y → in_both k ≡ true → is_first n y.above ≡ true → in_both n ≡ true
   up-both k n y e h i =
-      let w = standing k T (and-true (has k (numbers_of S)) (has k (numbers_of T)) h).1 in
+      let w = standing-at k T (and-true (has k (numbers_of S)) (has k (numbers_of T)) h).1 in
       let one : y ≡ w.0 = same-shaped k y w.0 e w.1 in
       let z = parent-found S sv k n y e i in
       let q = parent-found T tv k n w.0 w.1 (ap (λ (v : Visit). is_first n v.above) (sym one) ∙ i) in
@@ -157,8 +138,8 @@ module _ (c : Pair) where
   own-both : (k : ℕ) → in_both k ≡ true → nat_lt k (2 ^ 128) ≡ true → (y : Visit) × (found k A ≡ Some y) × (found k B ≡ Some y) × (is_gone (only_text V) y ≡ false) × (is_gone (only_text W) y ≡ false)
   own-both k h less =
       let parts = and-true (has k (numbers_of S)) (has k (numbers_of T)) h in
-      let x = standing k S parts.0 in
-      let y = standing k T parts.1 in
+      let x = standing-at k S parts.0 in
+      let y = standing-at k T parts.1 in
       let one : x.0 ≡ y.0 = same-shaped k x.0 y.0 x.1 y.1 in
       elim (members.member c.first c.trees c.below k x.0 x.1) [
         | inr a ↦ no (members.not-text k a.0.number less (sym (found-number k S x.0 x.1) ∙ ap (λ (v : Visit). v.number) a.4))
@@ -248,7 +229,7 @@ module _ (c : Pair) where
       by : (b : Bool) → in_both (text_number y.number) ≡ b → b ≡ false
       by false i = refl
       by true i =
-          let t = standing (text_number y.number) T (and-true (has (text_number y.number) (numbers_of S)) (has (text_number y.number) (numbers_of T)) i).1 in
+          let t = standing-at (text_number y.number) T (and-true (has (text_number y.number) (numbers_of S)) (has (text_number y.number) (numbers_of T)) i).1 in
           let named = found-number (text_number y.number) T t.0 t.1 in
           elim (members.member c.second c.trees_too c.below_too (text_number y.number) t.0 t.1) [
             | inl b ↦ no (members.not-text (text_number y.number) y.number (members.own-below c.second c.trees_too c.below_too (text_number y.number) t.0 (ap (λ n. found n B) (sym named) ∙ b.0)) refl)
@@ -263,7 +244,7 @@ module _ (c : Pair) where
       by : (b : Bool) → in_both (text_number y.number) ≡ b → b ≡ false
       by false i = refl
       by true i =
-          let t = standing (text_number y.number) S (and-true (has (text_number y.number) (numbers_of S)) (has (text_number y.number) (numbers_of T)) i).0 in
+          let t = standing-at (text_number y.number) S (and-true (has (text_number y.number) (numbers_of S)) (has (text_number y.number) (numbers_of T)) i).0 in
           let named = found-number (text_number y.number) S t.0 t.1 in
           elim (members.member c.first c.trees c.below (text_number y.number) t.0 t.1) [
             | inl b ↦ no (members.not-text (text_number y.number) y.number (members.own-below c.first c.trees c.below (text_number y.number) t.0 (ap (λ n. found n A) (sym named) ∙ b.0)) refl)
@@ -275,7 +256,7 @@ module _ (c : Pair) where
   -- the element of a text that stands in both does so
   text-up : (y : Visit) → in_both (text_number y.number) ≡ true → in_both y.number ≡ true
   text-up y h =
-      let t = standing (text_number y.number) S (and-true (has (text_number y.number) (numbers_of S)) (has (text_number y.number) (numbers_of T)) h).0 in
+      let t = standing-at (text_number y.number) S (and-true (has (text_number y.number) (numbers_of S)) (has (text_number y.number) (numbers_of T)) h).0 in
       let named = found-number (text_number y.number) S t.0 t.1 in
       elim (members.member c.first c.trees c.below (text_number y.number) t.0 t.1) [
         | inl b ↦ no (members.not-text (text_number y.number) y.number (members.own-below c.first c.trees c.below (text_number y.number) t.0 (ap (λ n. found n A) (sym named) ∙ b.0)) refl)
@@ -325,7 +306,7 @@ module _ (c : Pair) where
       by : (b : Bool) → in_both y.number ≡ b → b ≡ false
       by false j = refl
       by true j =
-          let x = standing y.number S (and-true (has y.number (numbers_of S)) (has y.number (numbers_of T)) j).0 in
+          let x = standing-at y.number S (and-true (has y.number (numbers_of S)) (has y.number (numbers_of T)) j).0 in
           let one : x.0 ≡ y = same-shaped y.number x.0 y x.1 in_second in
           sym (up-both y.number n x.0 x.1 j (ap (λ (v : Visit). is_first n v.above) one ∙ h)) ∙ i
 

@@ -14,18 +14,9 @@ use Rattle.xf_lang.proofs.VisitFacts.{no, some-same, found-in, found-out, presen
 use Rattle.xf_lang.proofs.UntextedLaws.{bare-apart, solid-found}
 use Rattle.xf_lang.proofs.ForestVisits.{Each, each-map, self-found}
 use Rattle.xf_agree.specs.Forests.{bare, InBoth}
+use Rattle.xf_marks_laws.proofs.TextLists.{headed, opened, within-each}
 use Rattle.xf_bind_laws.proofs.Members as members
-use Rattle.xf_bind_laws.proofs.Pair.{Pair, flipped, both-hold, headed, opened, in_both, same-shaped, same-part}
-
-within-each : (T K : Visit → Bool) (xs : List Visit) → Each (λ y. T y ≡ true → K y ≡ true) xs → filter T (filter K xs) ≡ filter T xs
-within-each T K [] e = refl
-within-each T K (x ∷ xs) e = by (T x) (K x) refl refl (within-each T K xs e.1)
-  where
-    by : (a b : Bool) → T x ≡ a → K x ≡ b → filter T (filter K xs) ≡ filter T xs → filter T (cond b (x ∷ filter K xs) (filter K xs)) ≡ cond a (x ∷ filter T xs) (filter T xs)
-    by true true i j h = ap (λ b. cond b (x ∷ filter T (filter K xs)) (filter T (filter K xs))) i ∙ ap (λ l. x ∷ l) h
-    by true false i j h = no (sym j ∙ e.0 i)
-    by false true i j h = ap (λ b. cond b (x ∷ filter T (filter K xs)) (filter T (filter K xs))) i ∙ h
-    by false false i j h = h
+use Rattle.xf_bind_laws.proofs.Pair.{Pair, flipped, both-hold, in_both, same-shaped, same-part}
 
 filter-nothing : (p : Visit → Bool) (ys : List Visit) → Each (λ y. p y ≡ true → false ≡ true) ys → filter p ys ≡ []
 filter-nothing p [] e = refl
@@ -34,10 +25,6 @@ filter-nothing p (y ∷ ys) e = by (p y) refl (filter-nothing p ys e.1)
     by : (b : Bool) → p y ≡ b → filter p ys ≡ [] → cond b (y ∷ filter p ys) (filter p ys) ≡ []
     by true h i = no (e.0 h)
     by false h i = i
-
-not-of : (b : Bool) → not b ≡ true → b ≡ false
-not-of true h = sym h
-not-of false h = refl
 
 abbrev no_texts : List (List ℕ)
 no_texts = [] ∷ []

@@ -38,13 +38,14 @@ use Rattle.xf_agree.proofs.LooseLaw.{meeting}
 use Rattle.xf_agree.proofs.LooseStep.{Good}
 use Rattle.xf_agree.proofs.Meeting.{Meeting, Asks}
 use Rattle.xf_marks_laws.specs.Binds.{SameStructure, GivesTruths}
+use Rattle.xf_marks_laws.proofs.TextLists.{opened}
 use Rattle.xf_marks_laws.proofs.Reached.{Among, Free, Surrounded}
 use Rattle.xf_marks_laws.proofs.Asked.{asked-among}
 use Rattle.xf_marks_laws.proofs.Solids.{Solids, Stood, marked, in-both_stood, listed-both, closed}
 use Rattle.xf_marks_laws.proofs.ShapeHung.{shape-texts, all-hung}
 use Rattle.xf_marks_laws.proofs.BindLaws.{va, vb, u, u2}
 use Rattle.xf_bind_laws.specs.WithTexts.{SameWithTexts}
-use Rattle.xf_bind_laws.proofs.Pair.{Pair, opened, same-shaped, shape-order}
+use Rattle.xf_bind_laws.proofs.Pair.{Pair, same-shaped, shape-order}
 use Rattle.xf_bind_laws.proofs.ShapeLists.{shape-list, no-list}
 
 -- ---- string values over a shape
@@ -98,10 +99,6 @@ turn false false = refl
 
 swap : (p q : Visit → Bool) (xs : List Visit) → filter p (filter q xs) ≡ filter q (filter p xs)
 swap p q xs = sym (filter-and p q xs) ∙ filter-same (λ y. q y && p y) (λ y. p y && q y) (λ y. turn (q y) (p y)) xs ∙ filter-and q p xs
-
-not-of : (b : Bool) → not b ≡ true → b ≡ false
-not-of true h = sym h
-not-of false h = refl
 
 -- parents stand among all, too
 whole-closed : (all : List Visit) → AreVisits all → (k n : ℕ) (ns : List ℕ) (x : Visit) → found k all ≡ Some x → x.above ≡ n ∷ ns → option_map (λ (z : Visit). z.above) (found n all) ≡ Some ns

@@ -1,12 +1,13 @@
 -- An applied bind need not be applied again where no list is marked that its node set, or one around it, looks at, and no instance has another
 -- document element: for every static node set, also where a written `text()` or `node()` tells texts apart.
-use Rattle.std.specs.Prelude.{ℕ, ◌≡◌, true, false, List, map, filter}
+use Rattle.std.specs.Prelude.{ℕ, ◌≡◌, true, false, List, map, filter, Some}
 use Rattle.std.specs.List.{list_any}
 use Rattle.xf_ast.specs.declared.expr.Expr.{Expr}
-use Rattle.xf_doc.specs.Forest.{Forest}
-use Rattle.xf_doc.specs.Visit.{visits, has, is_first}
+use Rattle.xf_doc.specs.Forest.{Forest, is_text}
+use Rattle.xf_doc.specs.Visit.{Visit, visits, has, is_first}
 use Rattle.xf_doc.specs.Shape.{has_elements, shape}
 use Rattle.xf_doc.specs.Changes.{in_instances}
+use Rattle.xf_lang.specs.Asked.{found}
 use Rattle.xf_lang.specs.Reads.{trace}
 use Rattle.xf_lang.specs.Agree.{numbers_of}
 use Rattle.xf_model.specs.Rules.{Rule, Scope, chains, chain_around}
@@ -14,6 +15,7 @@ use Rattle.xf_model.specs.Applied.{entries_by}
 use Rattle.xf_model.specs.Pertinent.{AllOf}
 use Rattle.xf_agree.specs.Covered.{is_covered}
 use Rattle.xf_agree.specs.Forests.{bare, InBoth}
+use Rattle.xf_marks_laws.specs.Marks.{SameNodes}
 use Rattle.xf_marks_laws.specs.Binds.{bind_looks, SameStructure, GivesTruths, instances_of, HasInstances}
 
 -- the data of now and of before, texts counted
@@ -34,7 +36,7 @@ AnyBindStays = (scope : Scope) (now before : Forest) (lists : List ℕ) (bind : 
     list_any (λ n. has n lists) (bind_looks scope (shape (visits now.nodes)) r) ≡ false →
     entries_by scope (shape (visits now.nodes)) bind r ≡ entries_by scope (shape (visits before.nodes)) bind r
 
--- trees that are detached make no difference
+-- ---- trees that are detached make no difference
 abbrev pub AnyBindOfInstances : Type 0
 AnyBindOfInstances = (scope : Scope) (forest : Forest) (bind : ℕ) (r : Rule) (around : List Expr) (own : Expr) → HasInstances scope forest → GivesTruths scope →
     chain_around (chains scope) r.around ≡ map trace around → r.node_set ≡ trace own → AllOf IsCovered around → IsCovered own →
@@ -47,3 +49,13 @@ AnyBindStaysInInstances = (scope : Scope) (now before : Forest) (lists : List �
     chain_around (chains scope) r.around ≡ map trace around → r.node_set ≡ trace own → AllOf IsCovered around → IsCovered own →
     list_any (λ n. has n lists) (bind_looks scope (shape (visits (in_instances now.nodes))) r) ≡ false →
     entries_by scope (shape (visits now.nodes)) bind r ≡ entries_by scope (shape (visits before.nodes)) bind r
+
+-- ---- what is told of the nodes with their marks is enough
+
+-- in a node that is marked for another text no text stands in both: one that is set has a number of its own
+abbrev pub HaveOwnTexts : List ℕ → Forest → Forest → Type 0
+HaveOwnTexts texts now before = (k q : ℕ) (x : Visit) → found k (bare now) ≡ Some x → has k (numbers_of (bare before)) ≡ true → is_text x.content ≡ true → is_first q x.above ≡ true → has q texts ≡ false
+
+abbrev pub WithTextsOfNodes : Type 0
+WithTextsOfNodes = (texts lists : List ℕ) (scope : Scope) (now before : Forest) →
+    SameStructure lists scope now before → SameNodes texts lists (visits now.nodes) (visits before.nodes) → HaveOwnTexts texts now before → SameWithTexts lists scope now before

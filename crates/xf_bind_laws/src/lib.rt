@@ -2,11 +2,16 @@
 //! contract is a law.
 #![tactic(auto)]
 
-ghost use Rattle.xf_bind_laws.specs.WithTexts.{AnyBindStays, AnyBindOfInstances, AnyBindStaysInInstances};
+ghost use Rattle.xf_bind_laws.specs.WithTexts.{AnyBindStays, AnyBindOfInstances, AnyBindStaysInInstances, WithTextsOfNodes};
 
 /// A bind sets the same on the same nodes where no list is marked that its node set, or one around it, looks at; and over the instances alone.
 pub fn any_bind_stays()
     ensures stays { AnyBindStays }
     ensures instances { AnyBindOfInstances }
     ensures in_instances { AnyBindStaysInInstances }
+{}
+
+/// What is told of the nodes of now and of before, with their marks, is enough for it.
+pub fn with_texts()
+    ensures { WithTextsOfNodes }
 {}

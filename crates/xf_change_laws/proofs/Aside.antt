@@ -1,30 +1,29 @@
 -- Nodes of before that stand in no instance of now may have other numbers, as those of a tree that comes to another place.
-use Rattle.std.proofs.Common.{◌≡◌, ℕ, ◌+◌, ◌==◌, Bool, true, false, not, cond, ◌&&◌, List, [], ◌++◌, map, nat_lt, Some, refl, sym, ap, ◌∙◌, subst, inl, inr, arith}
-use Rattle.std.specs.Prelude.{nat_le, ◌⊎◌, ◌^◌}
+use Rattle.std.proofs.Common.{◌≡◌, ℕ, ◌==◌, Bool, true, false, not, cond, ◌&&◌, List, [], ◌++◌, map, nat_lt, refl, sym, ap, ◌∙◌, subst, inl, inr, arith}
+use Rattle.std.specs.Prelude.{◌⊎◌, ◌^◌}
 use Rattle.std.proofs.lemmas.Bool.{eqb-true}
 use Rattle.std.proofs.lemmas.Bool.Decides.{nat_tests}
-use Rattle.xf_doc.specs.Forest.{Forest, is_text, has_number, tree_of}
-use Rattle.xf_doc.specs.Visit.{Visit, visits, has}
+use Rattle.xf_doc.specs.Forest.{Forest, is_text, has_number}
+use Rattle.xf_doc.specs.Visit.{Visit, has}
 use Rattle.xf_doc.specs.Shape.{erased}
-use Rattle.xf_doc.specs.Changes.{in_instances, in_detached}
+use Rattle.xf_doc.specs.Changes.{in_instances}
 use Rattle.xf_doc.specs.Same.{IsRenumbering, renumbered_visit}
 use Rattle.xf_doc.specs.WellFormed.{HasTrees}
 use Rattle.xf_doc.proofs.BackLaws.{and-true}
-use Rattle.xf_doc.proofs.OrderLaws.{seen-has, visits-different}
-use Rattle.xf_doc.proofs.RenumberLaws.{map-map}
-use Rattle.xf_lang.specs.Given.{Document, document_of}
-use Rattle.xf_lang.specs.Asked.{found, list_around}
-use Rattle.xf_lang.specs.Agree.{numbers_of, are_apart, untexted}
+use Rattle.xf_doc.proofs.OrderLaws.{seen-has}
+use Rattle.xf_lang.specs.Given.{Document}
+use Rattle.xf_lang.specs.Asked.{found}
+use Rattle.xf_lang.specs.Agree.{numbers_of, are_apart}
 use Rattle.xf_lang.proofs.VisitFacts.{no, self-same, present, found-in, found-out}
 use Rattle.xf_model.specs.Rules.{Scope}
 use Rattle.xf_marks_laws.specs.Marks.{IsInBoth, SameNodes}
-use Rattle.xf_marks_laws.specs.Instances.{standing, SameInstances}
+use Rattle.xf_marks_laws.specs.Instances.{standing}
 use Rattle.xf_marks_laws.proofs.Behind.{Behind, append-none, erased-apart, numbers-erased, erased-before}
 use Rattle.xf_marks_laws.proofs.BehindNodes.{same_nodes}
 use Rattle.xf_marks_laws.proofs.BindInstances.{front-number}
 use Rattle.xf_marks_laws.proofs.Standing.{within, visits-apart, number-from}
 use Rattle.xf_change_laws.specs.Carried.{set_aside, Carried}
-use Rattle.xf_change_laws.proofs.Carry.{standing-apart, before-apart, differ-of}
+use Rattle.xf_change_laws.proofs.Carry.{standing-apart, differ-of}
 
 -- these numbers stand in no instance of now
 module _ (q : ℕ → Bool) (f : ℕ → ℕ) (taken : ℕ → Bool) (texts lists : List ℕ) (scope : Scope) (documents : List Document) (now before : Forest) (trees : HasTrees now)

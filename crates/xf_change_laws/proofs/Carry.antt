@@ -1,31 +1,28 @@
 -- From nodes that are carried on to the whole: the document elements follow.
-use Rattle.std.proofs.Common.{◌≡◌, ℕ, ◌==◌, Bool, true, false, not, ◌||◌, List, [], ◌∷◌, map, nat_lt, Some, refl, sym, ap, ◌∙◌, subst, inl, inr, arith}
-use Rattle.std.specs.Prelude.{nat_le, ◌^◌}
+use Rattle.std.proofs.Common.{◌≡◌, ℕ, ◌==◌, Bool, true, false, not, ◌||◌, List, [], ◌∷◌, map, nat_lt, Some, refl, sym, ap, ◌∙◌, inl, inr, arith}
 use Rattle.std.proofs.lemmas.Bool.Decides.{nat_tests}
 use Rattle.xf_doc.specs.declared.content.Node.{Node}
 use Rattle.xf_doc.specs.Forest.{Forest, is_text, has_number}
-use Rattle.xf_doc.specs.Visit.{Visit, visits, has}
+use Rattle.xf_doc.specs.Visit.{visits, has}
 use Rattle.xf_doc.specs.Shape.{erased}
 use Rattle.xf_doc.specs.Changes.{in_instances}
 use Rattle.xf_doc.specs.Same.{renumbered_visit}
 use Rattle.xf_doc.specs.WellFormed.{HasTrees, are_below}
-use Rattle.xf_doc.proofs.BackLaws.{and-true, or-false}
+use Rattle.xf_doc.proofs.BackLaws.{and-true}
 use Rattle.xf_doc.proofs.OrderLaws.{seen-has, visits-different}
 use Rattle.xf_lang.specs.Given.{Document, document_of}
 use Rattle.xf_lang.specs.Asked.{found, parent_in, list_around}
-use Rattle.xf_lang.specs.Agree.{numbers_of, are_apart, untexted}
-use Rattle.xf_lang.proofs.VisitFacts.{no, or-left, or-right, self-same, some-same, found-out}
+use Rattle.xf_lang.specs.Agree.{numbers_of, are_apart}
+use Rattle.xf_lang.proofs.VisitFacts.{no, or-right, some-same, found-out}
 use Rattle.xf_model.specs.Rules.{Scope}
-use Rattle.xf_marks_laws.specs.Marks.{IsInBoth, SameNodes}
+use Rattle.xf_marks_laws.specs.Marks.{IsInBoth}
 use Rattle.xf_marks_laws.specs.Binds.{instances_of}
 use Rattle.xf_marks_laws.specs.Instances.{standing, SameInstances}
 use Rattle.xf_marks_laws.specs.Edits.{MarksMore}
 use Rattle.xf_marks_laws.proofs.Behind.{erased-apart}
 use Rattle.xf_marks_laws.proofs.BindInstances.{front-number, front-trees}
-use Rattle.xf_marks_laws.proofs.EditLaws.{same_at_first}
 use Rattle.xf_marks_laws.proofs.Standing.{visits-apart}
-use Rattle.xf_change_laws.specs.Carried.{under, set_aside, Carried, Takes, Follows}
-use Rattle.xf_change_laws.specs.Steps.{FirstCarried, WholeCarried}
+use Rattle.xf_change_laws.specs.Steps.{WholeCarried}
 
 -- ---- numbers of the instances
 

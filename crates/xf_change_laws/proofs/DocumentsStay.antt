@@ -1,23 +1,22 @@
 -- The document element of a root whose list is not marked stays.
-use Rattle.std.proofs.Common.{◌≡◌, ℕ, ◌==◌, Bool, true, false, not, cond, ◌&&◌, ◌||◌, List, [], ◌∷◌, ◌++◌, map, Option, Some, None, option_map, refl, sym, ap, ◌∙◌}
+use Rattle.std.proofs.Common.{◌≡◌, ℕ, ◌==◌, Bool, true, false, not, ◌&&◌, ◌||◌, List, [], ◌∷◌, ◌++◌, map, Option, Some, None, option_map, refl, sym, ap, ◌∙◌}
 use Rattle.std.specs.Prelude.{filter}
 use Rattle.std.proofs.lemmas.Bool.{eqb-true}
 use Rattle.xf_doc.specs.declared.content.Node.{Node}
 use Rattle.xf_doc.specs.declared.content.Content.{Content}
 use Rattle.xf_doc.specs.declared.content.Content.TheVariants as content
-use Rattle.xf_doc.specs.Forest.{Forest, is_root, is_element, is_attribute, is_text, content_at, node_at}
+use Rattle.xf_doc.specs.Forest.{Forest, is_element, is_attribute, is_text, node_at}
 use Rattle.xf_doc.specs.Visit.{Visit, visits, has, is_first, first_of, children_of}
 use Rattle.xf_doc.specs.Shape.{erased, without_text}
 use Rattle.xf_doc.specs.Changes.{in_instances, in_detached}
-use Rattle.xf_doc.proofs.BackLaws.{and-true}
 use Rattle.xf_doc.proofs.OrderLaws.{seen-has, visits-different}
 use Rattle.xf_doc.proofs.RenumberLaws.{filter-through}
 use Rattle.xf_lang.specs.Asked.{found}
 use Rattle.xf_lang.specs.Agree.{numbers_of, are_apart}
-use Rattle.xf_lang.proofs.ForestVisits.{Each, each-map, self-found, found-erased}
+use Rattle.xf_lang.proofs.ForestVisits.{each-map, self-found, found-erased}
 use Rattle.xf_lang.proofs.VisitFacts.{no, some-same, none-some, or-left, filter-and, filter-append, found-in}
 use Rattle.xf_agree.specs.Kept.{keeps, is_known}
-use Rattle.xf_marks_laws.specs.Marks.{is_unmarked, without_marked, SameNodes, IsInBoth}
+use Rattle.xf_marks_laws.specs.Marks.{is_unmarked, without_marked, IsInBoth}
 use Rattle.xf_marks_laws.specs.Instances.{standing}
 use Rattle.xf_marks_laws.proofs.Behind.{append-none, filter-no, front-apart, erased-apart, numbers-erased, or_later, found-append}
 use Rattle.xf_marks_laws.proofs.EditLaws.{filter-each}

@@ -1,22 +1,21 @@
 -- Where numbers of texts change alone, a node that is no text is the same visit.
-use Rattle.std.proofs.Common.{◌≡◌, ℕ, ◌==◌, Bool, true, false, not, cond, ◌||◌, List, [], ◌∷◌, ◌++◌, map, Option, Some, None, option_map, refl, sym, ap, ◌∙◌}
-use Rattle.std.specs.Prelude.{filter}
+use Rattle.std.proofs.Common.{◌≡◌, ℕ, ◌==◌, Bool, true, false, not, cond, ◌||◌, List, [], ◌∷◌, map, Option, Some, None, option_map, refl, sym, ap, ◌∙◌}
 use Rattle.std.proofs.lemmas.Bool.{eqb-true}
 use Rattle.xf_doc.specs.declared.content.Node.{Node}
 use Rattle.xf_doc.specs.Forest.{Forest, is_text, has_number, node_at}
-use Rattle.xf_doc.specs.Visit.{Visit, visit, visits_from, visits, still_above, has}
+use Rattle.xf_doc.specs.Visit.{Visit, visit, visits_from, visits, still_above}
 use Rattle.xf_doc.specs.Shape.{erased}
-use Rattle.xf_doc.specs.Changes.{in_instances, in_detached}
+use Rattle.xf_doc.specs.Changes.{in_detached}
 use Rattle.xf_doc.specs.Same.{IsRenumbering, renumbered_visit}
 use Rattle.xf_doc.specs.WellFormed.{HasTrees}
 use Rattle.xf_doc.proofs.BackLaws.{not-true}
 use Rattle.xf_doc.proofs.OrderLaws.{seen-has}
 use Rattle.xf_doc.proofs.RenumberLaws.{map-map, filter-through}
 use Rattle.xf_lang.specs.Asked.{found}
-use Rattle.xf_lang.specs.Agree.{numbers_of, untexted}
+use Rattle.xf_lang.specs.Agree.{untexted}
 use Rattle.xf_lang.proofs.ForestVisits.{forest-visits}
 use Rattle.xf_lang.proofs.RenumberLaws.{found-renumbered}
-use Rattle.xf_lang.proofs.VisitFacts.{no, some-same, none-some, present, found-number, found-out}
+use Rattle.xf_lang.proofs.VisitFacts.{some-same, none-some, present, found-number, found-out}
 use Rattle.xf_agree.proofs.HeldShape.{original}
 use Rattle.xf_marks_laws.specs.Binds.{instances_of}
 use Rattle.xf_marks_laws.specs.Instances.{standing}

@@ -8,3 +8,5 @@ pub mod MovedExample
 pub mod DocumentsStay
 pub mod Unchanged
 pub mod TakenNumbers
+pub mod RootsStay
+pub mod RootPlaces

@@ -10,7 +10,6 @@ use Rattle.xf_doc.specs.declared.content.Node.{Node}
 use Rattle.xf_doc.specs.declared.content.Content.TheVariants.{Root, Element}
 use Rattle.xf_doc.specs.Changes.{detached, placed}
 use Rattle.xf_doc.specs.Examples.{node, element, plain}
-use Rattle.xf_doc.specs.Forest.{Forest}
 use Rattle.xf_doc.specs.Visit.{Visit, visits, has}
 use Rattle.xf_lang.specs.declared.value.Value.{Value}
 use Rattle.xf_lang.specs.declared.value.Value.TheVariants.{Number}

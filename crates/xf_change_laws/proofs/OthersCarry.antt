@@ -1,6 +1,5 @@
 -- What the instances do not see carries the whole on, and so does going back.
-use Rattle.std.proofs.Common.{◌≡◌, ℕ, ◌+◌, ◌==◌, Bool, true, false, cond, List, [], ◌∷◌, ◌++◌, map, nat_lt, Some, refl, sym, ap, ◌∙◌, subst, inl, inr, arith}
-use Rattle.std.specs.Prelude.{nat_le, ◌⊎◌, ◌^◌}
+use Rattle.std.proofs.Common.{◌≡◌, ℕ, Bool, true, false, cond, List, [], ◌∷◌, ◌++◌, map, nat_lt, Some, refl, sym, ap, ◌∙◌, subst, inl, inr, arith}
 use Rattle.std.proofs.lemmas.Bool.Decides.{nat_tests}
 use Rattle.xf_doc.specs.declared.content.Node.{Node}
 use Rattle.xf_doc.specs.Forest.{Forest, has_number}
@@ -22,10 +21,10 @@ use Rattle.xf_marks_laws.specs.Instances.{standing, SameInstances}
 use Rattle.xf_marks_laws.proofs.BindInstances.{front-number}
 use Rattle.xf_marks_laws.proofs.EditLaws.{same_at_first}
 use Rattle.xf_marks_laws.proofs.ElsewhereLaws.{text_elsewhere, tree_behind, detached_elsewhere, attached_elsewhere}
-use Rattle.xf_change_laws.specs.Carried.{under, Carried, Takes}
+use Rattle.xf_change_laws.specs.Carried.{under, Carried}
 use Rattle.xf_change_laws.specs.Steps.{FirstCarried}
 use Rattle.xf_change_laws.specs.Elsewhere.{ElsewhereCarried, TextElsewhereCarried, BehindCarried, DetachedElsewhereCarried, AttachedElsewhereCarried, ReservedCarried, GivenUpCarried, DroppedCarried, RolledBackCarried}
-use Rattle.xf_change_laws.proofs.Carry.{differ-of, less-number}
+use Rattle.xf_change_laws.proofs.Carry.{less-number}
 
 -- ---- at first
 

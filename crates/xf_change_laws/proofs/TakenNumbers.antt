@@ -1,11 +1,10 @@
 -- Which numbers are taken after a change, as its call tells it.
-use Rattle.std.proofs.Common.{◌≡◌, ℕ, Bool, true, false, ◌||◌, List, nat_lt, refl, sym, ap, ◌∙◌, inl, inr, arith}
-use Rattle.std.specs.Prelude.{◌≤◌, ◌<◌, nat_le, ◌^◌}
+use Rattle.std.proofs.Common.{◌≡◌, ℕ, Bool, true, false, ◌||◌, nat_lt, refl, sym, ap, ◌∙◌, inl, inr, arith}
+use Rattle.std.specs.Prelude.{◌≤◌, ◌<◌}
 use Rattle.std.proofs.lemmas.Bool.Decides.{nat_tests}
 use Rattle.xf_doc.specs.Forest.{has_number}
 use Rattle.xf_doc.specs.Visit.{has}
 use Rattle.xf_lang.proofs.VisitFacts.{or-cases, or-left, or-right}
-use Rattle.xf_change_laws.specs.Carried.{given_from, Takes}
 use Rattle.xf_change_laws.specs.Elsewhere.{UnderTakes, ReservedTakes, UnusedFree}
 use Rattle.xf_change_laws.proofs.Carry.{less-number}
 

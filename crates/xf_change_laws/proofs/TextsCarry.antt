@@ -1,13 +1,12 @@
 -- A text that is set carries the whole on.
-use Rattle.std.proofs.Common.{◌≡◌, ℕ, ◌+◌, ◌==◌, Bool, true, false, not, cond, ◌&&◌, ◌||◌, List, [], ◌∷◌, ◌++◌, map, nat_lt, Some, refl, sym, ap, ◌∙◌, subst, inl, inr, arith}
-use Rattle.std.specs.Prelude.{nat_le, ◌⊎◌, ◌^◌}
+use Rattle.std.proofs.Common.{◌≡◌, ℕ, ◌==◌, Bool, true, false, not, cond, ◌&&◌, ◌||◌, List, [], ◌∷◌, ◌++◌, map, nat_lt, Some, refl, sym, ap, ◌∙◌, subst, inl, inr, arith}
+use Rattle.std.specs.Prelude.{◌⊎◌, ◌^◌}
 use Rattle.std.specs.List.{list_any}
 use Rattle.std.proofs.lemmas.Bool.{eqb-true}
 use Rattle.std.proofs.lemmas.Bool.Decides.{nat_tests}
 use Rattle.xf_doc.specs.declared.content.Node.{Node}
-use Rattle.xf_doc.specs.Forest.{Forest, is_text, is_element, has_number, node_at}
+use Rattle.xf_doc.specs.Forest.{Forest, is_text, is_element, has_number}
 use Rattle.xf_doc.specs.Visit.{Visit, visits, has, is_first}
-use Rattle.xf_doc.specs.Needs.{IsSettable}
 use Rattle.xf_doc.specs.Shape.{erased, has_elements}
 use Rattle.xf_doc.specs.Changes.{in_detached}
 use Rattle.xf_doc.specs.Same.{renumbered_visit}
@@ -21,8 +20,7 @@ use Rattle.xf_lang.proofs.VisitFacts.{no, some-same, found-out}
 use Rattle.xf_model.specs.Rules.{Scope}
 use Rattle.xf_marks_laws.specs.Marks.{IsInBoth, SameNodes}
 use Rattle.xf_marks_laws.specs.Instances.{standing, SameInstances}
-use Rattle.xf_marks_laws.specs.InstanceEdits.{AreTextNumbers, AreSolid}
-use Rattle.xf_marks_laws.specs.Edits.{MarksMore}
+use Rattle.xf_marks_laws.specs.InstanceEdits.{AreTextNumbers}
 use Rattle.xf_marks_laws.proofs.Behind.{erased-apart}
 use Rattle.xf_marks_laws.proofs.EditLaws.{same_at_first, more-marked}
 use Rattle.xf_marks_laws.proofs.FrontEdits.{text_set_in_instances}

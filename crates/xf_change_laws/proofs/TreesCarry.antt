@@ -1,19 +1,14 @@
 -- A tree that is detached or attached carries the whole on.
-use Rattle.std.proofs.Common.{◌≡◌, ℕ, ◌==◌, Bool, true, false, ◌||◌, List, [], ◌∷◌, ◌++◌, map, Some, refl, sym, ap, ◌∙◌, inl, inr}
-use Rattle.std.specs.Prelude.{◌⊎◌}
-use Rattle.xf_doc.specs.declared.content.Node.{Node}
-use Rattle.xf_doc.specs.Forest.{Forest, has_number, from_node, first_tree, tree_of}
+use Rattle.std.proofs.Common.{◌≡◌, ℕ, ◌==◌, Bool, true, false, ◌||◌, List, [], ◌∷◌, ◌++◌, map, refl, sym, ap, ◌∙◌, inl, inr}
+use Rattle.xf_doc.specs.Forest.{Forest, has_number, first_tree, tree_of}
 use Rattle.xf_doc.specs.Visit.{Visit, visits, has}
 use Rattle.xf_doc.specs.Changes.{in_instances, in_detached, detached, placed}
 use Rattle.xf_doc.specs.Same.{renumbered_visit}
 use Rattle.xf_doc.specs.WellFormed.{HasTrees}
 use Rattle.xf_doc.proofs.MoveLemmas.{from-behind}
 use Rattle.xf_doc.proofs.OrderLaws.{seen-has, visits-different}
-use Rattle.xf_lang.specs.Given.{Document}
 use Rattle.xf_lang.specs.Agree.{numbers_of, are_apart}
-use Rattle.xf_model.specs.Rules.{Scope}
-use Rattle.xf_marks_laws.specs.Marks.{SameNodes}
-use Rattle.xf_marks_laws.specs.Edits.{MarksMore, StandsIn}
+use Rattle.xf_marks_laws.specs.Edits.{MarksMore}
 use Rattle.xf_marks_laws.specs.Instances.{standing}
 use Rattle.xf_marks_laws.proofs.Attached.{tree_attached}
 use Rattle.xf_marks_laws.proofs.Behind.{front-apart}
@@ -21,8 +16,7 @@ use Rattle.xf_marks_laws.proofs.CutLaws.{tree-part}
 use Rattle.xf_marks_laws.proofs.EditLaws.{same_at_first}
 use Rattle.xf_marks_laws.proofs.FrontEdits.{tree_detached}
 use Rattle.xf_marks_laws.proofs.Standing.{parts, visits-parts}
-use Rattle.xf_change_laws.specs.Carried.{Carried, Takes, Follows}
-use Rattle.xf_change_laws.specs.Steps.{Comes, IsNew, DetachedCarried, AttachedCarried, AttachedAgainCarried, MovedCarried, ReplacedCarried}
+use Rattle.xf_change_laws.specs.Steps.{DetachedCarried, AttachedCarried, AttachedAgainCarried, MovedCarried, ReplacedCarried}
 use Rattle.xf_change_laws.proofs.Aside.{moved_aside, stays, carried-aside, none-has}
 use Rattle.xf_change_laws.proofs.Carry.{standing-apart, before-apart, differ-of, one-mark, more-lists, whole_carried}
 use Rattle.xf_change_laws.proofs.OthersCarry.{visits-kept}

@@ -1,12 +1,12 @@
 -- A text that is set to what stood there leaves an attribute, and an element without texts, as they are.
-use Rattle.std.proofs.Common.{◌≡◌, ℕ, suc, ◌==◌, Bool, true, false, cond, ◌&&◌, List, [], ◌∷◌, ◌++◌, refl, sym, ap, ◌∙◌, append-nil, inl, inr}
-use Rattle.std.specs.Prelude.{◌⊎◌, filter, bytes_eq}
+use Rattle.std.proofs.Common.{◌≡◌, ℕ, ◌==◌, Bool, true, false, cond, List, [], ◌∷◌, ◌++◌, refl, sym, ap, ◌∙◌, append-nil, inl, inr}
+use Rattle.std.specs.Prelude.{filter, bytes_eq}
 use Rattle.std.proofs.lemmas.Bool.{cases_Bool}
 use Rattle.xf_doc.specs.declared.content.Node.{Node}
 use Rattle.xf_doc.specs.declared.content.Content.{Content}
 use Rattle.xf_doc.specs.declared.content.Content.TheVariants.{Root, Element, Attribute, Text}
-use Rattle.xf_doc.specs.Forest.{Forest, is_element, is_attribute, is_text, own_text, has_number, below, past, tree_of}
-use Rattle.xf_doc.specs.Settle.{with_numbered_text, has_text, are_texts}
+use Rattle.xf_doc.specs.Forest.{is_element, is_attribute, own_text, below, past, tree_of}
+use Rattle.xf_doc.specs.Settle.{with_numbered_text, are_texts}
 use Rattle.xf_doc.specs.Shape.{as_texts}
 use Rattle.xf_doc.specs.Texts.{one_text, with_texts, with_attribute_text, with_value, is_attribute_at, value_in}
 use Rattle.xf_doc.specs.WellFormed.{are_apart}

@@ -2,7 +2,8 @@
 //! document elements, and numbers that are new. Each function does nothing: its contract is a law.
 #![tactic(auto)]
 
-ghost use Rattle.xf_change_laws.specs.Documents.{DocumentStays};
+ghost use Rattle.xf_change_laws.specs.Documents.{DocumentStays, RootStands, RootStaysText, RootStaysDetached, RootStaysPlaced};
+ghost use Rattle.xf_change_laws.specs.Documents.{RootKeepsPlaceText, RootKeepsPlaceDetached, RootKeepsPlacePlaced};
 ghost use Rattle.xf_change_laws.specs.Steps.{FirstCarried, WholeCarried, TextCarried, AgainCarried, StandsUnchanged, SettledCarried, DetachedCarried};
 ghost use Rattle.xf_change_laws.specs.Steps.{AttachedCarried, AttachedAgainCarried, MovedCarried, ReplacedCarried};
 ghost use Rattle.xf_change_laws.specs.Elsewhere.{ElsewhereCarried, TextElsewhereCarried, BehindCarried, DetachedElsewhereCarried, AttachedElsewhereCarried};
@@ -63,4 +64,19 @@ pub fn taken_numbers()
     ensures under { UnderTakes }
     ensures reserved { ReservedTakes }
     ensures unused { UnusedFree }
+{}
+
+/// Each change leaves the roots, and a root stands in an instance where none stands behind them.
+pub fn roots_stay()
+    ensures stands { RootStands }
+    ensures text { RootStaysText }
+    ensures detached { RootStaysDetached }
+    ensures placed { RootStaysPlaced }
+{}
+
+/// Each change leaves the roots their places among each other.
+pub fn roots_keep_places()
+    ensures text { RootKeepsPlaceText }
+    ensures detached { RootKeepsPlaceDetached }
+    ensures placed { RootKeepsPlacePlaced }
 {}
