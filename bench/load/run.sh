@@ -34,11 +34,10 @@ if [ "${1:-}" = refused ]; then
     finish
 fi
 
-# resident COMMAND..: the greatest resident set in KiB.
+# resident COMMAND..: the greatest resident set in KiB, by GNU time.
 resident() {
-    "$python" -c 'import resource, subprocess, sys
-subprocess.run(sys.argv[1:], check=True, stdout=subprocess.DEVNULL)
-print(resource.getrusage(resource.RUSAGE_CHILDREN).ru_maxrss)' "$@"
+    /usr/bin/time -f %M -o "$work/resident" "$@" > "$work/none"
+    cat "$work/resident"
 }
 
 declare -A took

@@ -1,5 +1,5 @@
 -- The model in scope, one element more.
-use Rattle.std.proofs.Common.{◌≡◌, ℕ, suc, List, [], ◌∷◌, ◌++◌, reverse, Some, refl, sym, ap, ◌∙◌}
+use Rattle.std.proofs.Common.{◌≡◌, ℕ, suc, List, [], ◌∷◌, ◌++◌, reverse, Some, refl, ap, ◌∙◌}
 use Rattle.xf_ui.specs.Interface.{Interface}
 use Rattle.xf_ui.specs.Elements.{above, element_at}
 use Rattle.xf_ui.specs.Context.{scope_of}

@@ -1,6 +1,6 @@
 -- What stands around an element: the whole chain, and the switches (XForms 1.1, section 9.2).
 use Rattle.std.specs.Prelude.{ℕ, Bool, true, false, List, [], ◌∷◌, filter, if◌then◌else◌}
-use Rattle.xf_ui.specs.Interface.{Interface, Sort, switch, repeated}
+use Rattle.xf_ui.specs.Interface.{Interface, Sort, switch}
 use Rattle.xf_ui.specs.Elements as ui
 use Rattle.xf_ui.specs.Elements.{ancestors, element_at, path_to}
 use Rattle.xf_elements.specs.declared.around.Container.{Container}

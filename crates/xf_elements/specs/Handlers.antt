@@ -1,5 +1,5 @@
 -- The handlers of an observer, of all events and phases, in document order (XML Events, section 3).
-use Rattle.std.specs.Prelude.{ℕ, Bool, true, false, List, map, filter, Option, Some, None}
+use Rattle.std.specs.Prelude.{ℕ, Bool, false, List, map, filter, Some}
 use Rattle.std.specs.List.{flat_map}
 use Rattle.xf_ast.specs.Ordered.{numbered_from}
 use Rattle.xf_ast.specs.declared.action.Handler.{Handler}
