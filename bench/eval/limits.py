@@ -65,8 +65,8 @@ def expression():
         if depth_of(wrap.replace("X", text)) > NESTED:
             wrap = "(X)"
         text = wrap.replace("X", text, 1).replace("X", "c/@k")
-    while len((text + " + count(c//@k | c/c)").encode()) <= BYTES:
-        text += " + count(c//@k | c/c)"
+    while len((text + " + count(c/@k | c/c)").encode()) <= BYTES:
+        text += " + count(c/@k | c/c)"
     return text + " " * (BYTES - len(text.encode()))
 
 

@@ -1,10 +1,11 @@
 #!/usr/bin/env python3
 """Measures the program of speed.rt.txt beside that of plain.c, says for each goal whether it is met, and ends with 1 where one is missed.
 
-    measure.py FOLDER    FOLDER has the programs `ours` and `plain` and their inputs: ours.NAME and plain.NAME, where NAME is mix, items or a
-                         number of nodes
+    measure.py FOLDER [TURNS [SECONDS]]
 
-Times are processor time of whole runs: the least of those with many rounds less the least of those with none. Both programs run in turns."""
+FOLDER has the programs `ours` and `plain` and their inputs: ours.NAME and plain.NAME, where NAME is mix, items or a number of nodes. Times are
+processor time of whole runs: the least of TURNS runs with so many rounds that they take SECONDS (15 and 0.03), less the least of those with
+none. Both programs run in turns."""
 import os
 import subprocess
 import sys
@@ -12,9 +13,8 @@ import sys
 FOLDER = sys.argv[1]
 PROGRAMS = ("ours", "plain")
 SIZES = (250, 1000, 4000)
-# Each figure is the least of so many runs, each of at least so many seconds.
-TURNS = 5
-SHORTEST = 0.12
+TURNS = int(sys.argv[2]) if len(sys.argv) > 2 else 15
+SHORTEST = float(sys.argv[3]) if len(sys.argv) > 3 else 0.03
 is_missed = False
 
 
@@ -39,15 +39,16 @@ def rounds_for(program, name, word, kind, base):
         rounds = int(rounds * max(2, min(16, 1.2 * SHORTEST / max(took, 0.001))))
 
 
-def measured(name, word, kind, programs=PROGRAMS):
-    """Microseconds of a round, by program."""
-    base = {program: min(ran(program, name, word, kind, 0)[0] for _ in range(TURNS)) for program in programs}
-    rounds = {program: rounds_for(program, name, word, kind, base[program]) for program in programs}
-    least = dict.fromkeys(programs, float("inf"))
+def measured(names, word, kind):
+    """Microseconds of a round, by program and name. Whatever is compared runs in turns."""
+    pairs = [(program, name) for program in PROGRAMS for name in names]
+    base = {pair: min(ran(*pair, word, kind, 0)[0] for _ in range(TURNS)) for pair in pairs}
+    rounds = {pair: rounds_for(*pair, word, kind, base[pair]) for pair in pairs}
+    least = dict.fromkeys(pairs, float("inf"))
     for _ in range(TURNS):
-        for program in programs:
-            least[program] = min(least[program], ran(program, name, word, kind, rounds[program])[0])
-    return {program: (least[program] - base[program]) * 1e6 / rounds[program] for program in programs}
+        for pair in pairs:
+            least[pair] = min(least[pair], ran(*pair, word, kind, rounds[pair])[0])
+    return {pair: (least[pair] - base[pair]) * 1e6 / rounds[pair] for pair in pairs}
 
 
 def verdict(what, number, most):
@@ -72,21 +73,22 @@ def kinds_of(name):
 
 def beside(kind, most):
     for word in ("evaluated", "parsed"):
-        took = measured("mix", word, kind)
-        verdict("%s, %s: %.1f us beside %.1f" % (kind, word, took["ours"], took["plain"]), took["ours"] / took["plain"], most)
+        took = measured(["mix"], word, kind)
+        ours, plain = (took[program, "mix"] for program in PROGRAMS)
+        verdict("%s, %s: %.1f us beside %.1f" % (kind, word, ours, plain), ours / plain, most)
 
 
 def grown(kind):
-    """What four times as many nodes cost; pairs of nodes are not held to it."""
-    took = {size: measured(str(size), "evaluated", kind) for size in SIZES}
-    figures = ", ".join("%.1f us" % took[size]["ours"] for size in SIZES)
-    others = ", ".join("%.1f" % took[size]["plain"] for size in SIZES)
-    what = "%s of %s nodes: %s beside %s" % (kind, ", ".join(map(str, SIZES)), figures, others)
-    most = max(took[more]["ours"] / took[less]["ours"] for less, more in zip(SIZES, SIZES[1:]))
+    """What sixteen times as many nodes cost: up to half more than sixteen times as much, but for pairs of nodes."""
+    took = measured(SIZES, "evaluated", kind)
+    ours, plain = ([took[program, size] for size in SIZES] for program in PROGRAMS)
+    said = ["%.1f us beside %.1f" % pair for pair in zip(ours, plain)]
+    what = "%s of %s nodes: %s" % (kind, ", ".join(map(str, SIZES)), ", ".join(said))
+    growth = ours[-1] / ours[0]
     if kind.startswith("pairs-"):
-        print("not linear by its meaning: %s: %.2f" % (what, most), flush=True)
+        print("not linear by its meaning: %s: %.2f" % (what, growth), flush=True)
     else:
-        verdict(what, most, 5)
+        verdict(what, growth, 24)
 
 
 def main():
@@ -96,8 +98,8 @@ def main():
     beside("ALL", 1)
     for kind in kinds_of("mix"):
         beside(kind, 2)
-    took = measured("items", "evaluated", "ALL")
-    verdict("ns an item of sum(../item/sum) over 1,000, libxml2 %.0f" % took["plain"], took["ours"], 60)
+    took = measured(["items"], "evaluated", "ALL")
+    verdict("ns an item of sum(../item/sum) over 1,000, libxml2 %.0f" % took["plain", "items"], took["ours", "items"], 60)
     for kind in kinds_of("250"):
         grown(kind)
     print("load %.1f" % os.getloadavg()[0])

@@ -1,7 +1,8 @@
 // Refuses each call of malloc and realloc behind the program's first write, each in a copy of the process: the copy goes on to its end, while
 // the program itself waits for it and goes on as if nothing had been. How the copies end is said on standard error.
 //
-// TURNS_FROM and TURNS_STEP: only the calls with the numbers FROM, FROM + STEP, .. are refused, from 0; TURNS_STEP=0 refuses none.
+// TURNS_FROM and TURNS_STEP: only the calls with the numbers FROM, FROM + STEP, .. are refused, from 0; TURNS_STEP=0 refuses none. With
+// TURNS_SHORT a copy ends with status 0 as soon as it has written something, and drops nothing.
 #define _GNU_SOURCE
 #include <stddef.h>
 #include <stdio.h>
@@ -15,11 +16,12 @@ void *__libc_malloc(size_t);
 void *__libc_realloc(void *, size_t);
 
 static long calls, refusals, faults, from, step = 1;
-static int is_counted, is_copy;
+static int is_counted, is_copy, is_short;
 
 __attribute__((constructor)) static void begin(void) {
     if (getenv("TURNS_FROM")) from = atol(getenv("TURNS_FROM"));
     if (getenv("TURNS_STEP")) step = atol(getenv("TURNS_STEP"));
+    is_short = getenv("TURNS_SHORT") != NULL;
 }
 
 // A copy ends behind its refusal as the program would.
@@ -46,14 +48,19 @@ void *realloc(void *old, size_t size) {
     return refused() ? NULL : __libc_realloc(old, size);
 }
 
-ssize_t write(int file, const void *bytes, size_t size) {
+// Counting begins behind the first write.
+static ssize_t written(ssize_t size) {
     is_counted = 1;
-    return syscall(SYS_write, file, bytes, size);
+    if (is_copy && is_short) syscall(SYS_exit_group, 0);
+    return size;
+}
+
+ssize_t write(int file, const void *bytes, size_t size) {
+    return written(syscall(SYS_write, file, bytes, size));
 }
 
 ssize_t writev(int file, const struct iovec *parts, int count) {
-    is_counted = 1;
-    return syscall(SYS_writev, file, parts, count);
+    return written(syscall(SYS_writev, file, parts, count));
 }
 
 __attribute__((destructor)) static void end(void) {
