@@ -4,9 +4,10 @@
     measure.py FOLDER [TURNS [SECONDS]]
 
 FOLDER has the programs `ours` and `plain` and their inputs: ours.NAME and plain.NAME, where NAME is mix, items or a number of nodes. Times are
-processor time of whole runs: the least of TURNS runs with so many rounds that they take SECONDS (15 and 0.03), less the least of those with
-none. Both programs run in turns."""
+processor time of whole runs with so many rounds that they take SECONDS, less the least of those with none. Both programs run in turns, TURNS of
+them (15 and 0.03): each time is the least, each ratio the median of those of the turns."""
 import os
+import statistics
 import subprocess
 import sys
 
@@ -40,15 +41,21 @@ def rounds_for(program, name, word, kind, base):
 
 
 def measured(names, word, kind):
-    """Microseconds of a round, by program and name. Whatever is compared runs in turns."""
-    pairs = [(program, name) for program in PROGRAMS for name in names]
+    """Microseconds of a round, by program and name, for each turn. Whatever is compared runs in turns, since a processor that is shared may be
+    twice as slow for a while."""
+    pairs = [(program, name) for name in names for program in PROGRAMS]
     base = {pair: min(ran(*pair, word, kind, 0)[0] for _ in range(TURNS)) for pair in pairs}
     rounds = {pair: rounds_for(*pair, word, kind, base[pair]) for pair in pairs}
-    least = dict.fromkeys(pairs, float("inf"))
+    took = {pair: [] for pair in pairs}
     for _ in range(TURNS):
         for pair in pairs:
-            least[pair] = min(least[pair], ran(*pair, word, kind, rounds[pair])[0])
-    return {pair: (least[pair] - base[pair]) * 1e6 / rounds[pair] for pair in pairs}
+            took[pair].append((ran(*pair, word, kind, rounds[pair])[0] - base[pair]) * 1e6 / rounds[pair])
+    return took
+
+
+def median_ratio(one, other):
+    """That of the ratios of each turn."""
+    return statistics.median(a / b for a, b in zip(one, other))
 
 
 def verdict(what, number, most):
@@ -75,16 +82,16 @@ def beside(kind, most):
     for word in ("evaluated", "parsed"):
         took = measured(["mix"], word, kind)
         ours, plain = (took[program, "mix"] for program in PROGRAMS)
-        verdict("%s, %s: %.1f us beside %.1f" % (kind, word, ours, plain), ours / plain, most)
+        verdict("%s, %s: %.1f us beside %.1f" % (kind, word, min(ours), min(plain)), median_ratio(ours, plain), most)
 
 
 def grown(kind):
     """What sixteen times as many nodes cost: up to half more than sixteen times as much, but for pairs of nodes."""
     took = measured(SIZES, "evaluated", kind)
     ours, plain = ([took[program, size] for size in SIZES] for program in PROGRAMS)
-    said = ["%.1f us beside %.1f" % pair for pair in zip(ours, plain)]
+    said = ["%.1f us beside %.1f" % (min(one), min(other)) for one, other in zip(ours, plain)]
     what = "%s of %s nodes: %s" % (kind, ", ".join(map(str, SIZES)), ", ".join(said))
-    growth = ours[-1] / ours[0]
+    growth = median_ratio(ours[-1], ours[0])
     if kind.startswith("pairs-"):
         print("not linear by its meaning: %s: %.2f" % (what, growth), flush=True)
     else:
@@ -99,7 +106,7 @@ def main():
     for kind in kinds_of("mix"):
         beside(kind, 2)
     took = measured(["items"], "evaluated", "ALL")
-    verdict("ns an item of sum(../item/sum) over 1,000, libxml2 %.0f" % took["plain", "items"], took["ours", "items"], 60)
+    verdict("ns an item of sum(../item/sum) over 1,000, libxml2 %.0f" % min(took["plain", "items"]), min(took["ours", "items"]), 60)
     for kind in kinds_of("250"):
         grown(kind)
     print("load %.1f" % os.getloadavg()[0])
