@@ -9,3 +9,7 @@ pub mod ShapesMeet
 pub mod LooseBinds
 pub mod LooseInstances
 pub mod NodesWithTexts
+pub mod SetAside
+pub mod SinceNodes
+pub mod ShapeHeld
+pub mod BindHeld

@@ -1,1 +1,2 @@
 pub mod WithTexts
+pub mod Since

@@ -3,6 +3,7 @@
 #![tactic(auto)]
 
 ghost use Rattle.xf_bind_laws.specs.WithTexts.{AnyBindStays, AnyBindOfInstances, AnyBindStaysInInstances, WithTextsOfNodes};
+ghost use Rattle.xf_bind_laws.specs.Since.{WithTextsCarried, AnyBindSince, AnyBindHeld};
 
 /// A bind sets the same on the same nodes where no list is marked that its node set, or one around it, looks at; and over the instances alone.
 pub fn any_bind_stays()
@@ -14,4 +15,11 @@ pub fn any_bind_stays()
 /// What is told of the nodes of now and of before, with their marks, is enough for it.
 pub fn with_texts()
     ensures { WithTextsOfNodes }
+{}
+
+/// What the changes since a recalculation carry on of the instances is enough for it.
+pub fn any_bind_since()
+    ensures with_texts { WithTextsCarried }
+    ensures since { AnyBindSince }
+    ensures held { AnyBindHeld }
 {}

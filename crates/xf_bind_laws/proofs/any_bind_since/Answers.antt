@@ -1,0 +1,12 @@
+use Rattle.xf_bind_laws.proofs.SinceNodes.{with_texts_carried, any_bind_since as since_law}
+use Rattle.xf_bind_laws.proofs.BindHeld.{any_bind_held}
+use Rattle.xf_bind_laws.proofs.any_bind_since.Goals as goal
+
+pub returns-clause-with_texts : goal.returns-clause-with_texts
+returns-clause-with_texts c = with_texts_carried
+
+pub returns-clause-since : goal.returns-clause-since
+returns-clause-since c = since_law
+
+pub returns-clause-held : goal.returns-clause-held
+returns-clause-held c = any_bind_held
