@@ -1,0 +1,12 @@
+pub mod Passes
+pub mod TreesStay
+pub mod SolidStays
+pub mod Says
+pub mod Steps
+pub mod Told
+pub mod WrittenCarried
+pub mod Contents
+pub mod Passed
+pub mod PassedText
+pub mod PassedWritten
+pub mod Anew

@@ -1,0 +1,12 @@
+use Rattle.xf_since_laws.proofs.PassedText.{pertinent_text}
+use Rattle.xf_since_laws.proofs.PassedWritten.{pertinent_written, pertinent_truth}
+use Rattle.xf_since_laws.proofs.not_pertinent.Goals as goal
+
+pub returns-clause-text : goal.returns-clause-text
+returns-clause-text c = pertinent_text
+
+pub returns-clause-written : goal.returns-clause-written
+returns-clause-written c = pertinent_written
+
+pub returns-clause-truth : goal.returns-clause-truth
+returns-clause-truth c = pertinent_truth
