@@ -1,0 +1,4 @@
+pub mod Elements
+pub mod Follow
+pub mod Each
+pub mod RootsKept
