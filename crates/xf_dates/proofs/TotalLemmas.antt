@@ -8,7 +8,8 @@ use Rattle.xf_num.specs.Written.{leading_digits, units_of}
 use Rattle.xf_num.proofs.DigitLemmas.{scale_positive}
 use Rattle.std.specs.Str.Parse.{digits_value}
 use Rattle.xf_types.specs.Numerals.{signed_size}
-use Rattle.xf_types.specs.Durations.{begins_with, past_first, past_minus, past_part, past_parts, is_duration_of}
+use Rattle.xf_types.specs.Behind.{begins_with, past_first, past_minus, past_part, past_parts}
+use Rattle.xf_types.specs.Durations.{is_duration}
 use Rattle.xf_dates.specs.Durations.{part_value, months_at, time_of, decimals_of_time, months_units, seconds_units, both, duration_in}
 
 abbrev pub capped : ℕ → ℕ
@@ -79,7 +80,7 @@ seconds_are d minus parts days hours minutes seconds whole decimals a b c e w f 
     total : (days hours minutes seconds day hour minute second : ℕ) → days ≡ min day size_limit → hours ≡ min hour size_limit → minutes ≡ min minute size_limit → seconds ≡ min second size_limit → four days hours minutes seconds ≡ four (min day size_limit) (min hour size_limit) (min minute size_limit) (min second size_limit)
     total days hours minutes seconds day hour minute second a b c e = rw (a, b, c, e) refl
 
-pub duration_is : (d : ℕ) (text parts : List ℕ) (minus : Bool) (months seconds : Option ℤ) → true ≡ is_duration_of (codes "YMD") true text → minus ≡ begins_with 45 text → parts ≡ past_first (past_minus text) → months ≡ in_range (signed_size minus (months_units d parts)) → seconds ≡ in_range (signed_size minus (seconds_units d parts)) → Some (months, seconds) ≡ duration_in d text
+pub duration_is : (d : ℕ) (text parts : List ℕ) (minus : Bool) (months seconds : Option ℤ) → true ≡ is_duration text → minus ≡ begins_with 45 text → parts ≡ past_first (past_minus text) → months ≡ in_range (signed_size minus (months_units d parts)) → seconds ≡ in_range (signed_size minus (seconds_units d parts)) → Some (months, seconds) ≡ duration_in d text
 unfolding duration_in
 duration_is d text parts minus months seconds is m p a b =
     ap (λ x. Some (x, seconds)) a
@@ -88,6 +89,6 @@ duration_is d text parts minus months seconds is m p a b =
     ∙ ap (λ x. Some (both d (begins_with 45 text) x)) p
     ∙ ap (λ x. if x then Some (both d (begins_with 45 text) (past_first (past_minus text))) else None) is
 
-pub no_duration : (d : ℕ) (text : List ℕ) → false ≡ is_duration_of (codes "YMD") true text → None ≡ duration_in d text
+pub no_duration : (d : ℕ) (text : List ℕ) → false ≡ is_duration text → None ≡ duration_in d text
 unfolding duration_in
 no_duration d text is_not = ap (λ x. if x then Some (both d (begins_with 45 text) (past_first (past_minus text))) else None) is_not

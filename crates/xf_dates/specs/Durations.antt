@@ -5,7 +5,8 @@ use Rattle.std.specs.Str.Parse.{digits_value}
 use Rattle.xf_num.specs.Number.{scale, in_range}
 use Rattle.xf_num.specs.Written.{trimmed, leading_digits, after_digits, units_of}
 use Rattle.xf_types.specs.Numerals.{signed_size}
-use Rattle.xf_types.specs.Durations.{begins_with, past_first, past_minus, past_part, past_parts, is_duration_of}
+use Rattle.xf_types.specs.Behind.{begins_with, past_first, past_minus, past_part, past_parts}
+use Rattle.xf_types.specs.Durations.{is_duration}
 use Rattle.xf_dates.specs.Decimals.{decimals_at}
 
 -- the number that the digits before a designator write, and 0 where there is no such part
@@ -46,7 +47,7 @@ both d minus parts = (in_range (signed_size minus (months_units d parts)), in_ra
 -- the months and the seconds of a duration
 unfoldable pub duration_in : ℕ → List ℕ → Option (Option ℤ × Option ℤ)
 duration_in d text =
-    if is_duration_of (codes "YMD") true text
+    if is_duration text
     then Some (both d (begins_with 45 text) (past_first (past_minus text)))
     else None
 

@@ -7,7 +7,7 @@ ghost use Rattle.xf_dates.specs.Durations.{part_value, months_units, seconds_uni
 
 use crate::decimals::{decimal_units, decimals_at};
 use xf_num::{DECIMALS, Num, after_digits, digits_onto, trimmed, units_in_one};
-use xf_types::{begins_with, is_duration_of, past_first, past_minus, past_part, past_parts};
+use xf_types::{begins_with, is_duration, past_first, past_minus, past_part, past_parts};
 
 /// The months and the seconds of a duration, each NaN where it is out of range; none where a text is no duration.
 pub fn duration(text: &str) -> Option<(Num, Num)>
@@ -20,7 +20,7 @@ pub fn duration(text: &str) -> Option<(Num, Num)>
 fn duration_in(text: &[u8]) -> Option<(Num, Num)>
     ensures { result ≡ duration_in DECIMALS text.now }
 {
-    if !is_duration_of(b"YMD", true, text) {
+    if !is_duration(text) {
         return None;
     }
     let minus = begins_with(b'-', text);

@@ -1,3 +1,4 @@
 pub mod SizeLemmas
 pub mod PartLemmas
+pub mod DurationLemmas
 mod Examples

@@ -1,54 +1,59 @@
--- Durations (XML Schema part 2, section 3.2.6).
-use Rattle.std.specs.Prelude.{ℕ, Bool, true, false, ◌&&◌, not, ◌==◌, if◌then◌else◌, List, [], ◌∷◌, codes}
-use Rattle.xf_num.specs.Written.{is_empty, after_digits}
-use Rattle.xf_types.specs.Shapes.{starts_with_digit}
+-- Durations (XML Schema part 2, section 3.2.6; XForms 1.1, section 5.2), as the texts that are put together of their parts.
+use Rattle.std.specs.Prelude.{ℕ, Bool, ◌&&◌, ◌||◌, not, List, [], ◌∷◌, map, bytes_eq, codes}
+use Rattle.std.specs.List.{list_all, list_any}
+use Rattle.xf_num.specs.Written.{is_digit, is_empty}
 
--- what follows a byte that a text begins with, and otherwise the text
-abbrev pub begins_with : ℕ → List ℕ → Bool
-begins_with byte [] = false
-begins_with byte (c ∷ text) = c == byte
+-- the ways to cut a text in two
+abbrev pub cuts : List ℕ → List (List ℕ × List ℕ)
+cuts [] = ([], []) ∷ []
+cuts (c ∷ text) = ([], c ∷ text) ∷ map (λ p. (c ∷ p.0, p.1)) (cuts text)
 
-abbrev pub past_first : List ℕ → List ℕ
-past_first [] = []
-past_first (c ∷ text) = text
+-- a text of the first kind, and one of the second kind behind it
+abbrev pub is_joined : (List ℕ → Bool) → (List ℕ → Bool) → List ℕ → Bool
+is_joined first second text = list_any (λ p. first p.0 && second p.1) (cuts text)
 
--- what follows digits with this designator, and otherwise the text
-abbrev pub past_part : ℕ → List ℕ → List ℕ
-past_part designator text =
-    if starts_with_digit text && begins_with designator (after_digits text) then past_first (after_digits text) else text
+-- a text of this kind, or nothing
+abbrev pub may_be : (List ℕ → Bool) → List ℕ → Bool
+may_be kind text = is_empty text || kind text
 
--- the same, where a point and digits may stand before the designator
-abbrev pub past_fraction : List ℕ → List ℕ
-past_fraction text =
-    if begins_with 46 text && starts_with_digit (past_first text) then after_digits (past_first text) else text
+-- this byte alone
+abbrev pub is_byte : ℕ → List ℕ → Bool
+is_byte byte text = bytes_eq text (byte ∷ [])
 
-abbrev pub past_seconds : List ℕ → List ℕ
-past_seconds text =
-    if starts_with_digit text && begins_with 83 (past_fraction (after_digits text))
-    then past_first (past_fraction (after_digits text))
-    else text
+-- one digit or more
+abbrev pub is_digits : List ℕ → Bool
+is_digits text = not (is_empty text) && list_all is_digit text
 
--- what follows parts in this order, each of which may be missing
-abbrev pub past_parts : List ℕ → List ℕ → List ℕ
-past_parts [] text = text
-past_parts (designator ∷ designators) text = past_parts designators (past_part designator text)
+-- digits and the letter of their part
+abbrev pub is_part : ℕ → List ℕ → Bool
+is_part letter = is_joined is_digits (is_byte letter)
 
--- hours, minutes and seconds, one part at least
-abbrev pub is_time_parts : List ℕ → Bool
-is_time_parts text = not (is_empty text) && is_empty (past_seconds (past_parts (codes "HM") text))
+-- the part of the seconds, in which a point and digits may stand before the letter `S`
+abbrev pub is_seconds : List ℕ → Bool
+is_seconds = is_joined (is_joined is_digits (may_be (is_joined (is_byte 46) is_digits))) (is_byte 83)
 
--- what follows the parts of days: nothing, or `T` and parts of a time
-abbrev pub is_rest_of_parts : Bool → List ℕ → Bool
-is_rest_of_parts times [] = true
-is_rest_of_parts times (c ∷ text) = times && (c == 84) && is_time_parts text
+-- parts with these letters in their order, each of which may be missing, and what stands behind them
+abbrev pub are_parts : List ℕ → (List ℕ → Bool) → List ℕ → Bool
+are_parts [] rest = rest
+are_parts (letter ∷ letters) rest = is_joined (may_be (is_part letter)) (are_parts letters rest)
 
--- one part at least, the date's by these designators
-abbrev pub is_parts : List ℕ → Bool → List ℕ → Bool
-is_parts dates times text = not (is_empty text) && is_rest_of_parts times (past_parts dates text)
+-- such parts, where one at least is there
+abbrev pub are_some_parts : List ℕ → (List ℕ → Bool) → List ℕ → Bool
+are_some_parts letters rest text = not (is_empty text) && are_parts letters rest text
 
-abbrev pub past_minus : List ℕ → List ℕ
-past_minus text = if begins_with 45 text then past_first text else text
+-- `T` and the parts of a time
+abbrev pub is_time_of_day : List ℕ → Bool
+is_time_of_day = is_joined (is_byte 84) (are_some_parts (codes "HM") (may_be is_seconds))
 
--- an optional minus, `P` and the parts
-abbrev pub is_duration_of : List ℕ → Bool → List ℕ → Bool
-is_duration_of dates times text = begins_with 80 (past_minus text) && is_parts dates times (past_first (past_minus text))
+-- an optional minus, `P`, and the parts: those of days, months and years have these letters
+abbrev pub is_signed : List ℕ → (List ℕ → Bool) → List ℕ → Bool
+is_signed letters rest = is_joined (may_be (is_byte 45)) (is_joined (is_byte 80) (are_some_parts letters rest))
+
+abbrev pub is_duration : List ℕ → Bool
+is_duration = is_signed (codes "YMD") (may_be is_time_of_day)
+
+abbrev pub is_day_time_duration : List ℕ → Bool
+is_day_time_duration = is_signed (codes "D") (may_be is_time_of_day)
+
+abbrev pub is_year_month_duration : List ℕ → Bool
+is_year_month_duration = is_signed (codes "YM") is_empty

@@ -8,7 +8,7 @@ use Rattle.xf_types.specs.Shapes.{is_hex, has_space}
 use Rattle.xf_types.specs.Numerals.{is_decimal, is_between}
 use Rattle.xf_types.specs.Times.{is_date, is_date_time, is_time, is_g_year, is_g_year_month, is_g_month, is_g_month_day, is_g_day}
 use Rattle.xf_types.specs.Parts.{is_name_part, is_name, is_q_name}
-use Rattle.xf_types.specs.Durations.{is_duration_of}
+use Rattle.xf_types.specs.Durations.{is_duration, is_day_time_duration, is_year_month_duration}
 
 abbrev pub is_boolean : List ℕ → Bool
 is_boolean text =
@@ -49,9 +49,9 @@ meets_kind GYearMonth text = is_g_year_month text
 meets_kind GMonth text = is_g_month text
 meets_kind GMonthDay text = is_g_month_day text
 meets_kind GDay text = is_g_day text
-meets_kind Duration text = is_duration_of (codes "YMD") true text
-meets_kind DayTimeDuration text = is_duration_of (codes "D") true text
-meets_kind YearMonthDuration text = is_duration_of (codes "YM") false text
+meets_kind Duration text = is_duration text
+meets_kind DayTimeDuration text = is_day_time_duration text
+meets_kind YearMonthDuration text = is_year_month_duration text
 meets_kind HexBinary text = is_hex text
 meets_kind NCName text = is_name_part text
 meets_kind Name text = is_name text

@@ -1,7 +1,8 @@
 //! Durations.
 
 ghost use Rattle.std.specs.Prelude.{◌≡◌};
-ghost use Rattle.xf_types.specs.Durations.{begins_with, past_first, past_part, past_fraction, past_seconds, past_parts, is_time_parts, is_rest_of_parts, is_parts, past_minus, is_duration_of};
+ghost use Rattle.xf_types.specs.Behind.{begins_with, past_first, past_part, past_fraction, past_seconds, past_parts, is_time_parts, is_rest_of_parts, is_parts, past_minus, is_passed};
+ghost use Rattle.xf_types.specs.Durations.{is_duration, is_day_time_duration, is_year_month_duration};
 
 use crate::shapes::starts_with_digit;
 use xf_num::after_digits;
@@ -111,10 +112,31 @@ pub fn past_minus(text: &[u8]) -> &[u8]
     }
 }
 
-/// Whether a text is a duration with these parts of days, and with parts of a time where they are allowed.
-pub fn is_duration_of(dates: &[u8], times: bool, text: &[u8]) -> bool
-    ensures { result ≡ is_duration_of dates.now times text.now }
+/// Whether nothing is left behind an optional minus, `P` and parts: these of days, and those of a time where they are allowed.
+fn is_passed(dates: &[u8], times: bool, text: &[u8]) -> bool
+    ensures { result ≡ is_passed dates.now times text.now }
 {
     let unsigned = past_minus(text);
     begins_with(b'P', unsigned) && is_parts(dates, times, past_first(unsigned))
+}
+
+/// Whether a text is a duration.
+pub fn is_duration(text: &[u8]) -> bool
+    ensures { result ≡ is_duration text.now }
+{
+    is_passed(b"YMD", true, text)
+}
+
+/// Whether a text is a duration of days and parts of a time.
+pub fn is_day_time_duration(text: &[u8]) -> bool
+    ensures { result ≡ is_day_time_duration text.now }
+{
+    is_passed(b"D", true, text)
+}
+
+/// Whether a text is a duration of years and months.
+pub fn is_year_month_duration(text: &[u8]) -> bool
+    ensures { result ≡ is_year_month_duration text.now }
+{
+    is_passed(b"YM", false, text)
 }

@@ -10,7 +10,7 @@ mod shapes;
 mod texts;
 mod times;
 
-pub use durations::{begins_with, is_duration_of, past_first, past_minus, past_part, past_parts};
+pub use durations::{begins_with, is_duration, past_first, past_minus, past_part, past_parts};
 pub use kind::{BuiltIn, SimpleType};
 pub use names::named;
 pub use shapes::{cut, two_digits};

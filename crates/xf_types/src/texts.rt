@@ -3,7 +3,7 @@
 ghost use Rattle.std.specs.Prelude.{◌≡◌};
 ghost use Rattle.xf_types.specs.Meets.{is_boolean, meets_integer, meets_kind, meets_type};
 
-use crate::durations::is_duration_of;
+use crate::durations::{is_day_time_duration, is_duration, is_year_month_duration};
 use crate::kind::{BuiltIn, SimpleType};
 use crate::numerals::{is_between, is_decimal};
 use crate::parts::{is_name, is_name_part, is_q_name};
@@ -52,9 +52,9 @@ fn meets_kind(kind: BuiltIn, text: &[u8]) -> bool
         BuiltIn::GMonth => is_g_month(text),
         BuiltIn::GMonthDay => is_g_month_day(text),
         BuiltIn::GDay => is_g_day(text),
-        BuiltIn::Duration => is_duration_of(b"YMD", true, text),
-        BuiltIn::DayTimeDuration => is_duration_of(b"D", true, text),
-        BuiltIn::YearMonthDuration => is_duration_of(b"YM", false, text),
+        BuiltIn::Duration => is_duration(text),
+        BuiltIn::DayTimeDuration => is_day_time_duration(text),
+        BuiltIn::YearMonthDuration => is_year_month_duration(text),
         BuiltIn::HexBinary => is_hex(text),
         BuiltIn::NCName => is_name_part(text),
         BuiltIn::Name => is_name(text),

@@ -1,7 +1,7 @@
 use Rattle.std.proofs.Common.{◌+◌, ◌*◌, ◌∙◌, ap, arith, codes}
 use Rattle.std.specs.Str.Parse.{digits_value}
 use Rattle.xf_num.specs.Written.{leading_digits, after_digits, units_of}
-use Rattle.xf_types.specs.Durations.{past_first, past_part, past_parts}
+use Rattle.xf_types.specs.Behind.{past_first, past_part, past_parts}
 use Rattle.xf_dates.specs.Decimals.{decimals_at}
 use Rattle.xf_dates.specs.Durations.{part_value}
 use Rattle.xf_dates.proofs.TotalLemmas.{capped, seconds_are}

@@ -1,5 +1,5 @@
 use Rattle.std.proofs.Common.{◌≡◌, length}
-use Rattle.xf_types.specs.Durations.{past_parts}
+use Rattle.xf_types.specs.Behind.{past_parts}
 use Rattle.xf_types.proofs.durations.past_parts.Given as goal
 
 abbrev pub invariant-loop-left : goal.invariant-loop-left
