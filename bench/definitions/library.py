@@ -411,6 +411,7 @@ def days_from_civil(y, m, d):
 
 
 std_days_from_civil = Fn(days_from_civil, 3)
+std_days_in_month = Fn(lambda y, m: days_from_civil(y + m // 12, m % 12 + 1, 1) - days_from_civil(y, m, 1), 2)
 
 
 def fold_lit(f, g, lit):

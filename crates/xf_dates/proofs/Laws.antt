@@ -8,7 +8,7 @@ use Rattle.jiff_core.proofs.CalendarLemmas.{days_in_month_bounds}
 use Rattle.xf_num.specs.Number.{scale, in_range}
 use Rattle.xf_num.specs.Written.{is_digit, units_of}
 use Rattle.xf_types.specs.Shapes.{fits, two_digits}
-use Rattle.xf_types.specs.Times.{is_leap, days_in, is_day, is_month, year_of, is_clock, is_midnight, is_clock_text, is_date_alone, is_date, is_date_time, is_time}
+use Rattle.xf_types.specs.Times.{is_day, is_month, year_of, is_clock, is_midnight, is_clock_text, is_date_alone, is_date, is_date_time, is_time}
 use Rattle.xf_dates.specs.Days.{day_at, clock_at, second_at, day_in}
 use Rattle.xf_dates.specs.Instants.{seconds_in}
 use Rattle.xf_dates.specs.Printed.{date_text, clock_text, civil_date, text_of_date, text_of_moment, day_text, second_text}
@@ -66,21 +66,21 @@ shape_read year month day y m d =
     (both_true _ _ (digit (month / 10) (omega arith)) (both_true _ _ (digit (month % 10) (omega arith))
     (both_true _ _ (digit (day / 10) (omega arith)) (both_true _ _ (digit (day % 10) (omega arith)) refl)))))))
 
-day_exists : (year month day : ℕ) → IsWritten year month day → is_day (is_leap year) month day ≡ true
+day_exists : (year month day : ℕ) → IsWritten year month day → is_day year month day ≡ true
 day_exists year month day h =
-    both_true (is_month month && nat_le 1 day) (nat_le day (days_in (is_leap year) month))
+    both_true (is_month month && nat_le 1 day) (nat_le day (days_in_month (pos year) month))
     (both_true (is_month month) (nat_le 1 day) (both_true (nat_le 1 month) (nat_le month 12) (le_true _ _ h.month_least) (le_true _ _ h.month_most)) (le_true _ _ h.day_least))
     (le_true _ _ h.day_last)
 
 date_read : (year month day : ℕ) → IsWritten year month day → is_date_alone (date_text (pos year, month, day)) ≡ true
 date_read year month day h =
     let text = date_text (pos year, month, day) in
-    both_true (fits (codes "0000-00-00") text && nat_le 1 (year_of text)) (is_day (is_leap (year_of text)) (two_digits text 5) (two_digits text 8))
+    both_true (fits (codes "0000-00-00") text && nat_le 1 (year_of text)) (is_day (year_of text) (two_digits text 5) (two_digits text 8))
     (both_true (fits (codes "0000-00-00") text) (nat_le 1 (year_of text)) (shape_read year month day h.year_most h.month_most h.day_most)
     (ap (nat_le 1) (year_read year month day h.year_most) ∙ le_true _ _ h.year_least))
-    (ap (λ y. is_day (is_leap y) (two_digits text 5) (two_digits text 8)) (year_read year month day h.year_most)
-    ∙ ap (λ m. is_day (is_leap year) m (two_digits text 8)) (month_read year month day h.month_most)
-    ∙ ap (λ d. is_day (is_leap year) month d) (day_read year month day h.day_most)
+    (ap (λ y. is_day y (two_digits text 5) (two_digits text 8)) (year_read year month day h.year_most)
+    ∙ ap (λ m. is_day year m (two_digits text 8)) (month_read year month day h.month_most)
+    ∙ ap (λ d. is_day year month d) (day_read year month day h.day_most)
     ∙ day_exists year month day h)
 
 number_read : (year month day : ℕ) → IsWritten year month day → day_at (date_text (pos year, month, day)) ≡ days_from_civil (pos year) month day

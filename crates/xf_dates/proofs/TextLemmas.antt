@@ -6,7 +6,7 @@ use Rattle.jiff_core.specs.Calendar.{IsCivilDate, IsEpochDay, days_from_civil, d
 use Rattle.jiff_core.proofs.SignedLemmas.{signed_arith, one_part}
 use Rattle.xf_num.specs.Written.{is_digit}
 use Rattle.xf_types.specs.Shapes.{fits, two_digits}
-use Rattle.xf_types.specs.Times.{is_leap, days_in, is_month, is_day, year_of, is_date_alone, is_date, is_date_time, may_be_zone, is_time}
+use Rattle.xf_types.specs.Times.{is_month, is_day, year_of, is_date_alone, is_date, is_date_time, may_be_zone, is_time}
 use Rattle.xf_num.specs.Number.{scale, in_range}
 use Rattle.xf_num.specs.Written.{units_of}
 use Rattle.xf_dates.specs.Decimals.{decimals_at, past_decimals}
@@ -47,13 +47,13 @@ pub record IsGoodDate (text : List ℕ) : Type 0 where
   pub month_least : 1 ≤ two_digits text 5
   pub month_most : two_digits text 5 ≤ 12
   pub day_least : 1 ≤ two_digits text 8
-  pub day_most : two_digits text 8 ≤ days_in (is_leap (year_of text)) (two_digits text 5)
+  pub day_most : two_digits text 8 ≤ days_in_month (pos (year_of text)) (two_digits text 5)
 
 pub good_date : (text : List ℕ) → is_date_alone text ≡ true → IsGoodDate text
 good_date text h =
     let shape_and_year = and_left _ _ h in
-    let day = and_right (fits (codes "0000-00-00") text && nat_le 1 (year_of text)) (is_day (is_leap (year_of text)) (two_digits text 5) (two_digits text 8)) h in
-    let month_and_least = and_left (is_month (two_digits text 5) && nat_le 1 (two_digits text 8)) (nat_le (two_digits text 8) (days_in (is_leap (year_of text)) (two_digits text 5))) day in
+    let day = and_right (fits (codes "0000-00-00") text && nat_le 1 (year_of text)) (is_day (year_of text) (two_digits text 5) (two_digits text 8)) h in
+    let month_and_least = and_left (is_month (two_digits text 5) && nat_le 1 (two_digits text 8)) (nat_le (two_digits text 8) (days_in_month (pos (year_of text)) (two_digits text 5))) day in
     let month = and_left (is_month (two_digits text 5)) (nat_le 1 (two_digits text 8)) month_and_least in
     record {
       year_least = at_least _ _ (and_right (fits (codes "0000-00-00") text) _ shape_and_year);
@@ -70,15 +70,9 @@ date_of_date text h = and_left (is_date_alone (take 10 text)) (may_be_zone (drop
 pub date_of_date_time : (text : List ℕ) → is_date_time text ≡ true → is_date_alone (take 10 text) ≡ true
 date_of_date_time text h = and_left (is_date_alone (take 10 text)) _ (and_left _ (is_time (drop 11 text)) h)
 
--- both calendars give a month the same days
-same_length : (year month : ℕ) → days_in (is_leap year) month ≡ days_in_month (pos year) month
-same_length year month = refl
-
 pub calendar_date : (text : List ℕ) (year : ℤ) (month day : ℕ) → IsGoodDate text → year ≡ pos (year_of text) → month ≡ two_digits text 5 → day ≡ two_digits text 8 → IsCivilDate year month day
 calendar_date text year month day good y m d =
-    let least = good.day_least in
-    let most = rw (same_length (year_of text) (two_digits text 5)) at good.day_most in
-    rw (y, m, d) ((omega (arith, signed_arith, good.year_least), omega (arith, signed_arith, good.year_most)), (good.month_least, good.month_most), (least, most))
+    rw (y, m, d) ((omega (arith, signed_arith, good.year_least), omega (arith, signed_arith, good.year_most)), (good.month_least, good.month_most), (good.day_least, good.day_most))
 
 pub number_of_date : (text : List ℕ) (year : ℤ) (month day : ℕ) → year ≡ pos (year_of text) → month ≡ two_digits text 5 → day ≡ two_digits text 8 → days_from_civil year month day ≡ day_at text
 number_of_date text year month day y m d = rw (y, m, d) refl

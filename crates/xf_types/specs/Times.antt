@@ -1,5 +1,6 @@
 -- Dates and times (XML Schema part 2, sections 3.2.7 to 3.2.14), in the years 0001 to 9999.
-use Rattle.std.specs.Prelude.{ℕ, ◌+◌, ◌*◌, ◌%◌, Bool, true, ◌&&◌, ◌||◌, not, ◌==◌, nat_le, if◌then◌else◌, List, [], ◌∷◌, take, drop, bytes_eq, codes}
+use Rattle.std.specs.Prelude.{ℕ, ◌+◌, ◌*◌, Bool, true, ◌&&◌, ◌||◌, not, ◌==◌, nat_le, if◌then◌else◌, List, [], ◌∷◌, take, drop, bytes_eq, codes, pos}
+use Rattle.jiff_core.specs.Calendar.{days_in_month}
 use Rattle.xf_num.specs.Written.{is_digit, is_empty, after_digits}
 use Rattle.xf_types.specs.Shapes.{fits, two_digits, starts_with_digit}
 
@@ -21,19 +22,12 @@ may_be_zone text = is_empty text || is_zone text
 
 -- ---- days
 
-abbrev pub is_leap : ℕ → Bool
-is_leap year = (year % 4 == 0) && (not (year % 100 == 0) || (year % 400 == 0))
-
-abbrev pub days_in : Bool → ℕ → ℕ
-days_in leap month =
-    if month == 2 then (if leap then 29 else 28)
-    else (if (month == 4) || (month == 6) || (month == 9) || (month == 11) then 30 else 31)
-
 abbrev pub is_month : ℕ → Bool
 is_month month = nat_le 1 month && nat_le month 12
 
-abbrev pub is_day : Bool → ℕ → ℕ → Bool
-is_day leap month day = is_month month && nat_le 1 day && nat_le day (days_in leap month)
+-- the calendar has this day in this year
+abbrev pub is_day : ℕ → ℕ → ℕ → Bool
+is_day year month day = is_month month && nat_le 1 day && nat_le day (days_in_month (pos year) month)
 
 abbrev pub year_of : List ℕ → ℕ
 year_of text = 100 * two_digits text 0 + two_digits text 2
@@ -46,14 +40,14 @@ is_year_month text = fits (codes "0000-00") text && nat_le 1 (year_of text) && i
 
 abbrev pub is_date_alone : List ℕ → Bool
 is_date_alone text =
-    fits (codes "0000-00-00") text && nat_le 1 (year_of text) && is_day (is_leap (year_of text)) (two_digits text 5) (two_digits text 8)
+    fits (codes "0000-00-00") text && nat_le 1 (year_of text) && is_day (year_of text) (two_digits text 5) (two_digits text 8)
 
 abbrev pub is_month_alone : List ℕ → Bool
 is_month_alone text = fits (codes "--00") text && is_month (two_digits text 2)
 
--- a day of a month in some year
+-- a day of a month in some year, so in a leap year
 abbrev pub is_month_day : List ℕ → Bool
-is_month_day text = fits (codes "--00-00") text && is_day true (two_digits text 2) (two_digits text 5)
+is_month_day text = fits (codes "--00-00") text && is_day 2000 (two_digits text 2) (two_digits text 5)
 
 abbrev pub is_day_alone : List ℕ → Bool
 is_day_alone text = fits (codes "---00") text && nat_le 1 (two_digits text 3) && nat_le (two_digits text 3) 31

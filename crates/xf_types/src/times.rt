@@ -1,10 +1,14 @@
 //! Dates and times.
 
-ghost use Rattle.std.specs.Prelude.{◌≡◌};
-ghost use Rattle.xf_types.specs.Times.{is_offset, is_zone, may_be_zone, is_leap, days_in, is_month, is_day, year_of, is_year_alone, is_year_month, is_date_alone, is_month_alone, is_month_day, is_day_alone, is_clock, is_midnight, begins_with_zeros, is_after_seconds, is_clock_text, is_time, is_date, is_date_time, is_g_year, is_g_year_month, is_g_month, is_g_month_day, is_g_day};
+ghost use Rattle.std.specs.Prelude.{◌≡◌, pos};
+ghost use Rattle.jiff_core.specs.Calendar.{is_leap_year, days_in_month};
+ghost use Rattle.xf_types.specs.Times.{is_offset, is_zone, may_be_zone, is_month, is_day, year_of, is_year_alone, is_year_month, is_date_alone, is_month_alone, is_month_day, is_day_alone, is_clock, is_midnight, begins_with_zeros, is_after_seconds, is_clock_text, is_time, is_date, is_date_time, is_g_year, is_g_year_month, is_g_month, is_g_month_day, is_g_day};
 
 use crate::shapes::{cut, fits, starts_with_digit, two_digits};
 use xf_num::{after_digits, is_digit};
+
+/// A year in which each month has all its days.
+const LEAP_YEAR: u32 = 2000;
 
 fn is_offset(hours: u32, minutes: u32) -> bool
     ensures { result ≡ is_offset hours minutes }
@@ -31,16 +35,16 @@ fn may_be_zone(text: &[u8]) -> bool
 }
 
 fn is_leap(year: u32) -> bool
-    ensures { result ≡ is_leap year }
+    ensures { result ≡ is_leap_year (pos year) }
 {
     year % 4 == 0 && (year % 100 != 0 || year % 400 == 0)
 }
 
-fn days_in(leap: bool, month: u32) -> u32
-    ensures { result ≡ days_in leap month }
+fn days_in(year: u32, month: u32) -> u32
+    ensures { result ≡ days_in_month (pos year) month }
 {
     if month == 2 {
-        return if leap { 29 } else { 28 };
+        return if is_leap(year) { 29 } else { 28 };
     }
     if month == 4 || month == 6 || month == 9 || month == 11 {
         30
@@ -55,10 +59,10 @@ fn is_month(month: u32) -> bool
     1 <= month && month <= 12
 }
 
-fn is_day(leap: bool, month: u32, day: u32) -> bool
-    ensures { result ≡ is_day leap month day }
+fn is_day(year: u32, month: u32, day: u32) -> bool
+    ensures { result ≡ is_day year month day }
 {
-    is_month(month) && 1 <= day && day <= days_in(leap, month)
+    is_month(month) && 1 <= day && day <= days_in(year, month)
 }
 
 /// The year that the first four digits write.
@@ -85,11 +89,7 @@ fn is_date_alone(text: &[u8]) -> bool
 {
     fits(b"0000-00-00", text)
         && 1 <= year_of(text)
-        && is_day(
-            is_leap(year_of(text)),
-            two_digits(text, 5),
-            two_digits(text, 8),
-        )
+        && is_day(year_of(text), two_digits(text, 5), two_digits(text, 8))
 }
 
 fn is_month_alone(text: &[u8]) -> bool
@@ -101,7 +101,7 @@ fn is_month_alone(text: &[u8]) -> bool
 fn is_month_day(text: &[u8]) -> bool
     ensures { result ≡ is_month_day text.now }
 {
-    fits(b"--00-00", text) && is_day(true, two_digits(text, 2), two_digits(text, 5))
+    fits(b"--00-00", text) && is_day(LEAP_YEAR, two_digits(text, 2), two_digits(text, 5))
 }
 
 fn is_day_alone(text: &[u8]) -> bool
