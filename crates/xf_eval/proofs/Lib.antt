@@ -15,3 +15,4 @@ pub mod Ordered
 pub mod Walked
 pub mod Positions
 pub mod Numbers
+pub mod Sides

@@ -9,3 +9,4 @@ pub mod OfOne
 pub mod ByKind
 pub mod Texts
 pub mod Places
+pub mod Sides

@@ -4,7 +4,7 @@ ghost use Rattle.std.specs.Prelude.{◌≡◌, Some};
 ghost use Rattle.xf_base.specs.Limits.{string_limit};
 ghost use Rattle.xf_doc.specs.Forest.{IsLive};
 ghost use Rattle.xf_plain_values.specs.Bounded.{GivesBounded, capped};
-ghost use Rattle.xf_plain_values.specs.Conversions.{is_not_zero, number_in, number_of_truth, text_of_truth, truth_in, whole};
+ghost use Rattle.xf_plain_values.specs.Conversions.{is_not_zero, number_of_truth, text_of_truth, whole};
 ghost use Rattle.xf_lang.specs.Conversions.{nodes_of, truth_of, string_of_node, first_string, plain_of};
 ghost use Rattle.xf_eval.specs.Live.{AllLive};
 ghost use Rattle.xf_eval.specs.Worth.{setting_in, text_worth, number_worth};
@@ -34,7 +34,7 @@ pub fn truth_of(value: &Value) -> bool
 }
 
 /// Whether a number is neither zero nor NaN.
-fn is_not_zero(number: Num) -> bool
+pub(crate) fn is_not_zero(number: Num) -> bool
     ensures { result ≡ is_not_zero number }
 {
     match number.units() {
@@ -124,7 +124,7 @@ pub fn number_of(alloc: Global, forest: &Forest, value: &Value) -> Result<Num, E
     }
 }
 
-fn number_of_truth(truth: bool) -> Num
+pub(crate) fn number_of_truth(truth: bool) -> Num
     ensures { result ≡ number_of_truth 6 truth }
 {
     if truth { whole(1) } else { whole(0) }
@@ -148,27 +148,5 @@ pub(crate) fn plain_of(alloc: Global, forest: &Forest, value: Value) -> Result<P
         Value::Text(text) => Ok(Plain::Text(text)),
         Value::Number(number) => Ok(Plain::Number(number)),
         Value::Truth(truth) => Ok(Plain::Truth(truth)),
-    }
-}
-
-/// A plain value as a truth.
-pub(crate) fn truth_in(value: &Plain) -> bool
-    ensures { result ≡ truth_in value.now }
-{
-    match value {
-        Plain::Text(text) => !text.is_empty(),
-        Plain::Number(number) => is_not_zero(*number),
-        Plain::Truth(truth) => *truth,
-    }
-}
-
-/// A plain value as a number.
-pub(crate) fn number_in(value: &Plain) -> Num
-    ensures { result ≡ number_in 6 value.now }
-{
-    match value {
-        Plain::Text(text) => Num::read(text.as_str()),
-        Plain::Number(number) => *number,
-        Plain::Truth(truth) => number_of_truth(*truth),
     }
 }

@@ -1,0 +1,102 @@
+-- Some pair of two sides, one of them a set.
+use Rattle.std.proofs.Common.{◌≡◌, ℕ, Bool, true, false, ◌||◌, List, [], ◌∷◌, map, Option, Some, None, option_map, refl, sym, ap, ◌∙◌}
+use Rattle.std.specs.List.{list_any}
+use Rattle.xf_doc.specs.declared.content.Node.{Node}
+use Rattle.xf_ast.specs.declared.expr.Operator.{Operator}
+use Rattle.xf_plain_values.specs.declared.plain.Plain.{Plain}
+use Rattle.xf_plain_values.specs.declared.plain.Plain.TheVariants as plain
+use Rattle.xf_lang.specs.declared.value.Value.{Value}
+use Rattle.xf_lang.specs.declared.value.Value.TheVariants.{Nodes, Text, Number, Truth}
+use Rattle.xf_lang.specs.Setting.{◌>>=◌, each}
+use Rattle.xf_lang.specs.Conversions.{strings_of}
+use Rattle.xf_lang.specs.Comparisons.{compared, holds, pairs_hold, plains_of, some_pair}
+use Rattle.xf_eval.specs.declared.compare.Side.{Side}
+use Rattle.xf_eval.specs.Sides.{holds_for_some, pairs_beside, plain_on, plain_or_truth, some_beside}
+use Rattle.xf_eval.specs.Worth.{setting_in}
+
+any-map : {X Y : Type 0} (p : Y → Bool) (f : X → Y) (xs : List X) → list_any p (map f xs) ≡ list_any (λ x. p (f x)) xs
+any-map p f [] = refl
+any-map p f (x ∷ xs) = ap (λ b. p (f x) || b) (any-map p f xs)
+
+or-none : (b : Bool) → (b || false) ≡ b
+or-none true = refl
+or-none false = refl
+
+-- ---- a set on the left
+
+pairs-left : (o : Operator) (texts : List (List ℕ)) (rights : List Side) → some_pair (holds 6 o) (map plain.Text texts) (map plain_on rights) ≡ some_beside o true rights texts
+pairs-left o [] rights = refl
+pairs-left o (t ∷ ts) rights =
+    ap (λ b. b || some_pair (holds 6 o) (map plain.Text ts) (map plain_on rights)) (any-map (holds 6 o (plain.Text t)) plain_on rights)
+    ∙ ap (λ b. list_any (λ (right : Side). holds 6 o (plain.Text t) (plain_on right)) rights || b) (pairs-left o ts rights)
+
+pub set-left : (nodes : List Node) (o : Operator) (ns : List ℕ) (right : Value) (sides : List Side) → plains_of (setting_in nodes) right ≡ Some (map plain_on sides) →
+    option_map (some_beside o true sides) (strings_of (setting_in nodes) ns) ≡ pairs_hold (setting_in nodes) o (Nodes ns) right
+set-left nodes o ns right sides h =
+    by (strings_of (setting_in nodes) ns) ∙ sym (ap (λ m. plains_of (setting_in nodes) (Nodes ns) >>= λ lefts. m >>= λ rights. Some (some_pair (holds 6 o) lefts rights)) h)
+  where
+    by : (m : Option (List (List ℕ))) → option_map (some_beside o true sides) m ≡ (option_map (map plain.Text) m >>= λ lefts. Some (some_pair (holds 6 o) lefts (map plain_on sides)))
+    by None = refl
+    by (Some texts) = ap Some (sym (pairs-left o texts sides))
+
+-- a set on the right that is too long
+pub set-long : (nodes : List Node) (o : Operator) (ns ms : List ℕ) → plains_of (setting_in nodes) (Nodes ms) ≡ None → pairs_hold (setting_in nodes) o (Nodes ns) (Nodes ms) ≡ None
+set-long nodes o ns ms h =
+    ap (λ m. plains_of (setting_in nodes) (Nodes ns) >>= λ lefts. m >>= λ rights. Some (some_pair (holds 6 o) lefts rights)) h ∙ by (plains_of (setting_in nodes) (Nodes ns))
+  where
+    by : (m : Option (List Plain)) → (m >>= λ lefts. None >>= λ rights. Some (some_pair (holds 6 o) lefts rights)) ≡ None
+    by None = refl
+    by (Some lefts) = refl
+
+-- ---- a plain value on the left
+
+one-right : (o : Operator) (lefts : List Side) (right : Plain) → some_pair (holds 6 o) (map plain_on lefts) (right ∷ []) ≡ holds_for_some o false lefts right
+one-right o [] right = refl
+one-right o (l ∷ ls) right =
+    ap (λ b. b || some_pair (holds 6 o) (map plain_on ls) (right ∷ [])) (or-none (holds 6 o (plain_on l) right)) ∙ ap (λ b. holds 6 o (plain_on l) right || b) (one-right o ls right)
+
+none-right : (o : Operator) (lefts : List Plain) → some_pair (holds 6 o) lefts [] ≡ false
+none-right o [] = refl
+none-right o (l ∷ ls) = none-right o ls
+
+or-across : (a b c d : Bool) → ((a || b) || (c || d)) ≡ ((a || c) || (b || d))
+or-across true b c d = refl
+or-across false true true d = refl
+or-across false true false d = refl
+or-across false false true d = refl
+or-across false false false d = refl
+
+more-right : (o : Operator) (lefts : List Plain) (right : Plain) (rights : List Plain) →
+    some_pair (holds 6 o) lefts (right ∷ rights) ≡ (some_pair (holds 6 o) lefts (right ∷ []) || some_pair (holds 6 o) lefts rights)
+more-right o [] right rights = refl
+more-right o (l ∷ ls) right rights =
+    ap (λ b. (holds 6 o l right || list_any (holds 6 o l) rights) || b) (more-right o ls right rights)
+    ∙ or-across (holds 6 o l right) (list_any (holds 6 o l) rights) (some_pair (holds 6 o) ls (right ∷ [])) (some_pair (holds 6 o) ls rights)
+    ∙ ap (λ b. (b || some_pair (holds 6 o) ls (right ∷ [])) || (list_any (holds 6 o l) rights || some_pair (holds 6 o) ls rights)) (sym (or-none (holds 6 o l right)))
+
+pairs-right : (o : Operator) (lefts : List Side) (texts : List (List ℕ)) → some_pair (holds 6 o) (map plain_on lefts) (map plain.Text texts) ≡ some_beside o false lefts texts
+pairs-right o lefts [] = none-right o (map plain_on lefts)
+pairs-right o lefts (t ∷ ts) =
+    more-right o (map plain_on lefts) (plain.Text t) (map plain.Text ts)
+    ∙ ap (λ b. b || some_pair (holds 6 o) (map plain_on lefts) (map plain.Text ts)) (one-right o lefts (plain.Text t))
+    ∙ ap (λ b. holds_for_some o false lefts (plain.Text t) || b) (pairs-right o lefts ts)
+
+pub set-right : (nodes : List Node) (o : Operator) (lefts : List Side) (right : Value) (ns : List ℕ) → right ≡ Nodes ns →
+    option_map (some_beside o false lefts) (strings_of (setting_in nodes) ns) ≡ pairs_beside o (setting_in nodes) (map plain_on lefts) right
+set-right nodes o lefts right ns e = by (strings_of (setting_in nodes) ns) ∙ ap (pairs_beside o (setting_in nodes) (map plain_on lefts)) (sym e)
+  where
+    by : (m : Option (List (List ℕ))) → option_map (some_beside o false lefts) m ≡ (option_map (map plain.Text) m >>= λ rights. Some (some_pair (holds 6 o) (map plain_on lefts) rights))
+    by None = refl
+    by (Some texts) = ap Some (sym (pairs-right o lefts texts))
+
+-- plain values on both sides
+pub plain-right : (nodes : List Node) (o : Operator) (lefts : List Side) (right : Value) (p : Plain) → plains_of (setting_in nodes) right ≡ Some (p ∷ []) →
+    pairs_beside o (setting_in nodes) (map plain_on lefts) right ≡ Some (holds_for_some o false lefts p)
+plain-right nodes o lefts right p h = ap (λ m. m >>= λ rights. Some (some_pair (holds 6 o) (map plain_on lefts) rights)) h ∙ ap Some (one-right o lefts p)
+
+-- a truth on the left
+pub truth-left : (nodes : List Node) (o : Operator) (b : Bool) (right : Value) → compared (setting_in nodes) o (Truth b) right ≡ Some (holds 6 o (plain.Truth b) (plain_or_truth right))
+truth-left nodes o b (Nodes ns) = refl
+truth-left nodes o b (Text text) = ap Some (or-none (holds 6 o (plain.Truth b) (plain.Text text) || false) ∙ or-none (holds 6 o (plain.Truth b) (plain.Text text)))
+truth-left nodes o b (Number k) = ap Some (or-none (holds 6 o (plain.Truth b) (plain.Number k) || false) ∙ or-none (holds 6 o (plain.Truth b) (plain.Number k)))
+truth-left nodes o b (Truth c) = ap Some (or-none (holds 6 o (plain.Truth b) (plain.Truth c) || false) ∙ or-none (holds 6 o (plain.Truth b) (plain.Truth c)))

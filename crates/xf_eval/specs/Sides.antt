@@ -1,0 +1,40 @@
+-- One side of a comparison beside others (XPath 1.0, section 3.4): a plain value, its text lent or made.
+use Rattle.std.specs.Prelude.{ℕ, Bool, true, false, List, Option, Some, map}
+use Rattle.std.specs.List.{list_any}
+use Rattle.xf_ast.specs.declared.expr.Operator.{Operator}
+use Rattle.xf_plain_values.specs.declared.plain.Plain.{Plain}
+use Rattle.xf_plain_values.specs.declared.plain.Plain.TheVariants as plain
+use Rattle.xf_lang.specs.declared.value.Value.{Value}
+use Rattle.xf_lang.specs.declared.value.Value.TheVariants as value
+use Rattle.xf_lang.specs.Setting.{Setting, ◌>>=◌}
+use Rattle.xf_lang.specs.Conversions.{is_filled}
+use Rattle.xf_lang.specs.Comparisons.{holds, plains_of, some_pair}
+use Rattle.xf_eval.specs.declared.compare.Side.{Side}
+use Rattle.xf_eval.specs.declared.compare.Side.TheVariants.{Text, Number, Truth}
+use Rattle.xf_eval.specs.Texts.{characters}
+
+-- the plain value of a side
+abbrev pub plain_on : Side → Plain
+plain_on (Text text) = plain.Text (characters text)
+plain_on (Number k) = plain.Number k
+plain_on (Truth b) = plain.Truth b
+
+-- the operator holds between one, which is the left side or the right one, and some of the others
+abbrev pub holds_for_some : Operator → Bool → List Side → Plain → Bool
+holds_for_some operator true others one = list_any (λ other. holds 6 operator one (plain_on other)) others
+holds_for_some operator false others one = list_any (λ other. holds 6 operator (plain_on other) one) others
+
+-- so it does for some of these texts
+abbrev pub some_beside : Operator → Bool → List Side → List (List ℕ) → Bool
+some_beside operator is_left others texts = list_any (λ text. holds_for_some operator is_left others (plain.Text text)) texts
+
+-- it does for some of these on the left, and a value on the right
+abbrev pub pairs_beside : Operator → Setting → List Plain → Value → Option Bool
+pairs_beside operator s lefts right = plains_of s right >>= λ rights. Some (some_pair (holds 6 operator) lefts rights)
+
+-- beside a truth a set counts as a truth
+abbrev pub plain_or_truth : Value → Plain
+plain_or_truth (value.Nodes ns) = plain.Truth (is_filled ns)
+plain_or_truth (value.Text text) = plain.Text text
+plain_or_truth (value.Number k) = plain.Number k
+plain_or_truth (value.Truth b) = plain.Truth b
