@@ -45,7 +45,11 @@ fn element(alloc: Global, items: &[Value]) -> Result<LitElement, JsonFault>
         attributes,
         from,
     } = head_of(alloc, items)?;
-    let mut children = Items::new(alloc);
+    // Room for each item: no more children come, and most lists then have no room left over.
+    let mut children = Items::from_vec(Vec::with_capacity(
+        alloc,
+        items.len().saturating_sub(from),
+    )?);
     let mut text = Word::new(alloc);
     for i in from..items.len() {
         match &items[i] {
@@ -130,7 +134,7 @@ fn object_at(items: &[Value], i: usize) -> Option<&Map<String, Value>>
 fn attributes_of(alloc: Global, members: &Map<String, Value>) -> Result<PairList, JsonFault>
     ensures { GivesPart result (attributes_in (members_view members.now.entries)) }
 {
-    let mut attributes = Items::new(alloc);
+    let mut attributes = Items::from_vec(Vec::with_capacity(alloc, members.len())?);
     for (name, value) in members {
         match value {
             Value::String(text) => attributes.push(Pair {
