@@ -99,9 +99,9 @@ in_order : (first second third : Kind) (text : List ℕ) → joined (joined firs
 in_order first second third [] = and_both (first []) (second []) (third [])
 in_order first second third (c ∷ text) =
     ap (λ x. ((first [] && second []) && third (c ∷ text)) || x) (
-      either (λ t. first [] && second (c ∷ t)) (joined (λ t. first (c ∷ t)) second) third text
-      ∙ ap (λ x. x || joined (joined (λ t. first (c ∷ t)) second) third text) (constant (first []) (λ t. second (c ∷ t)) third text)
-      ∙ ap (λ x. (first [] && joined (λ t. second (c ∷ t)) third text) || x) (in_order (λ t. first (c ∷ t)) second third text))
+    either (λ t. first [] && second (c ∷ t)) (joined (λ t. first (c ∷ t)) second) third text
+    ∙ ap (λ x. x || joined (joined (λ t. first (c ∷ t)) second) third text) (constant (first []) (λ t. second (c ∷ t)) third text)
+    ∙ ap (λ x. (first [] && joined (λ t. second (c ∷ t)) third text) || x) (in_order (λ t. first (c ∷ t)) second third text))
     ∙ regroup (first []) (second []) (third (c ∷ text)) (joined (λ t. second (c ∷ t)) third text) (joined (λ t. first (c ∷ t)) (joined second third) text)
 
 -- ---- behind a byte, and behind digits
@@ -116,9 +116,10 @@ same second text = refl
 after_byte : (byte : ℕ) (second : Kind) (text : List ℕ) → joined (is_byte byte) second text ≡ (begins_with byte text && second (past_first text))
 after_byte byte second [] = refl
 after_byte byte second (c ∷ text) =
-    elim (c == byte) as (λ b. joined (λ t. b && bytes_eq t []) second text ≡ (b && second text))
-    [ true ↦ alike (λ t. bytes_eq t []) is_empty second second is_nothing (same second) text ∙ after_nothing second text
-    | false ↦ none second text ]
+    elim (c == byte) as (λ b. joined (λ t. b && bytes_eq t []) second text ≡ (b && second text)) [
+      | true ↦ alike (λ t. bytes_eq t []) is_empty second second is_nothing (same second) text ∙ after_nothing second text
+      | false ↦ none second text
+    ]
 
 -- no text of this kind begins with a digit
 abbrev NoDigits : Kind → Type 0
@@ -128,10 +129,11 @@ after_more_digits : (second : Kind) → NoDigits second → (text : List ℕ) �
 after_more_digits second deaf [] = refl
 after_more_digits second deaf (c ∷ text) =
     let digit : is_digit c ≡ true → (second (c ∷ text) || joined (list_all is_digit) second text) ≡ second (after_digits text) =
-        λ h. ap (λ x. x || joined (list_all is_digit) second text) (deaf c text h) ∙ after_more_digits second deaf text in
-    (elim (is_digit c) as (λ b. ((b ≡ true) → (second (c ∷ text) || joined (list_all is_digit) second text) ≡ second (after_digits text)) → (second (c ∷ text) || joined (λ t. b && list_all is_digit t) second text) ≡ second (if b then after_digits text else c ∷ text))
-    [ true ↦ (λ k. k refl)
-    | false ↦ (λ k. ap (λ x. second (c ∷ text) || x) (none second text) ∙ or_false (second (c ∷ text))) ])
+    λ h. ap (λ x. x || joined (list_all is_digit) second text) (deaf c text h) ∙ after_more_digits second deaf text in
+    (elim (is_digit c) as (λ b. ((b ≡ true) → (second (c ∷ text) || joined (list_all is_digit) second text) ≡ second (after_digits text)) → (second (c ∷ text) || joined (λ t. b && list_all is_digit t) second text) ≡ second (if b then after_digits text else c ∷ text)) [
+      | true ↦ (λ k. k refl)
+      | false ↦ (λ k. ap (λ x. second (c ∷ text) || x) (none second text) ∙ or_false (second (c ∷ text)))
+    ])
     digit
 
 behind_digits : (second : Kind) → NoDigits second → (text : List ℕ) → joined is_digits second text ≡ (starts_with_digit text && second (after_digits text))
@@ -171,8 +173,8 @@ passed_part letter second h lacks text =
     ∙ optional (is_part letter) second text
     ∙ ap (λ x. second text || x) (behind_part letter second h text ∙ sym (and_both (starts_with_digit text) (begins_with letter (after_digits text)) (second (past_first (after_digits text)))))
     ∙ (elim (has_part letter text) as (λ b. ((b ≡ true) → second text ≡ false) → (second text || (b && second (past_first (after_digits text)))) ≡ second (if b then past_first (after_digits text) else text))
-      [ true ↦ (λ k. ap (λ x. x || second (past_first (after_digits text))) (k refl)) | false ↦ (λ k. or_false (second text)) ])
-      there
+    [ true ↦ (λ k. ap (λ x. x || second (past_first (after_digits text))) (k refl)) | false ↦ (λ k. or_false (second text)) ])
+    there
 
 -- two letters do not stand at one place
 two_bytes : (c letter other : ℕ) → (other == letter) ≡ false → (c == letter) ≡ true → (c == other) ≡ false
@@ -194,8 +196,8 @@ not_there a b h = ap (λ x. a && x) h ∙ and_false a
 past_other : (letter other : ℕ) → (other == letter) ≡ false → (text : List ℕ) → has_part letter text ≡ true → past_part other text ≡ text
 past_other letter other h text k =
     ap (λ b. if b then past_first (after_digits text) else text)
-      (not_there (starts_with_digit text) (begins_with other (after_digits text))
-        (two_letters letter other h (after_digits text) (second_half (starts_with_digit text) (begins_with letter (after_digits text)) k)))
+    (not_there (starts_with_digit text) (begins_with other (after_digits text))
+    (two_letters letter other h (after_digits text) (second_half (starts_with_digit text) (begins_with letter (after_digits text)) k)))
 
 -- a list of parts without this letter lacks it, where what stands behind them does
 lacks_more : (letter other : ℕ) (second : Kind) → is_digit other ≡ false → (other == letter) ≡ false → Lacks letter second → Lacks other second → Lacks letter (is_joined (may_be (is_part other)) second)
@@ -218,10 +220,10 @@ behind_fraction : (text : List ℕ) → joined (may_be fraction) (is_byte 83) te
 behind_fraction text =
     optional fraction (is_byte 83) text
     ∙ ap (λ x. is_byte 83 text || x) (
-      alike fraction (joined (is_byte 46) is_digits) (is_byte 83) (is_byte 83) (by_byte (is_byte 46) is_digits) (same (is_byte 83)) text
-      ∙ in_order (is_byte 46) is_digits (is_byte 83) text
-      ∙ after_byte 46 (joined is_digits (is_byte 83)) text
-      ∙ ap (λ x. begins_with 46 text && x) (behind_digits (is_byte 83) (no_digits_letter 83 refl) (past_first text)))
+    alike fraction (joined (is_byte 46) is_digits) (is_byte 83) (is_byte 83) (by_byte (is_byte 46) is_digits) (same (is_byte 83)) text
+    ∙ in_order (is_byte 46) is_digits (is_byte 83) text
+    ∙ after_byte 46 (joined is_digits (is_byte 83)) text
+    ∙ ap (λ x. begins_with 46 text && x) (behind_digits (is_byte 83) (no_digits_letter 83 refl) (past_first text)))
 
 no_digits_fraction : NoDigits (joined (may_be fraction) (is_byte 83))
 no_digits_fraction c text h =
@@ -237,10 +239,11 @@ past_point : (text : List ℕ) → (is_byte 83 text || pointed text) ≡ is_byte
 past_point [] = refl
 past_point (c ∷ text) =
     let point : (c == 46) ≡ true → is_byte 83 (c ∷ text) ≡ false = no_point c text in
-    (elim (c == 46) as (λ b. ((b ≡ true) → is_byte 83 (c ∷ text) ≡ false) → (is_byte 83 (c ∷ text) || (b && (starts_with_digit text && is_byte 83 (after_digits text)))) ≡ is_byte 83 (if b && starts_with_digit text then after_digits text else c ∷ text))
-    [ true ↦ (λ k. elim (starts_with_digit text) as (λ d. (is_byte 83 (c ∷ text) || (d && is_byte 83 (after_digits text))) ≡ is_byte 83 (if d then after_digits text else c ∷ text))
-        [ true ↦ ap (λ x. x || is_byte 83 (after_digits text)) (k refl) | false ↦ or_false (is_byte 83 (c ∷ text)) ])
-    | false ↦ (λ k. or_false (is_byte 83 (c ∷ text))) ])
+    (elim (c == 46) as (λ b. ((b ≡ true) → is_byte 83 (c ∷ text) ≡ false) → (is_byte 83 (c ∷ text) || (b && (starts_with_digit text && is_byte 83 (after_digits text)))) ≡ is_byte 83 (if b && starts_with_digit text then after_digits text else c ∷ text)) [
+      | true ↦ (λ k. elim (starts_with_digit text) as (λ d. (is_byte 83 (c ∷ text) || (d && is_byte 83 (after_digits text))) ≡ is_byte 83 (if d then after_digits text else c ∷ text))
+          [ true ↦ ap (λ x. x || is_byte 83 (after_digits text)) (k refl) | false ↦ or_false (is_byte 83 (c ∷ text)) ])
+      | false ↦ (λ k. or_false (is_byte 83 (c ∷ text)))
+    ])
     point
 
 seconds_are : (text : List ℕ) → is_seconds text ≡ (starts_with_digit text && is_byte 83 (past_fraction (after_digits text)))
@@ -295,10 +298,10 @@ lacks_seconds letter h k text there =
 passed_time : (text : List ℕ) → are_some_parts (codes "HM") (may_be is_seconds) text ≡ is_time_parts text
 passed_time text =
     ap (λ x. not (is_empty text) && x) (
-      passed_part 72 (is_joined (may_be (is_part 77)) (may_be is_seconds)) refl
-        (lacks_more 72 77 (may_be is_seconds) refl refl (lacks_seconds 72 refl refl) (lacks_seconds 77 refl refl)) text
-      ∙ passed_part 77 (may_be is_seconds) refl (lacks_seconds 77 refl refl) (past_part 72 text)
-      ∙ passed_seconds (past_parts (codes "HM") text))
+    passed_part 72 (is_joined (may_be (is_part 77)) (may_be is_seconds)) refl
+    (lacks_more 72 77 (may_be is_seconds) refl refl (lacks_seconds 72 refl refl) (lacks_seconds 77 refl refl)) text
+    ∙ passed_part 77 (may_be is_seconds) refl (lacks_seconds 77 refl refl) (past_part 72 text)
+    ∙ passed_seconds (past_parts (codes "HM") text))
 
 abbrev rest_of : Bool → Kind
 rest_of true = may_be is_time_of_day
@@ -335,14 +338,14 @@ minus_first parts (c ∷ text) =
     let after : Kind = λ t. begins_with 80 t && parts (past_first t) in
     let behind : (t : List ℕ) → is_joined (is_byte 80) parts t ≡ after t = λ t. by_byte (is_byte 80) parts t ∙ after_byte 80 parts t in
     let minus : (c == 45) ≡ true → after (c ∷ text) ≡ false =
-        λ h. ap (λ x. x && parts text) (two_bytes c 45 80 refl h) in
+    λ h. ap (λ x. x && parts text) (two_bytes c 45 80 refl h) in
     by_byte (may_be (is_byte 45)) (is_joined (is_byte 80) parts) (c ∷ text)
     ∙ alike (may_be (is_byte 45)) (may_be (is_byte 45)) (is_joined (is_byte 80) parts) after (same (may_be (is_byte 45))) behind (c ∷ text)
     ∙ optional (is_byte 45) after (c ∷ text)
     ∙ ap (λ x. after (c ∷ text) || x) (after_byte 45 after (c ∷ text))
     ∙ (elim (c == 45) as (λ b. ((b ≡ true) → after (c ∷ text) ≡ false) → (after (c ∷ text) || (b && after text)) ≡ after (if b then text else c ∷ text))
-      [ true ↦ (λ k. ap (λ x. x || after text) (k refl)) | false ↦ (λ k. or_false (after (c ∷ text))) ])
-      minus
+    [ true ↦ (λ k. ap (λ x. x || after text) (k refl)) | false ↦ (λ k. or_false (after (c ∷ text))) ])
+    minus
 
 passed_all : (letters : List ℕ) (times : Bool) → Passes letters times → (text : List ℕ) → is_signed letters (rest_of times) text ≡ is_passed letters times text
 passed_all letters times passes text =
@@ -353,7 +356,7 @@ passed_all letters times passes text =
 passes_two : (first second : ℕ) (times : Bool) → is_digit first ≡ false → is_digit second ≡ false → (second == first) ≡ false → Passes (first ∷ second ∷ []) times
 passes_two first second times h k e text =
     passed_part first (is_joined (may_be (is_part second)) (rest_of times)) h
-      (lacks_more first second (rest_of times) k e (lacks_rest times first) (lacks_rest times second)) text
+    (lacks_more first second (rest_of times) k e (lacks_rest times first) (lacks_rest times second)) text
     ∙ passed_part second (rest_of times) k (lacks_rest times second) (past_part first text)
     ∙ passed_rest times (past_part second (past_part first text))
 
@@ -364,9 +367,9 @@ passes_dates : Passes (codes "YMD") true
 passes_dates text =
     let days : Kind = is_joined (may_be (is_part 68)) (rest_of true) in
     let lacks_days : (letter : ℕ) → (68 == letter) ≡ false → Lacks letter days =
-        λ letter h. lacks_more letter 68 (rest_of true) refl h (lacks_rest true letter) (lacks_rest true 68) in
+    λ letter h. lacks_more letter 68 (rest_of true) refl h (lacks_rest true letter) (lacks_rest true 68) in
     passed_part 89 (is_joined (may_be (is_part 77)) days) refl
-      (lacks_more 89 77 days refl refl (lacks_days 89 refl) (lacks_days 77 refl)) text
+    (lacks_more 89 77 days refl refl (lacks_days 89 refl) (lacks_days 77 refl)) text
     ∙ passed_part 77 days refl (lacks_days 77 refl) (past_part 89 text)
     ∙ passes_day (past_part 77 (past_part 89 text))
 
