@@ -16,3 +16,5 @@ pub mod Walked
 pub mod Positions
 pub mod Numbers
 pub mod Sides
+pub mod Below
+pub mod WayLaws

@@ -10,3 +10,4 @@ pub mod ByKind
 pub mod Texts
 pub mod Places
 pub mod Sides
+pub mod Ways

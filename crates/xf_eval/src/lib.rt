@@ -15,6 +15,7 @@ mod places;
 mod sets;
 mod steps;
 mod texts;
+mod ways;
 
 pub use around::Around;
 pub use convert::{number_of, text_of, truth_of};

@@ -16,11 +16,13 @@ use crate::expression::value_at;
 use crate::order::ordered;
 use crate::places::{number_first, placed, reached_placed};
 use crate::sets::{append, reach, reached, single, started};
+use crate::ways::way_of;
 use std::alloc::{AllocError, Global};
 use std::cmp::Ordering;
 use xf_ast::{Expr, Start, Step};
 use xf_doc::{NodeId, NodeList};
 use xf_lang::{Context, EvalFault, Value};
+use xf_name::Axis;
 use xf_tree::Forest;
 
 /// The nodes that a chain of steps reaches from these.
@@ -40,86 +42,92 @@ pub(crate) fn walked<A: Around>(
 {
     let mut nodes = from;
     for step in steps {
-        let start = started(alloc, forest, step.is_below, nodes)?;
-        nodes = taken(alloc, forest, around, step, &start, context)?;
+        let way = way_of(forest, step, &nodes);
+        let start = started(alloc, forest, way.is_below, nodes)?;
+        nodes = taken(alloc, forest, around, way.axis, step, &start, context)?;
     }
     Ok(nodes)
 }
 
-/// What the axis, the test and the predicates of a step select from each of these nodes, in document order, each once.
+/// What a step selects on an axis from each of these nodes, in document order, each once.
 #[cycle(value)]
 fn taken<A: Around>(
     alloc: Global,
     forest: &Forest,
     around: &A,
+    axis: Axis,
     step: &Step,
     from: &NodeList,
     context: &Context,
 ) -> Result<NodeList, EvalFault>
     requires ready { IsReady (A.given around.now) forest.now.forest.nodes context.now }
     requires from { AllLive from.now forest.now.forest.nodes }
-    ensures value { GivesBounded EvalFault.Memory EvalFault.Long (λ found. found) result (taken step.now.axis step.now.test (map meaning step.now.predicates) (setting_at (A.given around.now) forest.now.forest.nodes context.now) from.now) }
+    ensures value { GivesBounded EvalFault.Memory EvalFault.Long (λ found. found) result (taken axis step.now.test (map meaning step.now.predicates) (setting_at (A.given around.now) forest.now.forest.nodes context.now) from.now) }
     ensures live { IfOk result (λ found. AllLive found forest.now.forest.nodes) }
 {
     if from.len() == 1 {
         forest.are_trees();
-        let kept = from_one(alloc, forest, around, step, from.at(0), context)?;
-        return Ok(ordered(forest, step.axis, kept)?);
+        let kept = from_one(alloc, forest, around, axis, step, from.at(0), context)?;
+        return Ok(ordered(forest, axis, kept)?);
     }
     let mut found = NodeList::new(alloc);
     for node in from.as_slice() {
-        take(&mut found, alloc, forest, around, step, *node, context)?;
+        take(
+            &mut found, alloc, forest, around, axis, step, *node, context,
+        )?;
     }
     Ok(forest.in_order(&found)?)
 }
 
-/// Puts behind other nodes what a step selects from a node.
+/// Puts behind other nodes what a step selects on an axis from a node.
 #[cycle(value)]
 fn take<A: Around>(
     found: &mut NodeList,
     alloc: Global,
     forest: &Forest,
     around: &A,
+    axis: Axis,
     step: &Step,
     node: NodeId,
     context: &Context,
 ) -> Result<(), EvalFault>
     requires ready { IsReady (A.given around.now) forest.now.forest.nodes context.now }
     requires node { IsLive node.number forest.now.forest }
-    ensures value { GivesBounded EvalFault.Memory EvalFault.Long (λ _. found.new) result (option_map (λ kept. found.old ++ kept) (from_one step.now.axis step.now.test (map meaning step.now.predicates) (setting_at (A.given around.now) forest.now.forest.nodes context.now) node.number)) }
+    ensures value { GivesBounded EvalFault.Memory EvalFault.Long (λ _. found.new) result (option_map (λ kept. found.old ++ kept) (from_one axis step.now.test (map meaning step.now.predicates) (setting_at (A.given around.now) forest.now.forest.nodes context.now) node.number)) }
 {
     if step.predicates.is_empty() {
-        reach(found, forest, node, step.axis, &step.test)?;
+        reach(found, forest, node, axis, &step.test)?;
         return Ok(());
     }
-    let kept = from_one(alloc, forest, around, step, node, context)?;
+    let kept = from_one(alloc, forest, around, axis, step, node, context)?;
     append(found, &kept)?;
     Ok(())
 }
 
-/// What a step selects from one node, in the order of its axis: positions count from that node.
+/// What a step selects on an axis from one node, in the order of the axis: positions count from that node.
 #[cycle(value)]
 fn from_one<A: Around>(
     alloc: Global,
     forest: &Forest,
     around: &A,
+    axis: Axis,
     step: &Step,
     node: NodeId,
     context: &Context,
 ) -> Result<NodeList, EvalFault>
     requires ready { IsReady (A.given around.now) forest.now.forest.nodes context.now }
     requires node { IsLive node.number forest.now.forest }
-    ensures value { GivesBounded EvalFault.Memory EvalFault.Long (λ kept. kept) result (from_one step.now.axis step.now.test (map meaning step.now.predicates) (setting_at (A.given around.now) forest.now.forest.nodes context.now) node.number) }
+    ensures value { GivesBounded EvalFault.Memory EvalFault.Long (λ kept. kept) result (from_one axis step.now.test (map meaning step.now.predicates) (setting_at (A.given around.now) forest.now.forest.nodes context.now) node.number) }
     ensures live { IfOk result (λ kept. AllLive kept forest.now.forest.nodes) }
 {
     let predicates = step.predicates.as_slice();
     match number_first(predicates) {
         Some(number) => {
-            let first = reached_placed(alloc, forest, node, step.axis, &step.test, number)?;
+            let first = reached_placed(alloc, forest, node, axis, &step.test, number)?;
             kept_by_all(alloc, forest, around, predicates, 1, first, context)
         }
         None => {
-            let nodes = reached(alloc, forest, node, step.axis, &step.test)?;
+            let nodes = reached(alloc, forest, node, axis, &step.test)?;
             kept_by_all(alloc, forest, around, predicates, 0, nodes, context)
         }
     }

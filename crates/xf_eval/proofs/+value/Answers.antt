@@ -8,10 +8,10 @@ use Rattle.xf_lang.specs.declared.fault.EvalFault.TheVariants.{Long, Memory}
 use Rattle.xf_lang.specs.declared.value.Value.TheVariants.{Nodes}
 use Rattle.xf_lang.specs.Conversions.{truth_of}
 use Rattle.xf_lang.specs.Functions.{branched, plain_arguments}
-use Rattle.xf_lang.specs.Meaning.{focus_of, meaning}
+use Rattle.xf_lang.specs.Meaning.{focus_of, meaning, walk_of}
 use Rattle.xf_doc.specs.Forest.{has_number}
 use Rattle.xf_plain_values.specs.Bounded.{◌>>=◌}
-use Rattle.xf_lang.specs.Steps.{from_one, kept_by_all, kept_from, reached}
+use Rattle.xf_lang.specs.Steps.{from_one, kept_by_all, kept_from, reached, walked}
 use Rattle.xf_lang.proofs.Equations.{meaning-Number}
 use Rattle.xf_eval.specs.Taken.{taken}
 use Rattle.xf_eval.proofs.Ordered.{alone-is, forward-in_order, taken-none, taken-one}
@@ -27,6 +27,7 @@ use Rattle.xf_eval.proofs.Lists.{onto, onto-start}
 use Rattle.xf_eval.proofs.Lives.{live-get, live-in_order, live-is, live-item}
 use Rattle.xf_eval.proofs.Parts.{argument-past, argument-within, by-other, call-worth, linked-both}
 use Rattle.xf_eval.proofs.Runs.{added}
+use Rattle.xf_eval.proofs.WayLaws.{way-more, way-stuck}
 use Rattle.xf_eval.proofs.Bounded.{gives-same, part-long}
 use Rattle.xf_eval.proofs.+value.Goals as goal
 use Rattle.xf_eval.proofs.+value.Goals.{calls::branched-then-truth_of, calls::branched-else-truth_of, steps::asked_of_each-then-is_true_at+in_ok-push, steps::asked_of_each-else-is_true_at}
@@ -239,10 +240,32 @@ steps::from_one-returns-in_ok-first-in-Some-clause-value g t c =
     let s = setting_at (g.A.Around.given c.args.around.now) c.args.forest.now.forest.nodes c.args.context.now in
     let step = c.args.step.now in
     let ps = c.as_slice-predicates.result.now in
-    let ns = reached step.axis step.test s.all c.args.node.number in
+    let ns = reached c.args.axis step.test s.all c.args.node.number in
     gives-same Memory Long (λ v. v) c.kept_by_all.result _ _
     (first-asked c.in-Some.number ps s ns c.in_ok-first-in-Some.first c.in-Some.ensures c.in_ok-first-in-Some.ensures.value refl ∙ ap (λ es. kept_by_all s (map meaning es) ns) c.as_slice-predicates.ensures)
     c.kept_by_all.ensures.value
+
+pub steps::walked-returns-in_err-nodes-clause-value : goal.steps::walked-returns-in_err-nodes-clause-value
+steps::walked-returns-in_err-nodes-clause-value g t c =
+    let given = g.A.Around.given c.args.around.now in
+    let nodes = c.args.forest.now.forest.nodes in
+    let context = c.args.context.now in
+    let steps = c.args.steps.now in
+    let p = err_from_is_err_and c.from_residual-in_err-nodes.result c.from_residual-in_err-nodes.ensures.1 in
+    rw (p.1, p.2) (part-long Memory Long _ _ (walked (setting_at given nodes context) (map walk_of steps) c.args.from) c.in_err-nodes.ensures.value
+    (way-stuck given nodes context steps c.loop-step.step-index c.step-item.result c.loop-step.nodes c.in_ok-start.start c.way_of-way.result _
+    c.loop-step.invariant.left c.loop-step-test.true c.step-item.is c.way_of-way.ensures c.in_ok-start.ensures.value))
+
+pub steps::walked-loop-step-preserved : goal.steps::walked-loop-step-preserved
+steps::walked-loop-step-preserved g t c =
+    let given = g.A.Around.given c.args.around.now in
+    let nodes = c.args.forest.now.forest.nodes in
+    let context = c.args.context.now in
+    record {
+      live = c.in_ok-nodes.ensures.live;
+      left = way-more given nodes context c.args.steps.now c.loop-step.step-index c.step-item.result c.loop-step.nodes c.in_ok-start.start _ c.way_of-way.result _
+          c.loop-step.invariant.left c.loop-step-test.true c.step-item.is c.way_of-way.ensures c.in_ok-start.ensures.value c.in_ok-nodes.ensures.value;
+    }
 
 pub steps::taken-from_one-requires : goal.steps::taken-from_one-requires
 steps::taken-from_one-requires g t c = λ κs h.
@@ -257,7 +280,7 @@ pub steps::taken-ordered-requires-clause-forward : goal.steps::taken-ordered-req
 steps::taken-ordered-requires-clause-forward g t c =
     let s = setting_at (g.A.Around.given c.args.around.now) c.args.forest.now.forest.nodes c.args.context.now in
     let step = c.args.step.now in
-    forward-in_order step.axis step.test (map meaning step.predicates) s c.at.result.number c.in_ok-kept.kept c.args.forest.now c.are_trees.ensures refl c.in_ok-kept.ensures.value
+    forward-in_order c.args.axis step.test (map meaning step.predicates) s c.at.result.number c.in_ok-kept.kept c.args.forest.now c.are_trees.ensures refl c.in_ok-kept.ensures.value
 
 pub steps::taken-returns-in_err-kept-clause-value : goal.steps::taken-returns-in_err-kept-clause-value
 steps::taken-returns-in_err-kept-clause-value g t c =
@@ -267,8 +290,8 @@ steps::taken-returns-in_err-kept-clause-value g t c =
     let one : length c.args.from.now ≡ 1 = sym c.len.ensures ∙ c.if-len-eq1.true in
     let alone = alone-is c.args.from.now c.at.result.number one c.at.ensures in
     let p = err_from_is_err_and c.from_residual.result c.from_residual.ensures.1 in
-    rw (p.1, p.2) (part-long Memory Long _ _ (taken step.axis step.test ms s c.args.from.now) c.in_err-kept.ensures.value
-    (λ h. ap (taken step.axis step.test ms s) alone ∙ taken-none step.axis step.test ms s c.at.result.number h))
+    rw (p.1, p.2) (part-long Memory Long _ _ (taken c.args.axis step.test ms s c.args.from.now) c.in_err-kept.ensures.value
+    (λ h. ap (taken c.args.axis step.test ms s) alone ∙ taken-none c.args.axis step.test ms s c.at.result.number h))
 
 pub steps::taken-returns-then-len-eq1-clause-value : goal.steps::taken-returns-then-len-eq1-clause-value
 steps::taken-returns-then-len-eq1-clause-value g t c =
@@ -277,14 +300,14 @@ steps::taken-returns-then-len-eq1-clause-value g t c =
     let ms = map meaning step.predicates in
     let one : length c.args.from.now ≡ 1 = sym c.len.ensures ∙ c.if-len-eq1.true in
     let alone = alone-is c.args.from.now c.at.result.number one c.at.ensures in
-    ap (taken step.axis step.test ms s) alone ∙ taken-one step.axis step.test ms s c.at.result.number c.in_ok-kept.kept c.in_ok-kept.ensures.value ∙ ap Some (sym c.in_ok-ordered.ensures.value)
+    ap (taken c.args.axis step.test ms s) alone ∙ taken-one c.args.axis step.test ms s c.at.result.number c.in_ok-kept.kept c.in_ok-kept.ensures.value ∙ ap Some (sym c.in_ok-ordered.ensures.value)
 
 pub steps::taken-returns-clause-value : goal.steps::taken-returns-clause-value
 steps::taken-returns-clause-value g t c =
     let nodes = c.args.forest.now.forest.nodes in
     let s = setting_at (g.A.Around.given c.args.around.now) nodes c.args.context.now in
     let step = c.args.step.now in
-    taken-done nodes (from_one step.axis step.test (map meaning step.predicates) s) c.loop-node.found c.in_ok-in_order.field-0 c.args.from.now c.as_slice-node-items.result.now c.loop-node.node-index
+    taken-done nodes (from_one c.args.axis step.test (map meaning step.predicates) s) c.loop-node.found c.in_ok-in_order.field-0 c.args.from.now c.as_slice-node-items.result.now c.loop-node.node-index
     c.as_slice-node-items.ensures c.loop-node.invariant c.loop-node-test.false c.in_ok-in_order.ensures
 
 pub steps::taken-returns-clause-live : goal.steps::taken-returns-clause-live

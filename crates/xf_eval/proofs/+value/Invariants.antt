@@ -20,7 +20,7 @@ invariant-steps::walked-loop-step g l =
 abbrev pub invariant-steps::taken-loop-node : goal.invariant-steps::taken-loop-node
 invariant-steps::taken-loop-node g l =
     let s = setting_at (g.A.Around.given l.around) l.forest.forest.nodes l.context in
-    let one = from_one l.step.axis l.step.test (map meaning l.step.predicates) s in
+    let one = from_one l.axis l.step.test (map meaning l.step.predicates) s in
     option_map (λ sets. l.found ++ joined sets) (each one (map (λ n. n.number) (drop l.node-index l.node-items))) ≡ option_map joined (each one (map (λ n. n.number) l.node-items))
 
 abbrev pub invariant-steps::kept_by_all-loop-at : goal.invariant-steps::kept_by_all-loop-at
