@@ -7,7 +7,7 @@ use Rattle.xf_plain_values.specs.declared.plain.Plain.{Plain}
 use Rattle.xf_plain_values.specs.declared.plain.Plain.TheVariants as plain
 use Rattle.xf_lang.specs.declared.value.Value.{Value}
 use Rattle.xf_lang.specs.declared.value.Value.TheVariants.{Nodes, Text, Number, Truth}
-use Rattle.xf_lang.specs.Setting.{◌>>=◌, each}
+use Rattle.xf_lang.specs.Setting.{◌>>=◌}
 use Rattle.xf_lang.specs.Conversions.{strings_of}
 use Rattle.xf_lang.specs.Comparisons.{compared, holds, pairs_hold, plains_of, some_pair}
 use Rattle.xf_eval.specs.declared.compare.Side.{Side}

@@ -1,5 +1,5 @@
 -- One side of a comparison beside others (XPath 1.0, section 3.4): a plain value, its text lent or made.
-use Rattle.std.specs.Prelude.{ℕ, Bool, true, false, List, Option, Some, map}
+use Rattle.std.specs.Prelude.{ℕ, Bool, true, false, List, Option, Some}
 use Rattle.std.specs.List.{list_any}
 use Rattle.xf_ast.specs.declared.expr.Operator.{Operator}
 use Rattle.xf_plain_values.specs.declared.plain.Plain.{Plain}

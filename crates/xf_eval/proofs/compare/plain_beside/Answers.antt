@@ -1,4 +1,4 @@
-use Rattle.std.proofs.Common.{Some, false, ◌∷◌, [], map, sym, ap, ◌∙◌}
+use Rattle.std.proofs.Common.{Some, false, sym, ap, ◌∙◌}
 use Rattle.xf_plain_values.specs.declared.plain.Plain.TheVariants as plain
 use Rattle.xf_lang.specs.declared.fault.EvalFault.TheVariants.{Long, Memory}
 use Rattle.xf_lang.specs.Comparisons.{plains_of}
