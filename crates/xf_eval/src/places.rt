@@ -25,7 +25,7 @@ use xf_tree::Forest;
 const ONE: u64 = 1_000_000;
 
 /// The number that the first predicate is, where it is a literal.
-pub(crate) fn number_first(predicates: &[Expr]) -> Option<Num>
+pub fn number_first(predicates: &[Expr]) -> Option<Num>
     ensures { IfSome result (λ number. BeginsWith number predicates.now) }
 {
     match predicates.first() {
@@ -75,7 +75,7 @@ pub(crate) fn placed(alloc: Global, nodes: &NodeList, number: Num) -> Result<Nod
 }
 
 /// The same of what the axis and the test select from a node, of which the walk goes no further than there.
-pub(crate) fn reached_placed(
+pub fn reached_placed(
     alloc: Global,
     forest: &Forest,
     node: NodeId,
