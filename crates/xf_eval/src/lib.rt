@@ -22,7 +22,7 @@ pub use convert::{number_of, text_of, truth_of};
 pub use expression::{evaluate, value_at};
 pub use kinds::{Kind, kind_of};
 pub use node_test::meets;
-pub use places::{number_first, reached_placed};
+pub use places::{number_first, position_of, reached_placed};
 pub use sets::{append, nodes_in, reached, single};
 pub use steps::is_true_at;
 pub use xf_lang::{Context, EvalFault, Value};

@@ -35,7 +35,7 @@ pub fn number_first(predicates: &[Expr]) -> Option<Num>
 }
 
 /// The position that a number is, from 1; 0 where it is none.
-pub(crate) fn position_of(number: Num) -> usize
+pub fn position_of(number: Num) -> usize
     ensures { IsPosition number result }
 {
     let place = wholes_in(number);
