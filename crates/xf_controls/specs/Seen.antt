@@ -3,16 +3,12 @@ use Rattle.std.specs.Prelude.{ℕ, Bool, ◌&&◌, List, Option, Some, None, opt
 use Rattle.xf_doc.specs.declared.content.Node.{Node}
 use Rattle.xf_doc.specs.declared.node.NodeId.{NodeId}
 use Rattle.xf_lang.specs.Binding.{as_list}
-use Rattle.xf_lang.specs.Meaning.{meaning}
 use Rattle.xf_eval.specs.Live.{AllLive}
-use Rattle.xf_ui.specs.Interface as ui
 use Rattle.xf_ui.specs.Context as context
 use Rattle.xf_ui.specs.Copies as copies
 use Rattle.xf_ui.specs.Around.{alone}
 use Rattle.xf_ui.specs.Notifications as told
 use Rattle.xf_controls.specs.declared.copy.ControlCopy.{ControlCopy}
-use Rattle.xf_controls.specs.declared.binding.Bound.{Bound}
-use Rattle.xf_controls.specs.declared.binding.Bound.TheVariants as bound
 use Rattle.xf_controls.specs.declared.handed.Place.{Place}
 use Rattle.xf_controls.specs.declared.handed.Place.TheVariants as place
 use Rattle.xf_controls.specs.declared.handed.Handed.{Handed}
@@ -44,11 +40,6 @@ abbrev pub seen_notification : Notification → told.Notification
 seen_notification n = record { name = n.name.now; target = n.target; rows = n.rows }
 
 -- ---- surroundings
-
-abbrev pub seen_bound : Bound → ui.Bound
-seen_bound bound.Unbound = ui.unbound
-seen_bound (bound.Nodes expr) = ui.nodes (meaning expr.now)
-seen_bound (bound.ByBind k) = ui.by_bind k
 
 abbrev pub seen_place : Place → context.Place
 seen_place place.Free = context.free

@@ -1,6 +1,6 @@
-//! What an element binds (XForms 1.1, sections 3.2.3 and 3.2.4).
+//! The node that an element binds (XForms 1.1, sections 3.2.3 and 3.2.4).
 
-ghost use Rattle.std.specs.Prelude.{◌≡◌, IfOk, map, option_map, slice_get, unwrap_or};
+ghost use Rattle.std.specs.Prelude.{◌≡◌, IfOk, map, option_map};
 ghost use Rattle.xf_plain_values.specs.Bounded.{GivesBounded};
 ghost use Rattle.xf_name.specs.declared.axis.Axis.TheVariants.{Child};
 ghost use Rattle.xf_doc.specs.Axis.{axis_of};
@@ -10,56 +10,19 @@ ghost use Rattle.xf_lang.specs.Meaning.{meaning};
 ghost use Rattle.xf_eval.specs.Live.{AroundStands};
 ghost use Rattle.xf_nested.specs.StandIns.{stand_ins_of};
 ghost use Rattle.xf_ui.specs.Around.{alone, first_bound};
-ghost use Rattle.xf_ui.specs.Context.{named_model};
-ghost use Rattle.xf_ui.specs.Interface.{binding_of, interface_of, sent_of};
+ghost use Rattle.xf_elements.specs.Bound.{seen_bound};
 ghost use Rattle.xf_controls.specs.Below as below;
-ghost use Rattle.xf_controls.specs.Seen.{IsThere, number, seen_bound};
+ghost use Rattle.xf_controls.specs.Seen.{IsThere, number};
 ghost use Rattle.xf_controls.specs.Surrounded.{around_in, first_from};
 
 use std::alloc::Global;
-use xf_ast::{Binding, Element, Expr, Form, Kind, Selection, Tables};
+use xf_ast::{Expr, Tables};
 use xf_doc::{Kind as NodeKind, NodeId};
+use xf_elements::Bound;
 use xf_eval::{Around, Context, EvalFault, nodes_in, value_at};
 use xf_name::Axis;
 use xf_nested::nested;
 use xf_tree::Forest;
-
-/// What an element binds.
-#[derive(Clone, Copy)]
-pub(crate) enum Bound<'a> {
-    Unbound,
-    /// The nodes that an expression selects.
-    Nodes(&'a Expr),
-    /// Those of the bind of this number.
-    ByBind(u32),
-}
-
-/// What an element binds: a submission, what it selects.
-pub(crate) fn binding_of<'a>(tables: &'a Tables, element: &'a Element) -> Bound<'a>
-    ensures { seen_bound result ≡ binding_of tables.now element.now.kind element.now.binding }
-{
-    match &element.kind {
-        Kind::Submission(submission) => sent_by(tables, *submission),
-        _ => match &element.binding {
-            Binding::Absent => Bound::Unbound,
-            Binding::Nodes(expr) => Bound::Nodes(expr),
-            Binding::Bind(bind) => Bound::ByBind(*bind),
-        },
-    }
-}
-
-fn sent_by(tables: &Tables, submission: u32) -> Bound<'_>
-    ensures { seen_bound result ≡ sent_of (slice_get tables.now.submissions submission) }
-{
-    match tables.submissions.as_slice().get(submission as usize) {
-        Some(submission) => match &submission.selection {
-            Selection::Whole => Bound::Unbound,
-            Selection::Ref(expr) => Bound::Nodes(expr),
-            Selection::Bind(bind) => Bound::ByBind(*bind),
-        },
-        None => Bound::Unbound,
-    }
-}
 
 pub(crate) fn is_bound(binding: Bound<'_>) -> bool
     ensures { result ≡ below.is_bound (seen_bound binding.entry) }
@@ -67,22 +30,6 @@ pub(crate) fn is_bound(binding: Bound<'_>) -> bool
     match binding {
         Bound::Unbound => false,
         _ => true,
-    }
-}
-
-/// The model in scope: that of its bind, else that of `model`, else that of the element around.
-pub(crate) fn scope_of(form: &Form, outer: u32, binding: Bound<'_>, model: Option<u32>) -> u32
-    ensures { result ≡ unwrap_or (named_model (interface_of form.now) (seen_bound binding.entry) model) outer }
-{
-    match binding {
-        Bound::ByBind(bind) => match form.tables.binds.as_slice().get(bind as usize) {
-            Some(bind) => bind.model,
-            None => outer,
-        },
-        _ => match model {
-            Some(model) => model,
-            None => outer,
-        },
     }
 }
 

@@ -1,6 +1,6 @@
 //! The elements of a form.
 
-ghost use Rattle.std.specs.Prelude.{◌≡◌, map, option_map, slice_get};
+ghost use Rattle.std.specs.Prelude.{◌≡◌, map, option_map};
 ghost use Rattle.std.specs.List.{flat_map, list_all};
 ghost use Rattle.xf_ast.specs.Ordered.{child_in, is_parent, numbered_from};
 ghost use Rattle.xf_lang.specs.Meaning.{meaning};
@@ -11,6 +11,7 @@ ghost use Rattle.xf_controls.specs.Handed.{printed_in};
 ghost use Rattle.xf_controls.specs.Plain.{are_children, is_plain, is_plain_sort, is_top, stands_plainly};
 
 use xf_ast::{Control, Element, Expr, Form, Kind, Part};
+use xf_elements::element_in;
 
 /// Whether each control and container of the form has one copy: no element of it is a repeat, a switch, a case or a select. It also sees
 /// that each element stands where its parent says.
@@ -106,13 +107,6 @@ fn is_plain_kind(kind: &Kind) -> bool
         },
         _ => true,
     }
-}
-
-/// The element of a number.
-pub(crate) fn element_in(form: &Form, element: u32) -> Option<&Element>
-    ensures { option_map (λ e. e.now) result ≡ slice_get form.now.elements element }
-{
-    form.elements.as_slice().get(element as usize)
 }
 
 pub(crate) fn is_control(kind: &Kind) -> bool

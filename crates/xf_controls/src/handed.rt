@@ -6,14 +6,15 @@ ghost use Rattle.xf_eval.specs.Live.{AroundStands};
 ghost use Rattle.xf_ui.specs.Around.{alone};
 ghost use Rattle.xf_ui.specs.Context as context;
 ghost use Rattle.xf_ui.specs.Interface.{sort_of};
+ghost use Rattle.xf_elements.specs.Bound.{seen_bound};
 ghost use Rattle.xf_controls.specs.Handed.{first_handed, place_below, place_for};
 ghost use Rattle.xf_controls.specs.declared.handed.Place.TheVariants.{Free};
-ghost use Rattle.xf_controls.specs.Seen.{IsThere, node_of_place, number, seen_bound, seen_handed, seen_place};
+ghost use Rattle.xf_controls.specs.Seen.{IsThere, node_of_place, number, seen_handed, seen_place};
 ghost use Rattle.xf_controls.specs.Surrounded.{around_in};
 
-use crate::binding::Bound;
 use xf_ast::{Kind, Tables};
 use xf_doc::NodeId;
+use xf_elements::Bound;
 use xf_eval::Around;
 use xf_tree::Forest;
 

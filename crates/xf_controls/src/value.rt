@@ -9,14 +9,16 @@ ghost use Rattle.xf_eval.specs.Live.{AroundStands};
 ghost use Rattle.xf_ui.specs.Around.{alone};
 ghost use Rattle.xf_ui.specs.Copies as copies;
 ghost use Rattle.xf_ui.specs.Interface.{sort_of};
-ghost use Rattle.xf_controls.specs.Seen.{IsThere, number, seen_bound};
+ghost use Rattle.xf_elements.specs.Bound.{seen_bound};
+ghost use Rattle.xf_controls.specs.Seen.{IsThere, number};
 ghost use Rattle.xf_controls.specs.Surrounded.{around_in, printed_from, string_in};
 
-use crate::binding::{Bound, context_at};
+use crate::binding::context_at;
 use crate::element::printed_in;
 use std::alloc::Global;
 use xf_ast::{Expr, Kind, Tables};
 use xf_doc::NodeId;
+use xf_elements::Bound;
 use xf_eval::{Around, EvalFault, text_of, value_at};
 use xf_name::Word;
 use xf_tree::Forest;

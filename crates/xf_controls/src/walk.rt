@@ -16,9 +16,9 @@ ghost use Rattle.xf_controls.specs.Seen.{IsThere, node_of_place, number, seen_co
 ghost use Rattle.xf_controls.specs.Surrounded.{IsQuiet, around_in};
 ghost use Rattle.xf_ui.specs.Elements.{is_control};
 
-use crate::binding::{binding_of, is_bound, scope_of};
+use crate::binding::is_bound;
 use crate::copy::{ControlCopy, ControlList};
-use crate::element::{element_in, is_control, some_shown};
+use crate::element::{is_control, some_shown};
 use crate::handed::{Handed, focus_in, nothing_around};
 use crate::over::{Found, Over, both, found_at, handed_by};
 use crate::value::value_of;
@@ -26,6 +26,7 @@ use std::alloc::Global;
 use xf_ast::{Element, Form, Part};
 use xf_base::Items;
 use xf_doc::NodeList;
+use xf_elements::{binding_of, element_in, scope_of};
 use xf_eval::{Around, EvalFault};
 use xf_tree::Forest;
 use xf_ui::NodeMarks;

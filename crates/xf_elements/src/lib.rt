@@ -14,4 +14,4 @@ pub use bindings::{Bound, binding_of};
 pub use element::{element_in, parent_of};
 pub use handlers::handlers_at;
 pub use names::{Names, element_named, names_of};
-pub use scope::model_at;
+pub use scope::{model_at, scope_of};

@@ -38,12 +38,14 @@ fn model_in(form: &Form, outer: u32, element: u32) -> u32
     ensures { result ≡ scope_of (interface_of form.now) outer (element_at (interface_of form.now) element) }
 {
     match element_in(form, element) {
-        Some(here) => named_or(form, outer, binding_of(&form.tables, here), here.model),
+        Some(here) => scope_of(form, outer, binding_of(&form.tables, here), here.model),
         None => outer,
     }
 }
 
-fn named_or(form: &Form, outer: u32, binding: Bound<'_>, model: Option<u32>) -> u32
+/// The model in scope at an element that binds this and names this model, inside one: that of its bind, else that of `model`, else that of
+/// the element around.
+pub fn scope_of(form: &Form, outer: u32, binding: Bound<'_>, model: Option<u32>) -> u32
     ensures { result ≡ unwrap_or (named_model (interface_of form.now) (seen_bound binding.entry) model) outer }
 {
     match binding {

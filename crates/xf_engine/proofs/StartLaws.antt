@@ -25,7 +25,7 @@ use Rattle.xf_work.specs.Parts.{IsLoaded}
 use Rattle.xf_work.specs.Planting.{IsPlanted, planted_by}
 use Rattle.xf_work.specs.Standing.{Standing, state_of}
 use Rattle.xf_engine.specs.Stepped.{IsFromBytes, begun}
-use Rattle.xf_engine.specs.Started.{Builds, all_built, told_quietly}
+use Rattle.xf_engine.specs.Started.{Builds, all_built, built_and_shown, told_quietly}
 use Rattle.xf_engine.proofs.Flow.{Means, means-then, same-means, then-next}
 use Rattle.xf_engine.proofs.FormFaults.{construct-fault}
 use Rattle.xf_engine.proofs.SetLaws.{steps}
@@ -59,11 +59,7 @@ loaded-quietly l b = loaded-quiet b.0 l b.1
 pub loaded-whole : (l : Loaded) → IsFromBytes l → IsLoaded l
 loaded-whole l b = record { bytes = b.0; read = b.1; plain = loaded-plain b.0 l b.1 }
 
-built-and-shown : State → Result State Refused
-built-and-shown s = all_built profile s >>= first_shown profile
-
-constructed-as : (l : Loaded) → IsFromBytes l → construct profile (program_in l) (Some []) ≡ planted_by l >>= built-and-shown
-unfolding built-and-shown
+constructed-as : (l : Loaded) → IsFromBytes l → construct profile (program_in l) (Some []) ≡ planted_by l >>= built_and_shown profile
 constructed-as l b = constructs_quietly profile (program_in l) (Some []) steps (loaded-quietly l b)
 
 -- what a fault of a step means of the whole
@@ -72,51 +68,54 @@ stops l (fault.Refused refusal) b m = (m, construct-fault profile (program_in l)
 stops l fault.Memory b m = tt
 
 unplanted : (l : Loaded) (e : WorkFault) → IsFromBytes l → Means e (planted_by l) → Builds (Err e) (construct profile (program_in l) (Some []))
-unplanted l e b m = stops l e b (same-means e _ _ (constructed-as l b) (means-then e (planted_by l) built-and-shown m))
+unplanted l e b m = stops l e b (same-means e _ _ (constructed-as l b) (means-then e (planted_by l) (built_and_shown profile) m))
 
 pub planting-stops : (l : Loaded) (e : WorkFault) → IsFromBytes l → IsPlanted (Err e) (planted_by l) → Builds (Err e) (construct profile (program_in l) (Some []))
 planting-stops l (fault.Refused refusal) b m = unplanted l (fault.Refused refusal) b m
 planting-stops l fault.Memory b m = tt
 
-unbuilt-models : (l : Loaded) (e : WorkFault) (s : State) → IsFromBytes l → planted_by l ≡ Ok s → Means e (all_built profile s)
-    → Builds (Err e) (construct profile (program_in l) (Some []))
-unfolding built-and-shown
-unbuilt-models l e s b p m =
-    stops l e b
-    (same-means e _ _ (constructed-as l b ∙ then-next (planted_by l) built-and-shown s p) (means-then e (all_built profile s) (first_shown profile) m))
+-- ---- what follows the planting
 
-pub building-stops : (l : Loaded) (e : WorkFault) (s after : Standing) → IsFromBytes l → planted_by l ≡ Ok (state_of s)
-    → Does {X = Unit {0}} (Err e) after (all_built profile (state_of s)) → Builds (Err e) (construct profile (program_in l) (Some []))
-building-stops l (fault.Refused refusal) s after b p d = unbuilt-models l (fault.Refused refusal) (state_of s) b p d
-building-stops l fault.Memory s after b p d = tt
+unbuilt : (e : WorkFault) (s : State) → Means e (all_built profile s) → Means e (built_and_shown profile s)
+unbuilt e s m = means-then e (all_built profile s) (first_shown profile) m
 
-shown-after : (l : Loaded) (s t : State) → IsFromBytes l → planted_by l ≡ Ok s → all_built profile s ≡ Ok t
-    → construct profile (program_in l) (Some []) ≡ first_shown profile t
-unfolding built-and-shown
-shown-after l s t b p e = constructed-as l b ∙ then-next (planted_by l) built-and-shown s p ∙ then-next (all_built profile s) (first_shown profile) t e
+pub build-stops : (e : WorkFault) (s mid after : Standing) → Does {X = Unit {0}} (Err e) mid (all_built profile (state_of s)) → Does {X = Unit {0}} (Err e) after (built_and_shown profile (state_of s))
+build-stops (fault.Refused refusal) s mid after d = unbuilt (fault.Refused refusal) (state_of s) d
+build-stops fault.Memory s mid after d = tt
 
-unshown : (l : Loaded) (e : WorkFault) (s t : State) → IsFromBytes l → planted_by l ≡ Ok s → all_built profile s ≡ Ok t → Means e (shown profile t)
-    → Builds (Err e) (construct profile (program_in l) (Some []))
-unshown l e s t b p q m =
-    stops l e b (same-means e _ _ (shown-after l s t b p q) (means-then e (shown profile t) (λ list. Ok (record t { controls = list })) m))
+unshown : (e : WorkFault) (s t : State) → all_built profile s ≡ Ok t → Means e (shown profile t) → Means e (built_and_shown profile s)
+unshown e s t q m = same-means e _ _ (then-next (all_built profile s) (first_shown profile) t q) (means-then e (shown profile t) (λ list. Ok (record t { controls = list })) m)
 
-pub showing-stops : (l : Loaded) (e : WorkFault) (s t : Standing) → IsFromBytes l → planted_by l ≡ Ok (state_of s) → all_built profile (state_of s) ≡ Ok (state_of t)
-    → Finds {X = List ControlCopy} (map seen_copy) (Err e) (shown profile (state_of t)) → Builds (Err e) (construct profile (program_in l) (Some []))
-showing-stops l (fault.Refused refusal) s t b p q d = unshown l (fault.Refused refusal) (state_of s) (state_of t) b p q d
-showing-stops l fault.Memory s t b p q d = tt
+pub show-stops : (e : WorkFault) (s mid after : Standing) → all_built profile (state_of s) ≡ Ok (state_of mid)
+    → Finds {X = List ControlCopy} (map seen_copy) (Err e) (shown profile (state_of mid)) → Does {X = Unit {0}} (Err e) after (built_and_shown profile (state_of s))
+show-stops (fault.Refused refusal) s mid after q d = unshown (fault.Refused refusal) (state_of s) (state_of mid) q d
+show-stops fault.Memory s mid after q d = tt
+
+pub begins : (s mid after : Standing) (list : List Copy) → all_built profile (state_of s) ≡ Ok (state_of mid) → shown profile (state_of mid) ≡ Ok list → after ≡ record mid { controls = list }
+    → built_and_shown profile (state_of s) ≡ Ok (state_of after)
+begins s mid after list q r e =
+    then-next (all_built profile (state_of s)) (first_shown profile) (state_of mid) q
+    ∙ then-next (shown profile (state_of mid)) (λ list. Ok (record (state_of mid) { controls = list })) list r
+    ∙ ap (λ (x : Standing). fine (state_of x)) (sym e)
+
+-- ---- the whole
+
+unbegun : (l : Loaded) (e : WorkFault) (s : State) → IsFromBytes l → planted_by l ≡ Ok s → Means e (built_and_shown profile s) → Builds (Err e) (construct profile (program_in l) (Some []))
+unbegun l e s b p m = stops l e b (same-means e _ _ (constructed-as l b ∙ then-next (planted_by l) (built_and_shown profile) s p) m)
+
+pub beginning-stops : (l : Loaded) (e : WorkFault) (s after : Standing) → IsFromBytes l → planted_by l ≡ Ok (state_of s)
+    → Does {X = Unit {0}} (Err e) after (built_and_shown profile (state_of s)) → Builds (Err e) (construct profile (program_in l) (Some []))
+beginning-stops l (fault.Refused refusal) s after b p d = unbegun l (fault.Refused refusal) (state_of s) b p d
+beginning-stops l fault.Memory s after b p d = tt
 
 -- where all steps are done, it is constructed, and nothing is due
-pub constructs : (l : Loaded) (s t : Standing) (list : List Copy) (w : Twin) → IsFromBytes l → planted_by l ≡ Ok (state_of s) → all_built profile (state_of s) ≡ Ok (state_of t)
-    → shown profile (state_of t) ≡ Ok list → w.now ≡ record t { controls = list } → length t.models ≤ w.built
-    → Builds (Ok w) (construct profile (program_in l) (Some []))
-constructs l s t list w b p q r e k =
-    let is : construct profile (program_in l) (Some []) ≡ Ok (state_of w.now) =
-    shown-after l (state_of s) (state_of t) b p q
-    ∙ then-next (shown profile (state_of t)) (λ list. Ok (record (state_of t) { controls = list })) list r
-    ∙ ap (λ (x : Standing). fine (state_of x)) (sym e) in
-    let rests = constructed-rests profile (program_in l) (Some []) (loaded-quietly l b) (state_of w.now)
-    (sym (constructs_quietly profile (program_in l) (Some []) steps (loaded-quietly l b)) ∙ is) in
-    record { is = is; ready = record { built = subst (λ (x : Standing). length x.models ≤ w.built) (sym e) k; rests = rests.1 } }
+pub constructs : (l : Loaded) (s : Standing) (w : Twin) → IsFromBytes l → planted_by l ≡ Ok (state_of s) → built_and_shown profile (state_of s) ≡ Ok (state_of w.now)
+    → length w.now.models ≤ w.built → Builds (Ok w) (construct profile (program_in l) (Some []))
+constructs l s w b p q k =
+    let quietly = constructs_quietly profile (program_in l) (Some []) steps (loaded-quietly l b) in
+    let is : construct profile (program_in l) (Some []) ≡ Ok (state_of w.now) = constructed-as l b ∙ then-next (planted_by l) (built_and_shown profile) (state_of s) p ∙ q in
+    let rests = constructed-rests profile (program_in l) (Some []) (loaded-quietly l b) (state_of w.now) (sym quietly ∙ is) in
+    record { is = is; ready = record { built = k; rests = rests.1 } }
 
 -- ---- the start
 

@@ -6,7 +6,7 @@ use Rattle.xf_form_machine.specs.Refusal.{Refused}
 use Rattle.xf_form_machine.specs.Flow.{Run, ◌>>=◌, in_turn}
 use Rattle.xf_form_machine.specs.Cycles.{counted_from}
 use Rattle.xf_form_machine.specs.Behave.{no_flags}
-use Rattle.xf_form_machine.specs.Construct.{build_model}
+use Rattle.xf_form_machine.specs.Construct.{build_model, first_shown}
 use Rattle.xf_machine_laws.specs.Quiet.{spend_by_model}
 use Rattle.xf_model.specs.Pertinent.{AllOf}
 use Rattle.xf_work.specs.declared.fault.WorkFault.{WorkFault}
@@ -18,6 +18,10 @@ use Rattle.xf_engine.specs.Stepped.{is_of_form}
 -- the models one after the other
 abbrev pub all_built : Profile → Run
 all_built p s = in_turn (build_model p) (counted_from 0 (length s.models)) s
+
+-- then the controls are shown
+abbrev pub built_and_shown : Profile → Run
+built_and_shown p s = all_built p s >>= first_shown p
 
 -- each model three times
 abbrev pub told_quietly : Run

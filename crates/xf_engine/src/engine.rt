@@ -79,9 +79,16 @@ impl Constructed {
         let alloc = self.alloc;
         let mut work = self.work;
         work.quiet();
-        tell_models(&mut work)?;
-        work.commit();
-        Ok(Engine { alloc, work })
+        match tell_models(&mut work) {
+            Ok(()) => {
+                work.commit();
+                Ok(Engine { alloc, work })
+            }
+            Err(fault) => {
+                work.discard();
+                Err(fault)
+            }
+        }
     }
 }
 

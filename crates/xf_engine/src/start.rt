@@ -6,7 +6,7 @@ ghost use Rattle.xf_machine_laws.specs.Quiet.{spend_by_model};
 ghost use Rattle.xf_work.specs.Documents.{program_in};
 ghost use Rattle.xf_work.specs.Does.{Does, profile};
 ghost use Rattle.xf_work.specs.Standing.{state_of};
-ghost use Rattle.xf_engine.specs.Started.{Builds, all_built, told_quietly};
+ghost use Rattle.xf_engine.specs.Started.{Builds, all_built, built_and_shown, told_quietly};
 ghost use Rattle.xf_engine.specs.Stepped.{IsFromBytes};
 
 use crate::updates::spend_times;
@@ -20,10 +20,26 @@ pub(crate) fn constructed(alloc: Global, loaded: Loaded) -> Result<Work, WorkFau
     ensures { Builds result (constructs profile (program_in loaded) (Some [])) }
 {
     let mut work = planted(alloc, loaded)?;
-    build(&mut work)?;
+    match begin(&mut work) {
+        Ok(()) => Ok(work),
+        Err(fault) => {
+            // (its parts are dropped there, not in each function that has one)
+            work.discard();
+            Err(fault)
+        }
+    }
+}
+
+/// Its models are built and its controls shown.
+fn begin(work: &mut Work) -> Result<(), WorkFault>
+    requires { work.old.built ≡ 0 }
+    ensures done { Does result work.new.now (built_and_shown profile (state_of work.old.now)) }
+    ensures built { OnOk result (length work.new.now.models ≤ work.new.built) }
+{
+    build(work)?;
     let list = work.shown()?;
     work.take_controls(list);
-    Ok(work)
+    Ok(())
 }
 
 /// The models one after the other.

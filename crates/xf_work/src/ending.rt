@@ -1,6 +1,6 @@
 //! The end of an event: what stands is kept, or what was kept stands again.
 
-ghost use Rattle.std.specs.Prelude.{◌≡◌, ◌+◌, None, length, OnOk};
+ghost use Rattle.std.specs.Prelude.{◌≡◌, ◌+◌, None, length, OnOk, IfErr};
 ghost use Rattle.xf_work.specs.Does.{IsKept};
 ghost use Rattle.xf_work.specs.Parts.{kept_or};
 
@@ -14,6 +14,7 @@ impl Work {
         ensures now { OnOk result (self.new.now ≡ record self.old.now { accepted = self.old.now.accepted + 1 }) }
         ensures kept { self.new.kept ≡ self.old.kept }
         ensures built { self.new.built ≡ self.old.built }
+        ensures fault { IfErr result (λ fault. fault ≡ WorkFault.Memory) }
     {
         match self.tally.counted() {
             Some(tally) => {
@@ -23,6 +24,9 @@ impl Work {
             None => Err(WorkFault::Memory),
         }
     }
+
+    /// Gives up what stands and what was kept.
+    pub fn discard(self) {}
 
     /// Keeps what stands: detached trees are dropped, and the next event has a whole budget. Takes no memory.
     pub fn commit(&mut self)
