@@ -13,8 +13,8 @@ returns-in-Nothing c =
 
 pub returns-in-Told : goal.returns-in-Told
 returns-in-Told c =
-    only-since c.args.self.now.stood c.self.inside.present.held c.self.inside.stood c.self.inside.since c.self.inside.present.held (entry_of c.args.entry.now) (option_map entry_of c.only-in-Told.result)
-    (ap (λ (k : Kept). k.stood) c.self.view_is) (ap (λ s. entries_in (stood_since c.self.inside.present.held c.self.inside.stood s)) c.in-Told.is ∙ entries-told (entries_in c.self.inside.present.held) c.in-Told.field-0) c.requires c.only-in-Told.ensures
+    only-since c.args.self.now.stood c.self.inside.present.held c.self.inside.stood c.self.inside.since c.applied.result.now (entry_of c.args.entry.now) (option_map entry_of c.only-in-Told.result)
+    (ap (λ (k : Kept). k.stood) c.self.view_is) (ap (λ s. entries_in (stood_since c.self.inside.present.held c.self.inside.stood s)) c.in-Told.is ∙ entries-told (entries_in c.self.inside.present.held) c.in-Told.field-0 ∙ ap entries_in (sym c.applied.ensures)) c.requires c.only-in-Told.ensures
 
 pub returns-in-Built : goal.returns-in-Built
 returns-in-Built c =
@@ -23,13 +23,13 @@ returns-in-Built c =
 
 pub returns-in-ToldBuilt : goal.returns-in-ToldBuilt
 returns-in-ToldBuilt c =
-    only-since c.args.self.now.stood c.self.inside.present.held c.self.inside.stood c.self.inside.since c.self.inside.present.held (entry_of c.args.entry.now) (option_map entry_of c.only-in-ToldBuilt.result)
-    (ap (λ (k : Kept). k.stood) c.self.view_is) (ap (λ s. entries_in (stood_since c.self.inside.present.held c.self.inside.stood s)) c.in-ToldBuilt.is ∙ entries-told (entries_in c.self.inside.present.held) c.in-ToldBuilt.field-0) c.requires c.only-in-ToldBuilt.ensures
+    only-since c.args.self.now.stood c.self.inside.present.held c.self.inside.stood c.self.inside.since c.applied-in-ToldBuilt.result.now (entry_of c.args.entry.now) (option_map entry_of c.only-in-ToldBuilt.result)
+    (ap (λ (k : Kept). k.stood) c.self.view_is) (ap (λ s. entries_in (stood_since c.self.inside.present.held c.self.inside.stood s)) c.in-ToldBuilt.is ∙ entries-told (entries_in c.self.inside.present.held) c.in-ToldBuilt.field-0 ∙ ap entries_in (sym c.applied-in-ToldBuilt.ensures)) c.requires c.only-in-ToldBuilt.ensures
 
 pub returns-in-BuiltTold : goal.returns-in-BuiltTold
 returns-in-BuiltTold c =
-    only-since c.args.self.now.stood c.self.inside.present.held c.self.inside.stood c.self.inside.since c.in-BuiltTold.now (entry_of c.args.entry.now) (option_map entry_of c.only-in-BuiltTold.result)
-    (ap (λ (k : Kept). k.stood) c.self.view_is) (ap (λ s. entries_in (stood_since c.self.inside.present.held c.self.inside.stood s)) c.in-BuiltTold.is) c.requires c.only-in-BuiltTold.ensures
+    only-since c.args.self.now.stood c.self.inside.present.held c.self.inside.stood c.self.inside.since c.applied-in-BuiltTold.result.now (entry_of c.args.entry.now) (option_map entry_of c.only-in-BuiltTold.result)
+    (ap (λ (k : Kept). k.stood) c.self.view_is) (ap (λ s. entries_in (stood_since c.self.inside.present.held c.self.inside.stood s)) c.in-BuiltTold.is ∙ ap entries_in (sym c.applied-in-BuiltTold.ensures)) c.requires c.only-in-BuiltTold.ensures
 
 pub returns-in-Past : goal.returns-in-Past
 returns-in-Past c =
