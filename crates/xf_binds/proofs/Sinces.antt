@@ -7,33 +7,33 @@ use Rattle.xf_binds.specs.declared.web.Asks.{Asks}
 use Rattle.xf_binds.specs.declared.kept.Since.{Since}
 use Rattle.xf_binds.specs.declared.kept.Since.TheVariants.{Nothing, Told, Built, ToldBuilt, BuiltTold, Past}
 use Rattle.xf_binds.specs.Held.{Held, entries_in, held_by}
-use Rattle.xf_binds.specs.Kept.{Kept, Was, committed, recalculated, stood_of, valued_in}
+use Rattle.xf_binds.specs.Kept.{Entered, Kept, Was, committed, recalculated, stood_of, told_of, valued_in}
 use Rattle.xf_binds.specs.Since.{built_more, kept_of, told_more, was_of}
 use Rattle.xf_binds.proofs.Tellings.{entries-told}
 
-module _ (present : List Held) (asks : List Asks) (stood : Option (List Held)) (invalid : List ℕ) (checked : Option (List ℕ)) (texts lists late_texts late_lists : List ℕ) (w : Was) where
+module _ (present : Entered) (stood : Option (List Held)) (invalid : List ℕ) (checked : Option (List ℕ)) (texts lists late_texts late_lists : List ℕ) (w : Was) where
   abbrev kept : Since → Kept
-  kept since = kept_of present asks stood invalid checked texts lists late_texts late_lists since w
+  kept since = kept_of present stood invalid checked texts lists late_texts late_lists since w
 
-  pub rebuilt-is : (now : List Held) (web : List Asks) (since : Since) → kept (built_more now web since) ≡ record (kept since) { entries = entries_in now; asks = web }
-  rebuilt-is now web Nothing = refl
-  rebuilt-is now web (Told truths) = refl
-  rebuilt-is now web (Built old old_web) = refl
-  rebuilt-is now web (ToldBuilt truths old old_web) = refl
-  rebuilt-is now web (BuiltTold old old_web) = refl
-  rebuilt-is now web (Past old old_web past) = refl
+  pub rebuilt-is : (now : Entered) (since : Since) → kept (built_more now since) ≡ record (kept since) { entries = entries_in now.held; asks = now.asks }
+  rebuilt-is now Nothing = refl
+  rebuilt-is now (Told truths) = refl
+  rebuilt-is now (Built old) = refl
+  rebuilt-is now (ToldBuilt truths old) = refl
+  rebuilt-is now (BuiltTold old) = refl
+  rebuilt-is now (Past old past) = refl
 
-  told-entries : (now : List Held) (web : List Asks) (truths : List (Option Bool)) → kept_of present asks stood invalid checked texts lists [] [] (BuiltTold (held_by (entries_in now) truths) web) w
-      ≡ record { entries = entries_in now; asks = web; stood = valued_in (held_by (entries_in now) truths); invalid = unwrap_or checked invalid; texts = []; lists = []; before = w }
-  told-entries now web truths = ap (λ es. record { entries = es; asks = web; stood = valued_in (held_by (entries_in now) truths); invalid = unwrap_or checked invalid; texts = []; lists = []; before = w }) (entries-told (entries_in now) truths)
+  told-entries : (now : Entered) (truths : List (Option Bool)) → kept_of present stood invalid checked texts lists [] [] (BuiltTold (told_of truths now)) w
+      ≡ record { entries = entries_in now.held; asks = now.asks; stood = valued_in (held_by (entries_in now.held) truths); invalid = unwrap_or checked invalid; texts = []; lists = []; before = w }
+  told-entries now truths = ap (λ es. record { entries = es; asks = now.asks; stood = valued_in (held_by (entries_in now.held) truths); invalid = unwrap_or checked invalid; texts = []; lists = []; before = w }) (entries-told (entries_in now.held) truths)
 
-  pub told-is : (truths : List (Option Bool)) (since : Since) → kept_of present asks stood invalid checked texts lists [] [] (told_more truths since) w ≡ recalculated truths (kept since)
+  pub told-is : (truths : List (Option Bool)) (since : Since) → kept_of present stood invalid checked texts lists [] [] (told_more truths since) w ≡ recalculated truths (kept since)
   told-is truths Nothing = refl
   told-is truths (Told old) = refl
-  told-is truths (Built now web) = told-entries now web truths
-  told-is truths (ToldBuilt old now web) = told-entries now web truths
-  told-is truths (BuiltTold now web) = told-entries now web truths
-  told-is truths (Past now web past) = told-entries now web truths
+  told-is truths (Built now) = told-entries now truths
+  told-is truths (ToldBuilt old now) = told-entries now truths
+  told-is truths (BuiltTold now) = told-entries now truths
+  told-is truths (Past now past) = told-entries now truths
 
 -- ---- a commit
 
@@ -41,14 +41,14 @@ take-whole : (ns : List ℕ) → take (length ns) ns ≡ ns
 take-whole [] = refl
 take-whole (n ∷ ns) = ap (λ l. n ∷ l) (take-whole ns)
 
-pub committed-is : (old : Kept) (present : List Held) (asks : List Asks) (stood : Option (List Held)) (invalid texts lists late_texts late_lists : List ℕ) (texts_kept lists_kept : ℕ) →
-    entries_in present ≡ old.entries → asks ≡ old.asks → valued_in (stood_of present stood) ≡ old.stood → invalid ≡ old.invalid → texts ≡ old.texts → lists ≡ old.lists → texts_kept ≡ length texts → lists_kept ≡ length lists
-    → kept_of present asks stood invalid None texts lists late_texts late_lists Nothing (was_of present asks stood invalid texts texts_kept lists lists_kept) ≡ committed old
-committed-is old present asks stood invalid texts lists late_texts late_lists texts_kept lists_kept e a s i t l m n =
-    ap (λ k. whole (entries_in present) asks (valued_in (stood_of present stood)) invalid texts lists k (take lists_kept lists)) (ap (λ k. take k texts) m ∙ take-whole texts)
-    ∙ ap (λ k. whole (entries_in present) asks (valued_in (stood_of present stood)) invalid texts lists texts k) (ap (λ k. take k lists) n ∙ take-whole lists)
-    ∙ ap (λ k. whole k asks (valued_in (stood_of present stood)) invalid texts lists texts lists) e
-    ∙ ap (λ k. whole old.entries k (valued_in (stood_of present stood)) invalid texts lists texts lists) a
+pub committed-is : (old : Kept) (present : Entered) (stood : Option (List Held)) (invalid texts lists late_texts late_lists : List ℕ) (texts_kept lists_kept : ℕ) →
+    entries_in present.held ≡ old.entries → present.asks ≡ old.asks → valued_in (stood_of present.held stood) ≡ old.stood → invalid ≡ old.invalid → texts ≡ old.texts → lists ≡ old.lists → texts_kept ≡ length texts → lists_kept ≡ length lists
+    → kept_of present stood invalid None texts lists late_texts late_lists Nothing (was_of present stood invalid texts texts_kept lists lists_kept) ≡ committed old
+committed-is old present stood invalid texts lists late_texts late_lists texts_kept lists_kept e a s i t l m n =
+    ap (λ k. whole (entries_in present.held) present.asks (valued_in (stood_of present.held stood)) invalid texts lists k (take lists_kept lists)) (ap (λ k. take k texts) m ∙ take-whole texts)
+    ∙ ap (λ k. whole (entries_in present.held) present.asks (valued_in (stood_of present.held stood)) invalid texts lists texts k) (ap (λ k. take k lists) n ∙ take-whole lists)
+    ∙ ap (λ k. whole k present.asks (valued_in (stood_of present.held stood)) invalid texts lists texts lists) e
+    ∙ ap (λ k. whole old.entries k (valued_in (stood_of present.held stood)) invalid texts lists texts lists) a
     ∙ ap (λ k. whole old.entries old.asks k invalid texts lists texts lists) s
     ∙ ap (λ k. whole old.entries old.asks old.stood k texts lists texts lists) i
     ∙ ap (λ k. whole old.entries old.asks old.stood old.invalid k lists k lists) t

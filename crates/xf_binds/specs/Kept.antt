@@ -10,7 +10,16 @@ use Rattle.xf_model.specs.Settled.{Valued}
 use Rattle.xf_model.specs.Pertinent.{is_same}
 use Rattle.xf_model.specs.Properties.{sets_on}
 use Rattle.xf_binds.specs.declared.web.Asks.{Asks}
-use Rattle.xf_binds.specs.Held.{Held, held_by}
+use Rattle.xf_binds.specs.Held.{Held, entries_in, held_by}
+
+-- entries with the truths that they had, and what each of them asks of the data
+pub record Entered : Type 0 where
+  pub held : List Held
+  pub asks : List Asks
+
+-- with these truths, by their places
+abbrev pub told_of : List (Option Bool) → Entered → Entered
+told_of truths entered = record entered { held = held_by (entries_in entered.held) truths }
 
 -- as it was at the last commit
 pub record Was : Type 0 where

@@ -1,5 +1,6 @@
 pub mod NodeSet
 pub mod Held
+pub mod Turns
 pub mod Kept
 pub mod Table
 pub mod Asked

@@ -5,13 +5,15 @@ ghost use Rattle.xf_doc.specs.Visit.{has};
 ghost use Rattle.xf_model.specs.Applied.{is_property};
 ghost use Rattle.xf_model.specs.Entries.{is_computed};
 ghost use Rattle.xf_model.specs.Properties.{sets_on};
-ghost use Rattle.xf_binds.specs.Held.{IsOnly, entries_in, entry_of, held_by};
-ghost use Rattle.xf_binds.specs.Kept.{committed, entries_of, no_kept, recalculated, rolled_back, stood_of, truth_from, truth_in};
-ghost use Rattle.xf_binds.specs.Since.{asks_in, built_more, is_told, marks_in, present_in, stood_since, told_more};
+ghost use Rattle.xf_binds.specs.Held.{IsOnly, entries_in, entry_of};
+ghost use Rattle.xf_binds.specs.Kept.{committed, entries_of, no_kept, recalculated, rolled_back, stood_of, told_of, truth_from, truth_in};
+ghost use Rattle.xf_binds.specs.Since.{built_more, is_told, marks_in, present_in, stood_since, told_more};
+ghost use Rattle.xf_binds.specs.Turns.{AreInTurn};
 
 use crate::applied::Applied;
 use crate::entry::Entry;
 use crate::node_set::NodeSet;
+use crate::ordered::Ordered;
 use crate::truth_list::TruthList;
 use crate::web::Web;
 use std::alloc::{AllocError, Global};
@@ -27,20 +29,19 @@ pub(crate) enum Since {
     /// A recalculation.
     Told(TruthList),
     /// A rebuild.
-    Built(Applied, Web),
+    Built(Ordered),
     /// A recalculation, and then a rebuild.
-    ToldBuilt(TruthList, Applied, Web),
+    ToldBuilt(TruthList, Ordered),
     /// A rebuild, and then a recalculation, which gave truths to its entries.
-    BuiltTold(Applied, Web),
+    BuiltTold(Ordered),
     /// The same, and then a rebuild: the last entries are those that stood.
-    Past(Applied, Web, Applied),
+    Past(Ordered, Applied),
 }
 
 /// What is kept of the binds of one model: as it was at the last commit, and what came since. A change moves nothing that was kept.
 #[derive(Drop)]
 pub(crate) struct Kept {
-    present: Applied,
-    web: Web,
+    present: Ordered,
     // The entries that stood at the last recalculation, where they are not the present ones.
     stood: Option<Applied>,
     invalid: NodeSet,
@@ -63,7 +64,7 @@ impl Model for Kept {
 
     ghost Value = { kept.Kept };
 
-    ghost view = { λ k. kept_of k.present k.web k.stood k.invalid k.checked k.texts k.lists k.late_texts k.late_lists k.since (was_of k.present k.web k.stood k.invalid k.texts k.texts_kept k.lists k.lists_kept) };
+    ghost view = { λ k. kept_of k.present k.stood k.invalid k.checked k.texts k.lists k.late_texts k.late_lists k.since (was_of k.present k.stood k.invalid k.texts k.texts_kept k.lists k.lists_kept) };
 
     ghost invariant = { λ k. (k.texts_kept ≤ length k.texts) × (k.lists_kept ≤ length k.lists) };
 }
@@ -73,8 +74,7 @@ impl Kept {
         ensures { result ≡ no_kept }
     {
         Kept {
-            present: Applied::new(alloc),
-            web: Web::new(alloc),
+            present: Ordered::new(alloc),
             stood: None,
             invalid: NodeSet::new(alloc),
             texts: NodeList::new(alloc),
@@ -92,27 +92,35 @@ impl Kept {
     pub(crate) fn present(&self) -> &Applied
         ensures { entries_in result.now ≡ self.now.entries }
     {
-        match &self.since {
-            Since::Nothing => &self.present,
-            Since::Told(_) => &self.present,
-            Since::Built(now, _) => now,
-            Since::ToldBuilt(_, now, _) => now,
-            Since::BuiltTold(now, _) => now,
-            Since::Past(now, _, _) => now,
-        }
+        self.ordered().applied()
     }
 
     /// What the present entries ask of the data.
     pub(crate) fn web(&self) -> &Web
         ensures { result.now ≡ self.now.asks }
     {
+        self.ordered().web()
+    }
+
+    /// The nodes of the present calculates, none before one that its calculate reads.
+    pub(crate) fn order(&self) -> &NodeList
+        ensures { AreInTurn self.now.entries self.now.asks result.now }
+    {
+        self.ordered().order()
+    }
+
+    /// The present entries with what they ask.
+    fn ordered(&self) -> &Ordered
+        ensures entries { entries_in result.now.held ≡ self.now.entries }
+        ensures asks { result.now.asks ≡ self.now.asks }
+    {
         match &self.since {
-            Since::Nothing => &self.web,
-            Since::Told(_) => &self.web,
-            Since::Built(_, web) => web,
-            Since::ToldBuilt(_, _, web) => web,
-            Since::BuiltTold(_, web) => web,
-            Since::Past(_, web, _) => web,
+            Since::Nothing => &self.present,
+            Since::Told(_) => &self.present,
+            Since::Built(now) => now,
+            Since::ToldBuilt(_, now) => now,
+            Since::BuiltTold(now) => now,
+            Since::Past(now, _) => now,
         }
     }
 
@@ -134,11 +142,11 @@ impl Kept {
     {
         match &self.since {
             Since::Nothing => stood_in(&self.stood, &self.present).truth(entry),
-            Since::Told(truths) => self.present.told(entry, truths),
-            Since::Built(_, _) => stood_in(&self.stood, &self.present).truth(entry),
-            Since::ToldBuilt(truths, _, _) => self.present.told(entry, truths),
-            Since::BuiltTold(now, _) => now.truth(entry),
-            Since::Past(_, _, stood) => stood.truth(entry),
+            Since::Told(truths) => self.present.applied().told(entry, truths),
+            Since::Built(_) => stood_in(&self.stood, &self.present).truth(entry),
+            Since::ToldBuilt(truths, _) => self.present.applied().told(entry, truths),
+            Since::BuiltTold(now) => now.applied().truth(entry),
+            Since::Past(_, stood) => stood.truth(entry),
         }
     }
 
@@ -149,11 +157,11 @@ impl Kept {
     {
         match &self.since {
             Since::Nothing => stood_in(&self.stood, &self.present).only(entry),
-            Since::Told(_) => self.present.only(entry),
-            Since::Built(_, _) => stood_in(&self.stood, &self.present).only(entry),
-            Since::ToldBuilt(_, _, _) => self.present.only(entry),
-            Since::BuiltTold(now, _) => now.only(entry),
-            Since::Past(_, _, stood) => stood.only(entry),
+            Since::Told(_) => self.present.applied().only(entry),
+            Since::Built(_) => stood_in(&self.stood, &self.present).only(entry),
+            Since::ToldBuilt(_, _) => self.present.applied().only(entry),
+            Since::BuiltTold(now) => now.applied().only(entry),
+            Since::Past(_, stood) => stood.only(entry),
         }
     }
 
@@ -205,11 +213,11 @@ impl Kept {
     }
 
     /// Keeps the entries of a rebuild. Those of the last recalculation are kept beside them.
-    pub(crate) fn rebuild(&mut self, present: Applied, web: Web)
-        ensures { self.new ≡ record self.old { entries = entries_in present; asks = web } }
+    pub(crate) fn rebuild(&mut self, present: Ordered)
+        ensures { self.new ≡ record self.old { entries = entries_in present.held; asks = present.asks } }
     {
         let since = replace(&mut self.since, Since::Nothing);
-        self.since = built(since, present, web);
+        self.since = built(since, present);
     }
 
     /// Keeps the present entries with these truths as those of the last recalculation, and forgets the marks.
@@ -254,7 +262,7 @@ impl Kept {
         let checked = replace(&mut self.checked, None);
         settle_checked(&mut self.invalid, checked);
         let since = replace(&mut self.since, Since::Nothing);
-        settle(&mut self.present, &mut self.web, &mut self.stood, since);
+        settle(&mut self.present, &mut self.stood, since);
     }
 
     /// Gives it back as it was at the last commit.
@@ -269,12 +277,12 @@ impl Kept {
 }
 
 /// The entries that stood, where the present ones may be the same.
-fn stood_in<'a>(stood: &'a Option<Applied>, present: &'a Applied) -> &'a Applied
-    ensures { result.now ≡ stood_of present.now stood.now }
+fn stood_in<'a>(stood: &'a Option<Applied>, present: &'a Ordered) -> &'a Applied
+    ensures { result.now ≡ stood_of present.now.held stood.now }
 {
     match stood {
         Some(stood) => stood,
-        None => present,
+        None => present.applied(),
     }
 }
 
@@ -284,25 +292,25 @@ fn is_told(since: &Since) -> bool
 {
     match since {
         Since::Nothing => false,
-        Since::Built(_, _) => false,
+        Since::Built(_) => false,
         Since::Told(_) => true,
-        Since::ToldBuilt(_, _, _) => true,
-        Since::BuiltTold(_, _) => true,
-        Since::Past(_, _, _) => true,
+        Since::ToldBuilt(_, _) => true,
+        Since::BuiltTold(_) => true,
+        Since::Past(_, _) => true,
     }
 }
 
 /// With one rebuild more.
-fn built(since: Since, present: Applied, web: Web) -> Since
-    ensures { result ≡ built_more present web since }
+fn built(since: Since, present: Ordered) -> Since
+    ensures { result ≡ built_more present since }
 {
     match since {
-        Since::Nothing => Since::Built(present, web),
-        Since::Told(truths) => Since::ToldBuilt(truths, present, web),
-        Since::Built(_old, _web) => Since::Built(present, web),
-        Since::ToldBuilt(truths, _old, _web) => Since::ToldBuilt(truths, present, web),
-        Since::BuiltTold(stood, _web) => Since::Past(present, web, stood),
-        Since::Past(_old, _web, stood) => Since::Past(present, web, stood),
+        Since::Nothing => Since::Built(present),
+        Since::Told(truths) => Since::ToldBuilt(truths, present),
+        Since::Built(_old) => Since::Built(present),
+        Since::ToldBuilt(truths, _old) => Since::ToldBuilt(truths, present),
+        Since::BuiltTold(old) => Since::Past(present, old.into_applied()),
+        Since::Past(_old, stood) => Since::Past(present, stood),
     }
 }
 
@@ -313,26 +321,26 @@ fn told(since: Since, truths: TruthList) -> Since
     match since {
         Since::Nothing => Since::Told(truths),
         Since::Told(_old) => Since::Told(truths),
-        Since::Built(now, web) => built_told(now, web, &truths),
-        Since::ToldBuilt(_old, now, web) => built_told(now, web, &truths),
-        Since::BuiltTold(now, web) => built_told(now, web, &truths),
-        Since::Past(now, web, _stood) => built_told(now, web, &truths),
+        Since::Built(now) => built_told(now, &truths),
+        Since::ToldBuilt(_old, now) => built_told(now, &truths),
+        Since::BuiltTold(now) => built_told(now, &truths),
+        Since::Past(now, _stood) => built_told(now, &truths),
     }
 }
 
-fn built_told(now: Applied, web: Web, truths: &TruthList) -> Since
-    ensures { result ≡ Since.BuiltTold (held_by (entries_in now) truths.now) web }
+fn built_told(now: Ordered, truths: &TruthList) -> Since
+    ensures { result ≡ Since.BuiltTold (told_of truths.now now) }
 {
     let mut now = now;
     now.tell(truths);
-    Since::BuiltTold(now, web)
+    Since::BuiltTold(now)
 }
 
 /// Keeps the entries as they stand.
-fn settle(present: &mut Applied, web: &mut Web, stood: &mut Option<Applied>, since: Since)
-    ensures entries { entries_in present.new ≡ entries_in (present_in present.old since) }
-    ensures asks { web.new ≡ asks_in web.old since }
-    ensures stood { stood_of present.new stood.new ≡ stood_since present.old stood.old since }
+fn settle(present: &mut Ordered, stood: &mut Option<Applied>, since: Since)
+    ensures entries { entries_in present.new.held ≡ entries_in (present_in present.old since).held }
+    ensures asks { present.new.asks ≡ (present_in present.old since).asks }
+    ensures stood { stood_of present.new.held stood.new ≡ stood_since present.old.held stood.old since }
 {
     match since {
         Since::Nothing => {}
@@ -340,27 +348,23 @@ fn settle(present: &mut Applied, web: &mut Web, stood: &mut Option<Applied>, sin
             present.tell(&truths);
             *stood = None;
         }
-        Since::Built(now, asks) => {
+        Since::Built(now) => {
             let old = replace(present, now);
-            *web = asks;
             if stood.is_none() {
-                *stood = Some(old);
+                *stood = Some(old.into_applied());
             }
         }
-        Since::ToldBuilt(truths, now, asks) => {
+        Since::ToldBuilt(truths, now) => {
             present.tell(&truths);
             let old = replace(present, now);
-            *stood = Some(old);
-            *web = asks;
+            *stood = Some(old.into_applied());
         }
-        Since::BuiltTold(now, asks) => {
+        Since::BuiltTold(now) => {
             *present = now;
-            *web = asks;
             *stood = None;
         }
-        Since::Past(now, asks, old) => {
+        Since::Past(now, old) => {
             *present = now;
-            *web = asks;
             *stood = Some(old);
         }
     }

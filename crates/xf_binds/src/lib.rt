@@ -5,6 +5,7 @@ mod applied;
 mod entry;
 mod kept;
 mod node_set;
+mod ordered;
 mod table;
 mod truth_list;
 mod web;

@@ -9,12 +9,14 @@ ghost use Rattle.xf_model.specs.Properties.{sets_on};
 ghost use Rattle.xf_binds.specs.Asked.{asked_by_all, asked_of, asking};
 ghost use Rattle.xf_binds.specs.Held.{IsOnly, entries_in, entry_of};
 ghost use Rattle.xf_binds.specs.Kept.{entries_of, no_kept, recalculated, truth_in};
+ghost use Rattle.xf_binds.specs.Turns.{AreInTurn};
 ghost use Rattle.xf_binds.specs.Table.{all_committed, all_rolled_back, held_or, kept_at, nodes_or, truth_among, web_or, with_kept};
 
 use crate::applied::Applied;
 use crate::entry::Entry;
 use crate::kept::Kept;
 use crate::node_set::NodeSet;
+use crate::ordered::Ordered;
 use crate::truth_list::TruthList;
 use crate::web::{Asks, Web};
 use std::alloc::{AllocError, Global};
@@ -87,6 +89,16 @@ impl Table {
     {
         match self.models.get(model as usize) {
             Some(kept) => Some(kept.web()),
+            None => None,
+        }
+    }
+
+    /// The nodes of the calculates of a model, none before one that its calculate reads.
+    pub fn order(&self, model: u32) -> Option<&NodeList>
+        ensures { AreInTurn (kept_at self.now model).entries (kept_at self.now model).asks (nodes_or (option_map (λ n. n.now) result)) }
+    {
+        match self.models.get(model as usize) {
+            Some(kept) => Some(kept.order()),
             None => None,
         }
     }
@@ -185,12 +197,13 @@ impl Table {
         self.models[model as usize].set_invalid(invalid);
     }
 
-    /// Keeps the entries of a rebuild. Takes no memory.
-    pub fn rebuild(&mut self, model: u32, present: Applied, web: Web)
-        requires { model < length self.old }
+    /// Keeps the entries of a rebuild, with the nodes of the calculates, none before one that its calculate reads. Takes no memory.
+    pub fn rebuild(&mut self, model: u32, present: Applied, web: Web, order: NodeList)
+        requires model { model < length self.old }
+        requires order { AreInTurn (entries_in present) web order }
         ensures { self.new ≡ with_kept self.old model (record (kept_at self.old model) { entries = entries_in present; asks = web }) }
     {
-        self.models[model as usize].rebuild(present, web);
+        self.models[model as usize].rebuild(Ordered::of(present, web, order));
     }
 
     /// Keeps the truths that a recalculation found, by the places of the entries, and forgets the marks. Takes no memory.

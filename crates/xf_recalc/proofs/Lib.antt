@@ -3,6 +3,7 @@ pub mod Rings
 pub mod MachineLaw
 pub mod Placed
 pub mod Linked
+pub mod Turns
 pub mod Shown
 pub mod Entered
 pub mod Ringed

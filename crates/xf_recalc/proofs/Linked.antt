@@ -10,6 +10,7 @@ use Rattle.std.specs.Prelude.{nat_eq}
 use Rattle.indexmap.specs.IndexMap.{IndexMap}
 use Rattle.xf_lang.proofs.VisitFacts.{none-some, some-same}
 use Rattle.xf_doc.specs.Visit as doc
+use Rattle.xf_graph.specs.declared.order.Order.{Order}
 use Rattle.xf_graph.specs.Edges.{Adjacency, has, has_edge, HasEdges, IsWithin}
 use Rattle.xf_graph.specs.Order.{IsOrder}
 use Rattle.xf_graph.proofs.HasLists.{has-append}
@@ -19,7 +20,7 @@ use Rattle.xf_form_machine.specs.Cycles.{reported_cycle}
 use Rattle.xf_model.specs.Applied.{Entry}
 use Rattle.xf_binds.specs.declared.web.Asks.{Asks}
 use Rattle.xf_recalc.specs.Links.{Source, depends, links, nodes_in, ring_of, source_on}
-use Rattle.xf_recalc.specs.Order.{IsOrderOf, IsInOrder}
+use Rattle.xf_recalc.specs.Order.{IsInOrder, IsToldOf}
 use Rattle.xf_recalc.specs.Readers.{list_or, readers_at, reads_by, reads_at, TellsReaders, AreVertices, reads_one, edge_with, edges_before}
 
 -- ---- truths
@@ -179,7 +180,7 @@ edges-more old mid new vertex count one so_far more h k e = record {
 
 -- ---- the edges of the calculates
 
-abbrev tested : {X : Type 0} → (X → Bool) → Option X → Bool
+abbrev pub tested : {X : Type 0} → (X → Bool) → Option X → Bool
 tested test None = false
 tested test (Some x) = test x
 
@@ -194,7 +195,7 @@ past-none at test (x ∷ xs) k less = by (test x) (past-none (suc at) test xs k 
     by true h = ap (λ c. c || has (places_from (suc at) test xs) k) other ∙ h
     by false h = h
 
-has-places : {X : Type 0} (at : ℕ) (test : X → Bool) (xs : List X) (k : ℕ) → has (places_from at test xs) (at + k) ≡ tested test (slice_get xs k)
+pub has-places : {X : Type 0} (at : ℕ) (test : X → Bool) (xs : List X) (k : ℕ) → has (places_from at test xs) (at + k) ≡ tested test (slice_get xs k)
 has-places at test [] k = refl
 has-places at test (x ∷ xs) zero = by (test x) (past-none (suc at) test xs (at + 0) (omega arith))
   where
@@ -229,7 +230,7 @@ tested-reads : (source : Source) (o : Option Source) → tested (λ reader. depe
 tested-reads source None = sym (any-false (source.node ∷ source.asks.above))
 tested-reads source (Some reader) = refl
 
-zero-plus : (k : ℕ) → 0 + k ≡ k
+pub zero-plus : (k : ℕ) → 0 + k ≡ k
 zero-plus k = omega arith
 
 -- those who read the node at a place or an ancestor of it
@@ -307,41 +308,33 @@ added-next ids i d place n other new mid old within h k =
     ∙ both-more (n == (get_or ids i d).number) (doc.has n (map (λ (x : NodeId). x.number) (take i ids))) (place == other) old
     ∙ ap (λ b. (b && (place == other)) || old) (sym (any-next (λ m. n == m) (λ (x : NodeId). x.number) ids i d within))
 
--- ---- the ring
+-- ---- what is found
 
-nodes-of : (entries : List Entry) (web : List Asks) (nodes : List ℕ) → map (λ (s : Source). s.node) (map (source_on entries web) nodes) ≡ nodes
+pub nodes-of : (entries : List Entry) (web : List Asks) (nodes : List ℕ) → map (λ (s : Source). s.node) (map (source_on entries web) nodes) ≡ nodes
 nodes-of entries web [] = refl
 nodes-of entries web (n ∷ ns) = ap (λ l. n ∷ l) (nodes-of entries web ns)
 
-pub ring-is : (entries : List Entry) (web : List Asks) (nodes : List ℕ) (graph : Adjacency) (cycle : Option (List ℕ))
+pub told-is : (entries : List Entry) (web : List Asks) (nodes : List ℕ) (graph : Adjacency) (told : Order)
     → HasEdges graph (length nodes) (has_edge (links (map (source_on entries web) nodes)))
-    → ((other : Adjacency) → HasEdges graph (length other) (has_edge other) → cycle ≡ reported_cycle other)
+    → ((other : Adjacency) → HasEdges graph (length other) (has_edge other) → IsToldOf other told)
+    → IsToldOf (links (map (source_on entries web) nodes)) told
+told-is entries web nodes graph told h is =
+    let sources = map (source_on entries web) nodes in
+    let size : length nodes ≡ length (links sources) =
+    sym (mapped-length (λ s. places_of (λ reader. depends s reader.asks.reads) sources) sources ∙ mapped-length (source_on entries web) nodes) in
+    is (links sources) (subst (λ n. HasEdges graph n (has_edge (links sources))) size h)
+
+pub ring-is : (entries : List Entry) (web : List Asks) (nodes : List ℕ) (cycle : Option (List ℕ)) → reported_cycle (links (map (source_on entries web) nodes)) ≡ cycle
     → option_map (nodes_in nodes) cycle ≡ ring_of (map (source_on entries web) nodes)
-ring-is entries web nodes graph cycle h told =
-    let sources = map (source_on entries web) nodes in
-    let size : length nodes ≡ length (links sources) =
-    sym (mapped-length (λ s. places_of (λ reader. depends s reader.asks.reads) sources) sources ∙ mapped-length (source_on entries web) nodes) in
-    ap (option_map (nodes_in nodes)) (told (links sources) (subst (λ n. HasEdges graph n (has_edge (links sources))) size h))
-    ∙ ap (λ ns. option_map (nodes_in ns) (reported_cycle (links sources))) (sym (nodes-of entries web nodes))
-
-pub none-new : {S : Type 0} (readers : IndexMap ℕ (List ℕ) S) (n place : ℕ) → readers.entries ≡ [] → has (readers_at readers n) place ≡ false
-none-new readers n place empty = ap (λ es. has (list_or (lookup (nat_eq n) es)) place) empty
-
--- ---- the order
-
-pub order-is : (entries : List Entry) (web : List Asks) (nodes : List ℕ) (graph : Adjacency) (order : Option (List ℕ))
-    → HasEdges graph (length nodes) (has_edge (links (map (source_on entries web) nodes)))
-    → ((other : Adjacency) → HasEdges graph (length other) (has_edge other) → IsOrderOf other order)
-    → IsOrderOf (links (map (source_on entries web) nodes)) order
-order-is entries web nodes graph order h told =
-    let sources = map (source_on entries web) nodes in
-    let size : length nodes ≡ length (links sources) =
-    sym (mapped-length (λ s. places_of (λ reader. depends s reader.asks.reads) sources) sources ∙ mapped-length (source_on entries web) nodes) in
-    told (links sources) (subst (λ n. HasEdges graph n (has_edge (links sources))) size h)
+ring-is entries web nodes cycle h =
+    ap (option_map (nodes_in nodes)) (sym h) ∙ ap (λ ns. option_map (nodes_in ns) (reported_cycle (links (map (source_on entries web) nodes)))) (sym (nodes-of entries web nodes))
 
 pub in-order-some : (entries : List Entry) (web : List Asks) (nodes places found : List ℕ) → IsOrder (links (map (source_on entries web) nodes)) places → found ≡ nodes_in nodes places
     → IsInOrder (map (source_on entries web) nodes) (Some found)
 in-order-some entries web nodes places found order e = (places, order, e ∙ ap (λ ns. nodes_in ns places) (sym (nodes-of entries web nodes)))
+
+pub none-new : {S : Type 0} (readers : IndexMap ℕ (List ℕ) S) (n place : ℕ) → readers.entries ≡ [] → has (readers_at readers n) place ≡ false
+none-new readers n place empty = ap (λ es. has (list_or (lookup (nat_eq n) es)) place) empty
 
 -- ---- places of a list join no more than the list has
 

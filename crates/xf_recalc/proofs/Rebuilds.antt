@@ -43,7 +43,7 @@ all-there test (x ∷ xs) h = ap (λ b. b && list_all test xs) h.0 ∙ all-there
 pub entries-there : (scope : Scope) (forest : Forest) (entries : List Entry) → applied scope forest.nodes ≡ Ok entries → list_all (is_there forest.nodes) entries ≡ true
 entries-there scope forest entries h = all-there (is_there forest.nodes) entries (applied-there scope (shape_of forest.nodes) entries h)
 
-of-nodes : (p : ℕ → Bool) (es : List Entry) → list_all (λ e. p e.node) es ≡ true → (n : ℕ) → has n (calculated_nodes es) ≡ true → p n ≡ true
+pub of-nodes : (p : ℕ → Bool) (es : List Entry) → list_all (λ e. p e.node) es ≡ true → (n : ℕ) → has n (calculated_nodes es) ≡ true → p n ≡ true
 of-nodes p [] h n i = no i
 of-nodes p (e ∷ es) h n i = by (is_calculate e) i (of-nodes p es parts.1 n)
   where

@@ -6,6 +6,8 @@ use Rattle.xf_doc.specs.declared.content.Node.{Node}
 use Rattle.xf_doc.specs.Forest.{Forest}
 use Rattle.xf_doc.specs.Visit.{visits}
 use Rattle.xf_doc.specs.Shape.{shape_of}
+use Rattle.xf_graph.specs.declared.order.Order.{Order}
+use Rattle.xf_graph.specs.declared.order.Order.TheVariants.{Sorted, Cycle}
 use Rattle.xf_graph.specs.Edges.{Adjacency}
 use Rattle.xf_graph.specs.Order.{IsOrder}
 use Rattle.xf_graph.specs.Cycle.{IsAcyclic}
@@ -18,20 +20,32 @@ use Rattle.xf_binds.specs.Kept.{Kept}
 use Rattle.xf_recalc.specs.Web.{asks_of}
 use Rattle.xf_recalc.specs.Links.{Source, links, nodes_in, sources_in}
 use Rattle.xf_recalc.specs.Found.{is_small}
+use Rattle.xf_recalc.specs.declared.ring.Sorting.{Sorting}
+use Rattle.xf_recalc.specs.declared.ring.Sorting.TheVariants.{InTurn, Ring}
 use Rattle.xf_recalc.specs.Rebuilt.{rebuilt, table_with}
 
--- an order of the graph; none where a cycle is reported
-abbrev pub IsOrderOf : Adjacency → Option (List ℕ) → Type 0
-IsOrderOf graph None = reported_cycle graph ≡ None → ⊥
-IsOrderOf graph (Some places) = IsOrder graph places
+-- an order of the graph, or the cycle that is reported
+abbrev pub IsToldOf : Adjacency → Order → Type 0
+IsToldOf graph (Sorted places) = (reported_cycle graph ≡ None) × IsOrder graph places
+IsToldOf graph (Cycle places) = reported_cycle graph ≡ Some places
 
 abbrev pub nodes_of : List Source → List ℕ
 nodes_of sources = map (λ source. source.node) sources
 
--- the same by the nodes
+-- nodes in an order of the graph over them, where there are some
 abbrev pub IsInOrder : List Source → Option (List ℕ) → Type 0
-IsInOrder sources None = reported_cycle (links sources) ≡ None → ⊥
+IsInOrder sources None = Unit {0}
 IsInOrder sources (Some nodes) = (places : List ℕ) × IsOrder (links sources) places × (nodes ≡ nodes_in (nodes_of sources) places)
+
+-- ---- what is found of a model
+
+abbrev pub ring_in : Sorting → Option (List ℕ)
+ring_in (InTurn nodes) = None
+ring_in (Ring nodes) = Some nodes
+
+abbrev pub turns_in : Sorting → Option (List ℕ)
+turns_in (InTurn nodes) = Some nodes
+turns_in (Ring nodes) = None
 
 -- ---- laws
 

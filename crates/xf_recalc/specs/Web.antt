@@ -7,9 +7,7 @@ use Rattle.xf_model.specs.Entries.{is_computed, reads_of, looks_of}
 use Rattle.xf_binds.specs.declared.web.Asks.{Asks}
 use Rattle.xf_binds.specs.Asked.{asked_by_all}
 use Rattle.xf_binds.specs.Kept.{Kept}
-
-abbrev pub no_asks : Asks
-no_asks = record { reads = []; looks = []; above = [] }
+pub use Rattle.xf_binds.specs.Turns.{no_asks}
 
 abbrev pub asks_by : Scope → List Visit → Entry → Bool → Asks
 asks_by scope all e true = record { reads = reads_of scope all e; looks = looks_of scope all e; above = ancestors_of e.node all }

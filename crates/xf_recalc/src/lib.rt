@@ -3,7 +3,6 @@
 
 mod fault;
 mod laws;
-mod ordered;
 mod readers;
 mod rebuilding;
 mod ring;
@@ -11,5 +10,4 @@ mod web;
 
 pub use fault::RebuildFault;
 pub use laws::{links_defined, pertinent_met, rebuild_tells, rebuilds_alike};
-pub use ordered::in_order;
 pub use rebuilding::rebuild;

@@ -1,6 +1,6 @@
 //! The rebuild of a model (XForms 1.1, section 4.3.1).
 
-ghost use Rattle.std.specs.Prelude.{◌≡◌, ◌<◌, true, map, length, Ok, OnErr};
+ghost use Rattle.std.specs.Prelude.{◌≡◌, ◌<◌, true, map, length, Ok, IfOk, OnErr};
 ghost use Rattle.std.specs.List.{list_all};
 ghost use Rattle.xf_doc.specs.Shape.{shape_of};
 ghost use Rattle.xf_funcs.specs.Called.{called};
@@ -8,18 +8,20 @@ ghost use Rattle.xf_model.specs.Applied as defined;
 ghost use Rattle.xf_model.specs.Rules.{Scope, scope_of};
 ghost use Rattle.xf_eval.specs.Live.{AroundStands};
 ghost use Rattle.xf_binds.specs.Held.{entries_in};
-ghost use Rattle.xf_recalc.specs.Found.{is_small};
+ghost use Rattle.xf_binds.specs.Turns.{AreInTurn};
+ghost use Rattle.xf_recalc.specs.Found.{is_small, is_there};
 ghost use Rattle.xf_recalc.specs.Rebuilt.{IsRebuilt, fault_of, rebuilt, table_with};
 ghost use Rattle.xf_recalc.specs.Web.{asks_of};
 ghost use Rattle.xf_recalc.specs.Static.{AreFixed};
 
 use crate::fault::RebuildFault;
-use crate::ring::ring_of;
+use crate::ring::{Sorting, sort_nodes};
 use crate::web::web_of;
 use std::alloc::Global;
 use xf_apply::{BindFault, apply};
 use xf_ast::Tables;
 use xf_binds::{Applied, Table, Web};
+use xf_doc::NodeList;
 use xf_eval::Around;
 use xf_shape::is_sound;
 use xf_tree::Forest;
@@ -48,15 +50,16 @@ pub fn rebuild<A: Around>(
     };
     let web = web_of(alloc, tables, forest, model, &applied, around)?;
     match checked(alloc, forest, model, table, &applied, &web) {
-        Ok(()) => {
-            table.rebuild(model, applied, web);
+        Ok(order) => {
+            table.rebuild(model, applied, web, order);
             Ok(())
         }
         Err(fault) => Err(fault),
     }
 }
 
-/// Whether these entries of a model may stand: all entries do not ask too much, and no calculates depend on each other in a ring.
+/// Whether these entries of a model may stand: all entries do not ask too much, and no calculates depend on each other in a ring. The answer is
+/// the nodes of the calculates, none before one that its calculate reads.
 fn checked(
     alloc: Global,
     forest: &Forest,
@@ -64,18 +67,22 @@ fn checked(
     table: &Table,
     applied: &Applied,
     web: &Web,
-) -> Result<(), RebuildFault>
-    ensures { (scope : Scope) → scope.model ≡ model → defined.applied scope forest.now.forest.nodes ≡ Ok (entries_in applied.now)
+) -> Result<NodeList, RebuildFault>
+    requires there { list_all (is_there forest.now.forest.nodes) (entries_in applied.now) ≡ true }
+    requires small { list_all is_small (entries_in applied.now) ≡ true }
+    ensures answer { (scope : Scope) → scope.model ≡ model → defined.applied scope forest.now.forest.nodes ≡ Ok (entries_in applied.now)
         → web.now ≡ map (asks_of scope (shape_of forest.now.forest.nodes)) (entries_in applied.now) → list_all is_small (entries_in applied.now) ≡ true
         → IsRebuilt (table_with table.now model (entries_in applied.now) web.now) result (rebuilt scope forest.now.forest.nodes table.now) }
+    ensures turns { IfOk result (AreInTurn (entries_in applied.now) web.now) }
 {
     is_sound(forest);
     if table.asked_with(model, web) > EDGE_LIMIT {
         return Err(RebuildFault::Edges);
     }
-    match ring_of(alloc, forest, applied, web)? {
-        Some(nodes) => Err(RebuildFault::Circular(nodes)),
-        None => Ok(()),
+    let sorting = sort_nodes(alloc, forest, applied, web)?;
+    match sorting {
+        Sorting::Ring(nodes) => Err(RebuildFault::Circular(nodes)),
+        Sorting::InTurn(nodes) => Ok(nodes),
     }
 }
 

@@ -5,55 +5,68 @@ ghost use Rattle.xf_lang.specs.Binding.{as_list};
 ghost use Rattle.xf_doc.specs.Order.{in_order};
 ghost use Rattle.xf_doc.specs.Visit.{visits};
 ghost use Rattle.xf_graph.specs.Edges.{Adjacency, has, has_edge, HasEdges};
-ghost use Rattle.xf_form_machine.specs.Cycles.{reported_cycle};
 ghost use Rattle.xf_binds.specs.Held.{entries_in};
 ghost use Rattle.xf_recalc.specs.Links.{asks_on, calculated_nodes, links, nodes_in, ring_of, source_on, sources_in};
 ghost use Rattle.xf_recalc.specs.Readers.{AreVertices, edge_with, readers_at, reads_one};
 ghost use Rattle.xf_recalc.specs.Found.{calculated_at};
+ghost use Rattle.xf_recalc.specs.Order.{IsInOrder, IsToldOf, ring_in, turns_in};
 
 use crate::readers::{Readers, asks_at, readers_of};
 use std::alloc::{AllocError, Global};
 use xf_binds::{Applied, Web};
 use xf_doc::{NodeId, NodeList};
-use xf_graph::{Graph, Order, VertexList};
+use xf_graph::{Graph, Order};
 use xf_model::Property;
 use xf_tree::Forest;
 
-/// The nodes of calculates that depend on each other in a ring, where some do.
-pub(crate) fn ring_of(
+/// What is found of the calculates of a model, by their nodes.
+#[derive(Drop)]
+pub(crate) enum Sorting {
+    /// All, none before one that its calculate reads.
+    InTurn(NodeList),
+    /// Those that depend on each other in a ring.
+    Ring(NodeList),
+}
+
+/// The nodes of calculates that depend on each other in a ring, where some do; else those of all, none before one that its calculate reads.
+pub(crate) fn sort_nodes(
     alloc: Global,
     forest: &Forest,
     applied: &Applied,
     web: &Web,
-) -> Result<Option<NodeList>, AllocError>
-    ensures { IfOk result (λ ring. ring ≡ ring_of (sources_in (visits forest.now.forest.nodes) (entries_in applied.now) web.now)) }
+) -> Result<Sorting, AllocError>
+    ensures ring { IfOk result (λ found. ring_in found ≡ ring_of (sources_in (visits forest.now.forest.nodes) (entries_in applied.now) web.now)) }
+    ensures turns { IfOk result (λ found. IsInOrder (sources_in (visits forest.now.forest.nodes) (entries_in applied.now) web.now) (turns_in found)) }
 {
     let nodes = calculated(alloc, forest, applied)?;
     let graph = graph_of(alloc, applied, web, &nodes)?;
-    match cycle_in(&graph)? {
-        Some(places) => Ok(Some(nodes_at(alloc, &nodes, places.as_slice())?)),
-        None => Ok(None),
+    let told = sorted(&graph)?;
+    match told {
+        Order::Sorted(places) => {
+            let found = nodes_at(alloc, &nodes, places.as_slice())?;
+            Ok(Sorting::InTurn(found))
+        }
+        Order::Cycle(places) => {
+            let found = nodes_at(alloc, &nodes, places.as_slice())?;
+            Ok(Sorting::Ring(found))
+        }
     }
 }
 
-/// The cycle of a graph that is reported, where one stands.
-fn cycle_in(graph: &Graph) -> Result<Option<VertexList>, AllocError>
-    ensures { IfOk result (λ cycle. (other : Adjacency) → HasEdges graph.now (length other) (has_edge other) → cycle ≡ reported_cycle other) }
+/// An order of a graph, or the cycle that is reported.
+fn sorted(graph: &Graph) -> Result<Order, AllocError>
+    ensures { IfOk result (λ told. (other : Adjacency) → HasEdges graph.now (length other) (has_edge other) → IsToldOf other told) }
 {
     // Its edges join no more than its vertices.
     let _ = graph.size();
     match graph.order()? {
-        Order::Cycle(places) => Ok(Some(places)),
-        Order::Sorted(_order) => Ok(None),
+        Order::Sorted(places) => Ok(Order::Sorted(places)),
+        Order::Cycle(places) => Ok(Order::Cycle(places)),
     }
 }
 
 /// The nodes with a calculate, in document order.
-pub(crate) fn calculated(
-    alloc: Global,
-    forest: &Forest,
-    applied: &Applied,
-) -> Result<NodeList, AllocError>
+fn calculated(alloc: Global, forest: &Forest, applied: &Applied) -> Result<NodeList, AllocError>
     ensures { IfOk result (λ nodes. nodes ≡ in_order (visits forest.now.forest.nodes) (calculated_nodes (entries_in applied.now))) }
 {
     let mut nodes = NodeList::new(alloc);
@@ -79,7 +92,7 @@ fn push_calculated(applied: &Applied, at: usize, nodes: &mut NodeList) -> Result
 }
 
 /// The graph of the calculates of these nodes. More nodes than 32 bits count are told as want of memory: no memory holds so many.
-pub(crate) fn graph_of(
+fn graph_of(
     alloc: Global,
     applied: &Applied,
     web: &Web,
@@ -174,11 +187,7 @@ fn add_edges(graph: &mut Graph, vertex: u32, others: &[u32]) -> Result<(), Alloc
 }
 
 /// The nodes at these places.
-pub(crate) fn nodes_at(
-    alloc: Global,
-    nodes: &NodeList,
-    places: &[u32],
-) -> Result<NodeList, AllocError>
+fn nodes_at(alloc: Global, nodes: &NodeList, places: &[u32]) -> Result<NodeList, AllocError>
     ensures { IfOk result (λ found. found ≡ nodes_in nodes.now places.now) }
 {
     let mut found = NodeList::new(alloc);

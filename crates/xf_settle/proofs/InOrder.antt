@@ -1,5 +1,5 @@
--- The calculates in an order of the graph by what is kept of them are turns; and where none depend on each other in a ring, there is one.
-use Rattle.std.proofs.Common.{◌≡◌, ℕ, ◌^◌, ◌<◌, ◌==◌, Bool, true, false, not, cond, ◌||◌, ◌&&◌, List, [], ◌∷◌, map, length, nat_lt, Some, None, refl, sym, ap, ◌∙◌, subst}
+-- The calculates in an order of the graph by what is kept of them are turns.
+use Rattle.std.proofs.Common.{◌≡◌, ℕ, ◌^◌, ◌<◌, ◌==◌, Bool, true, false, not, cond, ◌||◌, ◌&&◌, List, [], ◌∷◌, map, length, nat_lt, Some, refl, sym, ap, ◌∙◌, subst}
 use Rattle.std.specs.Prelude.{filter}
 use Rattle.std.specs.List.{list_all, list_any}
 use Rattle.std.proofs.lemmas.Bool.{ltb-true}
@@ -31,14 +31,14 @@ use Rattle.xf_agree.proofs.FormSettable.{entries_solid}
 use Rattle.xf_agree.proofs.FormSettled.{applied-parts}
 use Rattle.xf_agree.proofs.InTurnLimits.{any-stands}
 use Rattle.xf_agree.proofs.TurnLists.{each-by_nodes, each-stands, only-one}
-use Rattle.xf_form_machine.specs.Cycles.{reported_cycle}
 use Rattle.xf_binds.specs.declared.web.Asks.{Asks}
 use Rattle.xf_recalc.specs.Found.{is_small}
-use Rattle.xf_recalc.specs.Links.{Source, calculated_nodes, links, nodes_in, source_on, sources_in}
-use Rattle.xf_recalc.specs.Order.{IsLinked, nodes_of}
+use Rattle.xf_recalc.specs.Links.{Source, calculated_nodes, nodes_in, source_on, sources_in}
+use Rattle.xf_recalc.specs.Order.{IsInOrder, IsLinked, nodes_of}
 use Rattle.xf_recalc.specs.Web.{asks_of}
-use Rattle.xf_recalc.proofs.Rings.{none-reported}
+use Rattle.xf_recalc.proofs.Rebuilds.{entries-there}
 use Rattle.xf_recalc.proofs.Told.{links_defined}
+use Rattle.xf_recalc.proofs.Turns.{order-found}
 use Rattle.xf_settle.specs.declared.turn.Turn.{Turn}
 use Rattle.xf_settle.specs.Settles.{MaySettle, scope_in}
 use Rattle.xf_settle.specs.Turns.{AreInOrder, AreTurns, Placed, entry_in, placed_of, placed_on}
@@ -159,11 +159,7 @@ module _ (given : Given) (tables : Tables) (model : ℕ) (forest : Forest) (entr
       (any-stands (λ (f : Entry). f.node == e.node) (calculates entries) s.0 e s.1 (self-same e.node)))
       (calculates entries) (each-stands (calculates entries)))
 
-  pub no-ring : (web : List Asks) → web ≡ map (asks_of scope shaped) entries → AreInOrder (sources_in (visits forest.nodes) entries web) entries None → ⊥
-  no-ring web asked none =
-      none (ap (λ w. reported_cycle (links (sources_in (visits forest.nodes) entries w))) asked ∙ ap reported_cycle linked.graph ∙ none-reported (graph_over scope shaped entries) may.acyclic)
-
-  pub are-turns : (web : List Asks) → web ≡ map (asks_of scope shaped) entries → (turns : List Turn) → AreInOrder (sources_in (visits forest.nodes) entries web) entries (Some turns) →
+  pub are-turns : (web : List Asks) → web ≡ map (asks_of scope shaped) entries → (turns : List Turn) → AreInOrder entries web entries turns →
       AreTurns scope entries (visits forest.nodes) turns
   are-turns web asked turns given_order = record {
     ordered = record { places = o.0; order = order; at_places = at };
@@ -171,14 +167,15 @@ module _ (given : Given) (tables : Tables) (model : ℕ) (forest : Forest) (entr
     placed = of-map (λ (t : Placed). IsGot entries t) placed_of turns (subst (AllOf (λ (t : Placed). IsGot entries t)) (sym is) both.1);
   }
     where
-      o : AreInOrder kept entries (Some turns)
-      o = subst (λ w. AreInOrder (sources_in (visits forest.nodes) entries w) entries (Some turns)) asked given_order
+      o : IsInOrder kept (Some given_order.0)
+      o = subst (λ w. IsInOrder (sources_in (visits forest.nodes) entries w) (Some given_order.0)) asked
+          (order-found forest (record { trees = may.around.trees; below = may.around.below }) entries (entries-there scope forest entries may.applies) small web given_order.0 given_order.1)
 
       order : IsOrder (graph_over scope shaped entries) o.0
       order = subst (λ g. IsOrder g o.0) linked.graph o.1
 
       is : map placed_of turns ≡ placed_on entries (nodes_in (map (λ (e : Entry). e.node) calcs) o.0)
-      is = o.2 ∙ ap (λ ns. placed_on entries (nodes_in ns o.0)) linked.nodes_in_order
+      is = given_order.2 ∙ ap (placed_on entries) (o.2 ∙ ap (λ ns. nodes_in ns o.0) linked.nodes_in_order)
 
       size : length (graph_over scope shaped entries) ≡ length calcs
       size = size-of_graph shaped (calculated scope shaped entries) ∙ length-mapped (λ (e : Entry). record { node = e.node; reads = reads_of scope shaped e }) calcs

@@ -9,7 +9,6 @@ use Rattle.xf_doc.specs.declared.content.Node.{Node}
 use Rattle.xf_doc.specs.Forest.{has_number}
 use Rattle.xf_doc.specs.Visit.{Visit}
 use Rattle.xf_doc.specs.Settle.{has_text}
-use Rattle.xf_graph.specs.Order.{IsOrder}
 use Rattle.xf_plain_values.specs.Bounded.{◌>>=◌}
 use Rattle.xf_lang.specs.Conversions.{truth_of}
 use Rattle.xf_model.specs.declared.property.Property.{Property}
@@ -22,10 +21,9 @@ use Rattle.xf_model.specs.Pertinent.{AllOf}
 use Rattle.xf_model.specs.Properties.{sets_on}
 use Rattle.xf_agree.specs.InTurn.{AreSingle, IsOrdered}
 use Rattle.xf_undo.specs.Draft.{Draft, with_settled}
+use Rattle.xf_binds.specs.declared.web.Asks.{Asks}
 use Rattle.xf_binds.specs.Held.{entry_of}
-use Rattle.xf_form_machine.specs.Cycles.{reported_cycle}
-use Rattle.xf_recalc.specs.Links.{Source, links, nodes_in}
-use Rattle.xf_recalc.specs.Order.{nodes_of}
+use Rattle.xf_binds.specs.Turns.{AreInTurn}
 use Rattle.xf_settle.specs.declared.turn.Turn.{Turn}
 use Rattle.xf_settle.specs.declared.fault.SettleFault.{SettleFault}
 use Rattle.xf_settle.specs.declared.fault.SettleFault.TheVariants.{Long, Text}
@@ -72,10 +70,9 @@ placed_at (Some e) (Some k) = record { entry = e; place = k } ∷ []
 abbrev pub placed_on : List Entry → List ℕ → List Placed
 placed_on entries ns = flat_map (λ n. placed_from 0 entries n) ns
 
--- the calculates of the nodes in an order of the graph by what is kept of them; none where a cycle is reported
-abbrev pub AreInOrder : List Source → List Entry → Option (List Turn) → Type 0
-AreInOrder sources entries None = reported_cycle (links sources) ≡ None → ⊥
-AreInOrder sources entries (Some turns) = (places : List ℕ) × IsOrder (links sources) places × (map placed_of turns ≡ placed_on entries (nodes_in (nodes_of sources) places))
+-- those of all calculates that are kept, none before one that it reads
+abbrev pub AreInOrder : List Entry → List Asks → List Entry → List Turn → Type 0
+AreInOrder kept asks entries turns = (nodes : List ℕ) × AreInTurn kept asks nodes × (map placed_of turns ≡ placed_on entries nodes)
 
 -- ---- a turn
 

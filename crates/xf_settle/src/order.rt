@@ -1,35 +1,25 @@
 //! The turns of the calculates of a model, by what is kept of its entries (XForms 1.1, section 4.3.2 and appendix C).
 
 ghost use Rattle.std.specs.Prelude.{◌≡◌, ◌++◌, Some, map, option_map, slice_get, IfOk, OnOk};
-ghost use Rattle.xf_doc.specs.Visit.{visits};
 ghost use Rattle.xf_binds.specs.Held.{entries_in, entry_of};
 ghost use Rattle.xf_binds.specs.Table.{kept_at};
-ghost use Rattle.xf_recalc.specs.Links.{sources_in};
 ghost use Rattle.xf_settle.specs.Turns.{AreInOrder, is_calculate_at, placed_at, placed_from, placed_of, placed_on, places_from};
 
 use crate::turn::Turn;
 use std::alloc::{AllocError, Global};
-use xf_binds::{Applied, Entry, Table, Web};
+use xf_binds::{Applied, Entry, Table};
 use xf_doc::{NodeId, NodeList};
 use xf_model::Property;
-use xf_recalc::in_order;
-use xf_tree::Forest;
 
-/// The turns of the calculates of a model; `None` where some depend on each other in a ring.
-pub(crate) fn turns_of(
-    alloc: Global,
-    forest: &Forest,
-    model: u32,
-    table: &Table,
-) -> Result<Option<Vec<Turn>>, AllocError>
-    ensures { IfOk result (λ turns. AreInOrder (sources_in (visits forest.now.forest.nodes) (kept_at table.now model).entries (kept_at table.now model).asks) (kept_at table.now model).entries (option_map (λ v. v.items) turns)) }
+/// The turns of the calculates of a model, in the order that its rebuild found.
+pub(crate) fn turns_of(alloc: Global, model: u32, table: &Table) -> Result<Vec<Turn>, AllocError>
+    ensures { IfOk result (λ turns. AreInOrder (kept_at table.now model).entries (kept_at table.now model).asks (kept_at table.now model).entries turns.items) }
 {
     match table.present(model) {
-        Some(applied) => turns_in(alloc, forest, model, table, applied),
+        Some(applied) => turns_in(alloc, model, table, applied),
         None => {
             let nothing = Applied::new(alloc);
-            let no_asks = Web::new(alloc);
-            turns_over(alloc, forest, &nothing, &no_asks)
+            turns_in(alloc, model, table, &nothing)
         }
     }
 }
@@ -37,34 +27,18 @@ pub(crate) fn turns_of(
 /// The same, where these are the entries of the model.
 fn turns_in(
     alloc: Global,
-    forest: &Forest,
     model: u32,
     table: &Table,
     applied: &Applied,
-) -> Result<Option<Vec<Turn>>, AllocError>
-    ensures { IfOk result (λ turns. AreInOrder (sources_in (visits forest.now.forest.nodes) (entries_in applied.now) (kept_at table.now model).asks) (entries_in applied.now) (option_map (λ v. v.items) turns)) }
+) -> Result<Vec<Turn>, AllocError>
+    ensures { IfOk result (λ turns. AreInOrder (kept_at table.now model).entries (kept_at table.now model).asks (entries_in applied.now) turns.items) }
 {
-    match table.web(model) {
-        Some(web) => turns_over(alloc, forest, applied, web),
+    match table.order(model) {
+        Some(nodes) => turns_on(alloc, applied, nodes),
         None => {
-            let no_asks = Web::new(alloc);
-            turns_over(alloc, forest, applied, &no_asks)
+            let no_nodes = NodeList::new(alloc);
+            turns_on(alloc, applied, &no_nodes)
         }
-    }
-}
-
-/// The same, where the entries ask this.
-fn turns_over(
-    alloc: Global,
-    forest: &Forest,
-    applied: &Applied,
-    web: &Web,
-) -> Result<Option<Vec<Turn>>, AllocError>
-    ensures { IfOk result (λ turns. AreInOrder (sources_in (visits forest.now.forest.nodes) (entries_in applied.now) web.now) (entries_in applied.now) (option_map (λ v. v.items) turns)) }
-{
-    match in_order(alloc, forest, applied, web)? {
-        Some(nodes) => Ok(Some(turns_on(alloc, applied, &nodes)?)),
-        None => Ok(None),
     }
 }
 

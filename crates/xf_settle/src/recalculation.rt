@@ -40,11 +40,8 @@ pub fn settle<A: Around>(
     ensures left { OnErr result (IsLeft (scope_in (A.given around.now) tables.now model) (kept_at table.now model).entries draft.old.now draft.new.now) }
     ensures kept { draft.new.kept ≡ draft.old.kept }
 {
-    match turns_of(alloc, draft.forest(), model, table)? {
-        Some(turns) => settle_in_turn(alloc, tables, draft, model, table, turns.as_slice(), around),
-        // No calculates depend on each other in a ring.
-        None => unreachable!(),
-    }
+    let turns = turns_of(alloc, model, table)?;
+    settle_in_turn(alloc, tables, draft, model, table, turns.as_slice(), around)
 }
 
 /// The same, where the turns are given.

@@ -13,7 +13,11 @@ pub web_of-requires-clause-there : goal.web_of-requires-clause-there
 web_of-requires-clause-there g c =
     entries-there (scope_of called (g.A.Around.given c.args.around.now) c.args.tables.now c.args.model) c.args.forest.now.forest (entries_in c.in-Ok.applied) c.in-Ok.ensures
 
+pub checked-requires-clause-there : goal.checked-requires-clause-there
+checked-requires-clause-there g c =
+    entries-there (scope_of called (g.A.Around.given c.args.around.now) c.args.tables.now c.args.model) c.args.forest.now.forest (entries_in c.in-Ok.applied) c.in-Ok.ensures
+
 pub returns-in-Ok-checked-clause-answer : goal.returns-in-Ok-checked-clause-answer
 returns-in-Ok-checked-clause-answer g c =
     let scope = scope_of called (g.A.Around.given c.args.around.now) c.args.tables.now c.args.model in
-    c.in-Ok-checked.ensures scope refl c.in-Ok.ensures c.in_ok-web.ensures.web c.in_ok-web.ensures.small ∙ ap Ok (sym c.rebuild.ensures)
+    c.in-Ok-checked.ensures.answer scope refl c.in-Ok.ensures c.in_ok-web.ensures.web c.in_ok-web.ensures.small ∙ ap Ok (sym c.rebuild.ensures)

@@ -1,12 +1,11 @@
-use Rattle.std.proofs.Common.{List, Some, None, option_map, refl, sym, subst}
+use Rattle.std.proofs.Common.{List, refl, sym, subst}
 use Rattle.std.proofs.lemmas.Result.{err_from_is_err_and}
 use Rattle.xf_doc.specs.Visit.{visits}
 use Rattle.xf_binds.specs.Table.{kept_at}
-use Rattle.xf_recalc.specs.Links.{sources_in}
 use Rattle.xf_settle.specs.declared.turn.Turn.{Turn}
 use Rattle.xf_settle.specs.Settles.{scope_in}
-use Rattle.xf_settle.specs.Turns.{AreInOrder, AreTurns}
-use Rattle.xf_settle.proofs.InOrder.{are-turns, no-ring}
+use Rattle.xf_settle.specs.Turns.{AreTurns}
+use Rattle.xf_settle.proofs.InOrder.{are-turns}
 use Rattle.xf_settle.proofs.Left.{left-none}
 use Rattle.xf_settle.proofs.recalculation.settle.Goals as goal
 
@@ -17,19 +16,7 @@ settle_in_turn-requires-clause-turns g c =
     let asks = (kept_at c.args.table.now c.args.model).asks in
     let now = c.args.draft.now.now in
     subst (λ (turns : List Turn). AreTurns (scope_in given c.args.tables.now c.args.model) entries (visits now.nodes) turns) (sym c.as_slice.ensures.value)
-    (are-turns given c.args.tables.now c.args.model now entries c.requires.may asks c.requires.asked c.in-Some.turns.items
-    (subst (λ f. AreInOrder (sources_in (visits f.nodes) entries asks) entries (Some c.in-Some.turns.items)) c.forest.ensures
-    (subst (λ o. AreInOrder (sources_in (visits c.forest.result.now.forest.nodes) entries asks) entries (option_map (λ v. v.items) o)) c.in-Some.is c.in_ok-turns.ensures)))
-
-pub unreachable-requires : goal.unreachable-requires
-unreachable-requires g c =
-    let given = g.A.Around.given c.args.around.now in
-    let entries = (kept_at c.args.table.now c.args.model).entries in
-    let asks = (kept_at c.args.table.now c.args.model).asks in
-    let now = c.args.draft.now.now in
-    no-ring given c.args.tables.now c.args.model now entries c.requires.may asks c.requires.asked
-    (subst (λ f. AreInOrder (sources_in (visits f.nodes) entries asks) entries None) c.forest.ensures
-    (subst (λ o. AreInOrder (sources_in (visits c.forest.result.now.forest.nodes) entries asks) entries (option_map (λ v. v.items) o)) c.in-None.is c.in_ok-turns.ensures))
+    (are-turns given c.args.tables.now c.args.model now entries c.requires.may asks c.requires.asked c.in_ok-turns.turns.items c.in_ok-turns.ensures)
 
 pub returns-in_err-turns-clause-left : goal.returns-in_err-turns-clause-left
 returns-in_err-turns-clause-left g c =
