@@ -14,6 +14,7 @@ pub mod Plainly
 pub mod Bounds
 pub mod Loops
 pub mod Rounds
+pub mod Positions
 pub mod Values
 pub mod FixedEquations
 pub mod Sounds

@@ -5,6 +5,7 @@
 mod leaf;
 mod nodes;
 mod order;
+mod places;
 mod predicates;
 mod spot;
 mod steps;

@@ -11,6 +11,7 @@ ghost use Rattle.xf_shape.specs.Steps.{spot_if};
 ghost use Rattle.xf_shape.specs.Told.{IsTold};
 
 use crate::leaf::is_sound;
+use crate::places::placed;
 use crate::spot::Spot;
 use std::alloc::{AllocError, Global};
 use xf_ast::Expr;
@@ -55,6 +56,9 @@ fn kept_by<A: Around>(
     ensures value { IfOk result (λ left. kept_from (shape_at (A.given around.now) forest.now.forest.nodes context.now) (meaning predicate.now) (length spots.now) 1 (numbers_at spots.now) ≡ Some (numbers_at left.items)) }
     ensures spots { IfOk result (λ left. AreSpots forest.now.forest.nodes left.items) }
 {
+    if let Expr::Number(_, number) = predicate {
+        return placed(alloc, spots, *number);
+    }
     // No memory holds a list that a position cannot count.
     let Ok(size) = u32::try_from(spots.len()) else {
         return Err(AllocError);

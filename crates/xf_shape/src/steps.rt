@@ -15,6 +15,7 @@ ghost use Rattle.xf_shape.specs.Spots.{AreSpots, is_spot, number_at, numbers_at,
 
 use crate::leaf::{entered, is_sound, stands};
 use crate::order::in_order;
+use crate::places::reached_placed;
 use crate::predicates::kept_by_all;
 use crate::spot::Spot;
 use crate::walk::reached;
@@ -133,6 +134,10 @@ fn from_one<A: Around>(
     ensures value { IfOk result (λ found. from_one axis test.now (map meaning predicates.now) (shape_at (A.given around.now) forest.now.forest.nodes context.now) (number_at spot) ≡ Some (numbers_at found.items)) }
     ensures spots { IfOk result (λ found. AreSpots forest.now.forest.nodes found.items) }
 {
+    if let [Expr::Number(_, number), rest @ ..] = predicates {
+        let first = reached_placed(alloc, forest, spot, axis, test, *number)?;
+        return kept_by_all(alloc, forest, around, rest, first, context);
+    }
     let nodes = reached(alloc, forest, spot, axis, test)?;
     kept_by_all(alloc, forest, around, predicates, nodes, context)
 }

@@ -58,7 +58,7 @@ fn from_node(
 }
 
 /// Whether the step meets texts that stand in place of others.
-fn goes_to_texts(forest: &Forest, node: NodeId, axis: Axis, test: &Test) -> bool
+pub(crate) fn goes_to_texts(forest: &Forest, node: NodeId, axis: Axis, test: &Test) -> bool
     requires { IsLive node.number forest.now.forest }
     ensures { result ≡ (is_kind test.now && has_texts forest.now.forest.nodes node.number axis) }
 {
