@@ -1,0 +1,2 @@
+pub mod ForestGoes
+pub mod GoingLaws
