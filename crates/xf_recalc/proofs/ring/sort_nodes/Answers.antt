@@ -23,11 +23,11 @@ returns-in-Sorted-clause-turns c =
     let nodes = c.in_ok-nodes.nodes in
     let told : (reported_cycle (links (map (source_on entries web) nodes)) ≡ None) × IsOrder (links (map (source_on entries web) nodes)) c.in-Sorted.places =
     subst (IsToldOf (links (map (source_on entries web) nodes))) c.in-Sorted.is (told-is entries web nodes c.in_ok-graph.graph c.in_ok-told.told c.in_ok-graph.ensures c.in_ok-told.ensures) in
-    subst (λ ns. IsInOrder (map (source_on entries web) ns) (Some c.in_ok-found.found)) c.in_ok-nodes.ensures
-    (in-order-some entries web nodes c.in-Sorted.places c.in_ok-found.found told.1 (c.in_ok-found.ensures ∙ ap (nodes_in nodes) c.as_slice.ensures))
+    subst (λ ns. IsInOrder (map (source_on entries web) ns) (Some c.in_ok-found-in-Sorted.found)) c.in_ok-nodes.ensures
+    (in-order-some entries web nodes c.in-Sorted.places c.in_ok-found-in-Sorted.found told.1 (c.in_ok-found-in-Sorted.ensures ∙ ap (nodes_in nodes) c.as_slice.ensures))
 
-pub returns-in-Cycle-clause-ring : goal.returns-in-Cycle-clause-ring
-returns-in-Cycle-clause-ring c =
+pub returns-clause-ring : goal.returns-clause-ring
+returns-clause-ring c =
     let entries = entries_in c.args.applied.now in
     let web = c.args.web.now in
     let nodes = c.in_ok-nodes.nodes in
