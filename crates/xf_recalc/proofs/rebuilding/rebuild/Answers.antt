@@ -21,3 +21,8 @@ pub returns-in-Ok-checked-clause-answer : goal.returns-in-Ok-checked-clause-answ
 returns-in-Ok-checked-clause-answer g c =
     let scope = scope_of called (g.A.Around.given c.args.around.now) c.args.tables.now c.args.model in
     c.in-Ok-checked.ensures.answer scope refl c.in-Ok.ensures c.in_ok-web.ensures.web c.in_ok-web.ensures.small ∙ ap Ok (sym c.rebuild.ensures)
+
+pub returns-in-Err-checked-clause-answer : goal.returns-in-Err-checked-clause-answer
+returns-in-Err-checked-clause-answer g c =
+    let scope = scope_of called (g.A.Around.given c.args.around.now) c.args.tables.now c.args.model in
+    c.in-Err-checked.ensures.answer scope refl c.in-Ok.ensures c.in_ok-web.ensures.web c.in_ok-web.ensures.small
