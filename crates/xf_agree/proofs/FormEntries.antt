@@ -185,19 +185,23 @@ module _ (all : List Visit) (v : AreVisits all) (hung : (k : ℕ) (x : Visit) �
       same : (i : ℕ) → i ≡ i + 0
       same i = omega arith
 
-  from-stand : (scope : Scope) (k : ℕ) (rs : List Rule) → AllOf (Stands rs k) (entries_from scope all k rs)
-  from-stand scope k [] = tt
-  from-stand scope k (r ∷ rs) =
-      all-append (Stands (r ∷ rs) k) (if r.model == scope.model then entries_by scope all k r else []) (entries_from scope all (suc k) rs)
-      (by (r.model == scope.model)) (each_then _ _ (λ e s. later r rs k e s) (entries_from scope all (suc k) rs) (from-stand scope (suc k) rs))
+  -- those that one bind sets
+  pub bind-stands : (scope : Scope) (k : ℕ) (r : Rule) (rs : List Rule) → AllOf (Stands (r ∷ rs) k) (entries_by scope all k r)
+  bind-stands scope k r rs = entries-stand r rs k (unwrap_or (sets_of None scope all r) []) (in_order all (joined (unwrap_or (sets_of None scope all r) []))) (ordered (unwrap_or (sets_of None scope all r) []) (sets-solid scope r))
     where
       ordered : (made : List (List ℕ)) → AllOf (λ ns. (n : ℕ) → has n ns ≡ true → IsSolid n) made → (n : ℕ) → has n (in_order all (joined made)) ≡ true → IsSolid n
       ordered made solid n h =
           let y = kept-found (λ x. has x.number (joined made)) n all v.apart h in
           joined-solid made solid n (ap (λ j. has j (joined made)) (sym (found-number n all y.0 y.1)) ∙ y.2)
 
+  from-stand : (scope : Scope) (k : ℕ) (rs : List Rule) → AllOf (Stands rs k) (entries_from scope all k rs)
+  from-stand scope k [] = tt
+  from-stand scope k (r ∷ rs) =
+      all-append (Stands (r ∷ rs) k) (if r.model == scope.model then entries_by scope all k r else []) (entries_from scope all (suc k) rs)
+      (by (r.model == scope.model)) (each_then _ _ (λ e s. later r rs k e s) (entries_from scope all (suc k) rs) (from-stand scope (suc k) rs))
+    where
       by : (b : Bool) → AllOf (Stands (r ∷ rs) k) (if b then entries_by scope all k r else [])
-      by true = entries-stand r rs k (unwrap_or (sets_of None scope all r) []) (in_order all (joined (unwrap_or (sets_of None scope all r) []))) (ordered (unwrap_or (sets_of None scope all r) []) (sets-solid scope r))
+      by true = bind-stands scope k r rs
       by false = tt
 
   pub entries-standing : (scope : Scope) → AllOf (Stands scope.rules 0) (all_entries scope all)
