@@ -19,8 +19,8 @@ use Rattle.xf_agree.specs.Settles.{IsSolid}
 use Rattle.xf_marks_laws.specs.Marks.{IsInBoth, SameNodes}
 use Rattle.xf_marks_laws.specs.Instances.{standing, SameInstances}
 use Rattle.xf_marks_laws.proofs.BindInstances.{front-number}
-use Rattle.xf_marks_laws.proofs.EditLaws.{same_at_first}
-use Rattle.xf_marks_laws.proofs.ElsewhereLaws.{text_elsewhere, tree_behind, detached_elsewhere, attached_elsewhere}
+use Rattle.xf_edit_laws.proofs.EditLaws.{same_at_first}
+use Rattle.xf_edit_laws.proofs.ElsewhereLaws.{text_elsewhere, tree_behind, detached_elsewhere, attached_elsewhere}
 use Rattle.xf_change_laws.specs.Carried.{under, Carried}
 use Rattle.xf_change_laws.specs.Steps.{FirstCarried}
 use Rattle.xf_change_laws.specs.Elsewhere.{ElsewhereCarried, TextElsewhereCarried, BehindCarried, DetachedElsewhereCarried, AttachedElsewhereCarried, ReservedCarried, GivenUpCarried, DroppedCarried, RolledBackCarried}

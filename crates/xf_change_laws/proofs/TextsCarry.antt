@@ -20,12 +20,12 @@ use Rattle.xf_lang.proofs.VisitFacts.{no, some-same, found-out}
 use Rattle.xf_model.specs.Rules.{Scope}
 use Rattle.xf_marks_laws.specs.Marks.{IsInBoth, SameNodes}
 use Rattle.xf_marks_laws.specs.Instances.{standing, SameInstances}
-use Rattle.xf_marks_laws.specs.InstanceEdits.{AreTextNumbers}
+use Rattle.xf_edit_laws.specs.InstanceEdits.{AreTextNumbers}
 use Rattle.xf_marks_laws.proofs.Behind.{erased-apart}
-use Rattle.xf_marks_laws.proofs.EditLaws.{same_at_first, more-marked}
-use Rattle.xf_marks_laws.proofs.FrontEdits.{text_set_in_instances}
+use Rattle.xf_edit_laws.proofs.EditLaws.{same_at_first, more-marked}
+use Rattle.xf_edit_laws.proofs.FrontEdits.{text_set_in_instances}
 use Rattle.xf_marks_laws.proofs.Standing.{visits-parts, number-from}
-use Rattle.xf_marks_laws.proofs.TextAgain.{text_again}
+use Rattle.xf_edit_laws.proofs.TextAgain.{text_again}
 use Rattle.xf_change_laws.specs.Carried.{set_aside, Carried, Takes, Follows}
 use Rattle.xf_change_laws.specs.Steps.{TextCarried, AgainCarried, SettledCarried}
 use Rattle.xf_change_laws.proofs.Carry.{standing-apart, before-apart, front-absent, differ-of, one-mark, whole_carried}
