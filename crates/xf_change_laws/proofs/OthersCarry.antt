@@ -53,6 +53,7 @@ first_carried scope forest trees hung few docs = record {
   less = λ k h. h;
   few = few;
   few_before = λ k h. let l = small k h in let m = few in grind (arith, nat_tests, l, m);
+  solid = λ k h. inl refl;
 }
   where
     small : (k : ℕ) → has k (numbers_of (standing forest)) ≡ true → nat_lt k forest.next ≡ true
@@ -89,6 +90,7 @@ elsewhere_carried f taken more_taken texts lists scope documents forest after be
   less = takes.less;
   few = takes.few;
   few_before = carried.few_before;
+  solid = carried.solid;
 }
 
 pub text_elsewhere_carried : TextElsewhereCarried

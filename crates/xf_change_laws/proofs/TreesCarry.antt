@@ -49,6 +49,7 @@ detached_carried f taken more_taken texts lists more scope later documents n p f
   less = takes.less;
   few = takes.few;
   few_before = carried.few_before;
+  solid = carried.solid;
 }
 
 -- ---- attached
@@ -65,6 +66,7 @@ attached_carried f taken more_taken texts lists more scope later documents n p p
   less = takes.less;
   few = takes.few;
   few_before = carried.few_before;
+  solid = carried.solid;
 }
 
 pub attached_again_carried : AttachedAgainCarried
@@ -103,6 +105,7 @@ replaced_carried f taken more_taken texts lists more scope later documents old n
   less = takes.less;
   few = takes.few;
   few_before = carried.few_before;
+  solid = carried.solid;
 }
   where
     F : List Visit

@@ -20,7 +20,7 @@ use Rattle.xf_doc.proofs.MoveLemmas.{gone-after}
 use Rattle.xf_doc.proofs.OrderLaws.{seen-has}
 use Rattle.xf_doc.proofs.RunLemmas.{AreDeeper, deeper-append, below-deeper, placed-deeper, tree-here, tree-other}
 use Rattle.xf_lang.specs.Asked.{found}
-use Rattle.xf_lang.proofs.VisitFacts.{no, some-same, none-some, present}
+use Rattle.xf_lang.proofs.VisitFacts.{or-cases, or-left, or-right, no, some-same, none-some, present}
 use Rattle.xf_marks_laws.specs.Marks.{SameNodes}
 use Rattle.xf_marks_laws.specs.Binds.{instances_of}
 use Rattle.xf_edit_laws.specs.Edits.{StandsIn}
@@ -28,7 +28,7 @@ use Rattle.xf_edit_laws.specs.InstanceEdits.{TextSetInInstances, TreeDetached}
 use Rattle.xf_marks_laws.proofs.BindInstances.{front-number, front-trees}
 use Rattle.xf_marks_laws.proofs.Standing.{visits-parts}
 use Rattle.xf_edit_laws.proofs.TextSetLaws.{text_set}
-use Rattle.xf_edit_laws.proofs.CutLaws.{tree_cut}
+use Rattle.xf_edit_laws.proofs.CutLaws.{below-part, tree_cut}
 
 -- ---- the front of a list
 
@@ -66,6 +66,24 @@ past-front d (x ∷ xs) =
     flat : (b : Bool) → nat_lt d x.depth ≡ false → past d (cond b [] (x ∷ in_instances xs)) ≡ cond b [] (x ∷ in_instances xs)
     flat true q = refl
     flat false q = ap (λ b. cond b (past d (in_instances xs)) (x ∷ in_instances xs)) q
+
+-- a tree that begins in an instance stands in it
+pub inside-tree : (n k : ℕ) (nodes : List Node) → has_number n (in_instances nodes) ≡ true → has_number k (tree_of n nodes) ≡ true → has_number k (in_instances nodes) ≡ true
+inside-tree n k [] h i = h
+inside-tree n k (x ∷ xs) h i = by (is_detached_top x) (x.number == n) refl h (inside-tree n k xs)
+  where
+    here : has_number k (x ∷ below x.depth (in_instances xs)) ≡ true → has_number k (x ∷ in_instances xs) ≡ true
+    here m = elim (or-cases (x.number == k) (has_number k (below x.depth (in_instances xs))) m) [
+      | inl a ↦ or-left (x.number == k) (has_number k (in_instances xs)) a
+      | inr b ↦ or-right (x.number == k) (has_number k (in_instances xs)) (below-part k x.depth (in_instances xs) b)
+    ]
+
+    by : (b c : Bool) → (x.number == n) ≡ c → has_number n (cond b [] (x ∷ in_instances xs)) ≡ true →
+        (has_number n (in_instances xs) ≡ true → has_number k (tree_of n xs) ≡ true → has_number k (in_instances xs) ≡ true) → has_number k (cond b [] (x ∷ in_instances xs)) ≡ true
+    by true c e j later = no j
+    by false true e j later = here (sym (ap (has_number k) (tree-here n x xs e ∙ ap (λ l. x ∷ l) (sym (below-front x.depth xs)))) ∙ i)
+    by false false e j later =
+        or-right (x.number == k) (has_number k (in_instances xs)) (later (ap (λ b. b || has_number n (in_instances xs)) (sym e) ∙ j) (sym (ap (has_number k) (tree-other n x xs e)) ∙ i))
 
 front-found : (n : ℕ) (nodes : List Node) → has_number n (in_instances nodes) ≡ true → node_at n (in_instances nodes) ≡ node_at n nodes
 front-found n [] h = refl

@@ -23,7 +23,7 @@ use Rattle.xf_doc.proofs.RunLemmas.{AreTexts, IsRun, IsLeafAt, text-no_attribute
 use Rattle.xf_doc.proofs.TextLaws.{has_text as text-there}
 use Rattle.xf_lang.proofs.VisitFacts.{no, or-left, self-same}
 use Rattle.xf_marks_laws.specs.Marks.{SameNodes}
-use Rattle.xf_edit_laws.specs.InstanceEdits.{AreTextNumbers, TextAgain}
+use Rattle.xf_edit_laws.specs.InstanceEdits.{AreTextNumbers, KeepsBeside, TextAgain}
 use Rattle.xf_edit_laws.proofs.CutLaws.{or-right, absent-past, below-part, tree-part, parts-apart}
 use Rattle.xf_edit_laws.proofs.RenumberedNodes.{same_renumbered}
 
@@ -341,12 +341,13 @@ module _ (number : ℕ) (c : ℕ) (cs : List ℕ) (y : Node) (own : own_text y.c
 -- ---- the law
 
 abbrev Again : ℕ → ℕ → List ℕ → List Node → Type 0
-Again number n text nodes = (s : ℕ → ℕ) × AreTextNumbers number nodes s × (with_numbered_text number n text nodes ≡ map (renumbered s) nodes)
+Again number n text nodes = (s : ℕ → ℕ) × AreTextNumbers number nodes s × KeepsBeside number n nodes s × (with_numbered_text number n text nodes ≡ map (renumbered s) nodes)
 
 unchanged : (number n : ℕ) (text : List ℕ) (nodes : List Node) → with_numbered_text number n text nodes ≡ nodes → Again number n text nodes
 unchanged number n text nodes e = (
   λ k. k,
   record { renumbers = λ k m. refl; solid = λ k h i. refl; numbers = λ k. inl refl },
+  λ k h i. refl,
   e ∙ sym (same nodes),
 )
   where
@@ -376,6 +377,7 @@ again number n [] nodes a f (inr h) e =
 again number n (c ∷ cs) nodes a f (inr h) e = (
   exchange t.number number,
   record { renumbers = exchanged t.number number; solid = solid; numbers = numbers },
+  beside,
   ap (λ b. cond b (with_attribute_text n (c ∷ cs) nodes) (with_texts n (one_text number (c ∷ cs)) nodes)) h.0 ∙ nodes-again number c cs t one.2 n nodes h.1 a f one.1,
 )
   where
@@ -394,6 +396,13 @@ again number n (c ∷ cs) nodes a f (inr h) e = (
         by : (b : Bool) → (k == t.number) ≡ b → exchange t.number number k ≡ k
         by false q = other-stays t.number number k q i
         by true q = no (sym (j t (ap (λ m. node_at m nodes) (eqb-true k t.number q) ∙ stands)) ∙ (in-filter t (tree_of n nodes) [] one.1).1)
+
+    beside : (k : ℕ) → (k == number) ≡ false → has_number k (tree_of n nodes) ≡ false → exchange t.number number k ≡ k
+    beside k i j = by (k == t.number) refl
+      where
+        by : (b : Bool) → (k == t.number) ≡ b → exchange t.number number k ≡ k
+        by false q = other-stays t.number number k q i
+        by true q = no (sym j ∙ ap (λ m. has_number m (tree_of n nodes)) (eqb-true k t.number q) ∙ (in-filter t (tree_of n nodes) [] one.1).0)
 
     numbers : (k : ℕ) → (exchange t.number number k ≡ k) ⊎ ((exchange t.number number k ≡ number) ⊎ (has_number (exchange t.number number k) nodes ≡ true))
     numbers k = by (k == t.number) refl (k == number) refl
@@ -420,8 +429,9 @@ text_again texts lists number n next text forest before trees able stands fresh 
     let r = again number n text forest.nodes trees.apart fresh (text-there n forest trees able) stands in (
       r.0,
       r.1,
+      r.2,
       subst (λ l. SameNodes texts lists l (map (renumbered_visit r.0) before))
-          (sym (ap (λ l. visits (in_instances l)) r.2 ∙ ap visits (in_instances-renumbered r.0 r.1.renumbers forest.nodes) ∙ visits-renumbered r.0 r.1.renumbers (in_instances forest.nodes)))
+          (sym (ap (λ l. visits (in_instances l)) r.3 ∙ ap visits (in_instances-renumbered r.0 r.1.renumbers forest.nodes) ∙ visits-renumbered r.0 r.1.renumbers (in_instances forest.nodes)))
           (same_renumbered r.0 texts lists (visits (in_instances forest.nodes)) before r.1.renumbers
           (marks-stay r.0 r.1.renumbers texts (λ k h. r.1.solid k (marks k h).0 (marks k h).1))
           (marks-stay r.0 r.1.renumbers lists (λ k h. r.1.solid k (list_marks k h).0 (list_marks k h).1)) same),

@@ -44,6 +44,10 @@ pub record AreTextNumbers (number : ℕ) (nodes : List Node) (s : ℕ → ℕ) :
   pub solid : (k : ℕ) → (k == number) ≡ false → ((x : Node) → node_at k nodes ≡ Some x → is_text x.content ≡ false) → s k ≡ k
   pub numbers : (k : ℕ) → (s k ≡ k) ⊎ ((s k ≡ number) ⊎ (has_number (s k) nodes ≡ true))
 
+-- what does not stand in the node keeps its number
+abbrev pub KeepsBeside : ℕ → ℕ → List Node → (ℕ → ℕ) → Type 0
+KeepsBeside number n nodes s = (k : ℕ) → (k == number) ≡ false → has_number k (tree_of n nodes) ≡ false → s k ≡ k
+
 -- no mark is on a text
 abbrev pub AreSolid : ℕ → List Node → List ℕ → Type 0
 AreSolid number nodes marks = (k : ℕ) → has k marks ≡ true → ((k == number) ≡ false) × ((x : Node) → node_at k nodes ≡ Some x → is_text x.content ≡ false)
@@ -52,7 +56,7 @@ AreSolid number nodes marks = (k : ℕ) → has k marks ≡ true → ((k == numb
 abbrev pub TextAgain : Type 0
 TextAgain = (texts lists : List ℕ) (number n next : ℕ) (text : List ℕ) (forest : Forest) (before : List Visit) → HasTrees forest → IsSettable n forest → has_text n text forest.nodes ≡ true →
     has_number number forest.nodes ≡ false → AreSolid number forest.nodes texts → AreSolid number forest.nodes lists → SameNodes texts lists (standing forest) before →
-    (s : ℕ → ℕ) × AreTextNumbers number forest.nodes s × SameNodes texts lists (standing (record { nodes = with_numbered_text number n text forest.nodes; next = next })) (map (renumbered_visit s) before)
+    (s : ℕ → ℕ) × AreTextNumbers number forest.nodes s × KeepsBeside number n forest.nodes s × SameNodes texts lists (standing (record { nodes = with_numbered_text number n text forest.nodes; next = next })) (map (renumbered_visit s) before)
 
 -- what is not another text, and stands alone, stands there already, where no text is empty: so no mark is set
 abbrev pub StandsThere : Type 0

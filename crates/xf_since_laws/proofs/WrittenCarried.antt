@@ -150,6 +150,7 @@ module _ (f : ℕ → ℕ) (taken : ℕ → Bool) (lists : List ℕ) (scope : Sc
     less = carried.less;
     few = carried.few;
     few_before = carried.few_before;
+    solid = carried.solid;
   }
 
   module _ (texts : List ℕ) (carried : Carried f taken texts lists scope documents now before) where
