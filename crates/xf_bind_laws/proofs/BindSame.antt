@@ -1,29 +1,34 @@
 -- A bind sets what it set, entry for entry: none of these lies on a text or on a node that moved, and all other nodes have their numbers.
-use Rattle.std.proofs.Common.{◌≡◌, ℕ, ◌==◌, Bool, true, false, List, [], ◌∷◌, map, nat_lt, refl, sym, ap, ◌∙◌, subst, inl, inr, arith}
+use Rattle.std.proofs.Common.{◌≡◌, ℕ, Bool, true, false, List, [], ◌∷◌, map, nat_lt, Option, Some, None, option_map, refl, sym, ap, ◌∙◌, subst, inl, inr, arith}
 use Rattle.std.specs.Prelude.{◌^◌}
 use Rattle.std.proofs.lemmas.Bool.Decides.{nat_tests}
-use Rattle.xf_doc.specs.Forest.{Forest, is_text, has_number}
-use Rattle.xf_doc.specs.Visit.{visits, has}
+use Rattle.xf_doc.specs.Forest.{Forest, has_number}
+use Rattle.xf_doc.specs.Visit.{Visit, visits, has}
 use Rattle.xf_doc.specs.Shape.{erased, shape}
 use Rattle.xf_doc.specs.Changes.{in_instances}
+use Rattle.xf_doc.specs.Same.{IsRenumbering, renumbered_visit}
 use Rattle.xf_doc.proofs.OrderLaws.{seen-has}
-use Rattle.xf_lang.specs.Agree.{numbers_of}
+use Rattle.xf_lang.specs.Asked.{found}
+use Rattle.xf_lang.specs.Agree.{numbers_of, untexted}
 use Rattle.xf_lang.specs.Given.{Document}
-use Rattle.xf_lang.proofs.VisitFacts.{no, present}
+use Rattle.xf_lang.proofs.VisitFacts.{no, none-some, present}
 use Rattle.xf_lang.proofs.UntextedLaws.{solid-found}
 use Rattle.xf_lang.proofs.ForestVisits.{forest-visits}
+use Rattle.xf_lang.proofs.RenumberLaws.{found-renumbered}
 use Rattle.xf_model.specs.Rules.{Scope}
 use Rattle.xf_model.specs.Applied.{Entry, entries_by}
 use Rattle.xf_model.specs.Pertinent.{AllOf}
 use Rattle.xf_model.specs.Same.{renumbered_entry}
 use Rattle.xf_model.proofs.EachLemmas.{each_then, each_both}
 use Rattle.xf_agree.specs.Settles.{IsSolid}
+use Rattle.xf_marks_laws.specs.Marks.{IsInBoth}
 use Rattle.xf_marks_laws.specs.Binds.{instances_of, HasInstances}
 use Rattle.xf_marks_laws.specs.Instances.{standing}
 use Rattle.xf_marks_laws.proofs.Behind.{numbers-erased}
 use Rattle.xf_marks_laws.proofs.BindInstances.{front-number, front-trees}
 use Rattle.xf_change_laws.specs.Carried.{set_aside, Carried}
-use Rattle.xf_bind_laws.specs.Since.{AnyBindHeldSame}
+use Rattle.xf_change_laws.proofs.Fixed.{untexted-through}
+use Rattle.xf_bind_laws.specs.Since.{DocumentKept, AnyBindHeldSame}
 use Rattle.xf_bind_laws.proofs.BindHeld.{h, as-carried, entries-held}
 use Rattle.xf_bind_laws.proofs.LooseInstances.{any_bind_of_instances}
 use Rattle.xf_bind_laws.proofs.SolidEntries.{entries-solid}
@@ -59,6 +64,31 @@ module _ (f : ℕ → ℕ) (taken : ℕ → Bool) (texts lists : List ℕ) (scop
 
   pub still-numbered : (k : ℕ) → IsSolid (standing before) k → IsSolid (standing now) (f k) → f k ≡ k
   still-numbered k s t = elim (carried.solid k s) [ inl e ↦ e | inr e ↦ no (sym (too-great k) ∙ ap (λ m. nat_lt m (2 ^ 127)) (sym e) ∙ stands-small (f k) t) ]
+
+-- ---- a document element
+
+visit-of : (f : ℕ → ℕ) (o : Option Visit) (x : Visit) → option_map (renumbered_visit f) o ≡ Some x → (y : Visit) × (o ≡ Some y)
+visit-of f None x e = none-some e
+visit-of f (Some y) x e = (y, refl)
+
+-- what stands in both with a number of before stood
+stood : (f : ℕ → ℕ) → IsRenumbering f → (now P0 : List Visit) (m n : ℕ) → f m ≡ n → IsInBoth now (map (renumbered_visit f) P0) n → IsSolid P0 m
+stood f same now P0 m n e both =
+    visit-of f (found m (untexted (map erased P0))) both.0
+    (sym (found-renumbered f same m (untexted (map erased P0)))
+    ∙ ap (found (f m)) (sym (untexted-through f P0))
+    ∙ ap (λ k. found k (untexted (map erased (map (renumbered_visit f) P0)))) e
+    ∙ both.2)
+
+pub document_kept : DocumentKept
+document_kept f taken texts lists scope documents now before id n instances carried docs e =
+    let r = carried.same.same id n e (λ m h. docs.around id n m e h) in
+    let old : IsSolid (standing before) r.0 = stood f carried.same.renumbers (standing now) (standing before) r.0 n r.2 r.3 in
+    let here : IsSolid (standing now) (f r.0) = (r.3.0, ap (λ k. found k (untexted (map erased (standing now)))) r.2 ∙ r.3.1) in
+    let is : r.0 ≡ n = sym (still-numbered f taken texts lists scope documents now before instances carried r.0 old here) ∙ r.2 in
+    (r.1 ∙ ap Some is, subst (IsSolid (standing before)) is old, ap f (sym is) ∙ r.2)
+
+-- ---- the entries
 
 pub any_bind_held_same : AnyBindHeldSame
 any_bind_held_same f taken texts lists scope documents now before bind r around own instances instances_before carried docs kept truths chain set covered_around covered unmarked =

@@ -83,6 +83,12 @@ pub record KeptAround (f : ℕ → ℕ) (scope : Scope) (before : Forest) : Type
   pub documents : AllOf (λ d. IsSolid (standing before) d.element × (f d.element ≡ d.element)) scope.given.documents
   pub quiet : scope.given.event ≡ None
 
+-- so it is of a document element that can be named: it is the one that it was
+abbrev pub DocumentKept : Type 0
+DocumentKept = (f : ℕ → ℕ) (taken : ℕ → Bool) (texts lists : List ℕ) (scope : Scope) (documents : List Document) (now before : Forest) (id : List ℕ) (n : ℕ) →
+    HasInstances scope now → Carried f taken texts lists scope documents now before → KeepsDocuments lists scope now → document_of scope.model id scope.given.documents ≡ Some n →
+    (document_of scope.model id documents ≡ Some n) × IsSolid (standing before) n × (f n ≡ n)
+
 -- none of the entries lies on a text or on a node that moved, so that they are the same
 abbrev pub AnyBindHeldSame : Type 0
 AnyBindHeldSame = (f : ℕ → ℕ) (taken : ℕ → Bool) (texts lists : List ℕ) (scope : Scope) (documents : List Document) (now before : Forest) (bind : ℕ) (r : Rule) (around : List Expr) (own : Expr) →

@@ -3,7 +3,7 @@
 #![tactic(auto)]
 
 ghost use Rattle.xf_bind_laws.specs.WithTexts.{AnyBindStays, AnyBindOfInstances, AnyBindStaysInInstances, WithTextsOfNodes};
-ghost use Rattle.xf_bind_laws.specs.Since.{WithTextsCarried, AnyBindSince, AnyBindHeld, AnyBindHeldSame};
+ghost use Rattle.xf_bind_laws.specs.Since.{WithTextsCarried, AnyBindSince, AnyBindHeld, DocumentKept, AnyBindHeldSame};
 ghost use Rattle.xf_bind_laws.specs.AllBinds.{AppliedOfInstances, AppliedStands};
 
 /// A bind sets the same on the same nodes where no list is marked that its node set, or one around it, looks at; and over the instances alone.
@@ -23,6 +23,7 @@ pub fn any_bind_since()
     ensures with_texts { WithTextsCarried }
     ensures since { AnyBindSince }
     ensures held { AnyBindHeld }
+    ensures documents { DocumentKept }
     ensures same { AnyBindHeldSame }
 {}
 
