@@ -23,6 +23,7 @@ use Rattle.xf_model.specs.Nested.{sets_of}
 use Rattle.xf_model.specs.Applied.{properties_of, standing_in, entry_of, entries_at, entries_on, entries_by}
 use Rattle.xf_model.specs.Pertinent.{AllOf}
 use Rattle.xf_model.specs.Same.{renumbered_entry, renumbered_scope}
+use Rattle.xf_model.proofs.EachLemmas.{each_then}
 use Rattle.xf_model.proofs.RenumberBinds.{TraceGoes, trace-goes, flat-goes, sets-renumbered}
 use Rattle.xf_agree.specs.Settles.{IsSolid}
 use Rattle.xf_marks_laws.specs.Binds.{bind_looks, GivesTruths, HasInstances}
@@ -33,7 +34,7 @@ use Rattle.xf_marks_laws.proofs.TextLists.{not-of, text-kept, original}
 use Rattle.xf_change_laws.specs.Carried.{Carried}
 use Rattle.xf_change_laws.proofs.Carry.{standing-apart}
 use Rattle.xf_bind_laws.specs.WithTexts.{IsCovered}
-use Rattle.xf_bind_laws.specs.Since.{first_marked, is_loose, KeepsDocuments, HoldsNumbers, KeptNumbers, AnyBindHeld}
+use Rattle.xf_bind_laws.specs.Since.{first_marked, is_loose, KeepsDocuments, HoldsNumbers, KeptNumbers, KeptAround, AnyBindHeld}
 use Rattle.xf_bind_laws.proofs.LooseInstances.{any_bind_of_instances}
 use Rattle.xf_bind_laws.proofs.ShapeHeld.{spread, at-node, spread-renumbers, spread-texts, shape-through}
 use Rattle.xf_bind_laws.proofs.SinceNodes.{entries-since}
@@ -86,20 +87,20 @@ map-each a b (x ∷ xs) e = ap (λ y. y ∷ map a xs) e.0 ∙ ap (λ l. b x ∷ 
 
 module _ (f : ℕ → ℕ) (taken : ℕ → Bool) (texts lists : List ℕ) (scope : Scope) (documents : List Document) (now before : Forest)
     (instances : HasInstances scope now) (instances_before : HasInstances scope before) (carried : Carried f taken texts lists scope documents now before) (docs : KeepsDocuments lists scope now)
-    (numbers : KeptNumbers f scope before) where
+    (around_then : KeptAround f scope before) where
   abbrev P0 : List Visit
   P0 = standing before
 
   abbrev g : ℕ → ℕ
   g = aside.loosened f taken texts lists scope documents now before instances.trees carried
 
-  renumbers : IsRenumbering g
+  pub renumbers : IsRenumbering g
   renumbers = aside.renumbers f taken texts lists scope documents now before instances.trees carried
 
-  small : (k : ℕ) → has k (numbers_of P0) ≡ true → nat_lt (g k) (2 ^ 128) ≡ true
+  pub small : (k : ℕ) → has k (numbers_of P0) ≡ true → nat_lt (g k) (2 ^ 128) ≡ true
   small = aside.small f taken texts lists scope documents now before instances.trees carried
 
-  abbrev h : ℕ → ℕ
+  abbrev pub h : ℕ → ℕ
   h = spread (numbers_of P0) g renumbers carried.few_before small
 
   same : IsRenumbering h
@@ -111,13 +112,12 @@ module _ (f : ℕ → ℕ) (taken : ℕ → Bool) (texts lists : List ℕ) (scop
   holds : HoldsNumbers f texts before h
   holds = record { renumbers = same; held = λ k i l. at k i ∙ aside.held f taken texts lists scope documents now before instances.trees carried k i l }
 
-  solid : (n : ℕ) → IsSolid P0 n → h n ≡ n
-  solid n s =
+  pub as-carried : (n : ℕ) → IsSolid P0 n → h n ≡ f n
+  as-carried n s =
       let out = found-out (λ y. not (is_text y.content)) n (map erased P0) s.0 (erased-apart P0 (standing-apart before carried.same.trees)) s.1 in
       let w = original n P0 s.0 out.0 in
       holds.held n (present n P0 w.0 w.1)
       (ap (is_loose f texts) w.1 ∙ ap (λ b. b && first_marked texts (map f w.0.above)) (sym (text-kept w.0.content) ∙ ap (λ (v : Visit). is_text v.content) w.2 ∙ not-of (is_text s.0.content) out.1))
-      ∙ numbers.solid n s
 
   -- ---- the visits
 
@@ -137,16 +137,16 @@ module _ (f : ℕ → ℕ) (taken : ℕ → Bool) (texts lists : List ℕ) (scop
 
   -- ---- what surrounds the binds
 
-  same-documents : (ds : List Document) → AllOf (λ d. IsSolid P0 d.element) ds → map (renumbered_document h) ds ≡ ds
+  same-documents : (ds : List Document) → AllOf (λ d. IsSolid P0 d.element × (f d.element ≡ d.element)) ds → map (renumbered_document h) ds ≡ ds
   same-documents [] i = refl
-  same-documents (d ∷ ds) i = ap (λ n. record d { element = n } ∷ map (renumbered_document h) ds) (solid d.element i.0) ∙ ap (λ l. d ∷ l) (same-documents ds i.1)
+  same-documents (d ∷ ds) i = ap (λ n. record d { element = n } ∷ map (renumbered_document h) ds) (as-carried d.element i.0.0 ∙ i.0.1) ∙ ap (λ l. d ∷ l) (same-documents ds i.1)
 
   same-scope : renumbered_scope h scope ≡ scope
   same-scope =
-      ap (λ ds. record scope { given = record scope.given { documents = ds; event = option_map (map (renumbered_property h)) scope.given.event } }) (same-documents scope.given.documents numbers.documents)
-      ∙ ap (λ e. record scope { given = record scope.given { event = e } }) (ap (option_map (map (renumbered_property h))) numbers.quiet ∙ sym numbers.quiet)
+      ap (λ ds. record scope { given = record scope.given { documents = ds; event = option_map (map (renumbered_property h)) scope.given.event } }) (same-documents scope.given.documents around_then.documents)
+      ∙ ap (λ e. record scope { given = record scope.given { event = e } }) (ap (option_map (map (renumbered_property h))) around_then.quiet ∙ sym around_then.quiet)
 
-  entries-held : (bind : ℕ) (r : Rule) (around : List Expr) (own : Expr) → GivesTruths scope →
+  pub entries-held : (bind : ℕ) (r : Rule) (around : List Expr) (own : Expr) → GivesTruths scope →
       chain_around (chains scope) r.around ≡ map trace around → r.node_set ≡ trace own → AllOf IsCovered around → IsCovered own →
       list_any (λ n. has n lists) (bind_looks scope (shape (visits (in_instances now.nodes))) r) ≡ false →
       entries_by scope (shape (visits now.nodes)) bind r ≡ map (renumbered_entry h) (entries_by scope (shape (visits before.nodes)) bind r)
@@ -158,10 +158,17 @@ module _ (f : ℕ → ℕ) (taken : ℕ → Bool) (texts lists : List ℕ) (scop
       ∙ entries-through h same scope (shape P0) bind r (subst (AllOf (TraceGoes h)) (sym chain) (all-go h same around)) (subst (TraceGoes h) (sym set) (trace-goes h same own))
       ∙ ap (map (renumbered_entry h)) (sym (any_bind_of_instances scope before bind r around own instances_before truths chain set covered_around covered))
 
+kept-around : (f : ℕ → ℕ) (scope : Scope) (before : Forest) → KeptNumbers f scope before → KeptAround f scope before
+kept-around f scope before numbers = record {
+  documents = each_then (λ (d : Document). IsSolid (standing before) d.element) _ (λ d s. (s, numbers.solid d.element s)) scope.given.documents numbers.documents;
+  quiet = numbers.quiet;
+}
+
 pub any_bind_held : AnyBindHeld
-any_bind_held f taken texts lists scope documents now before bind r around own instances instances_before carried docs numbers truths chain set covered_around covered unmarked = (
-  h f taken texts lists scope documents now before instances instances_before carried docs numbers,
-  holds f taken texts lists scope documents now before instances instances_before carried docs numbers,
-  solid f taken texts lists scope documents now before instances instances_before carried docs numbers,
-  entries-held f taken texts lists scope documents now before instances instances_before carried docs numbers bind r around own truths chain set covered_around covered unmarked,
-)
+any_bind_held f taken texts lists scope documents now before bind r around own instances instances_before carried docs numbers truths chain set covered_around covered unmarked =
+    let kept = kept-around f scope before numbers in (
+      h f taken texts lists scope documents now before instances instances_before carried docs kept,
+      holds f taken texts lists scope documents now before instances instances_before carried docs kept,
+      λ n s. as-carried f taken texts lists scope documents now before instances instances_before carried docs kept n s ∙ numbers.solid n s,
+      entries-held f taken texts lists scope documents now before instances instances_before carried docs kept bind r around own truths chain set covered_around covered unmarked,
+    )

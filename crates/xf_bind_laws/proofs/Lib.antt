@@ -13,3 +13,7 @@ pub mod SetAside
 pub mod SinceNodes
 pub mod ShapeHeld
 pub mod BindHeld
+pub mod SolidEntries
+pub mod BindSame
+pub mod FormChains
+pub mod AppliedEverywhere

@@ -29,7 +29,7 @@ nothing-marked : (ns : List ℕ) → list_any (λ n. has n []) ns ≡ false
 nothing-marked [] = refl
 nothing-marked (n ∷ ns) = nothing-marked ns
 
-first-has : (m : ℕ) (ns : List ℕ) → is_first m ns ≡ true → has m ns ≡ true
+pub first-has : (m : ℕ) (ns : List ℕ) → is_first m ns ≡ true → has m ns ≡ true
 first-has m [] j = j
 first-has m (k ∷ ks) j = or-left (m == k) (has m ks) j
 

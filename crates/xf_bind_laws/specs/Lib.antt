@@ -1,2 +1,3 @@
 pub mod WithTexts
 pub mod Since
+pub mod AllBinds

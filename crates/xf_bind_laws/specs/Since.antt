@@ -77,3 +77,22 @@ AnyBindHeld = (f : ℕ → ℕ) (taken : ℕ → Bool) (texts lists : List ℕ) 
     list_any (λ n. has n lists) (bind_looks scope (shape (visits (in_instances now.nodes))) r) ≡ false →
     (h : ℕ → ℕ) × HoldsNumbers f texts before h × ((n : ℕ) → IsSolid (standing before) n → h n ≡ n)
     × (entries_by scope (shape (visits now.nodes)) bind r ≡ map (renumbered_entry h) (entries_by scope (shape (visits before.nodes)) bind r))
+
+-- what surrounds the binds is what surrounded them, outside an event: document elements stood, and have their numbers
+pub record KeptAround (f : ℕ → ℕ) (scope : Scope) (before : Forest) : Type 0 where
+  pub documents : AllOf (λ d. IsSolid (standing before) d.element × (f d.element ≡ d.element)) scope.given.documents
+  pub quiet : scope.given.event ≡ None
+
+-- so it is of a document element that can be named: it is the one that it was
+abbrev pub DocumentKept : Type 0
+DocumentKept = (f : ℕ → ℕ) (taken : ℕ → Bool) (texts lists : List ℕ) (scope : Scope) (documents : List Document) (now before : Forest) (id : List ℕ) (n : ℕ) →
+    HasInstances scope now → Carried f taken texts lists scope documents now before → KeepsDocuments lists scope now → document_of scope.model id scope.given.documents ≡ Some n →
+    (document_of scope.model id documents ≡ Some n) × IsSolid (standing before) n × (f n ≡ n)
+
+-- none of the entries lies on a text or on a node that moved, so that they are the same
+abbrev pub AnyBindHeldSame : Type 0
+AnyBindHeldSame = (f : ℕ → ℕ) (taken : ℕ → Bool) (texts lists : List ℕ) (scope : Scope) (documents : List Document) (now before : Forest) (bind : ℕ) (r : Rule) (around : List Expr) (own : Expr) →
+    HasInstances scope now → HasInstances scope before → Carried f taken texts lists scope documents now before → KeepsDocuments lists scope now → KeptAround f scope before → GivesTruths scope →
+    chain_around (chains scope) r.around ≡ map trace around → r.node_set ≡ trace own → AllOf IsCovered around → IsCovered own →
+    list_any (λ n. has n lists) (bind_looks scope (shape (visits (in_instances now.nodes))) r) ≡ false →
+    entries_by scope (shape (visits now.nodes)) bind r ≡ entries_by scope (shape (visits before.nodes)) bind r

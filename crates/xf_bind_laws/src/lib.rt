@@ -3,7 +3,8 @@
 #![tactic(auto)]
 
 ghost use Rattle.xf_bind_laws.specs.WithTexts.{AnyBindStays, AnyBindOfInstances, AnyBindStaysInInstances, WithTextsOfNodes};
-ghost use Rattle.xf_bind_laws.specs.Since.{WithTextsCarried, AnyBindSince, AnyBindHeld};
+ghost use Rattle.xf_bind_laws.specs.Since.{WithTextsCarried, AnyBindSince, AnyBindHeld, DocumentKept, AnyBindHeldSame};
+ghost use Rattle.xf_bind_laws.specs.AllBinds.{AppliedOfInstances, AppliedStands};
 
 /// A bind sets the same on the same nodes where no list is marked that its node set, or one around it, looks at; and over the instances alone.
 pub fn any_bind_stays()
@@ -22,4 +23,12 @@ pub fn any_bind_since()
     ensures with_texts { WithTextsCarried }
     ensures since { AnyBindSince }
     ensures held { AnyBindHeld }
+    ensures documents { DocumentKept }
+    ensures same { AnyBindHeldSame }
+{}
+
+/// What all binds of a form apply over a forest they apply over its instances alone; the nodes of entries stand in these, and are no texts.
+pub fn all_binds()
+    ensures instances { AppliedOfInstances }
+    ensures stand { AppliedStands }
 {}

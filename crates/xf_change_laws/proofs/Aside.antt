@@ -16,6 +16,7 @@ use Rattle.xf_lang.specs.Asked.{found}
 use Rattle.xf_lang.specs.Agree.{numbers_of, are_apart}
 use Rattle.xf_lang.proofs.VisitFacts.{no, self-same, present, found-in, found-out}
 use Rattle.xf_model.specs.Rules.{Scope}
+use Rattle.xf_agree.specs.Settles.{IsSolid}
 use Rattle.xf_marks_laws.specs.Marks.{IsInBoth, SameNodes}
 use Rattle.xf_marks_laws.specs.Instances.{standing}
 use Rattle.xf_marks_laws.proofs.Behind.{Behind, append-none, erased-apart, numbers-erased, erased-before}
@@ -178,6 +179,13 @@ module _ (q : ℕ → Bool) (f : ℕ → ℕ) (taken : ℕ → Bool) (texts list
       by true e = elim (carried.was k h) [ inl i ↦ inl (ap taken (kept k e) ∙ i) | inr i ↦ inr (kept k e ∙ i) ]
       by false e = inr (aside k e)
 
+  solid : (k : ℕ) → IsSolid P0 k → (moved_aside k ≡ k) ⊎ (moved_aside k ≡ set_aside k)
+  solid k s = by (keeps_number k) refl
+    where
+      by : (b : Bool) → keeps_number k ≡ b → (moved_aside k ≡ k) ⊎ (moved_aside k ≡ set_aside k)
+      by true e = elim (carried.solid k s) [ inl i ↦ inl (kept k e ∙ i) | inr i ↦ inr (kept k e ∙ i) ]
+      by false e = inr (aside k e)
+
   small : (k : ℕ) → has k (numbers_of P0) ≡ true → nat_lt (moved_aside k) (2 ^ 128) ≡ true
   small k h = elim (was k h) [
     | inl e ↦ let l = small-taken (moved_aside k) e in grind (arith, nat_tests, l)
@@ -201,6 +209,7 @@ module _ (q : ℕ → Bool) (f : ℕ → ℕ) (taken : ℕ → Bool) (texts list
     less = carried.less;
     few = carried.few;
     few_before = carried.few_before;
+    solid = solid;
   }
 
   -- then none of before has one of these numbers, where nodes of now have them

@@ -18,7 +18,7 @@ use Rattle.xf_model.specs.Rules.{Scope}
 use Rattle.xf_marks_laws.specs.Marks.{IsInBoth}
 use Rattle.xf_marks_laws.specs.Binds.{instances_of}
 use Rattle.xf_marks_laws.specs.Instances.{standing, SameInstances}
-use Rattle.xf_marks_laws.specs.Edits.{MarksMore}
+use Rattle.xf_edit_laws.specs.Edits.{MarksMore}
 use Rattle.xf_marks_laws.proofs.Behind.{erased-apart}
 use Rattle.xf_marks_laws.proofs.BindInstances.{front-number, front-trees}
 use Rattle.xf_marks_laws.proofs.Standing.{visits-apart}

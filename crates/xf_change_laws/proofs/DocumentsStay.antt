@@ -19,7 +19,7 @@ use Rattle.xf_agree.specs.Kept.{keeps, is_known}
 use Rattle.xf_marks_laws.specs.Marks.{is_unmarked, without_marked, IsInBoth}
 use Rattle.xf_marks_laws.specs.Instances.{standing}
 use Rattle.xf_marks_laws.proofs.Behind.{append-none, filter-no, front-apart, erased-apart, numbers-erased, or_later, found-append}
-use Rattle.xf_marks_laws.proofs.EditLaws.{filter-each}
+use Rattle.xf_edit_laws.proofs.EditLaws.{filter-each}
 use Rattle.xf_marks_laws.proofs.Standing.{visits-parts, within}
 use Rattle.xf_marks_laws.proofs.TextLists.{standing-at, text-kept}
 use Rattle.xf_change_laws.specs.Documents.{IsRootOf, DocumentStays}

@@ -19,7 +19,7 @@ use Rattle.xf_lang.proofs.VisitFacts.{some-same, none-some, present, found-numbe
 use Rattle.xf_agree.proofs.HeldShape.{original}
 use Rattle.xf_marks_laws.specs.Binds.{instances_of}
 use Rattle.xf_marks_laws.specs.Instances.{standing}
-use Rattle.xf_marks_laws.specs.InstanceEdits.{AreTextNumbers}
+use Rattle.xf_edit_laws.specs.InstanceEdits.{AreTextNumbers}
 use Rattle.xf_marks_laws.proofs.Behind.{erased-apart, or_later, found-append}
 use Rattle.xf_marks_laws.proofs.BindInstances.{front-trees}
 use Rattle.xf_marks_laws.proofs.Standing.{visits-parts}

@@ -19,8 +19,8 @@ use Rattle.xf_agree.specs.Settles.{IsSolid}
 use Rattle.xf_marks_laws.specs.Marks.{IsInBoth, SameNodes}
 use Rattle.xf_marks_laws.specs.Instances.{standing, SameInstances}
 use Rattle.xf_marks_laws.proofs.BindInstances.{front-number}
-use Rattle.xf_marks_laws.proofs.EditLaws.{same_at_first}
-use Rattle.xf_marks_laws.proofs.ElsewhereLaws.{text_elsewhere, tree_behind, detached_elsewhere, attached_elsewhere}
+use Rattle.xf_edit_laws.proofs.EditLaws.{same_at_first}
+use Rattle.xf_edit_laws.proofs.ElsewhereLaws.{text_elsewhere, tree_behind, detached_elsewhere, attached_elsewhere}
 use Rattle.xf_change_laws.specs.Carried.{under, Carried}
 use Rattle.xf_change_laws.specs.Steps.{FirstCarried}
 use Rattle.xf_change_laws.specs.Elsewhere.{ElsewhereCarried, TextElsewhereCarried, BehindCarried, DetachedElsewhereCarried, AttachedElsewhereCarried, ReservedCarried, GivenUpCarried, DroppedCarried, RolledBackCarried}
@@ -53,6 +53,7 @@ first_carried scope forest trees hung few docs = record {
   less = λ k h. h;
   few = few;
   few_before = λ k h. let l = small k h in let m = few in grind (arith, nat_tests, l, m);
+  solid = λ k h. inl refl;
 }
   where
     small : (k : ℕ) → has k (numbers_of (standing forest)) ≡ true → nat_lt k forest.next ≡ true
@@ -89,6 +90,7 @@ elsewhere_carried f taken more_taken texts lists scope documents forest after be
   less = takes.less;
   few = takes.few;
   few_before = carried.few_before;
+  solid = carried.solid;
 }
 
 pub text_elsewhere_carried : TextElsewhereCarried

@@ -5,30 +5,35 @@ use Rattle.std.specs.List.{list_any}
 use Rattle.std.proofs.lemmas.Bool.{eqb-true}
 use Rattle.std.proofs.lemmas.Bool.Decides.{nat_tests}
 use Rattle.xf_doc.specs.declared.content.Node.{Node}
-use Rattle.xf_doc.specs.Forest.{Forest, is_text, is_element, has_number}
+use Rattle.xf_doc.specs.Forest.{Forest, is_text, is_element, has_number, node_at, tree_of}
 use Rattle.xf_doc.specs.Visit.{Visit, visits, has, is_first}
 use Rattle.xf_doc.specs.Shape.{erased, has_elements}
-use Rattle.xf_doc.specs.Changes.{in_detached}
+use Rattle.xf_doc.specs.Changes.{in_instances, in_detached}
 use Rattle.xf_doc.specs.Same.{renumbered_visit}
 use Rattle.xf_doc.specs.Settle.{with_numbered_text, has_text}
 use Rattle.xf_doc.specs.WellFormed.{HasTrees}
 use Rattle.xf_doc.proofs.BackLaws.{or-false}
+use Rattle.xf_doc.proofs.OrderLaws.{seen-has}
 use Rattle.xf_lang.specs.Given.{Document, document_of}
 use Rattle.xf_lang.specs.Asked.{found, parent_in, list_around}
 use Rattle.xf_lang.specs.Agree.{numbers_of, untexted}
-use Rattle.xf_lang.proofs.VisitFacts.{no, some-same, found-out}
+use Rattle.xf_lang.proofs.VisitFacts.{no, some-same, present, found-in, found-out}
 use Rattle.xf_model.specs.Rules.{Scope}
+use Rattle.xf_agree.specs.Settles.{IsSolid}
 use Rattle.xf_marks_laws.specs.Marks.{IsInBoth, SameNodes}
 use Rattle.xf_marks_laws.specs.Instances.{standing, SameInstances}
-use Rattle.xf_marks_laws.specs.InstanceEdits.{AreTextNumbers}
-use Rattle.xf_marks_laws.proofs.Behind.{erased-apart}
-use Rattle.xf_marks_laws.proofs.EditLaws.{same_at_first, more-marked}
-use Rattle.xf_marks_laws.proofs.FrontEdits.{text_set_in_instances}
+use Rattle.xf_edit_laws.specs.InstanceEdits.{AreTextNumbers, KeepsBeside}
+use Rattle.xf_marks_laws.proofs.Behind.{erased-apart, numbers-erased}
+use Rattle.xf_edit_laws.proofs.EditLaws.{same_at_first, more-marked}
+use Rattle.xf_edit_laws.proofs.FrontEdits.{inside-tree, text_set_in_instances}
+use Rattle.xf_edit_laws.proofs.ElsewhereLaws.{text_elsewhere}
 use Rattle.xf_marks_laws.proofs.Standing.{visits-parts, number-from}
-use Rattle.xf_marks_laws.proofs.TextAgain.{text_again}
+use Rattle.xf_marks_laws.proofs.TextLists.{standing-at}
+use Rattle.xf_edit_laws.proofs.TextAgain.{text_again}
 use Rattle.xf_change_laws.specs.Carried.{set_aside, Carried, Takes, Follows}
 use Rattle.xf_change_laws.specs.Steps.{TextCarried, AgainCarried, SettledCarried}
 use Rattle.xf_change_laws.proofs.Carry.{standing-apart, before-apart, front-absent, differ-of, one-mark, whole_carried}
+use Rattle.xf_change_laws.proofs.OthersCarry.{elsewhere_carried}
 use Rattle.xf_change_laws.proofs.Fixed.{one-after, erased-through, untexted-through, node-there, number-fixed, visit-fixed, found-kept}
 
 -- ---- a number that is not taken
@@ -61,6 +66,7 @@ text_carried f taken more_taken texts lists more scope later documents number n 
   less = takes.less;
   few = takes.few;
   few_before = carried.few_before;
+  solid = carried.solid;
 }
   where
     after : Forest
@@ -106,17 +112,16 @@ settled_carried f taken more_taken texts lists more scope documents number n tex
       less = k.less;
       few = k.few;
       few_before = carried.few_before;
+      solid = carried.solid;
     }
     by false t k d = text_carried f taken more_taken texts lists more scope scope documents number n forest.next text forest before marks trees t able stands free small k d carried
 
 -- ---- a text that is set to what stood there
 
+-- in a detached tree it changes nothing that is told
 pub again_carried : AgainCarried
-again_carried f taken more_taken texts lists scope documents number n next text forest before trees trees_after able there free number_taken solid solid_lists takes docs carried = (
-  s,
-  record { same = whole; nodes = takes.nodes; was = was; less = takes.less; few = takes.few; few_before = carried.few_before },
-  λ k x e t. r.1.solid (f k) (other (f k) (node-there (f k) forest.nodes x e)) (λ z i. ap (λ (w : Node). is_text w.content) (some-same (sym i ∙ e)) ∙ t),
-)
+again_carried f taken more_taken texts lists scope documents number n next text forest before trees trees_after able there free number_taken solid solid_lists takes docs carried =
+    by (has_number n (in_instances forest.nodes)) refl
   where
     after : Forest
     after = record { nodes = with_numbered_text number n text forest.nodes; next = next }
@@ -130,13 +135,13 @@ again_carried f taken more_taken texts lists scope documents number n next text 
     unused : has_number number forest.nodes ≡ false
     unused = not-standing f taken texts lists scope documents forest before number carried free
 
-    r : (t : ℕ → ℕ) × AreTextNumbers number forest.nodes t × SameNodes texts lists (standing after) (map (renumbered_visit t) F)
+    r : (t : ℕ → ℕ) × AreTextNumbers number forest.nodes t × KeepsBeside number n forest.nodes t × SameNodes texts lists (standing after) (map (renumbered_visit t) F)
     r = text_again texts lists number n next text forest F trees able there unused solid solid_lists carried.same.nodes
 
     s : ℕ → ℕ
     s = r.0
 
-    since : (t : ℕ → ℕ) × AreTextNumbers number forest.nodes t × SameNodes [] [] (standing after) (map (renumbered_visit t) P)
+    since : (t : ℕ → ℕ) × AreTextNumbers number forest.nodes t × KeepsBeside number n forest.nodes t × SameNodes [] [] (standing after) (map (renumbered_visit t) P)
     since = text_again [] [] number n next text forest P trees able there unused (λ k h. no h) (λ k h. no h) (same_at_first P)
 
     other : (k : ℕ) → has_number k forest.nodes ≡ true → (k == number) ≡ false
@@ -163,6 +168,33 @@ again_carried f taken more_taken texts lists scope documents number n next text 
       | inr e ↦ inr (ap s e ∙ aside-stays k)
     ]
 
+    -- a number that a node of before has still is none of a text in the node
+    fixed : has_number n (in_instances forest.nodes) ≡ true → (k : ℕ) → IsSolid (standing before) k → f k ≡ k → s k ≡ k
+    fixed in_it k h e = at (has_number k (tree_of n forest.nodes)) refl
+      where
+        is_old : (found k (map erased F) ≡ Some (renumbered_visit f h.0)) × (not (is_text h.0.content) ≡ true)
+        is_old = found-out (λ y. not (is_text y.content)) k (map erased F) (renumbered_visit f h.0) (erased-apart F (before-apart f texts lists scope documents forest before carried.same))
+            (ap (found k) (untexted-through f (standing before)) ∙ found-kept f carried.same.renumbers k h.0 (untexted (map erased (standing before))) e h.1)
+
+        small : nat_lt number (2 ^ 127) ≡ true
+        small = let l = takes.less number number_taken in let m = takes.few in grind (arith, nat_tests, l, m)
+
+        other_number : (k == number) ≡ false
+        other_number = differ-of (k == number) (λ i.
+            sym (ap (has k) (sym (numbers-erased F)) ∙ present k (map erased F) (renumbered_visit f h.0) is_old.0)
+            ∙ ap (λ m. has m (numbers_of F)) (eqb-true k number i) ∙ not-taken f taken texts lists scope documents forest before number carried free small)
+
+        at : (b : Bool) → has_number k (tree_of n forest.nodes) ≡ b → s k ≡ k
+        at false j = r.2 k other_number j
+        at true j =
+            let v = standing-at k (map erased P) (ap (has k) (numbers-erased P) ∙ seen-has k [] (in_instances forest.nodes) ∙ inside-tree n k forest.nodes in_it j) in
+            let is : v.0 ≡ renumbered_visit f h.0 = carried.same.nodes.stay k v.0 (renumbered_visit f h.0) v.1 is_old.0 in
+            number-fixed number forest s trees unused r.1 k v.0
+            (found-in (λ y. not (is_text y.content)) k (map erased P) v.0 (erased-apart P (standing-apart forest trees)) v.1 (ap (λ (w : Visit). not (is_text w.content)) is ∙ is_old.1))
+
+    still : has_number n (in_instances forest.nodes) ≡ true → (k : ℕ) → IsSolid (standing before) k → (s (f k) ≡ k) ⊎ (s (f k) ≡ set_aside k)
+    still in_it k h = elim (carried.solid k h) [ inl e ↦ inl (ap s e ∙ fixed in_it k h e) | inr e ↦ inr (ap s e ∙ aside-stays k) ]
+
     below : (k : ℕ) → has k (numbers_of (standing before)) ≡ true → nat_lt (s (f k)) (2 ^ 128) ≡ true
     below k h = elim (was k h) [
       | inl e ↦ let l = takes.less (s (f k)) e in let m = takes.few in grind (arith, nat_tests, l, m)
@@ -178,7 +210,7 @@ again_carried f taken more_taken texts lists scope documents number n next text 
         let out_after : found d (map erased (standing after)) ≡ Some two.0 = (found-out (λ y. not (is_text y.content)) d (map erased (standing after)) two.0 (erased-apart (standing after) (standing-apart after trees_after)) two.1).0 in
         let moved : found d (map erased (map (renumbered_visit since.0) P)) ≡ Some (renumbered_visit since.0 one.0) =
         ap (found d) (erased-through since.0 P) ∙ found-kept since.0 since.1.renumbers d one.0 (map erased P) (number-fixed number forest since.0 trees unused since.1 d one.0 one.1) out in
-        let is : two.0 ≡ one.0 = since.2.stay d two.0 (renumbered_visit since.0 one.0) out_after moved ∙ visit-fixed number forest since.0 trees unused since.1 d one.0 one.1 in
+        let is : two.0 ≡ one.0 = since.3.stay d two.0 (renumbered_visit since.0 one.0) out_after moved ∙ visit-fixed number forest since.0 trees unused since.1 d one.0 one.1 in
         let around : list_around (map erased P) d ≡ list_around (map erased (standing after)) d = ap parent_in (out ∙ ap Some (sym is) ∙ sym out_after) in
         let q = carried.same.same id d e (λ m h. unmarked m (ap (has m) (sym around) ∙ h)) in
         let stays = number-fixed number forest s trees unused r.1 d one.0 one.1 in
@@ -202,8 +234,17 @@ again_carried f taken more_taken texts lists scope documents number n next text 
       trees = carried.same.trees;
       hung = carried.same.hung;
       below = below;
-      nodes = subst (λ l. SameNodes texts lists (standing after) l) (one-after s f (standing before)) r.2;
+      nodes = subst (λ l. SameNodes texts lists (standing after) l) (one-after s f (standing before)) r.3;
       same = document;
       documents_stand = docs.stand;
       absent = carried.same.absent;
     }
+
+    by : (b : Bool) → has_number n (in_instances forest.nodes) ≡ b → (t : ℕ → ℕ) × Carried (λ k. t (f k)) more_taken texts lists scope documents after before
+        × ((k : ℕ) (x : Node) → node_at (f k) forest.nodes ≡ Some x → is_text x.content ≡ false → t (f k) ≡ f k)
+    by true e = (
+      s,
+      record { same = whole; nodes = takes.nodes; was = was; less = takes.less; few = takes.few; few_before = carried.few_before; solid = still e },
+      λ k x e t. r.1.solid (f k) (other (f k) (node-there (f k) forest.nodes x e)) (λ z i. ap (λ (w : Node). is_text w.content) (some-same (sym i ∙ e)) ∙ t),
+    )
+    by false e = (λ k. k, elsewhere_carried f taken more_taken texts lists scope documents forest after before (text_elsewhere number n text forest.nodes e) takes carried, λ k x i t. refl)

@@ -8,13 +8,13 @@ use Rattle.xf_doc.specs.WellFormed.{HasTrees}
 use Rattle.xf_doc.proofs.MoveLemmas.{from-behind}
 use Rattle.xf_doc.proofs.OrderLaws.{seen-has, visits-different}
 use Rattle.xf_lang.specs.Agree.{numbers_of, are_apart}
-use Rattle.xf_marks_laws.specs.Edits.{MarksMore}
+use Rattle.xf_edit_laws.specs.Edits.{MarksMore}
 use Rattle.xf_marks_laws.specs.Instances.{standing}
-use Rattle.xf_marks_laws.proofs.Attached.{tree_attached}
+use Rattle.xf_edit_laws.proofs.Attached.{tree_attached}
 use Rattle.xf_marks_laws.proofs.Behind.{front-apart}
-use Rattle.xf_marks_laws.proofs.CutLaws.{tree-part}
-use Rattle.xf_marks_laws.proofs.EditLaws.{same_at_first}
-use Rattle.xf_marks_laws.proofs.FrontEdits.{tree_detached}
+use Rattle.xf_edit_laws.proofs.CutLaws.{tree-part}
+use Rattle.xf_edit_laws.proofs.EditLaws.{same_at_first}
+use Rattle.xf_edit_laws.proofs.FrontEdits.{tree_detached}
 use Rattle.xf_marks_laws.proofs.Standing.{parts, visits-parts}
 use Rattle.xf_change_laws.specs.Steps.{DetachedCarried, AttachedCarried, AttachedAgainCarried, MovedCarried, ReplacedCarried}
 use Rattle.xf_change_laws.proofs.Aside.{moved_aside, stays, carried-aside, none-has}
@@ -49,6 +49,7 @@ detached_carried f taken more_taken texts lists more scope later documents n p f
   less = takes.less;
   few = takes.few;
   few_before = carried.few_before;
+  solid = carried.solid;
 }
 
 -- ---- attached
@@ -65,6 +66,7 @@ attached_carried f taken more_taken texts lists more scope later documents n p p
   less = takes.less;
   few = takes.few;
   few_before = carried.few_before;
+  solid = carried.solid;
 }
 
 pub attached_again_carried : AttachedAgainCarried
@@ -103,6 +105,7 @@ replaced_carried f taken more_taken texts lists more scope later documents old n
   less = takes.less;
   few = takes.few;
   few_before = carried.few_before;
+  solid = carried.solid;
 }
   where
     F : List Visit

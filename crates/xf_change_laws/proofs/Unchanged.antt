@@ -15,7 +15,7 @@ use Rattle.xf_doc.proofs.MoveLemmas.{gone-after}
 use Rattle.xf_doc.proofs.RunLemmas.{IsRun, IsLeafAt, below-then-past, tree-here, tree-other}
 use Rattle.xf_doc.proofs.TextLaws.{has_text as text-there}
 use Rattle.xf_lang.proofs.VisitFacts.{no}
-use Rattle.xf_marks_laws.proofs.TextAgain.{bytes-same, untouched, element-no_text, attribute-no_text, texts_of}
+use Rattle.xf_edit_laws.proofs.TextAgain.{bytes-same, untouched, element-no_text, attribute-no_text, texts_of}
 use Rattle.xf_change_laws.specs.Steps.{StandsUnchanged}
 
 -- ---- an attribute

@@ -32,6 +32,8 @@ pub record Carried (f : ℕ → ℕ) (taken : ℕ → Bool) (texts lists : List 
   pub less : (k : ℕ) → taken k ≡ true → nat_lt k now.next ≡ true
   pub few : nat_le now.next (2 ^ 127) ≡ true
   pub few_before : (k : ℕ) → has k (numbers_of (standing before)) ≡ true → nat_lt k (2 ^ 127) ≡ true
+  -- a node of before that is no text has the number that it had, or is set aside
+  pub solid : (k : ℕ) → IsSolid (standing before) k → (f k ≡ k) ⊎ (f k ≡ set_aside k)
 
 -- after a change all these numbers are taken
 pub record Takes (taken more : ℕ → Bool) (after : Forest) : Type 0 where

@@ -16,8 +16,8 @@ use Rattle.xf_model.specs.Rules.{Scope}
 use Rattle.xf_agree.specs.Settles.{AreHung}
 use Rattle.xf_marks_laws.specs.Marks.{SameNodes}
 use Rattle.xf_marks_laws.specs.Instances.{standing, SameInstances}
-use Rattle.xf_marks_laws.specs.Edits.{MarksMore, StandsIn}
-use Rattle.xf_marks_laws.specs.InstanceEdits.{AreSolid}
+use Rattle.xf_edit_laws.specs.Edits.{MarksMore, StandsIn}
+use Rattle.xf_edit_laws.specs.InstanceEdits.{AreSolid}
 use Rattle.xf_change_laws.specs.Carried.{under, Carried, Takes, Follows}
 
 -- ---- what stands under all of them

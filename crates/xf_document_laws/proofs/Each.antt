@@ -11,11 +11,11 @@ use Rattle.xf_doc.proofs.BackLaws.{and-true}
 use Rattle.xf_lang.specs.Agree.{numbers_of}
 use Rattle.xf_lang.proofs.VisitFacts.{no, or-cases, or-left}
 use Rattle.xf_marks_laws.specs.Marks.{SameNodes}
-use Rattle.xf_marks_laws.specs.Edits.{MarksMore}
+use Rattle.xf_edit_laws.specs.Edits.{MarksMore}
 use Rattle.xf_marks_laws.specs.Instances.{standing}
-use Rattle.xf_marks_laws.proofs.Attached.{tree_attached}
-use Rattle.xf_marks_laws.proofs.EditLaws.{same_at_first}
-use Rattle.xf_marks_laws.proofs.FrontEdits.{text_set_in_instances, tree_detached}
+use Rattle.xf_edit_laws.proofs.Attached.{tree_attached}
+use Rattle.xf_edit_laws.proofs.EditLaws.{same_at_first}
+use Rattle.xf_edit_laws.proofs.FrontEdits.{text_set_in_instances, tree_detached}
 use Rattle.xf_marks_laws.proofs.Standing.{parts}
 use Rattle.xf_marks_laws.proofs.TextLists.{not-of}
 use Rattle.xf_change_laws.proofs.Carry.{standing-apart, front-absent, one-mark}

@@ -7,7 +7,7 @@ use Rattle.xf_doc.specs.Needs.{IsSettable}
 use Rattle.xf_doc.specs.Changes.{in_instances, detached, placed}
 use Rattle.xf_doc.specs.Settle.{with_numbered_text}
 use Rattle.xf_model.specs.Rules.{Scope}
-use Rattle.xf_marks_laws.specs.Edits.{MarksMore, StandsIn}
+use Rattle.xf_edit_laws.specs.Edits.{MarksMore, StandsIn}
 use Rattle.xf_change_laws.specs.Carried.{Follows}
 use Rattle.xf_change_laws.specs.Steps.{Comes, IsNew}
 use Rattle.xf_document_laws.specs.Documents.{documents_at, HasDocuments, ByRoots}

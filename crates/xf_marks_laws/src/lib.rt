@@ -5,12 +5,7 @@
 ghost use Rattle.xf_marks_laws.specs.Marks.{EntryKeepsValue, EntryKeepsText};
 ghost use Rattle.xf_marks_laws.specs.Outside.{ButNumbersValue, ButNumbersText, OutsideStood, OutsideValue, OutsideTruth, OutsideText};
 ghost use Rattle.xf_marks_laws.specs.Instances.{WholeForests, InstancesTruth, InstancesText};
-ghost use Rattle.xf_marks_laws.specs.Edits.{SameAtFirst, SameRenumbered, TextMarked, TextSet, ListMarked, TreeCut, TreePlanted};
-ghost use Rattle.xf_marks_laws.specs.InstanceEdits.{TextSetInInstances, TextAgain, StandsThere, TreeDetached, TreeAttached};
-ghost use Rattle.xf_marks_laws.specs.InstanceEdits.{TextElsewhere, TreeBehind, DetachedElsewhere, AttachedElsewhere};
 ghost use Rattle.xf_marks_laws.specs.Binds.{BindStays, BindOfInstances, BindStaysInInstances};
-ghost use Rattle.xf_marks_laws.specs.Again.{BareAgain};
-ghost use Rattle.xf_marks_laws.specs.Paths.{PathNamesOne, NamesFree};
 
 /// An entry that reads nothing that is marked, and looks at no list that is, has the value, and the text, that it had.
 pub fn entry_keeps()
@@ -43,52 +38,9 @@ pub fn outside_in_instances()
     ensures text { InstancesText }
 {}
 
-/// What is told of the data of now and of then is so at first, and stays so where both are renumbered, and where a text is set and its node is marked.
-pub fn texts_marked()
-    ensures first { SameAtFirst }
-    ensures renumbered { SameRenumbered }
-    ensures marked { TextMarked }
-    ensures set { TextSet }
-{}
-
-/// It stays so where nodes come into a list or go out of it and the list is marked: so where a tree is cut off or planted.
-pub fn lists_marked()
-    ensures marked { ListMarked }
-    ensures cut { TreeCut }
-    ensures planted { TreePlanted }
-{}
-
-/// So of the instances, where one of their texts is set, or a tree is detached from them or attached to them.
-pub fn instances_marked()
-    ensures text { TextSetInInstances }
-    ensures again { TextAgain }
-    ensures stands { StandsThere }
-    ensures detached { TreeDetached }
-    ensures attached { TreeAttached }
-{}
-
-/// A change of detached trees leaves the instances.
-pub fn elsewhere()
-    ensures text { TextElsewhere }
-    ensures behind { TreeBehind }
-    ensures detached { DetachedElsewhere }
-    ensures attached { AttachedElsewhere }
-{}
-
 /// A bind sets the same on the same nodes where no list is marked that its node set, or one around it, looks at; and over the instances alone.
 pub fn bind_stays()
     ensures stays { BindStays }
     ensures instances { BindOfInstances }
     ensures in_instances { BindStaysInInstances }
-{}
-
-/// The bare tree of a planted element is planted as that element is.
-pub fn bare_again()
-    ensures { BareAgain }
-{}
-
-/// The printed path of a node names one node of an instance; names that consist of parts are as this asks.
-pub fn path_names_one()
-    ensures one { PathNamesOne }
-    ensures names { NamesFree }
 {}

@@ -22,9 +22,9 @@ use Rattle.xf_agree.specs.Hung.{are_hung}
 use Rattle.xf_agree.specs.Settles.{IsSolid}
 use Rattle.xf_settle_laws.specs.Written.{Contents, written, AreSettable}
 use Rattle.xf_marks_laws.specs.Instances.{standing}
-use Rattle.xf_marks_laws.specs.Edits.{MarksMore}
+use Rattle.xf_edit_laws.specs.Edits.{MarksMore}
 use Rattle.xf_marks_laws.proofs.Behind.{append-none, has-append}
-use Rattle.xf_marks_laws.proofs.EditLaws.{more-marked}
+use Rattle.xf_edit_laws.proofs.EditLaws.{more-marked}
 use Rattle.xf_marks_laws.proofs.Standing.{visits-parts}
 use Rattle.xf_change_laws.specs.Carried.{under, Carried, Takes, Follows}
 use Rattle.xf_change_laws.proofs.Carry.{standing-apart, before-apart, less-number}
@@ -150,6 +150,7 @@ module _ (f : ℕ → ℕ) (taken : ℕ → Bool) (lists : List ℕ) (scope : Sc
     less = carried.less;
     few = carried.few;
     few_before = carried.few_before;
+    solid = carried.solid;
   }
 
   module _ (texts : List ℕ) (carried : Carried f taken texts lists scope documents now before) where

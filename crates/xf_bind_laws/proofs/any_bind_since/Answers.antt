@@ -1,5 +1,6 @@
 use Rattle.xf_bind_laws.proofs.SinceNodes.{with_texts_carried, any_bind_since as since_law}
 use Rattle.xf_bind_laws.proofs.BindHeld.{any_bind_held}
+use Rattle.xf_bind_laws.proofs.BindSame.{document_kept, any_bind_held_same}
 use Rattle.xf_bind_laws.proofs.any_bind_since.Goals as goal
 
 pub returns-clause-with_texts : goal.returns-clause-with_texts
@@ -10,3 +11,9 @@ returns-clause-since c = since_law
 
 pub returns-clause-held : goal.returns-clause-held
 returns-clause-held c = any_bind_held
+
+pub returns-clause-documents : goal.returns-clause-documents
+returns-clause-documents c = document_kept
+
+pub returns-clause-same : goal.returns-clause-same
+returns-clause-same c = any_bind_held_same

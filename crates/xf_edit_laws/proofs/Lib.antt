@@ -1,0 +1,11 @@
+pub mod EditLaws
+pub mod TextEdits
+pub mod TextSetLaws
+pub mod RenumberedNodes
+pub mod ListEdits
+pub mod CutLaws
+pub mod FrontEdits
+pub mod Attached
+pub mod TextAgain
+pub mod StandsThere
+pub mod ElsewhereLaws
