@@ -1,6 +1,7 @@
 //! Disks over files, a sound one and ones whose files fail.
 
 use std::fs;
+use std::os::fd::AsRawFd;
 use std::test::Fail;
 use xf_disk::{Disk, FileDisk, Slot};
 use xf_io::Failed;
@@ -57,5 +58,19 @@ fn a_disk_tells_that_a_file_did_not_open(rt: HostRuntime) -> Result<(), Fail> {
         assert_eq!(rt; disk.write(Slot::B, 0, b"b"), Err(Failed), "{path}");
         assert_eq!(rt; disk.sync(Slot::B), Err(Failed), "{path}");
     }
+    Ok(())
+}
+
+// A file that syncs, by a name in a folder that does not.
+#[test]
+fn a_disk_tells_that_a_name_is_not_durable(rt: HostRuntime) -> Result<(), Fail> {
+    let alloc = rt.alloc();
+    let file = fs::create(&rt, "xf_file_tests_named")?;
+    let name = format!(in alloc; "/proc/self/fd/{}", file.as_raw_fd())?;
+    let mut disk = FileDisk::new(alloc, &rt, name.as_str(), "xf_file_tests_named")?;
+    assert_eq!(rt; disk.write(Slot::A, 0, b"a"), Ok(()));
+    assert_eq!(rt; disk.sync(Slot::A), Err(Failed));
+    assert_eq!(rt; disk.sync(Slot::B), Ok(()));
+    let _ = fs::remove_file(&rt, "xf_file_tests_named");
     Ok(())
 }
