@@ -1,4 +1,4 @@
-//! What no contract says of real files, folders and streams: the bytes that they carry, and that each error of theirs is answered.
+//! What no contract says of real files, folders and streams: the bytes that they carry, and errors of theirs that are answered.
 #![tactic(auto)]
 
 #[cfg(test)]
