@@ -140,7 +140,7 @@ fn a_byte_that_is_changed_is_found(rt: HostRuntime) -> Result<(), Fail> {
 // the first entry of a journal as it was scanned
 fn first_of(entries: &EntryList) -> Option<&Accepted>
     requires { IsTrue (are_within entries.now) }
-    ensures { IfSome result (λ entry. IsTrue (is_within entry.line entry.answers)) }
+    ensures { IfSome result (λ entry. IsTrue (is_within entry.now.line entry.now.answers)) }
 {
     entries.as_slice().first()
 }
