@@ -1,6 +1,7 @@
 #!/usr/bin/env bash
 # Runs the parts of the merge gate one after the other from nothing, on a copy: for each crate its proof, its tests and its must-fail edits.
-# Prints the processor seconds of each, their sums, and the longest chain: no gate ends before it, however many processors there are.
+# Prints the processor seconds of each, their sums, and the longest chain: no gate ends before it, however many processors there are; then
+# whether each crate, and all by their lines of code, proof, tests and edits, stay within their goals.
 # Usage: bench/gate/run.sh [CRATE..], all crates where none is named. Crates below those that are named are taken as `rt lib` left them.
 . "$(dirname "$0")/../common.sh"
 copy=$work/copy
@@ -72,4 +73,10 @@ awk '
         for (crate = before[last]; crate != ""; crate = before[crate]) chain = crate " " chain
         printf "all: %d seconds; the longest chain: %d seconds: %s\n", sum, most, chain
     }' "$work/seconds" "$top/crates.txt"
-[ ! -e "$work/failed" ]
+while read -r crate proof tests edits; do
+    verdict "$crate: processor seconds" $((proof + tests + edits)) 720
+done < "$work/seconds"
+lines=$(cd "$top/crates" && find "$@" -name out -prune -o -type f \( -name '*.rt' -o -name '*.antt' -o -name '*.edit' \) -exec cat {} + | wc -l)
+verdict "processor seconds for 1,000 of $lines lines" $(($(awk '{ sum += $2 + $3 + $4 } END { print sum * 1000 }' "$work/seconds") / lines)) 300
+[ ! -e "$work/failed" ] || failed=1
+finish

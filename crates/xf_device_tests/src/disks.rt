@@ -1,12 +1,9 @@
-//! What no contract says: the list of calls, what the runtime's files do, and a few images by hand.
+//! What no contract says: the list of calls, and a few images by hand.
 
 use std::alloc::{AllocError, Global};
-use std::fs;
 use std::test::Fail;
 use xf_disk::*;
 use xf_io::Failed;
-
-const FOLDER: &str = "xf_disk_test";
 
 // a slot of four bytes, then a write of three at 2: any of the last three may change, and the length is 4 or 5
 fn written(alloc: Global) -> Result<MemoryDisk, AllocError> {
@@ -103,38 +100,5 @@ fn a_fuse_passes_its_calls_and_no_more(rt: HostRuntime) -> Result<(), Fail> {
     assert_eq!(rt; disk.len(Slot::B), Err(Failed));
     assert_eq!(rt; disk.read(Slot::B, 0, &mut into), Err(Failed));
     assert_eq!(rt; disk.disk.calls().len(), 2);
-    Ok(())
-}
-
-#[test]
-fn two_files_are_a_disk(rt: HostRuntime) -> Result<(), Fail> {
-    let _ = fs::remove_dir_all(&rt, FOLDER);
-    fs::create_dir(&rt, FOLDER)?;
-    let mut disk = FileDisk::new(rt.alloc(), &rt, "xf_disk_test/a", "xf_disk_test/b")?;
-    let mut into = [b'-'; 8];
-    assert_eq!(rt; disk.sync(Slot::A), Ok(()));
-    assert_eq!(rt; disk.write(Slot::A, 0, b"abcd"), Ok(()));
-    assert_eq!(rt; disk.write(Slot::A, 2, b"xyz"), Ok(()));
-    assert_eq!(rt; disk.sync(Slot::A), Ok(()));
-    assert_eq!(rt; disk.len(Slot::A), Ok(5));
-    assert_eq!(rt; disk.read(Slot::A, 1, &mut into), Ok(4));
-    assert_eq!(rt; into, *b"bxyz----");
-    assert_eq!(rt; disk.len(Slot::B), Ok(0));
-    assert_eq!(rt;
-        fs::read(&rt, "xf_disk_test/a")?.as_slice(),
-        b"abxyz".as_slice()
-    );
-    // where a file can't be made, each call fails
-    let mut lost = FileDisk::new(
-        rt.alloc(),
-        &rt,
-        "xf_disk_test/none/a",
-        "xf_disk_test/none/b",
-    )?;
-    assert_eq!(rt; lost.len(Slot::A), Err(Failed));
-    assert_eq!(rt; lost.read(Slot::A, 0, &mut into), Err(Failed));
-    assert_eq!(rt; lost.write(Slot::B, 0, b"b"), Err(Failed));
-    assert_eq!(rt; lost.sync(Slot::B), Err(Failed));
-    let _ = fs::remove_dir_all(&rt, FOLDER);
     Ok(())
 }

@@ -1,4 +1,6 @@
 //! The bytes of slots, by hand; the disk calls of an append; and each stop of one `create` and one `append`.
+ghost use Rattle.std.specs.Prelude.{IsTrue, IfSome};
+ghost use Rattle.xf_journal.specs.Entry.{is_within, are_within};
 
 use std::alloc::{AllocError, Global};
 use std::test::Fail;
@@ -132,6 +134,28 @@ fn a_byte_that_is_changed_is_found(rt: HostRuntime) -> Result<(), Fail> {
         slot[at] = byte;
         assert_eq!(rt; found_on(alloc, &slot, b"")?, want, "{at} {byte}");
     }
+    Ok(())
+}
+
+// the first entry of a journal as it was scanned
+fn first_of(entries: &EntryList) -> Option<&Accepted>
+    requires { IsTrue (are_within entries.now) }
+    ensures { IfSome result (λ entry. IsTrue (is_within entry.now.line entry.now.answers)) }
+{
+    entries.as_slice().first()
+}
+
+#[test]
+fn a_scanned_entry_can_be_written_again(rt: HostRuntime) -> Result<(), Fail> {
+    let alloc = rt.alloc();
+    let mut disk = MemoryDisk::new(alloc, SLOT, b"", 512, 16)?;
+    let mut length = None;
+    if let Ok(Some(scanned)) = scan(alloc, &mut disk) {
+        if let Some(first) = first_of(&scanned.entries) {
+            length = Some(make_entry(alloc, first.line.as_slice(), &first.answers)?.len());
+        }
+    }
+    assert_eq!(rt; length, Some(28));
     Ok(())
 }
 

@@ -1,4 +1,4 @@
-//! What no contract of streams, stores, disks and journals says: what the runtime's files do, and each call once; and the counter of steps.
+//! What no contract of streams, stores, disks and journals says: each call once, in memory; and the counter of steps.
 #![tactic(auto)]
 
 #[cfg(test)]

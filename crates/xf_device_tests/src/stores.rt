@@ -1,11 +1,10 @@
-//! What no contract says: what the runtime's files do, and each call once.
+//! Stores in memory, each call once.
 ghost use Rattle.std.specs.Prelude.{◌≡◌};
 ghost use Rattle.std.specs.List.{list_all};
 ghost use Rattle.xf_store.specs.Replies.{is_short};
 
 use std::alloc::{AllocError, Global};
 use std::test::Fail;
-use std::{env, fs};
 use xf_io::{Bytes, Failed};
 use xf_store::*;
 
@@ -82,34 +81,5 @@ fn a_call_that_does_not_fit_fails(rt: HostRuntime) -> Result<(), Fail> {
     assert_eq!(rt; store.get("a", &mut into), Err(GetFault::Failed));
     assert_eq!(rt; store.get("a", &mut into), Err(GetFault::Failed));
     assert!(rt; !store.is_spent());
-    Ok(())
-}
-
-#[test]
-fn a_folder_is_a_store(rt: HostRuntime) -> Result<(), Fail> {
-    let alloc = rt.alloc();
-    let mut folder = String::from_str(alloc, env::temp_dir(&rt)?.as_str())?;
-    folder.push_str("/xf_store_test")?;
-    let _ = fs::remove_dir_all(&rt, folder.as_str());
-    let mut store = FolderStore::new(alloc, &rt, folder.as_str())?;
-    let mut into = Bytes::new(alloc);
-    assert_eq!(rt; store.get("a", &mut into), Ok(Got::Absent));
-    assert_eq!(rt; store.put("a", b"one"), Ok(()));
-    assert_eq!(rt; store.put("a", b"two"), Ok(()));
-    assert_eq!(rt; store.get("a", &mut into), Ok(Got::Found));
-    assert_eq!(rt; into.as_slice(), b"two".as_slice());
-    let long = vec![in alloc; 0; GOT_MOST + 1]?;
-    assert_eq!(rt; store.put("a", &long), Ok(()));
-    assert_eq!(rt; store.get("a", &mut into), Ok(Got::TooLong));
-    assert_eq!(rt; store.put("a", &long[1..]), Ok(()));
-    assert_eq!(rt; store.get("a", &mut into), Ok(Got::Found));
-    assert_eq!(rt; into.len(), GOT_MOST);
-    // a folder in the place of a file
-    let mut inner = String::from_str(alloc, folder.as_str())?;
-    inner.push_str("/b")?;
-    fs::create_dir(&rt, inner.as_str())?;
-    assert_eq!(rt; store.put("b", b""), Err(Failed));
-    assert_eq!(rt; store.get("b", &mut into), Err(GetFault::Failed));
-    let _ = fs::remove_dir_all(&rt, folder.as_str());
     Ok(())
 }

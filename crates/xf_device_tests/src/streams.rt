@@ -1,9 +1,6 @@
 use std::alloc::{AllocError, Global};
 use std::test::Fail;
-use xf_io::{
-    FileSource, Line, Lines, MemorySink, MemorySource, ReaderSource, Sink, Source, WriterSink,
-    write_all,
-};
+use xf_io::{Line, Lines, MemorySink, MemorySource, write_all};
 
 fn source(alloc: Global, text: &str, fails: &[u64]) -> Result<MemorySource, AllocError> {
     Ok(MemorySource::new(text.as_bytes().to_vec(alloc)?, fails.to_vec(alloc)?))
@@ -94,18 +91,5 @@ fn a_sink_takes_a_front_at_a_fault(rt: HostRuntime) -> Result<(), Fail> {
             "most {most}"
         );
     }
-    Ok(())
-}
-
-#[test]
-fn real_streams_count_their_faults(rt: HostRuntime) -> Result<(), Fail> {
-    let mut buffer = [0u8; 4];
-    let mut reader = ReaderSource::new(b"abc".as_slice());
-    assert_eq!(rt; reader.read(&mut buffer), Ok(3));
-    let mut writer = WriterSink::new(Vec::new(rt.alloc()));
-    assert_eq!(rt; writer.write(b"ab"), Ok(2));
-    assert_eq!(rt; writer.flush(), Ok(()));
-    let mut absent = FileSource::new(&rt, "there_is_no_such_file");
-    assert!(rt; absent.read(&mut buffer).is_err());
     Ok(())
 }
