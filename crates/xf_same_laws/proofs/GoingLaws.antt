@@ -33,6 +33,7 @@ use Rattle.xf_form_machine.specs.Primitives.{spend, spent_from, changed_at, in_m
 use Rattle.xf_form_machine.specs.Step.{fresh}
 use Rattle.xf_form_machine.specs.Same.{renumbered_model, renumbered_index, renumbered_copy, IsSame}
 use Rattle.xf_same_laws.specs.Going.{Runs, image, Counts, imaged, CountsAfter, GoesAt, Goes, imaged_top, CountsTop, MakesAt, Makes, ImagesAreSame, SameAreImages, GoingLaws, ChangeLaws, ChangesGo}
+use Rattle.xf_same_laws.proofs.Extending.{extends}
 use Rattle.xf_same_laws.proofs.ForestGoes.{map-length, all-behind, tree-behind, text-passed, model-goes, other-goes}
 
 -- ---- a state and its image
@@ -452,5 +453,6 @@ pub changes_go : ChangesGo
 changes_go = record {
   images = images_same;
   same = same_images;
+  extends = extends;
   goes = λ p f first second r. going_laws p f first second r;
 }
