@@ -85,7 +85,7 @@ changed-map g change other e (suc k) (m ∷ ms) = ap (λ xs. g m ∷ xs) (change
 abbrev Words : Profile → ℕ → List LimitWord
 Words p made = over_made p made
 
-within-made : (p : Profile) (made : ℕ) → over_made p made ≡ [] → made ≤ p.made
+pub within-made : (p : Profile) (made : ℕ) → over_made p made ≡ [] → made ≤ p.made
 within-made p made e = by (nat_lt p.made made) refl e
   where
     by : (b : Bool) → nat_lt p.made made ≡ b → if_over b Made ≡ [] → made ≤ p.made
@@ -118,7 +118,7 @@ module _ (p : Profile) (f : ℕ → ℕ) (first second : ℕ) (r : Runs p f firs
 
   -- ---- models that are changed
 
-  in-model-goes : (change other : Model → Model) (model : ℕ) → ((m : Model) → other (renumbered_model f m) ≡ renumbered_model f (change m)) → (s : State)
+  pub in-model-goes : (change other : Model → Model) (model : ℕ) → ((m : Model) → other (renumbered_model f m) ≡ renumbered_model f (change m)) → (s : State)
       → in_model other model (image f second s) ≡ image f second (in_model change model s)
   in-model-goes change other model e s =
       ap {A = List Model} {B = State} (λ ms. record (image f second s) { models = ms }) (changed-map (renumbered_model f) change other e model s.models)
