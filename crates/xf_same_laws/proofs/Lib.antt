@@ -6,3 +6,7 @@ pub mod RebuildGoes
 pub mod RecalculateGoes
 pub mod RevalidateGoes
 pub mod BehavesGo
+pub mod AroundGoes
+pub mod IndexGoes
+pub mod LabelsGo
+pub mod CopiesGo

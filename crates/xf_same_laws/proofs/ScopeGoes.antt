@@ -45,7 +45,7 @@ index-goes f (suc k) [] = refl
 index-goes f zero (i ∷ is) = refl
 index-goes f (suc k) (i ∷ is) = index-goes f k is
 
-named-goes : (f : ℕ → ℕ) (form : Interface) (is : List Index) (rs : List ℕ)
+pub named-goes : (f : ℕ → ℕ) (form : Interface) (is : List Index) (rs : List ℕ)
     → flat_map (λ r. if_named (element_at form r).id (index_of form (map (renumbered_index f) is) r).index) rs
     ≡ flat_map (λ r. if_named (element_at form r).id (index_of form is r).index) rs
 named-goes f form is [] = refl
