@@ -33,6 +33,7 @@ use Rattle.xf_form_machine.specs.Primitives.{spend, spent_from, changed_at, in_m
 use Rattle.xf_form_machine.specs.Step.{fresh}
 use Rattle.xf_form_machine.specs.Same.{renumbered_model, renumbered_index, renumbered_copy, IsSame}
 use Rattle.xf_same_laws.specs.Going.{Runs, image, Counts, imaged, CountsAfter, GoesAt, Goes, imaged_top, CountsTop, MakesAt, Makes, ImagesAreSame, SameAreImages, GoingLaws, ChangeLaws, ChangesGo}
+use Rattle.xf_same_laws.proofs.Extending.{extends}
 use Rattle.xf_same_laws.proofs.ForestGoes.{map-length, all-behind, tree-behind, text-passed, model-goes, other-goes}
 
 -- ---- a state and its image
@@ -84,7 +85,7 @@ changed-map g change other e (suc k) (m ∷ ms) = ap (λ xs. g m ∷ xs) (change
 abbrev Words : Profile → ℕ → List LimitWord
 Words p made = over_made p made
 
-within-made : (p : Profile) (made : ℕ) → over_made p made ≡ [] → made ≤ p.made
+pub within-made : (p : Profile) (made : ℕ) → over_made p made ≡ [] → made ≤ p.made
 within-made p made e = by (nat_lt p.made made) refl e
   where
     by : (b : Bool) → nat_lt p.made made ≡ b → if_over b Made ≡ [] → made ≤ p.made
@@ -117,7 +118,7 @@ module _ (p : Profile) (f : ℕ → ℕ) (first second : ℕ) (r : Runs p f firs
 
   -- ---- models that are changed
 
-  in-model-goes : (change other : Model → Model) (model : ℕ) → ((m : Model) → other (renumbered_model f m) ≡ renumbered_model f (change m)) → (s : State)
+  pub in-model-goes : (change other : Model → Model) (model : ℕ) → ((m : Model) → other (renumbered_model f m) ≡ renumbered_model f (change m)) → (s : State)
       → in_model other model (image f second s) ≡ image f second (in_model change model s)
   in-model-goes change other model e s =
       ap {A = List Model} {B = State} (λ ms. record (image f second s) { models = ms }) (changed-map (renumbered_model f) change other e model s.models)
@@ -452,5 +453,6 @@ pub changes_go : ChangesGo
 changes_go = record {
   images = images_same;
   same = same_images;
+  extends = extends;
   goes = λ p f first second r. going_laws p f first second r;
 }

@@ -1,6 +1,6 @@
 -- A state and the same one with other numbers of nodes: what a change makes of the second is what it makes of the first, with other numbers.
 -- One renumbering runs through an event, through the numbers too that it has given and those that it may yet give.
-use Rattle.std.specs.Prelude.{ℕ, ◌≡◌, ◌+◌, ◌≤◌, List, map, Option, option_map, Result, Ok, Err}
+use Rattle.std.specs.Prelude.{ℕ, ◌≡◌, ◌+◌, ◌^◌, ◌<◌, ◌≤◌, List, map, Option, option_map, Result, Ok, Err}
 use Rattle.xf_ast.specs.declared.form.Bind.{Bind}
 use Rattle.xf_store.specs.declared.answers.Answer.{Answer}
 use Rattle.xf_doc.specs.declared.content.Content.{Content}
@@ -82,6 +82,26 @@ ImagesAreSame = (f : ℕ → ℕ) (second : ℕ) (s : State) → IsRenumbering f
 abbrev pub SameAreImages : Type 0
 SameAreImages = (p : Profile) (answers : List Answer) (s t : State) (h : IsSame s t) → fresh p answers t ≡ image h.by t.forest.next (fresh p answers s)
 
+-- ---- the renumbering of an event
+
+-- numbers of nodes stay below those that texts have in shapes, and the given ones below the next
+pub record MayRun (p : Profile) (f : ℕ → ℕ) (first second : ℕ) : Type 0 where
+  pub renumbers : IsRenumbering f
+  pub keeps_texts : KeepsTexts f
+  pub low : (n : ℕ) → n < 2 ^ 128 → f n < 2 ^ 128
+  pub below : (n : ℕ) → n < first → f n < second
+  pub first_fits : first + p.made < 2 ^ 128
+  pub second_fits : second + p.made < 2 ^ 128
+
+-- one that agrees with it on all numbers that were given
+pub record Extended (p : Profile) (f : ℕ → ℕ) (first second : ℕ) : Type 0 where
+  pub by : ℕ → ℕ
+  pub runs : Runs p by first second
+  pub agrees : (n : ℕ) → n < first → by n ≡ f n
+
+abbrev pub Extends : Type 0
+Extends = (p : Profile) (f : ℕ → ℕ) (first second : ℕ) → MayRun p f first second → Extended p f first second
+
 -- ---- each change
 
 pub record GoingLaws (p : Profile) (f : ℕ → ℕ) (first second : ℕ) : Type 0 where
@@ -100,6 +120,7 @@ pub record GoingLaws (p : Profile) (f : ℕ → ℕ) (first second : ℕ) : Type
 pub record ChangeLaws : Type 0 where
   pub images : ImagesAreSame
   pub same : SameAreImages
+  pub extends : Extends
   pub goes : (p : Profile) (f : ℕ → ℕ) (first second : ℕ) → Runs p f first second → GoingLaws p f first second
 
 abbrev pub ChangesGo : Type 0

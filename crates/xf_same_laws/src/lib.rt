@@ -1,9 +1,15 @@
 //! What the form machine does with other numbers of nodes.
 #![tactic(auto)]
 
+ghost use Rattle.xf_same_laws.specs.Behaving.{BehavioursGo};
 ghost use Rattle.xf_same_laws.specs.Going.{ChangesGo};
 
 /// The changes of a state go with a renumbering of its nodes. This tells contracts so, and does nothing.
 pub fn changes_go_with_renumbering()
     ensures { ChangesGo }
+{}
+
+/// The behaviours of a model go with a renumbering of the nodes of the state. This tells contracts so, and does nothing.
+pub fn behaviours_go_with_renumbering()
+    ensures { BehavioursGo }
 {}
