@@ -1,6 +1,7 @@
-use Rattle.std.proofs.Common.{map, refl}
+use Rattle.std.proofs.Common.{map, length, ap}
 use Rattle.std.proofs.lemmas.Result.{err_from_is_err_and}
 use Rattle.xf_controls.specs.Seen.{seen_copy}
+use Rattle.xf_work.specs.Standing.{Standing}
 use Rattle.xf_engine.proofs.Keeps.{within-same}
 use Rattle.xf_engine.proofs.StartLaws.{begins, build-stops, show-stops}
 use Rattle.xf_engine.proofs.start.begin.Goals as goal
@@ -20,4 +21,4 @@ returns-clause-done c =
     begins c.args.work.now.now c.build.new.work.now c.take_controls.new.self.now (map seen_copy c.in_ok-list.list) c.in_ok-build.ensures.done c.in_ok-list.ensures c.take_controls.ensures.now
 
 pub returns-clause-built : goal.returns-clause-built
-returns-clause-built c = within-same _ _ _ _ refl c.take_controls.ensures.built c.in_ok-build.ensures.built
+returns-clause-built c = within-same _ _ _ _ (ap (λ (s : Standing). length s.models) c.take_controls.ensures.now) c.take_controls.ensures.built c.in_ok-build.ensures.built
