@@ -1,12 +1,12 @@
 -- How one change follows another, and what a refusal of the first means for both.
-use Rattle.std.proofs.Common.{ℕ, ◌≡◌, ◌+◌, ◌<◌, List, ◌∷◌, length, map, drop, get_or, Option, Some, None, Result, Ok, Err, refl, ap, sym, ◌∙◌, subst}
+use Rattle.std.proofs.Common.{ℕ, ◌≡◌, ◌+◌, ◌<◌, List, [], ◌∷◌, length, map, drop, get_or, Option, Some, None, Result, Ok, Err, refl, ap, sym, ◌∙◌, subst}
 use Rattle.std.proofs.lemmas.List.{at_drop_more, get_or-map, length-map}
 use Rattle.std.specs.Result.{IsErrAnd}
 use Rattle.xf_store.specs.declared.call.StoreCall.{StoreCall}
 use Rattle.xf_form_machine.specs.Refusal.{Refusal, Refused}
 use Rattle.xf_form_machine.specs.State.{State}
 use Rattle.xf_form_machine.specs.Flow.{Run, ◌>>=◌, in_turn}
-use Rattle.xf_actions.specs.Performs.{Refuses, RefusedAs, Runs, Makes}
+use Rattle.xf_actions.specs.Performs.{Refuses, RefusedAs, Runs, Makes, Leaves, Reads}
 
 -- what is done, as a result that could be refused
 abbrev pub fine : {X : Type 0} → X → Result X Refused
@@ -71,6 +71,12 @@ unfolding Refuses
 refuses-any None calls x g h = tt
 refuses-any (Some told) calls x g h = absurd h
 
+-- want of memory is refused by nothing
+pub refuses-none : {X : Type 0} (told : Option Refusal) (calls : List StoreCall) (g : Result X Refused) → told ≡ None → Refuses told calls g
+unfolding Refuses
+refuses-none None calls g h = tt
+refuses-none (Some why) calls g h = cc
+
 -- what a call passes on by `?`
 pub stopped : {F T : Type 0} (means : F → Option Refusal) (new : State) (r : Result T F) (e : F) (given : Result State Refused)
     → IsErrAnd r (λ y. y ≡ e) → Refuses (means e) new.calls given → Runs means new r given
@@ -81,6 +87,38 @@ pub makes-stopped : {F T X : Type 0} (means : F → Option Refusal) (view : T �
     → IsErrAnd r (λ y. y ≡ e) → Refuses (means e) new.calls given → Makes means view new r given
 makes-stopped means view new (Ok x) e given is q = absurd is
 makes-stopped means view new (Err y) e given is q = subst (λ f. Refuses (means f) new.calls given) (sym is) q
+
+pub leaves-stopped : {F T X : Type 0} (means : F → Option Refusal) (view : T → X) (new : State) (r : Result T F) (e : F) (given : Result X Refused)
+    → IsErrAnd r (λ y. y ≡ e) → Refuses (means e) new.calls given → Leaves means view new r given
+leaves-stopped means view new (Ok x) e given is q = absurd is
+leaves-stopped means view new (Err y) e given is q = subst (λ f. Refuses (means f) new.calls given) (sym is) q
+
+pub same-leaves : {F T X : Type 0} (means : F → Option Refusal) (view : T → X) (new : State) (r : Result T F) (g h : Result X Refused)
+    → g ≡ h → Leaves means view new r h → Leaves means view new r g
+same-leaves means view new r g h e q = subst (λ (k : Result _ Refused). Leaves means view new r k) (sym e) q
+
+pub reads-stopped : {F T X : Type 0} (means : F → Option Refusal) (view : T → X) (now : State) (r : Result T F) (e : F) (given : Result X Refused)
+    → IsErrAnd r (λ y. y ≡ e) → Refuses (means e) now.calls given → Reads means view now r given
+reads-stopped means view now (Ok x) e given is q = absurd is
+reads-stopped means view now (Err y) e given is q = subst (λ f. Refuses (means f) now.calls given) (sym is) q
+
+pub same-reads : {F T X : Type 0} (means : F → Option Refusal) (view : T → X) (now : State) (r : Result T F) (g h : Result X Refused)
+    → g ≡ h → Reads means view now r h → Reads means view now r g
+same-reads means view now r g h e q = subst (λ (k : Result _ Refused). Reads means view now r k) (sym e) q
+
+-- one that is read stands alone, in the state that is there
+pub one-read : {F T X : Type 0} (means : F → Option Refusal) (view : T → List X) (now : State) (r : Result T F) (e f : X)
+    → Reads means view now r (Ok (f ∷ [])) → fine e ≡ Ok f → Reads {X = List X × State} means (λ l. (view l, now)) now r (Ok (e ∷ [], now))
+one-read means view now (Ok l) e f q h =
+    let same : e ≡ f = cc in
+    let list : (f ∷ []) ≡ view l = cc in
+    ap (λ (k : List _). fine (k, now)) (ap (λ y. y ∷ []) same ∙ list)
+one-read means view now (Err fault) e f q h = refuses-any (means fault) now.calls (f ∷ []) (Ok (e ∷ [], now)) q
+
+pub one-made : {F T X : Type 0} (means : F → Option Refusal) (view : T → List X) (now : State) (r : Result T F) (e f : X)
+    → Reads means view now r (Ok (f ∷ [])) → fine e ≡ Ok f → Makes means view now r (Ok (e ∷ [], now))
+one-made means view now (Ok l) e f q h = one-read means view now (Ok l) e f q h
+one-made means view now (Err fault) e f q h = one-read means view now (Err fault) e f q h
 
 -- ---- the same loop, over what a list stands for
 

@@ -5,6 +5,10 @@ pub mod Sendings
 pub mod Steps
 pub mod Ends
 pub mod Doings
+pub mod WorkKinds
+pub mod DefaultActions
+pub mod Resets
+pub mod Trees
 pub mod Roles
 pub mod Tests
 pub mod Rounds

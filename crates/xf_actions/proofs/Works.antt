@@ -21,7 +21,8 @@ use Rattle.xf_form_machine.specs.Insert as machine
 use Rattle.xf_form_machine.specs.Delete as deletes
 use Rattle.xf_form_machine.specs.Choose as choose
 use Rattle.xf_actions.specs.Told.{Telling, told, quietly}
-use Rattle.xf_actions.specs.Changed.{where_told, tells_instance, inserted, insert_at, insert, deleted, delete_at, delete, toggled, toggle_in, toggle, changed}
+use Rattle.xf_actions.specs.Inserting.{Inserting, planned}
+use Rattle.xf_actions.specs.Changed.{where_told, tells_instance, inserted, inserted_by, insert_at, insert, deleted, delete_at, delete, toggled, toggle_in, toggle, changed}
 use Rattle.xf_actions.specs.Parts.{is_block}
 use Rattle.xf_actions.proofs.Flow.{bind-assoc, then-same}
 use Rattle.xf_actions.proofs.Telling.{untold-told, where-told, one-told, two-told}
@@ -32,28 +33,30 @@ pub instance-told : (tell : Tell) (name : List ℕ) (properties : State → Told
     → machine.tell_instance tell name properties place s ≡ tells_instance name properties place s >>= told tell
 instance-told tell name properties place s = where-told tell _ _ place s (λ i t. one-told tell _ t)
 
-pub inserted-told : (p : Profile) (tell : Tell) (w : InsertBy) (location : List ℕ) (places : List Place) (s : State)
-    → machine.inserted p tell w.is_before location places s ≡ inserted p w location places s >>= told tell
-inserted-told p tell w location [] s = refl
-inserted-told p tell w location (place ∷ places) s =
+pub inserted-told : (p : Profile) (tell : Tell) (is_before : Bool) (location : List ℕ) (places : List Place) (s : State)
+    → machine.inserted p tell is_before location places s ≡ inserted p is_before location places s >>= told tell
+inserted-told p tell is_before location [] s = refl
+inserted-told p tell is_before location (place ∷ places) s =
     let origins = map (λ (q : Place). q.origin) (place ∷ places) in
     let all_put = λ (made : List ℕ × State). in_turn (machine.put_copy p made.0) (zip (place ∷ places) made.0) made.1 >>= reindex p made.0 in
     then-same (machine.copies_of p origins s) _ _ (λ made.
     then-same (all_put made) _ _
-    (λ t. instance-told tell (codes "xforms-insert") (λ u. machine.insert_told u w.is_before made.0 origins location) (instance_holding s place.parent) t)
+    (λ t. instance-told tell (codes "xforms-insert") (λ u. machine.insert_told u is_before made.0 origins location) (instance_holding s place.parent) t)
     ∙ sym (bind-assoc (all_put made) _ (told tell)))
     ∙ sym (bind-assoc (machine.copies_of p origins s) _ (told tell))
 
 pub insert_at-told : (p : Profile) (tell : Tell) (x : Acting) (w : InsertBy) (c : Focus) (s : State)
     → machine.insert_at p tell x w c s ≡ insert_at p x w c s >>= told tell
 insert_at-told p tell x w c s =
+    let next = λ (i : Inserting). inserted_by p i s >>= told tell in
     then-same (machine.set_asked p x c s) _ _ (λ set.
     then-same (machine.origin_asked p x c w.origin set s) _ _ (λ origin.
     then-same (machine.at_asked p x w.at set s) _ _ (λ at.
-    inserted-told p tell w (machine.location_of at c set) (planned_insert s.forest.nodes (machine.asked_with w s c set origin at)) s)
-    ∙ sym (bind-assoc (machine.at_asked p x w.at set s) _ (told tell)))
-    ∙ sym (bind-assoc (machine.origin_asked p x c w.origin set s) _ (told tell)))
-    ∙ sym (bind-assoc (machine.set_asked p x c s) _ (told tell))
+    inserted-told p tell w.is_before (machine.location_of at c set) (planned_insert s.forest.nodes (machine.asked_with w s c set origin at)) s)
+    ∙ sym (bind-assoc (machine.at_asked p x w.at set s) _ next))
+    ∙ sym (bind-assoc (machine.origin_asked p x c w.origin set s) _ next))
+    ∙ sym (bind-assoc (machine.set_asked p x c s) _ next)
+    ∙ sym (bind-assoc (planned p x w c s) (λ i. inserted_by p i s) (told tell))
 
 pub insert-told : (p : Profile) (tell : Tell) (x : Acting) (w : InsertBy) (s : State)
     → machine.insert p tell x w s ≡ insert p x w s >>= told tell

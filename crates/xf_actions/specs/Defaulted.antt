@@ -17,6 +17,10 @@ use Rattle.xf_actions.specs.Told.{Telling, refreshed}
 use Rattle.xf_actions.specs.Changed as work
 use Rattle.xf_actions.specs.Changed.{untold}
 use Rattle.xf_actions.specs.Sent.{End, Sent, sent, end_event}
+use Rattle.xf_actions.specs.declared.defaults.QuietAction.{QuietAction}
+use Rattle.xf_actions.specs.declared.defaults.QuietAction.TheVariants.{Nothing, Rebuild, Recalculate, Revalidate, Reset}
+use Rattle.xf_actions.specs.declared.defaults.DefaultAction.{DefaultAction}
+use Rattle.xf_actions.specs.declared.defaults.DefaultAction.TheVariants.{Quiet, Refresh, Submit, Send}
 
 -- how the submission of this number ended
 pub record Ending : Type 0 where
@@ -85,3 +89,33 @@ of_role p name role s = nothing s
 -- that of an event
 abbrev pub defaulted : Profile → Fired → Defaults
 defaulted p e s = of_role p e.event.name (role_at s.form e.event.target) s
+
+-- ---- which it is
+
+abbrev pub model_default : ℕ → List ℕ → DefaultAction
+model_default k name =
+    if bytes_eq name (codes "xforms-rebuild") then Quiet (Rebuild k)
+    else if bytes_eq name (codes "xforms-recalculate") then Quiet (Recalculate k)
+    else if bytes_eq name (codes "xforms-revalidate") then Quiet (Revalidate k)
+    else if bytes_eq name (codes "xforms-refresh") then Refresh k
+    else if bytes_eq name (codes "xforms-reset") then Quiet (Reset k)
+    else Quiet Nothing
+
+abbrev pub default_of : List ℕ → Role → DefaultAction
+default_of name (role.model k) = model_default k name
+default_of name (role.submission k) = if bytes_eq name (codes "xforms-submit") then Submit k else Quiet Nothing
+default_of name (role.submit target) = if bytes_eq name (codes "DOMActivate") then Send target else Quiet Nothing
+default_of name role = Quiet Nothing
+
+abbrev pub done_quietly : Profile → QuietAction → Run
+done_quietly p Nothing s = Ok s
+done_quietly p (Rebuild k) s = rebuild p k s
+done_quietly p (Recalculate k) s = recalculate_now p k s
+done_quietly p (Revalidate k) s = revalidate_now p k s
+done_quietly p (Reset k) s = reset p k s
+
+abbrev pub done_by_default : Profile → DefaultAction → Defaults
+done_by_default p (Quiet action) s = telling (untold (done_quietly p action s))
+done_by_default p (Refresh k) s = telling (refreshed_now p k s)
+done_by_default p (Submit k) s = submitted p k (slice_get s.form.submissions k) s
+done_by_default p (Send target) s = telling (work.sent target s)

@@ -1,6 +1,8 @@
 pub mod Performs
 pub mod Seen
 pub mod Told
+pub mod Chosen
+pub mod Inserting
 pub mod Changed
 pub mod Parts
 pub mod Sent

@@ -1,8 +1,8 @@
 -- The parts of an action: its `if`, its `while` and its work, as they stand with its element.
-use Rattle.std.specs.Prelude.{ℕ, Bool, true, false, map, get_or, Option, Some, None, Result, Ok}
+use Rattle.std.specs.Prelude.{ℕ, Bool, true, false, List, [], map, get_or, Option, Some, None, Result, Ok}
 use Rattle.xf_ast.specs.declared.form.Form.{Form}
 use Rattle.xf_lang.specs.Setting.{Meaning}
-use Rattle.xf_form_machine.specs.Program.{Work, Act, all_in_it, set_value, other}
+use Rattle.xf_form_machine.specs.Program.{Work, Act, InsertBy, DeleteBy, all_in_it, set_value, insert, delete, set_index, load, other}
 use Rattle.xf_form_machine.specs.Tables.{role_of}
 use Rattle.xf_form_machine.specs.Profile.{Profile}
 use Rattle.xf_form_machine.specs.State.{State}
@@ -37,6 +37,37 @@ value_of_work work = None
 
 abbrev pub value_in : Option Act → Option Meaning
 value_in o = value_of_work (work_in o)
+
+-- the expression `index` of a setindex
+abbrev pub index_of_work : Work → Option Meaning
+index_of_work (set_index k m) = Some m
+index_of_work work = None
+
+abbrev pub index_in : Option Act → Option Meaning
+index_in o = index_of_work (work_in o)
+
+-- what an insert and a delete ask for
+abbrev pub insert_of_work : Work → InsertBy
+insert_of_work (insert w) = w
+insert_of_work work = record { context = None; origin = None; at = None; is_before = false }
+
+abbrev pub insert_in : Option Act → InsertBy
+insert_in o = insert_of_work (work_in o)
+
+abbrev pub delete_of_work : Work → DeleteBy
+delete_of_work (delete w) = w
+delete_of_work work = record { context = None; at = None }
+
+abbrev pub delete_in : Option Act → DeleteBy
+delete_in o = delete_of_work (work_in o)
+
+-- the `resource` of a load
+abbrev pub resource_of_work : Work → List ℕ
+resource_of_work (load resource) = resource
+resource_of_work work = []
+
+abbrev pub resource_in : Option Act → List ℕ
+resource_in o = resource_of_work (work_in o)
 
 abbrev pub is_block : Work → Bool
 is_block all_in_it = true

@@ -1,7 +1,9 @@
 -- What the types of the code stand for in the machine.
 use Rattle.std.specs.Prelude.{ℕ, ◌≡◌, List, map, Option, Some, None, option_map, slice_get}
 use Rattle.xf_ast.specs.declared.form.Form.{Form}
+use Rattle.xf_model.specs.Places as model
 use Rattle.xf_ui.specs.Interface.{interface_of}
+use Rattle.xf_lang.specs.Setting as setting
 use Rattle.xf_form_machine.specs.Program.{Program}
 use Rattle.xf_form_machine.specs.Tables.{role_of}
 use Rattle.xf_form_machine.specs.Surround.{Told}
@@ -11,9 +13,13 @@ use Rattle.xf_form_machine.specs.Acting as machine_acting
 use Rattle.xf_actions.specs.declared.fired.Fired.{Fired}
 use Rattle.xf_actions.specs.declared.fired.Property.{Property}
 use Rattle.xf_actions.specs.declared.acting.Acting.{Acting}
+use Rattle.xf_actions.specs.declared.acting.Focus.{Focus}
+use Rattle.xf_actions.specs.declared.place.Place.{Place}
+use Rattle.xf_actions.specs.declared.place.Inserting.{Inserting}
 use Rattle.xf_actions.specs.declared.fired.Ending.{Ending}
 use Rattle.xf_actions.specs.declared.fired.Concluded.{Concluded}
 use Rattle.xf_actions.specs.Sent.{End, done, failed}
+use Rattle.xf_actions.specs.Inserting as inserting
 use Rattle.xf_actions.specs.Defaulted as defaulted
 
 -- the tables of a form, and the form as the machine sees it
@@ -34,15 +40,30 @@ fired_of f = record {
   told = told_of f.properties;
 }
 
+abbrev pub focus_of : Focus → setting.Focus
+focus_of x = record { node = x.node.number; position = x.position; size = x.size }
+
 -- an action that is called for an event
 abbrev pub acting_of : Fired → Acting → machine_acting.Acting
 acting_of f a = record {
   element = a.element;
   rows = a.rows;
   model = a.model;
-  focus = record { node = a.node.number; position = a.position; size = a.size };
+  focus = focus_of a.focus;
   told = told_of f.properties;
 }
+
+abbrev pub place_of : Place → model.Place
+place_of q = record {
+  origin = q.origin.number;
+  parent = q.parent.number;
+  place = q.place;
+  replaces = option_map (λ n. n.number) q.replaces;
+  again = q.again;
+}
+
+abbrev pub inserting_of : Inserting → inserting.Inserting
+inserting_of i = record { is_before = i.is_before; location = i.location; places = map place_of i.places }
 
 abbrev pub end_of : Option (List ℕ) → End
 end_of None = done

@@ -14,6 +14,7 @@ ghost use Rattle.xf_actions.specs.Defaulted.{ended};
 ghost use Rattle.xf_actions.specs.Parts.{once_done, acted};
 
 use crate::acting::Acting;
+use crate::defaults::default_action;
 use crate::fault::WorldFault;
 use crate::fired::{Ending, Fired};
 use crate::parts::{holds_condition, holds_repetition, is_action, is_block, is_repeated};
@@ -233,7 +234,7 @@ fn act_by_default<W: World>(
     ensures done { Runs W.Fault.means (W.state world.new) result (default W.profile (dispatches W.profile depth is_idle) (fired_of fired.now) (W.state world.old)) }
     ensures form { (W.state world.new).form ≡ (W.state world.old).form }
 {
-    let told = world.conclude(fired)?;
+    let told = default_action(world, fired)?;
     tell_all(world, told.events.as_slice(), depth, is_idle)?;
     tell_end(world, &told.ending, depth, is_idle)
 }

@@ -3,15 +3,24 @@
 
 mod act;
 mod acting;
+mod choose;
+mod defaults;
+mod delete;
 mod fault;
 mod fired;
+mod insert;
+mod note;
 mod parts;
+mod place;
+mod reset;
 mod round;
+mod tell;
 mod work;
 mod world;
 
 pub use act::dispatch;
-pub use acting::Acting;
+pub use acting::{Acting, Focus};
 pub use fault::WorldFault;
 pub use fired::{Concluded, Ending, Fired, FiredList, Property, PropertyList};
+pub use place::{Inserting, Place, PlaceList};
 pub use world::{Flag, World};

@@ -3,20 +3,23 @@
 ghost use Rattle.std.specs.Prelude.{◌≡◌, map};
 ghost use Rattle.xf_form_machine.specs.Acting.{act_at};
 ghost use Rattle.xf_form_machine.specs.SetValue.{set_value as value_set, set_open, value_asked};
-ghost use Rattle.xf_form_machine.specs.Telling.{message as messages};
 ghost use Rattle.xf_actions.specs.Performs.{Runs, Makes, Reads};
 ghost use Rattle.xf_actions.specs.Seen.{fired_of, acting_of};
 ghost use Rattle.xf_actions.specs.Parts.{work_in, value_in};
 ghost use Rattle.xf_actions.specs.Changed.{changed, doing_of};
 
 use crate::acting::Acting;
+use crate::choose::{set_index, toggle};
+use crate::delete::delete;
 use crate::fired::{Fired, FiredList};
+use crate::insert::insert;
+use crate::note::{load, message, set_focus};
 use crate::parts::action_of;
+use crate::tell::told_events;
 use crate::world::World;
 use xf_ast::Work;
 use xf_base::Items;
 use xf_doc::NodeId;
-use xf_form_machine::Note;
 use xf_name::Word;
 
 /// Which work an action has.
@@ -24,8 +27,18 @@ use xf_name::Word;
 pub enum Doing {
     Sets,
     Speaks,
-    /// Any other.
-    Other,
+    Loads,
+    /// The repeat of this number.
+    Indexes(u32),
+    /// The case, or the control, that is this element.
+    Toggles(u32),
+    Focuses(u32),
+    /// It only tells events.
+    Tells,
+    Inserts,
+    Deletes,
+    /// The actions in it act.
+    Rests,
 }
 
 fn which<W: World>(world: &W, element: u32) -> Doing
@@ -35,9 +48,18 @@ fn which<W: World>(world: &W, element: u32) -> Doing
         Some(action) => match &action.work {
             Work::SetValue(_) => Doing::Sets,
             Work::Message => Doing::Speaks,
-            _ => Doing::Other,
+            Work::Load(_) => Doing::Loads,
+            Work::SetIndex(repeat, _) => Doing::Indexes(*repeat),
+            Work::Toggle(case) => Doing::Toggles(*case),
+            Work::SetFocus(control) => Doing::Focuses(*control),
+            Work::Dispatch(_) | Work::Send(_) => Doing::Tells,
+            Work::Reset | Work::Rebuild | Work::Recalculate => Doing::Tells,
+            Work::Revalidate | Work::Refresh => Doing::Tells,
+            Work::Insert(_) => Doing::Inserts,
+            Work::Delete(_) => Doing::Deletes,
+            Work::Action => Doing::Rests,
         },
-        None => Doing::Other,
+        None => Doing::Rests,
     }
 }
 
@@ -59,7 +81,23 @@ pub fn change<W: World>(
             message(world, fired, acting)?;
             Ok(Items::new(world.alloc()))
         }
-        Doing::Other => world.change(fired, acting),
+        Doing::Loads => {
+            load(world, fired, acting)?;
+            Ok(Items::new(world.alloc()))
+        }
+        Doing::Indexes(repeat) => {
+            set_index(world, fired, acting, repeat)?;
+            Ok(Items::new(world.alloc()))
+        }
+        Doing::Focuses(control) => {
+            set_focus(world, control)?;
+            Ok(Items::new(world.alloc()))
+        }
+        Doing::Toggles(case) => toggle(world, acting, case),
+        Doing::Tells => told_events(world, acting),
+        Doing::Inserts => insert(world, fired, acting),
+        Doing::Deletes => delete(world, fired, acting),
+        Doing::Rests => Ok(Items::new(world.alloc())),
     }
 }
 
@@ -108,13 +146,4 @@ fn value_text<W: World>(
         },
         None => world.words(acting.element),
     }
-}
-
-/// A note with the text of the message.
-fn message<W: World>(world: &mut W, fired: &Fired, acting: &Acting) -> Result<(), W::Fault>
-    ensures done { Runs W.Fault.means (W.state world.new) result (messages W.profile (acting_of fired.now acting.now) (W.state world.old)) }
-    ensures form { (W.state world.new).form ≡ (W.state world.old).form }
-{
-    let text = world.message(fired, acting)?;
-    world.add_note(Note::Message(text))
 }

@@ -1,31 +1,41 @@
 //! What the form machine is asked for. Each call is one of its functions; each but a want of memory is told as it is.
 
-ghost use Rattle.std.specs.Prelude.{◌≡◌, ℕ, List, map, length, option_map, Ok};
+ghost use Rattle.std.specs.Prelude.{◌≡◌, ℕ, List, [], map, length, get_or, slice_get, option_map, codes, Some, Ok};
 ghost use Rattle.xf_lang.specs.Meaning.{meaning};
 ghost use Rattle.xf_ui.specs.Calls.{calls as called_by};
-ghost use Rattle.xf_form_machine.specs.Surround.{interface};
+ghost use Rattle.xf_form_machine.specs.Surround.{interface, instance_holding as holding_instance};
+ghost use Rattle.xf_form_machine.specs.Tables.{insert_by};
+ghost use Rattle.xf_model.specs.Places.{planned_insert as insert_planned};
+ghost use Rattle.xf_model.specs.Taken.{planned_delete as delete_planned};
+ghost use Rattle.xf_form_machine.specs.Insert.{moved_focus, set_asked, origin_asked, at_asked as at_inserted, asked_with as insert_asked, location_of, insert_told};
+ghost use Rattle.xf_form_machine.specs.Delete.{at_asked as at_deleted, asked_with as delete_asked, location_of as delete_location, delete_told};
 ghost use Rattle.xf_ui.specs.Elements.{actions_in, element_at};
 ghost use Rattle.xf_ui.specs.Around.{alone};
+ghost use Rattle.xf_ui.specs.Cases.{cases_of, place_of_case as case_place};
 ghost use Rattle.xf_ui.specs.Labels.{words_of};
-ghost use Rattle.xf_form_machine.specs.Primitives.{spend as spent, set_text as text_set, add_note as noted};
+ghost use Rattle.xf_form_machine.specs.Primitives.{spend as spent, set_text as text_set, add_note as noted, copy as copied, attach as attached, detach as detached, in_model, refresh_due, set_case as case_set};
 ghost use Rattle.xf_form_machine.specs.Properties.{readonly_in};
-ghost use Rattle.xf_form_machine.specs.Acting.{acting as acts, act_at, truth_for, text_for};
+ghost use Rattle.xf_form_machine.specs.Acting.{acting as acts, act_at, binding_of, truth_for, text_for, whole_for};
+ghost use Rattle.xf_form_machine.specs.Choose.{named_copy as copy_named, set_index as index_set, switch_number};
+ghost use Rattle.xf_form_machine.specs.Events.{fired as fires, fired_at as fires_at, model_element as element_of_model, submission_element as element_of_submission};
+ghost use Rattle.xf_form_machine.specs.Telling.{loaded_text};
 ghost use Rattle.xf_form_machine.specs.Behave.{model_at, rebuild as rebuilt, recalculate as recalculated, revalidate as revalidated};
-ghost use Rattle.xf_form_machine.specs.Update.{is_due as due, is_refresh_due as refresh_is_due};
+ghost use Rattle.xf_form_machine.specs.Update.{reindex as reindexed, is_due as due, is_refresh_due as refresh_is_due};
 ghost use Rattle.xf_actions.specs.Performs.{Runs, Makes, Leaves, Reads};
-ghost use Rattle.xf_actions.specs.Seen.{IsProgram, fired_of, acting_of, concluded_of, ending_of};
+ghost use Rattle.xf_actions.specs.Seen.{IsProgram, fired_of, acting_of, focus_of, place_of, concluded_of, ending_of};
 ghost use Rattle.xf_actions.specs.Told.{cleared_by, is_set, refreshed};
-ghost use Rattle.xf_actions.specs.Changed.{changed};
-ghost use Rattle.xf_actions.specs.Defaulted.{defaulted, told_by_end};
-ghost use Rattle.xf_actions.specs.Parts.{work_in};
+ghost use Rattle.xf_actions.specs.Changed.{instance_event};
+ghost use Rattle.xf_actions.specs.Defaulted.{submitted, told_by_end};
+ghost use Rattle.xf_form_machine.specs.Construct.{construct, instances_of, put_back as instance_put_back};
 ghost use Rattle.xf_actions.specs.Texts.{bound_for, message_text, settable};
 
-use crate::acting::Acting;
+use crate::acting::{Acting, Focus};
 use crate::fault::WorldFault;
 use crate::fired::{Concluded, Ending, Fired, FiredList};
+use crate::place::{Inserting, PlaceList};
 use std::alloc::Global;
-use xf_ast::{ElementList, Expr, Form};
-use xf_doc::NodeId;
+use xf_ast::{ElementList, Expr, Form, InsertWork};
+use xf_doc::{NodeId, NodeList};
 use xf_form_machine::Note;
 use xf_name::Word;
 use xf_ui::CallList;
@@ -78,11 +88,6 @@ pub trait World {
     fn truth(&self, fired: &Fired, acting: &Acting, expr: &Expr) -> Result<bool, Self::Fault>
         ensures { Reads Self.Fault.means (λ b. b) (state self.now) result (truth_for profile (acting_of fired.now acting.now) (state self.now) (meaning expr.now)) };
 
-    /// The work of an action but for its parts, a setvalue and a message. It gives the events that are told after it.
-    fn change(&mut self, fired: &Fired, acting: &Acting) -> Result<FiredList, Self::Fault>
-        ensures done { Makes Self.Fault.means (map fired_of) (state self.new) result (changed profile (acting_of fired.now acting.now) (work_in (act_at (state self.old) acting.now.element)) (state self.old)) }
-        ensures form { (state self.new).form ≡ (state self.old).form };
-
     /// Whether a behaviour of a model is due.
     fn is_due(&self) -> bool
         ensures { result ≡ due (state self.now) };
@@ -115,9 +120,18 @@ pub trait World {
         ensures done { Makes Self.Fault.means (map fired_of) (state self.new) result (refreshed profile (cleared_by model) (state self.old)) }
         ensures form { (state self.new).form ≡ (state self.old).form };
 
-    /// The default action of an event.
-    fn conclude(&mut self, fired: &Fired) -> Result<Concluded, Self::Fault>
-        ensures done { Leaves Self.Fault.means (concluded_of (state self.old).form (state self.new)) (state self.new) result (defaulted profile (fired_of fired.now) (state self.old)) }
+    /// The submission of this number, up to the event that tells its end.
+    fn submit(&mut self, submission: u32) -> Result<Concluded, Self::Fault>
+        ensures done { Leaves Self.Fault.means (concluded_of (state self.old).form (state self.new)) (state self.new) result (submitted profile submission (slice_get (state self.old).form.submissions submission) (state self.old)) }
+        ensures form { (state self.new).form ≡ (state self.old).form };
+
+    /// The instances of a model.
+    fn instances(&self, model: u32) -> Result<ElementList, Self::Fault>
+        ensures { Reads Self.Fault.means (λ places. places) (state self.now) result (Ok (instances_of (state self.now) model)) };
+
+    /// The document element of an instance as construction left it.
+    fn put_back(&mut self, instance: u32) -> Result<(), Self::Fault>
+        ensures done { Runs Self.Fault.means (state self.new) result (instance_put_back profile (construct profile (state self.old).form (Some [])) instance (state self.old)) }
         ensures form { (state self.new).form ≡ (state self.old).form };
 
     /// The event that tells the end of a submission: none where there is no such submission.
@@ -162,4 +176,208 @@ pub trait World {
     fn add_note(&mut self, note: Note) -> Result<(), Self::Fault>
         ensures done { Runs Self.Fault.means (state self.new) result (noted profile note (state self.old)) }
         ensures form { (state self.new).form ≡ (state self.old).form };
+
+    // ---- elements by their numbers
+
+    fn parent(&self, element: u32) -> Option<u32>
+        ensures { result ≡ (element_at (interface (state self.now)) element).parent };
+
+    fn id(&self, element: u32) -> Result<Word, Self::Fault>
+        ensures { Reads Self.Fault.means (λ w. w) (state self.now) result (Ok (element_at (interface (state self.now)) element).id) };
+
+    /// The elements of the model, the submission and the repeat of this number.
+    fn model_element(&self, model: u32) -> u32
+        ensures { result ≡ element_of_model (state self.now) model };
+
+    fn submission_element(&self, submission: u32) -> u32
+        ensures { result ≡ element_of_submission (state self.now) submission };
+
+    fn repeat_element(&self, repeat: u32) -> u32
+        ensures { result ≡ get_or (interface (state self.now)).repeats repeat 0 };
+
+    /// The number of the switch that is this element.
+    fn switch_number(&self, element: u32) -> u32
+        ensures { result ≡ switch_number (element_at (interface (state self.now)) element).sort };
+
+    /// The place of a case among those of an element, from 0.
+    fn place_of_case(&self, element: u32, case: u32) -> usize
+        ensures { result ≡ case_place (interface (state self.now)) element case };
+
+    /// The case at a place of the switch of this number.
+    fn case_at(&self, switch: u32, place: usize) -> u32
+        ensures { result ≡ get_or (cases_of (interface (state self.now)) (get_or (interface (state self.now)).switches switch 0)) place 0 };
+
+    // ---- rows and cases
+
+    /// The rows of the copy that an id names: none where an index is 0.
+    fn named_copy(&self, element: u32) -> Result<Option<NodeList>, Self::Fault>
+        ensures { Reads Self.Fault.means (λ rows. rows) (state self.now) result (Ok (copy_named (state self.now) element)) };
+
+    /// The index of a repeat is set, which flags the refresh of the model.
+    fn set_index(&mut self, model: u32, repeat: u32, index: u64) -> Result<(), Self::Fault>
+        ensures done { Runs Self.Fault.means (state self.new) result (index_set profile model repeat index (state self.old)) }
+        ensures form { (state self.new).form ≡ (state self.old).form };
+
+    /// The place of the case that is selected in the switch of this number.
+    fn selected(&self, switch: u32) -> usize
+        ensures { result ≡ get_or (state self.now).cases switch 0 };
+
+    fn set_case(&mut self, switch: u32, place: usize) -> Result<(), Self::Fault>
+        ensures done { Runs Self.Fault.means (state self.new) result (Ok (case_set switch place (state self.old))) }
+        ensures form { (state self.new).form ≡ (state self.old).form };
+
+    /// The refresh of a model is due.
+    fn flag_refresh(&mut self, model: u32) -> Result<(), Self::Fault>
+        ensures done { Runs Self.Fault.means (state self.new) result (Ok (in_model refresh_due model (state self.old))) }
+        ensures form { (state self.new).form ≡ (state self.old).form };
+
+    // ---- what actions read
+
+    /// The value of an expression as a whole number: none for NaN.
+    fn whole(
+        &self,
+        fired: &Fired,
+        acting: &Acting,
+        focus: &Focus,
+        expr: &Expr,
+    ) -> Result<Option<i64>, Self::Fault>
+        ensures { Reads Self.Fault.means (λ k. k) (state self.now) result (whole_for profile (acting_of fired.now acting.now) (state self.now) (focus_of focus.now) (meaning expr.now)) };
+
+    /// The text of what an action binds, else this one.
+    fn loaded(&self, fired: &Fired, acting: &Acting, resource: &str) -> Result<Word, Self::Fault>
+        ensures { Reads Self.Fault.means (λ w. w) (state self.now) result (loaded_text profile (acting_of fired.now acting.now) resource.now (state self.now) (binding_of (acting_of fired.now acting.now) (state self.now))) };
+
+    // ---- what an insert and a delete ask for
+
+    /// The context that its `context` gives: none where that selects nothing.
+    fn moved(
+        &self,
+        fired: &Fired,
+        acting: &Acting,
+        context: &Option<Expr>,
+    ) -> Result<Option<Focus>, Self::Fault>
+        ensures { Reads Self.Fault.means (option_map focus_of) (state self.now) result (moved_focus profile (acting_of fired.now acting.now) (option_map meaning context.now) (state self.now)) };
+
+    /// The nodes that it binds.
+    fn bound_set(
+        &self,
+        fired: &Fired,
+        acting: &Acting,
+        focus: &Focus,
+    ) -> Result<NodeList, Self::Fault>
+        ensures { Reads Self.Fault.means (λ ns. ns) (state self.now) result (set_asked profile (acting_of fired.now acting.now) (focus_of focus.now) (state self.now)) };
+
+    /// The nodes to copy.
+    fn origin(
+        &self,
+        fired: &Fired,
+        acting: &Acting,
+        focus: &Focus,
+        origin: &Option<Expr>,
+        set: &NodeList,
+    ) -> Result<NodeList, Self::Fault>
+        ensures { Reads Self.Fault.means (λ ns. ns) (state self.now) result (origin_asked profile (acting_of fired.now acting.now) (focus_of focus.now) (option_map meaning origin.now) set.now (state self.now)) };
+
+    /// The place in the set that the `at` of an insert, and of a delete, names.
+    fn insert_place(
+        &self,
+        fired: &Fired,
+        acting: &Acting,
+        at: &Option<Expr>,
+        set: &NodeList,
+    ) -> Result<Option<i64>, Self::Fault>
+        ensures { Reads Self.Fault.means (λ k. k) (state self.now) result (at_inserted profile (acting_of fired.now acting.now) (option_map meaning at.now) set.now (state self.now)) };
+
+    fn delete_place(
+        &self,
+        fired: &Fired,
+        acting: &Acting,
+        at: &Option<Expr>,
+        set: &NodeList,
+    ) -> Result<Option<i64>, Self::Fault>
+        ensures { Reads Self.Fault.means (λ k. k) (state self.now) result (at_deleted profile (acting_of fired.now acting.now) (option_map meaning at.now) set.now (state self.now)) };
+
+    /// Where the copies of an insert go, and what is told as its place.
+    fn planned_insert(
+        &self,
+        work: &InsertWork,
+        focus: &Focus,
+        set: &NodeList,
+        origin: &NodeList,
+        at: Option<i64>,
+    ) -> Result<PlaceList, Self::Fault>
+        ensures { Reads Self.Fault.means (map place_of) (state self.now) result (Ok (insert_planned (state self.now).forest.nodes (insert_asked (insert_by work.now) (state self.now) (focus_of focus.now) set.now origin.now at))) };
+
+    fn insert_location(
+        &self,
+        focus: &Focus,
+        set: &NodeList,
+        at: Option<i64>,
+    ) -> Result<NodeList, Self::Fault>
+        ensures { Reads Self.Fault.means (λ ns. ns) (state self.now) result (Ok (location_of at (focus_of focus.now) set.now)) };
+
+    /// The nodes that a delete takes.
+    fn planned_delete(&self, set: &NodeList, at: Option<i64>) -> Result<NodeList, Self::Fault>
+        ensures { Reads Self.Fault.means (λ ns. ns) (state self.now) result (Ok (delete_planned (state self.now).forest.nodes (delete_asked (state self.now) set.now at))) };
+
+    // ---- trees
+
+    /// The instance in which a node stands.
+    fn instance_holding(&self, node: NodeId) -> Option<usize>
+        ensures { result ≡ holding_instance (state self.now) node.number };
+
+    /// A copy of a tree comes as a detached one.
+    fn copy(&mut self, node: NodeId) -> Result<NodeId, Self::Fault>
+        ensures done { Makes Self.Fault.means (λ n. n.number) (state self.new) result (copied profile node.number (state self.old)) }
+        ensures form { (state self.new).form ≡ (state self.old).form };
+
+    /// A detached tree comes below a parent, behind so many children.
+    fn attach(&mut self, node: NodeId, parent: NodeId, place: usize) -> Result<(), Self::Fault>
+        ensures done { Runs Self.Fault.means (state self.new) result (attached profile node.number parent.number place (state self.old)) }
+        ensures form { (state self.new).form ≡ (state self.old).form };
+
+    /// A tree is cut off its parent.
+    fn detach(&mut self, node: NodeId) -> Result<(), Self::Fault>
+        ensures done { Runs Self.Fault.means (state self.new) result (Ok (detached node.number (state self.old))) }
+        ensures form { (state self.new).form ≡ (state self.old).form };
+
+    /// The indexes are brought up to date where these nodes were just inserted.
+    fn reindex(&mut self, added: &NodeList) -> Result<(), Self::Fault>
+        ensures done { Runs Self.Fault.means (state self.new) result (reindexed profile added.now (state self.old)) }
+        ensures form { (state self.new).form ≡ (state self.old).form };
+
+    // ---- events
+
+    /// An event to the copy of an element in these rows. Whether it bubbles and can be cancelled counts where its name is not known.
+    fn event(
+        &self,
+        name: &str,
+        bubbles: bool,
+        is_cancelable: bool,
+        target: u32,
+        rows: &NodeList,
+    ) -> Result<Fired, Self::Fault>
+        ensures { Reads Self.Fault.means fired_of (state self.now) result (Ok (fires name.now bubbles is_cancelable [] target rows.now)) };
+
+    /// The event that an insert, and a delete, tells an instance.
+    fn insert_event(
+        &self,
+        instance: usize,
+        inserting: &Inserting,
+        tops: &NodeList,
+    ) -> Result<Fired, Self::Fault>
+        ensures { Reads Self.Fault.means fired_of (state self.now) result (Ok (instance_event (codes "xforms-insert") (insert_told (state self.now) inserting.now.is_before tops.now (map (λ q. q.origin) (map place_of inserting.now.places)) inserting.now.location) instance (state self.now))) };
+
+    fn delete_event(
+        &self,
+        instance: usize,
+        nodes: &NodeList,
+        set: &NodeList,
+        at: Option<i64>,
+    ) -> Result<Fired, Self::Fault>
+        ensures { Reads Self.Fault.means fired_of (state self.now) result (Ok (instance_event (codes "xforms-delete") (delete_told (state self.now) nodes.now (delete_location profile.decimals set.now at)) instance (state self.now))) };
+
+    /// An event to an element in the indexed rows.
+    fn event_at(&self, name: &str, target: u32) -> Result<Fired, Self::Fault>
+        ensures { Reads Self.Fault.means fired_of (state self.now) result (Ok (fires_at (state self.now) name.now [] target)) };
 }

@@ -72,12 +72,12 @@ act_by_default-returns-in_err-told-clause-done g t c =
 pub act_by_default-returns-in_err-tell_all-clause-done : goal.act_by_default-returns-in_err-tell_all-clause-done
 act_by_default-returns-in_err-tell_all-clause-done g t c =
     stopped _ _ _ _ _ c.from_residual-in_err-tell_all.ensures.1
-    (default-told_stops g.W.World.profile (dispatch g.W.World.profile c.args.depth c.args.is_idle) (fired_of c.args.fired.now) (g.W.World.state c.args.world.now) (concluded_of (g.W.World.state c.args.world.now).form (g.W.World.state c.conclude.new.self) c.in_ok-told.told) _ _ c.in_ok-told.ensures.done (rw c.as_slice.ensures at c.in_err-tell_all.ensures.done))
+    (default-told_stops g.W.World.profile (dispatch g.W.World.profile c.args.depth c.args.is_idle) (fired_of c.args.fired.now) (g.W.World.state c.args.world.now) (concluded_of (g.W.World.state c.args.world.now).form (g.W.World.state c.default_action.new.world) c.in_ok-told.told) _ _ c.in_ok-told.ensures.done (rw c.as_slice.ensures at c.in_err-tell_all.ensures.done))
 
 pub act_by_default-returns-clause-done : goal.act_by_default-returns-clause-done
 act_by_default-returns-clause-done g t c =
     same-runs _ _ _ _ _
-    (default-end g.W.World.profile (dispatch g.W.World.profile c.args.depth c.args.is_idle) (fired_of c.args.fired.now) (g.W.World.state c.args.world.now) (g.W.World.state c.conclude.new.self) (g.W.World.state c.tell_all.new.world) (g.W.World.state c.args.world.now).form c.in_ok-told.told c.in_ok-told.ensures.done (rw c.as_slice.ensures at c.in_ok-tell_all.ensures.done)
+    (default-end g.W.World.profile (dispatch g.W.World.profile c.args.depth c.args.is_idle) (fired_of c.args.fired.now) (g.W.World.state c.args.world.now) (g.W.World.state c.default_action.new.world) (g.W.World.state c.tell_all.new.world) (g.W.World.state c.args.world.now).form c.in_ok-told.told c.in_ok-told.ensures.done (rw c.as_slice.ensures at c.in_ok-tell_all.ensures.done)
     (c.in_ok-tell_all.ensures.form ∙ c.in_ok-told.ensures.form))
     c.tell_end.ensures.done
 

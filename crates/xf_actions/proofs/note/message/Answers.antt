@@ -1,7 +1,7 @@
 use Rattle.xf_actions.specs.Seen.{acting_of}
 use Rattle.xf_actions.proofs.Flow.{stopped}
 use Rattle.xf_actions.proofs.Doings.{message-stops}
-use Rattle.xf_actions.proofs.work.message.Goals as goal
+use Rattle.xf_actions.proofs.note.message.Goals as goal
 
 pub returns-in_err-text-clause-done : goal.returns-in_err-text-clause-done
 returns-in_err-text-clause-done g c = stopped _ _ _ _ _ c.from_residual.ensures.1 (message-stops g.W.World.profile (acting_of c.args.fired.now c.args.acting.now) (g.W.World.state c.args.world.now) _ _ c.in_err-text.ensures)

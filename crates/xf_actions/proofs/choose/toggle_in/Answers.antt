@@ -1,0 +1,5 @@
+use Rattle.xf_actions.proofs.Flow.{makes-stopped, refuses-any}
+use Rattle.xf_actions.proofs.choose.toggle_in.Goals as goal
+
+pub returns-in_err-named_copy-clause-done : goal.returns-in_err-named_copy-clause-done
+returns-in_err-named_copy-clause-done g c = makes-stopped _ _ _ _ _ _ c.from_residual.ensures.1 (refuses-any _ _ _ _ c.in_err-named_copy.ensures)

@@ -1,0 +1,11 @@
+use Rattle.std.proofs.Common.{◌≡◌, drop}
+use Rattle.xf_form_machine.specs.Flow.{in_turn}
+use Rattle.xf_actions.proofs.Resets.{puts}
+use Rattle.xf_actions.proofs.reset.put_all_back.Given as goal
+
+abbrev pub invariant-loop-instance : goal.invariant-loop-instance
+invariant-loop-instance g l =
+    let run = puts g.W.World.profile (g.W.World.state l.initial.world).form in record {
+      rest : in_turn run l.instances (g.W.World.state l.initial.world) ≡ in_turn run (drop l.instance-index l.instances) (g.W.World.state l.world);
+      form : (g.W.World.state l.world).form ≡ (g.W.World.state l.initial.world).form;
+    }

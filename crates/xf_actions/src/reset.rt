@@ -1,0 +1,30 @@
+//! The reset of a model (XForms 1.1, section 4.3.7).
+
+ghost use Rattle.std.specs.Prelude.{◌≡◌, [], Some};
+ghost use Rattle.xf_form_machine.specs.Flow.{in_turn};
+ghost use Rattle.xf_form_machine.specs.Construct.{construct, put_back, reset as resets};
+ghost use Rattle.xf_actions.specs.Performs.{Runs};
+
+use crate::world::World;
+use xf_doc::NodeList;
+
+/// The data of the model as construction left them; then the indexes are brought up to date.
+pub fn reset<W: World>(world: &mut W, model: u32) -> Result<(), W::Fault>
+    ensures done { Runs W.Fault.means (W.state world.new) result (resets W.profile model (W.state world.old)) }
+    ensures form { (W.state world.new).form ≡ (W.state world.old).form }
+{
+    let instances = world.instances(model)?;
+    put_all_back(world, instances.as_slice())?;
+    let none = NodeList::new(world.alloc());
+    world.reindex(&none)
+}
+
+fn put_all_back<W: World>(world: &mut W, instances: &[u32]) -> Result<(), W::Fault>
+    ensures done { Runs W.Fault.means (W.state world.new) result (in_turn (put_back W.profile (construct W.profile (W.state world.old).form (Some []))) instances.now (W.state world.old)) }
+    ensures form { (W.state world.new).form ≡ (W.state world.old).form }
+{
+    for instance in instances {
+        world.put_back(*instance)?;
+    }
+    Ok(())
+}
