@@ -10,3 +10,5 @@ pub mod AroundGoes
 pub mod IndexGoes
 pub mod LabelsGo
 pub mod CopiesGo
+pub mod StateGoes
+pub mod ControlsGo

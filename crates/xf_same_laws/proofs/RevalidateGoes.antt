@@ -47,7 +47,7 @@ module _ (f : ℕ → ℕ) (same : IsRenumbering f) where
   each-from stood (e ∷ es) =
       ap (λ v. v ∷ map (value_from (map (renumbered_valued f) stood)) (map (renumbered_entry f) es)) (from-goes stood e) ∙ ap (λ l. renumbered_valued f (value_from stood e) ∷ l) (each-from stood es)
 
-  values-go : (m : Model) → values_of (renumbered_model f m) ≡ map (renumbered_valued f) (values_of m)
+  pub values-go : (m : Model) → values_of (renumbered_model f m) ≡ map (renumbered_valued f) (values_of m)
   values-go m =
       ap (map (value_from (map (renumbered_valued f) m.stood))) (filter-through (renumbered_entry f) is_computed is_computed (λ e. refl) m.entries)
       ∙ each-from m.stood (filter is_computed m.entries)

@@ -2,6 +2,7 @@
 #![tactic(auto)]
 
 ghost use Rattle.xf_same_laws.specs.Behaving.{BehavioursGo};
+ghost use Rattle.xf_same_laws.specs.Controls.{ControlsGo};
 ghost use Rattle.xf_same_laws.specs.Going.{ChangesGo};
 
 /// The changes of a state go with a renumbering of its nodes. This tells contracts so, and does nothing.
@@ -12,4 +13,10 @@ pub fn changes_go_with_renumbering()
 /// The behaviours of a model go with a renumbering of the nodes of the state. This tells contracts so, and does nothing.
 pub fn behaviours_go_with_renumbering()
     ensures { BehavioursGo }
+{}
+
+/// The indexes of repeats and the list of the controls go with a renumbering of the nodes of the state. This tells contracts so, and does
+/// nothing.
+pub fn controls_go_with_renumbering()
+    ensures { ControlsGo }
 {}
