@@ -33,7 +33,7 @@ use Rattle.xf_same_laws.proofs.StateGoes.{elements-go, around-goes, marks-go}
 -- ---- what is told
 
 module _ (f : ℕ → ℕ) (same : IsRenumbering f) where
-  bytes-go : (ms ns : List ℕ) → bytes_eq (map f ms) (map f ns) ≡ bytes_eq ms ns
+  pub bytes-go : (ms ns : List ℕ) → bytes_eq (map f ms) (map f ns) ≡ bytes_eq ms ns
   bytes-go [] [] = refl
   bytes-go [] (n ∷ ns) = refl
   bytes-go (m ∷ ms) [] = refl

@@ -31,7 +31,7 @@ each-same h k q e (x ∷ xs) =
     ∙ then-through h (map h) (k x) (λ y. each k xs >>= λ ys. Some (y ∷ ys)) (λ y. each q xs >>= λ ys. Some (y ∷ ys))
     (λ y. ap (λ m. m >>= λ ys. Some (h y ∷ ys)) (each-same h k q e xs) ∙ then-through (map h) (map h) (each k xs) (λ ys. Some (y ∷ ys)) (λ ys. Some (h y ∷ ys)) (λ ys. refl))
 
-node-at : (f : ℕ → ℕ) (k : ℕ) (is : List Index) → (get_or (map (renumbered_index f) is) k unset).node ≡ option_map f (get_or is k unset).node
+pub node-at : (f : ℕ → ℕ) (k : ℕ) (is : List Index) → (get_or (map (renumbered_index f) is) k unset).node ≡ option_map f (get_or is k unset).node
 node-at f zero [] = refl
 node-at f (suc k) [] = refl
 node-at f zero (i ∷ is) = refl
@@ -43,7 +43,7 @@ index-at f (suc k) [] = refl
 index-at f zero (i ∷ is) = refl
 index-at f (suc k) (i ∷ is) = index-at f k is
 
-row-at : (f : ℕ → ℕ) (rows : List ℕ) (k : ℕ) → row_at (map f rows) k ≡ option_map f (row_at rows k)
+pub row-at : (f : ℕ → ℕ) (rows : List ℕ) (k : ℕ) → row_at (map f rows) k ≡ option_map f (row_at rows k)
 row-at f rows zero = refl
 row-at f rows (suc k) = slice_get-map f rows k
 

@@ -67,7 +67,7 @@ module _ (f : ℕ → ℕ) (same : IsRenumbering f) (form : Interface) (h : (n :
   first-text model None = refl
   first-text model (Some n) = node-text model n
 
-  bound-text : (c : Context) (binding : Bound) → BoundGoes f binding → bound_text b (renumbered_context f c) binding ≡ bound_text a c binding
+  pub bound-text : (c : Context) (binding : Bound) → BoundGoes f binding → bound_text b (renumbered_context f c) binding ≡ bound_text a c binding
   bound-text c binding r =
       ap (λ o. o >>= text_of_first b c.model) (first-bound f same a b g c.model binding r c.focus)
       ∙ then-kept (option_map f) (first_bound a c.model binding c.focus) (text_of_first a c.model) (text_of_first b c.model) (first-text c.model)

@@ -146,7 +146,7 @@ module _ (f : ℕ → ℕ) (same : IsRenumbering f) (second : ℕ) (s : State) w
       ap (λ l. l ++ flat_map values_of (map (renumbered_model f) ms)) (values-go f same m) ∙ ap (λ l. map (renumbered_valued f) (values_of m) ++ l) (all-values ms)
       ∙ sym (map-append (renumbered_valued f) (values_of m) (flat_map values_of ms))
 
-  relevant-goes : (n : ℕ) → relevant_in (image f second s) (f n) ≡ relevant_in s n
+  pub relevant-goes : (n : ℕ) → relevant_in (image f second s) (f n) ≡ relevant_in s n
   relevant-goes n =
       ap (λ v. is_relevant v (values_in (image f second s)) (f n)) (visits-renumbered f same s.forest.nodes)
       ∙ ap (λ vs. is_relevant (map (renumbered_visit f) (all_in s)) vs (f n)) (all-values s.models) ∙ is_relevant-renumbered f same (values_in s) (all_in s) n
@@ -159,7 +159,7 @@ module _ (f : ℕ → ℕ) (same : IsRenumbering f) (second : ℕ) (s : State) w
   required-goes : (n : ℕ) → is_required (values_in (image f second s)) (f n) ≡ is_required (values_in s) n
   required-goes n = ap (λ vs. is_required vs (f n)) (all-values s.models) ∙ is_required-renumbered f same (values_in s) n
 
-  valid-goes : (n : ℕ) → valid_in (image f second s) (f n) ≡ valid_in s n
+  pub valid-goes : (n : ℕ) → valid_in (image f second s) (f n) ≡ valid_in s n
   valid-goes n = ap not (any-through (renumbered_model f) (λ m. has (f n) m.invalid) (λ m. has n m.invalid) (λ m. has-renumbered f same n m.invalid) s.models)
 
   pub marks-go : (n : ℕ) → marks_in (image f second s) (f n) ≡ marks_in s n
