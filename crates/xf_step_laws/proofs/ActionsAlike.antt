@@ -1,66 +1,39 @@
 -- Each action over a state and the same one with other numbers.
-use Rattle.std.proofs.Common.{◌≡◌, ℕ, zero, suc, ◌==◌, Bool, true, false, not, ◌&&◌, List, [], ◌∷◌, ◌++◌, map, filter, length, zip, codes, get_or, Option, Some, None, option_map, Result, Ok, Err, refl, sym, ap, ◌∙◌, subst, if◌then◌else◌, ℤ}
-use Rattle.xf_ast.specs.declared.action.DispatchWork.{DispatchWork}
-use Rattle.xf_doc.specs.declared.content.Content.{Content}
-use Rattle.xf_doc.specs.Changes.{standing}
+use Rattle.std.proofs.Common.{◌≡◌, ℕ, suc, Bool, true, false, not, ◌&&◌, List, [], ◌∷◌, map, filter, length, get_or, Option, Some, None, option_map, Result, Ok, Err, refl, ap, ◌∙◌, ℤ}
 use Rattle.xf_doc.specs.Order.{in_order}
 use Rattle.xf_doc.specs.Same.{renumbered, renumbered_visit}
 use Rattle.xf_doc.specs.Shape.{has_elements}
 use Rattle.xf_doc.specs.Forest.{is_element}
 use Rattle.xf_doc.specs.Visit.{Visit, visits, is_first}
 use Rattle.xf_doc.proofs.RenumberLaws.{any-through, filter-through, first-renumbered, visits-renumbered}
-use Rattle.xf_doc.proofs.RenumberChanges.{standing-renumbered}
-use Rattle.xf_plain_values.specs.Conversions.{Decimal}
 use Rattle.xf_lang.specs.declared.value.Value.{Value}
-use Rattle.xf_lang.specs.declared.value.Value.TheVariants.{Nodes}
-use Rattle.xf_lang.specs.Binding.{as_list}
 use Rattle.xf_lang.specs.Conversions.{nodes_of}
 use Rattle.xf_lang.specs.Setting.{Focus, Meaning}
 use Rattle.xf_lang.specs.Same.{renumbered_value, renumbered_focus, renumbered_property}
 use Rattle.xf_lang.proofs.RenumberLaws.{in_order-renumbered, nodes-renumbered}
-use Rattle.xf_lang.proofs.RenumberValues.{Renumbers}
-use Rattle.xf_model.specs.Places.{Place, named_by, planned_insert}
-use Rattle.xf_model.specs.Taken.{planned_delete}
-use Rattle.xf_model.specs.Same.{renumbered_place, renumbered_insert, renumbered_delete}
-use Rattle.xf_model.proofs.RenumberInsert.{planned_insert-renumbered}
-use Rattle.xf_model.proofs.RenumberPlaces.{named-renumbered, planned_delete-renumbered}
 use Rattle.xf_ui.specs.Around.{all_bound, first_bound, alone}
-use Rattle.xf_ui.specs.Cases.{cases_of, place_of_case}
 use Rattle.xf_ui.specs.Context.{Context, moved}
-use Rattle.xf_ui.specs.Elements.{element_at}
 use Rattle.xf_ui.specs.Interface as interface_of
-use Rattle.xf_ui.specs.Labels.{words_of}
-use Rattle.xf_form_machine.specs.Program.{InsertBy, DeleteBy}
 use Rattle.xf_form_machine.specs.State.{State}
-use Rattle.xf_form_machine.specs.Refusal.{Refused, Refusal, binding, refused, or_long}
-use Rattle.xf_form_machine.specs.Flow.{Run, ◌>>=◌, when, where_some, in_turn}
-use Rattle.xf_form_machine.specs.Surround.{Told, interface, all_in, document_at, instance_holding}
-use Rattle.xf_form_machine.specs.Primitives.{set_text, copy, plant, attach, detach, in_model, refresh_due, set_case}
-use Rattle.xf_form_machine.specs.Properties.{readonly_in, closed_in, path_in}
-use Rattle.xf_form_machine.specs.Update.{reindex}
-use Rattle.xf_form_machine.specs.Events.{Fired, Tell, fired, fired_at, plainly, model_element, submission_element}
-use Rattle.xf_form_machine.specs.Acting.{Acting, surroundings, binding_of, value_for, text_for, whole_for}
+use Rattle.xf_form_machine.specs.Refusal.{Refused, binding, or_long}
+use Rattle.xf_form_machine.specs.Flow.{Run, ◌>>=◌, when, where_some}
+use Rattle.xf_form_machine.specs.Surround.{Told, all_in}
+use Rattle.xf_form_machine.specs.Primitives.{set_text}
+use Rattle.xf_form_machine.specs.Properties.{readonly_in, closed_in}
+use Rattle.xf_form_machine.specs.Events.{Tell, fired_at}
+use Rattle.xf_form_machine.specs.Acting.{Acting, surroundings, binding_of, value_for, whole_for}
 use Rattle.xf_form_machine.specs.SetValue.{unless_parent, set_node, value_asked, set_open, set_value}
-use Rattle.xf_form_machine.specs.Insert.{moved_focus, set_asked, last_one, origin_asked, at_asked, asked_with, copies_of, without_one, put_copy, location_of, insert_told, tell_instance, inserted, insert_at, insert}
+use Rattle.xf_form_machine.specs.Insert.{moved_focus, set_asked, last_one, origin_asked, at_asked, tell_instance}
 use Rattle.xf_form_machine.specs.Delete as delete
-use Rattle.xf_form_machine.specs.Choose.{named_copy, not_below_zero, set_index, act_index, switch_number, toggled, unless_same, toggle_in, toggle, act_dispatch, act_send, act_on_model}
-use Rattle.xf_form_machine.specs.Construct.{replace_at, replace, construct, first_contents, put_back, instances_of, reset}
-use Rattle.xf_same_laws.specs.Going.{image}
-use Rattle.xf_same_laws.proofs.ForestGoes.{map-length, holding-goes}
-use Rattle.xf_same_laws.proofs.ScopeGoes.{document-goes, path-goes}
+use Rattle.xf_same_laws.proofs.ForestGoes.{map-length}
+use Rattle.xf_same_laws.proofs.ScopeGoes.{path-goes}
 use Rattle.xf_same_laws.proofs.StateGoes.{readonly-goes}
 use Rattle.xf_same_laws.proofs.AroundGoes.{BoundGoes, renumbered_context}
 use Rattle.xf_same_laws.proofs.AroundGoes as around
-use Rattle.xf_same_laws.proofs.IndexGoes.{indexed-goes}
 use Rattle.xf_same_laws.proofs.LabelsGo.{MeaningGoes}
-use Rattle.xf_same_laws.proofs.GoingLaws.{going_laws, in-model-goes}
-use Rattle.xf_same_laws.proofs.ControlsGo.{control_laws}
-use Rattle.xf_rest_laws.proofs.Holds.{Held, held-then}
-use Rattle.xf_rest_laws.proofs.WithinLaws.{grown-by-held}
-use Rattle.xf_step_laws.specs.Steps.{IsOfForm}
-use Rattle.xf_step_laws.proofs.Alike.{Two, other, Fits, Alike, Goes, mapped, long-mapped, long-same, none, same-alike, then-alike, eval-alike, kept-alike, when-alike, some-alike, kept-some, turn-alike, kept-turn, law-alike}
-use Rattle.xf_step_laws.proofs.ChangesAlike.{has-form, renumbered_fired, Tells, text-alike, attach-alike, detach-is, detach-fits, reindex-alike}
-use Rattle.xf_step_laws.proofs.EvalAlike.{InsertGoes, DeleteGoes, renumbered_acting, fired-is, seen-goes, own-goes, value-goes, text-goes, whole-goes}
+use Rattle.xf_step_laws.proofs.Alike.{Two, other, Fits, Alike, Goes, mapped, long-mapped, same-alike, eval-alike, kept-alike, when-alike, some-alike, kept-some}
+use Rattle.xf_step_laws.proofs.ChangesAlike.{renumbered_fired, Tells, text-alike}
+use Rattle.xf_step_laws.proofs.EvalAlike.{renumbered_acting, fired-is, seen-goes, own-goes, value-goes, text-goes, whole-goes}
 
 module _ (e : Two) where
   -- ---- setvalue

@@ -1,19 +1,19 @@
 -- Actions, default actions and dispatch over a state and the same one with other numbers.
-use Rattle.std.proofs.Common.{◌≡◌, ℕ, zero, suc, Bool, true, false, List, [], ◌∷◌, map, length, codes, bytes_eq, Option, Some, None, option_map, Result, Ok, Err, refl, sym, ap, ◌∙◌, if◌then◌else◌}
+use Rattle.std.proofs.Common.{ℕ, zero, suc, Bool, true, false, List, length, codes, bytes_eq, Option, Some, None, option_map, Ok, refl, if◌then◌else◌}
 use Rattle.xf_lang.specs.Setting.{Meaning}
 use Rattle.xf_ui.specs.Calls.{calls}
 use Rattle.xf_ui.specs.Elements.{actions_in}
 use Rattle.xf_form_machine.specs.Program.{Role, Work, Act, role_at}
 use Rattle.xf_form_machine.specs.Program as program
 use Rattle.xf_form_machine.specs.State.{State}
-use Rattle.xf_form_machine.specs.Refusal.{Refused, depth, refused}
+use Rattle.xf_form_machine.specs.Refusal.{depth, refused}
 use Rattle.xf_form_machine.specs.Flow.{Run, ◌>>=◌, when, where_some, in_turn}
 use Rattle.xf_form_machine.specs.Surround.{interface}
 use Rattle.xf_form_machine.specs.Primitives.{spend}
 use Rattle.xf_form_machine.specs.Behave.{rebuild, recalculate, revalidate}
 use Rattle.xf_form_machine.specs.Update.{due_rebuild, due_recalculation, due_revalidation, refresh, refresh_cleared, update}
 use Rattle.xf_form_machine.specs.Events.{Fired, Tell}
-use Rattle.xf_form_machine.specs.Acting.{Acting, act_in, act_at, acting, truth_for}
+use Rattle.xf_form_machine.specs.Acting.{Acting, act_in, acting, truth_for}
 use Rattle.xf_form_machine.specs.Construct.{reset}
 use Rattle.xf_form_machine.specs.Choose.{act_send}
 use Rattle.xf_form_machine.specs.Exchange.{submit}
@@ -21,8 +21,7 @@ use Rattle.xf_form_machine.specs.Act.{if_true, while_true, repeated, done_by, be
 use Rattle.xf_form_machine.specs.Default.{nothing, recalculate_now, revalidate_now, refresh_now, of_model, of_role, default}
 use Rattle.xf_form_machine.specs.Dispatch.{Further, handle, after_all, handled, dispatch}
 use Rattle.xf_same_laws.proofs.LabelsGo.{MeaningGoes}
-use Rattle.xf_step_laws.specs.Steps.{IsOfForm}
-use Rattle.xf_step_laws.proofs.Alike.{Two, other, Fits, Alike, Goes, mapped, same-alike, then-alike, eval-alike, kept-alike, when-alike, some-alike, kept-some, turn-alike, kept-turn}
+use Rattle.xf_step_laws.proofs.Alike.{Two, other, Fits, Alike, Goes, then-alike, eval-alike, kept-alike, when-alike, some-alike, kept-turn}
 use Rattle.xf_step_laws.proofs.ChangesAlike.{renumbered_fired, Tells, one-clears, spend-alike, rebuild-alike, recalculate-alike, revalidate-alike, due-rebuild-alike, due-recalculation-alike, due-revalidation-alike, refresh-alike, update-alike}
 use Rattle.xf_step_laws.proofs.EvalAlike.{ActGoes, WorkGoes, RoleGoes, roles-go, renumbered_acting, acting-goes, truth-goes}
 use Rattle.xf_step_laws.proofs.ActionsAlike.{set-value-alike}

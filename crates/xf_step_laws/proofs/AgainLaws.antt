@@ -4,7 +4,7 @@ use Rattle.std.specs.Prelude.{◌≤◌}
 use Rattle.xf_doc.specs.declared.content.Content.{Content}
 use Rattle.xf_doc.specs.declared.content.Content.TheVariants.{Root, Element, Attribute, Text}
 use Rattle.xf_doc.specs.declared.content.Node.{Node}
-use Rattle.xf_doc.specs.Forest.{is_attribute, is_element, is_root, name_in}
+use Rattle.xf_doc.specs.Forest.{is_attribute, is_element, is_root}
 use Rattle.xf_doc.specs.Changes.{place_among}
 use Rattle.xf_doc.specs.Visit.{Visit, visits, has, parent_of, children_of}
 use Rattle.xf_doc.specs.WellFormed.{have_same_name}

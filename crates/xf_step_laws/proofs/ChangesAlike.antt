@@ -1,17 +1,13 @@
 -- The changes that all others are made of, behaviours and updates, over a state and the same one with other numbers.
-use Rattle.std.proofs.Common.{◌≡◌, ℕ, zero, suc, Bool, true, false, ◌||◌, List, [], ◌∷◌, ◌++◌, map, length, nat_lt, Option, Some, None, option_map, Result, Ok, Err, refl, sym, ap, ◌∙◌, subst}
+use Rattle.std.proofs.Common.{◌≡◌, ℕ, zero, suc, Bool, ◌||◌, List, [], ◌∷◌, ◌++◌, map, length, nat_lt, Option, Some, None, Result, Ok, Err, refl, ap, ◌∙◌}
 use Rattle.std.specs.List.{list_any}
-use Rattle.xf_doc.specs.declared.content.Content.{Content}
-use Rattle.xf_doc.specs.declared.fault.TreeFault.{TreeFault}
-use Rattle.xf_doc.specs.Forest.{Forest, tree_of}
 use Rattle.xf_doc.specs.Limits.{passed_by_text, unless}
-use Rattle.xf_doc.specs.Changes.{copied, attached}
-use Rattle.xf_doc.specs.Planted.{with_tree}
+use Rattle.xf_doc.specs.Changes.{attached}
 use Rattle.xf_doc.specs.Texts.{with_text, new_texts}
 use Rattle.xf_doc.specs.Visit.{parent_of}
 use Rattle.xf_ui.specs.Copies.{Copy}
 use Rattle.xf_ui.specs.Index.{Index, Stop, brought_up}
-use Rattle.xf_ui.specs.Notifications.{Notification, notifications}
+use Rattle.xf_ui.specs.Notifications.{notifications}
 use Rattle.xf_form_machine.specs.declared.limit.LimitWord.{LimitWord}
 use Rattle.xf_form_machine.specs.declared.note.Note.{Note}
 use Rattle.xf_form_machine.specs.Profile.{Profile}
@@ -22,16 +18,13 @@ use Rattle.xf_form_machine.specs.NoteLines.{notes_size}
 use Rattle.xf_form_machine.specs.declared.limit.LimitWord.TheVariants.{Notes}
 use Rattle.xf_form_machine.specs.Flow.{Run, ◌>>=◌, when, in_turn}
 use Rattle.xf_form_machine.specs.Surround.{interface, all_in, model_holding, quiet}
-use Rattle.xf_form_machine.specs.Primitives.{spent_from, spend, in_model, in_some_model, all_due, texts_due, refresh_due, with_text_mark, with_list_mark, list_changed, set_text, copy, plant, attach, detach, is_other_text, if_other, add_note}
+use Rattle.xf_form_machine.specs.Primitives.{spent_from, spend, in_some_model, all_due, texts_due, with_text_mark, with_list_mark, list_changed, set_text, attach, detach, is_other_text, if_other, add_note}
 use Rattle.xf_form_machine.specs.Cycles.{counted_from}
 use Rattle.xf_form_machine.specs.Behave.{model_at, rebuild, recalculate, revalidate}
 use Rattle.xf_form_machine.specs.Update.{no_refresh, with_brought, reindex, shown, refresh, refresh_cleared, all_cleared, has_flag, if_due, due_rebuild, due_recalculation, due_revalidation, is_due, is_refresh_due, round, rounds, update}
 use Rattle.xf_form_machine.specs.Events.{Fired, Tell, told_by}
-use Rattle.xf_form_machine.specs.Tables.{program_of}
-use Rattle.xf_form_machine.specs.Same.{renumbered_model, renumbered_index, renumbered_copy}
+use Rattle.xf_form_machine.specs.Same.{renumbered_model, renumbered_copy}
 use Rattle.xf_lang.specs.Same.{renumbered_property}
-use Rattle.xf_same_laws.specs.Going.{image, imaged, GoesAt, imaged_top, CountsTop}
-use Rattle.xf_same_laws.specs.Behaving.{HasTables}
 use Rattle.xf_same_laws.specs.Controls.{HasForm, renumbered_notification, renumbered_list}
 use Rattle.xf_same_laws.proofs.ForestGoes.{map-length}
 use Rattle.xf_same_laws.proofs.ScopeGoes.{model-at}
@@ -39,11 +32,11 @@ use Rattle.xf_same_laws.proofs.StateGoes.{tables-of}
 use Rattle.xf_same_laws.proofs.GoingLaws.{going_laws, in-model-goes}
 use Rattle.xf_same_laws.proofs.BehavesGo.{behaviours_go}
 use Rattle.xf_same_laws.proofs.ControlsGo.{control_laws}
-use Rattle.xf_rest_laws.proofs.Holds.{Held, held-any, held-more}
+use Rattle.xf_rest_laws.proofs.Holds.{Held}
 use Rattle.xf_rest_laws.proofs.FlagLaws.{rebuild-held, recalculate-held}
-use Rattle.xf_rest_laws.proofs.WithinLaws.{grown-held, grown-by-held}
+use Rattle.xf_rest_laws.proofs.WithinLaws.{grown-held}
 use Rattle.xf_step_laws.specs.Steps.{IsOfForm}
-use Rattle.xf_step_laws.proofs.Alike.{Two, other, Fits, Alike, Goes, mapped, fine, same-alike, then-alike, eval-alike, when-alike, turn-alike, kept-turn, law-alike}
+use Rattle.xf_step_laws.proofs.Alike.{Two, other, Fits, Goes, mapped, same-alike, then-alike, eval-alike, when-alike, turn-alike, kept-turn, law-alike}
 
 -- ---- the form stays
 

@@ -1,5 +1,5 @@
 -- Deletes, rows, cases, events, notes and resets over a state and the same one with other numbers.
-use Rattle.std.proofs.Common.{◌≡◌, ℕ, ◌==◌, Bool, true, false, List, [], ◌∷◌, map, length, codes, get_or, Option, Some, None, option_map, Result, Ok, Err, refl, sym, ap, ◌∙◌, ℤ}
+use Rattle.std.proofs.Common.{◌≡◌, ℕ, ◌==◌, Bool, true, false, List, [], ◌∷◌, map, codes, get_or, Option, Some, None, option_map, Result, Ok, refl, ap, ◌∙◌, ℤ}
 use Rattle.xf_ast.specs.declared.action.DispatchWork.{DispatchWork}
 use Rattle.xf_doc.specs.declared.content.Content.{Content}
 use Rattle.xf_doc.specs.Changes.{standing}
@@ -7,7 +7,7 @@ use Rattle.xf_doc.specs.Same.{renumbered}
 use Rattle.xf_doc.proofs.RenumberChanges.{standing-renumbered}
 use Rattle.xf_plain_values.specs.Conversions.{Decimal}
 use Rattle.xf_lang.specs.Setting.{Focus, Meaning}
-use Rattle.xf_lang.specs.Same.{renumbered_focus, renumbered_property}
+use Rattle.xf_lang.specs.Same.{renumbered_focus}
 use Rattle.xf_lang.proofs.RenumberValues.{Renumbers}
 use Rattle.xf_model.specs.Taken.{planned_delete}
 use Rattle.xf_model.specs.Same.{renumbered_delete}
@@ -27,7 +27,7 @@ use Rattle.xf_form_machine.specs.Flow.{Run, ◌>>=◌, where_some, in_turn}
 use Rattle.xf_form_machine.specs.Surround.{interface, document_at, instance_holding, quiet}
 use Rattle.xf_form_machine.specs.Primitives.{plant, attach, detach, in_model, refresh_due, set_case, add_note, with_indexes}
 use Rattle.xf_form_machine.specs.Update.{reindex}
-use Rattle.xf_form_machine.specs.Events.{Fired, Tell, fired, fired_at, plainly, model_element, submission_element}
+use Rattle.xf_form_machine.specs.Events.{Tell, fired, fired_at, plainly, model_element, submission_element}
 use Rattle.xf_form_machine.specs.Acting.{Acting, whole_for, surroundings, binding_of}
 use Rattle.xf_form_machine.specs.Insert.{moved_focus, set_asked, tell_instance}
 use Rattle.xf_form_machine.specs.Delete as delete
@@ -44,7 +44,7 @@ use Rattle.xf_same_laws.proofs.GoingLaws.{in-model-goes}
 use Rattle.xf_same_laws.proofs.ControlsGo.{control_laws}
 use Rattle.xf_rest_laws.proofs.Holds.{Held}
 use Rattle.xf_step_laws.specs.Steps.{IsOfForm}
-use Rattle.xf_step_laws.proofs.Alike.{Two, other, Fits, Alike, Goes, mapped, long-same, long-mapped, same-alike, then-alike, eval-alike, kept-alike, some-alike, kept-some, turn-alike, kept-turn, law-alike}
+use Rattle.xf_step_laws.proofs.Alike.{Two, other, Fits, Alike, Goes, long-same, long-mapped, same-alike, then-alike, eval-alike, kept-alike, some-alike, kept-some, turn-alike, kept-turn, law-alike}
 use Rattle.xf_step_laws.proofs.ChangesAlike.{has-form, renumbered_fired, Tells, note-alike, attach-alike, detach-is, detach-fits, reindex-alike}
 use Rattle.xf_step_laws.proofs.EvalAlike.{DeleteGoes, renumbered_acting, fired-is, seen-goes, own-goes, whole-goes}
 use Rattle.xf_step_laws.proofs.ActionsAlike.{focus-goes, set-goes, delete-at-goes, closed-goes, order-goes, tell-alike}

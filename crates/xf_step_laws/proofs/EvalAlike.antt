@@ -16,33 +16,31 @@ use Rattle.xf_lang.specs.declared.value.Value.{Value}
 use Rattle.xf_lang.specs.Conversions.{truth_of, number_of}
 use Rattle.xf_lang.specs.Meaning.{meaning, text_worth}
 use Rattle.xf_lang.specs.Setting.{Focus, Meaning}
-use Rattle.xf_lang.specs.Same.{renumbered_value, renumbered_focus, renumbered_property, renumbered_setting}
+use Rattle.xf_lang.specs.Same.{renumbered_value, renumbered_focus, renumbered_property}
 use Rattle.xf_lang.proofs.Options.{then-through}
 use Rattle.xf_lang.proofs.RenumberLaws.{truth-renumbered, number_of-renumbered}
 use Rattle.xf_lang.proofs.RenumberValues.{Renumbers, meaning-renumbered}
-use Rattle.xf_ui.specs.Around.{Around, setting, first_bound, all_bound}
+use Rattle.xf_ui.specs.Around.{Around, setting}
 use Rattle.xf_ui.specs.Context.{Context, context_of}
 use Rattle.xf_ui.specs.Elements.{element_at, ancestors, repeats_around}
 use Rattle.xf_ui.specs.Index.{Index, index_of}
 use Rattle.xf_ui.specs.Index as ui_index
-use Rattle.xf_ui.specs.Interface.{Interface, nodes}
-use Rattle.xf_ui.specs.Context as context
-use Rattle.xf_ui.specs.Named.{row_for, rows_from, handler_rows, cut_before, cut_at, rows_cut}
-use Rattle.xf_form_machine.specs.Profile.{Profile}
+use Rattle.xf_ui.specs.Interface.{Interface}
+use Rattle.xf_ui.specs.Named.{row_for, rows_from, handler_rows, cut_before, cut_at}
 use Rattle.xf_form_machine.specs.Program.{InsertBy, DeleteBy, Work, Act, Role, Program, role_at}
 use Rattle.xf_form_machine.specs.Program as program
 use Rattle.xf_form_machine.specs.State.{State}
 use Rattle.xf_form_machine.specs.Refusal.{Refused, or_long}
 use Rattle.xf_form_machine.specs.Flow.{◌>>=◌}
 use Rattle.xf_form_machine.specs.Surround.{Told, interface, quiet}
-use Rattle.xf_form_machine.specs.Tables.{work_of, act_of, role_of_control, role_of, program_of}
+use Rattle.xf_form_machine.specs.Tables.{work_of, act_of, role_of_control, role_of}
 use Rattle.xf_form_machine.specs.Events.{Fired, fired_at}
-use Rattle.xf_form_machine.specs.Acting.{Acting, act_in, act_at, acting_with, acting_in, acting, surroundings, binding_of, value_for, truth_for, text_for, whole_of, whole_for}
+use Rattle.xf_form_machine.specs.Acting.{Acting, acting_with, acting_in, acting, surroundings, binding_of, value_for, truth_for, text_for, whole_of, whole_for}
 use Rattle.xf_form_machine.specs.Same.{renumbered_index}
 use Rattle.xf_same_laws.specs.Controls.{GoesAround}
-use Rattle.xf_same_laws.proofs.AroundGoes.{BoundGoes, renumbered_context, strings, setting-goes, strings-go, meaning-goes, first-bound, all-bound, context-goes}
+use Rattle.xf_same_laws.proofs.AroundGoes.{BoundGoes, renumbered_context, strings, setting-goes, strings-go, meaning-goes, context-goes}
 use Rattle.xf_same_laws.proofs.IndexGoes.{node-at}
-use Rattle.xf_same_laws.proofs.LabelsGo.{MeaningGoes, ElementGoes, worth-goes}
+use Rattle.xf_same_laws.proofs.LabelsGo.{MeaningGoes, worth-goes}
 use Rattle.xf_same_laws.proofs.StateGoes.{elements-go, around-goes}
 use Rattle.xf_step_laws.specs.Steps.{IsOfForm}
 use Rattle.xf_step_laws.proofs.OptionThen.{and_then}

@@ -10,3 +10,4 @@ pub mod SentGoes
 pub mod SubmitAlike
 pub mod ActsAlike
 pub mod StepsGo
+pub mod RestFixed

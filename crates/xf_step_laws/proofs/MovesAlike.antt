@@ -1,58 +1,39 @@
 -- Inserts, deletes, rows, cases, events and resets over a state and the same one with other numbers.
-use Rattle.std.proofs.Common.{◌≡◌, ℕ, zero, suc, ◌<◌, ◌==◌, Bool, true, false, not, List, [], ◌∷◌, map, length, zip, codes, get_or, Option, Some, None, option_map, Result, Ok, Err, refl, sym, ap, ◌∙◌, subst, ℤ}
-use Rattle.xf_ast.specs.declared.action.DispatchWork.{DispatchWork}
+use Rattle.std.proofs.Common.{◌≡◌, ℕ, suc, ◌<◌, Bool, List, [], ◌∷◌, map, length, zip, codes, get_or, Option, Some, None, option_map, Result, Ok, Err, refl, sym, ap, ◌∙◌, subst, ℤ}
 use Rattle.xf_doc.specs.declared.content.Content.{Content}
-use Rattle.xf_doc.specs.declared.fault.TreeFault.{TreeFault}
-use Rattle.xf_doc.specs.Changes.{copied, standing}
-use Rattle.xf_doc.specs.Forest.{Forest, tree_of}
+use Rattle.xf_doc.specs.Changes.{copied}
+use Rattle.xf_doc.specs.Forest.{tree_of}
 use Rattle.xf_doc.specs.Planted.{with_tree}
 use Rattle.xf_doc.specs.Same.{renumbered}
-use Rattle.xf_doc.proofs.RenumberChanges.{standing-renumbered}
-use Rattle.xf_plain_values.specs.Conversions.{Decimal}
-use Rattle.xf_lang.specs.declared.value.Value.{Value}
-use Rattle.xf_lang.specs.declared.value.Value.TheVariants.{Nodes}
 use Rattle.xf_lang.specs.Binding.{as_list}
-use Rattle.xf_lang.specs.Setting.{Focus, Meaning}
+use Rattle.xf_lang.specs.Setting.{Focus}
 use Rattle.xf_lang.specs.Same.{renumbered_focus, renumbered_property}
-use Rattle.xf_lang.proofs.RenumberValues.{Renumbers}
 use Rattle.xf_model.specs.Pertinent.{AllOf}
 use Rattle.xf_model.specs.Places.{Place, named_by, planned_insert}
-use Rattle.xf_model.specs.Taken.{planned_delete}
-use Rattle.xf_model.specs.Same.{renumbered_place, renumbered_insert, renumbered_delete}
+use Rattle.xf_model.specs.Same.{renumbered_place, renumbered_insert}
 use Rattle.xf_model.proofs.RenumberInsert.{planned_insert-renumbered}
-use Rattle.xf_model.proofs.RenumberPlaces.{named-renumbered, planned_delete-renumbered}
-use Rattle.xf_ui.specs.Cases.{cases_of, place_of_case}
-use Rattle.xf_ui.specs.Elements.{element_at}
-use Rattle.xf_ui.specs.Index.{brought_up}
-use Rattle.xf_ui.specs.Started.{index_set}
-use Rattle.xf_form_machine.specs.Program.{InsertBy, DeleteBy}
+use Rattle.xf_model.proofs.RenumberPlaces.{named-renumbered}
+use Rattle.xf_form_machine.specs.Program.{InsertBy}
 use Rattle.xf_form_machine.specs.State.{State}
-use Rattle.xf_form_machine.specs.Refusal.{Refused, or_long}
+use Rattle.xf_form_machine.specs.Refusal.{Refused}
 use Rattle.xf_form_machine.specs.Flow.{Run, ◌>>=◌, where_some, in_turn}
-use Rattle.xf_form_machine.specs.Surround.{Told, interface, document_at, instance_holding, quiet}
-use Rattle.xf_form_machine.specs.Primitives.{copy, plant, attach, detach, in_model, refresh_due, set_case}
+use Rattle.xf_form_machine.specs.Surround.{instance_holding}
+use Rattle.xf_form_machine.specs.Primitives.{copy, plant, attach}
 use Rattle.xf_form_machine.specs.Update.{reindex}
-use Rattle.xf_form_machine.specs.Events.{Fired, Tell, fired, fired_at, plainly, model_element, submission_element}
-use Rattle.xf_form_machine.specs.Acting.{Acting, whole_for}
+use Rattle.xf_form_machine.specs.Events.{Tell}
+use Rattle.xf_form_machine.specs.Acting.{Acting}
 use Rattle.xf_form_machine.specs.Insert.{moved_focus, set_asked, origin_asked, at_asked, asked_with, copies_of, without_one, put_copy, location_of, insert_told, tell_instance, inserted, insert_at, insert}
-use Rattle.xf_form_machine.specs.Delete as delete
-use Rattle.xf_form_machine.specs.Choose.{named_copy, not_below_zero, set_index, act_index, switch_number, toggled, unless_same, toggle_in, toggle, act_dispatch, act_send, act_on_model}
-use Rattle.xf_form_machine.specs.Construct.{replace_at, replace, construct, first_contents, put_back, instances_of, reset}
 use Rattle.xf_same_laws.specs.Going.{imaged_top, CountsTop}
 use Rattle.xf_same_laws.proofs.ForestGoes.{map-length, holding-goes}
-use Rattle.xf_same_laws.proofs.ScopeGoes.{document-goes}
-use Rattle.xf_same_laws.proofs.IndexGoes.{indexed-goes}
-use Rattle.xf_same_laws.proofs.LabelsGo.{MeaningGoes}
-use Rattle.xf_same_laws.proofs.GoingLaws.{going_laws, in-model-goes}
-use Rattle.xf_same_laws.proofs.ControlsGo.{control_laws}
+use Rattle.xf_same_laws.proofs.GoingLaws.{going_laws}
 use Rattle.xf_rest_laws.proofs.Holds.{Held}
 use Rattle.xf_rest_laws.proofs.WithinLaws.{grown-by-held}
 use Rattle.xf_step_laws.specs.Steps.{IsOfForm}
-use Rattle.xf_step_laws.proofs.Alike.{Two, other, Fits, Alike, Goes, mapped, same-alike, then-alike, eval-alike, kept-alike, some-alike, kept-some, turn-alike, kept-turn, law-alike}
-use Rattle.xf_step_laws.proofs.ChangesAlike.{has-form, renumbered_fired, Tells, attach-alike, detach-is, detach-fits, reindex-alike}
-use Rattle.xf_step_laws.proofs.EvalAlike.{InsertGoes, DeleteGoes, renumbered_acting, fired-is, whole-goes}
+use Rattle.xf_step_laws.proofs.Alike.{Two, other, Fits, Alike, Goes, mapped, same-alike, then-alike, eval-alike, kept-alike, some-alike}
+use Rattle.xf_step_laws.proofs.ChangesAlike.{Tells, attach-alike, detach-is, detach-fits, reindex-alike}
+use Rattle.xf_step_laws.proofs.EvalAlike.{InsertGoes, renumbered_acting}
 use Rattle.xf_step_laws.proofs.AgainLaws.{AgainIn, planned-again, at-mapped}
-use Rattle.xf_step_laws.proofs.ActionsAlike.{focus-goes, set-goes, origin-goes, at-goes, delete-at-goes, closed-goes, order-goes, tell-alike}
+use Rattle.xf_step_laws.proofs.ActionsAlike.{focus-goes, set-goes, origin-goes, at-goes, closed-goes, order-goes, tell-alike}
 
 abbrev Formed : State → Type 0
 Formed s = IsOfForm s.form

@@ -1,5 +1,5 @@
 -- What a submission sends and where its answer goes, with other numbers.
-use Rattle.std.proofs.Common.{◌≡◌, ℕ, ◌==◌, Bool, true, false, ◌&&◌, ◌||◌, List, [], ◌∷◌, ◌++◌, map, nat_lt, Option, Some, None, option_map, refl, sym, ap, ◌∙◌, if◌then◌else◌}
+use Rattle.std.proofs.Common.{◌≡◌, ℕ, Bool, true, false, ◌||◌, List, [], ◌∷◌, map, nat_lt, Option, Some, None, option_map, refl, ap, ◌∙◌, if◌then◌else◌}
 use Rattle.xf_ast.specs.declared.expr.Expr.{Expr}
 use Rattle.xf_name.specs.Bindings.{Bindings}
 use Rattle.xf_name.specs.declared.lit.Lit.{Lit}
@@ -9,7 +9,7 @@ use Rattle.xf_doc.specs.Forest.{is_text, tree_of, name_in}
 use Rattle.xf_doc.specs.Literal.{is_kept, printed_from, printed, gathered, first_tree_in, inner, outer}
 use Rattle.xf_doc.specs.Printed.{Printing, with_prefix_in, prefixes_in, printing, printed_as, lit_of}
 use Rattle.xf_doc.specs.Same.{IsRenumbering, renumbered, renumbered_visit}
-use Rattle.xf_doc.specs.Visit.{Visit, has}
+use Rattle.xf_doc.specs.Visit.{Visit}
 use Rattle.xf_doc.proofs.RenumberLaws.{has-renumbered}
 use Rattle.xf_doc.proofs.RenumberChanges.{tree_of-renumbered}
 use Rattle.xf_lang.specs.Reads.{trace}

@@ -1,10 +1,8 @@
 -- An event from outside goes with a renumbering.
-use Rattle.std.proofs.Common.{◌≡◌, ℕ, suc, ◌+◌, ◌==◌, Bool, true, false, not, ◌&&◌, List, [], ◌∷◌, ◌++◌, map, find, length, zip, codes, nat_le, Option, Some, None, option_map, Result, Ok, Err, refl, sym, ap, ◌∙◌, subst, arith}
-use Rattle.std.specs.Prelude.{◌≤◌}
+use Rattle.std.proofs.Common.{◌≡◌, ℕ, ◌+◌, ◌==◌, Bool, true, false, not, ◌&&◌, List, [], ◌∷◌, ◌++◌, map, find, zip, codes, nat_le, Option, Some, None, option_map, Result, Ok, Err, refl, sym, ap, ◌∙◌, subst, arith}
 use Rattle.std.proofs.lemmas.List.{map-append}
 use Rattle.xf_line.specs.declared.event.Event.{Event}
 use Rattle.xf_line.specs.declared.event.Event.TheVariants.{Set, Activate, Index, Send, Dispatch, Reset}
-use Rattle.xf_store.specs.declared.answers.Answer.{Answer}
 use Rattle.xf_doc.proofs.RenumberLaws.{find-through}
 use Rattle.xf_doc.proofs.RenumberChanges.{in_instances-renumbered}
 use Rattle.xf_lang.proofs.Options.{then-through}
@@ -15,10 +13,9 @@ use Rattle.xf_ui.specs.Index.{rows_now}
 use Rattle.xf_ui.specs.Interface.{Interface, Sort, select}
 use Rattle.xf_ui.specs.Named.{with_row, named_from, named_rows}
 use Rattle.xf_ui.specs.Rows.{rows_of, row_at}
-use Rattle.xf_form_machine.specs.Profile.{Profile}
 use Rattle.xf_form_machine.specs.State.{State}
 use Rattle.xf_form_machine.specs.Refusal.{Refusal, Refused, disabled, readonly, not_an_item, bad_index, or_long}
-use Rattle.xf_form_machine.specs.Flow.{Run, ◌>>=◌, where_some, in_turn}
+use Rattle.xf_form_machine.specs.Flow.{Run, ◌>>=◌}
 use Rattle.xf_form_machine.specs.Surround.{interface, quiet}
 use Rattle.xf_form_machine.specs.SetValue.{set_node}
 use Rattle.xf_form_machine.specs.Choose.{named_copy, set_index}
@@ -26,9 +23,9 @@ use Rattle.xf_form_machine.specs.Events.{Fired, fired, plainly}
 use Rattle.xf_form_machine.specs.Targets.{element_named, is_entry, is_trigger, is_submission, by_role, is_repeat_in, or_no_target, is_copy_at, copy_named, unless, model_around, take_rows}
 use Rattle.xf_form_machine.specs.Targets as targets
 use Rattle.xf_form_machine.specs.Dispatch.{dispatch}
-use Rattle.xf_form_machine.specs.Step.{settle, tell, set_bound, try_set, set, activate, is_row, index, to_element, model_named, changed_by, fresh, at_end, posted, Outcome, accepted, refused, outcome, one_more, step}
+use Rattle.xf_form_machine.specs.Step.{settle, tell, set_bound, try_set, set, activate, is_row, index, to_element, model_named, changed_by, fresh, at_end, outcome, one_more}
 use Rattle.xf_form_machine.specs.Same.{renumbered_copy, IsSame}
-use Rattle.xf_same_laws.specs.Going.{Runs, image, imaged}
+use Rattle.xf_same_laws.specs.Going.{imaged}
 use Rattle.xf_same_laws.specs.Controls.{GoesAround}
 use Rattle.xf_same_laws.proofs.ForestGoes.{map-length}
 use Rattle.xf_same_laws.proofs.AroundGoes.{BoundGoes, rows-go}
@@ -36,9 +33,9 @@ use Rattle.xf_same_laws.proofs.IndexGoes.{row-at, now-goes}
 use Rattle.xf_same_laws.proofs.ControlsGo.{bytes-go}
 use Rattle.xf_same_laws.proofs.StateGoes.{elements-go, around-goes}
 use Rattle.xf_same_laws.proofs.GoingLaws.{changes_go}
-use Rattle.xf_step_laws.specs.Steps.{IsOfForm, AreSameOutcomes, StepsGo}
+use Rattle.xf_step_laws.specs.Steps.{AreSameOutcomes, StepsGo}
 use Rattle.xf_step_laws.proofs.OptionThen.{and_then}
-use Rattle.xf_step_laws.proofs.Alike.{Two, other, Fits, Alike, Goes, mapped, long-mapped, long-same, same-alike, then-alike, eval-alike, kept-alike, some-alike, kept-turn}
+use Rattle.xf_step_laws.proofs.Alike.{Two, other, Fits, Alike, Goes, mapped, long-mapped, same-alike, then-alike, eval-alike, kept-alike, some-alike, kept-turn}
 use Rattle.xf_step_laws.proofs.ChangesAlike.{has-form, renumbered_fired, update-alike}
 use Rattle.xf_step_laws.proofs.ActionsAlike.{set-node-alike}
 use Rattle.xf_step_laws.proofs.ChoicesAlike.{named-goes, set-index-alike}

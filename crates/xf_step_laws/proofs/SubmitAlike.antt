@@ -1,5 +1,5 @@
 -- A submission over a state and the same one with other numbers.
-use Rattle.std.proofs.Common.{◌≡◌, ℕ, ◌==◌, Bool, true, false, not, ◌&&◌, List, [], ◌∷◌, map, length, codes, nat_le, slice_get, unwrap_or, Option, Some, None, option_map, Result, Ok, Err, refl, sym, ap, ◌∙◌, if◌then◌else◌}
+use Rattle.std.proofs.Common.{◌≡◌, ℕ, ◌==◌, Bool, true, false, not, ◌&&◌, List, [], ◌∷◌, map, length, codes, nat_le, slice_get, unwrap_or, Option, Some, None, option_map, Result, Ok, Err, refl, ap, ◌∙◌, if◌then◌else◌}
 use Rattle.std.specs.Prelude.{option_and_then}
 use Rattle.std.specs.List.{list_any}
 use Rattle.std.specs.Str.{is_utf8}
@@ -20,13 +20,11 @@ use Rattle.xf_store.specs.declared.call.Asked.TheVariants as store
 use Rattle.xf_store.specs.Replay.{reply}
 use Rattle.xf_doc.specs.Forest.{is_element}
 use Rattle.xf_doc.specs.Plant.{contents_of}
-use Rattle.xf_doc.specs.Printed.{lit_of}
 use Rattle.xf_doc.specs.Same.{renumbered, renumbered_visit}
 use Rattle.xf_doc.specs.Shape.{has_elements}
 use Rattle.xf_doc.specs.Visit.{visits}
 use Rattle.xf_doc.proofs.RenumberLaws.{any-through, visits-renumbered}
 use Rattle.xf_lang.specs.Reads.{trace}
-use Rattle.xf_model.specs.Rules.{Scope}
 use Rattle.xf_model.specs.Same.{renumbered_scope, renumbered_submitted}
 use Rattle.xf_model.specs.Submitted.{Submitted, left, no_data, invalid, submitted, by_expression}
 use Rattle.xf_model.proofs.RenumberSubmitted.{submitted-renumbered}
@@ -47,8 +45,8 @@ use Rattle.xf_same_laws.proofs.ForestGoes.{holding-goes, model-goes}
 use Rattle.xf_same_laws.proofs.ScopeGoes.{document-goes, scope-is, rules-go}
 use Rattle.xf_same_laws.proofs.StateGoes.{tables-of, relevant-goes, readonly-goes, valid-goes}
 use Rattle.xf_rest_laws.proofs.Holds.{Held}
-use Rattle.xf_step_laws.proofs.Alike.{Two, other, Fits, Alike, Goes, mapped, long-mapped, same-alike, then-alike, kept-alike, kept-some}
-use Rattle.xf_step_laws.proofs.ChangesAlike.{has-form, renumbered_fired, Tells, Clears, one-clears, some-ok, text-alike, note-alike, rebuild-alike, recalculate-alike, revalidate-alike, due-revalidation-alike, reindex-alike, refresh-alike}
+use Rattle.xf_step_laws.proofs.Alike.{Two, other, Fits, Alike, Goes, mapped, long-mapped, same-alike, then-alike, kept-some}
+use Rattle.xf_step_laws.proofs.ChangesAlike.{has-form, renumbered_fired, Tells, one-clears, some-ok, text-alike, note-alike, rebuild-alike, recalculate-alike, revalidate-alike, due-revalidation-alike, reindex-alike, refresh-alike}
 use Rattle.xf_step_laws.proofs.EvalAlike.{fired-is}
 use Rattle.xf_step_laws.proofs.ActionsAlike.{has-goes}
 use Rattle.xf_step_laws.proofs.ChoicesAlike.{replace-alike}

@@ -12,7 +12,7 @@ use Rattle.xf_form_machine.specs.Tables.{program_of}
 use Rattle.xf_form_machine.specs.State.{State}
 use Rattle.xf_form_machine.specs.Step.{Outcome, accepted, refused, step}
 use Rattle.xf_form_machine.specs.Same.{IsSame}
-use Rattle.xf_same_laws.specs.Going.{Runs, image}
+use Rattle.xf_same_laws.specs.Going.{Runs}
 
 pub record IsOfForm (program : Program) : Type 0 where
   pub form : Form

@@ -1,0 +1,22 @@
+-- What a state at rest keeps beside its data is fixed by these: of one form, two states at rest that have the same nodes but for their numbers,
+-- the same indexes, cases and count of events have the same models and controls. What is kept can be made again.
+use Rattle.std.specs.Prelude.{ℕ, ◌≡◌, map}
+use Rattle.xf_doc.specs.Same.{IsRenumbering, KeepsTexts, renumbered}
+use Rattle.xf_form_machine.specs.Profile.{Profile}
+use Rattle.xf_form_machine.specs.State.{State}
+use Rattle.xf_form_machine.specs.Same.{renumbered_index, IsSame}
+use Rattle.xf_form_machine.specs.AtRest.{IsAtRest}
+use Rattle.xf_step_laws.specs.Steps.{IsOfForm}
+
+-- the data are the same but for numbers
+pub record HaveSameData (f : ℕ → ℕ) (s t : State) : Type 0 where
+  pub renumbers : IsRenumbering f
+  pub keeps_texts : KeepsTexts f
+  pub form : s.form ≡ t.form
+  pub nodes : map (renumbered f) s.forest.nodes ≡ t.forest.nodes
+  pub indexes : map (renumbered_index f) s.indexes ≡ t.indexes
+  pub cases : s.cases ≡ t.cases
+  pub accepted : s.accepted ≡ t.accepted
+
+abbrev pub RestIsFixed : Type 0
+RestIsFixed = (p : Profile) (f : ℕ → ℕ) (s t : State) → IsOfForm s.form → HaveSameData f s t → IsAtRest p s → IsAtRest p t → IsSame s t
