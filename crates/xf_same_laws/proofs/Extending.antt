@@ -1,15 +1,14 @@
 -- A renumbering goes on through the numbers that an event may yet give: one number after the other changes places with the one that it is to
 -- be, and with both the numbers that stand a whole count above them, as those of texts in shapes.
-use Rattle.std.proofs.Common.{◌≡◌, ℕ, zero, suc, ◌+◌, ◌*◌, ◌/◌, ◌%◌, ◌^◌, ◌<◌, ◌==◌, Bool, true, false, refl, sym, ap, ◌∙◌, subst, inl, inr, arith}
+use Rattle.std.proofs.Common.{◌≡◌, ℕ, zero, suc, ◌+◌, ◌*◌, ◌/◌, ◌%◌, ◌^◌, ◌<◌, ◌==◌, true, false, refl, sym, ap, ◌∙◌, subst, inl, inr, arith}
 use Rattle.std.specs.Prelude.{◌≤◌}
 use Rattle.std.proofs.lemmas.Bool.{cases_Bool}
 use Rattle.std.proofs.lemmas.Bool.Decides.{nat_tests}
 use Rattle.std.proofs.lemmas.Nat.{div-mul-add, mod-mul-add, div-add-mod'}
 use Rattle.std.proofs.Math.Nat.{mod-lt, mod-eq_of_lt, div-eq_of_lt, add-mod_left, add-div_left}
-use Rattle.xf_doc.specs.Same.{IsRenumbering, KeepsTexts}
-use Rattle.xf_form_machine.specs.Profile.{Profile}
+use Rattle.xf_doc.specs.Same.{IsRenumbering}
 use Rattle.xf_settle_laws.proofs.Renamed.{swap, swap-other}
-use Rattle.xf_same_laws.specs.Going.{Runs, MayRun, Extended, Extends}
+use Rattle.xf_same_laws.specs.Going.{Extends}
 
 -- ---- two numbers that change places
 

@@ -1,6 +1,6 @@
 -- What surrounds the expressions of a state, the elements of its form, and the properties of its nodes go with a renumbering.
-use Rattle.std.proofs.Common.{◌≡◌, ℕ, zero, suc, Bool, not, ◌||◌, List, [], ◌∷◌, ◌++◌, map, get_or, slice_get, Option, Some, None, option_map, refl, sym, ap, ◌∙◌, subst}
-use Rattle.std.specs.List.{flat_map, list_any}
+use Rattle.std.proofs.Common.{◌≡◌, ℕ, zero, suc, not, List, [], ◌∷◌, ◌++◌, map, get_or, slice_get, Option, Some, None, option_map, refl, sym, ap, ◌∙◌, subst}
+use Rattle.std.specs.List.{flat_map}
 use Rattle.std.proofs.lemmas.List.{map-append}
 use Rattle.xf_ast.specs.declared.element.Binding.{Binding}
 use Rattle.xf_ast.specs.declared.element.Binding.TheVariants as binding
@@ -10,7 +10,6 @@ use Rattle.xf_ast.specs.declared.element.Element as written
 use Rattle.xf_ast.specs.declared.element.Kind.{Kind}
 use Rattle.xf_ast.specs.declared.element.Kind.TheVariants as kind
 use Rattle.xf_ast.specs.declared.expr.Expr.{Expr}
-use Rattle.xf_ast.specs.declared.form.Form.{Form}
 use Rattle.xf_ast.specs.declared.form.Selection.{Selection}
 use Rattle.xf_ast.specs.declared.form.Selection.TheVariants as selection
 use Rattle.xf_ast.specs.declared.form.Submission.{Submission}
@@ -20,23 +19,21 @@ use Rattle.xf_doc.specs.Visit.{visits, has}
 use Rattle.xf_doc.proofs.RenumberLaws.{any-through, has-renumbered, visits-renumbered}
 use Rattle.xf_lang.specs.Given.{Given}
 use Rattle.xf_lang.specs.Meaning.{meaning}
-use Rattle.xf_lang.specs.Same.{renumbered_given, renumbered_property}
+use Rattle.xf_lang.specs.Same.{renumbered_property}
 use Rattle.xf_lang.proofs.RenumberValues.{meaning-renumbered}
 use Rattle.xf_model.specs.Nested.{nested}
 use Rattle.xf_model.specs.Properties.{is_relevant, is_readonly, is_required}
 use Rattle.xf_model.specs.Rules.{Scope, chains}
 use Rattle.xf_model.specs.Same.{renumbered_scope, renumbered_valued}
-use Rattle.xf_model.specs.Settled.{Valued}
 use Rattle.xf_model.proofs.RenumberApplied.{got, all-chains_go}
 use Rattle.xf_model.proofs.RenumberBinds.{nested-renumbered}
 use Rattle.xf_model.proofs.RenumberEntries.{sets-go}
 use Rattle.xf_model.proofs.RenumberProperties.{is_relevant-renumbered, is_readonly-renumbered, is_required-renumbered}
-use Rattle.xf_ui.specs.declared.marks.Marks.{Marks}
 use Rattle.xf_ui.specs.Elements.{element_at, no_element}
-use Rattle.xf_ui.specs.Interface.{Element, Interface, bound_of, selected_of, sent_of, binding_of, sort_of_control, sort_of, element_of, interface_of}
+use Rattle.xf_ui.specs.Interface.{Interface, bound_of, selected_of, sent_of, binding_of, sort_of_control, sort_of, element_of}
 use Rattle.xf_form_machine.specs.Profile.{Profile}
 use Rattle.xf_form_machine.specs.State.{Model, State}
-use Rattle.xf_form_machine.specs.Surround.{Told, all_in, scope, given, around}
+use Rattle.xf_form_machine.specs.Surround.{Told, all_in, scope, around}
 use Rattle.xf_form_machine.specs.Properties.{values_of, values_in, relevant_in, readonly_in, valid_in, marks_in}
 use Rattle.xf_form_machine.specs.Same.{renumbered_model}
 use Rattle.xf_same_laws.specs.Going.{image}
