@@ -11,3 +11,5 @@ pub mod SubmitAlike
 pub mod ActsAlike
 pub mod StepsGo
 pub mod RestFixed
+pub mod Found
+pub mod FixedLaws

@@ -1,12 +1,12 @@
 -- Of one form, states at rest with the same data keep the same beside them.
-use Rattle.std.proofs.Common.{◌≡◌, ℕ, zero, suc, ◌+◌, Bool, true, false, not, ◌&&◌, ◌||◌, List, [], ◌∷◌, map, filter, length, get_or, Option, Some, None, Result, Ok, Err, refl, sym, ap, ◌∙◌, subst, arith}
+use Rattle.std.proofs.Common.{◌≡◌, ℕ, zero, suc, ◌+◌, Bool, true, false, not, ◌&&◌, ◌||◌, List, [], ◌∷◌, map, filter, length, get_or, Result, Ok, refl, sym, ap, ◌∙◌, subst, arith}
 use Rattle.std.specs.List.{list_any}
 use Rattle.xf_doc.specs.Same.{IsRenumbering, KeepsTexts, renumbered, renumbered_visit}
 use Rattle.xf_doc.specs.Shape.{shape_of}
 use Rattle.xf_doc.specs.Visit.{Visit, visits}
 use Rattle.xf_doc.proofs.RenumberLaws.{filter-through, visits-renumbered}
 use Rattle.xf_doc.proofs.RenumberTexts.{shape_of-renumbered}
-use Rattle.xf_model.specs.Applied.{Entry, Exception, applied}
+use Rattle.xf_model.specs.Applied.{Entry, applied}
 use Rattle.xf_model.specs.Entries.{edge_count, is_computed}
 use Rattle.xf_model.specs.Pertinent.{AllOf}
 use Rattle.xf_model.specs.Properties.{is_valid}
@@ -17,29 +17,27 @@ use Rattle.xf_model.proofs.RenumberApplied.{applied-renumbered}
 use Rattle.xf_model.proofs.RenumberEntries.{sets-go}
 use Rattle.xf_model.proofs.RenumberProperties.{is_valid-renumbered}
 use Rattle.xf_model.proofs.RenumberSettled.{edges-renumbered}
-use Rattle.xf_ui.specs.Copies.{Copy}
 use Rattle.xf_form_machine.specs.Profile.{Profile}
 use Rattle.xf_form_machine.specs.Program.{Program}
 use Rattle.xf_form_machine.specs.State.{Flags, Model, State}
-use Rattle.xf_form_machine.specs.Refusal.{Refused}
 use Rattle.xf_form_machine.specs.Surround.{scope, all_in, model_holding}
 use Rattle.xf_form_machine.specs.Cycles.{counted_from}
 use Rattle.xf_form_machine.specs.Behave.{no_flags, no_model, model_at, truly, is_model, is_invalid}
 use Rattle.xf_form_machine.specs.Properties.{value_from, values_of}
-use Rattle.xf_form_machine.specs.Update.{has_flag, is_due, shown}
+use Rattle.xf_form_machine.specs.Update.{has_flag, shown}
 use Rattle.xf_form_machine.specs.Step.{fresh}
-use Rattle.xf_form_machine.specs.Same.{renumbered_model, renumbered_index, renumbered_copy, IsSame}
+use Rattle.xf_form_machine.specs.Same.{renumbered_model, renumbered_index, renumbered_copy}
 use Rattle.xf_form_machine.specs.AtRest.{RestsModel, IsAtRest}
 use Rattle.xf_same_laws.specs.Going.{image}
 use Rattle.xf_same_laws.specs.Controls.{renumbered_list}
-use Rattle.xf_same_laws.proofs.ForestGoes.{map-length, model-goes}
+use Rattle.xf_same_laws.proofs.ForestGoes.{model-goes}
 use Rattle.xf_same_laws.proofs.ScopeGoes.{scope-is, rules-go}
 use Rattle.xf_same_laws.proofs.RecalculateGoes.{values-go, each-truly}
 use Rattle.xf_same_laws.proofs.RevalidateGoes as valid
-use Rattle.xf_same_laws.proofs.StateGoes.{tables-of, elements-go, around-goes, marks-go}
+use Rattle.xf_same_laws.proofs.StateGoes.{tables-of}
 use Rattle.xf_same_laws.proofs.ControlsGo.{shown-is}
 use Rattle.xf_step_laws.specs.Steps.{IsOfForm}
-use Rattle.xf_step_laws.specs.Fixed.{HaveSameData, RestIsFixed}
+use Rattle.xf_step_laws.specs.Fixed.{RestIsFixed}
 use Rattle.xf_step_laws.proofs.ChangesAlike.{has-form}
 
 ok-same : {X Y : Type 0} {x y : X} → ◌≡◌ {A = Result X Y} (Ok x) (Ok y) → x ≡ y

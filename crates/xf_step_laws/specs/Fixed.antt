@@ -1,6 +1,8 @@
 -- What a state at rest keeps beside its data is fixed by these: of one form, two states at rest that have the same nodes but for their numbers,
 -- the same indexes, cases and count of events have the same models and controls. What is kept can be made again.
-use Rattle.std.specs.Prelude.{ℕ, ◌≡◌, map}
+use Rattle.std.specs.Prelude.{ℕ, ◌≡◌, ◌≤◌, ◌^◌, [], map}
+use Rattle.xf_doc.specs.declared.content.Content.{Content}
+use Rattle.xf_doc.specs.declared.content.Node.{Node}
 use Rattle.xf_doc.specs.Same.{IsRenumbering, KeepsTexts, renumbered}
 use Rattle.xf_form_machine.specs.Profile.{Profile}
 use Rattle.xf_form_machine.specs.State.{State}
@@ -20,3 +22,23 @@ pub record HaveSameData (f : ℕ → ℕ) (s t : State) : Type 0 where
 
 abbrev pub RestIsFixed : Type 0
 RestIsFixed = (p : Profile) (f : ℕ → ℕ) (s t : State) → IsOfForm s.form → HaveSameData f s t → IsAtRest p s → IsAtRest p t → IsSame s t
+
+-- a node with its depth, whatever its number
+abbrev pub without_number : Node → ℕ × Content
+without_number x = (x.depth, x.content)
+
+-- the nodes are the same one by one, but for their numbers
+pub record HaveSameContents (s t : State) : Type 0 where
+  pub form : s.form ≡ t.form
+  pub contents : map without_number s.forest.nodes ≡ map without_number t.forest.nodes
+  pub cases : s.cases ≡ t.cases
+  pub accepted : s.accepted ≡ t.accepted
+
+-- where nothing comes in rows; numbers of nodes stay below those that texts have in shapes
+abbrev pub RowlessIsFixed : Type 0
+RowlessIsFixed = (p : Profile) (s t : State) → IsOfForm s.form → s.form.interface.repeats ≡ [] → s.forest.next ≤ 2 ^ 128 → t.forest.next ≤ 2 ^ 128
+    → HaveSameContents s t → IsAtRest p s → IsAtRest p t → IsSame s t
+
+pub record FixedLaws : Type 0 where
+  pub with_indexes : RestIsFixed
+  pub rowless : RowlessIsFixed

@@ -1,7 +1,7 @@
 //! What an event does with other numbers of nodes, and what a state at rest is fixed by.
 #![tactic(auto)]
 
-ghost use Rattle.xf_step_laws.specs.Fixed.{RestIsFixed};
+ghost use Rattle.xf_step_laws.specs.Fixed.{FixedLaws};
 ghost use Rattle.xf_step_laws.specs.Steps.{StepsGo};
 
 /// An event goes with a renumbering of the nodes of the state. This tells contracts so, and does nothing.
@@ -11,5 +11,5 @@ pub fn steps_go_with_renumbering()
 
 /// A state at rest is fixed by its data, but for the numbers of nodes. This tells contracts so, and does nothing.
 pub fn states_at_rest_are_fixed()
-    ensures { RestIsFixed }
+    ensures { FixedLaws }
 {}
