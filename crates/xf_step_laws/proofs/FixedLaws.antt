@@ -12,6 +12,7 @@ use Rattle.xf_form_machine.specs.Same.{renumbered_index}
 use Rattle.xf_step_laws.specs.Fixed.{RowlessIsFixed, FixedLaws}
 use Rattle.xf_step_laws.proofs.Found.{found-by}
 use Rattle.xf_step_laws.proofs.RestFixed.{rest_is_fixed}
+use Rattle.xf_step_laws.proofs.RestsGo.{rests_go}
 
 and-first : (a b : Bool) → (a && b) ≡ true → a ≡ true
 and-first true b h = refl
@@ -41,4 +42,4 @@ rowless p s t form e a b d h q =
     }) h q
 
 pub fixed_laws : FixedLaws
-fixed_laws = record { with_indexes = rest_is_fixed; rowless = rowless }
+fixed_laws = record { with_indexes = rest_is_fixed; rowless = rowless; events = rests_go }

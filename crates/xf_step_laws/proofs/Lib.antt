@@ -12,4 +12,5 @@ pub mod ActsAlike
 pub mod StepsGo
 pub mod RestFixed
 pub mod Found
+pub mod RestsGo
 pub mod FixedLaws

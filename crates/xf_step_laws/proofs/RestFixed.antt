@@ -37,7 +37,7 @@ use Rattle.xf_same_laws.proofs.RevalidateGoes as valid
 use Rattle.xf_same_laws.proofs.StateGoes.{tables-of}
 use Rattle.xf_same_laws.proofs.ControlsGo.{shown-is}
 use Rattle.xf_step_laws.specs.Steps.{IsOfForm}
-use Rattle.xf_step_laws.specs.Fixed.{RestIsFixed}
+use Rattle.xf_step_laws.specs.Fixed.{HaveSameData, RestIsFixed}
 use Rattle.xf_step_laws.proofs.ChangesAlike.{has-form}
 
 ok-same : {X Y : Type 0} {x y : X} → ◌≡◌ {A = Result X Y} (Ok x) (Ok y) → x ≡ y
@@ -212,3 +212,8 @@ rest_is_fixed p f s t form d h q =
       calls = calls;
       to_come = ap (λ (x : State). x.to_come) (sym h.is_fresh) ∙ ap (λ (x : State). x.to_come) q.is_fresh;
     }
+
+-- by the renumbering that is given
+pub fixed-by : (p : Profile) (f : ℕ → ℕ) (s t : State) (form : IsOfForm s.form) (d : HaveSameData f s t) (h : IsAtRest p s) (q : IsAtRest p t) → f ≡ (rest_is_fixed p f s t form d h q).by
+unfolding rest_is_fixed
+fixed-by p f s t form d h q = refl
