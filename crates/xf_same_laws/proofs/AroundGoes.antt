@@ -1,15 +1,15 @@
 -- What surrounds expressions, what bindings select, and where elements are evaluated go with a renumbering.
-use Rattle.std.proofs.Common.{◌≡◌, ℕ, suc, ◌+◌, ◌==◌, Bool, true, false, not, cond, List, [], ◌∷◌, map, length, find, Option, Some, None, option_map, refl, sym, ap, ◌∙◌, if◌then◌else◌}
-use Rattle.std.specs.Prelude.{⊤, get_or}
+use Rattle.std.proofs.Common.{◌≡◌, ℕ, suc, ◌+◌, ◌==◌, Bool, true, false, not, cond, List, [], ◌∷◌, map, length, find, Option, Some, None, option_map, refl, ap, ◌∙◌, if◌then◌else◌}
+use Rattle.std.specs.Prelude.{⊤}
 use Rattle.std.specs.List.{position_or_len, prefix_len}
 use Rattle.xf_doc.specs.Same.{IsRenumbering, renumbered_visit}
 use Rattle.xf_doc.specs.StringValue.{string_value}
-use Rattle.xf_doc.specs.Visit.{Visit, has, first_of}
+use Rattle.xf_doc.specs.Visit.{has, first_of}
 use Rattle.xf_doc.proofs.RenumberLaws.{has-renumbered}
 use Rattle.xf_lang.specs.Binding.{stand_ins, bound_nodes}
 use Rattle.xf_lang.specs.Conversions.{nodes_of}
 use Rattle.xf_lang.specs.Given.{first_document}
-use Rattle.xf_lang.specs.Setting.{Setting, Focus, Meaning, ◌>>=◌, setting_over}
+use Rattle.xf_lang.specs.Setting.{Focus, Meaning, ◌>>=◌, setting_over}
 use Rattle.xf_lang.specs.Same.{renumbered_value, renumbered_given, renumbered_focus, renumbered_setting, HasStrings}
 use Rattle.xf_lang.proofs.Options.{then-through, map-through}
 use Rattle.xf_lang.proofs.RenumberLaws.{nodes-renumbered}
@@ -20,7 +20,7 @@ use Rattle.xf_model.proofs.RenumberBinds.{first_bound-renumbered, bound-renumber
 use Rattle.xf_ui.specs.Interface.{Bound, unbound, nodes, by_bind, Sort, other, repeated, Element, Interface}
 use Rattle.xf_ui.specs.Elements.{element_at, path_to, elements_on}
 use Rattle.xf_ui.specs.Around.{Around, setting, alone, selected_by, all_bound, stands_for, first_stand, first_bound}
-use Rattle.xf_ui.specs.Context.{Place, free, lost, on, Inside, focus_in, scope_of, standing_in, row_place, rest, place_of, enter_bound, enter_sent, enter_row, enter_by, enter, entered, Context, inside, context_in, context_of, moved}
+use Rattle.xf_ui.specs.Context.{Place, free, lost, on, Inside, focus_in, scope_of, standing_in, row_place, rest, place_of, enter_bound, enter_sent, enter_row, enter_by, enter, entered, Context, inside, context_in, context_of}
 use Rattle.xf_ui.specs.Rows.{rows_of}
 use Rattle.xf_same_laws.specs.Controls.{GoesAround}
 use Rattle.xf_same_laws.proofs.ForestGoes.{map-length}

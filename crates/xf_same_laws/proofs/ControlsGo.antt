@@ -1,13 +1,13 @@
 -- The indexes and the list of the controls of a state go with a renumbering, and what is told of two lists.
-use Rattle.std.proofs.Common.{◌≡◌, ℕ, suc, ◌+◌, ◌==◌, ◌&&◌, List, [], ◌∷◌, ◌++◌, map, length, find, nat_lt, bytes_eq, Option, Some, None, option_map, Result, Ok, Err, refl, sym, ap, ◌∙◌}
-use Rattle.std.specs.Prelude.{fold, sum_by}
+use Rattle.std.proofs.Common.{◌≡◌, ℕ, ◌+◌, ◌==◌, ◌&&◌, List, [], ◌∷◌, ◌++◌, map, length, find, nat_lt, bytes_eq, Option, Some, None, option_map, Result, Ok, Err, refl, sym, ap, ◌∙◌}
+use Rattle.std.specs.Prelude.{fold}
 use Rattle.std.specs.List.{flat_map}
 use Rattle.std.proofs.lemmas.List.{map-append}
 use Rattle.xf_doc.specs.Same.{IsRenumbering}
 use Rattle.xf_doc.proofs.RenumberLaws.{find-through}
 use Rattle.xf_ui.specs.Copies.{Copy, copies, copy_count}
 use Rattle.xf_ui.specs.Index.{Index, Stop, brought_up}
-use Rattle.xf_ui.specs.Notifications.{Notification, names_of, is_same_copy, told, told_since, notifications}
+use Rattle.xf_ui.specs.Notifications.{names_of, is_same_copy, told, told_since, notifications}
 use Rattle.xf_ui.specs.Started.{index_set}
 use Rattle.xf_form_machine.specs.declared.limit.LimitWord.{LimitWord}
 use Rattle.xf_form_machine.specs.declared.limit.LimitWord.TheVariants.{Controls}
@@ -21,19 +21,18 @@ use Rattle.xf_form_machine.specs.Properties.{marks_in}
 use Rattle.xf_form_machine.specs.Update.{with_brought, reindex, within_controls, shown, no_refresh}
 use Rattle.xf_form_machine.specs.Choose.{set_index}
 use Rattle.xf_form_machine.specs.Same.{renumbered_model, renumbered_index, renumbered_copy}
-use Rattle.xf_same_laws.specs.Going.{Runs, image, Counts, imaged, CountsAfter, GoesAt}
+use Rattle.xf_same_laws.specs.Going.{Runs, image, Counts, imaged, CountsAfter}
 use Rattle.xf_same_laws.specs.Controls.{HasForm, renumbered_brought, renumbered_list, renumbered_notification, GoesWithForm, ControlLaws, ControlsGo}
 use Rattle.xf_same_laws.proofs.ForestGoes.{map-length}
 use Rattle.xf_same_laws.proofs.GoingLaws.{in-model-goes}
 use Rattle.xf_same_laws.proofs.IndexGoes.{brought-goes, set-index-goes}
-use Rattle.xf_same_laws.proofs.LabelsGo.{ElementGoes}
 use Rattle.xf_same_laws.proofs.CopiesGo.{copies-go}
 use Rattle.xf_same_laws.proofs.StateGoes.{elements-go, around-goes, marks-go}
 
 -- ---- what is told
 
 module _ (f : ℕ → ℕ) (same : IsRenumbering f) where
-  bytes-go : (ms ns : List ℕ) → bytes_eq (map f ms) (map f ns) ≡ bytes_eq ms ns
+  pub bytes-go : (ms ns : List ℕ) → bytes_eq (map f ms) (map f ns) ≡ bytes_eq ms ns
   bytes-go [] [] = refl
   bytes-go [] (n ∷ ns) = refl
   bytes-go (m ∷ ms) [] = refl
@@ -72,6 +71,28 @@ count-goes f cs =
 cleared-map : (f : ℕ → ℕ) (ms : List Model) → map no_refresh (map (renumbered_model f) ms) ≡ map (renumbered_model f) (map no_refresh ms)
 cleared-map f [] = refl
 cleared-map f (m ∷ ms) = ap (λ l. no_refresh (renumbered_model f m) ∷ l) (cleared-map f ms)
+
+-- ---- the list of the controls
+
+module _ (p : Profile) (f : ℕ → ℕ) (same : IsRenumbering f) (second : ℕ) where
+  passed-state : (s : State) (words : List LimitWord) (list : List Copy) → unless_passed (image f second s) words (map (renumbered_copy f) list) ≡ renumbered_list f (unless_passed s words list)
+  passed-state s [] list = refl
+  passed-state s (word ∷ words) list = refl
+
+  shown-state : (s : State) (o : Option (List Copy))
+      → (or_long (image f second s) (option_map (map (renumbered_copy f)) o) >>= λ list. within_controls p list (image f second s)) ≡ renumbered_list f (or_long s o >>= λ list. within_controls p list s)
+  shown-state s None = refl
+  shown-state s (Some list) =
+      ap (λ n. unless_passed (image f second s) (if_over (nat_lt p.controls n) Controls) (map (renumbered_copy f) list)) (count-goes f list)
+      ∙ passed-state s (if_over (nat_lt p.controls (copy_count list)) Controls) list
+
+  pub shown-is : (s : State) → HasForm s.form → shown p (image f second s) ≡ renumbered_list f (shown p s)
+  shown-is s h =
+      let form = interface s in
+      ap (λ o. or_long (image f second s) o >>= λ list. within_controls p list (image f second s))
+      (copies-go f same form (elements-go f same s h) (quiet p s) (quiet p (image f second s)) (around-goes p f same second s h None)
+      (marks_in s) (marks_in (image f second s)) (marks-go f same second s) s.cases s.indexes)
+      ∙ shown-state s (copies form (quiet p s) (marks_in s) s.cases s.indexes)
 
 -- ---- of a state
 
@@ -118,32 +139,11 @@ module _ (p : Profile) (f : ℕ → ℕ) (first second : ℕ) (r : Runs p f firs
         counts = set-counts model s o c;
       }
 
-  -- the list of the controls
-
-  passed-state : (s : State) (words : List LimitWord) (list : List Copy) → unless_passed (image f second s) words (map (renumbered_copy f) list) ≡ renumbered_list f (unless_passed s words list)
-  passed-state s [] list = refl
-  passed-state s (word ∷ words) list = refl
-
-  shown-state : (s : State) (o : Option (List Copy))
-      → (or_long (image f second s) (option_map (map (renumbered_copy f)) o) >>= λ list. within_controls p list (image f second s)) ≡ renumbered_list f (or_long s o >>= λ list. within_controls p list s)
-  shown-state s None = refl
-  shown-state s (Some list) =
-      ap (λ n. unless_passed (image f second s) (if_over (nat_lt p.controls n) Controls) (map (renumbered_copy f) list)) (count-goes f list)
-      ∙ passed-state s (if_over (nat_lt p.controls (copy_count list)) Controls) list
-
-  pub shown-goes : (s : State) → HasForm s.form → shown p (image f second s) ≡ renumbered_list f (shown p s)
-  shown-goes s h =
-      let form = interface s in
-      ap (λ o. or_long (image f second s) o >>= λ list. within_controls p list (image f second s))
-      (copies-go f r.renumbers form (elements-go f r.renumbers s h) (quiet p s) (quiet p (image f second s)) (around-goes p f r.renumbers second s h None)
-      (marks_in s) (marks_in (image f second s)) (marks-go f r.renumbers second s) s.cases s.indexes)
-      ∙ shown-state s (copies form (quiet p s) (marks_in s) s.cases s.indexes)
-
   pub control_laws : ControlLaws p f first second
   control_laws = record {
     reindex = reindex-goes;
     set_index = index-goes;
-    shown = shown-goes;
+    shown = shown-is p f r.renumbers second;
     told = notifications-go f r.renumbers;
     controls = λ list s c. record { is = refl; counts = record { next = c.next; within = c.within } };
     cleared = λ model s c. record {

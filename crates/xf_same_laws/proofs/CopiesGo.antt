@@ -1,32 +1,28 @@
 -- The list of the copies of controls, and what a refresh tells of two lists, go with a renumbering.
-use Rattle.std.proofs.Common.{◌≡◌, ℕ, zero, suc, ◌==◌, Bool, true, false, ◌&&◌, List, [], ◌∷◌, ◌++◌, map, length, find, bytes_eq, Option, Some, None, option_map, refl, sym, ap, ◌∙◌}
-use Rattle.std.specs.List.{flat_map, list_all}
+use Rattle.std.proofs.Common.{◌≡◌, ℕ, zero, suc, Bool, true, false, ◌&&◌, List, [], ◌∷◌, ◌++◌, map, length, Option, Some, None, option_map, refl, sym, ap, ◌∙◌}
+use Rattle.std.specs.List.{list_all}
 use Rattle.std.proofs.lemmas.List.{map-append}
 use Rattle.xf_doc.specs.Same.{IsRenumbering}
-use Rattle.xf_doc.proofs.RenumberLaws.{find-through}
-use Rattle.xf_lang.specs.Conversions.{string_of_node}
-use Rattle.xf_lang.specs.Meaning.{text_worth}
 use Rattle.xf_lang.specs.Setting.{Focus, Meaning, ◌>>=◌, each}
 use Rattle.xf_lang.specs.Same.{renumbered_focus}
-use Rattle.xf_lang.proofs.Options.{then-through, then-kept, map-through, map-kept, each-through}
+use Rattle.xf_lang.proofs.Options.{then-through, map-through, map-kept, each-through}
 use Rattle.xf_lang.proofs.RenumberValues.{Renumbers}
 use Rattle.xf_ui.specs.declared.answers.Item.{Item}
 use Rattle.xf_ui.specs.declared.marks.Marks.{Marks}
-use Rattle.xf_ui.specs.Interface.{Bound, unbound, nodes, by_bind, Sort, host, other, group, switch, one_case, repeated, field, output, select, item, itemset, choices, label, item_value, inline, action, Element, Interface}
+use Rattle.xf_ui.specs.Interface.{Bound, unbound, nodes, by_bind, Sort, repeated, output, select, Interface}
 use Rattle.xf_ui.specs.Elements.{element_at, children, is_control}
-use Rattle.xf_ui.specs.Around.{Around, setting, first_bound}
+use Rattle.xf_ui.specs.Around.{Around, first_bound}
 use Rattle.xf_ui.specs.Cases.{is_in_selected}
 use Rattle.xf_ui.specs.Context.{Context, context_of}
-use Rattle.xf_ui.specs.Copies.{Copy, own_binding, node_of, printed_value, value_by, relevant_if, is_open_by, is_open, with_containers, is_enabled, no_marks, marks_if, items_if, copy_with, copy_of, copies}
+use Rattle.xf_ui.specs.Copies.{Copy, own_binding, node_of, printed_value, value_by, relevant_if, is_open_by, is_open, with_containers, is_enabled, marks_if, items_if, copy_with, copy_of, copies}
 use Rattle.xf_ui.specs.Index.{Index, seeing}
-use Rattle.xf_ui.specs.Items.{items_of}
 use Rattle.xf_ui.specs.Places.{Places, all_places, places_in, places_by, if_control, places_at, places}
 use Rattle.xf_ui.specs.Rows.{rows_of}
 use Rattle.xf_form_machine.specs.Same.{renumbered_index, renumbered_copy}
 use Rattle.xf_same_laws.specs.Controls.{GoesAround}
 use Rattle.xf_same_laws.proofs.AroundGoes.{BoundGoes, renumbered_context, first-bound, context-goes, rows-go}
 use Rattle.xf_same_laws.proofs.IndexGoes.{each-same, seeing-goes}
-use Rattle.xf_same_laws.proofs.LabelsGo.{SortGoes, MeaningGoes, ElementGoes, each-kept, node-text, worth-goes, items-go}
+use Rattle.xf_same_laws.proofs.LabelsGo.{SortGoes, ElementGoes, each-kept, node-text, worth-goes, items-go}
 
 -- ---- where copies are: elements keep their numbers, rows are nodes
 

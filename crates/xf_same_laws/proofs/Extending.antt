@@ -1,19 +1,18 @@
 -- A renumbering goes on through the numbers that an event may yet give: one number after the other changes places with the one that it is to
 -- be, and with both the numbers that stand a whole count above them, as those of texts in shapes.
-use Rattle.std.proofs.Common.{◌≡◌, ℕ, zero, suc, ◌+◌, ◌*◌, ◌/◌, ◌%◌, ◌^◌, ◌<◌, ◌==◌, Bool, true, false, refl, sym, ap, ◌∙◌, subst, inl, inr, arith}
+use Rattle.std.proofs.Common.{◌≡◌, ℕ, zero, suc, ◌+◌, ◌*◌, ◌/◌, ◌%◌, ◌^◌, ◌<◌, ◌==◌, true, false, refl, sym, ap, ◌∙◌, subst, inl, inr, arith}
 use Rattle.std.specs.Prelude.{◌≤◌}
 use Rattle.std.proofs.lemmas.Bool.{cases_Bool}
 use Rattle.std.proofs.lemmas.Bool.Decides.{nat_tests}
 use Rattle.std.proofs.lemmas.Nat.{div-mul-add, mod-mul-add, div-add-mod'}
 use Rattle.std.proofs.Math.Nat.{mod-lt, mod-eq_of_lt, div-eq_of_lt, add-mod_left, add-div_left}
-use Rattle.xf_doc.specs.Same.{IsRenumbering, KeepsTexts}
-use Rattle.xf_form_machine.specs.Profile.{Profile}
+use Rattle.xf_doc.specs.Same.{IsRenumbering}
 use Rattle.xf_settle_laws.proofs.Renamed.{swap, swap-other}
-use Rattle.xf_same_laws.specs.Going.{Runs, MayRun, Extended, Extends}
+use Rattle.xf_same_laws.specs.Going.{Extends}
 
 -- ---- two numbers that change places
 
-swap-first : (a b : ℕ) → swap a b a ≡ b
+pub swap-first : (a b : ℕ) → swap a b a ≡ b
 swap-first a b = let e : (a == a) ≡ true = grind (arith, nat_tests) in rw e refl
 
 swap-twice : (a b m : ℕ) → swap a b (swap a b m) ≡ m
@@ -29,7 +28,7 @@ swap-twice a b m =
       ]
     ]
 
-swap-below : (w a b m : ℕ) → a < w → b < w → m < w → swap a b m < w
+pub swap-below : (w a b m : ℕ) → a < w → b < w → m < w → swap a b m < w
 swap-below w a b m h k l =
     elim (cases_Bool (m == a)) [
       | inl p ↦ rw p k
@@ -38,7 +37,7 @@ swap-below w a b m h k l =
 
 -- ---- with all that stand so many times above them
 
-abbrev swapped : ℕ → ℕ → ℕ → ℕ → ℕ
+abbrev pub swapped : ℕ → ℕ → ℕ → ℕ → ℕ
 swapped w a b n = n / w * w + swap a b (n % w)
 
 module _ (w a b : ℕ) (some : 0 < w) (first : a < w) (second : b < w) where
@@ -51,14 +50,14 @@ module _ (w a b : ℕ) (some : 0 < w) (first : a < w) (second : b < w) where
       ∙ ap (λ m. n / w * w + swap a b m) (mod-mul-add (n / w) w (swap a b (n % w)) (rest-below n))
       ∙ ap (λ m. n / w * w + m) (swap-twice a b (n % w)) ∙ div-add-mod' n w
 
-  swapped-low : (n : ℕ) → n < w → swapped w a b n ≡ swap a b n
+  pub swapped-low : (n : ℕ) → n < w → swapped w a b n ≡ swap a b n
   swapped-low n h =
       ap (λ q. q * w + swap a b (n % w)) (div-eq_of_lt h) ∙ ap (λ m. 0 * w + swap a b m) (mod-eq_of_lt h) ∙ none (swap a b n)
     where
       none : (m : ℕ) → 0 * w + m ≡ m
       none m = omega arith
 
-  swapped-above : (n : ℕ) → swapped w a b (w + n) ≡ w + swapped w a b n
+  pub swapped-above : (n : ℕ) → swapped w a b (w + n) ≡ w + swapped w a b n
   swapped-above n =
       ap (λ q. q * w + swap a b ((w + n) % w)) (add-div_left n some) ∙ ap (λ m. (n / w + 1) * w + swap a b m) (add-mod_left w n)
       ∙ one (n / w * w) ((n / w + 1) * w) (swap a b (n % w)) (more-times (n / w))
@@ -69,7 +68,7 @@ module _ (w a b : ℕ) (some : 0 < w) (first : a < w) (second : b < w) where
       one : (x y m : ℕ) → y ≡ w + x → y + m ≡ w + (x + m)
       one x y m e = omega (arith, e)
 
-  swapped-renumbers : IsRenumbering (swapped w a b)
+  pub swapped-renumbers : IsRenumbering (swapped w a b)
   swapped-renumbers x y =
       elim (cases_Bool (x == y)) [
         | inl p ↦

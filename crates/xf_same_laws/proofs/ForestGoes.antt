@@ -1,19 +1,19 @@
 -- What the machine asks of a forest goes with a renumbering: limits of new nodes, the instance and the model of a node, texts that stand.
-use Rattle.std.proofs.Common.{◌≡◌, ℕ, suc, ◌+◌, ◌==◌, Bool, true, false, not, cond, ◌&&◌, ◌||◌, List, [], ◌∷◌, ◌++◌, map, length, nat_lt, bytes_eq, Option, Some, None, option_map, Result, Ok, Err, refl, sym, ap, ◌∙◌, if◌then◌else◌}
+use Rattle.std.proofs.Common.{◌≡◌, ℕ, suc, ◌+◌, ◌==◌, Bool, not, cond, ◌&&◌, ◌||◌, List, [], ◌∷◌, ◌++◌, map, length, nat_lt, bytes_eq, Option, Some, None, option_map, refl, ap, ◌∙◌, if◌then◌else◌}
 use Rattle.std.specs.Prelude.{fold, option_and_then}
 use Rattle.std.specs.List.{list_any}
 use Rattle.xf_doc.specs.declared.content.Node.{Node}
 use Rattle.xf_doc.specs.declared.content.Content.{Content}
 use Rattle.xf_doc.specs.declared.fault.TreeFault.{TreeFault}
 use Rattle.xf_doc.specs.declared.fault.TreeFault.TheVariants.{Nodes, NodeText, AllText, Depth}
-use Rattle.xf_doc.specs.Forest.{Forest, is_root, is_element, own_text}
+use Rattle.xf_doc.specs.Forest.{is_root, is_element, own_text}
 use Rattle.xf_doc.specs.Limits.{Limits, node_count, all_size, size_of, has_long_text, is_too_deep, passed_by_all, passed_by_text, passed_by_tree}
 use Rattle.xf_doc.specs.Plant.{numbered_from}
 use Rattle.xf_doc.specs.Order.{instance_of}
 use Rattle.xf_doc.specs.Same.{IsRenumbering, renumbered, renumbered_visit}
 use Rattle.xf_doc.specs.StringValue.{string_value}
-use Rattle.xf_doc.specs.Visit.{visits, top_of, children_of}
-use Rattle.xf_doc.proofs.RenumberLaws.{map-cond, visits-renumbered, top_of-renumbered, children_of-renumbered, string_value-renumbered}
+use Rattle.xf_doc.specs.Visit.{top_of, children_of}
+use Rattle.xf_doc.proofs.RenumberLaws.{visits-renumbered, top_of-renumbered, children_of-renumbered, string_value-renumbered}
 use Rattle.xf_doc.proofs.RenumberChanges.{node_count-renumbered, all_size-renumbered}
 use Rattle.xf_form_machine.specs.State.{State}
 use Rattle.xf_form_machine.specs.Surround.{all_in, instance_holding, model_of_instance, model_holding}

@@ -1,9 +1,8 @@
 -- Each change of a state goes with a renumbering.
-use Rattle.std.proofs.Common.{◌≡◌, ℕ, zero, suc, ◌+◌, Bool, true, false, cond, List, [], ◌∷◌, ◌++◌, map, length, nat_lt, slice_set, Option, Some, None, option_map, Result, Ok, Err, refl, sym, ap, ◌∙◌, subst, if◌then◌else◌, arith}
-use Rattle.std.specs.Prelude.{◌≤◌, ◌<◌}
+use Rattle.std.proofs.Common.{◌≡◌, ℕ, zero, suc, ◌+◌, Bool, true, false, List, [], ◌∷◌, ◌++◌, map, length, nat_lt, Option, Some, None, option_map, Result, Ok, Err, refl, sym, ap, ◌∙◌, subst, if◌then◌else◌, arith}
+use Rattle.std.specs.Prelude.{◌≤◌}
 use Rattle.std.proofs.lemmas.Bool.Decides.{nat_tests}
 use Rattle.std.proofs.lemmas.List.{map-append}
-use Rattle.xf_store.specs.declared.answers.Answer.{Answer}
 use Rattle.xf_doc.specs.declared.content.Node.{Node}
 use Rattle.xf_doc.specs.declared.content.Content.{Content}
 use Rattle.xf_doc.specs.declared.fault.TreeFault.{TreeFault}
@@ -14,25 +13,23 @@ use Rattle.xf_doc.specs.Plant.{numbered_from}
 use Rattle.xf_doc.specs.Planted.{with_tree}
 use Rattle.xf_doc.specs.Changes.{shifted, moved_to, contents_in, copied, detached, elements_above, placed, place_of, attached}
 use Rattle.xf_doc.specs.Texts.{one_text, with_texts, with_attribute_text, is_attribute_at, new_texts, with_text}
-use Rattle.xf_doc.specs.Same.{IsRenumbering, KeepsTexts, renumbered, renumbered_visit}
+use Rattle.xf_doc.specs.Same.{renumbered}
 use Rattle.xf_doc.specs.Visit.{visits, parent_of}
 use Rattle.xf_doc.proofs.RenumberLaws.{visits-renumbered, parent_of-renumbered}
 use Rattle.xf_doc.proofs.RenumberChanges.{renumbered_forest, result_map, tree_of-renumbered, detached-renumbered, attached-renumbered}
 use Rattle.xf_doc.proofs.RenumberTexts.{Continues, numbered-renumbered, contents-renumbered, with_texts-renumbered, attribute_text-renumbered, is_attribute_at-renumbered}
-use Rattle.xf_ui.specs.Index.{Index}
 use Rattle.xf_form_machine.specs.declared.limit.LimitWord.{LimitWord}
 use Rattle.xf_form_machine.specs.declared.limit.LimitWord.TheVariants.{Made, Notes}
 use Rattle.xf_form_machine.specs.declared.note.Note.{Note}
 use Rattle.xf_form_machine.specs.NoteLines.{notes_size}
 use Rattle.xf_form_machine.specs.Profile.{Profile}
 use Rattle.xf_form_machine.specs.State.{Model, State}
-use Rattle.xf_form_machine.specs.Refusal.{Refused, limit, refused, words_of, unless_passed, if_over}
-use Rattle.xf_form_machine.specs.Flow.{Run}
+use Rattle.xf_form_machine.specs.Refusal.{Refused, unless_passed, if_over}
 use Rattle.xf_form_machine.specs.Surround.{all_in, model_holding}
-use Rattle.xf_form_machine.specs.Primitives.{spend, spent_from, changed_at, in_model, in_some_model, all_due, texts_due, refresh_due, with_text_mark, with_list_mark, list_changed, over_made, with_forest, grown, grown_to, grown_by, is_other_text, if_other, set_text, copy, plant, attach, detach, with_indexes, set_case, add_note}
+use Rattle.xf_form_machine.specs.Primitives.{spend, spent_from, changed_at, in_model, in_some_model, all_due, texts_due, refresh_due, with_text_mark, with_list_mark, list_changed, over_made, with_forest, grown, grown_to, grown_by, is_other_text, if_other, set_text, copy, plant, attach, detach, add_note}
 use Rattle.xf_form_machine.specs.Step.{fresh}
-use Rattle.xf_form_machine.specs.Same.{renumbered_model, renumbered_index, renumbered_copy, IsSame}
-use Rattle.xf_same_laws.specs.Going.{Runs, image, Counts, imaged, CountsAfter, GoesAt, Goes, imaged_top, CountsTop, MakesAt, Makes, ImagesAreSame, SameAreImages, GoingLaws, ChangeLaws, ChangesGo}
+use Rattle.xf_form_machine.specs.Same.{renumbered_model, renumbered_index, renumbered_copy}
+use Rattle.xf_same_laws.specs.Going.{Runs, image, Counts, imaged, CountsAfter, GoesAt, Goes, imaged_top, CountsTop, MakesAt, Makes, ImagesAreSame, SameAreImages, GoingLaws, ChangesGo}
 use Rattle.xf_same_laws.proofs.Extending.{extends}
 use Rattle.xf_same_laws.proofs.ForestGoes.{map-length, all-behind, tree-behind, text-passed, model-goes, other-goes}
 

@@ -1,21 +1,19 @@
 -- The indexes of repeats go with a renumbering: the rows that they give, passes over them, how they start and how one is set.
-use Rattle.std.proofs.Common.{◌≡◌, ℕ, zero, suc, ◌==◌, Bool, true, false, ◌&&◌, List, [], ◌∷◌, ◌++◌, map, length, get_or, slice_get, slice_set, min, Option, Some, None, option_map, Result, Ok, Err, refl, sym, ap, ◌∙◌, if◌then◌else◌}
+use Rattle.std.proofs.Common.{◌≡◌, ℕ, zero, suc, Bool, true, false, List, [], ◌∷◌, map, length, get_or, min, Option, Some, None, option_map, Result, refl, sym, ap, ◌∙◌, if◌then◌else◌}
 use Rattle.std.specs.Prelude.{option_and_then}
-use Rattle.std.specs.List.{flat_map}
 use Rattle.std.proofs.lemmas.List.{map-set}
 use Rattle.std.proofs.lemmas.Option.{slice_get-map}
 use Rattle.xf_doc.specs.Same.{IsRenumbering}
-use Rattle.xf_doc.specs.Visit.{has}
 use Rattle.xf_doc.proofs.RenumberLaws.{has-renumbered}
 use Rattle.xf_lang.specs.Given.{Given}
 use Rattle.xf_lang.specs.Setting.{◌>>=◌, each}
 use Rattle.xf_lang.specs.Same.{renumbered_given}
-use Rattle.xf_lang.proofs.Options.{then-through, map-through, then-same}
+use Rattle.xf_lang.proofs.Options.{then-through, map-through}
 use Rattle.xf_ui.specs.Interface.{Interface}
-use Rattle.xf_ui.specs.Elements.{element_at, repeats_around, repeat_start}
+use Rattle.xf_ui.specs.Elements.{element_at, repeats_around}
 use Rattle.xf_ui.specs.Around.{Around}
 use Rattle.xf_ui.specs.Rows.{row_at, held}
-use Rattle.xf_ui.specs.Index.{Index, unset, number_of, index_of, with_index, indexed_rows, if_named, named_indexes, seeing, rows_under, rows_now, by_lines, place_in, later_or, last_from, index_rule, index_at, Pass, ruled, passed, begins_anew, pass_over, pass, Stop, long, passes, same_node, same_indexes, again_unless, after_pass, brought_up}
+use Rattle.xf_ui.specs.Index.{Index, unset, number_of, index_of, with_index, indexed_rows, named_indexes, seeing, rows_under, rows_now, by_lines, place_in, last_from, index_rule, index_at, Pass, ruled, passed, begins_anew, pass_over, pass, Stop, same_node, same_indexes, again_unless, after_pass, brought_up}
 use Rattle.xf_ui.specs.Started as started
 use Rattle.xf_form_machine.specs.Same.{renumbered_index}
 use Rattle.xf_same_laws.specs.Controls.{GoesAround, renumbered_brought}
@@ -31,7 +29,7 @@ each-same h k q e (x ∷ xs) =
     ∙ then-through h (map h) (k x) (λ y. each k xs >>= λ ys. Some (y ∷ ys)) (λ y. each q xs >>= λ ys. Some (y ∷ ys))
     (λ y. ap (λ m. m >>= λ ys. Some (h y ∷ ys)) (each-same h k q e xs) ∙ then-through (map h) (map h) (each k xs) (λ ys. Some (y ∷ ys)) (λ ys. Some (h y ∷ ys)) (λ ys. refl))
 
-node-at : (f : ℕ → ℕ) (k : ℕ) (is : List Index) → (get_or (map (renumbered_index f) is) k unset).node ≡ option_map f (get_or is k unset).node
+pub node-at : (f : ℕ → ℕ) (k : ℕ) (is : List Index) → (get_or (map (renumbered_index f) is) k unset).node ≡ option_map f (get_or is k unset).node
 node-at f zero [] = refl
 node-at f (suc k) [] = refl
 node-at f zero (i ∷ is) = refl
@@ -43,7 +41,7 @@ index-at f (suc k) [] = refl
 index-at f zero (i ∷ is) = refl
 index-at f (suc k) (i ∷ is) = index-at f k is
 
-row-at : (f : ℕ → ℕ) (rows : List ℕ) (k : ℕ) → row_at (map f rows) k ≡ option_map f (row_at rows k)
+pub row-at : (f : ℕ → ℕ) (rows : List ℕ) (k : ℕ) → row_at (map f rows) k ≡ option_map f (row_at rows k)
 row-at f rows zero = refl
 row-at f rows (suc k) = slice_get-map f rows k
 

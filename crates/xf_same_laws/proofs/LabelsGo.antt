@@ -1,23 +1,23 @@
 -- The texts of labels, messages and values, and the items of selects, go with a renumbering: they hold no numbers of nodes.
-use Rattle.std.proofs.Common.{◌≡◌, ℕ, zero, suc, List, [], ◌∷◌, map, length, find, Option, Some, None, option_map, refl, sym, ap, ◌∙◌}
+use Rattle.std.proofs.Common.{◌≡◌, ℕ, zero, suc, List, [], ◌∷◌, map, length, find, Option, Some, None, option_map, refl, ap, ◌∙◌}
 use Rattle.std.specs.Prelude.{⊤}
 use Rattle.std.specs.List.{flat_map}
 use Rattle.xf_doc.specs.Same.{IsRenumbering}
 use Rattle.xf_lang.specs.Conversions.{string_of_node, string_of}
 use Rattle.xf_plain_values.specs.Bounded.{capped}
 use Rattle.xf_lang.specs.Meaning.{text_worth}
-use Rattle.xf_lang.specs.Setting.{Setting, Focus, Meaning, ◌>>=◌, each}
+use Rattle.xf_lang.specs.Setting.{Focus, Meaning, ◌>>=◌, each}
 use Rattle.xf_lang.specs.Same.{renumbered_value, renumbered_focus, renumbered_setting}
 use Rattle.xf_lang.proofs.Options.{then-kept}
 use Rattle.xf_lang.proofs.RenumberLaws.{string_of-renumbered}
 use Rattle.xf_lang.proofs.RenumberValues.{Renumbers}
 use Rattle.xf_ui.specs.declared.answers.Item.{Item}
-use Rattle.xf_ui.specs.Interface.{Bound, unbound, nodes, by_bind, Sort, host, other, group, switch, one_case, repeated, field, output, select, item, itemset, choices, label, item_value, inline, action, Element, Interface}
+use Rattle.xf_ui.specs.Interface.{Bound, unbound, nodes, by_bind, Sort, output, item, itemset, choices, item_value, inline, Element, Interface}
 use Rattle.xf_ui.specs.Elements.{element_at, children}
 use Rattle.xf_ui.specs.Around.{Around, setting, all_bound, first_bound}
-use Rattle.xf_ui.specs.Context.{Inside, Context, on, standing_in, enter, inside, context_in}
+use Rattle.xf_ui.specs.Context.{Inside, Context, on, enter, inside, context_in}
 use Rattle.xf_ui.specs.Labels.{Piece, words, printed, pieces_of, text_of_first, bound_text, text_at, value_text, printed_by, piece_text, joined_text, text_by, text_in}
-use Rattle.xf_ui.specs.Items.{is_label, is_value, text_if, text_among, item_in, at_node, set_items, all_items, items_by, items_at, items_of}
+use Rattle.xf_ui.specs.Items.{is_label, is_value, text_if, item_in, at_node, set_items, all_items, items_by, items_at, items_of}
 use Rattle.xf_same_laws.specs.Controls.{GoesAround}
 use Rattle.xf_same_laws.proofs.AroundGoes.{BoundGoes, renumbered_inside, renumbered_context, strings, setting-goes, strings-go, meaning-goes, all-bound, first-bound, enter-goes, inside-goes, in-goes, standing-goes}
 
@@ -67,7 +67,7 @@ module _ (f : ℕ → ℕ) (same : IsRenumbering f) (form : Interface) (h : (n :
   first-text model None = refl
   first-text model (Some n) = node-text model n
 
-  bound-text : (c : Context) (binding : Bound) → BoundGoes f binding → bound_text b (renumbered_context f c) binding ≡ bound_text a c binding
+  pub bound-text : (c : Context) (binding : Bound) → BoundGoes f binding → bound_text b (renumbered_context f c) binding ≡ bound_text a c binding
   bound-text c binding r =
       ap (λ o. o >>= text_of_first b c.model) (first-bound f same a b g c.model binding r c.focus)
       ∙ then-kept (option_map f) (first_bound a c.model binding c.focus) (text_of_first a c.model) (text_of_first b c.model) (first-text c.model)

@@ -20,7 +20,7 @@ use Rattle.xf_model.proofs.RenumberSettled.{edges-renumbered}
 use Rattle.xf_form_machine.specs.declared.limit.LimitWord.{LimitWord}
 use Rattle.xf_form_machine.specs.declared.limit.LimitWord.TheVariants.{Edges}
 use Rattle.xf_form_machine.specs.Profile.{Profile}
-use Rattle.xf_form_machine.specs.State.{Model, State}
+use Rattle.xf_form_machine.specs.State.{State}
 use Rattle.xf_form_machine.specs.Refusal.{Refused, circular, unless_passed, if_over}
 use Rattle.xf_form_machine.specs.Refusal as refusal
 use Rattle.xf_form_machine.specs.Flow.{◌>>=◌}
@@ -29,7 +29,7 @@ use Rattle.xf_form_machine.specs.Primitives.{in_model}
 use Rattle.xf_form_machine.specs.Properties.{path_in}
 use Rattle.xf_form_machine.specs.Cycles.{reported_cycle}
 use Rattle.xf_form_machine.specs.Behave.{asked_by_all, within_edges, rebuilt_with, unless_cycle, no_cycle, by_applied, rebuild}
-use Rattle.xf_same_laws.specs.Going.{Runs, image, Counts, imaged, CountsAfter, GoesAt}
+use Rattle.xf_same_laws.specs.Going.{Runs, image, Counts, imaged, CountsAfter}
 use Rattle.xf_same_laws.specs.Behaving.{HasTables, Behaves}
 use Rattle.xf_same_laws.proofs.ScopeGoes.{asked-same, scope-is, path-goes, rules-go}
 use Rattle.xf_same_laws.proofs.GoingLaws.{in-model-goes}

@@ -1,8 +1,8 @@
 -- A recalculation goes with a renumbering: settled texts with the numbers that are reserved for them, values, limits, and what is counted.
-use Rattle.std.proofs.Common.{◌≡◌, ℕ, zero, suc, ◌+◌, ◌<◌, ◌==◌, Bool, true, false, ◌&&◌, List, [], ◌∷◌, ◌++◌, map, filter, length, bytes_eq, Option, Some, None, option_map, Result, Ok, Err, refl, sym, ap, ◌∙◌, subst, if◌then◌else◌, arith}
+use Rattle.std.proofs.Common.{◌≡◌, ℕ, zero, suc, ◌+◌, Bool, true, false, ◌&&◌, List, [], ◌∷◌, ◌++◌, map, filter, length, bytes_eq, Option, Some, None, option_map, Result, Ok, refl, sym, ap, ◌∙◌, subst, if◌then◌else◌, arith}
 use Rattle.std.specs.Prelude.{◌≤◌}
 use Rattle.xf_doc.specs.declared.content.Node.{Node}
-use Rattle.xf_doc.specs.Forest.{Forest, is_text, own_text, tree_of}
+use Rattle.xf_doc.specs.Forest.{is_text, own_text, tree_of}
 use Rattle.xf_doc.specs.Shape.{shape, as_texts}
 use Rattle.xf_doc.specs.Same.{IsRenumbering, renumbered, renumbered_visit}
 use Rattle.xf_doc.specs.Settle.{are_texts, has_text, with_numbered_text, with_settled_text}
@@ -32,13 +32,13 @@ use Rattle.xf_form_machine.specs.Refusal.{Refused, word_of, unless_passed}
 use Rattle.xf_form_machine.specs.Flow.{◌>>=◌}
 use Rattle.xf_form_machine.specs.Surround.{scope, all_in}
 use Rattle.xf_form_machine.specs.Primitives.{changed_at, in_model, over_made}
-use Rattle.xf_form_machine.specs.Behave.{no_model, model_at, changes_of, with_contents, truly, recalculated_with, settled_in, evaluated_more, recalculate}
+use Rattle.xf_form_machine.specs.Behave.{model_at, changes_of, with_contents, truly, recalculated_with, settled_in, evaluated_more, recalculate}
 use Rattle.xf_form_machine.specs.Same.{renumbered_model}
-use Rattle.xf_same_laws.specs.Going.{Runs, image, Counts, imaged, CountsAfter, GoesAt}
+use Rattle.xf_same_laws.specs.Going.{Runs, image, Counts, imaged, CountsAfter}
 use Rattle.xf_same_laws.specs.Behaving.{HasTables, Behaves}
 use Rattle.xf_same_laws.proofs.ForestGoes.{map-length}
 use Rattle.xf_same_laws.proofs.ScopeGoes.{scope-is, rules-go, model-at}
-use Rattle.xf_same_laws.proofs.GoingLaws.{within-made, in-model-goes}
+use Rattle.xf_same_laws.proofs.GoingLaws.{within-made}
 
 -- ---- texts that are settled
 
@@ -125,7 +125,7 @@ truly-goes f v = ap {A = Option Value} {B = Valued} (λ o. record { entry = renu
     by None = refl
     by (Some v) = ap (λ b. Some (Truth b)) (truth-renumbered f v)
 
-each-truly : (f : ℕ → ℕ) (vs : List Valued) → map truly (map (renumbered_valued f) vs) ≡ map (renumbered_valued f) (map truly vs)
+pub each-truly : (f : ℕ → ℕ) (vs : List Valued) → map truly (map (renumbered_valued f) vs) ≡ map (renumbered_valued f) (map truly vs)
 each-truly f [] = refl
 each-truly f (v ∷ vs) = ap (λ x. x ∷ map truly (map (renumbered_valued f) vs)) (truly-goes f v) ∙ ap (λ l. renumbered_valued f (truly v) ∷ l) (each-truly f vs)
 
@@ -143,7 +143,7 @@ words-go : (f : ℕ → ℕ) (ws : List Passed) → map word_of (map (renumbered
 words-go f [] = refl
 words-go f (w ∷ ws) = ap (λ x. x ∷ map word_of (map (renumbered_passed f) ws)) (word-goes f w) ∙ ap (λ l. word_of w ∷ l) (words-go f ws)
 
-values-go : (f : ℕ → ℕ) (same : IsRenumbering f) (b : Bounds) (sc : Scope) → ScopeGoes f sc → (entries : List Entry) (all : List Visit)
+pub values-go : (f : ℕ → ℕ) (same : IsRenumbering f) (b : Bounds) (sc : Scope) → ScopeGoes f sc → (entries : List Entry) (all : List Visit)
     → values_over b (renumbered_scope f sc) (map (renumbered_entry f) entries) (map (renumbered_visit f) all) ≡ map (renumbered_valued f) (values_over b sc entries all)
 values-go f same b sc goes entries all =
     ap (map (λ (e : Entry). record { entry = e; value = value_of (Some b.string) (renumbered_scope f sc) (map (renumbered_visit f) all) e }))

@@ -1,5 +1,5 @@
 -- A revalidation goes with a renumbering.
-use Rattle.std.proofs.Common.{◌≡◌, ℕ, ◌==◌, Bool, not, ◌&&◌, List, [], ◌∷◌, map, filter, find, Option, Some, None, option_map, Ok, refl, sym, ap, ◌∙◌}
+use Rattle.std.proofs.Common.{◌≡◌, ℕ, not, ◌&&◌, List, [], ◌∷◌, map, filter, find, Option, Some, None, option_map, Ok, refl, ap, ◌∙◌}
 use Rattle.std.specs.Prelude.{option_and_then}
 use Rattle.xf_doc.specs.Same.{IsRenumbering, renumbered, renumbered_visit}
 use Rattle.xf_doc.specs.Visit.{Visit, visits}
@@ -10,7 +10,6 @@ use Rattle.xf_model.specs.Applied.{Entry}
 use Rattle.xf_model.specs.Entries.{is_computed}
 use Rattle.xf_model.specs.Pertinent.{is_same}
 use Rattle.xf_model.specs.Properties.{is_valid}
-use Rattle.xf_model.specs.Rules.{Scope}
 use Rattle.xf_model.specs.Same.{renumbered_entry, renumbered_scope, renumbered_valued}
 use Rattle.xf_model.specs.Settled.{Valued}
 use Rattle.xf_model.proofs.RenumberProperties.{is_valid-renumbered}
@@ -22,7 +21,7 @@ use Rattle.xf_form_machine.specs.Properties.{value_from, values_of}
 use Rattle.xf_form_machine.specs.Behave.{model_at, is_model, is_invalid, revalidated_with, revalidate}
 use Rattle.xf_form_machine.specs.Same.{renumbered_model}
 use Rattle.xf_same_laws.specs.Going.{Runs, image, Counts, GoesAt}
-use Rattle.xf_same_laws.specs.Behaving.{HasTables, Behaves}
+use Rattle.xf_same_laws.specs.Behaving.{Behaves}
 use Rattle.xf_same_laws.proofs.ForestGoes.{model-goes}
 use Rattle.xf_same_laws.proofs.ScopeGoes.{scope-is, model-at}
 use Rattle.xf_same_laws.proofs.GoingLaws.{in-model-goes}
@@ -52,7 +51,7 @@ module _ (f : ℕ → ℕ) (same : IsRenumbering f) where
       ap (map (value_from (map (renumbered_valued f) m.stood))) (filter-through (renumbered_entry f) is_computed is_computed (λ e. refl) m.entries)
       ∙ each-from m.stood (filter is_computed m.entries)
 
-  numbers-go : (xs : List Visit) → map (λ (x : Visit). x.number) (map (renumbered_visit f) xs) ≡ map f (map (λ (x : Visit). x.number) xs)
+  pub numbers-go : (xs : List Visit) → map (λ (x : Visit). x.number) (map (renumbered_visit f) xs) ≡ map f (map (λ (x : Visit). x.number) xs)
   numbers-go [] = refl
   numbers-go (x ∷ xs) = ap (λ l. f x.number ∷ l) (numbers-go xs)
 

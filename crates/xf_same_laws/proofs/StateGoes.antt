@@ -1,6 +1,6 @@
 -- What surrounds the expressions of a state, the elements of its form, and the properties of its nodes go with a renumbering.
-use Rattle.std.proofs.Common.{◌≡◌, ℕ, zero, suc, Bool, not, ◌||◌, List, [], ◌∷◌, ◌++◌, map, get_or, slice_get, Option, Some, None, option_map, refl, sym, ap, ◌∙◌, subst}
-use Rattle.std.specs.List.{flat_map, list_any}
+use Rattle.std.proofs.Common.{◌≡◌, ℕ, zero, suc, not, List, [], ◌∷◌, ◌++◌, map, get_or, slice_get, Option, Some, None, option_map, refl, sym, ap, ◌∙◌, subst}
+use Rattle.std.specs.List.{flat_map}
 use Rattle.std.proofs.lemmas.List.{map-append}
 use Rattle.xf_ast.specs.declared.element.Binding.{Binding}
 use Rattle.xf_ast.specs.declared.element.Binding.TheVariants as binding
@@ -10,7 +10,6 @@ use Rattle.xf_ast.specs.declared.element.Element as written
 use Rattle.xf_ast.specs.declared.element.Kind.{Kind}
 use Rattle.xf_ast.specs.declared.element.Kind.TheVariants as kind
 use Rattle.xf_ast.specs.declared.expr.Expr.{Expr}
-use Rattle.xf_ast.specs.declared.form.Form.{Form}
 use Rattle.xf_ast.specs.declared.form.Selection.{Selection}
 use Rattle.xf_ast.specs.declared.form.Selection.TheVariants as selection
 use Rattle.xf_ast.specs.declared.form.Submission.{Submission}
@@ -20,23 +19,21 @@ use Rattle.xf_doc.specs.Visit.{visits, has}
 use Rattle.xf_doc.proofs.RenumberLaws.{any-through, has-renumbered, visits-renumbered}
 use Rattle.xf_lang.specs.Given.{Given}
 use Rattle.xf_lang.specs.Meaning.{meaning}
-use Rattle.xf_lang.specs.Same.{renumbered_given, renumbered_property}
+use Rattle.xf_lang.specs.Same.{renumbered_property}
 use Rattle.xf_lang.proofs.RenumberValues.{meaning-renumbered}
 use Rattle.xf_model.specs.Nested.{nested}
 use Rattle.xf_model.specs.Properties.{is_relevant, is_readonly, is_required}
 use Rattle.xf_model.specs.Rules.{Scope, chains}
 use Rattle.xf_model.specs.Same.{renumbered_scope, renumbered_valued}
-use Rattle.xf_model.specs.Settled.{Valued}
 use Rattle.xf_model.proofs.RenumberApplied.{got, all-chains_go}
 use Rattle.xf_model.proofs.RenumberBinds.{nested-renumbered}
 use Rattle.xf_model.proofs.RenumberEntries.{sets-go}
 use Rattle.xf_model.proofs.RenumberProperties.{is_relevant-renumbered, is_readonly-renumbered, is_required-renumbered}
-use Rattle.xf_ui.specs.declared.marks.Marks.{Marks}
 use Rattle.xf_ui.specs.Elements.{element_at, no_element}
-use Rattle.xf_ui.specs.Interface.{Element, Interface, bound_of, selected_of, sent_of, binding_of, sort_of_control, sort_of, element_of, interface_of}
+use Rattle.xf_ui.specs.Interface.{Interface, bound_of, selected_of, sent_of, binding_of, sort_of_control, sort_of, element_of}
 use Rattle.xf_form_machine.specs.Profile.{Profile}
 use Rattle.xf_form_machine.specs.State.{Model, State}
-use Rattle.xf_form_machine.specs.Surround.{Told, all_in, scope, given, around}
+use Rattle.xf_form_machine.specs.Surround.{Told, all_in, scope, around}
 use Rattle.xf_form_machine.specs.Properties.{values_of, values_in, relevant_in, readonly_in, valid_in, marks_in}
 use Rattle.xf_form_machine.specs.Same.{renumbered_model}
 use Rattle.xf_same_laws.specs.Going.{image}
@@ -146,7 +143,7 @@ module _ (f : ℕ → ℕ) (same : IsRenumbering f) (second : ℕ) (s : State) w
       ap (λ l. l ++ flat_map values_of (map (renumbered_model f) ms)) (values-go f same m) ∙ ap (λ l. map (renumbered_valued f) (values_of m) ++ l) (all-values ms)
       ∙ sym (map-append (renumbered_valued f) (values_of m) (flat_map values_of ms))
 
-  relevant-goes : (n : ℕ) → relevant_in (image f second s) (f n) ≡ relevant_in s n
+  pub relevant-goes : (n : ℕ) → relevant_in (image f second s) (f n) ≡ relevant_in s n
   relevant-goes n =
       ap (λ v. is_relevant v (values_in (image f second s)) (f n)) (visits-renumbered f same s.forest.nodes)
       ∙ ap (λ vs. is_relevant (map (renumbered_visit f) (all_in s)) vs (f n)) (all-values s.models) ∙ is_relevant-renumbered f same (values_in s) (all_in s) n
@@ -159,7 +156,7 @@ module _ (f : ℕ → ℕ) (same : IsRenumbering f) (second : ℕ) (s : State) w
   required-goes : (n : ℕ) → is_required (values_in (image f second s)) (f n) ≡ is_required (values_in s) n
   required-goes n = ap (λ vs. is_required vs (f n)) (all-values s.models) ∙ is_required-renumbered f same (values_in s) n
 
-  valid-goes : (n : ℕ) → valid_in (image f second s) (f n) ≡ valid_in s n
+  pub valid-goes : (n : ℕ) → valid_in (image f second s) (f n) ≡ valid_in s n
   valid-goes n = ap not (any-through (renumbered_model f) (λ m. has (f n) m.invalid) (λ m. has n m.invalid) (λ m. has-renumbered f same n m.invalid) s.models)
 
   pub marks-go : (n : ℕ) → marks_in (image f second s) (f n) ≡ marks_in s n

@@ -1,6 +1,6 @@
 -- The rows, indexes and copies of controls over a state with other numbers of nodes (XForms 1.1, sections 8 and 9): they are those of the
 -- state, with these numbers. Asked of the form: its elements and binds are those of the tables of a form, as those of each that is loaded.
-use Rattle.std.specs.Prelude.{ℕ, ◌≡◌, List, map, Option, option_map, Result, Ok, Err}
+use Rattle.std.specs.Prelude.{ℕ, ◌≡◌, List, map, option_map, Result, Ok, Err}
 use Rattle.xf_ast.specs.declared.form.Form.{Form}
 use Rattle.xf_store.specs.declared.answers.Answer.{Answer}
 use Rattle.xf_store.specs.declared.call.Asked.{Asked}

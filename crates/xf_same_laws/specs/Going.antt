@@ -1,20 +1,16 @@
 -- A state and the same one with other numbers of nodes: what a change makes of the second is what it makes of the first, with other numbers.
 -- One renumbering runs through an event, through the numbers too that it has given and those that it may yet give.
-use Rattle.std.specs.Prelude.{ℕ, ◌≡◌, ◌+◌, ◌^◌, ◌<◌, ◌≤◌, List, map, Option, option_map, Result, Ok, Err}
-use Rattle.xf_ast.specs.declared.form.Bind.{Bind}
+use Rattle.std.specs.Prelude.{ℕ, ◌≡◌, ◌+◌, ◌^◌, ◌<◌, ◌≤◌, List, map, Result, Ok, Err}
 use Rattle.xf_store.specs.declared.answers.Answer.{Answer}
 use Rattle.xf_doc.specs.declared.content.Content.{Content}
 use Rattle.xf_doc.specs.Same.{IsRenumbering, KeepsTexts, renumbered}
-use Rattle.xf_model.specs.Rules.{rule_of}
 use Rattle.xf_ui.specs.Index.{Index}
 use Rattle.xf_form_machine.specs.declared.note.Note.{Note}
 use Rattle.xf_form_machine.specs.Profile.{Profile}
-use Rattle.xf_form_machine.specs.Program.{Program}
 use Rattle.xf_form_machine.specs.State.{State}
 use Rattle.xf_form_machine.specs.Refusal.{Refused}
 use Rattle.xf_form_machine.specs.Flow.{Run}
 use Rattle.xf_form_machine.specs.Primitives.{spend, in_model, texts_due, refresh_due, set_text, copy, plant, attach, detach, with_indexes, set_case, add_note}
-use Rattle.xf_form_machine.specs.Behave.{rebuild, recalculate, revalidate}
 use Rattle.xf_form_machine.specs.Step.{fresh}
 use Rattle.xf_form_machine.specs.Same.{renumbered_model, renumbered_index, renumbered_copy, IsSame}
 
