@@ -16,11 +16,11 @@ use Rattle.xf_form_machine.specs.declared.note.Note.TheVariants.{Load}
 use Rattle.xf_ast.specs.declared.action.DispatchWork.{DispatchWork}
 use Rattle.xf_form_machine.specs.Choose.{named_copy, not_below_zero, set_index, act_index}
 use Rattle.xf_form_machine.specs.Telling.{loaded_text, load, focus}
-use Rattle.xf_actions.specs.declared.work.Doing.TheVariants.{Loads, Indexes, Toggles, Focuses, Tells}
+use Rattle.xf_actions.specs.declared.work.Doing.TheVariants.{Loads, Indexes, Focuses}
 use Rattle.xf_actions.specs.Performs.{Refuses}
 use Rattle.xf_actions.specs.Parts.{index_of_work, resource_of_work}
 use Rattle.xf_actions.specs.Chosen.{index_asked, index_chosen}
-use Rattle.xf_actions.specs.Changed.{untold, where_told, tells, toggle, dispatched, on_model, only_tells, changed, doing_of}
+use Rattle.xf_actions.specs.Changed.{untold, where_told, tells, dispatched, on_model, only_tells, changed, doing_of}
 use Rattle.xf_actions.proofs.Flow.{fine, bind-assoc, refuses-then, same-refuses}
 use Rattle.xf_actions.proofs.Doings.{refuses-untold}
 
@@ -111,34 +111,6 @@ focuses-work p x (work.dispatch w) r s h = cc
 focuses-work p x (work.send target) r s h = cc
 focuses-work p x (work.load resource) r s h = cc
 focuses-work p x (work.on_model name) r s h = cc
-
-pub toggles-work : (p : Profile) (x : Acting) (w : Work) (r : ℕ) (s : State) → doing_of w ≡ Toggles r → changed p x w s ≡ toggle x.model r s
-toggles-work p x work.all_in_it r s h = cc
-toggles-work p x (work.set_value value) r s h = cc
-toggles-work p x work.message r s h = cc
-toggles-work p x (work.insert w) r s h = cc
-toggles-work p x (work.delete w) r s h = cc
-toggles-work p x (work.set_index k m) r s h = cc
-toggles-work p x (work.toggle one) r s h = let e : one ≡ r = cc in ap (λ j. toggle x.model j s) e
-toggles-work p x (work.set_focus n) r s h = cc
-toggles-work p x (work.dispatch w) r s h = cc
-toggles-work p x (work.send target) r s h = cc
-toggles-work p x (work.load resource) r s h = cc
-toggles-work p x (work.on_model name) r s h = cc
-
-pub tells-work : (p : Profile) (x : Acting) (w : Work) (s : State) → doing_of w ≡ Tells → changed p x w s ≡ only_tells x.model w s
-tells-work p x work.all_in_it s h = cc
-tells-work p x (work.set_value value) s h = cc
-tells-work p x work.message s h = cc
-tells-work p x (work.insert w) s h = cc
-tells-work p x (work.delete w) s h = cc
-tells-work p x (work.set_index k m) s h = cc
-tells-work p x (work.toggle one) s h = cc
-tells-work p x (work.set_focus n) s h = cc
-tells-work p x (work.dispatch w) s h = refl
-tells-work p x (work.send target) s h = refl
-tells-work p x (work.load resource) s h = cc
-tells-work p x (work.on_model name) s h = refl
 
 -- ---- refusals
 

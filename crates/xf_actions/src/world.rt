@@ -1,6 +1,6 @@
 //! What the form machine is asked for. Each call is one of its functions; each but a want of memory is told as it is.
 
-ghost use Rattle.std.specs.Prelude.{◌≡◌, ℕ, List, [], map, length, get_or, slice_get, option_map, codes, Some, Ok};
+ghost use Rattle.std.specs.Prelude.{◌≡◌, List, [], map, length, get_or, slice_get, option_map, codes, Some, Ok};
 ghost use Rattle.xf_lang.specs.Meaning.{meaning};
 ghost use Rattle.xf_ui.specs.Calls.{calls as called_by};
 ghost use Rattle.xf_form_machine.specs.Surround.{interface, instance_holding as holding_instance};
@@ -15,7 +15,7 @@ ghost use Rattle.xf_ui.specs.Cases.{cases_of, place_of_case as case_place};
 ghost use Rattle.xf_ui.specs.Labels.{words_of};
 ghost use Rattle.xf_form_machine.specs.Primitives.{spend as spent, set_text as text_set, add_note as noted, copy as copied, attach as attached, detach as detached, in_model, refresh_due, set_case as case_set};
 ghost use Rattle.xf_form_machine.specs.Properties.{readonly_in};
-ghost use Rattle.xf_form_machine.specs.Acting.{acting as acts, act_at, binding_of, truth_for, text_for, whole_for};
+ghost use Rattle.xf_form_machine.specs.Acting.{acting as acts, binding_of, truth_for, text_for, whole_for};
 ghost use Rattle.xf_form_machine.specs.Choose.{named_copy as copy_named, set_index as index_set, switch_number};
 ghost use Rattle.xf_form_machine.specs.Events.{fired as fires, fired_at as fires_at, model_element as element_of_model, submission_element as element_of_submission};
 ghost use Rattle.xf_form_machine.specs.Telling.{loaded_text};
