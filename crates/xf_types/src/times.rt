@@ -1,10 +1,10 @@
 //! Dates and times.
 
-ghost use Rattle.std.specs.Prelude.{◌≡◌, pos};
-ghost use Rattle.jiff_core.specs.Calendar.{is_leap_year, days_in_month};
+ghost use Rattle.std.specs.Prelude.{◌≡◌, ◌≤◌};
 ghost use Rattle.xf_types.specs.Times.{is_offset, is_zone, may_be_zone, is_month, is_day, year_of, is_year_alone, is_year_month, is_date_alone, is_month_alone, is_month_day, is_day_alone, is_clock, is_midnight, begins_with_zeros, is_after_seconds, is_clock_text, is_time, is_date, is_date_time, is_g_year, is_g_year_month, is_g_month, is_g_month_day, is_g_day};
 
 use crate::shapes::{cut, fits, starts_with_digit, two_digits};
+use jiff_core::civil::days_in_month;
 use xf_num::{after_digits, is_digit};
 
 /// A year in which each month has all its days.
@@ -34,25 +34,6 @@ fn may_be_zone(text: &[u8]) -> bool
     text.is_empty() || is_zone(text)
 }
 
-fn is_leap(year: u32) -> bool
-    ensures { result ≡ is_leap_year (pos year) }
-{
-    year % 4 == 0 && (year % 100 != 0 || year % 400 == 0)
-}
-
-fn days_in(year: u32, month: u32) -> u32
-    ensures { result ≡ days_in_month (pos year) month }
-{
-    if month == 2 {
-        return if is_leap(year) { 29 } else { 28 };
-    }
-    if month == 4 || month == 6 || month == 9 || month == 11 {
-        30
-    } else {
-        31
-    }
-}
-
 fn is_month(month: u32) -> bool
     ensures { result ≡ is_month month }
 {
@@ -60,9 +41,10 @@ fn is_month(month: u32) -> bool
 }
 
 fn is_day(year: u32, month: u32, day: u32) -> bool
+    requires { year ≤ 9999 }
     ensures { result ≡ is_day year month day }
 {
-    is_month(month) && 1 <= day && day <= days_in(year, month)
+    is_month(month) && 1 <= day && day <= u32::from(days_in_month(year as i16, month as u8))
 }
 
 /// The year that the first four digits write.
