@@ -5,6 +5,7 @@ use Rattle.xf_ast.specs.declared.expr.Expr.{Expr}
 use Rattle.xf_lang.specs.Exact.{facts_of}
 use Rattle.xf_lang.specs.Meaning.{meaning}
 use Rattle.xf_lang.specs.Quiet.{quiet_of}
+use Rattle.xf_model.specs.Pertinent.{AllOf}
 use Rattle.xf_ui.specs.Interface.{Bound, unbound, nodes, by_bind, Element, Interface}
 use Rattle.xf_ui.specs.Elements.{element_at, is_repeat_sort}
 
@@ -23,5 +24,4 @@ pub record IsFixedElement (e : Element) : Type 0 where
   pub once : is_repeat_sort e.sort ≡ false
 
 abbrev pub AllFixed : Interface → List ℕ → Type 0
-AllFixed f [] = Unit {0}
-AllFixed f (n ∷ ns) = IsFixedElement (element_at f n) × AllFixed f ns
+AllFixed f ns = AllOf (λ n. IsFixedElement (element_at f n)) ns

@@ -12,6 +12,7 @@ ghost use Rattle.xf_form_machine.specs.Update.{no_refresh};
 ghost use Rattle.xf_machine_laws.specs.Quiet.{Quiet};
 ghost use Rattle.xf_work.specs.Does.{Does, profile};
 ghost use Rattle.xf_work.specs.Flags.{flag_of};
+ghost use Rattle.xf_work.specs.Held.{IsHeld};
 ghost use Rattle.xf_work.specs.Standing.{state_of};
 
 use crate::fault::WorkFault;
@@ -23,7 +24,7 @@ use std::marker::Model;
 use std::mem::replace;
 use xf_ast::Form;
 use xf_binds::Table;
-use xf_controls::{ControlCopy, ControlList, control_of};
+use xf_controls::{ControlCopy, ControlList, KnownList, control_of};
 use xf_loader::Loaded;
 use xf_report::Refusal;
 use xf_undo::Draft;
@@ -44,6 +45,9 @@ pub struct Work {
     pub(crate) old_tally: Tally,
     pub(crate) built: u64,
     pub(crate) old_built: u64,
+    // The nodes that controls bind whatever texts the data have.
+    pub(crate) known: KnownList,
+    ghost held: { IsHeld loaded known },
 }
 
 impl Model for Work {
