@@ -1,6 +1,6 @@
 -- Which elements bind what names nodes by where they stand alone (XForms 1.1, section 3.2.3): paths that tell no texts apart and whose predicates
 -- go by position, from the context node, a root or an instance; not binds, and not where rows are around.
-use Rattle.std.specs.Prelude.{ℕ, ◌≡◌, true, false, List, [], ◌∷◌}
+use Rattle.std.specs.Prelude.{ℕ, ◌≡◌, true, false, List}
 use Rattle.xf_ast.specs.declared.expr.Expr.{Expr}
 use Rattle.xf_lang.specs.Exact.{facts_of}
 use Rattle.xf_lang.specs.Meaning.{meaning}

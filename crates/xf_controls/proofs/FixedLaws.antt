@@ -21,6 +21,9 @@ use Rattle.xf_controls.specs.Fixed.{IsPlaceStep, IsWritten}
 pub all-more : {X : Type 0} (P : X → Type 0) (xs : List X) (i : ℕ) (x : X) → i < length xs → x ≡ get_or xs i x → P x → (AllOf P (drop i xs) → AllOf P xs) → AllOf P (drop (i + 1) xs) → AllOf P xs
 all-more P xs i x l is p whole rest = whole (subst (AllOf P) (sym (drop_more xs i x l)) (subst P is p, rest))
 
+pub all-get : {X : Type 0} (P : X → Type 0) (xs : List X) (i : ℕ) (d : X) → i < length xs → P (get_or xs i d) → (AllOf P (drop i xs) → AllOf P xs) → AllOf P (drop (i + 1) xs) → AllOf P xs
+all-get P xs i d l p whole rest = whole (subst (AllOf P) (sym (drop_more xs i d l)) (p, rest))
+
 pub all-end : {X : Type 0} (P : X → Type 0) (xs : List X) (i : ℕ) → length xs ≤ i → (AllOf P (drop i xs) → AllOf P xs) → AllOf P xs
 all-end P xs i l whole = whole (subst (AllOf P) (sym (drop_all i xs l)) tt)
 

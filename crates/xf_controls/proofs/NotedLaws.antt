@@ -1,11 +1,11 @@
 -- The nodes of copies are those that their elements bind, and what is noted of them is so.
-use Rattle.std.proofs.Common.{◌≡◌, ℕ, zero, suc, ◌+◌, ◌==◌, ◌<◌, Bool, true, false, ◌&&◌, List, [], ◌∷◌, map, length, get_or, Option, Some, None, option_map, refl, sym, ap, ◌∙◌, subst, inl, inr, arith}
+use Rattle.std.proofs.Common.{◌≡◌, ℕ, zero, suc, ◌<◌, Bool, true, false, List, [], ◌∷◌, map, length, get_or, Option, Some, None, option_map, refl, sym, ap, ◌∙◌, subst, inl, inr, arith}
 use Rattle.std.specs.Prelude.{replicate, slice_get, slice_set, ◌⊎◌}
 use Rattle.xf_ast.specs.declared.form.Form.{Form}
 use Rattle.xf_doc.specs.declared.content.Node.{Node}
 use Rattle.xf_doc.specs.declared.node.NodeId.{NodeId}
 use Rattle.xf_lang.specs.Given.{Given}
-use Rattle.xf_lang.specs.Setting.{Focus, ◌>>=◌, each}
+use Rattle.xf_lang.specs.Setting.{◌>>=◌, each}
 use Rattle.xf_ui.specs.declared.answers.Item.{Item}
 use Rattle.xf_ui.specs.declared.marks.Marks.{Marks}
 use Rattle.xf_ui.specs.Interface.{Interface, Sort, interface_of, repeated}
@@ -13,8 +13,7 @@ use Rattle.xf_ui.specs.Elements.{element_at, ancestors, is_repeat_sort}
 use Rattle.xf_ui.specs.Around.{Around}
 use Rattle.xf_ui.specs.Context.{Context, context_of}
 use Rattle.xf_ui.specs.Copies.{Copy, copies, copy_of, copy_with, is_enabled, items_if, marks_if, node_of, own_binding, value_by}
-use Rattle.xf_ui.specs.Index.{Index, seeing}
-use Rattle.xf_ui.specs.Places.{Places, places}
+use Rattle.xf_ui.specs.Places.{places}
 use Rattle.xf_bound_laws.specs.Fixed.{AllFixed, IsFixed, IsFixedElement}
 use Rattle.xf_controls.specs.declared.copy.ControlCopy.{ControlCopy}
 use Rattle.xf_controls.specs.declared.known.Known.{Known}
@@ -140,6 +139,15 @@ noted-more f list i copy before after l is noted (inr new) = λ n k e. of n k (g
       node = let same : copy.node ≡ k = cc (e.1) in same;
       fixed = subst (λ m. AllFixed f (m ∷ ancestors f m)) (sym e.0) new.1;
     }
+
+set-length : {X : Type 0} (xs : List X) (i : ℕ) (x : X) → length (slice_set xs i x) ≡ length xs
+set-length [] i x = refl
+set-length (y ∷ xs) zero x = refl
+set-length (y ∷ xs) (suc i) x = ap suc (set-length xs i x)
+
+pub noted-length : (f : Interface) (copy : ControlCopy) (before after : List Known) → IsNoted f copy before after → length after ≡ length before
+noted-length f copy before after (inl same) = ap length same
+noted-length f copy before after (inr new) = ap length new.2 ∙ set-length before copy.element (Is copy.node)
 
 unknown-at : (size n : ℕ) → known_at (replicate size Unknown) n ≡ None
 unknown-at zero zero = refl

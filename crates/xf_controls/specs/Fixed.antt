@@ -1,6 +1,6 @@
 -- Expressions that name nodes by where they stand alone, part by part (XPath 1.0, section 2): location paths whose steps tell no texts apart and
 -- whose predicates are written numbers, from the context node, a root or a named instance.
-use Rattle.std.specs.Prelude.{ℕ, ◌≡◌, Bool, true, List}
+use Rattle.std.specs.Prelude.{◌≡◌, Bool, true}
 use Rattle.xf_ast.specs.declared.expr.Expr.{Expr}
 use Rattle.xf_ast.specs.declared.expr.Expr.TheFolds.{fold-Step}
 use Rattle.xf_ast.specs.declared.expr.Step.{Step}

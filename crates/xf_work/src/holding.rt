@@ -16,11 +16,7 @@ use xf_loader::Loaded;
 use xf_tree::Forest;
 
 /// The nodes of the controls of a form over the data that were planted. Where a string of these is too long, nothing is known.
-pub(crate) fn held(
-    alloc: Global,
-    loaded: &Loaded,
-    forest: &Forest,
-) -> Result<KnownList, WorkFault>
+pub(crate) fn held(alloc: Global, loaded: &Loaded, forest: &Forest) -> Result<KnownList, WorkFault>
     requires loaded { IsLoaded loaded.now }
     requires hung { are_hung forest.now.forest.nodes ≡ true }
     requires shape { shape_of forest.now.forest.nodes ≡ planted_shape loaded.now }

@@ -1,5 +1,6 @@
 //! What an engine works on, and what is read of it.
 
+ghost use Rattle.std.specs.Coded.{codes};
 ghost use Rattle.std.specs.Prelude.{◌≡◌, ◌<◌, ◌++◌, [], true, map, find, length, option_map, string_bytes, OnOk};
 ghost use Rattle.xf_controls.specs.Plain.{is_plain};
 ghost use Rattle.xf_controls.specs.Seen.{is_copy_at, seen_copy};
@@ -47,7 +48,7 @@ pub struct Work {
     pub(crate) old_built: u64,
     // The nodes that controls bind whatever texts the data have.
     pub(crate) known: KnownList,
-    ghost held: { IsHeld loaded known },
+    ghost held: { IsHeld loaded known } by { Prim.hlevel codes },
 }
 
 impl Model for Work {
