@@ -12,3 +12,4 @@ pub mod Planting
 pub mod Grown
 pub mod Settling
 pub mod Setting
+pub mod Known

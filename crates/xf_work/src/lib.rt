@@ -8,6 +8,7 @@ mod ending;
 mod fault;
 mod flags;
 mod growing;
+mod knowing;
 mod marks;
 mod planting;
 mod rebuilding;

@@ -56,6 +56,8 @@ pub fn planted(alloc: Global, loaded: Loaded) -> Result<Work, WorkFault>
         old_tally: tally,
         built: 0,
         old_built: 0,
+        known: None,
+        old_known: None,
     })
 }
 

@@ -44,6 +44,9 @@ pub struct Work {
     pub(crate) old_tally: Tally,
     pub(crate) built: u64,
     pub(crate) old_built: u64,
+    // The model of which the last recalculation is known: since then its data have changed where they are marked alone.
+    pub(crate) known: Option<u32>,
+    pub(crate) old_known: Option<u32>,
 }
 
 impl Model for Work {
@@ -51,7 +54,8 @@ impl Model for Work {
     ghost use Rattle.xf_ast.specs.contracts.expr.Expr as expr;
     ghost use Rattle.xf_binds.specs.Table.{all_rolled_back};
     ghost use Rattle.xf_work.specs.Does.{Twin};
-    ghost use Rattle.xf_work.specs.Parts.{IsSound, kept_or, standing_of};
+    ghost use Rattle.xf_work.specs.Known.{IsFit};
+    ghost use Rattle.xf_work.specs.Parts.{kept_or, standing_of};
 
     ghost Value = { Twin };
 
@@ -66,7 +70,7 @@ impl Model for Work {
       built = w.built;
     } };
 
-    ghost invariant = { λ w. IsSound w.loaded w.draft w.table w.flags.items w.old_flags.items w.built w.old_built };
+    ghost invariant = { λ w. IsFit w.loaded w.draft w.table w.flags.items w.old_flags.items w.built w.old_built w.known w.old_known };
 }
 
 impl Work {
