@@ -1,4 +1,7 @@
 mod RowExamples
+mod ToggleExamples
+mod UpdateExamples
+mod FlagExamples
 mod EventExamples
 mod TurnExamples
 mod PlaceExamples
