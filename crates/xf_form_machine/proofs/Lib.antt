@@ -2,6 +2,8 @@ mod RowExamples
 mod ToggleExamples
 mod UpdateExamples
 mod FlagExamples
+mod TargetExamples
+mod ActionExamples
 mod EventExamples
 mod TurnExamples
 mod PlaceExamples
