@@ -2,6 +2,7 @@ mod RowExamples
 mod ToggleExamples
 mod UpdateExamples
 mod FlagExamples
+mod DetachedExamples
 mod TargetExamples
 mod ActionExamples
 mod EventExamples
