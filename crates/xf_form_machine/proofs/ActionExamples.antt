@@ -156,6 +156,15 @@ the_last_for_no_number : seen numbers (done (bound children (doing (delete_at (S
 unfolding scale
 the_last_for_no_number = refl
 
+-- the number is asked of the first node of the set, with its place and the size of the set
+by_the_size : seen numbers (done (bound children (doing (delete_at (Some (call 19 []).meaning))))) ≡ Some (5 ∷ 0 ∷ 1 ∷ 2 ∷ [])
+unfolding scale
+by_the_size = refl
+
+by_the_place : seen numbers (done (bound children (doing (delete_at (Some (call 29 []).meaning))))) ≡ Some (5 ∷ 0 ∷ 3 ∷ 4 ∷ [])
+unfolding scale
+by_the_place = refl
+
 -- the context is that of the node set
 in_its_context : seen numbers (done (bound (beside (codes "b")) (doing (delete_in (to (codes "a")))))) ≡ Some (5 ∷ 0 ∷ 1 ∷ 2 ∷ [])
 in_its_context = refl
