@@ -157,13 +157,7 @@ fn push_index(text: &mut String, index: Option<usize>) -> Result<(), AllocError>
 }
 
 /// The place of the node at a place of the rows among the siblings that are counted with it, from 1, where there are any.
-fn index_of(
-    rows: &[Row],
-    slots: &Slots,
-    hints: &[Hint],
-    at: usize,
-    like: Seen<'_>,
-) -> Option<usize>
+fn index_of(rows: &[Row], slots: &Slots, hints: &[Hint], at: usize, like: Seen<'_>) -> Option<usize>
     requires nodes { AreNodes slots.now rows.now }
     requires within { at < length rows.now }
     ensures { result ≡ index_among (like_before slots.now rows.now (seen_content like.entry) at (parent_row_of rows.now at)) (like_after slots.now rows.now (seen_content like.entry) at (parent_row_of rows.now at)) }
@@ -186,13 +180,7 @@ fn index_of(
 }
 
 /// How many siblings before the node at a place are counted with it.
-fn count_before(
-    rows: &[Row],
-    slots: &Slots,
-    hints: &[Hint],
-    at: usize,
-    like: Seen<'_>,
-) -> usize
+fn count_before(rows: &[Row], slots: &Slots, hints: &[Hint], at: usize, like: Seen<'_>) -> usize
     requires nodes { AreNodes slots.now rows.now }
     requires within { at < length rows.now }
     ensures answer { result ≡ length (like_before slots.now rows.now (seen_content like.entry) at (parent_row_of rows.now at)) }

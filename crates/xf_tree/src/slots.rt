@@ -171,17 +171,22 @@ impl Slots {
         match content {
             Content::Root => {
                 let text = Word::new(self.alloc);
-                self.slab.insert_reserved(new_entry(number, Kind::Root, 0, text))
+                self.slab
+                    .insert_reserved(new_entry(number, Kind::Root, 0, text))
             }
-            Content::Text(text) => self.slab.insert_reserved(new_entry(number, Kind::Text, 0, text)),
+            Content::Text(text) => self
+                .slab
+                .insert_reserved(new_entry(number, Kind::Text, 0, text)),
             Content::Element(name) => {
                 let name = self.names.number_of(name);
                 let text = Word::new(self.alloc);
-                self.slab.insert_reserved(new_entry(number, Kind::Element, name, text))
+                self.slab
+                    .insert_reserved(new_entry(number, Kind::Element, name, text))
             }
             Content::Attribute(name, text) => {
                 let name = self.names.number_of(name);
-                self.slab.insert_reserved(new_entry(number, Kind::Attribute, name, text))
+                self.slab
+                    .insert_reserved(new_entry(number, Kind::Attribute, name, text))
             }
         }
     }

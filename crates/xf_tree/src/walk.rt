@@ -113,12 +113,7 @@ fn step_over_trees(
     Some((next, Left::Trees { at, end, depth }))
 }
 
-fn step_over_attributes(
-    rows: &[Row],
-    slots: &Slots,
-    at: usize,
-    depth: u32,
-) -> Option<(usize, Left)>
+fn step_over_attributes(rows: &[Row], slots: &Slots, at: usize, depth: u32) -> Option<(usize, Left)>
     ensures { MatchOption result (left_of slots.now rows.now (Left.Attributes at depth) ≡ []) (λ r. IsStep slots.now rows.now (Left.Attributes at depth) r.0 r.1) }
 {
     if at >= rows.len() {
