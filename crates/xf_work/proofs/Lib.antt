@@ -30,3 +30,4 @@ pub mod TextSetLaws
 pub mod EndLaws
 pub mod MarkedLaws
 pub mod DoesLaws
+pub mod HeldLaws

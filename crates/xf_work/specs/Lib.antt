@@ -4,6 +4,7 @@ pub mod Does
 pub mod Flags
 pub mod Tally
 pub mod Around
+pub mod Held
 pub mod Built
 pub mod Parts
 pub mod Calls

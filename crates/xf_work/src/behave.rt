@@ -121,6 +121,12 @@ impl Work {
     pub fn shown(&self) -> Result<ControlList, WorkFault>
         ensures { Finds (map seen_copy) result (update.shown profile (state_of self.now.now)) }
     {
-        shown(self.alloc, &self.loaded, self.draft.forest(), &self.table)
+        shown(
+            self.alloc,
+            &self.loaded,
+            self.draft.forest(),
+            &self.table,
+            &self.known,
+        )
     }
 }

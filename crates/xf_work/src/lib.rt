@@ -8,6 +8,7 @@ mod ending;
 mod fault;
 mod flags;
 mod growing;
+mod holding;
 mod marks;
 mod planting;
 mod rebuilding;
