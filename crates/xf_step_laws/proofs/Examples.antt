@@ -6,7 +6,6 @@ use Rattle.xf_line.specs.declared.event.Event.TheVariants.{Activate}
 use Rattle.xf_ui.specs.Copies.{Copy}
 use Rattle.xf_form_machine.specs.State.{State}
 use Rattle.xf_form_machine.specs.Refusal.{Refused}
-use Rattle.xf_form_machine.specs.Update.{shown}
 use Rattle.xf_form_machine.specs.Construct.{unbuilt}
 use Rattle.xf_form_machine.specs.Same.{IsSame}
 use Rattle.xf_form_machine.specs.Step.{Outcome, accepted, refused, step}
