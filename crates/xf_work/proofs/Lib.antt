@@ -31,3 +31,6 @@ pub mod EndLaws
 pub mod MarkedLaws
 pub mod DoesLaws
 pub mod HeldLaws
+pub mod KnownLaws
+pub mod KnownEnds
+pub mod SetKnown

@@ -13,3 +13,4 @@ pub mod Planting
 pub mod Grown
 pub mod Settling
 pub mod Setting
+pub mod Known

@@ -9,6 +9,7 @@ mod fault;
 mod flags;
 mod growing;
 mod holding;
+mod knowing;
 mod marks;
 mod planting;
 mod rebuilding;

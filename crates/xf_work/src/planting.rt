@@ -35,7 +35,7 @@ pub fn planted(alloc: Global, loaded: Loaded) -> Result<Work, WorkFault>
     }
     let mut forest = Forest::new(alloc);
     let made = plant_all(&mut forest, &loaded)?;
-    let known = held(alloc, &loaded, &forest)?;
+    let bound_nodes = held(alloc, &loaded, &forest)?;
     let table = Table::new(alloc, count as u32)?;
     let flags = vec![in alloc; Flags::none(); count]?;
     let old_flags = vec![in alloc; Flags::none(); count]?;
@@ -58,7 +58,9 @@ pub fn planted(alloc: Global, loaded: Loaded) -> Result<Work, WorkFault>
         old_tally: tally,
         built: 0,
         old_built: 0,
-        known,
+        known: None,
+        old_known: None,
+        bound_nodes,
     })
 }
 

@@ -46,9 +46,12 @@ pub struct Work {
     pub(crate) old_tally: Tally,
     pub(crate) built: u64,
     pub(crate) old_built: u64,
+    // The model of which the last recalculation is known: since then its data have changed where they are marked alone.
+    pub(crate) known: Option<u32>,
+    pub(crate) old_known: Option<u32>,
     // The nodes that controls bind whatever texts the data have.
-    pub(crate) known: KnownList,
-    ghost held: { IsHeld loaded known } by { Prim.hlevel codes },
+    pub(crate) bound_nodes: KnownList,
+    ghost held: { IsHeld loaded bound_nodes } by { Prim.hlevel codes },
 }
 
 impl Model for Work {
@@ -56,7 +59,8 @@ impl Model for Work {
     ghost use Rattle.xf_ast.specs.contracts.expr.Expr as expr;
     ghost use Rattle.xf_binds.specs.Table.{all_rolled_back};
     ghost use Rattle.xf_work.specs.Does.{Twin};
-    ghost use Rattle.xf_work.specs.Parts.{IsSound, kept_or, standing_of};
+    ghost use Rattle.xf_work.specs.Known.{IsFit};
+    ghost use Rattle.xf_work.specs.Parts.{kept_or, standing_of};
 
     ghost Value = { Twin };
 
@@ -71,7 +75,7 @@ impl Model for Work {
       built = w.built;
     } };
 
-    ghost invariant = { λ w. IsSound w.loaded w.draft w.table w.flags.items w.old_flags.items w.built w.old_built };
+    ghost invariant = { λ w. IsFit w.loaded w.draft w.table w.flags.items w.old_flags.items w.built w.old_built w.known w.old_known };
 }
 
 impl Work {

@@ -19,4 +19,4 @@ pub returns : goal.returns
 returns c =
     let w = c.self.inside in
     subst (λ (t : Twin). Finds (map seen_copy) c.shown.result (update.shown profile (state_of t.now))) c.self.view_is
-    (subst (λ f. Shows w.loaded f w.table c.shown.result) c.forest.ensures c.shown.ensures w.flags.items w.controls w.tally c.self.invariant.many)
+    (subst (λ f. Shows w.loaded f w.table c.shown.result) c.forest.ensures c.shown.ensures w.flags.items w.controls w.tally c.self.invariant.sound.many)
