@@ -1,7 +1,6 @@
 -- What is known of a last recalculation at the end of an event, and after a roll-back.
 use Rattle.std.proofs.Common.{◌≡◌, ℕ, zero, suc, List, [], ◌∷◌, Option, refl, sym, ap, ◌∙◌, subst}
 use Rattle.xf_doc.specs.Changes.{in_detached}
-use Rattle.xf_doc.specs.Forest.{Forest}
 use Rattle.xf_doc.specs.Texts.{without_detached}
 use Rattle.xf_binds.specs.Kept.{Kept, committed, rolled_back}
 use Rattle.xf_binds.specs.Table.{all_committed, all_rolled_back, kept_at}

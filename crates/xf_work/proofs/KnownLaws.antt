@@ -1,6 +1,6 @@
 -- What is known of the last recalculation of a model: from one recalculation to the next, and where a text is set.
-use Rattle.std.proofs.Common.{◌≡◌, ℕ, zero, suc, ◌+◌, ◌<◌, ◌≤◌, ◌^◌, ◌==◌, Bool, true, false, not, cond, ◌&&◌, ◌||◌, List, [], ◌∷◌, ◌++◌, map, length, get_or, nat_lt, Option, Some, None, slice_get, refl, sym, ap, ◌∙◌, subst, inl, inr, arith}
-use Rattle.std.specs.Prelude.{◌⊎◌, nat_le, option_map}
+use Rattle.std.proofs.Common.{◌≡◌, ℕ, zero, suc, ◌+◌, ◌<◌, ◌≤◌, ◌^◌, ◌==◌, Bool, true, false, not, cond, ◌&&◌, ◌||◌, List, [], ◌∷◌, ◌++◌, map, length, get_or, Option, Some, None, slice_get, refl, sym, ap, ◌∙◌, subst, inl, inr, arith}
+use Rattle.std.specs.Prelude.{◌⊎◌, option_map}
 use Rattle.std.proofs.lemmas.Bool.{eqb-true}
 use Rattle.std.proofs.lemmas.Bool.Decides.{nat_tests}
 use Rattle.xf_ast.specs.declared.expr.Expr.{Expr}
@@ -29,7 +29,7 @@ use Rattle.xf_lang.specs.Asked.{found}
 use Rattle.xf_lang.proofs.ShapeVisits.{shape-untexted}
 use Rattle.xf_lang.proofs.VisitFacts.{no, none-some, some-same}
 use Rattle.xf_model.specs.Rules.{Scope}
-use Rattle.xf_model.specs.Applied.{Entry, is_calculate}
+use Rattle.xf_model.specs.Applied.{is_calculate}
 use Rattle.xf_model.specs.Entries.{is_computed}
 use Rattle.xf_model.specs.Pertinent.{AllOf, asking, askings, is_pertinent}
 use Rattle.xf_model.specs.Settled.{Valued, bounds, calculates, values_over}
@@ -44,27 +44,26 @@ use Rattle.xf_agree.proofs.TurnLists.{all-append}
 use Rattle.xf_static.proofs.ReaderLaw.{read_as_made}
 use Rattle.xf_static.proofs.StaticLaw.{static_covered}
 use Rattle.xf_marks_laws.specs.Instances.{standing}
-use Rattle.xf_marks_laws.specs.Outside.{IsOutside, shape_now}
+use Rattle.xf_marks_laws.specs.Outside.{IsOutside}
 use Rattle.xf_edit_laws.specs.Edits.{MarksMore}
 use Rattle.xf_marks_laws.proofs.Behind.{has-append}
 use Rattle.xf_change_laws.specs.Carried.{Carried, Follows, Takes, under}
 use Rattle.xf_change_laws.proofs.TakenNumbers.{under_takes}
 use Rattle.xf_change_laws.proofs.TextsCarry.{text_carried}
-use Rattle.xf_since_laws.specs.Since.{Before, IsDue, Since, Stood, changes_since, truly}
+use Rattle.xf_since_laws.specs.Since.{IsDue, Since, Stood, truly}
 use Rattle.xf_since_laws.specs.Pertinent.{settled_now, then_of}
 use Rattle.xf_since_laws.proofs.Anew.{entries_stand, since_anew_law}
 use Rattle.xf_since_laws.proofs.SolidStays.{solid_of}
 use Rattle.xf_since_laws.proofs.WrittenCarried.{solid-by}
 use Rattle.xf_settle_laws.proofs.MeasureLaws.{all_done}
 use Rattle.xf_machine_laws.proofs.WrittenContents.{all-written}
-use Rattle.xf_binds.specs.Held.{held_by}
-use Rattle.xf_binds.specs.Kept.{Kept, recalculated, valued_in}
+use Rattle.xf_binds.specs.Kept.{Kept, recalculated}
 use Rattle.xf_binds.specs.Table.{kept_at, with_kept}
 use Rattle.xf_pertinent.specs.Marked.{is_evaluated, pertinent_marks}
 use Rattle.xf_pertinent.specs.OfTable.{changes_in}
 use Rattle.xf_settle.specs.Passes.{AreCoveredIn, ArePassed, is_passed}
 use Rattle.xf_settle.specs.Settles.{IsSettled, MaySettle, contents_in}
-use Rattle.xf_loader.specs.Computed.{AllReadStatic, AreReadStatic, IsReadStatic}
+use Rattle.xf_loader.specs.Computed.{AllReadStatic, IsReadStatic}
 use Rattle.xf_loader.specs.declared.loaded.Loaded.{Loaded}
 use Rattle.xf_loader.proofs.StaticLaw.{loaded_static}
 use Rattle.xf_work.specs.Around.{given_in}

@@ -1,11 +1,11 @@
 -- What is known of a last recalculation once a text is set: it is another one, and its node is marked; or it stood there, and nothing is.
-use Rattle.std.proofs.Common.{◌≡◌, ℕ, zero, suc, ◌+◌, ◌<◌, ◌^◌, ◌==◌, Bool, true, false, cond, ◌||◌, List, [], ◌∷◌, ◌++◌, map, length, nat_lt, Option, Some, None, option_map, refl, sym, ap, ◌∙◌, subst, inl, inr, arith}
+use Rattle.std.proofs.Common.{◌≡◌, ℕ, ◌+◌, ◌<◌, ◌^◌, ◌==◌, Bool, true, false, cond, ◌||◌, List, [], ◌∷◌, map, length, nat_lt, Option, Some, None, option_map, refl, sym, ap, ◌∙◌, subst, inl, inr, arith}
 use Rattle.std.specs.Prelude.{◌⊎◌, not}
 use Rattle.std.proofs.lemmas.Bool.{cases_lt, eqb-true}
 use Rattle.std.proofs.lemmas.Bool.Decides.{nat_tests}
 use Rattle.xf_doc.specs.declared.content.Node.{Node}
-use Rattle.xf_doc.specs.Changes.{in_detached, in_instances}
-use Rattle.xf_doc.specs.Forest.{Forest, has_number, is_text, node_at}
+use Rattle.xf_doc.specs.Changes.{in_detached}
+use Rattle.xf_doc.specs.Forest.{Forest, is_text, node_at}
 use Rattle.xf_doc.specs.Needs.{IsSettable}
 use Rattle.xf_doc.specs.Settle.{has_text}
 use Rattle.xf_doc.specs.Shape.{erased}
@@ -16,7 +16,7 @@ use Rattle.xf_lang.specs.Asked.{found}
 use Rattle.xf_lang.proofs.ForestVisits.{forest-visits, found-erased}
 use Rattle.xf_lang.proofs.UntextedLaws.{is_solid}
 use Rattle.xf_lang.proofs.VisitFacts.{found-out, no, none-some, some-same}
-use Rattle.xf_model.specs.Settled.{Valued, bounds}
+use Rattle.xf_model.specs.Settled.{bounds}
 use Rattle.xf_model.specs.Pertinent.{AllOf}
 use Rattle.xf_model.proofs.EachLemmas.{each_then}
 use Rattle.xf_agree.specs.Hung.{are_hung}
@@ -30,13 +30,13 @@ use Rattle.xf_change_laws.proofs.Unchanged.{stands_unchanged}
 use Rattle.xf_since_laws.specs.Since.{Stood}
 use Rattle.xf_since_laws.proofs.WrittenCarried.{solid-by}
 use Rattle.xf_binds.specs.Kept.{Kept}
-use Rattle.xf_binds.specs.Table.{kept_at, with_kept}
+use Rattle.xf_binds.specs.Table.{kept_at}
 use Rattle.xf_loader.specs.declared.loaded.Loaded.{Loaded}
 use Rattle.xf_work.specs.Built.{scope_at}
-use Rattle.xf_work.specs.Known.{HasMarks, IsHeld, IsKnownStill, IsRemembered, KeepsMarks, Knows}
+use Rattle.xf_work.specs.Known.{IsHeld, IsKnownStill, IsRemembered, KeepsMarks, Knows}
 use Rattle.xf_work.specs.Setting.{mark_if, marked}
 use Rattle.xf_work.proofs.DeepLaws.{all-instances}
-use Rattle.xf_work.proofs.KnownLaws.{after, follows, free, is-numbered, keeps-set, known-text, knows-marks, numbered, scope-stays, solid-after, solids, takes}
+use Rattle.xf_work.proofs.KnownLaws.{follows, free, is-numbered, keeps-set, known-text, knows-marks, numbered, scope-stays, solid-after, solids, takes}
 use Rattle.xf_work.proofs.MarkedLaws.{marked-length}
 use Rattle.xf_work.proofs.Models.{set-length}
 use Rattle.xf_work.proofs.SetLaws.{set-past}
