@@ -10,10 +10,10 @@ use Rattle.xf_work.specs.Standing.{state_of}
 use Rattle.xf_work.proofs.work.Work.shown.Goals as goal
 
 pub shown-requires-clause-hung : goal.shown-requires-clause-hung
-shown-requires-clause-hung c = subst (λ f. are_hung f.nodes ≡ true) (sym c.forest.ensures) c.self.invariant.now.hung
+shown-requires-clause-hung c = subst (λ f. are_hung f.nodes ≡ true) (sym c.forest.ensures) c.self.invariant.sound.now.hung
 
 pub shown-requires-clause-shape : goal.shown-requires-clause-shape
-shown-requires-clause-shape c = subst (λ f. shape_of f.nodes ≡ planted_shape c.self.inside.loaded) (sym c.forest.ensures) c.self.invariant.now.shape
+shown-requires-clause-shape c = subst (λ f. shape_of f.nodes ≡ planted_shape c.self.inside.loaded) (sym c.forest.ensures) c.self.invariant.sound.now.shape
 
 pub returns : goal.returns
 returns c =
