@@ -33,7 +33,7 @@ use Rattle.xf_binds.specs.Kept.{Kept}
 use Rattle.xf_binds.specs.Table.{kept_at}
 use Rattle.xf_loader.specs.declared.loaded.Loaded.{Loaded}
 use Rattle.xf_work.specs.Built.{scope_at}
-use Rattle.xf_work.specs.Known.{IsHeld, IsKnownStill, IsRemembered, KeepsMarks, Knows}
+use Rattle.xf_work.specs.Known.{IsMarkedOrStood, IsKnownStill, IsRemembered, KeepsMarks, Knows}
 use Rattle.xf_work.specs.Setting.{mark_if, marked}
 use Rattle.xf_work.proofs.DeepLaws.{all-instances}
 use Rattle.xf_work.proofs.KnownLaws.{follows, free, is-numbered, keeps-set, known-text, knows-marks, numbered, scope-stays, solid-after, solids, takes}
@@ -159,7 +159,7 @@ module _ (l : Loaded) (forest : Forest) (n : ℕ) (text : List ℕ) (trees : Has
 
   -- ---- of the model of which it is known
 
-  held : (table : List Kept) (model : ℕ) (holder : Option ℕ) (other stood : Bool) → stood ≡ has_text n text forest.nodes → IsHeld other holder stood model → Knows l forest table (Some model) →
+  held : (table : List Kept) (model : ℕ) (holder : Option ℕ) (other stood : Bool) → stood ≡ has_text n text forest.nodes → IsMarkedOrStood other holder stood model → Knows l forest table (Some model) →
       Knows l then_set (marked holder other n table) (Some model)
   held table model holder true stood is h k =
       subst (λ o. Knows l then_set (marked o true n table) (Some model)) (sym h) (

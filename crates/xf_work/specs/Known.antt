@@ -20,6 +20,8 @@ use Rattle.xf_loader.specs.declared.loaded.Loaded.{Loaded}
 use Rattle.xf_undo.specs.Draft.{Draft}
 use Rattle.xf_work.specs.declared.flags.Flags.{Flags}
 use Rattle.xf_work.specs.Built.{scope_at}
+use Rattle.xf_controls.specs.declared.known.Known as bound
+use Rattle.xf_work.specs.Held.{IsHeld}
 use Rattle.xf_work.specs.Parts.{IsSound}
 
 -- the data as they were then, and what of them stands now
@@ -40,10 +42,12 @@ Knows l forest table None = Unit {0}
 Knows l forest table (Some model) = (model < length table) × IsRemembered (scope_at l forest model) forest (kept_at table model)
 
 -- all that is known of what an engine works on, as it stands and as it was kept
-pub record IsFit (l : Loaded) (draft : Draft) (table : List Kept) (flags old_flags : List Flags) (built old_built : ℕ) (known old_known : Option ℕ) : Type 0 where
+pub record IsFit (l : Loaded) (draft : Draft) (table : List Kept) (flags old_flags : List Flags) (built old_built : ℕ) (known old_known : Option ℕ) (bound_nodes : List bound.Known) : Type 0 where
   pub sound : IsSound l draft table flags old_flags built old_built
   pub now : Knows l draft.now table known
   pub before : Knows l draft.kept (all_rolled_back table) old_known
+  -- what is known of the nodes of controls is so
+  pub held : IsHeld l bound_nodes
 
 -- ---- marks that stay
 
@@ -73,11 +77,11 @@ marks_if true marks = marks
 marks_if false marks = []
 
 -- a text that was set is another one, of a node in an instance of the model, where it is marked; or it stood there
-abbrev pub IsHeld : Bool → Option ℕ → Bool → ℕ → Type 0
-IsHeld true holder stood model = holder ≡ Some model
-IsHeld false holder stood model = stood ≡ true
+abbrev pub IsMarkedOrStood : Bool → Option ℕ → Bool → ℕ → Type 0
+IsMarkedOrStood true holder stood model = holder ≡ Some model
+IsMarkedOrStood false holder stood model = stood ≡ true
 
 -- what is known still
 abbrev pub IsKnownStill : Option ℕ → Option ℕ → Bool → Bool → Option ℕ → Type 0
 IsKnownStill known holder other stood None = Unit {0}
-IsKnownStill known holder other stood (Some model) = (known ≡ Some model) × IsHeld other holder stood model
+IsKnownStill known holder other stood (Some model) = (known ≡ Some model) × IsMarkedOrStood other holder stood model

@@ -7,8 +7,7 @@ ghost use Rattle.xf_work.specs.Held.{IsHeld, planted_shape};
 ghost use Rattle.xf_work.specs.Parts.{IsLoaded};
 
 use crate::around::{Quiet, documents};
-use crate::fault::WorkFault;
-use std::alloc::Global;
+use std::alloc::{AllocError, Global};
 use xf_base::Items;
 use xf_controls::{KnownList, known_nodes};
 use xf_eval::EvalFault;
@@ -16,7 +15,7 @@ use xf_loader::Loaded;
 use xf_tree::Forest;
 
 /// The nodes of the controls of a form over the data that were planted. Where a string of these is too long, nothing is known.
-pub(crate) fn held(alloc: Global, loaded: &Loaded, forest: &Forest) -> Result<KnownList, WorkFault>
+pub(crate) fn held(alloc: Global, loaded: &Loaded, forest: &Forest) -> Result<KnownList, AllocError>
     requires loaded { IsLoaded loaded.now }
     requires hung { are_hung forest.now.forest.nodes ≡ true }
     requires shape { shape_of forest.now.forest.nodes ≡ planted_shape loaded.now }
@@ -33,6 +32,6 @@ pub(crate) fn held(alloc: Global, loaded: &Loaded, forest: &Forest) -> Result<Kn
     match known_nodes(alloc, &loaded.form, forest, &around) {
         Ok(known) => Ok(known),
         Err(EvalFault::Long) => Ok(Items::new(alloc)),
-        Err(EvalFault::Memory) => Err(WorkFault::Memory),
+        Err(EvalFault::Memory) => Err(AllocError),
     }
 }

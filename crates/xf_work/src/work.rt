@@ -1,6 +1,5 @@
 //! What an engine works on, and what is read of it.
 
-ghost use Rattle.std.specs.Coded.{codes};
 ghost use Rattle.std.specs.Prelude.{◌≡◌, ◌<◌, ◌++◌, [], true, map, find, length, option_map, string_bytes, OnOk};
 ghost use Rattle.xf_controls.specs.Plain.{is_plain};
 ghost use Rattle.xf_controls.specs.Seen.{is_copy_at, seen_copy};
@@ -13,7 +12,6 @@ ghost use Rattle.xf_form_machine.specs.Update.{no_refresh};
 ghost use Rattle.xf_machine_laws.specs.Quiet.{Quiet};
 ghost use Rattle.xf_work.specs.Does.{Does, profile};
 ghost use Rattle.xf_work.specs.Flags.{flag_of};
-ghost use Rattle.xf_work.specs.Held.{IsHeld};
 ghost use Rattle.xf_work.specs.Standing.{state_of};
 
 use crate::fault::WorkFault;
@@ -51,7 +49,6 @@ pub struct Work {
     pub(crate) old_known: Option<u32>,
     // The nodes that controls bind whatever texts the data have.
     pub(crate) bound_nodes: KnownList,
-    ghost held: { IsHeld loaded bound_nodes } by { Prim.hlevel codes },
 }
 
 impl Model for Work {
@@ -75,7 +72,7 @@ impl Model for Work {
       built = w.built;
     } };
 
-    ghost invariant = { λ w. IsFit w.loaded w.draft w.table w.flags.items w.old_flags.items w.built w.old_built w.known w.old_known };
+    ghost invariant = { λ w. IsFit w.loaded w.draft w.table w.flags.items w.old_flags.items w.built w.old_built w.known w.old_known w.bound_nodes };
 }
 
 impl Work {

@@ -4,6 +4,7 @@ use Rattle.xf_work.specs.Held.{planted_shape}
 use Rattle.std.specs.Prelude.{replicate}
 use Rattle.xf_work.specs.Planting.{documents_grown, planted_by}
 use Rattle.xf_work.proofs.BegunLaws.{begun-is, begun-sound, shape-planted}
+use Rattle.std.proofs.lemmas.Result.{err_from_is_err_and}
 use Rattle.xf_work.proofs.planting.planted.Goals as goal
 
 pub held-requires-clause-shape : goal.held-requires-clause-shape
@@ -14,6 +15,7 @@ held-requires-clause-shape c =
 pub invariant_of-result : goal.invariant_of-result
 invariant_of-result c =
     record {
+      held = c.in_ok-bound_nodes.ensures;
       sound = begun-sound c.args.loaded c.plant_all.new.forest.forest c.in_ok-made.made c.len-count.result c.new-2.result c.in_ok-table.table c.in_ok-flags.flags.items
           c.in_ok-old_flags.old_flags.items c.new-3.result c.in_ok-made.ensures.alone c.new-2.ensures c.in_ok-table.ensures
           (c.in_ok-flags.ensures.items_if_clones_equal (λ y e. e) ∙ ap (replicate c.len-count.result) c.none.ensures)
@@ -33,3 +35,23 @@ returns c =
     (c.in_ok-flags.ensures.items_if_clones_equal (λ y e. e) ∙ ap (replicate c.len-count.result) c.none.ensures)
     (c.in_ok-old_flags.ensures.items_if_clones_equal (λ y e. e) ∙ ap (replicate c.len-count.result) c.none-2.ensures)
     c.len-count.ensures c.new-3.ensures (start ∙ c.in_ok-made.ensures.done)
+
+pub returns-in_err-bound_nodes : goal.returns-in_err-bound_nodes
+returns-in_err-bound_nodes c =
+    let p = err_from_is_err_and c.from_residual-in_err-bound_nodes.result c.from_residual-in_err-bound_nodes.ensures.1 in
+    rw (p.1, p.2) tt
+
+pub returns-in_err-table : goal.returns-in_err-table
+returns-in_err-table c =
+    let p = err_from_is_err_and c.from_residual-in_err-table.result c.from_residual-in_err-table.ensures.1 in
+    rw (p.1, p.2) tt
+
+pub returns-in_err-flags : goal.returns-in_err-flags
+returns-in_err-flags c =
+    let p = err_from_is_err_and c.from_residual-in_err-flags.result c.from_residual-in_err-flags.ensures.1 in
+    rw (p.1, p.2) tt
+
+pub returns-in_err-old_flags : goal.returns-in_err-old_flags
+returns-in_err-old_flags c =
+    let p = err_from_is_err_and c.from_residual-in_err-old_flags.result c.from_residual-in_err-old_flags.ensures.1 in
+    rw (p.1, p.2) tt

@@ -15,6 +15,7 @@ invariant_of-self c =
     let items = with_items_is w.old_flags c.copy.new.to (ap length flags ∙ sym i.kept ∙ sym w.old_flags.ok.0) in
     let known = committed-known w.loaded w.draft w.table w.known i.now.alone c.self.invariant.now c.commit.new.self c.commit-2.new.self c.commit.ensures c.commit-2.ensures in
     record {
+      held = c.self.invariant.held;
       sound = committed-sound w.loaded w.draft w.table w.flags.items w.old_flags.items w.built w.old_built i c.commit.new.self c.commit-2.new.self _ c.commit.ensures c.commit-2.ensures (items ∙ flags);
       now = known.0;
       before = known.1;

@@ -41,6 +41,7 @@ invariant_of-self c =
     (subst (λ (t : Twin). c.args.model ≤ t.built) (sym c.self.view_is) c.requires.built) c.in-Ok.ensures.models c.in-Ok.ensures.kept renewed in
     let one : c.args.model + 1 ≡ suc c.args.model = omega arith in
     record {
+      held = c.self.invariant.held;
       sound = subst (λ n. IsSound w.loaded w.draft c.rebuild.new.table (with_items w.flags c.clear.new.flags).items w.old_flags.items n w.old_built) (sym (c.max-self-inside.ensures ∙ ap (max w.built) one))
           (sound-flags w.loaded w.draft c.rebuild.new.table w.flags.items w.old_flags.items (max w.built (suc c.args.model)) w.old_built s (with_items w.flags c.clear.new.flags).items (ap length (items ∙ cleared) ∙ many));
       now = knows-marks w.loaded w.draft.now w.table c.rebuild.new.table w.known c.in-Ok.ensures.models c.in-Ok.ensures.marks c.self.invariant.now;

@@ -43,6 +43,7 @@ pub invariant_of-self : goal.invariant_of-self
 invariant_of-self c =
     let w = c.self.inside in
     record {
+      held = c.self.invariant.held;
       sound = sound-draft w.loaded w.draft w.table w.flags.items w.old_flags.items w.built w.old_built c.self.invariant.sound c.settle_texts.new.draft c.in_err-truths.ensures.whole c.in_err-truths.ensures.kept;
       now = tt;
       before = subst (λ f. Knows w.loaded f (all_rolled_back w.table) w.old_known) (sym c.in_err-truths.ensures.kept) c.self.invariant.before;
@@ -62,6 +63,7 @@ pub invariant_of-self-in_err-self-inside : goal.invariant_of-self-in_err-self-in
 invariant_of-self-in_err-self-inside c =
     let w = c.self.inside in
     record {
+      held = c.self.invariant.held;
       sound = sound-draft w.loaded w.draft w.table w.flags.items w.old_flags.items w.built w.old_built c.self.invariant.sound c.settle_texts.new.draft c.in_ok-truths.ensures.whole c.in_ok-truths.ensures.kept;
       now = tt;
       before = subst (λ f. Knows w.loaded f (all_rolled_back w.table) w.old_known) (sym c.in_ok-truths.ensures.kept) c.self.invariant.before;
@@ -107,6 +109,7 @@ invariant_of-self-2 c =
     let k = recalculated c.in_ok-truths.truths (kept_at w.table c.args.model) in
     let t = sound-kept w.loaded d w.table w.flags.items w.old_flags.items w.built w.old_built s c.args.model k h (record { entries = refl; asks = refl }) refl in
     record {
+      held = c.self.invariant.held;
       sound = subst (λ x. IsSound w.loaded d x (with_items w.flags c.clear.new.flags).items w.old_flags.items w.built w.old_built) (sym c.recalculated.ensures)
           (sound-flags w.loaded d (with_kept w.table c.args.model k) w.flags.items w.old_flags.items w.built w.old_built t _ (ap length (items ∙ cleared) ∙ many));
       now = subst (λ x. Knows w.loaded d.now x (Some c.args.model)) (sym c.recalculated.ensures) (

@@ -45,6 +45,7 @@ invariant_of-self-2 c =
     let items = with_items_is w.flags c.clear.new.flags (ap length cleared ∙ many ∙ sym w.flags.ok.0) in
     let s = sound-kept w.loaded w.draft w.table w.flags.items w.old_flags.items w.built w.old_built c.self.invariant.sound c.args.model k h (record { entries = refl; asks = refl }) refl in
     record {
+      held = c.self.invariant.held;
       sound = subst (λ t. IsSound w.loaded w.draft t (with_items w.flags c.clear.new.flags).items w.old_flags.items w.built w.old_built) (sym table)
           (sound-flags w.loaded w.draft (with_kept w.table c.args.model k) w.flags.items w.old_flags.items w.built w.old_built s (with_items w.flags c.clear.new.flags).items (ap length (items ∙ cleared) ∙ many));
       now = subst (λ t. Knows w.loaded w.draft.now t w.known) (sym table)

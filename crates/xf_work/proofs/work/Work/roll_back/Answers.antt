@@ -15,6 +15,7 @@ invariant_of-self c =
     let items = with_items_is w.flags c.copy.new.to (ap length flags ∙ i.kept ∙ sym w.flags.ok.0) in
     let known = back-known w.loaded w.draft w.table w.old_known c.self.invariant.before c.roll_back.new.self c.roll_back-2.new.self c.roll_back.ensures c.roll_back-2.ensures in
     record {
+      held = c.self.invariant.held;
       sound = back-sound w.loaded w.draft w.table w.flags.items w.old_flags.items w.built w.old_built i c.roll_back.new.self c.roll_back-2.new.self _ c.roll_back.ensures c.roll_back-2.ensures (items ∙ flags);
       now = known.0;
       before = known.1;

@@ -82,10 +82,21 @@ returns-in_err-made-clause-done c =
     (subst (λ (t : Twin). Does {X = Unit {0}} (Err told) after (bound_set profile c.args.text.now (Some n) (state_of t.now))) c.self.view_is
     (limit-refused w.loaded w.draft.now w.table w.flags.items w.controls w.tally c.self.invariant.sound.many c.args.text.now n able.childless told c.in_err-made.ensures.done after)))
 
+pub invariant_of-self : goal.invariant_of-self
+invariant_of-self c =
+    let w = c.self.inside in
+    record {
+      held = c.self.invariant.held;
+      sound = subst (λ d. IsSound w.loaded d w.table w.flags.items w.old_flags.items w.built w.old_built) (sym c.in_err-made.ensures.err) c.self.invariant.sound;
+      now = tt;
+      before = subst (λ (d : Draft). Knows w.loaded d.kept (all_rolled_back w.table) w.old_known) (sym c.in_err-made.ensures.err) c.self.invariant.before;
+    }
+
 pub invariant_of-self-in_err-self-inside : goal.invariant_of-self-in_err-self-inside
 invariant_of-self-in_err-self-inside c =
     let w = c.self.inside in
     record {
+      held = c.self.invariant.held;
       sound = sound (goal.at.invariant_of-self-in_err-self-inside c).After-are_trees-2;
       now = tt;
       before = subst (λ f. Knows w.loaded f (all_rolled_back w.table) w.old_known) (sym (ap (λ (x : Draft). x.kept) c.in_ok-made.ensures.done.0)) c.self.invariant.before;
@@ -110,6 +121,7 @@ invariant_of-self-in_err-mark c =
     let flags : c.mark.new.flags ≡ w.flags.items = c.in_err-mark.ensures.flags ∙ c.as_mut_slice.ensures.value in
     let items = with_items_is w.flags c.mark.new.flags (ap length flags ∙ sym w.flags.ok.0) in
     record {
+      held = c.self.invariant.held;
       sound = subst (λ t. IsSound w.loaded c.set_text.new.draft t (with_items w.flags c.mark.new.flags).items w.old_flags.items w.built w.old_built) (sym c.in_err-mark.ensures.table)
           (subst (λ fs. IsSound w.loaded c.set_text.new.draft w.table fs w.old_flags.items w.built w.old_built) (sym (items ∙ flags)) (sound (goal.at.invariant_of-self-in_err-mark c).After-are_trees-2));
       now = tt;
@@ -132,6 +144,7 @@ invariant_of-self-2 c =
     let before : HasTrees w.draft.now = subst HasTrees c.forest-forest.ensures (in_forest c.are_trees.ensures) in
     let after : HasTrees c.set_text.new.draft.now = subst HasTrees c.forest.ensures (in_forest c.are_trees-2.ensures) in
     record {
+      held = c.self.invariant.held;
       sound = subst (λ t. IsSound w.loaded c.set_text.new.draft t (with_items w.flags c.mark.new.flags).items w.old_flags.items w.built w.old_built) (sym marks.marks)
           (subst (λ fs. IsSound w.loaded c.set_text.new.draft (marked holder other n w.table) fs w.old_flags.items w.built w.old_built) (sym (items ∙ flags))
           (sound-marked w.loaded c.set_text.new.draft w.table w.flags.items w.old_flags.items w.built w.old_built (sound (goal.at.invariant_of-self-2 c).After-are_trees-2) holder other n));

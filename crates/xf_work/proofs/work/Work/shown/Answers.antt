@@ -15,6 +15,9 @@ shown-requires-clause-hung c = subst (λ f. are_hung f.nodes ≡ true) (sym c.fo
 pub shown-requires-clause-shape : goal.shown-requires-clause-shape
 shown-requires-clause-shape c = subst (λ f. shape_of f.nodes ≡ planted_shape c.self.inside.loaded) (sym c.forest.ensures) c.self.invariant.sound.now.shape
 
+pub shown-requires-clause-known : goal.shown-requires-clause-known
+shown-requires-clause-known c = c.self.invariant.held
+
 pub returns : goal.returns
 returns c =
     let w = c.self.inside in
