@@ -1,0 +1,4 @@
+pub mod ModelLaws
+pub mod SmallLaws
+pub mod SpendLaws
+pub mod NoteLaws

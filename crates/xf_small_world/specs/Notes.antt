@@ -1,0 +1,13 @@
+-- A note that is added: the lines of all notes of one event have a limit.
+use Rattle.std.specs.Prelude.{◌≡◌, ◌^◌, true, false, List, [], ◌∷◌, ◌++◌, nat_lt, Result, Ok, Err}
+use Rattle.xf_form_machine.specs.declared.limit.LimitWord.TheVariants.{Notes}
+use Rattle.xf_form_machine.specs.declared.note.Note.{Note}
+use Rattle.xf_form_machine.specs.NoteLines.{notes_size}
+use Rattle.xf_small_world.specs.declared.fault.SmallFault.{SmallFault}
+use Rattle.xf_small_world.specs.declared.fault.SmallFault.TheVariants.{Limit, Binding, Budget, Depth, Memory}
+
+abbrev pub IsNoted : {X : Type 0} → Result X SmallFault → Note → List Note → List Note → Type 0
+IsNoted (Ok x) note before after = (after ≡ before ++ note ∷ []) × (nat_lt (2 ^ 20) (notes_size (before ++ note ∷ [])) ≡ false)
+IsNoted (Err (Limit word)) note before after = (word ≡ Notes) × (nat_lt (2 ^ 20) (notes_size (before ++ note ∷ [])) ≡ true)
+IsNoted (Err Memory) note before after = Unit {0}
+IsNoted (Err other) note before after = ⊥
