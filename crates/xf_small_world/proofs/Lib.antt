@@ -2,3 +2,8 @@ pub mod ModelLaws
 pub mod SmallLaws
 pub mod SpendLaws
 pub mod NoteLaws
+pub mod AroundLaws
+pub mod ReadLaws
+pub mod QuietLaws
+pub mod TextSetLaws
+pub mod ChangeLaws

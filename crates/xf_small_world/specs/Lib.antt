@@ -4,3 +4,9 @@ pub mod Models
 pub mod Notes
 pub mod Places
 pub mod State
+pub mod Around
+pub mod Over
+pub mod Inside
+pub mod Seen
+pub mod Growing
+pub mod Setting

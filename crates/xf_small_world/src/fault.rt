@@ -2,6 +2,7 @@
 
 use std::alloc::{AllocError, AllocFailed};
 use xf_actions::WorldFault;
+use xf_eval::EvalFault;
 use xf_form_machine::LimitWord;
 use xf_name::Word;
 
@@ -57,5 +58,19 @@ impl<T: Drop> From<AllocFailed<T>> for SmallFault {
 
     fn from(_: AllocFailed<T>) -> Self {
         SmallFault::Memory
+    }
+}
+
+impl From<EvalFault> for SmallFault {
+    ghost use Rattle.std.specs.Prelude.{◌≡◌};
+    ghost use Rattle.xf_small_world.specs.Fault.{fault_of};
+
+    ghost from_gives = { λ fault e. e ≡ fault_of fault };
+
+    fn from(fault: EvalFault) -> Self {
+        match fault {
+            EvalFault::Long => SmallFault::Limit(LimitWord::Long),
+            EvalFault::Memory => SmallFault::Memory,
+        }
     }
 }

@@ -2,14 +2,23 @@
 //! actions run on.
 #![tactic(auto, unfolding(xf_actions::specs::Performs::Refuses))]
 
+mod around;
+mod behaviours;
+mod binding;
+mod changing;
 mod counting;
 mod elements;
 mod fault;
 mod flagging;
+mod growing;
+mod inside;
 mod model;
 mod models;
 mod notes;
 mod noting;
+mod over;
+mod reading;
+mod setting;
 mod small;
 mod tally;
 mod world;

@@ -53,16 +53,16 @@ impl NoteList {
     pub(crate) fn add(&mut self, alloc: Global, note: Note) -> Result<(), SmallFault>
         ensures { IsNoted result note self.old self.new }
     {
+        let mut one = Items::new(alloc);
+        one.push(note)?;
         let mut lines = String::new(alloc);
-        let one = [note];
-        push_notes(alloc, &mut lines, &one)?;
-        let [note] = one;
+        push_notes(alloc, &mut lines, one.as_slice())?;
         let size = self.size;
         let more = lines.len();
         if more > NOTES - size {
             return Err(SmallFault::Limit(LimitWord::Notes));
         }
-        self.notes.push(note)?;
+        self.notes.append(one)?;
         self.size = size + more;
         Ok(())
     }

@@ -63,3 +63,13 @@ fn is_small_binding(binding: &Binding) -> bool
         _ => true,
     }
 }
+
+#[cfg(test)]
+mod tests {
+    use std::test::Fail;
+
+    #[test]
+    fn nothing(_rt: HostRuntime) -> Result<(), Fail> {
+        Ok(())
+    }
+}
