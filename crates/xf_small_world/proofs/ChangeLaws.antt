@@ -43,7 +43,7 @@ module _ {X : Type 0} (count : ℕ) (s : State) where
   grown-limit w (Some f) x h = ((w, among-first w (words_of f) (over_made profile (s.made + count)) h, refl), refl)
 
   pub grown-over : (x : X) → nat_lt (2 ^ 32) (s.made + count) ≡ true → RefusedAs (limit (word.Made ∷ [])) s.calls (grown profile count (Ok x) s)
-  grown-over x e = subst (λ b. RefusedAs (limit (word.Made ∷ [])) s.calls (unless_passed s (if_over b word.Made) (x, record s { made = s.made + count }))) (sym e) ((word.Made, inl refl, refl), refl)
+  grown-over x e = subst (λ b. RefusedAs {X = X × State} (limit (word.Made ∷ [])) s.calls (unless_passed s (if_over b word.Made) (x, record s { made = s.made + count }))) (sym e) ((word.Made, inl refl, refl), refl)
 
   pub grown-done : (x : X) → nat_lt (2 ^ 32) (s.made + count) ≡ false → grown profile count (Ok x) s ≡ Ok (x, record s { made = s.made + count })
   grown-done x e = ap (λ b. unless_passed s (if_over b word.Made) (x, record s { made = s.made + count })) e

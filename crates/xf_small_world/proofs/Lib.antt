@@ -7,3 +7,7 @@ pub mod ReadLaws
 pub mod QuietLaws
 pub mod TextSetLaws
 pub mod ChangeLaws
+pub mod RecalcLaws
+pub mod HandlerLaws
+pub mod InsideLaws
+pub mod NoteSizes

@@ -1,7 +1,8 @@
 -- What the behaviours of a machine are where no binds apply, and there are no controls and repeats.
 use Rattle.std.proofs.Common.{◌≡◌, ℕ, zero, suc, ◌+◌, Bool, true, false, cond, ◌&&◌, List, [], ◌∷◌, ◌++◌, map, length, get_or, nat_lt, Option, Some, None, option_map, Result, Ok, Err, refl, sym, ap, ◌∙◌, subst}
-use Rattle.std.specs.Prelude.{filter, not, sum_by, count_by, ◌^◌}
+use Rattle.std.specs.Prelude.{filter, fold, not, sum_by, count_by, ◌^◌}
 use Rattle.std.specs.List.{flat_map, list_any}
+use Rattle.xf_doc.specs.declared.content.Content.{Content}
 use Rattle.xf_doc.specs.declared.content.Node.{Node}
 use Rattle.xf_doc.specs.Forest.{Forest, is_element, is_root, is_text}
 use Rattle.xf_doc.specs.Limits.{all_size, node_count, size_of}
@@ -20,6 +21,7 @@ use Rattle.xf_ui.specs.Copies.{Copy, copies, copy_of}
 use Rattle.xf_ui.specs.Elements.{element_at, children, is_control, repeats_around}
 use Rattle.xf_ui.specs.Index.{brought_up, indexed_rows, index_of, pass, pass_over, after_pass, seeing}
 use Rattle.xf_ui.specs.Interface.{Interface, Sort, interface_of, repeated}
+use Rattle.xf_ui.specs.Notifications.{notifications}
 use Rattle.xf_ui.specs.Places.{Places, all_places, if_control, places, places_at, places_by, places_in}
 use Rattle.xf_loader.specs.declared.loaded.Loaded.{Loaded}
 use Rattle.xf_form_machine.specs.declared.note.Note.{Note}
@@ -28,6 +30,7 @@ use Rattle.xf_form_machine.specs.Behave.{by_applied, is_invalid, is_model, model
 use Rattle.xf_form_machine.specs.declared.limit.LimitWord.TheVariants.{Edges}
 use Rattle.xf_form_machine.specs.Choose.{named_copy}
 use Rattle.xf_form_machine.specs.Cycles.{reported_cycle}
+use Rattle.xf_form_machine.specs.Events.{told_by}
 use Rattle.xf_form_machine.specs.Flow.{◌>>=◌}
 use Rattle.xf_form_machine.specs.Primitives.{changed_at, in_model}
 use Rattle.xf_form_machine.specs.Properties.{marks_in, readonly_in, value_from, values_of}
@@ -42,7 +45,7 @@ use Rattle.xf_small_world.specs.declared.tally.Tally.{Tally}
 use Rattle.xf_small_world.specs.Models.{model_of, models_of}
 use Rattle.xf_small_world.specs.Small.{is_small}
 use Rattle.xf_small_world.specs.State.{profile, standing}
-use Rattle.xf_small_world.proofs.SmallLaws.{is_bare, bare-at, is-no_control, no-binds, no-repeats, no-repeats-around, none-pass}
+use Rattle.xf_small_world.proofs.SmallLaws.{is_bare, bare-at, is-no_control, no-binds, no-repeats, no-repeats-around}
 
 -- ---- models: nothing is set and nothing was computed
 
@@ -50,7 +53,7 @@ no-values : (ms : List ModelState) → flat_map values_of (models_of ms) ≡ []
 no-values [] = refl
 no-values (m ∷ ms) = no-values ms
 
-no-entries : (ms : List ModelState) (k : ℕ) → (get_or (models_of ms) k no_model).entries ≡ []
+pub no-entries : (ms : List ModelState) (k : ℕ) → (get_or (models_of ms) k no_model).entries ≡ []
 no-entries [] k = refl
 no-entries (m ∷ ms) zero = refl
 no-entries (m ∷ ms) (suc k) = no-entries ms k
@@ -98,11 +101,11 @@ none-given x = by (is_element x.content)
 
 same-filled : (xs : List Visit) → filled (visits_in no_texts) [] xs ≡ xs
 same-filled [] = refl
-same-filled (x ∷ xs) = by (is_borne x)
+same-filled (x ∷ xs) = by (same-filled xs) (is_borne x)
   where
-    by : (b : Bool) → cond b (x ∷ filled (visits_in no_texts) [] xs) (x ∷ filled (visits_in no_texts) (visits_in no_texts x) xs) ≡ x ∷ xs
-    by true = ap (λ l. x ∷ l) (same-filled xs)
-    by false = ap (λ w. x ∷ filled (visits_in no_texts) w xs) (none-given x) ∙ ap (λ l. x ∷ l) (same-filled xs)
+    by : filled (visits_in no_texts) [] xs ≡ xs → (b : Bool) → cond b (x ∷ filled (visits_in no_texts) [] xs) (x ∷ filled (visits_in no_texts) (visits_in no_texts x) xs) ≡ x ∷ xs
+    by later true = ap (λ l. x ∷ l) later
+    by later false = ap (λ w. x ∷ filled (visits_in no_texts) w xs) (none-given x) ∙ ap (λ l. x ∷ l) later
 
 same-map : (xs : List Visit) → map (with_value (content_of [])) xs ≡ xs
 same-map [] = refl
@@ -122,18 +125,17 @@ none-gone x = ap (λ b. not (is_text x.content && b)) (none-replaced x.above) �
 pub holding-none : (all : List Visit) → holding all [] ≡ all
 holding-none all = ap (retexted no_texts) (same-map all) ∙ ap (filled (visits_in no_texts) []) (all-pass (λ x. not (is_gone no_texts x)) all none-gone) ∙ same-filled all
 
-counted : (above nodes : List Node) → count_by (λ (x : Visit). not (is_root x.content)) (visits_from above nodes) ≡ node_count nodes
-counted above [] = refl
-counted above (x ∷ xs) = by (not (is_root x.content)) (counted (x ∷ still_above x.depth above) xs)
-  where
-    by : (b : Bool) → count_by (λ (y : Visit). not (is_root y.content)) (visits_from (x ∷ still_above x.depth above) xs) ≡ node_count xs
-        → cond b (suc (count_by (λ (y : Visit). not (is_root y.content)) (visits_from (x ∷ still_above x.depth above) xs))) (count_by (λ (y : Visit). not (is_root y.content)) (visits_from (x ∷ still_above x.depth above) xs)) ≡ cond b (suc (node_count xs)) (node_count xs)
-    by true h = ap suc h
-    by false h = h
+-- a measure of contents is the same of visits as of nodes
+visited : (measure : Content → ℕ) (above : List Node) (sum : ℕ) (xs : List Node)
+    → fold (λ (a : ℕ) (x : Visit). a + measure x.content) sum (visits_from above xs) ≡ fold (λ (a : ℕ) (x : Node). a + measure x.content) sum xs
+visited measure above sum [] = refl
+visited measure above sum (x ∷ xs) = visited measure (x ∷ still_above x.depth above) (sum + measure x.content) xs
 
-sized : (above nodes : List Node) → sum_by (λ (x : Visit). size_of x.content) (visits_from above nodes) ≡ all_size nodes
-sized above [] = refl
-sized above (x ∷ xs) = ap (λ n. size_of x.content + n) (sized (x ∷ still_above x.depth above) xs)
+pub counted : (nodes : List Node) → count_by (λ (x : Visit). not (is_root x.content)) (visits nodes) ≡ node_count nodes
+counted nodes = visited (λ c. cond (not (is_root c)) 1 0) [] 0 nodes
+
+pub sized : (nodes : List Node) → sum_by (λ (x : Visit). size_of x.content) (visits nodes) ≡ all_size nodes
+sized nodes = visited size_of [] 0 nodes
 
 -- ---- controls: there are none
 
@@ -187,8 +189,8 @@ module _ (l : Loaded) (small : is_small l.form ≡ true) where
 
     pub none-refreshed : (cleared : State → State) → refreshed profile cleared here ≡ Ok ([], cleared here)
     none-refreshed cleared =
-        ap (λ r. r >>= λ t. shown profile t >>= λ list. Ok ([], cleared (record t { controls = list }))) (none-indexed [])
-        ∙ ap (λ r. r >>= λ list. Ok ([], cleared (record here { controls = list }))) none-shown
+        ap (λ r. r >>= λ t. shown profile t >>= λ list. Ok (map told_by (notifications t.controls list), cleared (record t { controls = list }))) (none-indexed [])
+        ∙ ap (λ r. r >>= λ list. Ok (map told_by (notifications [] list), cleared (record here { controls = list }))) none-shown
 
     pub unrowed : (n : ℕ) → named_copy here n ≡ Some []
     unrowed n = ap (λ rs. each (λ r. (index_of f [] r).node) rs) (no-repeats-around l.form small n)

@@ -1,5 +1,5 @@
 -- What is read over a small world is what the machine reads in its state.
-use Rattle.std.proofs.Common.{◌≡◌, ℕ, ℤ, List, [], ◌∷◌, Option, Some, None, option_map, Result, Ok, Err, refl, sym, ap, ◌∙◌, subst, ◌⊎◌, inl, inr}
+use Rattle.std.proofs.Common.{◌≡◌, ℕ, ℤ, true, List, [], ◌∷◌, Option, Some, None, option_map, Result, Ok, Err, refl, sym, ap, ◌∙◌, subst, ◌⊎◌, inl, inr}
 use Rattle.xf_lang.specs.declared.fault.EvalFault.{EvalFault}
 use Rattle.xf_lang.specs.declared.fault.EvalFault.TheVariants as eval
 use Rattle.xf_lang.specs.declared.value.Value.{Value}
@@ -48,7 +48,7 @@ module _ (w : SmallWorld) (event : Option Told) (a : Around) (same : a ≡ aroun
 
 -- ---- whole numbers
 
-whole-by : (s : State) (a : Around) (model : ℕ) (c : Focus) (o : Option Value)
+pub whole-by : (s : State) (a : Around) (model : ℕ) (c : Focus) (o : Option Value)
     → (or_long s o >>= λ v. or_long s (number_of (setting a model c.node) v) >>= λ k. Ok (whole_of 6 k)) ≡ or_long s (whole_worth a model c (λ t x. o))
 whole-by s a model c None = refl
 whole-by s a model c (Some v) = by (number_of (setting a model c.node) v)

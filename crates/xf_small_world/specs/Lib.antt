@@ -10,3 +10,5 @@ pub mod Inside
 pub mod Seen
 pub mod Growing
 pub mod Setting
+pub mod Handlers
+pub mod Telling

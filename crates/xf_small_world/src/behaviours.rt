@@ -52,11 +52,17 @@ pub(crate) fn refresh(world: &mut SmallWorld, model: Option<u32>) -> Result<Fire
     ensures done { Makes means (map fired_of) (state_of world.new) result (refreshed profile (cleared_by model) (state_of world.old)) }
     ensures form { (state_of world.new).form ≡ (state_of world.old).form }
 {
+    let alloc = world.alloc;
     match model {
-        Some(model) => world.models.change(model, Change::Refreshed),
-        None => world.models.all_refreshed(),
+        Some(model) => {
+            world.models.change(model, Change::Refreshed);
+            Ok(Items::new(alloc))
+        }
+        None => {
+            world.models.all_refreshed();
+            Ok(Items::new(alloc))
+        }
     }
-    Ok(Items::new(world.alloc))
 }
 
 /// Brings the indexes up to date: there are none.

@@ -31,6 +31,9 @@ pub(crate) fn set_text(world: &mut SmallWorld, node: NodeId, text: &str) -> Resu
         // It was asked before whether it may be set.
         return Err(SmallFault::Memory);
     }
+    if !forest.is_live(node) {
+        return Err(SmallFault::Memory);
+    }
     let instances = world.loaded.form.tables.instances.as_slice();
     let holder = holder(instances, forest, node)?;
     let is_other = is_other(forest, node, text)?;

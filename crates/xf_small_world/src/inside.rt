@@ -3,7 +3,7 @@
 ghost use Rattle.std.specs.Prelude.{◌≡◌, [], Some, option_map, reverse};
 ghost use Rattle.xf_plain_values.specs.Bounded.{GivesBounded};
 ghost use Rattle.xf_ui.specs.Context as context;
-ghost use Rattle.xf_ui.specs.Elements.{above, element_at, elements_on};
+ghost use Rattle.xf_ui.specs.Elements.{above, element_at, elements_on, is_repeat_sort};
 ghost use Rattle.xf_ui.specs.Interface.{element_of, interface_of, sort_of};
 ghost use Rattle.xf_elements.specs.Bound.{seen_bound};
 ghost use Rattle.xf_actions.specs.Seen.{focus_of};
@@ -13,7 +13,7 @@ ghost use Rattle.xf_small_world.specs.Over.{around_over, number};
 use crate::around::{document_of, documents};
 use crate::over::{Over, alone, first_bound};
 use xf_actions::Focus;
-use xf_ast::{Element, Kind};
+use xf_ast::{Control, Element, Kind};
 use xf_doc::NodeId;
 use xf_elements::{Bound, binding_of, element_in, parent_of, scope_of};
 use xf_eval::EvalFault;
@@ -118,10 +118,23 @@ fn enter_element(over: &Over<'_>, outer: &Inside, here: &Element) -> Result<Insi
     let form = &over.loaded.form;
     let binding = binding_of(&form.tables, here);
     let model = scope_of(form, outer.model, binding, here.model);
-    match &here.kind {
-        // No element of a form that a small world takes is a control.
-        Kind::Control(_, _) => Err(EvalFault::Memory),
-        _ => enter_bound(over, model, outer.place, place_for(&here.kind, outer.place), binding),
+    if is_repeat(&here.kind) {
+        // No element of a form that a small world takes is one.
+        return Err(EvalFault::Memory);
+    }
+    let from = place_for(&here.kind, outer.place);
+    enter_bound(over, model, outer.place, from, binding)
+}
+
+fn is_repeat(kind: &Kind) -> bool
+    ensures { result ≡ is_repeat_sort (sort_of kind.now) }
+{
+    match kind {
+        Kind::Control(_, control) => match control {
+            Control::Repeat(_, _) => true,
+            _ => false,
+        },
+        _ => false,
     }
 }
 

@@ -1,10 +1,10 @@
 //! The notes of an event.
 
-ghost use Rattle.std.specs.Prelude.{◌≡◌, ◌++◌, ◌∷◌, [], nat_lt};
-ghost use Rattle.xf_small_world.specs.Notes.{IsNoted};
+ghost use Rattle.std.specs.Prelude.{◌≡◌, [], IfOk};
+ghost use Rattle.xf_small_world.specs.Notes.{IsMeasured, IsNoted};
 
 use crate::fault::SmallFault;
-use std::alloc::Global;
+use std::alloc::{AllocError, Global};
 use std::marker::Model;
 use xf_base::Items;
 use xf_form_machine::{LimitWord, Note, Notes};
@@ -53,17 +53,27 @@ impl NoteList {
     pub(crate) fn add(&mut self, alloc: Global, note: Note) -> Result<(), SmallFault>
         ensures { IsNoted result note self.old self.new }
     {
-        let mut one = Items::new(alloc);
-        one.push(note)?;
-        let mut lines = String::new(alloc);
-        push_notes(alloc, &mut lines, one.as_slice())?;
+        let (note, more) = measured(alloc, note)?;
         let size = self.size;
-        let more = lines.len();
         if more > NOTES - size {
             return Err(SmallFault::Limit(LimitWord::Notes));
         }
-        self.notes.append(one)?;
+        self.notes.push(note)?;
         self.size = size + more;
         Ok(())
+    }
+}
+
+/// A note, with the bytes of its line.
+fn measured(alloc: Global, note: Note) -> Result<(Note, usize), AllocError>
+    ensures { IfOk result (λ p. IsMeasured p.0 p.1 note) }
+{
+    let mut one = Items::new(alloc);
+    one.push(note)?;
+    let mut lines = String::new(alloc);
+    push_notes(alloc, &mut lines, one.as_slice())?;
+    match one.pop() {
+        Some(note) => Ok((note, lines.len())),
+        None => Err(AllocError),
     }
 }

@@ -144,15 +144,21 @@ pub(crate) fn whole(
     ensures { GivesBounded EvalFault.Memory EvalFault.Long (λ k. k) result (whole_worth (around_over over.now) model (focus_of focus.now) (meaning expr.now)) }
 {
     let value = value(over, model, focus, expr)?;
-    Ok(whole_of(number_of(over.alloc, over.forest, &value)?))
+    let number = number_of(over.alloc, over.forest, &value)?;
+    whole_of(number)
 }
 
-fn whole_of(number: Num) -> Option<i64>
-    ensures { result ≡ whole_of 6 number }
+#[tactic(auto, unfolding(xf_num::specs::Number::scale))]
+fn whole_of(number: Num) -> Result<Option<i64>, EvalFault>
+    ensures { GivesBounded EvalFault.Memory EvalFault.Long (λ k. k) result (Some (whole_of 6 number)) }
 {
     match number.round().units() {
-        Some(units) => Some(units.div_euclid(1_000_000) as i64),
-        None => None,
+        Some(units) => match i64::try_from(units.div_euclid(1_000_000)) {
+            Ok(whole) => Ok(Some(whole)),
+            // A number has fewer than 10^18 millionths.
+            Err(_) => Err(EvalFault::Memory),
+        },
+        None => Ok(None),
     }
 }
 
