@@ -1,12 +1,11 @@
 -- What an element gives to what stands in it, in a form without repeats.
 use Rattle.std.proofs.Common.{◌≡◌, ℕ, suc, Bool, true, false, List, [], ◌∷◌, ◌++◌, map, Option, Some, None, option_map, reverse, refl, sym, ap, ◌∙◌}
-use Rattle.std.proofs.lemmas.List.{map-append}
+use Rattle.std.proofs.lemmas.List.{map-append, reverse-append}
 use Rattle.xf_lang.specs.Setting.{Meaning, ◌>>=◌}
 use Rattle.xf_ui.specs.Around.{Around}
 use Rattle.xf_ui.specs.Context.{Inside, Place, enter, enter_bound, enter_by, entered}
 use Rattle.xf_ui.specs.Elements.{above, element_at, elements_on, is_repeat_sort}
 use Rattle.xf_ui.specs.Interface.{Bound, unbound, nodes, by_bind, Element, Interface, Sort, host, other, group, switch, one_case, repeated, field, output, select, item, itemset, choices, label, item_value, inline, action}
-use Rattle.xf_elements.proofs.AroundLemmas.{reverse-above}
 use Rattle.xf_small_world.specs.Inside.{entered_bound, first_inside, place_for}
 
 module _ (a : Around) (m model : ℕ) (place : Place) where
@@ -40,6 +39,9 @@ module _ (a : Around) (m model : ℕ) (place : Place) where
   enter-sort b (item_value e) h = bound-same b
   enter-sort b (inline e) h = bound-same b
   enter-sort b (action e) h = bound-same b
+
+reverse-above : (f : Interface) (most k n : ℕ) → most ≡ suc k → reverse (above most f (Some n)) ≡ reverse (above k f (element_at f n).parent) ++ n ∷ []
+reverse-above f most k n h = ap (λ d. reverse (above d f (Some n))) h ∙ reverse-append (n ∷ []) (above k f (element_at f n).parent)
 
 bind-some : {A : Type 0} (o : Option A) → (o >>= λ x. Some x) ≡ o
 bind-some None = refl

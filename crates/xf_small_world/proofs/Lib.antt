@@ -11,3 +11,5 @@ pub mod RecalcLaws
 pub mod HandlerLaws
 pub mod InsideLaws
 pub mod NoteSizes
+pub mod AskLaws
+pub mod BeginLaws

@@ -12,3 +12,4 @@ pub mod Growing
 pub mod Setting
 pub mod Handlers
 pub mod Telling
+pub mod Beginning

@@ -3,8 +3,11 @@
 #![tactic(auto, unfolding(xf_actions::specs::Performs::Refuses))]
 
 mod around;
+mod asking;
+mod beginning;
 mod behaviours;
 mod binding;
+mod changed;
 mod changing;
 mod counting;
 mod elements;
@@ -22,11 +25,13 @@ mod reading;
 mod recalculating;
 mod setting;
 mod small;
+mod speaking;
 mod submitting;
 mod tally;
 mod telling;
 mod world;
 
+pub use beginning::begun;
 pub use fault::SmallFault;
 pub use model::{Change, Flags, Mark, ModelState};
 pub use models::ModelList;
