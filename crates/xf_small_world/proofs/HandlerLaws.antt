@@ -1,8 +1,8 @@
 -- Handlers that are found one after the other.
-use Rattle.std.proofs.Common.{◌≡◌, ℕ, suc, Bool, true, false, cond, List, [], ◌∷◌, ◌++◌, map, refl, sym, ap, ◌∙◌, append_assoc}
+use Rattle.std.proofs.Common.{◌≡◌, ℕ, suc, ◌<◌, ◌-◌, Bool, true, false, cond, List, [], ◌∷◌, ◌++◌, map, length, take, drop, get_or, refl, sym, ap, ◌∙◌, subst, append_assoc, length-drop, arith}
 use Rattle.std.specs.Prelude.{◌||◌, filter, reverse, if◌then◌else◌}
 use Rattle.std.specs.List.{flat_map, list_any}
-use Rattle.std.proofs.lemmas.List.{append-nil, map-append, reverse-append}
+use Rattle.std.proofs.lemmas.List.{append-nil, map-append, reverse-append, take_all}
 use Rattle.std.proofs.lemmas.List.Elements.{filter-append}
 use Rattle.xf_ast.specs.declared.action.Handler.{Handler}
 use Rattle.xf_ast.specs.declared.action.Phase.{Phase}
@@ -97,3 +97,57 @@ way-is f e way h = ap (stages_at f e) h ∙ by e.bubbles
 
 pub down-more : (n : ℕ) (ns : List ℕ) → stops_at Capture (reverse (n ∷ ns)) ≡ stops_at Capture (reverse ns) ++ record { phase = Capture; observer = n } ∷ []
 down-more n ns = ap (stops_at Capture) (reverse-append (n ∷ []) ns) ∙ map-append (λ m. record { phase = Capture; observer = m }) (reverse ns) (n ∷ [])
+
+-- ---- the first of a list
+
+pub list-first : {X : Type 0} (xs : List X) (x : X) → 0 < length xs → x ≡ get_or xs 0 x → xs ≡ x ∷ drop 1 xs
+list-first [] x h e = absurd (omega (arith, h))
+list-first (y ∷ ys) x h e = ap (λ z. z ∷ ys) (sym e)
+
+pub rest-is : {X : Type 0} (xs : List X) → take (length xs - 1) (drop 1 xs) ≡ drop 1 xs
+rest-is xs = take_all (length xs - 1) (drop 1 xs) (omega (arith, length-drop 1 xs))
+
+pub adds-first : (old mid new : Stage) (e : Event) (phase : Phase) (observer n k : ℕ) (tables : Tables) (xs sub : List Element) (x : Element)
+    → 0 < length xs → x ≡ get_or xs 0 x → k ≡ suc n → sub ≡ drop 1 xs → Adds old mid (heard_in e phase observer n (sort_of x.kind)) → Adds mid new (heard_from e phase observer k tables sub)
+    → Adds old new (heard_from e phase observer n tables xs)
+adds-first old mid new e phase observer n k tables xs sub x h i q s one other =
+    subst (λ l. Adds old new (heard_from e phase observer n tables l)) (sym (list-first xs x h i))
+    (subst (Adds old new) (sym (heard-more e phase observer n tables x (drop 1 xs)))
+    (adds-then old mid new (heard_in e phase observer n (sort_of x.kind)) (heard_from e phase observer (suc n) tables (drop 1 xs)) one
+    (subst (λ j. Adds mid new (heard_from e phase observer j tables (drop 1 xs))) q (subst (λ l. Adds mid new (heard_from e phase observer k tables l)) s other))))
+
+-- ---- what is reached
+
+module _ (f : Interface) (e : Event) (old own new : Stage) (way : List Stop) (stop : Stop) (some : 0 < length way) (here : stop ≡ get_or way 0 stop)
+    (adds : Adds none_yet own (heard_at f e stop.phase stop.observer)) where
+  abbrev hs : List (ℕ × Handler)
+  hs = heard_at f e stop.phase stop.observer
+
+  abbrev more : List (ℕ × Handler)
+  more = reached (stages_at f e (drop 1 way))
+
+  reached-is : (b : Bool) → own.stops ≡ b → reached (stages_at f e way) ≡ hs ++ (if b then [] else more)
+  reached-is b h =
+      ap (λ l. reached (stages_at f e l)) (list-first way stop some here)
+      ∙ ap (λ c. hs ++ (if c then [] else more)) (sym adds.stops ∙ h)
+
+  pub reaches-stop : new.handlers ≡ old.handlers ++ own.handlers → new.cancels ≡ (old.cancels || own.cancels) → own.stops ≡ true → Reaches old new (reached (stages_at f e way))
+  reaches-stop g k h =
+      subst (Reaches old new) (sym (reached-is true h ∙ append-nil hs)) (record {
+        handlers = g ∙ ap (λ l. old.handlers ++ l) adds.handlers;
+        cancels = k ∙ ap (λ c. old.cancels || c) adds.cancels;
+      })
+
+  pub reaches-on : (mid : Stage) (rest : List Stop) → rest ≡ drop 1 way → mid.handlers ≡ old.handlers ++ own.handlers → mid.cancels ≡ (old.cancels || own.cancels) → own.stops ≡ false
+      → Reaches mid new (reached (stages_at f e rest)) → Reaches old new (reached (stages_at f e way))
+  reaches-on mid rest s g k h r =
+      let later : Reaches mid new more = subst (λ l. Reaches mid new (reached (stages_at f e l))) s r in
+      subst (Reaches old new) (sym (reached-is false h)) (record {
+        handlers =
+            later.handlers ∙ ap (λ l. l ++ map (λ (x : ℕ × Handler). x.0) more) (g ∙ ap (λ l. old.handlers ++ l) adds.handlers)
+            ∙ append_assoc old.handlers (map (λ (x : ℕ × Handler). x.0) hs) (map (λ (x : ℕ × Handler). x.0) more)
+            ∙ ap (λ l. old.handlers ++ l) (sym (map-append (λ (x : ℕ × Handler). x.0) hs more));
+        cancels =
+            later.cancels ∙ ap (λ c. c || cancels more) (k ∙ ap (λ c. old.cancels || c) adds.cancels)
+            ∙ or-more old.cancels (cancels hs) (cancels more) ∙ ap (λ c. old.cancels || c) (sym (any-append (λ x. x.1.cancels) hs more));
+      })

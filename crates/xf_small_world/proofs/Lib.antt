@@ -13,3 +13,4 @@ pub mod InsideLaws
 pub mod NoteSizes
 pub mod AskLaws
 pub mod BeginLaws
+pub mod ToldLaws

@@ -1,6 +1,6 @@
 //! What an insert and a delete tell an instance (XForms 1.1, sections 4.4.5 and 4.4.6).
 
-ghost use Rattle.std.specs.Prelude.{◌≡◌, ◌++◌, ◌∷◌, [], Ok, Some, IfOk, OnOk, codes, map};
+ghost use Rattle.std.specs.Prelude.{◌≡◌, ◌++◌, ◌∷◌, [], Ok, Some, IfOk, OnOk, codes, get_or, map};
 ghost use Rattle.xf_doc.specs.Visit.{visits};
 ghost use Rattle.xf_plain_values.specs.Conversions.{whole};
 ghost use Rattle.xf_model.specs.Places.{held};
@@ -19,6 +19,7 @@ use crate::telling::made;
 use crate::world::SmallWorld;
 use std::alloc::{AllocError, Global};
 use xf_actions::{Fired, Inserting, Place, Property, PropertyList};
+use xf_ast::ElementList;
 use xf_base::Items;
 use xf_doc::NodeList;
 use xf_eval::append;
@@ -113,14 +114,20 @@ fn to_instance(
 ) -> Result<Fired, SmallFault>
     ensures { Reads means fired_of (state_of world.now) result (Ok (instance_event name.now (told_of told) instance (state_of world.now))) }
 {
-    let target = match world.loaded.form.instances.as_slice().get(instance) {
-        Some(element) => *element,
-        None => 0,
-    };
+    let target = element_of(&world.loaded.form.instances, instance);
     let rows = NodeList::new(world.alloc);
     match made(world.alloc, name, true, true, target, &rows, told) {
         Ok(event) => Ok(event),
         Err(_) => Err(SmallFault::Memory),
+    }
+}
+
+fn element_of(elements: &ElementList, at: usize) -> u32
+    ensures { result ≡ get_or elements.now at 0 }
+{
+    match elements.as_slice().get(at) {
+        Some(element) => *element,
+        None => 0,
     }
 }
 

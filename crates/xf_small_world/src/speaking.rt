@@ -40,11 +40,13 @@ pub(crate) fn loaded(
             Ok(text) => Ok(text),
             Err(_) => Err(SmallFault::Memory),
         },
-        _ => {
+        Bound::Nodes(_) => {
             let over = over_event(world, fired);
             let text = bound_text(&over, acting.model, binding, &acting.focus)?;
             Ok(text)
         }
+        // No element of a form that a small world takes binds by a bind.
+        Bound::ByBind(_) => Err(SmallFault::Memory),
     }
 }
 

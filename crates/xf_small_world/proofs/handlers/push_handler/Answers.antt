@@ -14,6 +14,6 @@ returns c =
     let s = c.args.all.now in
     let h = c.args.handler.now in
     let n = c.args.number in
-    let t : Stage = record { handlers = c.push.new.self; stops = c.either.result; cancels = c.either-2.result } in
+    let t : Stage = record { handlers = c.push.new.self; stops = c.either-all.result; cancels = c.either-all-2.result } in
     subst (λ b. Adds s t (one_where b (n, h))) (sym (sym c.hears.ensures ∙ c.if-not-hears.false))
-    (adds-one s t n h c.in_ok-push.ensures.ok c.either.ensures c.either-2.ensures)
+    (adds-one s t n h c.in_ok-push.ensures.ok c.either-all.ensures c.either-all-2.ensures)
