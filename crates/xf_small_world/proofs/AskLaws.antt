@@ -1,7 +1,9 @@
 -- What an insert and a delete ask for, by the nodes of a set.
-use Rattle.std.proofs.Common.{◌≡◌, ℕ, ℤ, zero, suc, List, [], ◌∷◌, length, Option, Some, None, Result, Ok, refl, ap, ◌∙◌}
+use Rattle.std.proofs.Common.{◌≡◌, ◌-◌, ℕ, ℤ, zero, suc, List, [], ◌∷◌, length, Option, Some, None, Result, Ok, refl, ap, ◌∙◌}
 use Rattle.std.specs.Prelude.{slice_get}
+use Rattle.xf_lang.specs.Binding.{as_list}
 use Rattle.xf_lang.specs.Setting.{Focus, Meaning}
+use Rattle.xf_model.specs.Places.{held}
 use Rattle.xf_form_machine.specs.Acting.{Acting, whole_for}
 use Rattle.xf_form_machine.specs.Delete as del
 use Rattle.xf_form_machine.specs.Flow.{◌>>=◌}
@@ -39,3 +41,14 @@ module _ (p : Profile) (x : Acting) (m : Meaning) (s : State) where
   first-deletion (k ∷ ns) n e =
       let same : k ≡ n = cc e in
       ap (λ j. whole_for p x s (record { node = j; position = 1; size = length (k ∷ ns) }) m >>= λ at. Ok (del.or_last (length (k ∷ ns)) at)) same
+
+-- ---- what is told as the place of an insert
+
+module _ (at : Option ℤ) (c : Focus) where
+  pub location-empty : (ns : List ℕ) → length ns ≡ 0 → ins.location_of at c ns ≡ c.node ∷ []
+  location-empty [] h = refl
+  location-empty (n ∷ ns) h = cc h
+
+  pub location-named : (ns : List ℕ) (k : ℕ) → length ns ≡ suc k → ins.location_of at c ns ≡ as_list (slice_get ns (held (length ns) at - 1))
+  location-named [] k h = cc h
+  location-named (n ∷ ns) k h = refl

@@ -14,3 +14,4 @@ pub mod NoteSizes
 pub mod AskLaws
 pub mod BeginLaws
 pub mod ToldLaws
+pub mod IndexLaws

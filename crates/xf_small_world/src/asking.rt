@@ -1,7 +1,9 @@
 //! What an insert and a delete ask for (XForms 1.1, sections 10.3 and 10.4).
 
-ghost use Rattle.std.specs.Prelude.{[], Ok, Some, option_map};
+ghost use Rattle.std.specs.Prelude.{◌≡◌, ◌-◌, [], ◌∷◌, Ok, Some, option_map, slice_get};
+ghost use Rattle.xf_lang.specs.Binding.{as_list};
 ghost use Rattle.xf_lang.specs.Meaning.{meaning};
+ghost use Rattle.xf_model.specs.Places.{held};
 ghost use Rattle.xf_form_machine.specs.Delete as del;
 ghost use Rattle.xf_form_machine.specs.Insert as ins;
 ghost use Rattle.xf_actions.specs.Performs.{Reads};
@@ -10,13 +12,14 @@ ghost use Rattle.xf_small_world.specs.Fault.{means};
 ghost use Rattle.xf_small_world.specs.State.{profile, state_of};
 
 use crate::binding::over_event;
+use crate::changed::held;
 use crate::fault::SmallFault;
 use crate::over::value;
 use crate::reading::whole;
 use crate::world::SmallWorld;
 use xf_actions::{Acting, Fired, Focus};
 use xf_ast::Expr;
-use xf_doc::NodeList;
+use xf_doc::{NodeId, NodeList};
 use xf_eval::{nodes_in, single};
 
 /// The nodes to copy: those of `origin`, else the last one of the set.
@@ -145,5 +148,54 @@ fn delete_at(
     match at {
         Some(at) => Ok(Some(at)),
         None => Ok(Some(size as i64)),
+    }
+}
+
+/// What is told as the place of an insert.
+pub(crate) fn insert_location(
+    world: &SmallWorld,
+    focus: &Focus,
+    set: &NodeList,
+    at: Option<i64>,
+) -> Result<NodeList, SmallFault>
+    ensures { Reads means (λ ns. ns) (state_of world.now) result (Ok (ins.location_of at (focus_of focus.now) set.now)) }
+{
+    let count = set.len();
+    if count == 0 {
+        return one(world, focus.node);
+    }
+    listed(world, set, before(held_at(count, at)))
+}
+
+fn listed(world: &SmallWorld, set: &NodeList, place: usize) -> Result<NodeList, SmallFault>
+    ensures { Reads means (λ ns. ns) (state_of world.now) result (Ok (as_list (slice_get set.now place))) }
+{
+    match set.get(place) {
+        Some(node) => one(world, node),
+        None => Ok(NodeList::new(world.alloc)),
+    }
+}
+
+fn before(place: usize) -> usize
+    ensures { result ≡ place - 1 }
+{
+    place.saturating_sub(1)
+}
+
+fn one(world: &SmallWorld, node: NodeId) -> Result<NodeList, SmallFault>
+    ensures { Reads means (λ ns. ns) (state_of world.now) result (Ok (node.number ∷ [])) }
+{
+    match single(world.alloc, node) {
+        Ok(nodes) => Ok(nodes),
+        Err(_) => Err(SmallFault::Memory),
+    }
+}
+
+fn held_at(size: usize, at: Option<i64>) -> usize
+    ensures { result ≡ held size at }
+{
+    match at {
+        Some(at) => held(size, at),
+        None => size,
     }
 }

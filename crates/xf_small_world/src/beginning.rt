@@ -1,6 +1,6 @@
 //! How a small world begins.
 
-ghost use Rattle.std.specs.Prelude.{IfOk};
+ghost use Rattle.std.specs.Prelude.{◌≡◌, IfOk};
 ghost use Rattle.xf_small_world.specs.Beginning.{IsBegun};
 
 use crate::models::ModelList;
@@ -27,10 +27,7 @@ pub fn begun(
     if !is_small(&loaded.form) {
         return Ok(None);
     }
-    let Ok(count) = u32::try_from(loaded.form.models.len()) else {
-        // No memory holds so many.
-        return Err(AllocError);
-    };
+    let count = number_of(loaded.form.models.len())?;
     let models = ModelList::new(alloc, count)?;
     let tally = Tally {
         accepted: 0,
@@ -46,4 +43,14 @@ pub fn begun(
         notes: NoteList::new(alloc),
         tally,
     }))
+}
+
+/// A count as a number: no memory holds more.
+fn number_of(count: usize) -> Result<u32, AllocError>
+    ensures { IfOk result (λ number. number ≡ count) }
+{
+    match u32::try_from(count) {
+        Ok(number) => Ok(number),
+        Err(_) => Err(AllocError),
+    }
 }

@@ -15,6 +15,7 @@ mod fault;
 mod flagging;
 mod growing;
 mod handlers;
+mod indexing;
 mod inside;
 mod model;
 mod models;
