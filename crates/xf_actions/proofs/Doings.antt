@@ -21,7 +21,8 @@ use Rattle.xf_actions.specs.declared.work.Doing.TheVariants.{Sets, Speaks}
 use Rattle.xf_actions.specs.Performs.{Refuses, RefusedAs}
 use Rattle.xf_actions.specs.Parts.{value_of_work}
 use Rattle.xf_actions.specs.Texts.{bound_for, message_text, settable}
-use Rattle.xf_actions.specs.Changed.{untold, changed, doing_of}
+use Rattle.xf_actions.specs.Told.{untold}
+use Rattle.xf_actions.specs.Changed.{changed, doing_of}
 use Rattle.xf_actions.proofs.Flow.{fine, bind-assoc, refuses-then, refuses-any, same-refuses}
 
 -- which work it is that sets, or speaks

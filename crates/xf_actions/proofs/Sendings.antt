@@ -31,8 +31,7 @@ use Rattle.xf_form_machine.specs.Events.{Fired, Tell}
 use Rattle.xf_form_machine.specs.Submit as submit
 use Rattle.xf_form_machine.specs.Exchange as exchange
 use Rattle.xf_form_machine.specs.Default as default
-use Rattle.xf_actions.specs.Told.{Telling, told}
-use Rattle.xf_actions.specs.Changed.{untold}
+use Rattle.xf_actions.specs.Told.{Telling, told, untold}
 use Rattle.xf_actions.specs.Sent.{End, done, failed, Sent, end_event, then_done, behaved, put_tree, put_text, on_target, with_tree, with_text, responded, answered, exchanged, selected, attempted, sent, told_sent}
 use Rattle.xf_actions.specs.Defaulted.{Defaulted, nothing, telling, with_end, concluded, refreshed_now, of_model, of_role, submitted, defaulted}
 use Rattle.xf_actions.proofs.Flow.{bind-assoc, then-same, then-ok}

@@ -7,8 +7,7 @@ use Rattle.xf_form_machine.specs.Flow.{Run, ◌>>=◌, when, where_some, in_turn
 use Rattle.xf_form_machine.specs.Primitives.{spend}
 use Rattle.xf_form_machine.specs.Update.{reindex, shown, refresh, round, is_refresh_due, all_cleared}
 use Rattle.xf_form_machine.specs.Events.{Fired, Tell}
-use Rattle.xf_actions.specs.Told.{Telling, told, refreshed, refreshed_if, all_behaved, round_begun}
-use Rattle.xf_actions.specs.Changed.{untold, where_told, tells}
+use Rattle.xf_actions.specs.Told.{Telling, told, refreshed, refreshed_if, all_behaved, round_begun, untold, where_told, tells}
 use Rattle.xf_actions.proofs.Flow.{bind-assoc, then-same, then-ok}
 
 -- ---- lists of events

@@ -22,8 +22,8 @@ use Rattle.xf_form_machine.specs.Delete as del
 use Rattle.xf_form_machine.specs.Delete.{delete_told}
 use Rattle.xf_actions.specs.Performs.{Refuses}
 use Rattle.xf_actions.specs.Inserting.{Inserting, planned}
-use Rattle.xf_actions.specs.Told.{Telling, quietly}
-use Rattle.xf_actions.specs.Changed.{where_told, tells, instance_event, tells_instance, cut, deleted_from, deleted, delete_at, delete, inserted_in, inserted, inserted_by, insert_at, insert}
+use Rattle.xf_actions.specs.Told.{Telling, quietly, where_told, tells}
+use Rattle.xf_actions.specs.TreeChanges.{instance_event, tells_instance, cut, deleted_from, deleted, delete_at, delete, inserted_in, inserted, inserted_by, insert_at, insert}
 use Rattle.xf_actions.proofs.Flow.{fine, bind-assoc, then-same, in_turn-next, refuses-then, same-refuses, told-step, told-stop}
 
 -- ---- a delete

@@ -20,7 +20,8 @@ use Rattle.xf_actions.specs.declared.work.Doing.TheVariants.{Loads, Indexes, Foc
 use Rattle.xf_actions.specs.Performs.{Refuses}
 use Rattle.xf_actions.specs.Parts.{index_of_work, resource_of_work}
 use Rattle.xf_actions.specs.Chosen.{index_asked, index_chosen}
-use Rattle.xf_actions.specs.Changed.{untold, where_told, tells, dispatched, on_model, only_tells, changed, doing_of}
+use Rattle.xf_actions.specs.Told.{untold, where_told, tells}
+use Rattle.xf_actions.specs.Changed.{dispatched, on_model, only_tells, changed, doing_of}
 use Rattle.xf_actions.proofs.Flow.{fine, bind-assoc, refuses-then, same-refuses}
 use Rattle.xf_actions.proofs.Doings.{refuses-untold}
 

@@ -20,9 +20,10 @@ use Rattle.xf_form_machine.specs.Act.{done_by}
 use Rattle.xf_form_machine.specs.Insert as machine
 use Rattle.xf_form_machine.specs.Delete as deletes
 use Rattle.xf_form_machine.specs.Choose as choose
-use Rattle.xf_actions.specs.Told.{Telling, told, quietly}
+use Rattle.xf_actions.specs.Told.{Telling, told, quietly, where_told}
 use Rattle.xf_actions.specs.Inserting.{Inserting, planned}
-use Rattle.xf_actions.specs.Changed.{where_told, tells_instance, inserted, inserted_by, insert_at, insert, deleted, delete_at, delete, toggled, toggle_in, toggle, changed}
+use Rattle.xf_actions.specs.TreeChanges.{tells_instance, inserted, inserted_by, insert_at, insert, deleted, delete_at, delete}
+use Rattle.xf_actions.specs.Changed.{toggled, toggle_in, toggle, changed}
 use Rattle.xf_actions.specs.Parts.{is_block}
 use Rattle.xf_actions.proofs.Flow.{bind-assoc, then-same}
 use Rattle.xf_actions.proofs.Telling.{untold-told, where-told, one-told, two-told}

@@ -14,6 +14,7 @@ abbrev pub index_asked : Profile → Acting → Option Meaning → State → Res
 index_asked p x None s = Ok None
 index_asked p x (Some m) s = whole_for p x s x.focus m >>= λ number. Ok (option_map not_below_zero number)
 
+-- the index of the repeat is set, where it has a copy
 abbrev pub index_chosen : Profile → Acting → ℕ → Option Meaning → Run
 index_chosen p x k m s =
     let r = get_or (interface s).repeats k 0 in

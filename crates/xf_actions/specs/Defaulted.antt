@@ -13,9 +13,8 @@ use Rattle.xf_form_machine.specs.Update.{due_revalidation, refresh_cleared}
 use Rattle.xf_form_machine.specs.Construct.{reset}
 use Rattle.xf_form_machine.specs.Default.{recalculate_now, revalidate_now}
 use Rattle.xf_form_machine.specs.Events.{Fired, Tell}
-use Rattle.xf_actions.specs.Told.{Telling, refreshed}
+use Rattle.xf_actions.specs.Told.{Telling, refreshed, untold}
 use Rattle.xf_actions.specs.Changed as work
-use Rattle.xf_actions.specs.Changed.{untold}
 use Rattle.xf_actions.specs.Sent.{End, Sent, sent, end_event}
 use Rattle.xf_actions.specs.declared.defaults.QuietAction.{QuietAction}
 use Rattle.xf_actions.specs.declared.defaults.QuietAction.TheVariants.{Nothing, Rebuild, Recalculate, Revalidate, Reset}
@@ -28,15 +27,18 @@ pub record Ending : Type 0 where
   pub of : Option Submission
   pub end : End
 
+-- what a default action does
 pub record Defaulted : Type 0 where
   -- those that are told first
   pub events : List Fired
   pub ending : Option Ending
   pub state : State
 
+-- the event that tells the end
 abbrev pub told_by_end : Ending → State → Option Fired
 told_by_end x s = option_map (λ sub. end_event x.number sub x.end s) x.of
 
+-- the end is told
 abbrev pub ended : Tell → Ending → Run
 ended tell x s = where_some (told_by_end x s) tell s
 
@@ -44,16 +46,20 @@ ended tell x s = where_some (told_by_end x s) tell s
 abbrev pub concluded : Tell → Defaulted → Result State Refused
 concluded tell d = in_turn tell d.events d.state >>= where_some d.ending (ended tell)
 
+-- a default action
 abbrev pub Defaults : Type 0
 Defaults = State → Result Defaulted Refused
 
+-- none
 abbrev pub nothing : Defaults
 nothing s = Ok (record { events = []; ending = None; state = s })
 
+-- one that tells these events, and ends no submission
 abbrev pub telling : Result (List Fired × State) Refused → Result Defaulted Refused
 telling (Err refusal) = Err refusal
 telling (Ok (events, s)) = Ok (record { events = events; ending = None; state = s })
 
+-- one that ends a submission
 abbrev pub with_end : ℕ → Option Submission → Result Sent Refused → Result Defaulted Refused
 with_end k sub (Err refusal) = Err refusal
 with_end k sub (Ok w) = Ok (record { events = w.events; ending = Some (record { number = k; of = sub; end = w.end }); state = w.state })

@@ -10,6 +10,7 @@ use Rattle.xf_form_machine.specs.Flow.{◌>>=◌}
 use Rattle.xf_form_machine.specs.Acting.{Acting}
 use Rattle.xf_form_machine.specs.Insert.{set_asked, origin_asked, at_asked, asked_with, location_of}
 
+-- an insert whose expressions are evaluated
 pub record Inserting : Type 0 where
   pub is_before : Bool
   -- what is told as its place

@@ -3,6 +3,7 @@ pub mod Seen
 pub mod Told
 pub mod Chosen
 pub mod Inserting
+pub mod TreeChanges
 pub mod Changed
 pub mod Parts
 pub mod Sent

@@ -30,9 +30,11 @@ pub record IsProgram (form : Form) (program : Program) : Type 0 where
   pub model_elements : program.model_elements ≡ form.models
   pub submission_elements : program.submission_elements ≡ form.submissions
 
+-- the properties of an event
 abbrev pub told_of : List Property → Told
 told_of properties = map (λ q. (q.name, q.value)) properties
 
+-- an event
 abbrev pub fired_of : Fired → machine.Fired
 fired_of f = record {
   event = record { name = f.name; target = f.target; bubbles = f.bubbles; is_cancelable = f.is_cancelable };
@@ -40,6 +42,7 @@ fired_of f = record {
   told = told_of f.properties;
 }
 
+-- a context
 abbrev pub focus_of : Focus → setting.Focus
 focus_of x = record { node = x.node.number; position = x.position; size = x.size }
 
@@ -53,6 +56,7 @@ acting_of f a = record {
   told = told_of f.properties;
 }
 
+-- where a copy goes
 abbrev pub place_of : Place → model.Place
 place_of q = record {
   origin = q.origin.number;
@@ -62,9 +66,11 @@ place_of q = record {
   again = q.again;
 }
 
+-- an insert whose expressions are evaluated
 abbrev pub inserting_of : Inserting → inserting.Inserting
 inserting_of i = record { is_before = i.is_before; location = i.location; places = map place_of i.places }
 
+-- how a submission ended, by the type of its error
 abbrev pub end_of : Option (List ℕ) → End
 end_of None = done
 end_of (Some error) = failed error
@@ -73,5 +79,6 @@ end_of (Some error) = failed error
 abbrev pub ending_of : Program → Ending → defaulted.Ending
 ending_of form x = record { number = x.submission; of = slice_get form.submissions x.submission; end = end_of x.failure }
 
+-- what a default action does, in a form
 abbrev pub concluded_of : Program → State → Concluded → defaulted.Defaulted
 concluded_of form s c = record { events = map fired_of c.events; ending = option_map (ending_of form) c.ending; state = s }

@@ -28,8 +28,7 @@ use Rattle.xf_form_machine.specs.Construct.{replace}
 use Rattle.xf_form_machine.specs.Events.{Fired, Tell, fired_at, submission_element}
 use Rattle.xf_form_machine.specs.Submit.{target_by, takes_tree, takes_text, has_fault}
 use Rattle.xf_form_machine.specs.Exchange.{fits, with_call, unless_many, asked_by, is_store_name, done_told, failed_told}
-use Rattle.xf_actions.specs.Told.{Telling, refreshed}
-use Rattle.xf_actions.specs.Changed.{untold, where_told}
+use Rattle.xf_actions.specs.Told.{Telling, refreshed, untold, where_told}
 
 -- ---- how it ended
 

@@ -1,6 +1,6 @@
 -- What is done before events are told, apart from telling them: each change of the machine that tells events is one that gives these events,
 -- and then tells them one after the other.
-use Rattle.std.specs.Prelude.{ℕ, Bool, true, false, List, [], map, length, Option, Some, None, Result, Ok}
+use Rattle.std.specs.Prelude.{ℕ, Bool, true, false, List, [], ◌∷◌, map, length, Option, Some, None, Result, Ok, Err}
 use Rattle.xf_ui.specs.Notifications.{notifications}
 use Rattle.xf_actions.specs.declared.world.Flag.{Flag}
 use Rattle.xf_actions.specs.declared.world.Flag.TheVariants.{Rebuild, Recalculate, Revalidate, Refresh}
@@ -17,12 +17,27 @@ use Rattle.xf_form_machine.specs.Events.{Fired, Tell, told_by}
 abbrev pub Telling : Type 0
 Telling = State → Result (List Fired × State) Refused
 
+-- the events are told one after the other
 abbrev pub told : Tell → List Fired × State → Result State Refused
 told tell (events, s) = in_turn tell events s
 
 -- nothing is told
 abbrev pub quietly : State → List Fired × State
 quietly s = ([], s)
+
+-- a change of which nothing is told
+abbrev pub untold : Result State Refused → Result (List Fired × State) Refused
+untold (Err refusal) = Err refusal
+untold (Ok s) = Ok (quietly s)
+
+-- nothing, where there is none
+abbrev pub where_told : {X : Type 0} → Option X → (X → Telling) → Telling
+where_told None change s = Ok (quietly s)
+where_told (Some x) change s = change x s
+
+-- this event is told
+abbrev pub tells : Fired → State → List Fired × State
+tells e s = (e ∷ [], s)
 
 -- ---- flags
 

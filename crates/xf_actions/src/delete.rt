@@ -8,7 +8,7 @@ ghost use Rattle.xf_form_machine.specs.Delete.{at_asked, location_of};
 ghost use Rattle.xf_actions.specs.Performs.{Runs, Makes, Reads};
 ghost use Rattle.xf_actions.specs.Seen.{fired_of, acting_of, focus_of};
 ghost use Rattle.xf_actions.specs.Parts.{delete_in};
-ghost use Rattle.xf_actions.specs.Changed.{delete as deletes, delete_at as deletes_at, cut, deleted_from as deletes_from, deleted as makes_deleted};
+ghost use Rattle.xf_actions.specs.TreeChanges.{delete as deletes, delete_at as deletes_at, cut, deleted_from as deletes_from, deleted as makes_deleted};
 
 use crate::acting::{Acting, Focus};
 use crate::fired::{Fired, FiredList};

@@ -9,7 +9,7 @@ ghost use Rattle.xf_actions.specs.Performs.{Runs, Makes, Reads};
 ghost use Rattle.xf_actions.specs.Seen.{fired_of, acting_of, focus_of, place_of, inserting_of};
 ghost use Rattle.xf_actions.specs.Parts.{insert_in};
 ghost use Rattle.xf_actions.specs.Inserting.{planned};
-ghost use Rattle.xf_actions.specs.Changed.{insert as inserts, insert_at as inserts_at, inserted_by, inserted_in as inserts_in};
+ghost use Rattle.xf_actions.specs.TreeChanges.{insert as inserts, insert_at as inserts_at, inserted_by, inserted_in as inserts_in};
 
 use crate::acting::{Acting, Focus};
 use crate::fault::WorldFault;

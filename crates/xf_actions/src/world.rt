@@ -24,7 +24,7 @@ ghost use Rattle.xf_form_machine.specs.Update.{reindex as reindexed, is_due as d
 ghost use Rattle.xf_actions.specs.Performs.{Runs, Makes, Leaves, Reads};
 ghost use Rattle.xf_actions.specs.Seen.{IsProgram, fired_of, acting_of, focus_of, place_of, concluded_of, ending_of};
 ghost use Rattle.xf_actions.specs.Told.{cleared_by, is_set, refreshed};
-ghost use Rattle.xf_actions.specs.Changed.{instance_event};
+ghost use Rattle.xf_actions.specs.TreeChanges.{instance_event};
 ghost use Rattle.xf_actions.specs.Defaulted.{submitted, told_by_end};
 ghost use Rattle.xf_form_machine.specs.Construct.{construct, instances_of, put_back as instance_put_back};
 ghost use Rattle.xf_actions.specs.Texts.{bound_for, message_text, settable};

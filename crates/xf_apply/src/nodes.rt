@@ -6,10 +6,10 @@ ghost use Rattle.xf_doc.specs.Shape.{has_elements};
 ghost use Rattle.xf_doc.specs.Visit.{visits};
 ghost use Rattle.xf_shape.specs.Spots.{is_element_in};
 
-use xf_doc::{Content, NodeId};
+use xf_doc::NodeId;
 use xf_name::Axis;
 use xf_shape::is_sound;
-use xf_tree::Forest;
+use xf_tree::{Forest, Seen};
 
 /// Whether an element stands right below the node. Looks no further than at the first.
 pub(crate) fn has_elements(forest: &Forest, node: NodeId) -> bool
@@ -30,7 +30,7 @@ fn is_element(forest: &Forest, node: NodeId) -> bool
     ensures { result ≡ is_element_in (content_at node.number forest.now.forest.nodes) }
 {
     match forest.content(node) {
-        Some(Content::Element(_)) => true,
+        Some(Seen::Element(_)) => true,
         _ => false,
     }
 }

@@ -79,7 +79,7 @@ lost-first : (made : ℕ × List ℕ → Option Copy) (n : ℕ) (rest : Places) 
 lost-first made n rest h = ap (λ m. m >>= λ y. each made rest >>= λ ys. Some (y ∷ ys)) h
 
 -- a child has more above it
-deeper : (f : Interface) (n m most : ℕ) → ancestors f m ≡ n ∷ ancestors f n → length (ancestors f n) + suc most ≤ length f.elements → length (ancestors f m) + most ≤ length f.elements
+pub deeper : (f : Interface) (n m most : ℕ) → ancestors f m ≡ n ∷ ancestors f n → length (ancestors f n) + suc most ≤ length f.elements → length (ancestors f m) + most ≤ length f.elements
 deeper f n m most e h = let longer : length (ancestors f m) ≡ suc (length (ancestors f n)) = ap length e in omega (arith, longer, h)
 
 -- below an element in which nothing can be evaluated

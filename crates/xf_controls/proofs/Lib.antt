@@ -9,3 +9,6 @@ pub mod CodeLaws
 pub mod NodeLaws
 pub mod WalkLaws
 pub mod ToldLaws
+pub mod FixedLaws
+pub mod KnownLaws
+pub mod NotedLaws

@@ -41,7 +41,7 @@ above-none : (k : ℕ) (f : Interface) → above k f None ≡ []
 above-none zero f = refl
 above-none (suc k) f = refl
 
-nothing-above : (f : Interface) → (element_at f 0).parent ≡ None → ancestors f 0 ≡ []
+pub nothing-above : (f : Interface) → (element_at f 0).parent ≡ None → ancestors f 0 ≡ []
 nothing-above f e = ap (above (length f.elements) f) e ∙ above-none (length f.elements) f
 
 pub first-stands : (f : Interface) (a : Around) (marks : ℕ → Marks) → (element_at f 0).parent ≡ None → Stands f a marks first_handed 0

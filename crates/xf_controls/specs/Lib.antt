@@ -5,3 +5,5 @@ pub mod Handed
 pub mod Found
 pub mod Below
 pub mod Rising
+pub mod Fixed
+pub mod Known

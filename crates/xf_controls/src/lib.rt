@@ -4,7 +4,10 @@
 mod binding;
 mod copy;
 mod element;
+mod finding;
+mod fixed;
 mod handed;
+mod known;
 mod over;
 mod refresh;
 mod value;
@@ -12,5 +15,7 @@ mod walk;
 
 pub use copy::{ControlCopy, ControlList, control_of};
 pub use element::is_plain;
+pub use finding::known_nodes;
+pub use known::{Known, KnownList};
 pub use refresh::{Notification, NotificationList, notifications};
 pub use walk::controls;

@@ -4,16 +4,20 @@ ghost use Rattle.std.specs.Prelude.{◌≡◌, ◌&&◌, IfOk, if◌then◌else�
 ghost use Rattle.xf_plain_values.specs.Bounded.{GivesBounded};
 ghost use Rattle.xf_eval.specs.Live.{AroundStands};
 ghost use Rattle.xf_ui.specs.Copies as copies;
-ghost use Rattle.xf_ui.specs.Interface.{element_of, interface_of};
+ghost use Rattle.xf_ui.specs.Elements as elements;
+ghost use Rattle.xf_ui.specs.Interface.{element_of, interface_of, sort_of};
 ghost use Rattle.xf_elements.specs.Bound.{seen_bound};
 ghost use Rattle.xf_controls.specs.Found.{IsFound};
 ghost use Rattle.xf_controls.specs.Handed as down;
+ghost use Rattle.xf_controls.specs.Known as known;
+ghost use Rattle.xf_controls.specs.Known.{KnowsNode};
 ghost use Rattle.xf_controls.specs.Seen.{IsThere, node_of_place, number, seen_handed};
 ghost use Rattle.xf_controls.specs.Surrounded.{around_in};
 
 use crate::binding::first_bound;
-use crate::element::is_container;
+use crate::element::{is_container, is_control};
 use crate::handed::{Handed, focus_in, place_below, place_for};
+use crate::known::{KnownList, known_for};
 use std::alloc::Global;
 use xf_ast::{Element, Form};
 use xf_doc::NodeId;
@@ -29,6 +33,7 @@ pub(crate) struct Over<'a, A: Around, M: NodeMarks> {
     pub forest: &'a Forest,
     pub around: &'a A,
     pub marks: &'a M,
+    pub known: &'a KnownList,
 }
 
 /// What an element binds: the node, with its properties, and whether it binds nothing or a relevant node.
@@ -43,21 +48,65 @@ pub(crate) struct Found {
 pub(crate) fn found_at<A: Around, M: NodeMarks>(
     alloc: Global,
     over: &Over<'_, A, M>,
+    element: u32,
     here: &Element,
     handed: &Handed,
 ) -> Result<Found, EvalFault>
     requires around { AroundStands (A.given over.now.around.now) over.now.forest.now.forest.nodes }
     requires place { IsThere (node_of_place handed.now.place) over.now.forest.now.forest.nodes }
+    requires known { KnowsNode over.now.forest.now.forest.nodes (known.known_for over.now.known.now element (elements.is_control (sort_of here.now.kind))) (down.node_in (interface_of over.now.form.now) (around_in (A.given over.now.around.now) over.now.form.now.tables over.now.forest.now.forest.nodes) (seen_handed handed.now) (element_of over.now.form.now.tables here.now)) }
     ensures value { GivesBounded EvalFault.Memory EvalFault.Long (λ found. option_map number found.node) result (down.node_in (interface_of over.now.form.now) (around_in (A.given over.now.around.now) over.now.form.now.tables over.now.forest.now.forest.nodes) (seen_handed handed.now) (element_of over.now.form.now.tables here.now)) }
     ensures found { IfOk result (λ found. IsFound (M.marks_of over.now.marks.now) (element_of over.now.form.now.tables here.now) found) }
     ensures live { IfOk result (λ found. IsThere found.node over.now.forest.now.forest.nodes) }
+{
+    let node = node_at(alloc, over, element, here, handed)?;
+    let marks = marks_if(over.marks, node);
+    Ok(Found {
+        node,
+        marks,
+        is_open: is_open_by(binding_of(&over.form.tables, here), node, marks),
+    })
+}
+
+/// The node that an element binds: the one that is known, else the one that it selects.
+fn node_at<A: Around, M: NodeMarks>(
+    alloc: Global,
+    over: &Over<'_, A, M>,
+    element: u32,
+    here: &Element,
+    handed: &Handed,
+) -> Result<Option<NodeId>, EvalFault>
+    requires around { AroundStands (A.given over.now.around.now) over.now.forest.now.forest.nodes }
+    requires place { IsThere (node_of_place handed.now.place) over.now.forest.now.forest.nodes }
+    requires known { KnowsNode over.now.forest.now.forest.nodes (known.known_for over.now.known.now element (elements.is_control (sort_of here.now.kind))) (down.node_in (interface_of over.now.form.now) (around_in (A.given over.now.around.now) over.now.form.now.tables over.now.forest.now.forest.nodes) (seen_handed handed.now) (element_of over.now.form.now.tables here.now)) }
+    ensures value { GivesBounded EvalFault.Memory EvalFault.Long (option_map number) result (down.node_in (interface_of over.now.form.now) (around_in (A.given over.now.around.now) over.now.form.now.tables over.now.forest.now.forest.nodes) (seen_handed handed.now) (element_of over.now.form.now.tables here.now)) }
+    ensures live { IfOk result (λ node. IsThere node over.now.forest.now.forest.nodes) }
+{
+    let known = known_for(over.known.as_slice(), element, is_control(&here.kind));
+    if let Some(node) = known {
+        return Ok(node);
+    }
+    selected(alloc, over, here, handed)
+}
+
+/// The node that an element selects.
+fn selected<A: Around, M: NodeMarks>(
+    alloc: Global,
+    over: &Over<'_, A, M>,
+    here: &Element,
+    handed: &Handed,
+) -> Result<Option<NodeId>, EvalFault>
+    requires around { AroundStands (A.given over.now.around.now) over.now.forest.now.forest.nodes }
+    requires place { IsThere (node_of_place handed.now.place) over.now.forest.now.forest.nodes }
+    ensures value { GivesBounded EvalFault.Memory EvalFault.Long (option_map number) result (down.node_in (interface_of over.now.form.now) (around_in (A.given over.now.around.now) over.now.form.now.tables over.now.forest.now.forest.nodes) (seen_handed handed.now) (element_of over.now.form.now.tables here.now)) }
+    ensures live { IfOk result (λ node. IsThere node over.now.forest.now.forest.nodes) }
 {
     let tables = &over.form.tables;
     let binding = binding_of(tables, here);
     let model = scope_of(over.form, handed.model, binding, here.model);
     let place = place_for(&here.kind, handed.place);
     let focus = focus_in(over.forest, tables, over.around, model, place);
-    let node = first_bound(
+    first_bound(
         alloc,
         over.forest,
         tables,
@@ -65,13 +114,7 @@ pub(crate) fn found_at<A: Around, M: NodeMarks>(
         model,
         binding,
         focus,
-    )?;
-    let marks = marks_if(over.marks, node);
-    Ok(Found {
-        node,
-        marks,
-        is_open: is_open_by(binding, node, marks),
-    })
+    )
 }
 
 /// The properties of a node, and what a copy without a node has.

@@ -11,6 +11,7 @@ ghost use Rattle.xf_controls.specs.Below as below;
 ghost use Rattle.xf_controls.specs.Below.{copies_from, if_control};
 ghost use Rattle.xf_controls.specs.Found.{IsFound};
 ghost use Rattle.xf_controls.specs.Handed as down;
+ghost use Rattle.xf_controls.specs.Known.{AreKnown, IsReached};
 ghost use Rattle.xf_controls.specs.Plain.{is_plain};
 ghost use Rattle.xf_controls.specs.Seen.{IsThere, node_of_place, number, seen_copy, seen_handed};
 ghost use Rattle.xf_controls.specs.Surrounded.{IsQuiet, around_in};
@@ -20,6 +21,7 @@ use crate::binding::is_bound;
 use crate::copy::{ControlCopy, ControlList};
 use crate::element::{is_control, some_shown};
 use crate::handed::{Handed, focus_in, nothing_around};
+use crate::known::KnownList;
 use crate::over::{Found, Over, both, found_at, handed_by};
 use crate::value::value_of;
 use std::alloc::Global;
@@ -31,7 +33,7 @@ use xf_eval::{Around, EvalFault};
 use xf_tree::Forest;
 use xf_ui::NodeMarks;
 
-/// The copies of the controls and containers of a plain form, in document order. An `Err` is want of memory or, as in `evaluate`, a string
+/// The copies of the controls and containers of a plain form, in document order. What is known of the nodes that they bind is not asked. An `Err` is want of memory or, as in `evaluate`, a string
 /// that is too long.
 pub fn controls<A: Around, M: NodeMarks>(
     alloc: Global,
@@ -39,10 +41,12 @@ pub fn controls<A: Around, M: NodeMarks>(
     forest: &Forest,
     around: &A,
     marks: &M,
+    known: &KnownList,
 ) -> Result<ControlList, EvalFault>
     requires plain { is_plain (interface_of form.now) ≡ true }
     requires around { AroundStands (A.given around.now) forest.now.forest.nodes }
     requires quiet { IsQuiet (A.given around.now) }
+    requires known { AreKnown (interface_of form.now) (around_in (A.given around.now) form.now.tables forest.now.forest.nodes) forest.now.forest.nodes known.now }
     ensures { (cases : List ℕ) (indexes : List Index) → GivesBounded EvalFault.Memory EvalFault.Long (map seen_copy) result (copies.copies (interface_of form.now) (around_in (A.given around.now) form.now.tables forest.now.forest.nodes) (M.marks_of marks.now) cases indexes) }
 {
     let mut copies = Items::new(alloc);
@@ -51,6 +55,7 @@ pub fn controls<A: Around, M: NodeMarks>(
         forest,
         around,
         marks,
+        known,
     };
     let most = form.elements.len();
     push_copies(alloc, &over, most, 0, &nothing_around(), &mut copies)?;
@@ -68,6 +73,9 @@ fn push_copies<A: Around, M: NodeMarks>(
 ) -> Result<(), EvalFault>
     requires around { AroundStands (A.given over.now.around.now) over.now.forest.now.forest.nodes }
     requires place { IsThere (node_of_place handed.now.place) over.now.forest.now.forest.nodes }
+    requires plain { is_plain (interface_of over.now.form.now) ≡ true }
+    requires known { AreKnown (interface_of over.now.form.now) (around_in (A.given over.now.around.now) over.now.form.now.tables over.now.forest.now.forest.nodes) over.now.forest.now.forest.nodes over.now.known.now }
+    requires reached { IsReached (interface_of over.now.form.now) (around_in (A.given over.now.around.now) over.now.form.now.tables over.now.forest.now.forest.nodes) (seen_handed handed.now) most element }
     ensures { GivesBounded EvalFault.Memory EvalFault.Long (λ _. map seen_copy copies.new) result (option_map (λ more. map seen_copy copies.old ++ more) (copies_from most (interface_of over.now.form.now) (around_in (A.given over.now.around.now) over.now.form.now.tables over.now.forest.now.forest.nodes) (M.marks_of over.now.marks.now) (seen_handed handed.now) element)) }
 {
     if most == 0 {
@@ -79,7 +87,7 @@ fn push_copies<A: Around, M: NodeMarks>(
     if is_passed(over.form, most - 1, here) {
         return Ok(());
     }
-    let found = found_at(alloc, over, here, handed)?;
+    let found = found_at(alloc, over, element, here, handed)?;
     push_own(alloc, over, element, here, handed, &found, copies)?;
     let below = handed_by(over, here, handed, &found);
     for part in here.parts.as_slice() {

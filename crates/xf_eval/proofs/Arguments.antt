@@ -1,5 +1,5 @@
 -- What a call is worth from what its arguments gave: branches, and lists of plain values.
-use Rattle.std.proofs.Common.{◌≡◌, ℕ, ◌+◌, ◌<◌, ◌≤◌, Bool, true, false, List, [], ◌∷◌, ◌++◌, map, drop, length, get_or, Option, Some, None, sym, ap, ◌∙◌}
+use Rattle.std.proofs.Common.{◌≡◌, ℕ, ◌+◌, ◌<◌, ◌≤◌, Bool, true, false, List, [], ◌∷◌, ◌++◌, map, drop, length, get_or, Option, Some, None, option_map, sym, ap, ◌∙◌}
 use Rattle.std.proofs.lemmas.List.{at_drop_more, at_drop_all}
 use Rattle.xf_ast.specs.declared.expr.Expr.{Expr}
 use Rattle.xf_doc.specs.declared.content.Node.{Node}
@@ -12,8 +12,10 @@ use Rattle.xf_lang.specs.Conversions.{plain_of, truth_of}
 use Rattle.xf_lang.specs.Functions.{branch, branched, plain_arguments}
 use Rattle.xf_lang.specs.Meaning.{focus_of, meaning}
 use Rattle.xf_eval.specs.ByKind.{argument_or}
+use Rattle.xf_eval.specs.First.{counted}
 use Rattle.xf_eval.specs.Worth.{setting_at, setting_in}
 use Rattle.xf_eval.proofs.Called.{argument-none}
+use Rattle.xf_eval.proofs.Firsts.{plain-made, plain-none}
 use Rattle.xf_eval.proofs.Lists.{onto, onto-end, onto-more, onto-none}
 use Rattle.xf_eval.proofs.Settings.{plain-same}
 
@@ -41,14 +43,14 @@ one_plain s c m = m s c >>= plain_of s
 abbrev left : Setting → Focus → List Plain → List Expr → Option (List Plain)
 left s c done es = onto done (each (one_plain s c) (map meaning es))
 
--- one argument
-pub plain-long : (given : Given) (nodes : List Node) (context : Context) (e : Expr) → meaning e (setting_at given nodes context) (focus_of context) ≡ None →
+-- one argument, of which the first node counts
+pub plain-long : (given : Given) (nodes : List Node) (context : Context) (e : Expr) → option_map (counted true) (meaning e (setting_at given nodes context) (focus_of context)) ≡ None →
     one_plain (setting_at given nodes context) (focus_of context) (meaning e) ≡ None
-plain-long given nodes context e h = ap (λ m. m >>= plain_of (setting_at given nodes context)) h
+plain-long given nodes context e h = plain-none (setting_at given nodes context) (meaning e (setting_at given nodes context) (focus_of context)) h
 
-pub plain-of-value : (given : Given) (nodes : List Node) (context : Context) (e : Expr) (v : Value) → meaning e (setting_at given nodes context) (focus_of context) ≡ Some v →
+pub plain-of-value : (given : Given) (nodes : List Node) (context : Context) (e : Expr) (v : Value) → option_map (counted true) (meaning e (setting_at given nodes context) (focus_of context)) ≡ Some (counted true v) →
     one_plain (setting_at given nodes context) (focus_of context) (meaning e) ≡ plain_of (setting_in nodes) v
-plain-of-value given nodes context e v h = ap (λ m. m >>= plain_of (setting_at given nodes context)) h ∙ plain-same given nodes context v
+plain-of-value given nodes context e v h = plain-made (setting_at given nodes context) (meaning e (setting_at given nodes context) (focus_of context)) v h ∙ plain-same given nodes context v
 
 -- one that is none is none of the whole
 pub plains-stuck : (s : Setting) (c : Focus) (done : List Plain) (es : List Expr) (i : ℕ) (d : Expr) → left s c done (drop i es) ≡ each (one_plain s c) (map meaning es) → i < length es →

@@ -18,3 +18,4 @@ pub mod Numbers
 pub mod Sides
 pub mod Below
 pub mod WayLaws
+pub mod Firsts

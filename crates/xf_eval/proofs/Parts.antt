@@ -28,10 +28,12 @@ use Rattle.xf_eval.specs.declared.kinds.Kind.TheVariants as kind
 use Rattle.xf_eval.specs.Kinds.{function_in}
 use Rattle.xf_eval.specs.Answered.{answered, decides}
 use Rattle.xf_eval.specs.ByKind.{argument_or, by_kind}
+use Rattle.xf_eval.specs.First.{converts, counted}
 use Rattle.xf_eval.specs.OfOne.{one_worth}
 use Rattle.xf_eval.specs.Taken.{taken}
 use Rattle.xf_eval.specs.Worth.{negated_worth, setting_at, setting_in}
 use Rattle.xf_eval.proofs.Called.{by-kind}
+use Rattle.xf_eval.proofs.Firsts.{map-none, right-made}
 use Rattle.xf_eval.proofs.Settings.{answered-same, number-same}
 
 -- ---- steps
@@ -74,15 +76,15 @@ linked-each Or left m s c h = or-other (truth_of left) (m s c) h
 linked-each And left m s c h = and-other (truth_of left) (m s c) h
 linked-each other left m s c h = refl
 
--- both sides are evaluated
+-- both sides are evaluated, the right one as far as it counts
 pub linked-both : (o : Operator) (left right : Value) (m : Meaning) (given : Given) (nodes : List Node) (context : Context) (c : Focus) → decides o (truth_of left) ≡ false →
-    m (setting_at given nodes context) c ≡ Some right → linked o left m (setting_at given nodes context) c ≡ answered o (setting_in nodes) left right
+    option_map (counted (converts o)) (m (setting_at given nodes context) c) ≡ Some (counted (converts o) right) → linked o left m (setting_at given nodes context) c ≡ answered o (setting_in nodes) left right
 linked-both o left right m given nodes context c h e =
-    linked-each o left m (setting_at given nodes context) c h ∙ ap (λ x. x >>= answered o (setting_at given nodes context) left) e ∙ answered-same given nodes context o left right
+    linked-each o left m (setting_at given nodes context) c h ∙ right-made o (setting_at given nodes context) left right (m (setting_at given nodes context) c) e ∙ answered-same given nodes context o left right
 
 -- a side that is too long
-pub linked-long : (o : Operator) (left : Value) (m : Meaning) (s : Setting) (c : Focus) → decides o (truth_of left) ≡ false → m s c ≡ None → linked o left m s c ≡ None
-linked-long o left m s c h e = linked-each o left m s c h ∙ ap (λ x. x >>= answered o s left) e
+pub linked-long : (o : Operator) (left : Value) (m : Meaning) (s : Setting) (c : Focus) → decides o (truth_of left) ≡ false → option_map (counted (converts o)) (m s c) ≡ None → linked o left m s c ≡ None
+linked-long o left m s c h e = linked-each o left m s c h ∙ ap (λ x. x >>= answered o s left) (map-none (counted (converts o)) (m s c) e)
 
 pub negated-is : (place signs : ℕ) (operand : Expr) (given : Given) (nodes : List Node) (context : Context) →
     meaning (expr.Negated place signs operand) (setting_at given nodes context) (focus_of context) ≡ negated_worth signs nodes (meaning operand (setting_at given nodes context) (focus_of context))

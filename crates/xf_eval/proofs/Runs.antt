@@ -118,7 +118,7 @@ fold-done kind nodes ids i at worth inv l = run-done (λ (ids : List NodeId) (at
 
 -- ---- chains of operators
 
-chain-goes : (s : Setting) (c : Focus) → Goes (λ (links : List Link) (left : Value). chained (map meaning_of_link links) left s c) (λ link left. linked link.operator left (meaning link.right) s c)
+pub chain-goes : (s : Setting) (c : Focus) → Goes (λ (links : List Link) (left : Value). chained (map meaning_of_link links) left s c) (λ link left. linked link.operator left (meaning link.right) s c)
 chain-goes s c link links left = ap (λ l. linked l.operator left l.right s c >>= λ value. chained (map meaning_of_link links) value s c) (meaning-link link)
 
 pub chained-stuck : (s : Setting) (c : Focus) (links : List Link) (i : ℕ) (d : Link) (left : Value) (worth : Option Value) →

@@ -20,7 +20,7 @@ use Rattle.xf_eval.proofs.Below.{seen-visits, taken-below}
 use Rattle.xf_eval.proofs.Parts.{step-taken}
 use Rattle.xf_eval.proofs.Runs.{walked-more, walked-stuck}
 
-empty-is : {X : Type 0} (xs : List X) → length xs ≡ 0 → xs ≡ []
+pub empty-is : {X : Type 0} (xs : List X) → length xs ≡ 0 → xs ≡ []
 empty-is [] h = refl
 empty-is (x ∷ xs) h = cc h
 
@@ -58,7 +58,7 @@ module _ (given : Given) (nodes : List Node) (context : Context) where
   abbrev setting : Setting
   setting = setting_at given nodes context
 
-  way-walks : (step : Step) (from start : List ℕ) (way : Way) → IsWay step nodes from way → start ≡ begun_at way.is_below (seen nodes) from →
+  pub way-walks : (step : Step) (from start : List ℕ) (way : Way) → IsWay step nodes from way → start ≡ begun_at way.is_below (seen nodes) from →
       walk_of step setting from ≡ taken way.axis step.test (map meaning step.predicates) setting start
   way-walks step from start way h e = h setting refl ∙ ap (taken way.axis step.test (map meaning step.predicates) setting) (sym e)
 

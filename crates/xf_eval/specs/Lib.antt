@@ -11,3 +11,4 @@ pub mod Texts
 pub mod Places
 pub mod Sides
 pub mod Ways
+pub mod First

@@ -14,6 +14,7 @@ ghost use Rattle.xf_eval.specs.ByKind.{argument_or, by_kind};
 use crate::around::Around;
 use crate::convert::{number_of, plain_of, text_of, truth_of, whole};
 use crate::expression::value_at;
+use crate::first::asked_at;
 use crate::kinds::Kind;
 use crate::of_nodes::{name_of, of_nodes};
 use crate::sets::{copied, listed, nodes_in, single};
@@ -104,7 +105,7 @@ fn plain_arguments<A: Around>(
 {
     let mut given = Vec::new(alloc);
     for argument in arguments {
-        let value = value_at(alloc, forest, around, argument, context)?;
+        let value = asked_at(alloc, forest, around, true, argument, context)?;
         given.push(plain_of(alloc, forest, value)?)?;
     }
     Ok(given)

@@ -19,7 +19,7 @@ use xf_plain_values::Plain;
 use xf_tree::Forest;
 
 /// The units in one.
-const ONE: u64 = 1_000_000;
+pub(crate) const ONE: u64 = 1_000_000;
 
 /// The value as a truth (XPath 1.0, section 4.3).
 pub fn truth_of(value: &Value) -> bool

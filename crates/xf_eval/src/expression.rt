@@ -13,6 +13,7 @@ ghost use Rattle.xf_eval.specs.Worth.{negated_worth, setting_at};
 use crate::around::Around;
 use crate::calls::call_value;
 use crate::convert::{kept_text, number_of};
+use crate::first::{asked_at, leads};
 use crate::kinds::kind_of;
 use crate::operators::chained;
 use crate::sets::nodes_in;
@@ -68,8 +69,11 @@ pub fn value_at<A: Around>(
             negated(alloc, forest, around, *signs, operand.get(), context)
         }
         Expr::Chain(first, links) => {
-            let left = value_at(alloc, forest, around, first.get(), context)?;
-            chained(alloc, forest, around, links.as_slice(), left, context)
+            let behind = links.as_slice();
+            let is_converted = leads(behind);
+            let start = first.get();
+            let left = asked_at(alloc, forest, around, is_converted, start, context)?;
+            chained(alloc, forest, around, behind, left, context)
         }
         Expr::Filter(first, predicates) => {
             let value = value_at(alloc, forest, around, first.get(), context)?;
@@ -106,7 +110,7 @@ fn negated<A: Around>(
     ensures value { GivesBounded EvalFault.Memory EvalFault.Long (λ value. value) result (negated_worth signs forest.now.forest.nodes (meaning operand.now (setting_at (A.given around.now) forest.now.forest.nodes context.now) (focus_of context.now))) }
     ensures live { IfOk result (λ value. AllLive (nodes_of value) forest.now.forest.nodes) }
 {
-    let value = value_at(alloc, forest, around, operand, context)?;
+    let value = asked_at(alloc, forest, around, true, operand, context)?;
     let number = number_of(alloc, forest, &value)?;
     Ok(Value::Number(signed(signs, number)))
 }

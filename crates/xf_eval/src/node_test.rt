@@ -3,21 +3,22 @@
 ghost use Rattle.std.specs.Prelude.{◌≡◌};
 ghost use Rattle.xf_lang.specs.Tests.{has_name, is_in_space, is_principal, meets};
 ghost use Rattle.xf_doc.specs.Forest.{name_in};
+ghost use Rattle.xf_tree.specs.Seen.{seen_content};
 
 use xf_ast::Test;
-use xf_doc::Content;
 use xf_name::{Axis, QName};
+use xf_tree::Seen;
 
 /// Whether what a node is meets the test on an axis.
-pub fn meets(axis: Axis, test: &Test, content: &Content) -> bool
-    ensures { result ≡ meets axis test.now content.now }
+pub fn meets(axis: Axis, test: &Test, content: Seen<'_>) -> bool
+    ensures { result ≡ meets axis test.now (seen_content content.entry) }
 {
     match test {
         Test::Name(name) => is_principal(axis, content) && has_name(name, content),
         Test::InSpace(space) => is_principal(axis, content) && is_in_space(*space, content),
         Test::AnyName => is_principal(axis, content),
         Test::Text => match content {
-            Content::Text(_) => true,
+            Seen::Text(_) => true,
             _ => false,
         },
         Test::Node => true,
@@ -26,33 +27,33 @@ pub fn meets(axis: Axis, test: &Test, content: &Content) -> bool
 }
 
 /// Whether it is of the principal kind of the axis: attributes on the attribute axis, elements on the others.
-fn is_principal(axis: Axis, content: &Content) -> bool
-    ensures { result ≡ is_principal axis content.now }
+fn is_principal(axis: Axis, content: Seen<'_>) -> bool
+    ensures { result ≡ is_principal axis (seen_content content.entry) }
 {
     match content {
-        Content::Attribute(_, _) => axis == Axis::Attribute,
-        Content::Element(_) => axis != Axis::Attribute,
+        Seen::Attribute(_, _) => axis == Axis::Attribute,
+        Seen::Element(_) => axis != Axis::Attribute,
         _ => false,
     }
 }
 
 /// Whether it has a name of this namespace and local part; prefixes do not count.
-fn has_name(asked: &QName, content: &Content) -> bool
-    ensures { result ≡ has_name asked.now (name_in content.now) }
+fn has_name(asked: &QName, content: Seen<'_>) -> bool
+    ensures { result ≡ has_name asked.now (name_in (seen_content content.entry)) }
 {
     match content {
-        Content::Element(name) | Content::Attribute(name, _) => {
+        Seen::Element(name) | Seen::Attribute(name, _) => {
             asked.space == name.meaning.space && asked.local.is(name.meaning.local.as_str())
         }
         _ => false,
     }
 }
 
-fn is_in_space(space: u16, content: &Content) -> bool
-    ensures { result ≡ is_in_space space (name_in content.now) }
+fn is_in_space(space: u16, content: Seen<'_>) -> bool
+    ensures { result ≡ is_in_space space (name_in (seen_content content.entry)) }
 {
     match content {
-        Content::Element(name) | Content::Attribute(name, _) => space == name.meaning.space,
+        Seen::Element(name) | Seen::Attribute(name, _) => space == name.meaning.space,
         _ => false,
     }
 }

@@ -12,6 +12,7 @@ ghost use Rattle.xf_eval.specs.Live.{AllLive};
 ghost use Rattle.xf_eval.specs.OfNodes.{better, name_worth, set_worth};
 ghost use Rattle.xf_eval.specs.Texts.{combined, folded, number_at};
 ghost use Rattle.xf_eval.specs.Worth.{setting_in};
+ghost use Rattle.xf_tree.specs.Seen.{seen_content};
 
 use crate::around::Around;
 use crate::convert::{kept_text, whole};
@@ -19,11 +20,11 @@ use crate::kinds::Kind;
 use crate::texts::{number_of_node, value_of_node};
 use std::alloc::Global;
 use std::cmp::Ordering;
-use xf_doc::{Content, Name, NodeId, NodeList};
+use xf_doc::{Name, NodeId, NodeList};
 use xf_lang::{EvalFault, Value};
 use xf_name::Word;
 use xf_num::Num;
-use xf_tree::Forest;
+use xf_tree::{Forest, Seen};
 
 /// What a function makes of these nodes.
 pub(crate) fn of_nodes(
@@ -162,11 +163,11 @@ pub(crate) fn name_of<A: Around>(
     }
 }
 
-fn name_in(content: &Content) -> Option<&Name>
-    ensures { option_map (λ name. name.now) result ≡ name_in content.now }
+fn name_in(content: Seen<'_>) -> Option<&Name>
+    ensures { option_map (λ name. name.now) result ≡ name_in (seen_content content.entry) }
 {
     match content {
-        Content::Element(name) | Content::Attribute(name, _) => Some(name),
+        Seen::Element(name) | Seen::Attribute(name, _) => Some(name),
         _ => None,
     }
 }

@@ -13,7 +13,7 @@ ghost use Rattle.xf_eval.specs.Answered.{answered, arithmetic, decides};
 use crate::around::Around;
 use crate::compare::compared;
 use crate::convert::{number_of, truth_of};
-use crate::expression::value_at;
+use crate::first::{asked_at, converts};
 use crate::sets::{append, nodes_in};
 use std::alloc::{AllocError, Global};
 use xf_ast::{Link, Operator};
@@ -62,7 +62,8 @@ fn linked<A: Around>(
     if decides(link.operator, truth_of(&left)) {
         return Ok(Value::Truth(truth_of(&left)));
     }
-    let right = value_at(alloc, forest, around, &link.right, context)?;
+    let is_converted = converts(link.operator);
+    let right = asked_at(alloc, forest, around, is_converted, &link.right, context)?;
     combined(alloc, forest, link.operator, left, right)
 }
 

@@ -29,7 +29,7 @@ pub(crate) fn ordered(forest: &Forest, axis: Axis, nodes: NodeList) -> Result<No
 }
 
 /// Whether an axis has the nearest node first where that comes last in document order.
-fn is_reverse(axis: Axis) -> bool
+pub(crate) fn is_reverse(axis: Axis) -> bool
     ensures { result ≡ is_reverse axis }
 {
     match axis {

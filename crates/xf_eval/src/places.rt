@@ -11,7 +11,7 @@ ghost use Rattle.xf_eval.specs.Live.{AllLive};
 ghost use Rattle.xf_eval.specs.Places.{BeginsWith, IsPosition, Keeps};
 ghost use Rattle.xf_eval.specs.Worth.{seen};
 
-use crate::convert::whole;
+use crate::convert::{ONE, whole};
 use crate::sets::{listed, reached_at};
 use std::alloc::{AllocError, Global};
 use std::cmp::Ordering;
@@ -21,11 +21,8 @@ use xf_name::Axis;
 use xf_num::Num;
 use xf_tree::Forest;
 
-/// The units in one.
-const ONE: u64 = 1_000_000;
-
 /// The number that the first predicate is, where it is a literal.
-pub fn number_first(predicates: &[Expr]) -> Option<Num>
+pub(crate) fn number_first(predicates: &[Expr]) -> Option<Num>
     ensures { IfSome result (λ number. BeginsWith number predicates.now) }
 {
     match predicates.first() {

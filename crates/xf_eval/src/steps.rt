@@ -51,7 +51,7 @@ pub(crate) fn walked<A: Around>(
 
 /// What a step selects on an axis from each of these nodes, in document order, each once.
 #[cycle(value)]
-fn taken<A: Around>(
+pub(crate) fn taken<A: Around>(
     alloc: Global,
     forest: &Forest,
     around: &A,

@@ -1,5 +1,5 @@
 -- Which handlers an event calls, what their default is, and when updates come.
-use Rattle.std.proofs.Common.{◌≡◌, ℕ, List, [], ◌∷◌, map, Option, Some, refl, codes}
+use Rattle.std.proofs.Common.{◌≡◌, ℕ, Bool, true, false, List, [], ◌∷◌, map, Option, Some, refl, codes}
 use Rattle.json.specs.Print.{escape_byte}
 use Rattle.xf_ast.specs.declared.action.Handler.{Handler}
 use Rattle.xf_line.specs.declared.event.Event.{Event}
@@ -10,6 +10,7 @@ use Rattle.xf_form_machine.specs.Program.{Program}
 use Rattle.xf_form_machine.specs.State.{State}
 use Rattle.xf_form_machine.specs.Surround.{all_in}
 use Rattle.xf_doc.specs.StringValue.{string_value}
+use Rattle.xf_form_machine.specs.Events.{fired}
 use Rattle.xf_form_machine.specs.Start.{start}
 use Rattle.xf_form_machine.specs.Examples.{profile, stopping, cancelling}
 use Rattle.xf_form_machine.specs.ExampleOutcomes.{seen, given_out, then}
@@ -79,3 +80,17 @@ both_are_set = refl
 -- nothing is told of the text that stands
 the_same_text : noted changing (Set (codes "i") [] (codes "1")) ≡ says []
 the_same_text = refl
+
+-- ---- what a dispatch may say of an event: of one that is known nothing counts
+
+abbrev kept : List ℕ → Bool × Bool
+kept name = let e = fired name false false [] 0 [] in (e.event.bubbles, e.event.is_cancelable)
+
+an_event_of_its_own : kept (codes "e") ≡ (false, false)
+an_event_of_its_own = refl
+
+one_that_can_be_cancelled : kept (codes "DOMActivate") ≡ (true, true)
+one_that_can_be_cancelled = refl
+
+one_that_cannot : (fired (codes "xforms-insert") true true [] 0 []).event.is_cancelable ≡ false
+one_that_cannot = refl

@@ -1,4 +1,10 @@
 mod RowExamples
+mod ToggleExamples
+mod UpdateExamples
+mod FlagExamples
+mod DetachedExamples
+mod TargetExamples
+mod ActionExamples
 mod EventExamples
 mod TurnExamples
 mod PlaceExamples

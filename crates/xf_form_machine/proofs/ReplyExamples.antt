@@ -1,15 +1,18 @@
 -- What is written.
 use Rattle.std.proofs.Common.{◌≡◌, true, false, [], ◌∷◌, Some, None, refl, codes}
 use Rattle.std.specs.Fmt.{digits}
+use Rattle.xf_name.specs.Part.{is_part}
 use Rattle.json.specs.Print.{escape_byte}
 use Rattle.xf_line.specs.declared.event.Event.TheVariants.{Set}
 use Rattle.xf_form_machine.specs.declared.limit.LimitWord.TheVariants as word
-use Rattle.xf_form_machine.specs.Refusal.{limit, circular, depth}
+use Rattle.xf_form_machine.specs.Refusal.{limit, circular, depth, binding as exception}
 use Rattle.xf_form_machine.specs.State.{State}
 use Rattle.xf_form_machine.specs.Construct.{unbuilt}
 use Rattle.xf_form_machine.specs.Step.{Outcome}
 use Rattle.xf_form_machine.specs.Start.{start}
 use Rattle.xf_form_machine.specs.ControlText.{state_text}
+use Rattle.xf_form_machine.specs.Properties.{braced}
+use Rattle.xf_form_machine.specs.StateText.{id_text}
 use Rattle.xf_form_machine.specs.Replies.{refusal_texts, reply_outcome}
 use Rattle.xf_form_machine.specs.FormReplies.{form_texts, ready_text}
 use Rattle.xf_ui.specs.Interface as sort
@@ -69,3 +72,25 @@ a_cycle = refl
 
 not_ready : ready_text depth ≡ codes "form F18 Ready E13 Depth"
 not_ready = refl
+
+-- the number and the name alone, without the path
+not_ready_by_a_binding : ready_text (exception (codes "/d")) ≡ codes "form F18 Ready E9 Binding"
+not_ready_by_a_binding = refl
+
+-- ---- paths
+
+of_the_first_instance : braced (1, 1) ≡ []
+of_the_first_instance = refl
+
+of_another_instance : braced (1, 2) ≡ codes "{1.2}"
+unfolding digits
+of_another_instance = refl
+
+-- ---- ids
+
+a_name_part : is_part (codes "a-1") ≡ true → id_text (codes "a-1") ≡ codes "a-1"
+a_name_part part = rw part refl
+
+no_name_part : is_part (codes "a 1") ≡ false → id_text (codes "a 1") ≡ codes "\"a 1\""
+unfolding escape_byte
+no_name_part part = rw part refl

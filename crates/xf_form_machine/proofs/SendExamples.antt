@@ -1,11 +1,13 @@
 -- How submissions end, by the answers of the store.
-use Rattle.std.proofs.Common.{◌≡◌, ℕ, List, [], ◌∷◌, Option, Some, refl, codes}
+use Rattle.std.proofs.Common.{◌≡◌, ℕ, List, [], ◌∷◌, Option, Some, None, refl, codes}
+use Rattle.std.specs.Prelude.{Result, Ok, Err}
 use Rattle.std.specs.Str.{is_utf8, chars}
 use lib.Utf8.{encode}
 use Rattle.std.specs.Fmt.{digits}
 use Rattle.json.specs.Print.{escape_byte}
 use Rattle.xf_ast.specs.declared.form.Method.TheVariants.{Put, Get}
 use Rattle.xf_ast.specs.declared.form.Replace.TheVariants as replace
+use Rattle.xf_ast.specs.declared.form.Selection.TheVariants.{Bind}
 use Rattle.xf_ast.specs.declared.form.Submission.{Submission}
 use Rattle.xf_doc.specs.StringValue.{string_value}
 use Rattle.xf_line.specs.declared.event.Event.TheVariants.{Send}
@@ -13,15 +15,23 @@ use Rattle.xf_store.specs.declared.answers.Answer.{Answer}
 use Rattle.xf_store.specs.declared.answers.Answer.TheVariants as answer
 use Rattle.xf_store.specs.declared.call.Asked.TheVariants as asked
 use Rattle.xf_store.specs.declared.call.StoreCall.{StoreCall}
+use Rattle.xf_model.specs.Examples as bind
 use Rattle.xf_model.specs.Rules.{Rule}
+use Rattle.xf_ui.specs.Interface as sort
+use Rattle.xf_ui.specs.Interface.{by_bind}
 use Rattle.xf_form_machine.specs.declared.note.Note.{Note}
 use Rattle.xf_form_machine.specs.declared.note.Note.TheVariants.{Message, All}
+use Rattle.xf_form_machine.specs.Exchange.{attempt}
+use Rattle.xf_form_machine.specs.Program.{Program}
+use Rattle.xf_form_machine.specs.Program as role
+use Rattle.xf_form_machine.specs.Refusal.{Refused}
 use Rattle.xf_form_machine.specs.State.{State}
+use Rattle.xf_form_machine.specs.Submit.{Ended, done, failed}
 use Rattle.xf_form_machine.specs.Surround.{all_in}
 use Rattle.xf_form_machine.specs.Step.{Outcome}
 use Rattle.xf_form_machine.specs.Start.{start}
 use Rattle.xf_form_machine.specs.Examples
-use Rattle.xf_form_machine.specs.Examples.{profile}
+use Rattle.xf_form_machine.specs.Examples.{Part, profile, element, named, saying, model, instance, on}
 use Rattle.xf_form_machine.specs.ExampleOutcomes.{seen, given_out, then_with}
 use Rattle.xf_form_machine.specs.ExampleSends.{sending, submitting, one, nest, never_relevant, never_valid, never_open}
 
@@ -109,3 +119,50 @@ nothing_replaced = refl
 an_empty_response : notes (sent get_text [] one (answer.Found [] ∷ [])) ≡ Some (Message (codes "done") ∷ [])
 unfolding escape_byte
 an_empty_response = refl
+
+-- what a get found is not used, but its size is told
+a_get : notes (sent (sending Get replace.All (codes "r")) [] one (answer.Found (codes "abc") ∷ [])) ≡ Some (All (codes "r") 3 ∷ Message (codes "done") ∷ [])
+unfolding escape_byte digits
+a_get = refl
+
+-- ---- one call more than there may be: two were made
+
+abbrev a_call : StoreCall
+a_call = record { name = codes "o"; asked = asked.Put []; answer = answer.PutDone }
+
+abbrev ended_by : Result Ended Refused → Option (List ℕ)
+ended_by (Ok (failed error s)) = Some error
+ended_by (Ok (done s)) = Some (codes "done")
+ended_by (Err refusal) = None
+
+abbrev third_call : List ℕ → Option (Option (List ℕ))
+third_call name =
+    let sub = sending Put replace.Nothing name in
+    seen (λ s. ended_by (attempt profile (λ e t. Ok t) sub (record s { calls = a_call ∷ a_call ∷ [] }))) (start profile (submitting sub [] one) [])
+
+refused_before_it_is_made : third_call (codes "o") ≡ Some None
+refused_before_it_is_made = refl
+
+-- but a name that is none is found first
+the_name_first : third_call (codes ".o") ≡ Some (Some (codes "resource-error"))
+the_name_first = refl
+
+abbrev by_first_bind : Part → Part
+by_first_bind x = (record x.0 { binding = by_bind 0 }, x.1)
+
+-- ---- a submission whose bind selects nothing: a handler in it has no context node, one outside hears how it ended
+
+abbrev selecting_nothing : Program
+selecting_nothing = record (Examples.form
+    (element None (1 ∷ 5 ∷ []) sort.host role.other
+    ∷ model (2 ∷ 3 ∷ [])
+    ∷ instance
+    ∷ named (codes "s") (by_first_bind (element (Some 1) (4 ∷ []) sort.other (role.submission 0)))
+    ∷ saying (codes "inside") (on (codes "xforms-submit-error") 3 [] role.message)
+    ∷ saying (codes "outside") (on (codes "xforms-submit-error") 0 [] role.message)
+    ∷ []) (bind.bind (bind.to (codes "zz")) ∷ []) [] [] one)
+    { submissions = record put_all { selection = Bind 0 } ∷ []; submission_elements = 3 ∷ [] }
+
+heard_outside : notes (then_with [] (start profile selecting_nothing []) (Send (codes "s"))) ≡ Some (Message (codes "outside") ∷ [])
+unfolding escape_byte
+heard_outside = refl

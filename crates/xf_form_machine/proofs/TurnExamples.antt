@@ -1,5 +1,6 @@
 -- Turns and depth: `while`, `if`, and the budgets.
-use Rattle.std.proofs.Common.{◌≡◌, ℕ, true, List, [], ◌∷◌, map, Some, refl, codes}
+use Rattle.std.proofs.Common.{◌≡◌, ℕ, true, List, [], ◌∷◌, map, Option, Some, None, refl, codes}
+use Rattle.std.specs.Prelude.{Result, Ok, Err}
 use Rattle.xf_num.specs.Number.{scale}
 use Rattle.json.specs.Print.{escape_byte}
 use Rattle.xf_line.specs.declared.event.Event.TheVariants.{Activate}
@@ -8,7 +9,10 @@ use Rattle.xf_form_machine.specs.declared.note.Note.TheVariants.{Message}
 use Rattle.xf_form_machine.specs.Program.{Program, Work}
 use Rattle.xf_form_machine.specs.Program as work
 use Rattle.xf_form_machine.specs.State.{State}
-use Rattle.xf_form_machine.specs.Refusal.{limit, budget, depth}
+use Rattle.xf_form_machine.specs.Behave.{no_model, within_edges}
+use Rattle.xf_form_machine.specs.Dispatch.{dispatch}
+use Rattle.xf_form_machine.specs.Events.{plainly}
+use Rattle.xf_form_machine.specs.Refusal.{Refusal, Refused, limit, budget, depth}
 use Rattle.xf_form_machine.specs.Step.{Outcome}
 use Rattle.xf_form_machine.specs.Start.{start}
 use Rattle.xf_form_machine.specs.Examples.{profile, bound, during, given_that, to}
@@ -54,3 +58,25 @@ too_deep = refl
 too_many_notes : why (activated (twice (during yes) as_it_is work.message work.message)) ≡ Some (limit (word.Notes ∷ []))
 unfolding escape_byte
 too_many_notes = refl
+
+-- a turn and a level are wanting together: the turn is told
+abbrev refusal_of : Result State Refused → Option Refusal
+refusal_of (Ok s) = None
+refusal_of (Err r) = Some r.why
+
+the_turn_first : seen (λ s. refusal_of (dispatch profile 0 true (plainly (codes "e") 0 []) (record s { turns = 0 }))) (start profile (twice as_it_is as_it_is again again) []) ≡ Some (Some budget)
+the_turn_first = refl
+
+then_the_depth : seen (λ s. refusal_of (dispatch profile 0 true (plainly (codes "e") 0 []) s)) (start profile (twice as_it_is as_it_is again again) []) ≡ Some (Some depth)
+then_the_depth = refl
+
+-- ---- what all entries ask: the sum over the models, each by its last rebuild, of which 100 are allowed
+
+abbrev asking : List ℕ → State → State
+asking counts s = record s { models = map (λ n. record no_model { asked = n }) counts }
+
+within_the_sum : seen (λ s. refusal_of (within_edges profile (asking (60 ∷ 40 ∷ []) s))) (start profile (twice as_it_is as_it_is again again) []) ≡ Some None
+within_the_sum = refl
+
+past_the_sum : seen (λ s. refusal_of (within_edges profile (asking (60 ∷ 41 ∷ []) s))) (start profile (twice as_it_is as_it_is again again) []) ≡ Some (Some (limit (word.Edges ∷ [])))
+past_the_sum = refl

@@ -20,6 +20,7 @@ use Rattle.xf_form_machine.specs.Flow.{◌>>=◌}
 use Rattle.xf_form_machine.specs.Surround.{Told, interface, around, quiet}
 use Rattle.xf_form_machine.specs.Events.{Fired}
 
+-- an action that acts
 pub record Acting : Type 0 where
   -- the element of the action
   pub element : ℕ

@@ -23,6 +23,7 @@ use Rattle.xf_form_machine.specs.Primitives.{in_model, over_made}
 use Rattle.xf_form_machine.specs.Properties.{values_of, path_in}
 use Rattle.xf_form_machine.specs.Cycles.{reported_cycle}
 
+-- nothing is due
 abbrev pub no_flags : Flags
 no_flags = record { rebuild = false; recalculate = false; revalidate = false; refresh = false }
 

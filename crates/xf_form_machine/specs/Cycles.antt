@@ -18,6 +18,7 @@ abbrev pub walks : Adjacency → ℕ → ℕ → List (List ℕ)
 walks graph zero v = (v ∷ []) ∷ []
 walks graph (suc more) v = flat_map (λ next. map (λ walk. v ∷ walk) (walks graph more next)) (sources_of graph v)
 
+-- the last of a list, or this one before it
 abbrev pub last_in : ℕ → List ℕ → ℕ
 last_in v [] = v
 last_in v (w ∷ ws) = last_in w ws
@@ -26,10 +27,12 @@ last_in v (w ∷ ws) = last_in w ws
 abbrev pub closes : Adjacency → ℕ → List ℕ → Bool
 closes graph v walk = has_edge graph v (last_in v walk)
 
+-- the first of a list
 abbrev pub first_in : {X : Type 0} → List X → Option X
 first_in [] = None
 first_in (x ∷ xs) = Some x
 
+-- the first of the two that is there
 abbrev pub or_later : {X : Type 0} → Option X → Option X → Option X
 or_later None later = later
 or_later (Some x) later = Some x
@@ -39,6 +42,7 @@ abbrev pub cycle_from : Adjacency → ℕ → ℕ → ℕ → Option (List ℕ)
 cycle_from graph v more zero = None
 cycle_from graph v more (suc lengths) = or_later (first_in (filter (closes graph v) (walks graph more v))) (cycle_from graph v (suc more) lengths)
 
+-- the cycle that is reported through the first of these vertices that lies on one
 abbrev pub first_cycle : Adjacency → List ℕ → Option (List ℕ)
 first_cycle graph [] = None
 first_cycle graph (v ∷ vs) = or_later (cycle_from graph v 0 (length graph)) (first_cycle graph vs)

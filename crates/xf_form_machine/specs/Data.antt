@@ -6,6 +6,7 @@ use Rattle.xf_form_machine.specs.Surround.{instances_in, document_at}
 use Rattle.xf_form_machine.specs.Cycles.{counted_from}
 use Rattle.xf_form_machine.specs.Construct.{contents_under}
 
+-- what of a state is kept
 pub record Data : Type 0 where
   -- how many events were accepted
   pub accepted : ℕ
@@ -15,6 +16,7 @@ pub record Data : Type 0 where
   pub indexes : List ℕ
   pub cases : List ℕ
 
+-- that of a state
 abbrev pub data_of : State → Data
 data_of s = record {
   accepted = s.accepted;

@@ -11,6 +11,7 @@ use Rattle.xf_form_machine.specs.Events.{Fired, Tell}
 use Rattle.xf_form_machine.specs.Choose.{act_send}
 use Rattle.xf_form_machine.specs.Exchange.{submit}
 
+-- no default action
 abbrev pub nothing : Run
 nothing s = Ok s
 

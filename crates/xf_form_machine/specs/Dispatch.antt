@@ -24,6 +24,7 @@ handle p further is_idle e n s = act p (further false) e n s >>= when is_idle (u
 abbrev pub after_all : Profile → Further → Bool → Fired → Run
 after_all p further is_idle e s = default p (further is_idle) e s >>= when is_idle (update p (further false))
 
+-- the handlers in order, then the default action, unless it is cancelled
 abbrev pub handled : Profile → Further → Bool → Fired → Run
 handled p further is_idle e s =
     let called = calls (interface s) e.event in

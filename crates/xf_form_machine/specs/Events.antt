@@ -8,6 +8,7 @@ use Rattle.xf_form_machine.specs.State.{State}
 use Rattle.xf_form_machine.specs.Surround.{Told, interface}
 use Rattle.xf_form_machine.specs.Flow.{Run}
 
+-- an event to a copy of an element
 pub record Fired : Type 0 where
   pub event : Event
   -- the chain of rows of the target's copy

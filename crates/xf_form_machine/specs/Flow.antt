@@ -7,11 +7,13 @@ use Rattle.xf_form_machine.specs.Refusal.{Refused}
 abbrev pub Run : Type 0
 Run = State → Result State Refused
 
+-- what comes next, unless it was refused before
 infixl 10 ◌>>=◌
 abbrev pub ◌>>=◌ : {A B : Type 0} → Result A Refused → (A → Result B Refused) → Result B Refused
 Err refusal >>= next = Err refusal
 Ok x >>= next = next x
 
+-- a change only where this holds
 abbrev pub when : Bool → Run → Run
 when false run s = Ok s
 when true run s = run s

@@ -32,6 +32,7 @@ event_refusal refusal.budget = codes "E12 Budget"
 event_refusal refusal.depth = codes "E13 Depth"
 event_refusal refusal.sends = codes "E14 Sends"
 
+-- what is told of a start that is refused
 abbrev pub ready_text : Refusal → List ℕ
 ready_text why = codes "form F18 Ready " ++ event_refusal why
 

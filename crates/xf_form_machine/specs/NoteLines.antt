@@ -9,12 +9,14 @@ use Rattle.xf_form_machine.specs.declared.note.Note.TheVariants.{Message, Load, 
 abbrev pub quoted : List ℕ → List ℕ
 quoted text = compact_text (string text)
 
+-- what is told of a note
 abbrev pub note_text : Note → List ℕ
 note_text (Message text) = codes "message " ++ quoted text
 note_text (Load text) = codes "load " ++ quoted text
 note_text (Focus id) = codes "focus " ++ quoted id
 note_text (All name size) = codes "all " ++ quoted name ++ codes " " ++ decimal size
 
+-- its line
 abbrev pub note_line : Note → List ℕ
 note_line note = codes "note " ++ note_text note ++ codes "\n"
 

@@ -5,6 +5,7 @@ use Rattle.xf_plain_values.specs.Functions.{Functions}
 use Rattle.xf_model.specs.Properties.{Meets}
 use Rattle.xf_model.specs.Settled.{Bounds, bounds}
 
+-- the functions, the rule of types, the budgets and the limits
 pub record Profile : Type 0 where
   pub functions : Functions
   -- whether a text meets a type

@@ -10,7 +10,7 @@ use Rattle.xf_lang.specs.Setting.{Meaning}
 use Rattle.xf_model.specs.Rules.{Rule}
 use Rattle.xf_ui.specs.Interface.{Interface}
 
--- what an insert and a delete ask for
+-- what an insert asks for
 pub record InsertBy : Type 0 where
   pub context : Option Meaning
   pub origin : Option Meaning
@@ -18,6 +18,7 @@ pub record InsertBy : Type 0 where
   -- whether the copies go before the node at the place
   pub is_before : Bool
 
+-- what a delete asks for
 pub record DeleteBy : Type 0 where
   pub context : Option Meaning
   pub at : Option Meaning
@@ -61,6 +62,7 @@ pub data Role : Type 0 where
   submit : Option ℕ → Role
   other : Role
 
+-- a form
 pub record Program : Type 0 where
   pub interface : Interface
   -- of each element, at the place of its number
@@ -76,5 +78,6 @@ pub record Program : Type 0 where
   -- of each instance the nodes with their depths
   pub documents : List (List (ℕ × Content))
 
+-- what the element with a number is
 abbrev pub role_at : Program → ℕ → Role
 role_at form n = get_or form.roles n other

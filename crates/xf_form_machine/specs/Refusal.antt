@@ -11,6 +11,7 @@ use Rattle.xf_form_machine.specs.declared.limit.LimitWord.{LimitWord}
 use Rattle.xf_form_machine.specs.declared.limit.LimitWord.TheVariants.{Nodes, Text, All, Depth, Long, Passes}
 use Rattle.xf_form_machine.specs.State.{State}
 
+-- the reason
 pub data Refusal : Type 0 where
   -- no element of that kind has the id, or the rows do not stand
   no_target : Refusal

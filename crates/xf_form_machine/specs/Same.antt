@@ -6,6 +6,7 @@ use Rattle.xf_ui.specs.Index.{Index}
 use Rattle.xf_ui.specs.Copies.{Copy}
 use Rattle.xf_form_machine.specs.State.{Model, State}
 
+-- what a model keeps, with other numbers
 abbrev pub renumbered_model : (ℕ → ℕ) → Model → Model
 renumbered_model f m = record m {
   entries = map (renumbered_entry f) m.entries;
@@ -15,12 +16,15 @@ renumbered_model f m = record m {
   lists = map f m.lists;
 }
 
+-- an index
 abbrev pub renumbered_index : (ℕ → ℕ) → Index → Index
 renumbered_index f i = record i { node = option_map f i.node }
 
+-- a copy of a control
 abbrev pub renumbered_copy : (ℕ → ℕ) → Copy → Copy
 renumbered_copy f c = record c { rows = map f c.rows; node = option_map f c.node }
 
+-- the second state is the first with other numbers
 pub record IsSame (first second : State) : Type 0 where
   pub by : ℕ → ℕ
   pub renumbers : IsRenumbering by

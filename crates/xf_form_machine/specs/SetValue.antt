@@ -28,6 +28,7 @@ abbrev pub value_asked : Profile → Acting → State → ℕ → Option Meaning
 value_asked p x s n None = Ok (words_of (interface s) (element_at (interface s) x.element))
 value_asked p x s n (Some m) = text_for p x s (alone n) m
 
+-- the text of a node that is not readonly
 abbrev pub set_open : Profile → Acting → Option Meaning → ℕ → Run
 set_open p x value n s = unless_parent (has_elements (all_in s) n) n (λ t. value_asked p x t n value >>= λ text. set_text p n text t) s
 

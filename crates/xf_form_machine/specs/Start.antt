@@ -11,6 +11,7 @@ use Rattle.xf_form_machine.specs.Events.{fired_at, model_element}
 use Rattle.xf_form_machine.specs.Construct.{construct}
 use Rattle.xf_form_machine.specs.Step.{Outcome, outcome, at_end, tell}
 
+-- an event of this name to a model
 abbrev pub tell_model : Profile → List ℕ → ℕ → Run
 tell_model p name model s = tell p (fired_at s name [] (model_element s model)) s
 
@@ -18,6 +19,7 @@ tell_model p name model s = tell p (fired_at s name [] (model_element s model)) 
 abbrev pub tell_models : Profile → List ℕ → Run
 tell_models p name s = in_turn (tell_model p name) (counted_from 0 (length s.models)) s
 
+-- construction, and then the events of the start
 abbrev pub started : Profile → Program → List Answer → Result State Refused
 started p form answers =
     construct p form (Some answers) >>= tell_models p (codes "xforms-model-construct") >>= tell_models p (codes "xforms-model-construct-done")

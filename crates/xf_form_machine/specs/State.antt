@@ -32,6 +32,7 @@ pub record Model : Type 0 where
   pub texts : List ℕ
   pub lists : List ℕ
 
+-- the state of a form
 pub record State : Type 0 where
   pub form : Program
   pub forest : Forest

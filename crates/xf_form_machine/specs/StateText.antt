@@ -17,9 +17,11 @@ use Rattle.xf_form_machine.specs.Surround.{interface, instance_holding, all_in, 
 use Rattle.xf_form_machine.specs.Properties.{marks_in, path_in, pair_at, pair_text}
 use Rattle.xf_form_machine.specs.NoteLines.{quoted}
 
+-- behind a blank
 abbrev pub spaced : List ℕ → List ℕ
 spaced text = codes " " ++ text
 
+-- with its line feed
 abbrev pub line_of : List ℕ → List ℕ
 line_of text = text ++ codes "\n"
 

@@ -20,12 +20,15 @@ use Rattle.xf_form_machine.specs.State.{State}
 abbrev pub Told : Type 0
 Told = List (List ℕ × Value)
 
+-- the elements of the form
 abbrev pub interface : State → Interface
 interface s = s.form.interface
 
+-- its instances
 abbrev pub instances_in : State → List Instance
 instances_in s = s.form.instances
 
+-- the visits of the data
 abbrev pub all_in : State → List Visit
 all_in s = visits s.forest.nodes
 

@@ -17,6 +17,7 @@ use Rattle.xf_model.specs.Rules.{rule_of}
 use Rattle.xf_ui.specs.Interface.{interface_of}
 use Rattle.xf_form_machine.specs.Program.{InsertBy, DeleteBy, Work, Act, Role, Program, all_in_it, set_value, insert, delete, set_index, toggle, set_focus, dispatch, send, load, message, on_model, model, submission, action, entry, trigger, submit, other}
 
+-- what an insert asks for
 abbrev pub insert_by : InsertWork → InsertBy
 insert_by w = record {
   context = option_map meaning w.context;
@@ -25,9 +26,11 @@ insert_by w = record {
   is_before = w.is_before;
 }
 
+-- what a delete asks for
 abbrev pub delete_by : DeleteWork → DeleteBy
 delete_by w = record { context = option_map meaning w.context; at = option_map meaning w.at }
 
+-- what an action does
 abbrev pub work_of : ast.Work → Work
 work_of written.Action = all_in_it
 work_of (written.SetValue value) = set_value (option_map meaning value)
@@ -46,9 +49,11 @@ work_of written.Recalculate = on_model (codes "xforms-recalculate")
 work_of written.Revalidate = on_model (codes "xforms-revalidate")
 work_of written.Refresh = on_model (codes "xforms-refresh")
 
+-- an action with its `if` and `while`
 abbrev pub act_of : Action → Act
 act_of a = record { condition = option_map meaning a.condition; repetition = option_map meaning a.repetition; work = work_of a.work }
 
+-- what a control is for the machine
 abbrev pub role_of_control : Control → Role
 role_of_control control.Input = entry
 role_of_control control.Secret = entry
@@ -59,6 +64,7 @@ role_of_control control.Trigger = trigger
 role_of_control (control.Submit target) = submit target
 role_of_control c = other
 
+-- what an element is for the machine
 abbrev pub role_of : Kind → Role
 role_of (kind.Model k) = model k
 role_of (kind.Submission k) = submission k
@@ -66,6 +72,7 @@ role_of (kind.Control place c) = role_of_control c
 role_of (kind.Action a) = action (act_of a)
 role_of sort = other
 
+-- a form, with the data of its instances
 abbrev pub program_of : Form → Bindings → List (List (ℕ × Content)) → Program
 program_of form bindings documents = record {
   interface = interface_of form;

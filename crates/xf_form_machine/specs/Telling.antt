@@ -25,6 +25,7 @@ abbrev pub loaded_text : Profile → Acting → List ℕ → State → Bound →
 loaded_text p x resource s unbound = Ok resource
 loaded_text p x resource s binding = or_long s (bound_text (surroundings p x s) (record { model = x.model; focus = Some x.focus }) binding)
 
+-- a note with that text
 abbrev pub load : Profile → Acting → List ℕ → Run
 load p x resource s = loaded_text p x resource s (binding_of x s) >>= λ text. add_note p (Load text) s
 

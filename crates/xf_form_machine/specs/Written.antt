@@ -20,6 +20,7 @@ pub data Ending : Type 0 where
   -- memory was wanting
   no_memory : Ending
 
+-- the whole begins with the front
 abbrev pub IsFront : {X : Type 0} → List X → List X → Type 0
 IsFront front whole = (rest : List _) × (whole ≡ front ++ rest)
 
@@ -59,6 +60,7 @@ AsFarAs p a lines part =
 abbrev pub answered_lines : List ℕ → List (List ℕ)
 answered_lines events = if nat_lt stream_limit (length events) then ended_lines (take stream_limit events) else lines_of events
 
+-- what a run that ends so has written and called
 abbrev pub Answers : Profile → Ending → Answering → Type 0
 Answers p done a = (a.left ≡ []) × (length a.events ≤ stream_limit) × Exactly p a (lines_of a.events)
 Answers p read_fault a = (given : List ℕ) × (a.events ≡ given ++ a.left) × Exactly p a (ended_lines given)

@@ -13,9 +13,9 @@ ghost use Rattle.xf_paths.specs.Family.{IsKid, IsSort, count_in, index_text, is_
 use crate::written::{Tally, add, tallied, written};
 use std::alloc::{AllocError, Global};
 use std::collections::HashMap;
-use xf_doc::{Content, Name, NodeId, NodeList};
+use xf_doc::{Name, NodeId, NodeList};
 use xf_name::Axis;
-use xf_tree::Forest;
+use xf_tree::{Forest, Seen};
 
 /// A child, and what its path has in brackets: for an element its place among the elements beside it whose names are written
 /// alike, where there are others, for a text that among the texts beside it.
@@ -74,8 +74,8 @@ fn sort_of(forest: &Forest, node: NodeId) -> Sort<'_>
 {
     match forest.content(node) {
         Some(content) => match content {
-            Content::Element(name) => Sort::Element(name),
-            Content::Text(_) => Sort::Text,
+            Seen::Element(name) => Sort::Element(name),
+            Seen::Text(_) => Sort::Text,
             _ => Sort::Other,
         },
         None => Sort::Other,

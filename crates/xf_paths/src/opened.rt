@@ -7,13 +7,14 @@ ghost use Rattle.xf_doc.specs.Shape.{has_elements};
 ghost use Rattle.xf_doc.specs.Visit.{Visit, visits, parent_of};
 ghost use Rattle.xf_paths.specs.Opened.{stem_of, IsOpen, AllOpen};
 ghost use Rattle.xf_paths.specs.Family.{IsKid, index_of, index_text, meets};
+ghost use Rattle.xf_tree.specs.Seen.{seen_content};
 
 use crate::family::{Family, Kid, family_of};
 use crate::written::push_step;
 use std::alloc::{AllocError, Global};
 use std::marker::Model;
-use xf_doc::{Content, Kind, NodeId};
-use xf_tree::Forest;
+use xf_doc::{Kind, NodeId};
+use xf_tree::{Forest, Seen};
 
 /// A node whose path is at hand, with its children that did not come yet.
 #[derive(Drop)]
@@ -107,8 +108,8 @@ fn has_elements(
     forest.are_trees();
     match forest.content(node) {
         // Nothing stands below these, and they are never open.
-        Some(Content::Attribute(_, _)) => Ok(false),
-        Some(Content::Text(_)) => Ok(false),
+        Some(Seen::Attribute(_, _)) => Ok(false),
+        Some(Seen::Text(_)) => Ok(false),
         _ => has_open_elements(alloc, forest, nodes, node),
     }
 }
@@ -229,7 +230,7 @@ fn is_root(forest: &Forest, node: NodeId) -> bool
 {
     match forest.content(node) {
         Some(content) => match content {
-            Content::Root => true,
+            Seen::Root => true,
             _ => false,
         },
         None => false,
@@ -263,13 +264,13 @@ fn stem_below(
 }
 
 /// What the path of a node has in brackets: `None` where the node is not the child that comes next.
-fn next_index(kids: &mut Vec<Kid>, content: &Content, node: NodeId) -> Option<Option<usize>>
+fn next_index(kids: &mut Vec<Kid>, content: Seen<'_>, node: NodeId) -> Option<Option<usize>>
     ensures kids { (all : List Visit) → All (IsKid all) kids.old.items → All (IsKid all) kids.new.items }
-    ensures index { (all : List Visit) → All (IsKid all) kids.old.items → IfSome result (λ index. is_attribute content.now ≡ false → index_text index ≡ index_of all node.number) }
-    ensures attribute { IfSome result (λ index. is_attribute content.now ≡ true → index ≡ None) }
+    ensures index { (all : List Visit) → All (IsKid all) kids.old.items → IfSome result (λ index. is_attribute (seen_content content.entry) ≡ false → index_text index ≡ index_of all node.number) }
+    ensures attribute { IfSome result (λ index. is_attribute (seen_content content.entry) ≡ true → index ≡ None) }
 {
     match content {
-        Content::Attribute(_, _) => Some(None),
+        Seen::Attribute(_, _) => Some(None),
         _ => match next_kid(kids, node) {
             Some(kid) => Some(kid.index),
             None => None,

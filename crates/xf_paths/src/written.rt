@@ -3,11 +3,13 @@ ghost use Rattle.std.specs.Prelude.{◌≡◌, ◌+◌, ◌<◌, ◌^◌, ◌++�
 ghost use Rattle.std.specs.Str.{bytes_eq};
 ghost use Rattle.xf_doc.specs.Forest.{written};
 ghost use Rattle.xf_paths.specs.Family.{index_text, step_with, tallied};
+ghost use Rattle.xf_tree.specs.Seen.{seen_content};
 
 use itoa::Buffer;
 use std::alloc::{AllocError, Global};
 use std::collections::HashMap;
-use xf_doc::{Content, Name};
+use xf_doc::Name;
+use xf_tree::Seen;
 
 /// How often each name is there.
 pub type Tally = HashMap<String, usize>;
@@ -35,23 +37,23 @@ fn push_name(text: &mut String, name: &Name) -> Result<(), AllocError>
 /// Appends what a path has for a node, with this in brackets.
 pub fn push_step(
     text: &mut String,
-    content: &Content,
+    content: Seen<'_>,
     index: Option<usize>,
 ) -> Result<(), AllocError>
-    ensures { OnOk result (string_bytes text.new ≡ string_bytes text.old ++ step_with content.now (index_text index)) }
+    ensures { OnOk result (string_bytes text.new ≡ string_bytes text.old ++ step_with (seen_content content.entry) (index_text index)) }
 {
     match content {
-        Content::Root => Ok(()),
-        Content::Element(name) => {
+        Seen::Root => Ok(()),
+        Seen::Element(name) => {
             text.push('/')?;
             push_name(text, name)?;
             push_index(text, index)
         }
-        Content::Attribute(name, _) => {
+        Seen::Attribute(name, _) => {
             text.push_str("/@")?;
             push_name(text, name)
         }
-        Content::Text(_) => {
+        Seen::Text(_) => {
             text.push_str("/text()")?;
             push_index(text, index)
         }

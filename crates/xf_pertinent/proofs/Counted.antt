@@ -1,5 +1,5 @@
 -- The entries that a change reaches are the pertinent ones.
-use Rattle.std.proofs.Common.{◌≡◌, ℕ, suc, ◌==◌, Bool, true, false, cond, not, ◌&&◌, ◌||◌, ◌⊎◌, inl, inr, List, [], ◌∷◌, map, length, Option, Some, None, slice_get, refl, sym, ap, ◌∙◌, arith}
+use Rattle.std.proofs.Common.{◌≡◌, ℕ, zero, suc, ◌==◌, Bool, true, false, cond, not, ◌&&◌, ◌||◌, ◌⊎◌, inl, inr, List, [], ◌∷◌, map, length, Option, Some, None, slice_get, refl, sym, ap, ◌∙◌, arith}
 use Rattle.std.specs.Prelude.{filter, option_and_then}
 use Rattle.std.specs.List.{list_any, list_all}
 use Rattle.std.proofs.lemmas.Bool.{eqb-true, false≢true}
@@ -10,12 +10,13 @@ use Rattle.xf_doc.specs.Shape.{shape_of}
 use Rattle.xf_model.specs.Rules.{Rule, Scope, rule_of}
 use Rattle.xf_model.specs.Applied.{Entry, is_calculate}
 use Rattle.xf_model.specs.Entries.{expression_in, is_computed, looks_of, reads_of, touches}
-use Rattle.xf_model.specs.Pertinent.{Asking, asking, askings, calculated_in, follows, is_begun, is_pertinent, pertinent_count, pertinent_of, placed_in, reads_any, stands_as}
+use Rattle.xf_model.specs.Pertinent.{Asking, Changes, asking, askings, calculated_in, follows, is_begun, is_pertinent, pertinent_count, pertinent_of, placed_in, reads_any, stands_as}
 use Rattle.xf_model.proofs.PertinentLaws.{PassesMore, pertinent-least, pertinent-stands}
 use Rattle.xf_binds.specs.declared.web.Asks.{Asks}
 use Rattle.xf_binds.specs.Kept.{Kept}
 use Rattle.xf_recalc.specs.Found.{asks_or}
 use Rattle.xf_recalc.specs.Web.{asks_by, asks_of}
+use Rattle.xf_pertinent.specs.Marked.{is_evaluated, pertinent_marks}
 use Rattle.xf_pertinent.specs.OfTable.{IsOfTable, changes_in}
 use Rattle.xf_pertinent.specs.Places.{asks_at, gives_at, gives_in, is_marked, reads_at, reads_in}
 use Rattle.xf_pertinent.specs.Begun.{AreBegun, asking_with, is_begun_at, is_begun_by, is_begun_in}
@@ -79,6 +80,22 @@ marks-counted f p (e ∷ es) (m ∷ ms) s h =
     by true true q rest = ap suc rest ∙ ap (λ b. length (cond b (f e ∷ filter p (map f (filter is_computed es))) (filter p (map f (filter is_computed es))))) (sym q)
     by true false q rest = rest ∙ ap (λ b. length (cond b (f e ∷ filter p (map f (filter is_computed es))) (filter p (map f (filter is_computed es))))) (sym q)
     by false b q rest = rest
+
+-- marks by places are a list
+marks-same : (f : Entry → Asking) (p : Asking → Bool) (entries : List Entry) (marks : List Bool) → length marks ≡ length entries
+    → ((place : ℕ) → is_marked marks place ≡ passes_in (λ e. p (f e)) (slice_get entries place)) → marks ≡ map (λ e. is_computed e && p (f e)) entries
+marks-same f p [] [] s h = refl
+marks-same f p [] (m ∷ ms) s h = cc s
+marks-same f p (e ∷ es) [] s h = cc s
+marks-same f p (e ∷ es) (m ∷ ms) s h =
+    ap (λ b. b ∷ ms) (h 0)
+    ∙ ap (λ l. (is_computed e && p (f e)) ∷ l) (marks-same f p es ms (let t : length ms ≡ length es = omega (arith, s) in t) (λ place. h (suc place)))
+
+marked-place : (f : Entry → Asking) (p : Asking → Bool) (entries : List Entry) (place : ℕ)
+    → is_marked (map (λ e. is_computed e && p (f e)) entries) place ≡ passes_in (λ e. p (f e)) (slice_get entries place)
+marked-place f p [] place = refl
+marked-place f p (e ∷ es) zero = refl
+marked-place f p (e ∷ es) (suc place) = marked-place f p es place
 
 -- ---- what is kept of an entry
 
@@ -293,9 +310,17 @@ module _ (scope : Scope) (tables : Tables) (nodes : List Node) (kept : Kept) (of
               (pertinent-least (shape_of nodes) (changes_in kept) asked met (at-each (λ a. follows (shape_of nodes) (changes_in kept) (filter met asked) a ≡ true → met a ≡ true) asked (λ k a e. met-closed a)))
               here.1 p.1)
 
-      pub counted : length (filter (λ mark. mark) marks) ≡ pertinent_count scope (shape_of nodes) kept.entries (changes_in kept)
-      counted =
-          marks-counted (asking scope (shape_of nodes)) pertinent kept.entries marks spread.size
+      pub marked : marks ≡ pertinent_marks scope (shape_of nodes) kept.entries (changes_in kept)
+      marked = marks-same (asking scope (shape_of nodes)) pertinent kept.entries marks spread.size
           (λ place. both-ways (is_marked marks place) (set place) ((spread.least set hears closed).places place) (pertinent-marked place))
-          ∙ ap length (sym (pertinent-stands (shape_of nodes) (changes_in kept) asked))
-          ∙ sym (mapped-length (λ (a : Asking). a.entry) (pertinent_of (shape_of nodes) (changes_in kept) asked))
+
+-- ---- as many as are marked
+
+pub counted : (scope : Scope) (all : List Visit) (entries : List Entry) (changes : Changes) (marks : List Bool) → marks ≡ pertinent_marks scope all entries changes →
+    length (filter (λ mark. mark) marks) ≡ pertinent_count scope all entries changes
+counted scope all entries changes marks is =
+    ap (λ ms. length (filter (λ mark. mark) ms)) is
+    ∙ marks-counted (asking scope all) (is_pertinent all changes (askings scope all entries)) entries (pertinent_marks scope all entries changes)
+    (mapped-length (is_evaluated scope all entries changes) entries) (marked-place (asking scope all) (is_pertinent all changes (askings scope all entries)) entries)
+    ∙ ap length (sym (pertinent-stands all changes (askings scope all entries)))
+    ∙ sym (mapped-length (λ (a : Asking). a.entry) (pertinent_of all changes (askings scope all entries)))

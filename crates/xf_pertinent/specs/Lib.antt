@@ -1,4 +1,5 @@
 pub mod OfTable
+pub mod Marked
 pub mod Places
 pub mod Called
 pub mod Begun

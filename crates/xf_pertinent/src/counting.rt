@@ -1,14 +1,17 @@
-//! How many entries of a model a recalculation evaluates.
+//! Which entries of a model a recalculation evaluates, and how many.
 
-ghost use Rattle.std.specs.Prelude.{◌≡◌, IfOk};
+ghost use Rattle.std.specs.Prelude.{◌≡◌, List, IfOk};
 ghost use Rattle.xf_doc.specs.Shape.{shape_of};
-ghost use Rattle.xf_model.specs.Pertinent.{pertinent_count};
+ghost use Rattle.xf_doc.specs.Visit.{Visit};
+ghost use Rattle.xf_model.specs.Applied as applied;
+ghost use Rattle.xf_model.specs.Pertinent.{Changes, pertinent_count};
 ghost use Rattle.xf_model.specs.Rules.{Scope};
 ghost use Rattle.xf_binds.specs.Table.{kept_at};
+ghost use Rattle.xf_pertinent.specs.Marked.{pertinent_marks};
 ghost use Rattle.xf_pertinent.specs.OfTable.{IsOfTable, changes_in};
 
 use crate::begun::begun;
-use crate::marks::count;
+use crate::marks::{MarkList, count};
 use crate::spreading::spread;
 use crate::touched::touched;
 use std::alloc::{AllocError, Global};
@@ -16,19 +19,26 @@ use xf_ast::Tables;
 use xf_binds::Table;
 use xf_tree::Forest;
 
-/// How many entries of a model the changes since its last recalculation concern: those that its next one evaluates.
-pub fn pertinent_count(
+/// Which entries of a model the changes since its last recalculation concern, by their places: those that its next one evaluates.
+pub fn pertinent_marks(
     alloc: Global,
     tables: &Tables,
     forest: &Forest,
     table: &Table,
     model: u32,
-) -> Result<u64, AllocError>
-    ensures { IfOk result (λ count. (scope : Scope) → IsOfTable scope tables.now forest.now.forest.nodes (kept_at table.now model)
-        → count ≡ pertinent_count scope (shape_of forest.now.forest.nodes) (kept_at table.now model).entries (changes_in (kept_at table.now model))) }
+) -> Result<MarkList, AllocError>
+    ensures { IfOk result (λ marks. (scope : Scope) → IsOfTable scope tables.now forest.now.forest.nodes (kept_at table.now model)
+        → marks ≡ pertinent_marks scope (shape_of forest.now.forest.nodes) (kept_at table.now model).entries (changes_in (kept_at table.now model))) }
 {
     let begun = begun(alloc, tables, table, model)?;
     let touched = touched(alloc, forest, table, model)?;
-    let marks = spread(alloc, table, model, begun, touched)?;
-    Ok(count(&marks))
+    spread(alloc, table, model, begun, touched)
+}
+
+/// How many these are.
+pub fn pertinent_count(marks: &MarkList) -> u64
+    ensures { (scope : Scope) (all : List Visit) (entries : List applied.Entry) (changes : Changes)
+        → marks.now ≡ pertinent_marks scope all entries changes → result ≡ pertinent_count scope all entries changes }
+{
+    count(marks)
 }

@@ -1,4 +1,4 @@
-//! How many entries of a model a recalculation evaluates (XForms 1.1, section 4.3.2 and appendix C), by what is kept of them: no expression
+//! Which entries of a model a recalculation evaluates (XForms 1.1, section 4.3.2 and appendix C), by what is kept of them: no expression
 //! is evaluated.
 #![tactic(auto)]
 
@@ -11,4 +11,5 @@ mod readers;
 mod spreading;
 mod touched;
 
-pub use counting::pertinent_count;
+pub use counting::{pertinent_count, pertinent_marks};
+pub use marks::MarkList;

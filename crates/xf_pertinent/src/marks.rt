@@ -5,8 +5,8 @@ ghost use Rattle.xf_pertinent.specs.Places.{is_marked};
 
 use xf_base::Items;
 
-/// Which entries are marked.
-pub(crate) type MarkList = Items<bool>;
+/// Which entries are marked, by their places.
+pub type MarkList = Items<bool>;
 
 /// Whether the entry at a place is marked: past them none is.
 pub(crate) fn is_marked(marks: &MarkList, place: usize) -> bool

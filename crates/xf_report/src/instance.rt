@@ -9,15 +9,16 @@ ghost use Rattle.xf_form_machine.specs.Properties.{braced, pair_text};
 ghost use Rattle.xf_form_machine.specs.State.{State};
 ghost use Rattle.xf_form_machine.specs.StateText.{instance_lines, line_of, marks_text, spaced};
 ghost use Rattle.xf_report.specs.Lines.{IsOf, block_text, has_elements_at, line_at, line_by, pair_among, text_line_if, value_text};
+ghost use Rattle.xf_tree.specs.Seen.{seen_content};
 
 use crate::marks::push_marks;
 use crate::nodes::nodes_at;
 use crate::text::{push_number, push_quoted, push_string};
 use std::alloc::{AllocError, Global};
 use xf_ast::Instance;
-use xf_doc::{Content, NodeId, NodeList};
+use xf_doc::{NodeId, NodeList};
 use xf_paths::Paths;
-use xf_tree::Forest;
+use xf_tree::{Forest, Seen};
 use xf_ui::NodeMarks;
 
 /// Appends the lines of the instance with this place among those of the form: one for it, and one for each of its elements, attributes
@@ -148,20 +149,18 @@ fn push_content<M: NodeMarks>(
     paths: &mut Paths<'_>,
     braces: &str,
     node: NodeId,
-    content: &Content,
+    content: Seen<'_>,
 ) -> Result<(), AllocError>
     requires live { IsLive node.number forest.now.forest }
     requires forest { paths.old ≡ forest.now }
-    ensures text { OnOk result (string_bytes text.new ≡ string_bytes text.old ++ line_by braces.now (M.marks_of marks.now) (visits forest.now.forest.nodes) node.number content.now) }
+    ensures text { OnOk result (string_bytes text.new ≡ string_bytes text.old ++ line_by braces.now (M.marks_of marks.now) (visits forest.now.forest.nodes) node.number (seen_content content.entry)) }
     ensures forest { paths.new ≡ paths.old }
 {
     match content {
-        Content::Root => Ok(()),
-        Content::Text(word) => {
-            push_text_line(alloc, text, forest, paths, braces, node, word.as_str())
-        }
-        Content::Element(_) => push_marked_line(alloc, text, forest, marks, paths, braces, node),
-        Content::Attribute(_, _) => {
+        Seen::Root => Ok(()),
+        Seen::Text(own) => push_text_line(alloc, text, forest, paths, braces, node, own),
+        Seen::Element(_) => push_marked_line(alloc, text, forest, marks, paths, braces, node),
+        Seen::Attribute(_, _) => {
             push_marked_line(alloc, text, forest, marks, paths, braces, node)
         }
     }

@@ -8,3 +8,4 @@ pub mod EachEvents
 pub mod DueLaws
 pub mod StartLaws
 pub mod StepLaws
+mod Examples

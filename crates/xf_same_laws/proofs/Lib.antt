@@ -12,3 +12,4 @@ pub mod LabelsGo
 pub mod CopiesGo
 pub mod StateGoes
 pub mod ControlsGo
+mod Examples

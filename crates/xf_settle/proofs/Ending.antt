@@ -91,7 +91,7 @@ module _ (given : Given) (tables : Tables) (model : ℕ) (forest : Forest) (entr
   abbrev all : List Visit
   all = visits after.nodes
 
-  after-nodes : after.nodes ≡ written all_done forest.next (contents_in scope entries forest) forest.nodes
+  pub after-nodes : after.nodes ≡ written all_done forest.next (contents_in scope entries forest) forest.nodes
   after-nodes = ap (λ f. f.nodes) w.written ∙ sym (all-written forest.next (contents_in scope entries forest) forest.nodes)
 
   pub stands-after : AroundStands given after.nodes

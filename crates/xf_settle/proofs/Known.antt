@@ -1,5 +1,5 @@
 -- What is known of calculates, by their places: nothing before the first turn, and in each turn one truth more.
-use Rattle.std.proofs.Common.{◌≡◌, ℕ, zero, suc, Bool, true, false, cond, List, [], ◌∷◌, length, take, Option, Some, None, option_map, get_or, slice_get, slice_set, refl, sym, ap, ◌∙◌, inl, inr}
+use Rattle.std.proofs.Common.{◌≡◌, ℕ, zero, suc, Bool, true, false, cond, List, [], ◌∷◌, length, take, Option, Some, None, option_map, get_or, slice_get, slice_set, refl, sym, ap, ◌∙◌, subst, inl, inr}
 use Rattle.std.specs.Prelude.{◌⊎◌, not, replicate}
 use Rattle.xf_base.specs.Limits.{string_limit}
 use Rattle.xf_doc.specs.Visit.{Visit}
@@ -10,9 +10,12 @@ use Rattle.xf_model.specs.declared.property.Property.{Property}
 use Rattle.xf_model.specs.declared.property.Property.TheVariants.{Kind, Calculate, Relevant, Readonly, Required, Constraint}
 use Rattle.xf_model.specs.Rules.{Scope}
 use Rattle.xf_model.specs.Applied.{Entry, is_calculate, is_property}
-use Rattle.xf_model.specs.Entries.{value_of}
+use Rattle.xf_model.specs.Entries.{is_computed, value_of}
 use Rattle.xf_model.specs.Settled.{calculates}
+use Rattle.xf_binds.specs.Held.{IsOnly}
+use Rattle.xf_binds.specs.Kept.{Kept, entries_of, truth_in}
 use Rattle.xf_settle.specs.Known.{AreKnown, IsKnown, known_at}
+use Rattle.xf_settle.specs.Passes.{AreTrue, IsKept, IsKnownBy, is_passed}
 use Rattle.xf_settle.specs.Turns.{truth_if}
 
 abbrev nothing : Option Bool
@@ -32,7 +35,7 @@ got-told (t ∷ ts) zero (suc k) truth = inl refl
 got-told (t ∷ ts) (suc place) zero truth = inl refl
 got-told (t ∷ ts) (suc place) (suc k) truth = elim (got-told ts place k truth) [ inl h ↦ inl h | inr h ↦ inr (ap suc h.0, h.1) ]
 
-calculate-computed : (p : Property) → is_property p Calculate ≡ true → not (is_property p Kind) ≡ true
+pub calculate-computed : (p : Property) → is_property p Calculate ≡ true → not (is_property p Kind) ≡ true
 calculate-computed Kind h = no h
 calculate-computed Calculate h = refl
 calculate-computed Relevant h = no h
@@ -41,7 +44,7 @@ calculate-computed Required h = no h
 calculate-computed Constraint h = no h
 
 -- a calculate has its place among these
-calculate-at : (es : List Entry) (k : ℕ) (e : Entry) → slice_get es k ≡ Some e → is_calculate e ≡ true → slice_get (calculates es) (length (calculates (take k es))) ≡ Some e
+pub calculate-at : (es : List Entry) (k : ℕ) (e : Entry) → slice_get es k ≡ Some e → is_calculate e ≡ true → slice_get (calculates es) (length (calculates (take k es))) ≡ Some e
 calculate-at [] k e h is = none-some h
 calculate-at (f ∷ es) zero e h is =
     let same : f ≡ e = some-same h in
@@ -87,3 +90,21 @@ module _ (scope : Scope) (all : List Visit) (entries : List Entry) where
           of true i (Some b) j =
               ap (truth_if scope all e) (calculate-computed e.property i)
               ∙ mapped (value_of (Some string_limit) scope all e) b (are (length (calculates (take k entries))) e b (calculate-at entries k e h i) j)
+
+-- what is known of the entry at a place, be it passed over or not
+pub known-by : (scope : Scope) (all : List Visit) (kept : Kept) (marks : List Bool) (known : List (Option Bool)) → AreKnown scope all kept.entries known → AreTrue scope all kept marks → (at : ℕ) (t : Option Bool) →
+    IsKnownBy (is_passed marks at) kept known (length (calculates (take at kept.entries))) (slice_get kept.entries at) t → IsKnown scope all (slice_get kept.entries at) t
+known-by scope all kept marks known are so at t h = by (is_passed marks at) refl h
+  where
+    of : is_passed marks at ≡ true → (o : Option Entry) → slice_get kept.entries at ≡ o → (u : Option Bool) → IsKept kept o u → IsKnown scope all o u
+    of i None e u k = tt
+    of i (Some e) s None k = tt
+    of i (Some e) s (Some b) k = so at e b s i k
+
+    by : (b : Bool) → is_passed marks at ≡ b → IsKnownBy b kept known (length (calculates (take at kept.entries))) (slice_get kept.entries at) t → IsKnown scope all (slice_get kept.entries at) t
+    by false i k = subst (IsKnown scope all (slice_get kept.entries at)) (sym k) (is-known scope all kept.entries known are at)
+    by true i k = of i (slice_get kept.entries at) refl t k
+
+pub kept-by : (k : Kept) (e : Entry) → is_computed e ≡ true → (found : Option Entry) → IsOnly (entries_of k.stood) e found → (t : Option Bool) → truth_in k e.property e.node ≡ Some t → IsKept k (Some e) t
+kept-by k e c found only None h = tt
+kept-by k e c found only (Some b) h = (c, (found, only), h)

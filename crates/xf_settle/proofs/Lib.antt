@@ -8,3 +8,5 @@ mod Turning
 mod Surroundings
 mod Ending
 mod Left
+pub mod Passing
+pub mod KeptTruths

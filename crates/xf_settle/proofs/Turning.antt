@@ -37,6 +37,9 @@ use Rattle.xf_settle_laws.proofs.MeasureLaws.{written-all, written-none}
 use Rattle.xf_machine_laws.proofs.WrittenContents.{all-written}
 use Rattle.xf_written_laws.specs.Turn.{AreTurned}
 use Rattle.xf_written_laws.proofs.TurnLaws.{turn, turn_writes, turn_text, turn_truth}
+use Rattle.xf_marks_laws.specs.Outside.{IsOutside}
+use Rattle.xf_since_laws.specs.Since.{Before, HoldsText, Since, changes_since}
+use Rattle.xf_since_laws.proofs.PassedWritten.{passed_turn}
 use Rattle.xf_form_machine.specs.Behave.{with_contents}
 use Rattle.xf_undo.specs.Draft.{Draft, IsUnused, with_reserved, with_settled}
 use Rattle.xf_settle.specs.declared.turn.Turn.{Turn}
@@ -170,7 +173,7 @@ module _ (given : Given) (tables : Tables) (model : ℕ) (forest : Forest) (entr
         ∙ turn_truth bounds called given tables model forest entries es turned-form bs (map entry_in after) (entry_in x) splits (done_by bs) (done-each bs) done-later
         ∙ ap (λ nodes. option_map truth_of (value_of (Some bounds.string) scope (visits nodes) (entry_in x))) (all-written forest.next contents forest.nodes)
 
-    placed : slice_get (calculates entries) x.place ≡ Some (entry_in x)
+    pub placed : slice_get (calculates entries) x.place ≡ Some (entry_in x)
     placed = (all-later (λ (u : Turn). slice_get (calculates entries) u.place ≡ Some (entry_in u)) before (x ∷ after) (subst (AllOf (λ (u : Turn). slice_get (calculates entries) u.place ≡ Some (entry_in u))) split t.placed)).0
 
     -- what was found in a turn is known of the settled data
@@ -330,6 +333,21 @@ module _ (given : Given) (tables : Tables) (model : ℕ) (forest : Forest) (entr
                 ((in_turn_passed bounds scope entries forest es in-turn bs (map entry_in after) (entry_in x) splits _ (in_turn_texts bounds scope entries forest es in-turn bs (map entry_in after) (entry_in x) splits)).1
                 (ap (is_over bounds.limits.text) is ∙ k))
             of false k j = cc j
+
+    -- one that is passed over has the text that stands, so that nothing is written in its turn
+    pub pass : (f : ℕ → ℕ) (taken : ℕ → Bool) (texts lists : List ℕ) (was : Before) (d : Draft) → Since f taken texts lists bounds called given tables model was forest entries →
+        IsOutside scope forest (changes_since texts lists was) entries (entry_in x) → Going scope entries forest before d → Going scope entries forest (before ++ x ∷ []) d
+    pass f taken texts lists was d since outside g =
+        step d d g (ap (turned number x.entry.node.number d) text
+        ∙ ap (λ b. cond b (Err Text) (Ok (written_once number x.entry.node.number held.text d))) held.fits
+        ∙ ap (λ b. Ok (cond b d (with_settled number x.entry.node.number held.text d))) (ap (has_text x.entry.node.number held.text) g.nodes ∙ held.stands))
+      where
+        held : HoldsText bounds scope (written (done_by bs) forest.next contents forest.nodes) (entry_in x)
+        held = passed_turn f taken texts lists bounds called given tables model was forest entries es since (record { ordered = t.ordered; single = t.single }) bs (map entry_in after) (entry_in x) splits outside (done_by bs)
+            (done-each bs) done-later
+
+        text : text_of (Some bounds.string) scope (visits d.now.nodes) (entry_in x) ≡ Some held.text
+        text = ap (λ nodes. text_of (Some bounds.string) scope (visits nodes) (entry_in x)) g.nodes ∙ held.given
 
   -- ---- after the last turn
 

@@ -2,3 +2,4 @@ pub mod Settles
 pub mod Turns
 pub mod Known
 pub mod Whole
+pub mod Passes

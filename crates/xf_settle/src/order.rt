@@ -3,6 +3,7 @@
 ghost use Rattle.std.specs.Prelude.{◌≡◌, ◌++◌, Some, map, option_map, slice_get, IfOk, OnOk};
 ghost use Rattle.xf_binds.specs.Held.{entries_in, entry_of};
 ghost use Rattle.xf_binds.specs.Table.{kept_at};
+ghost use Rattle.xf_settle.specs.Passes.{is_passed, passed_on};
 ghost use Rattle.xf_settle.specs.Turns.{AreInOrder, is_calculate_at, placed_at, placed_from, placed_of, placed_on, places_from};
 
 use crate::turn::Turn;
@@ -125,4 +126,27 @@ fn push_placed(entry: Entry, place: usize, turns: &mut Vec<Turn>) -> Result<(), 
         place: place as u32,
     })?;
     Ok(())
+}
+
+/// Whether the entry at a place is passed over: past the marks none is.
+pub(crate) fn is_passed(marks: &[bool], place: usize) -> bool
+    ensures { result ≡ is_passed marks.now place }
+{
+    match marks.get(place) {
+        Some(mark) => !*mark,
+        None => false,
+    }
+}
+
+/// Whether the calculate of a node is passed over.
+pub(crate) fn is_passed_on(table: &Table, model: u32, marks: &[bool], node: NodeId) -> bool
+    ensures { result ≡ passed_on (kept_at table.now model).entries marks.now node.number }
+{
+    match table.present(model) {
+        Some(applied) => match applied.place(node, Property::Calculate) {
+            Some(at) => is_passed(marks, at),
+            None => false,
+        },
+        None => false,
+    }
 }

@@ -7,6 +7,7 @@ ghost use Rattle.xf_doc.specs.Visit.{visits};
 ghost use Rattle.xf_model.specs.Settled.{calculates};
 ghost use Rattle.xf_binds.specs.Table.{kept_at};
 ghost use Rattle.xf_recalc.specs.Web.{asks_of};
+ghost use Rattle.xf_settle.specs.Passes.{ArePassed};
 ghost use Rattle.xf_settle.specs.Settles.{IsLeft, IsSettled, IsTold, MaySettle, scope_in, word_of, words_of};
 ghost use Rattle.xf_settle.specs.Turns.{AreTurns};
 
@@ -23,25 +24,36 @@ use xf_tree::Forest;
 use xf_undo::Draft;
 
 /// Evaluates the calculates of a model in an order of their graph, and writes their texts; then evaluates each other entry. The answer is the truths
-/// of their values, by the places of the entries. What was reserved or written before an `Err` stays in the draft
-/// until it is rolled back.
+/// of their values, by the places of the entries. One that is not marked, by the same places, is passed over: its truth is that of the last
+/// recalculation; an entry past the marks is evaluated. What was reserved or written before an `Err` stays in the draft until it is rolled back.
 pub fn settle<A: Around>(
     alloc: Global,
     tables: &Tables,
     draft: &mut Draft,
     model: u32,
     table: &Table,
+    marks: &[bool],
     around: &A,
 ) -> Result<TruthList, SettleFault>
     requires may { MaySettle (A.given around.now) tables.now model draft.old.now (kept_at table.now model).entries }
     requires asked { (kept_at table.now model).asks ≡ map (asks_of (scope_in (A.given around.now) tables.now model) (shape_of draft.old.now.nodes)) (kept_at table.now model).entries }
+    requires passes { ArePassed (A.given around.now) tables.now model draft.old.now (kept_at table.now model) marks.now }
     ensures ok { IfOk result (λ truths. IsSettled (scope_in (A.given around.now) tables.now model) (kept_at table.now model).entries draft.old.now draft.new.now truths) }
     ensures err { IfErr result (λ fault. IsTold fault (words_of (scope_in (A.given around.now) tables.now model) (kept_at table.now model).entries draft.old.now)) }
     ensures left { OnErr result (IsLeft (scope_in (A.given around.now) tables.now model) (kept_at table.now model).entries draft.old.now draft.new.now) }
     ensures kept { draft.new.kept ≡ draft.old.kept }
 {
     let turns = turns_of(alloc, model, table)?;
-    settle_in_turn(alloc, tables, draft, model, table, turns.as_slice(), around)
+    settle_in_turn(
+        alloc,
+        tables,
+        draft,
+        model,
+        table,
+        marks,
+        turns.as_slice(),
+        around,
+    )
 }
 
 /// The same, where the turns are given.
@@ -51,11 +63,13 @@ fn settle_in_turn<A: Around>(
     draft: &mut Draft,
     model: u32,
     table: &Table,
+    marks: &[bool],
     turns: &[Turn],
     around: &A,
 ) -> Result<TruthList, SettleFault>
     requires may { MaySettle (A.given around.now) tables.now model draft.old.now (kept_at table.now model).entries }
     requires turns { AreTurns (scope_in (A.given around.now) tables.now model) (kept_at table.now model).entries (visits draft.old.now.nodes) turns.now }
+    requires passes { ArePassed (A.given around.now) tables.now model draft.old.now (kept_at table.now model) marks.now }
     ensures ok { IfOk result (λ truths. IsSettled (scope_in (A.given around.now) tables.now model) (kept_at table.now model).entries draft.old.now draft.new.now truths) }
     ensures err { IfErr result (λ fault. IsTold fault (words_of (scope_in (A.given around.now) tables.now model) (kept_at table.now model).entries draft.old.now)) }
     ensures left { OnErr result (IsLeft (scope_in (A.given around.now) tables.now model) (kept_at table.now model).entries draft.old.now draft.new.now) }
@@ -72,6 +86,7 @@ fn settle_in_turn<A: Around>(
         draft,
         model,
         table,
+        marks,
         turns,
         count as u32,
         around,
@@ -82,6 +97,7 @@ fn settle_in_turn<A: Around>(
         draft.forest(),
         model,
         table,
+        marks,
         known.as_slice(),
         around,
     )?;

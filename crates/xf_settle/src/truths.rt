@@ -6,15 +6,17 @@ ghost use Rattle.xf_doc.specs.Forest.{has_number};
 ghost use Rattle.xf_doc.specs.Visit.{visits};
 ghost use Rattle.xf_plain_values.specs.Bounded.{GivesBounded};
 ghost use Rattle.xf_model.specs.Applied.{is_property};
+ghost use Rattle.xf_model.specs.Entries.{is_computed};
 ghost use Rattle.xf_eval.specs.Live.{AroundStands};
 ghost use Rattle.xf_binds.specs.Held.{entry_of};
 ghost use Rattle.xf_binds.specs.Table.{kept_at};
 ghost use Rattle.xf_settle.specs.Settles.{scope_in};
 ghost use Rattle.xf_settle.specs.Known.{AreKnown, IsKnown, known_at};
+ghost use Rattle.xf_settle.specs.Passes.{AreTrue, IsKept, IsKnownBy};
 ghost use Rattle.xf_settle.specs.Turns.{found_over, found_step, is_there, is_there_at, truth_over};
 
 use crate::evaluate::entry_value;
-use crate::order::is_calculate;
+use crate::order::{is_calculate, is_passed};
 use std::alloc::Global;
 use xf_ast::Tables;
 use xf_binds::{Entry, Table, TruthList};
@@ -23,26 +25,29 @@ use xf_model::Property;
 use xf_tree::Forest;
 
 /// The truths of the values of a model's entries over the forest as it stands, by their places. Those that are known of calculates, by their
-/// places among these, are not evaluated again.
+/// places among these, are not evaluated again; nor are the entries that are passed over, of which the truths of the last recalculation are kept.
 pub(crate) fn truths_of<A: Around>(
     alloc: Global,
     tables: &Tables,
     forest: &Forest,
     model: u32,
     table: &Table,
+    marks: &[bool],
     known: &[Option<bool>],
     around: &A,
 ) -> Result<TruthList, EvalFault>
     requires stands { AroundStands (A.given around.now) forest.now.forest.nodes }
     requires live { list_all (is_there forest.now.forest.nodes) (kept_at table.now model).entries ≡ true }
     requires known { AreKnown (scope_in (A.given around.now) tables.now model) (visits forest.now.forest.nodes) (kept_at table.now model).entries known.now }
+    requires passed { AreTrue (scope_in (A.given around.now) tables.now model) (visits forest.now.forest.nodes) (kept_at table.now model) marks.now }
     ensures { GivesBounded EvalFault.Memory EvalFault.Long (λ truths. truths) result (found_over [] (scope_in (A.given around.now) tables.now model) (visits forest.now.forest.nodes) (kept_at table.now model).entries) }
 {
     let mut found = TruthList::new(alloc);
     let mut place = 0;
     for at in 0..table.len(model) {
         let entry = table.entry(model, at);
-        let truth = known_at(entry, known, place);
+        let passed = is_passed(marks, at);
+        let truth = known_of(table, model, entry, passed, known, place);
         push_truth(
             alloc, tables, forest, model, entry, truth, around, &mut found,
         )?;
@@ -51,6 +56,52 @@ pub(crate) fn truths_of<A: Around>(
         }
     }
     Ok(found)
+}
+
+/// What is known of an entry: the truth that is kept where it is passed over, or else that of its turn.
+fn known_of(
+    table: &Table,
+    model: u32,
+    entry: Option<Entry>,
+    is_passed: bool,
+    known: &[Option<bool>],
+    place: usize,
+) -> Option<bool>
+    ensures { IsKnownBy is_passed (kept_at table.now model) known.now place (option_map entry_of entry) result }
+{
+    if is_passed {
+        return kept_truth(table, model, entry);
+    }
+    known_at(entry, known, place)
+}
+
+/// The truth that is kept of an entry from the last recalculation, where it stood then; a type has none.
+fn kept_truth(table: &Table, model: u32, entry: Option<Entry>) -> Option<bool>
+    ensures { IsKept (kept_at table.now model) (option_map entry_of entry) result }
+{
+    match entry {
+        Some(entry) => {
+            if is_type(entry.property) {
+                return None;
+            }
+            stood_truth(table, model, &entry)
+        }
+        None => None,
+    }
+}
+
+/// The same of an entry that is no type.
+fn stood_truth(table: &Table, model: u32, entry: &Entry) -> Option<bool>
+    requires { is_computed (entry_of entry.now) ≡ true }
+    ensures { IsKept (kept_at table.now model) (Some (entry_of entry.now)) result }
+{
+    match table.stood(model, entry) {
+        Some(_) => match table.truth_in(model, entry.node, entry.property) {
+            Some(truth) => truth,
+            None => None,
+        },
+        None => None,
+    }
 }
 
 /// What is known of an entry, where so many calculates stand before it.

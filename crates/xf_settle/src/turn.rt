@@ -14,11 +14,13 @@ ghost use Rattle.xf_binds.specs.Held.{entry_of};
 ghost use Rattle.xf_binds.specs.Table.{kept_at};
 ghost use Rattle.xf_settle.specs.Settles.{IsLeft, IsTold, MaySettle, scope_in, words_of};
 ghost use Rattle.xf_settle.specs.Known.{AreKnown};
+ghost use Rattle.xf_settle.specs.Passes.{ArePassed};
 ghost use Rattle.xf_settle.specs.Turns.{AreTurns, turned};
 ghost use Rattle.xf_settle.specs.Whole.{IsWritten};
 
 use crate::evaluate::evaluated_entry;
 use crate::fault::SettleFault;
+use crate::order::is_passed_on;
 use std::alloc::{AllocError, Global};
 use xf_ast::Tables;
 use xf_binds::{Entry, Table};
@@ -35,20 +37,23 @@ pub(crate) struct Turn {
     pub place: u32,
 }
 
-/// Reserves a number for each of the calculates, evaluates each in its turn and writes its text. The answer is the truths of their values, by
-/// their places: a calculate is evaluated once. What was reserved or written before an `Err` stays.
+/// Reserves a number for each of the calculates, evaluates each in its turn, but for those that are passed over, and writes its text. The answer is
+/// the truths of the values that were evaluated, by the places of the calculates: each is evaluated once. What was reserved or written before an
+/// `Err` stays.
 pub(crate) fn settle_turns<A: Around>(
     alloc: Global,
     tables: &Tables,
     draft: &mut Draft,
     model: u32,
     table: &Table,
+    marks: &[bool],
     turns: &[Turn],
     count: u32,
     around: &A,
 ) -> Result<Vec<Option<bool>>, SettleFault>
     requires may { MaySettle (A.given around.now) tables.now model draft.old.now (kept_at table.now model).entries }
     requires turns { AreTurns (scope_in (A.given around.now) tables.now model) (kept_at table.now model).entries (visits draft.old.now.nodes) turns.now }
+    requires passes { ArePassed (A.given around.now) tables.now model draft.old.now (kept_at table.now model) marks.now }
     requires count { count ≡ length (calculates (kept_at table.now model).entries) }
     ensures ok { OnOk result (IsWritten (scope_in (A.given around.now) tables.now model) (kept_at table.now model).entries draft.old.now draft.new.now) }
     ensures truths { IfOk result (λ truths. AreKnown (scope_in (A.given around.now) tables.now model) (visits draft.new.now.nodes) (kept_at table.now model).entries truths.items) }
@@ -60,6 +65,9 @@ pub(crate) fn settle_turns<A: Around>(
     let first = draft.forest().next_number();
     draft.reserve_numbers(count);
     for turn in turns {
+        if is_passed_on(table, model, marks, turn.entry.node) {
+            continue;
+        }
         let number = first + turn.place as u128;
         let truth = settle_turn(alloc, tables, draft, model, turn.entry, number, around)?;
         tell(&mut truths, turn.place as usize, truth);

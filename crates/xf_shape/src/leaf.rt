@@ -9,9 +9,9 @@ ghost use Rattle.xf_shape.specs.Spots.{is_element_in, is_filled, is_leaf, is_spo
 ghost use Rattle.xf_shape.specs.Steps.{has_list_in};
 
 use crate::spot::Spot;
-use xf_doc::{Content, NodeId};
+use xf_doc::NodeId;
 use xf_name::Axis;
-use xf_tree::Forest;
+use xf_tree::{Forest, Seen};
 
 /// The nodes are those of trees, and their numbers are not those of texts. This tells contracts so, and does nothing.
 pub fn is_sound(forest: &Forest)
@@ -47,7 +47,7 @@ pub(crate) fn is_element(forest: &Forest, node: NodeId) -> bool
     ensures { result ≡ is_element_in (content_at node.number forest.now.forest.nodes) }
 {
     match forest.content(node) {
-        Some(Content::Element(_)) => true,
+        Some(Seen::Element(_)) => true,
         _ => false,
     }
 }
@@ -57,7 +57,7 @@ pub fn has_list(forest: &Forest, node: NodeId) -> bool
     ensures { result ≡ has_list_in (content_at node.number forest.now.forest.nodes) }
 {
     match forest.content(node) {
-        Some(Content::Element(_)) | Some(Content::Root) => true,
+        Some(Seen::Element(_)) | Some(Seen::Root) => true,
         _ => false,
     }
 }
@@ -87,7 +87,7 @@ pub fn is_text(forest: &Forest, node: NodeId) -> bool
     ensures { result ≡ is_text_in (content_at node.number forest.now.forest.nodes) }
 {
     match forest.content(node) {
-        Some(Content::Text(_)) => true,
+        Some(Seen::Text(_)) => true,
         _ => false,
     }
 }

@@ -24,11 +24,11 @@ use crate::spot::Spot;
 use crate::steps::{begun, walked};
 use std::alloc::{AllocError, Global};
 use xf_ast::{Expr, Link, Operator, Test};
-use xf_doc::{Content, NodeId, NodeList};
+use xf_doc::{NodeId, NodeList};
 use xf_eval::{Around, Kind, append, kind_of, single};
 use xf_lang::Context;
 use xf_name::Axis;
-use xf_tree::Forest;
+use xf_tree::{Forest, Seen};
 
 /// The nodes that the node set of a bind selects from the context node over the shape, in document order, each once: a text stands for its
 /// parent, and a root for its children. A plain value selects none.
@@ -86,7 +86,7 @@ fn is_root(forest: &Forest, node: NodeId) -> bool
     ensures { result ≡ is_root_in (content_at node.number forest.now.forest.nodes) }
 {
     match forest.content(node) {
-        Some(Content::Root) => true,
+        Some(Seen::Root) => true,
         _ => false,
     }
 }

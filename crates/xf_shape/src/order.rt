@@ -12,8 +12,8 @@ use crate::leaf::is_sound;
 use crate::spot::Spot;
 use crate::walk::owned;
 use std::alloc::{AllocError, Global};
-use xf_doc::{Content, NodeId, NodeList};
-use xf_tree::Forest;
+use xf_doc::{NodeId, NodeList};
+use xf_tree::{Forest, Seen};
 
 /// Nodes of the shape in document order, each once.
 pub fn in_order(alloc: Global, forest: &Forest, spots: &[Spot]) -> Result<Vec<Spot>, AllocError>
@@ -122,7 +122,7 @@ fn is_attribute_of(forest: &Forest, owner: NodeId, node: NodeId) -> bool
     requires { IsLive node.number forest.now.forest }
     ensures { result ≡ is_attribute_of forest.now.forest.nodes owner.number node.number }
 {
-    let Some(Content::Attribute(_, _)) = forest.content(node) else {
+    let Some(Seen::Attribute(_, _)) = forest.content(node) else {
         return false;
     };
     match forest.parent(node) {

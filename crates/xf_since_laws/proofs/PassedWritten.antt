@@ -19,7 +19,7 @@ use Rattle.xf_model.specs.Pertinent.{Changes, AllOf}
 use Rattle.xf_model.proofs.CircularLemmas.{StandsAt}
 use Rattle.xf_model.proofs.EachLemmas.{of_each, each_then, each_both}
 use Rattle.xf_agree.specs.InTurn.{AreSingle, AreInTurn}
-use Rattle.xf_agree.proofs.TurnLists.{all-later, at-stands, each-none, each-stands}
+use Rattle.xf_agree.proofs.TurnLists.{all-append, all-later, at-stands, each-none, each-stands}
 use Rattle.xf_agree.proofs.InTurnLaws.{each-in_turn, stands-in_turn}
 use Rattle.xf_settle_laws.specs.Written.{written, and_one, nodes_of, MayWrite}
 use Rattle.xf_settle_laws.proofs.KindLemmas.{and-none}
@@ -30,7 +30,7 @@ use Rattle.xf_marks_laws.proofs.Behind.{append-none}
 use Rattle.xf_written_laws.specs.Turn.{AreTurned, contents_of}
 use Rattle.xf_written_laws.proofs.TurnLaws.{turn, turn_text, turn_content}
 use Rattle.xf_since_laws.specs.Since.{Before, Since, Stood, HoldsText, kept_of, changes_since}
-use Rattle.xf_since_laws.specs.Pertinent.{is_written, AreOrdered, PertinentWritten, PertinentTruth}
+use Rattle.xf_since_laws.specs.Pertinent.{is_written, AreOrdered, PertinentWritten, PertinentTruth, PassedTurn}
 use Rattle.xf_since_laws.proofs.Contents.{are-made, count-is, may-write, room-left}
 use Rattle.xf_since_laws.proofs.Passed.{unwritten-outside}
 use Rattle.xf_since_laws.proofs.PassedText.{all-hold, truth-kept}
@@ -220,6 +220,45 @@ module _ (f : ℕ → ℕ) (taken : ℕ → Bool) (texts lists : List ℕ) (b : 
       written-same (λ n. true) (comes_in es) first contents now.nodes (λ n i. sym (all-come n i))
       ∙ along [] es refl (written-same (comes_in []) (some_before []) first contents now.nodes (λ n i. refl))
       ∙ written-same (some_before es) writes first contents now.nodes (λ n i. ap (λ c. c && writes n) (all-come n i))
+
+  -- ---- one that is passed over in its turn
+
+  grow : (front back after : List Entry) → es ≡ front ++ (back ++ after) → all_before front ≡ few_before front → all_before (front ++ back) ≡ few_before (front ++ back)
+  grow front [] after split same = subst (λ l. all_before l ≡ few_before l) (sym (append-none front)) same
+  grow front (e ∷ back) after split same =
+      subst (λ l. all_before l ≡ few_before l) (append_assoc front (e ∷ []) back)
+      (grow (front ++ e ∷ []) back after (split ∙ sym (append_assoc front (e ∷ []) (back ++ after))) (step front (back ++ after) e split same))
+
+  few-first : (before after : List Entry) → es ≡ before ++ after → all_before before ≡ few_before before
+  few-first before after split = grow [] before after split (written-same (comes_in []) (some_before []) first contents now.nodes (λ n i. refl))
+
+  each-comes_as : (before after : List Entry) (e : Entry) → es ≡ before ++ e ∷ after → (done : ℕ → Bool) → AllOf (λ g. done g.node ≡ true) before → AllOf (λ g. done g.node ≡ false) (e ∷ after) →
+      AllOf (λ g. comes_in before g.node ≡ done g.node) es
+  each-comes_as before after e split done did left =
+      subst (AllOf (λ g. comes_in before g.node ≡ done g.node)) (sym split)
+      (all-append (λ g. comes_in before g.node ≡ done g.node) before (e ∷ after)
+      (each_then (λ (g : Entry). (comes_in before g.node ≡ true) × (done g.node ≡ true)) _ (λ g h. h.0 ∙ sym h.1) before (each_both _ _ before (each-comes before) did))
+      (each_then (λ (g : Entry). (comes_in before g.node ≡ false) × (done g.node ≡ false)) _ (λ g h. h.0 ∙ sym h.1) (e ∷ after)
+      (each_both _ _ (e ∷ after) (none-comes before (e ∷ after) (subst AreSingle split order.single)) left)))
+
+  comes-as : (before : List Entry) (done : ℕ → Bool) → AllOf (λ g. comes_in before g.node ≡ done g.node) es → (n : ℕ) → has n (nodes_of contents) ≡ true → comes_in before n ≡ done n
+  comes-as before done each n h =
+      at-nodes (λ k. comes_in before k ≡ done k) (content_by b scope (settled b scope entries (visits now.nodes))) (λ e. refl) (calculates entries)
+      (each_then (λ e. (k : ℕ) × StandsAt (calculates entries) k e) (λ e. comes_in before e.node ≡ done e.node) (λ e s.
+      let r = stands-in_turn b scope entries now es in-turn s.0 e s.1 in at-stands (λ g. comes_in before g.node ≡ done g.node) es r.0 e each r.1) (calculates entries) (each-stands (calculates entries)))
+      n (sym (ap (λ c. has n (nodes_of c)) (are-made b functions given tables model now entries since.due)) ∙ h)
+
+  pub turn-passed : (before after : List Entry) (e : Entry) → es ≡ before ++ e ∷ after → IsOutside scope now changes entries e →
+      (done : ℕ → Bool) → AllOf (λ g. done g.node ≡ true) before → AllOf (λ g. done g.node ≡ false) (e ∷ after) → HoldsText b scope (written done first contents now.nodes) e
+  turn-passed before after e split out done did left =
+      let same = few-first before (e ∷ after) split in
+      subst (λ nodes. HoldsText b scope nodes e)
+      (sym same ∙ written-same (comes_in before) done first contents now.nodes (comes-as before done (each-comes_as before after e split done did left)))
+      (holds before after e split same out)
+
+pub passed_turn : PassedTurn
+passed_turn f taken texts lists b functions given tables model was now entries es since order before after e split out done did left =
+    turn-passed f taken texts lists b functions given tables model was now entries es since order before after e split out done did left
 
 pub pertinent_written : PertinentWritten
 pertinent_written f taken texts lists b functions given tables model was now entries es since order = all-written f taken texts lists b functions given tables model was now entries es since order

@@ -1,6 +1,6 @@
 -- What a recalculation passes over (XForms 1.1, section 4.3.2 and appendix C): an entry that is not pertinent has the text that stands and the
 -- truth that was kept, so that evaluating the pertinent entries alone leaves what evaluating all of them would.
-use Rattle.std.specs.Prelude.{ℕ, ◌≡◌, ◌+◌, ◌^◌, Bool, true, List, [], map, length, Some, nat_le}
+use Rattle.std.specs.Prelude.{ℕ, ◌≡◌, ◌+◌, ◌^◌, Bool, true, false, List, [], ◌∷◌, ◌++◌, map, length, Some, nat_le}
 use Rattle.xf_ast.specs.declared.expr.Expr.{Expr}
 use Rattle.xf_ast.specs.declared.form.Tables.{Tables}
 use Rattle.xf_doc.specs.declared.content.Node.{Node}
@@ -68,6 +68,14 @@ PertinentTruth = (f : ℕ → ℕ) (taken : ℕ → Bool) (texts lists : List �
     IsOutside (scope_of functions given tables model) now (changes_since texts lists was) entries e →
     AllOf (λ v. stands_as (asking (scope_of functions given tables model) (shape_now now) e) v.entry ≡ true →
     kept_of (value_of (Some b.string) (scope_of functions given tables model) (visits (settled_nodes b functions given tables model now entries)) e) ≡ v.value) was.stood
+
+-- where the calculates before it were written in an order of theirs, one that is not pertinent has in its turn the text that stands
+abbrev pub PassedTurn : Type 0
+PassedTurn = (f : ℕ → ℕ) (taken : ℕ → Bool) (texts lists : List ℕ) (b : Bounds) (functions : Functions) (given : Given) (tables : Tables) (model : ℕ) (was : Before) (now : Forest) (entries es : List Entry) →
+    Since f taken texts lists b functions given tables model was now entries → AreOrdered functions given tables model now entries es →
+    (before after : List Entry) (e : Entry) → es ≡ before ++ e ∷ after → IsOutside (scope_of functions given tables model) now (changes_since texts lists was) entries e →
+    (done : ℕ → Bool) → AllOf (λ g. done g.node ≡ true) before → AllOf (λ g. done g.node ≡ false) (e ∷ after) →
+    HoldsText b (scope_of functions given tables model) (nodes_with done b functions given tables model now entries) e
 
 -- ---- from one recalculation to the next
 

@@ -2,7 +2,7 @@
 //! Each function does nothing: its contract is a law.
 #![tactic(auto)]
 
-ghost use Rattle.xf_since_laws.specs.Pertinent.{PertinentText, PertinentWritten, PertinentTruth, SinceAnew, AloneStands, EntriesStand};
+ghost use Rattle.xf_since_laws.specs.Pertinent.{PertinentText, PertinentWritten, PertinentTruth, PassedTurn, SinceAnew, AloneStands, EntriesStand};
 
 /// A calculate that is not pertinent has the text that stands, whichever pertinent ones were written; so that the settled nodes are those
 /// where the contents of these alone were written, and what is not pertinent has over them the truth that was kept.
@@ -10,6 +10,7 @@ pub fn not_pertinent()
     ensures text { PertinentText }
     ensures written { PertinentWritten }
     ensures truth { PertinentTruth }
+    ensures turn { PassedTurn }
 {}
 
 /// After a recalculation all that these laws ask of the one before is so.

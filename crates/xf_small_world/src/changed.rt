@@ -6,7 +6,7 @@ ghost use Rattle.xf_plain_values.specs.Conversions.{whole};
 ghost use Rattle.xf_model.specs.Places.{held};
 ghost use Rattle.xf_form_machine.specs.Delete.{delete_told, location_of};
 ghost use Rattle.xf_form_machine.specs.Insert.{insert_told};
-ghost use Rattle.xf_actions.specs.Changed.{instance_event};
+ghost use Rattle.xf_actions.specs.TreeChanges.{instance_event};
 ghost use Rattle.xf_actions.specs.Performs.{Reads};
 ghost use Rattle.xf_actions.specs.Seen.{fired_of, place_of, told_of};
 ghost use Rattle.xf_small_world.specs.Fault.{means};

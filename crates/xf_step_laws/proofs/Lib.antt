@@ -14,3 +14,4 @@ pub mod RestFixed
 pub mod Found
 pub mod RestsGo
 pub mod FixedLaws
+mod Examples

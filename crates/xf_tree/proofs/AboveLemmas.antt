@@ -11,7 +11,7 @@ use Rattle.xf_doc.specs.Forest.{is_attribute, below}
 use Rattle.xf_doc.specs.Changes.{place_in, place_among, with_place, standing}
 use Rattle.xf_doc.specs.Visit.{visits, numbers, has, attributes_of, children_of, parent_of}
 use Rattle.xf_tree.specs.declared.rows.Row.{Row}
-use Rattle.xf_tree.specs.declared.slot.Slot.{Slot}
+use Rattle.xf_tree.specs.Slot.{Slot}
 use Rattle.xf_tree.specs.Rows.{deeper, tree_of, less_deep, parent_row_of, top_depth}
 use Rattle.xf_tree.specs.Tree.{node_of, number_in, content_in, no_row, StandsAt, AreSteps, depths, times, is_kin, kin_in, kin_before, number_at, IsSound}
 use Rattle.xf_tree.proofs.SizedLemmas.{lt-true, lt-false, AllDeep}

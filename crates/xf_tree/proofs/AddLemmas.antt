@@ -16,7 +16,7 @@ use Rattle.xf_doc.specs.Limits.{Limits, node_count, all_size, size_of, passed_by
 use Rattle.xf_doc.specs.Plant.{numbered_from}
 use Rattle.xf_doc.specs.Texts.{KeptText, Keeping}
 use Rattle.xf_tree.specs.declared.rows.Row.{Row}
-use Rattle.xf_tree.specs.declared.slot.Slot.{Slot}
+use Rattle.xf_tree.specs.Slot.{Slot}
 use Rattle.xf_tree.specs.Rows.{Sized, deeper}
 use Rattle.xf_tree.specs.Leaves.{parts_in, AreLeaves}
 use Rattle.xf_tree.specs.First.{AreFirst}
@@ -80,9 +80,6 @@ same-view s s2 rows kept next same sound =
     let keeps : KeepsLive s s2 = λ key some. same key in
     let whole : List Node → List KeptText → Keeping = λ nodes texts. record { forest = record { nodes = nodes; next = next }; kept = texts } in
     ap (λ l. whole l (map (kept_of s2) kept)) (kept-nodes s s2 rows sound.live keeps) ∙ ap (whole (map (node_of s) rows)) (kept-same s s2 kept sound.kept_live keeps)
-
-pub room-same : (s s2 : Slab Slot) (c : ℕ) → s2 ≡ record s { capacity = c } → (key : ℕ) → get s2 key ≡ get s key
-room-same s s2 c e key = ap (λ (t : Slab Slot). get t key) e
 
 -- the depths of rows are those of their nodes
 node-steps : (s : Slab Slot) (rows : List Row) (next : ℕ) (cs : List (ℕ × Content)) → map (node_of s) rows ≡ numbered_from next cs → depths rows ≡ map (λ (p : ℕ × Content). p.0) cs

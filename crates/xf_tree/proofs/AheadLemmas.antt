@@ -11,7 +11,7 @@ use Rattle.xf_doc.specs.Visit.{numbers}
 use Rattle.xf_doc.specs.Plant.{is_less, written_of}
 use Rattle.xf_doc.specs.WellFormed.{have_same_name}
 use Rattle.xf_tree.specs.declared.rows.Row.{Row}
-use Rattle.xf_tree.specs.declared.slot.Slot.{Slot}
+use Rattle.xf_tree.specs.Slot.{Slot}
 use Rattle.xf_tree.specs.Rows.{deeper}
 use Rattle.xf_tree.specs.Leaves.{parts_in}
 use Rattle.xf_tree.specs.First.{attribute_depth, AreFirst}

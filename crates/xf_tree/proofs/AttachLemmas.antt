@@ -8,7 +8,7 @@ use Rattle.xf_doc.specs.declared.content.Content.{Content}
 use Rattle.xf_doc.specs.Forest.{has_number, first_tree, tree_of}
 use Rattle.xf_doc.specs.Changes.{shifted, moved_to, without_tree, with_part, with_below}
 use Rattle.xf_tree.specs.declared.rows.Row.{Row}
-use Rattle.xf_tree.specs.declared.slot.Slot.{Slot}
+use Rattle.xf_tree.specs.Slot.{Slot}
 use Rattle.xf_tree.specs.Rows.{deeper, deepened, tree_of as row_tree, after_tree, rest_of}
 use Rattle.xf_tree.specs.Tree.{node_of, number_in, content_in, times, StandsAt, IsSound, no_row}
 use Rattle.xf_tree.specs.Below.{part_at, row_below, IsPlaced}

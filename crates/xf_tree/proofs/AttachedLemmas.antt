@@ -10,7 +10,7 @@ use Rattle.xf_doc.specs.Changes.{shifted}
 use Rattle.xf_doc.specs.Forest.{is_root, is_element, is_attribute}
 use Rattle.xf_doc.specs.Limits.{node_count, all_size}
 use Rattle.xf_tree.specs.declared.rows.Row.{Row}
-use Rattle.xf_tree.specs.declared.slot.Slot.{Slot}
+use Rattle.xf_tree.specs.Slot.{Slot}
 use Rattle.xf_tree.specs.Rows.{Sized, deeper, deepened, grown, tree_of, after_tree, rest_of}
 use Rattle.xf_tree.specs.Leaves.{is_leaf, parts_in, NotDeeper, AreLeaves}
 use Rattle.xf_tree.specs.First.{attribute_depth, AreFirst}

@@ -12,7 +12,7 @@ use Rattle.xf_doc.specs.Visit.{Visit, numbers, visits, still_above, has, is_firs
 use Rattle.xf_doc.specs.Axis.{axis_of, axis_from, on_axis, in_proximity, are_siblings, before, after}
 use Rattle.xf_doc.proofs.RenumberLaws.{map-reverse}
 use Rattle.xf_tree.specs.declared.rows.Row.{Row}
-use Rattle.xf_tree.specs.declared.slot.Slot.{Slot}
+use Rattle.xf_tree.specs.Slot.{Slot}
 use Rattle.xf_tree.specs.declared.walk.Left.TheVariants.{Nothing}
 use Rattle.xf_tree.specs.Rows.{AllDeep, deeper, tree_of, parent_row_of}
 use Rattle.xf_tree.specs.Tree.{node_of, content_in, no_row, is_kin, number_at, times, depths, AreSteps}

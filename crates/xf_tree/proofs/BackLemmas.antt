@@ -15,7 +15,7 @@ use Rattle.xf_doc.specs.Limits.{node_count, all_size, size_of}
 use Rattle.xf_doc.specs.Texts.{Keeping, KeptText, at_depth, text_node, with_texts, is_of, back, without, given_up, put_back, element_texts}
 use Rattle.xf_doc.proofs.RunLemmas.{text-again}
 use Rattle.xf_tree.specs.declared.rows.Row.{Row}
-use Rattle.xf_tree.specs.declared.slot.Slot.{Slot}
+use Rattle.xf_tree.specs.Slot.{Slot}
 use Rattle.xf_tree.specs.Rows.{Sized}
 use Rattle.xf_tree.specs.Leaves.{parts_in, AreLeaves}
 use Rattle.xf_tree.specs.First.{AreFirst}

@@ -5,7 +5,7 @@ use Rattle.std.proofs.lemmas.Bool.{cases_lt, cases_Bool, true≢false, false≢t
 use Rattle.slab.specs.Slab.{Slab, get}
 use Rattle.xf_doc.specs.Forest.{is_attribute}
 use Rattle.xf_tree.specs.declared.rows.Row.{Row}
-use Rattle.xf_tree.specs.declared.slot.Slot.{Slot}
+use Rattle.xf_tree.specs.Slot.{Slot}
 use Rattle.xf_tree.specs.Rows.{deeper, tree_of, after_tree}
 use Rattle.xf_tree.specs.Tree.{node_of, content_in, no_row, is_kin}
 use Rattle.xf_tree.specs.Below.{child_at, attribute_at}

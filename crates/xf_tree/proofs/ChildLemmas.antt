@@ -16,7 +16,7 @@ use Rattle.xf_doc.specs.Shape.{has_elements}
 use Rattle.xf_doc.specs.Visit.{Visit, visits, is_first, numbers}
 use Rattle.xf_doc.specs.WellFormed.{have_same_name}
 use Rattle.xf_tree.specs.declared.rows.Row.{Row}
-use Rattle.xf_tree.specs.declared.slot.Slot.{Slot}
+use Rattle.xf_tree.specs.Slot.{Slot}
 use Rattle.xf_tree.specs.Rows.{deeper, tree_of, after_tree}
 use Rattle.xf_tree.specs.Tree.{node_of, no_row, AreSteps, StandsAt, IsSound}
 use Rattle.xf_tree.specs.Kids.{is_kid, is_attribute_like, is_lesser_attribute, kids_in, kids_at}

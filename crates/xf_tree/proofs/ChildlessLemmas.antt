@@ -16,7 +16,7 @@ use Rattle.xf_doc.specs.Visit.{Visit, is_first, still_above, numbers, visit, vis
 use Rattle.xf_doc.specs.Shape.{has_elements}
 use Rattle.xf_doc.proofs.VisitLemmas.{BeginsWithin, closed, deeper-by_one}
 use Rattle.xf_tree.specs.declared.rows.Row.{Row}
-use Rattle.xf_tree.specs.declared.slot.Slot.{Slot}
+use Rattle.xf_tree.specs.Slot.{Slot}
 use Rattle.xf_tree.specs.Leaves.{is_leaf, parts_in, NotDeeper, AreLeaves}
 use Rattle.xf_tree.specs.Tree.{node_of, content_in, AllTops, AreSteps, depths, StandsAt, no_row, IsSound}
 use Rattle.xf_tree.specs.Texts.{AreAt, depth_at, run_of, children, is_child_row}

@@ -10,7 +10,7 @@ use Rattle.xf_doc.specs.Changes.{shifted, contents_in}
 use Rattle.xf_doc.specs.Forest.{is_root, has_number, first_tree, tree_of}
 use Rattle.xf_doc.specs.Limits.{size_of}
 use Rattle.xf_tree.specs.declared.rows.Row.{Row}
-use Rattle.xf_tree.specs.declared.slot.Slot.{Slot}
+use Rattle.xf_tree.specs.Slot.{Slot}
 use Rattle.xf_tree.specs.Rows.{deeper, tree_of as row_tree}
 use Rattle.xf_tree.specs.Leaves.{parts_in, AreLeaves}
 use Rattle.xf_tree.specs.First.{AreFirst}

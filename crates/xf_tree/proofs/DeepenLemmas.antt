@@ -4,7 +4,7 @@ use Rattle.slab.specs.Slab.{Slab, get}
 use Rattle.xf_doc.specs.declared.content.Node.{Node}
 use Rattle.xf_doc.specs.Changes.{shifted}
 use Rattle.xf_tree.specs.declared.rows.Row.{Row}
-use Rattle.xf_tree.specs.declared.slot.Slot.{Slot}
+use Rattle.xf_tree.specs.Slot.{Slot}
 use Rattle.xf_tree.specs.Rows.{deepened}
 use Rattle.xf_tree.specs.Tree.{node_of, number_in, content_in, times, AllLive, AllTops, depths}
 use Rattle.xf_tree.proofs.SizedLemmas.{AllDeep}

@@ -10,7 +10,7 @@ use Rattle.xf_doc.specs.Forest.{has_number, is_element}
 use Rattle.xf_doc.specs.Visit.{Visit, visit, visits, visits_from, still_above, numbers, has, ancestors_of}
 use Rattle.xf_doc.proofs.RenumberLaws.{map-reverse}
 use Rattle.xf_tree.specs.declared.rows.Row.{Row}
-use Rattle.xf_tree.specs.declared.slot.Slot.{Slot}
+use Rattle.xf_tree.specs.Slot.{Slot}
 use Rattle.xf_tree.specs.Tree.{node_of, times, StandsAt, no_row}
 use Rattle.xf_tree.specs.Below.{elements_open, elements_over}
 use Rattle.xf_tree.proofs.SizedLemmas.{lt-true, lt-false}

@@ -9,7 +9,7 @@ use Rattle.xf_doc.specs.declared.content.Content.TheVariants.{Root, Element, Att
 use Rattle.xf_doc.specs.Forest.{is_element, is_attribute, is_text}
 use Rattle.xf_doc.specs.Texts.{at_depth}
 use Rattle.xf_tree.specs.declared.rows.Row.{Row}
-use Rattle.xf_tree.specs.declared.slot.Slot.{Slot}
+use Rattle.xf_tree.specs.Slot.{Slot}
 use Rattle.xf_tree.specs.Leaves.{parts_in, NotDeeper}
 use Rattle.xf_tree.specs.First.{attribute_depth, AreFirst}
 use Rattle.xf_tree.specs.Tree.{node_of, content_in}

@@ -7,7 +7,7 @@ use Rattle.xf_doc.specs.declared.content.Content.{Content}
 use Rattle.xf_doc.specs.Changes.{shifted, at_place}
 use Rattle.xf_doc.specs.Forest.{is_attribute}
 use Rattle.xf_tree.specs.declared.rows.Row.{Row}
-use Rattle.xf_tree.specs.declared.slot.Slot.{Slot}
+use Rattle.xf_tree.specs.Slot.{Slot}
 use Rattle.xf_tree.specs.Rows.{deeper, tree_of, after_tree}
 use Rattle.xf_tree.specs.Leaves.{parts_in, NotDeeper, AreLeaves}
 use Rattle.xf_tree.specs.First.{attribute_depth, AreFirst}

@@ -8,7 +8,7 @@ use Rattle.xf_doc.specs.Forest.{first_tree, tree_of as tree_of_node}
 use Rattle.xf_doc.specs.Changes.{moved_to, without_tree}
 use Rattle.xf_doc.specs.Limits.{node_count, all_size}
 use Rattle.xf_tree.specs.declared.rows.Row.{Row}
-use Rattle.xf_tree.specs.declared.slot.Slot.{Slot}
+use Rattle.xf_tree.specs.Slot.{Slot}
 use Rattle.xf_tree.specs.Rows.{deeper, shrunk, grown, raised, tree_of, after_tree, top_depth, IsCut}
 use Rattle.xf_tree.specs.Tree.{node_of, times, AllLive, AllTops, AreSteps, depths, IsCounted, StandsAt, no_row}
 use Rattle.xf_tree.proofs.SizedLemmas.{lt-true, lt-false, AllDeep}

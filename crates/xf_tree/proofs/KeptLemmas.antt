@@ -8,7 +8,7 @@ use Rattle.std.proofs.lemmas.List.Elements.{filter-append}
 use Rattle.slab.specs.Slab.{Slab, get}
 use Rattle.xf_doc.specs.declared.node.NodeId.{NodeId}
 use Rattle.xf_doc.specs.Visit.{has}
-use Rattle.xf_tree.specs.declared.slot.Slot.{Slot}
+use Rattle.xf_tree.specs.Slot.{Slot}
 use Rattle.xf_tree.specs.Tree.{kept_of, number_in, kept_times}
 use Rattle.xf_tree.specs.Texts.{numbers_in, numbers_of, is_wanted, is_left, no_text, moved_text}
 use Rattle.xf_tree.proofs.NodeLemmas.{eq-true, eq-false}

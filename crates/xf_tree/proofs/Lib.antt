@@ -1,4 +1,5 @@
 pub mod RowLemmas
+pub mod SlotLemmas
 pub mod SizedLemmas
 pub mod MoveLemmas
 pub mod CutLemmas

@@ -9,7 +9,7 @@ use Rattle.slab.specs.Slab.{Slab, get}
 use Rattle.xf_doc.specs.Changes.{in_instances}
 use Rattle.xf_doc.specs.Limits.{node_count, all_size, size_of}
 use Rattle.xf_tree.specs.declared.rows.Row.{Row}
-use Rattle.xf_tree.specs.declared.slot.Slot.{Slot}
+use Rattle.xf_tree.specs.Slot.{Slot}
 use Rattle.xf_tree.specs.Rows.{Sized, deeper, tree_of, after_tree}
 use Rattle.xf_tree.specs.Tree.{node_of, number_in, content_in, times, no_row, KeepsBut}
 use Rattle.xf_tree.specs.Older.{is_older, is_newer}

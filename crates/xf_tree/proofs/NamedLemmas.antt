@@ -8,7 +8,7 @@ use Rattle.slab.specs.Slab.{Slab, get}
 use Rattle.xf_doc.specs.declared.content.Node.{Node}
 use Rattle.xf_doc.specs.Forest.{has_number, node_at, from_node, first_tree, kind_of, kind_at, tree_of as tree_of_node}
 use Rattle.xf_tree.specs.declared.rows.Row.{Row}
-use Rattle.xf_tree.specs.declared.slot.Slot.{Slot}
+use Rattle.xf_tree.specs.Slot.{Slot}
 use Rattle.xf_tree.specs.Rows.{tree_of}
 use Rattle.xf_tree.specs.Tree.{node_of, number_in, times, no_row, StandsAt, IsSound}
 use Rattle.xf_tree.proofs.CutLemmas.{tree-is-front}

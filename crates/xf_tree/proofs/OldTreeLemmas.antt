@@ -8,7 +8,7 @@ use Rattle.xf_doc.specs.Changes.{in_instances, is_detached_top}
 use Rattle.xf_doc.specs.Forest.{is_root}
 use Rattle.xf_doc.specs.Needs.{is_new}
 use Rattle.xf_tree.specs.declared.rows.Row.{Row}
-use Rattle.xf_tree.specs.declared.slot.Slot.{Slot}
+use Rattle.xf_tree.specs.Slot.{Slot}
 use Rattle.xf_tree.specs.Rows.{deeper, tree_of}
 use Rattle.xf_tree.specs.Tree.{node_of, no_row}
 use Rattle.xf_tree.specs.Older.{is_older, is_newer, AreWhole}

@@ -5,7 +5,7 @@ use Rattle.std.proofs.lemmas.List.{reverse-append}
 use Rattle.slab.specs.Slab.{Slab, get}
 use Rattle.xf_doc.specs.Forest.{is_element}
 use Rattle.xf_tree.specs.declared.rows.Row.{Row}
-use Rattle.xf_tree.specs.declared.slot.Slot.{Slot}
+use Rattle.xf_tree.specs.Slot.{Slot}
 use Rattle.xf_tree.specs.Rows.{less_deep, parent_row_of, top_depth}
 use Rattle.xf_tree.specs.Tree.{content_in, no_row}
 use Rattle.xf_tree.specs.Below.{elements_open, elements_over}

@@ -11,7 +11,7 @@ use Rattle.xf_doc.specs.Forest.{has_number}
 use Rattle.xf_doc.specs.Order.{in_order}
 use Rattle.xf_doc.specs.Visit.{Visit, still_above, numbers, visits_from, visits, has}
 use Rattle.xf_tree.specs.declared.rows.Row.{Row}
-use Rattle.xf_tree.specs.declared.slot.Slot.{Slot}
+use Rattle.xf_tree.specs.Slot.{Slot}
 use Rattle.xf_tree.specs.Reads.{AreUp, AreWithin, each_once, is_among, stands_one}
 use Rattle.xf_tree.specs.Tree.{node_of, times, StandsAt, no_row}
 use Rattle.xf_tree.specs.Walks.{number_of_row}

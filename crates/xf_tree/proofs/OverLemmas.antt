@@ -10,7 +10,7 @@ use Rattle.xf_doc.specs.Forest.{Forest, first_tree, tree_of, is_root, is_element
 use Rattle.xf_doc.specs.Changes.{shifted, moved_to, without_tree, in_instances, in_detached, with_root, is_detached_top}
 use Rattle.xf_doc.specs.Limits.{node_count, all_size}
 use Rattle.xf_tree.specs.declared.rows.Row.{Row}
-use Rattle.xf_tree.specs.declared.slot.Slot.{Slot}
+use Rattle.xf_tree.specs.Slot.{Slot}
 use Rattle.xf_tree.specs.Rows.{Sized, deeper, deepened, tree_of as row_tree, after_tree, rest_of}
 use Rattle.xf_tree.specs.Leaves.{parts_in, AreLeaves}
 use Rattle.xf_tree.specs.First.{AreFirst}

@@ -9,7 +9,7 @@ use Rattle.slab.specs.Slab.{Slab, get, Updates}
 use Rattle.xf_doc.specs.declared.node.NodeId.{NodeId}
 use Rattle.xf_doc.specs.Forest.{is_attribute}
 use Rattle.xf_tree.specs.declared.rows.Row.{Row}
-use Rattle.xf_tree.specs.declared.slot.Slot.{Slot}
+use Rattle.xf_tree.specs.Slot.{Slot}
 use Rattle.xf_tree.specs.Tree.{node_of, number_in, content_in, times, no_row, KeepsBut}
 use Rattle.xf_tree.specs.Texts.{is_attribute_row, attributes, has_key, owned_slot, owned_where, IsOwned, text_row}
 use Rattle.xf_tree.proofs.NodeLemmas.{eq-true, eq-false, times-append}

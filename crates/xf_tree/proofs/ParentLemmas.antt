@@ -8,7 +8,7 @@ use Rattle.xf_doc.specs.declared.content.Node.{Node}
 use Rattle.xf_doc.specs.Visit.{still_above, numbers, first_of, parent_of, visits}
 use Rattle.xf_doc.proofs.RenumberLaws.{map-reverse}
 use Rattle.xf_tree.specs.declared.rows.Row.{Row}
-use Rattle.xf_tree.specs.declared.slot.Slot.{Slot}
+use Rattle.xf_tree.specs.Slot.{Slot}
 use Rattle.xf_tree.specs.Rows.{deeper, tree_of, top_depth, less_deep, parent_row_of}
 use Rattle.xf_tree.specs.Tree.{node_of, number_in, times, StandsAt, no_row, number_at}
 use Rattle.xf_tree.proofs.SizedLemmas.{lt-true, lt-false, AllDeep}

@@ -16,7 +16,7 @@ use Rattle.xf_doc.specs.Visit.{Visit, numbers, visits, first_of, is_first, same_
 use Rattle.xf_doc.specs.Axis.{before}
 use Rattle.xf_doc.specs.Path.{is_namesake, is_text_beside, bracketed, index_if, step_by, step_in, step_of, or_slash, path_of}
 use Rattle.xf_tree.specs.declared.rows.Row.{Row}
-use Rattle.xf_tree.specs.declared.slot.Slot.{Slot}
+use Rattle.xf_tree.specs.Slot.{Slot}
 use Rattle.xf_tree.specs.Rows.{tree_of, parent_row_of}
 use Rattle.xf_tree.specs.Tree.{node_of, number_in, content_in, no_row, number_at}
 use Rattle.xf_tree.specs.Walks.{between, chosen, number_of_row, AreNodes}

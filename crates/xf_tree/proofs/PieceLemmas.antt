@@ -11,7 +11,7 @@ use Rattle.xf_doc.specs.Visit.{Visit, still_above, numbers, visit, visits_from, 
 use Rattle.xf_doc.specs.StringValue.{characters, text_below, has_character, pieces, pieces_in}
 use Rattle.xf_doc.proofs.RunLemmas.{AreDeeper}
 use Rattle.xf_tree.specs.declared.rows.Row.{Row}
-use Rattle.xf_tree.specs.declared.slot.Slot.{Slot}
+use Rattle.xf_tree.specs.Slot.{Slot}
 use Rattle.xf_tree.specs.Reads.{pieces_left, pieces_at}
 use Rattle.xf_tree.specs.Rows.{deeper, tree_of}
 use Rattle.xf_tree.specs.Tree.{node_of, content_in, StandsAt, no_row, IsSound}

@@ -8,7 +8,7 @@ use Rattle.xf_doc.specs.declared.content.Node.{Node}
 use Rattle.xf_doc.specs.Forest.{has_number, below, past, content_at}
 use Rattle.xf_doc.specs.Order.{is_before}
 use Rattle.xf_tree.specs.declared.rows.Row.{Row}
-use Rattle.xf_tree.specs.declared.slot.Slot.{Slot}
+use Rattle.xf_tree.specs.Slot.{Slot}
 use Rattle.xf_tree.specs.Rows.{deeper, tree_of}
 use Rattle.xf_tree.specs.Tree.{node_of, number_in, content_in, times, StandsAt, no_row, AllLive, IsSound}
 use Rattle.xf_tree.proofs.NodeLemmas.{Parted, part, parted-before, parted-node, eq-false, has-append, times-here, times-append, times-absent, absent-times}

@@ -5,7 +5,7 @@ use Rattle.std.proofs.lemmas.List.{take-append-drop, take-append-le, drop-append
 use Rattle.slab.specs.Slab.{Slab, get}
 use Rattle.xf_doc.specs.declared.content.Content.{Content}
 use Rattle.xf_tree.specs.declared.rows.Row.{Row}
-use Rattle.xf_tree.specs.declared.slot.Slot.{Slot}
+use Rattle.xf_tree.specs.Slot.{Slot}
 use Rattle.xf_tree.specs.Rows.{Sized, deeper, deepened, grown, tree_of, after_tree, rest_of, IsPaste}
 use Rattle.xf_tree.specs.Leaves.{parts_in, NotDeeper, AreLeaves}
 use Rattle.xf_tree.specs.Tree.{node_of, content_in, no_row, AreSteps, depths}

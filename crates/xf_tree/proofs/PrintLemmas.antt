@@ -12,7 +12,7 @@ use Rattle.xf_doc.specs.Texts.{Keeping}
 use Rattle.xf_doc.specs.Forest.{kind_of, kind_at, has_number, first_tree, below, tree_of}
 use Rattle.xf_doc.specs.Literal.{printed}
 use Rattle.xf_tree.specs.declared.rows.Row.{Row}
-use Rattle.xf_tree.specs.declared.slot.Slot.{Slot}
+use Rattle.xf_tree.specs.Slot.{Slot}
 use Rattle.xf_tree.specs.Rows.{tree_of as row_tree}
 use Rattle.xf_tree.specs.Tree.{node_of, keeping_of, times, no_row, IsSound, StandsAt}
 use Rattle.xf_tree.specs.Print.{is_printable}

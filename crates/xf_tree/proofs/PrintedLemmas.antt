@@ -15,7 +15,7 @@ use Rattle.slab.specs.Slab.{Slab, get}
 use Rattle.xf_tree.specs.declared.gather.Below.{Below}
 use Rattle.xf_tree.specs.declared.gather.Below.TheVariants as below
 use Rattle.xf_tree.specs.declared.rows.Row.{Row}
-use Rattle.xf_tree.specs.declared.slot.Slot.{Slot}
+use Rattle.xf_tree.specs.Slot.{Slot}
 use Rattle.xf_tree.specs.declared.spaces.Line.{Line}
 use Rattle.xf_tree.specs.Tree.{node_of, content_in}
 use Rattle.xf_tree.specs.Print.{IsPrintable, shown, placed, left_at, space_in, force_in, with_spaces, lit_part, lits_in}

@@ -9,7 +9,7 @@ use Rattle.xf_doc.specs.declared.content.Content.{Content}
 use Rattle.xf_doc.specs.Limits.{size_of}
 use Rattle.xf_doc.specs.Plant.{numbered_from}
 use Rattle.xf_tree.specs.declared.rows.Row.{Row}
-use Rattle.xf_tree.specs.declared.slot.Slot.{Slot}
+use Rattle.xf_tree.specs.Slot.{Slot}
 use Rattle.xf_tree.specs.Rows.{Sized, deeper, tree_of, after_tree}
 use Rattle.xf_tree.specs.Tree.{node_of, number_in, content_in, no_row, AllLive, AllPlain, KeepsLive, unsized}
 use Rattle.xf_tree.proofs.SizedLemmas.{lt-true, lt-false, AllDeep}

@@ -11,7 +11,7 @@ use Rattle.xf_doc.specs.Order.{rank_of}
 use Rattle.xf_doc.specs.StringValue.{pieces, pieces_in}
 use Rattle.xf_doc.specs.Visit.{Visit, still_above, visits_from, visits}
 use Rattle.xf_tree.specs.declared.rows.Row.{Row}
-use Rattle.xf_tree.specs.declared.slot.Slot.{Slot}
+use Rattle.xf_tree.specs.Slot.{Slot}
 use Rattle.xf_tree.specs.Tree.{node_of, content_in, StandsAt, no_row, IsSound}
 use Rattle.xf_tree.proofs.FoundLemmas.{visits-before}
 use Rattle.xf_tree.proofs.PlaceLemmas.{stands, one_of, content-means, live-at}

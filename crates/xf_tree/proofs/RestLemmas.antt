@@ -3,7 +3,7 @@ use Rattle.std.proofs.Common.{◌≡◌, ℕ, suc, ◌+◌, ◌<◌, ◌≤◌, 
 use Rattle.std.proofs.lemmas.List.{take-append-drop, map-append}
 use Rattle.slab.specs.Slab.{Slab}
 use Rattle.xf_tree.specs.declared.rows.Row.{Row}
-use Rattle.xf_tree.specs.declared.slot.Slot.{Slot}
+use Rattle.xf_tree.specs.Slot.{Slot}
 use Rattle.xf_tree.specs.Rows.{Sized, tree_of, after_tree, rest_of}
 use Rattle.xf_tree.specs.Leaves.{parts_in, NotDeeper, AreLeaves}
 use Rattle.xf_tree.specs.First.{AreFirst}

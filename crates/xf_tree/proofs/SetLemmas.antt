@@ -15,7 +15,7 @@ use Rattle.xf_doc.specs.Shape.{has_elements}
 use Rattle.xf_doc.specs.Limits.{limits, unless, node_count, all_size, passed_by_text}
 use Rattle.xf_doc.specs.Texts.{Keeping, KeptText, at_depth, one_text, with_texts, kept_from, is_attribute_at, with_text, text_set, element_texts}
 use Rattle.xf_tree.specs.declared.rows.Row.{Row}
-use Rattle.xf_tree.specs.declared.slot.Slot.{Slot}
+use Rattle.xf_tree.specs.Slot.{Slot}
 use Rattle.xf_tree.specs.Tree.{AreSteps, depths, node_of, kept_of, number_in, content_in, times, kept_times, AllLive, StandsAt, no_row, IsState, keeping_of}
 use Rattle.xf_tree.specs.Texts.{passed_by, text_slot, text_count, has_key, attributes, children, keys_of, numbers_at, depth_at, run_of}
 use Rattle.xf_tree.specs.Settled.{text_written}

@@ -10,7 +10,7 @@ use Rattle.xf_doc.specs.Forest.{below}
 use Rattle.xf_doc.specs.Visit.{Visit, numbers, visit, visits, visits_from, still_above, first_of, is_first, same_parent}
 use Rattle.xf_doc.proofs.RenumberLaws.{map-reverse}
 use Rattle.xf_tree.specs.declared.rows.Row.{Row}
-use Rattle.xf_tree.specs.declared.slot.Slot.{Slot}
+use Rattle.xf_tree.specs.Slot.{Slot}
 use Rattle.xf_tree.specs.Rows.{AllDeep, deeper, tree_of, top_depth, parent_row_of}
 use Rattle.xf_tree.specs.Tree.{node_of, no_row, times, depths, AreSteps, StandsAt, number_at}
 use Rattle.xf_tree.specs.Walks.{between, chosen, climbed, ancestor_rows, number_of_row, AreNodes}

@@ -10,7 +10,7 @@ use Rattle.xf_doc.specs.Shape.{as_texts}
 use Rattle.xf_doc.specs.Texts.{texts_in, value_in}
 use Rattle.xf_doc.specs.Settle.{are_texts, has_text}
 use Rattle.xf_tree.specs.declared.rows.Row.{Row}
-use Rattle.xf_tree.specs.declared.slot.Slot.{Slot}
+use Rattle.xf_tree.specs.Slot.{Slot}
 use Rattle.xf_tree.specs.Rows.{tree_of}
 use Rattle.xf_tree.specs.Tree.{node_of, content_in, no_row, StandsAt, IsSound}
 use Rattle.xf_tree.specs.Settled.{texts_left}

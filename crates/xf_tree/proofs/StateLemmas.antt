@@ -4,7 +4,7 @@ use Rattle.std.proofs.lemmas.List.{take-append-drop, length-map}
 use Rattle.slab.specs.Slab.{Slab}
 use Rattle.xf_doc.specs.Changes.{shifted}
 use Rattle.xf_tree.specs.declared.rows.Row.{Row}
-use Rattle.xf_tree.specs.declared.slot.Slot.{Slot}
+use Rattle.xf_tree.specs.Slot.{Slot}
 use Rattle.xf_tree.specs.Rows.{deeper, Sized, raised, tree_of, after_tree, top_depth, IsCut}
 use Rattle.xf_tree.specs.Leaves.{parts_in, NotDeeper, AreLeaves}
 use Rattle.xf_tree.specs.First.{AreFirst}

@@ -13,7 +13,7 @@ use Rattle.xf_doc.specs.Shape.{has_elements}
 use Rattle.xf_doc.specs.Limits.{node_count, all_size, size_of}
 use Rattle.xf_doc.specs.Texts.{Keeping, KeptText, at_depth, one_text, with_texts, kept_from}
 use Rattle.xf_tree.specs.declared.rows.Row.{Row}
-use Rattle.xf_tree.specs.declared.slot.Slot.{Slot}
+use Rattle.xf_tree.specs.Slot.{Slot}
 use Rattle.xf_tree.specs.Rows.{Sized}
 use Rattle.xf_tree.specs.Tree.{node_of, kept_of, number_in, owner_in, content_in, times, kept_times, unsized, AllLive, AllKept, StandsAt, IsSound, IsState, keeping_of}
 use Rattle.xf_tree.specs.Texts.{text_slot, text_count, owned_where, has_key, IsOwned, attributes, children, is_child_row, keys_of, text_row, depth_at, run_of, with_text_rows}

@@ -9,7 +9,7 @@ use Rattle.xf_doc.specs.Forest.{own_text}
 use Rattle.xf_doc.specs.Visit.{visits}
 use Rattle.xf_doc.specs.StringValue.{characters, string_value, string_value_within, within}
 use Rattle.xf_tree.specs.declared.rows.Row.{Row}
-use Rattle.xf_tree.specs.declared.slot.Slot.{Slot}
+use Rattle.xf_tree.specs.Slot.{Slot}
 use Rattle.xf_tree.specs.Rows.{deeper, tree_of}
 use Rattle.xf_tree.specs.Tree.{node_of, content_in, times, StandsAt, no_row, texts_in, text_of, IsSound}
 use Rattle.xf_tree.proofs.PlaceLemmas.{stands, below-is, tree-size, one_of}

@@ -3,7 +3,7 @@ use Rattle.std.proofs.Common.{◌≡◌, ℕ, List, [], ◌∷◌, map, take, dr
 use Rattle.slab.specs.Slab.{Slab, get}
 use Rattle.xf_doc.specs.Visit.{numbers, visits, last_of, top_of}
 use Rattle.xf_tree.specs.declared.rows.Row.{Row}
-use Rattle.xf_tree.specs.declared.slot.Slot.{Slot}
+use Rattle.xf_tree.specs.Slot.{Slot}
 use Rattle.xf_tree.specs.Reads.{last_row}
 use Rattle.xf_tree.specs.Rows.{parent_row_of, top_depth}
 use Rattle.xf_tree.specs.Tree.{node_of, number_in, StandsAt, no_row, IsSound}

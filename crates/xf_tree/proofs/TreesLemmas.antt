@@ -12,7 +12,7 @@ use Rattle.xf_doc.specs.Forest.{has_number, is_root, is_element, is_attribute, i
 use Rattle.xf_doc.specs.Texts.{KeptText}
 use Rattle.xf_doc.specs.WellFormed.{are_below, are_depths_from, are_first, are_tops, are_kept_apart, AreTrees}
 use Rattle.xf_tree.specs.declared.rows.Row.{Row}
-use Rattle.xf_tree.specs.declared.slot.Slot.{Slot}
+use Rattle.xf_tree.specs.Slot.{Slot}
 use Rattle.xf_tree.specs.First.{attribute_depth, AreFirst}
 use Rattle.xf_tree.specs.Leaves.{is_leaf, parts_in, NotDeeper, AreLeaves}
 use Rattle.xf_tree.specs.Tree.{node_of, kept_of, keeping_of, times, kept_times, AllTops, AreSteps, IsSound}

@@ -11,7 +11,7 @@ use Rattle.xf_doc.specs.declared.content.Content.TheVariants.{Root, Element, Att
 use Rattle.xf_doc.specs.Forest.{is_root, is_element, is_attribute, is_text, has_number}
 use Rattle.xf_doc.specs.Texts.{at_depth, with_content, with_texts}
 use Rattle.xf_tree.specs.declared.rows.Row.{Row}
-use Rattle.xf_tree.specs.declared.slot.Slot.{Slot}
+use Rattle.xf_tree.specs.Slot.{Slot}
 use Rattle.xf_tree.specs.Leaves.{is_leaf, parts_in, NotDeeper, AreLeaves}
 use Rattle.xf_tree.specs.Tree.{node_of, number_in, content_in, AllLive, AllTops, AreSteps, depths, unsized}
 use Rattle.xf_tree.specs.Texts.{attributes, children, is_attribute_row, text_row, AreAt}

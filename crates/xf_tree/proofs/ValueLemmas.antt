@@ -13,7 +13,7 @@ use Rattle.xf_doc.specs.Limits.{limits, unless, node_count, all_size, size_of}
 use Rattle.xf_doc.specs.Texts.{KeptText, Keeping, attribute_text, with_value, with_attribute_text, is_attribute_at, value_in, text_set}
 use Rattle.xf_doc.specs.Settle.{numbered_text_set}
 use Rattle.xf_tree.specs.declared.rows.Row.{Row}
-use Rattle.xf_tree.specs.declared.slot.Slot.{Slot}
+use Rattle.xf_tree.specs.Slot.{Slot}
 use Rattle.xf_tree.specs.Tree.{node_of, kept_of, number_in, content_in, times, kept_times, AllLive, AllKept, AllTops, StandsAt, no_row, IsSound, IsState, keeping_of}
 use Rattle.xf_tree.specs.Leaves.{is_leaf, parts_in, AreLeaves}
 use Rattle.xf_tree.specs.First.{attribute_depth, AreFirst}

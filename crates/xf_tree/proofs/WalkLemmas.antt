@@ -10,7 +10,7 @@ use Rattle.xf_doc.specs.declared.content.Node.{Node}
 use Rattle.xf_doc.specs.declared.content.Content.{Content}
 use Rattle.xf_doc.specs.Visit.{numbers}
 use Rattle.xf_tree.specs.declared.rows.Row.{Row}
-use Rattle.xf_tree.specs.declared.slot.Slot.{Slot}
+use Rattle.xf_tree.specs.Slot.{Slot}
 use Rattle.xf_tree.specs.Rows.{AllDeep, deeper, tree_of, top_depth, less_deep}
 use Rattle.xf_tree.specs.Tree.{node_of, number_in, no_row}
 use Rattle.xf_tree.specs.Walks.{between, chosen, climbed}

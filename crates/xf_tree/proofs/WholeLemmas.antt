@@ -8,7 +8,7 @@ use Rattle.xf_doc.specs.Visit.{still_above, numbers, visit, visits_from, visits}
 use Rattle.xf_doc.specs.Needs.{is_new, goes_or_stays}
 use Rattle.slab.specs.Slab.{Slab}
 use Rattle.xf_tree.specs.declared.rows.Row.{Row}
-use Rattle.xf_tree.specs.declared.slot.Slot.{Slot}
+use Rattle.xf_tree.specs.Slot.{Slot}
 use Rattle.xf_tree.specs.Tree.{node_of, AreSteps, IsSound}
 use Rattle.xf_tree.specs.Older.{AreWhole}
 use Rattle.xf_tree.proofs.SizedLemmas.{lt-true, lt-false}

@@ -6,7 +6,7 @@ use Rattle.xf_doc.specs.declared.content.Content.{Content}
 use Rattle.xf_doc.specs.Changes.{at_place}
 use Rattle.xf_doc.specs.Forest.{is_attribute, is_element}
 use Rattle.xf_tree.specs.declared.rows.Row.{Row}
-use Rattle.xf_tree.specs.declared.slot.Slot.{Slot}
+use Rattle.xf_tree.specs.Slot.{Slot}
 use Rattle.xf_tree.specs.Rows.{tree_of, rest_of, deepened, grown}
 use Rattle.xf_tree.specs.Tree.{node_of, content_in, no_row}
 

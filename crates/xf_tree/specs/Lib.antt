@@ -1,3 +1,7 @@
+pub mod Slot
+pub mod Names
+pub mod Slots
+pub mod Seen
 pub mod Rows
 pub mod Leaves
 pub mod First

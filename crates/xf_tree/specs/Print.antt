@@ -22,7 +22,7 @@ use Rattle.xf_doc.specs.Literal.{Part, attribute_part, tree_part, attributes_in,
 use Rattle.xf_doc.specs.Printed.{pair, with_pair, with_pairs, with_default, in_force, element}
 use Rattle.xf_tree.specs.declared.gather.Below.{Below}
 use Rattle.xf_tree.specs.declared.gather.Below.TheVariants as below
-use Rattle.xf_tree.specs.declared.slot.Slot.{Slot}
+use Rattle.xf_tree.specs.Slot.{Slot}
 use Rattle.xf_tree.specs.declared.spaces.Line.{Line}
 use Rattle.xf_tree.specs.Tree.{node_of}
 

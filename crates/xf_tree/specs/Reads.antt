@@ -6,7 +6,7 @@ use Rattle.xf_doc.specs.Forest.{own_text}
 use Rattle.xf_doc.specs.StringValue.{characters, has_character}
 use Rattle.xf_doc.specs.Visit.{has}
 use Rattle.xf_tree.specs.declared.rows.Row.{Row}
-use Rattle.xf_tree.specs.declared.slot.Slot.{Slot}
+use Rattle.xf_tree.specs.Slot.{Slot}
 use Rattle.xf_tree.specs.Rows.{tree_of}
 use Rattle.xf_tree.specs.Tree.{node_of, content_in, no_row}
 use Rattle.xf_tree.specs.Walks.{number_of_row}

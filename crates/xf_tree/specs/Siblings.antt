@@ -8,7 +8,7 @@ use Rattle.xf_doc.specs.Forest.{is_element, is_text, name_in, written, written_i
 use Rattle.xf_doc.specs.Path.{bracketed}
 use Rattle.slab.specs.Slab.{Slab}
 use Rattle.xf_tree.specs.declared.rows.Row.{Row}
-use Rattle.xf_tree.specs.declared.slot.Slot.{Slot}
+use Rattle.xf_tree.specs.Slot.{Slot}
 use Rattle.xf_tree.specs.Rows.{tree_of}
 use Rattle.xf_tree.specs.Tree.{no_row}
 use Rattle.xf_tree.specs.Walks.{between, chosen, ancestor_rows}

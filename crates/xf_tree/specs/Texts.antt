@@ -12,7 +12,7 @@ use Rattle.xf_doc.specs.Texts.{Before, attribute_text, element_texts, with_value
 use Rattle.xf_tree.specs.declared.before.Had.{Had}
 use Rattle.xf_tree.specs.declared.before.Had.TheVariants as had
 use Rattle.xf_tree.specs.declared.rows.Row.{Row}
-use Rattle.xf_tree.specs.declared.slot.Slot.{Slot}
+use Rattle.xf_tree.specs.Slot.{Slot}
 use Rattle.xf_tree.specs.Rows.{grown, shrunk, deeper}
 use Rattle.xf_tree.specs.Tree.{number_in, content_in, no_row}
 

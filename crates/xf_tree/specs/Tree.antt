@@ -11,7 +11,7 @@ use Rattle.xf_doc.specs.Limits.{node_count, all_size, size_of}
 use Rattle.xf_doc.specs.StringValue.{characters}
 use Rattle.xf_doc.specs.Texts.{Keeping, KeptText}
 use Rattle.xf_tree.specs.declared.rows.Row.{Row}
-use Rattle.xf_tree.specs.declared.slot.Slot.{Slot}
+use Rattle.xf_tree.specs.Slot.{Slot}
 use Rattle.xf_tree.specs.Rows.{Sized, deeper, deepened, tree_of, after_tree}
 use Rattle.xf_tree.specs.Leaves.{AreLeaves, parts_in}
 use Rattle.xf_tree.specs.First.{AreFirst}

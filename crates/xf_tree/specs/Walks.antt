@@ -5,7 +5,7 @@ use Rattle.xf_doc.specs.declared.content.Node.{Node}
 use Rattle.xf_doc.specs.Forest.{is_attribute}
 use Rattle.xf_doc.specs.Visit.{numbers}
 use Rattle.xf_tree.specs.declared.rows.Row.{Row}
-use Rattle.xf_tree.specs.declared.slot.Slot.{Slot}
+use Rattle.xf_tree.specs.Slot.{Slot}
 use Rattle.xf_tree.specs.declared.walk.Left.{Left}
 use Rattle.xf_tree.specs.declared.walk.Left.TheVariants.{Nothing, Trees, Attributes, Rows, Up, Back}
 use Rattle.xf_tree.specs.Leaves.{parts_in}

@@ -17,8 +17,8 @@ use crate::forest::Forest;
 use crate::limits::DEPTH_LIMIT;
 use crate::lookup::{Hint, is_kin_at, note_parent, note_rows, parent_row, row_of};
 use crate::rows::{Row, end_of, paste_in, put_last};
-use crate::slot::{Slot, is_attribute_at, is_element_at};
-use slab::Slab;
+use crate::slot::{is_attribute_at, is_element_at};
+use crate::slots::Slots;
 use xf_doc::{NodeId, TreeFault};
 
 impl Forest {
@@ -103,7 +103,7 @@ impl Forest {
 }
 
 /// How many elements a child of the node at a place is below.
-fn elements_over(rows: &[Row], slots: &Slab<Slot>, hints: &[Hint], above: usize) -> u32
+fn elements_over(rows: &[Row], slots: &Slots, hints: &[Hint], above: usize) -> u32
     requires within { above < length rows.now }
     requires sized { Sized rows.now }
     requires few { length rows.now < 2 ^ 31 }
@@ -123,7 +123,7 @@ fn elements_over(rows: &[Row], slots: &Slab<Slot>, hints: &[Hint], above: usize)
 }
 
 /// Whether an element of a tree would stand too deep below so many elements.
-fn has_deep(tree: &[Row], slots: &Slab<Slot>, elements: u32) -> bool
+fn has_deep(tree: &[Row], slots: &Slots, elements: u32) -> bool
     ensures { result ≡ is_too_deep limits.depth elements (map (node_of slots.now) tree.now) }
 {
     let left = DEPTH_LIMIT.saturating_sub(elements);
@@ -138,7 +138,7 @@ fn has_deep(tree: &[Row], slots: &Slab<Slot>, elements: u32) -> bool
 /// Puts the tree of the top at a place below the node at another one.
 fn place_tree(
     rows: &mut Vec<Row>,
-    slots: &Slab<Slot>,
+    slots: &Slots,
     hints: &mut [Hint],
     at: usize,
     above: usize,
@@ -187,7 +187,7 @@ fn put_behind(rows: &mut Vec<Row>, at: usize, above: usize) -> (usize, usize)
 }
 
 /// The row where the node under a key goes below the one at a place.
-fn place_below(rows: &[Row], slots: &Slab<Slot>, above: usize, key: usize, place: u32) -> usize
+fn place_below(rows: &[Row], slots: &Slots, above: usize, key: usize, place: u32) -> usize
     requires within { above < length rows.now }
     requires fits { (slice_index_or rows.now above no_row).depth + 1 < 2 ^ 32 }
     requires sized { Sized rows.now }
@@ -201,7 +201,7 @@ fn place_below(rows: &[Row], slots: &Slab<Slot>, above: usize, key: usize, place
 }
 
 /// The row before which a child with this place comes, below the node at a place, or behind all children.
-fn child_place(rows: &[Row], slots: &Slab<Slot>, above: usize, place: u32) -> usize
+fn child_place(rows: &[Row], slots: &Slots, above: usize, place: u32) -> usize
     requires within { above < length rows.now }
     requires fits { (slice_index_or rows.now above no_row).depth + 1 < 2 ^ 32 }
     requires sized { Sized rows.now }
@@ -224,7 +224,7 @@ fn child_place(rows: &[Row], slots: &Slab<Slot>, above: usize, place: u32) -> us
 }
 
 /// The row before which an attribute with this place comes, below the element at a place, or behind all attributes.
-fn attribute_place(rows: &[Row], slots: &Slab<Slot>, above: usize, place: u32) -> usize
+fn attribute_place(rows: &[Row], slots: &Slots, above: usize, place: u32) -> usize
     requires within { above < length rows.now }
     requires fits { (slice_index_or rows.now above no_row).depth + 1 < 2 ^ 32 }
     ensures { result ≡ above + 1 + attribute_at ((slice_index_or rows.now above no_row).depth + 1) place (map (node_of slots.now) (drop (above + 1) rows.now)) }

@@ -10,9 +10,9 @@ ghost use Rattle.xf_tree.specs.Walks.{AreNodes, IsReady, IsWalk, left_of, number
 use crate::forest::Forest;
 use crate::lookup::{Hint, parent_row, row_of};
 use crate::rows::{Row, end_of};
-use crate::slot::{Slot, is_attribute_at};
+use crate::slot::is_attribute_at;
+use crate::slots::Slots;
 use crate::walk::{Left, Walk};
-use slab::Slab;
 use xf_doc::NodeId;
 use xf_name::Axis;
 
@@ -37,7 +37,7 @@ impl Forest {
 
 fn walk_from<'a>(
     rows: &'a [Row],
-    slots: &'a Slab<Slot>,
+    slots: &'a Slots,
     hints: &'a [Hint],
     at: usize,
     axis: Axis,
@@ -59,7 +59,7 @@ fn walk_from<'a>(
 /// The first node of a walk and what it has left then.
 fn start(
     rows: &[Row],
-    slots: &Slab<Slot>,
+    slots: &Slots,
     hints: &[Hint],
     at: usize,
     axis: Axis,
@@ -120,7 +120,7 @@ fn all_below(rows: &[Row], at: usize) -> Left
     Left::Rows { at: at + 1, end }
 }
 
-fn later_siblings(rows: &[Row], slots: &Slab<Slot>, hints: &[Hint], at: usize) -> Left
+fn later_siblings(rows: &[Row], slots: &Slots, hints: &[Hint], at: usize) -> Left
     requires nodes { AreNodes slots.now rows.now }
     requires within { at < length rows.now }
     ensures ready { IsReady rows.now result }
@@ -139,7 +139,7 @@ fn later_siblings(rows: &[Row], slots: &Slab<Slot>, hints: &[Hint], at: usize) -
     }
 }
 
-fn earlier_siblings(rows: &[Row], slots: &Slab<Slot>, hints: &[Hint], at: usize) -> Left
+fn earlier_siblings(rows: &[Row], slots: &Slots, hints: &[Hint], at: usize) -> Left
     requires nodes { AreNodes slots.now rows.now }
     requires within { at < length rows.now }
     ensures ready { IsReady rows.now result }

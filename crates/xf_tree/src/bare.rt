@@ -3,17 +3,19 @@ ghost use Rattle.std.specs.Prelude.{◌≡◌, Some, IfOk, map};
 ghost use Rattle.slab.specs.Slab.{get};
 ghost use Rattle.xf_doc.specs.Literal.{bare_of, bare_part, gathered, first_tree_in, attributes_in, trees_in, inner, outer};
 ghost use Rattle.xf_tree.specs.Print.{MayPrint, IsPrintable, shown, stacked, bare_with};
+ghost use Rattle.xf_tree.specs.Seen.{seen_content};
 ghost use Rattle.xf_tree.specs.Tree.{node_of, content_in};
 
 use crate::forest::Forest;
 use crate::gather::{Below, take_inner};
 use crate::lookup::row_of;
 use crate::rows::{Row, end_of};
-use crate::slot::{Slot, duplicate_meaning};
-use slab::Slab;
+use crate::seen::Seen;
+use crate::slot::{duplicate_meaning, shown_at};
+use crate::slots::Slots;
 use std::alloc::{AllocError, Global};
 use xf_base::Items;
-use xf_doc::{Bare, BareAttribute, BareElement, Content, NodeId};
+use xf_doc::{Bare, BareAttribute, BareElement, NodeId};
 use xf_name::Word;
 
 type Parts = Vec<(u32, Below<BareAttribute, Bare>)>;
@@ -35,7 +37,7 @@ impl Forest {
 }
 
 /// The tree that these rows are.
-fn bare_of_rows(alloc: Global, slots: &Slab<Slot>, rows: &[Row]) -> Result<Bare, AllocError>
+fn bare_of_rows(alloc: Global, slots: &Slots, rows: &[Row]) -> Result<Bare, AllocError>
     requires { IsPrintable (map (node_of slots.now) rows.now) }
     ensures { IfOk result (λ tree. Some tree ≡ first_tree_in (gathered bare_part (map (node_of slots.now) rows.now))) }
 {
@@ -46,7 +48,7 @@ fn bare_of_rows(alloc: Global, slots: &Slab<Slot>, rows: &[Row]) -> Result<Bare,
     }
 }
 
-fn bare_parts(alloc: Global, slots: &Slab<Slot>, rows: &[Row]) -> Result<Parts, AllocError>
+fn bare_parts(alloc: Global, slots: &Slots, rows: &[Row]) -> Result<Parts, AllocError>
     ensures { IfOk result (λ parts. stacked parts.items ≡ gathered bare_part (map (node_of slots.now) rows.now)) }
 {
     let mut parts = Vec::new(alloc);
@@ -63,7 +65,7 @@ fn bare_parts(alloc: Global, slots: &Slab<Slot>, rows: &[Row]) -> Result<Parts, 
 /// The part of a node, with what is below it taken off the stack.
 fn bare_at(
     alloc: Global,
-    slots: &Slab<Slot>,
+    slots: &Slots,
     row: Row,
     parts: &mut Parts,
 ) -> Result<Below<BareAttribute, Bare>, AllocError>
@@ -73,32 +75,29 @@ fn bare_at(
     let mut attributes = Vec::new(alloc);
     let mut children = Vec::new(alloc);
     take_inner(parts, row.depth, &mut attributes, &mut children)?;
-    match slots.get(row.key) {
-        Some(slot) => bare_part(alloc, &slot.content, attributes, children),
-        None => Ok(Below::Tree(Bare::Text(Word::new(alloc)))),
-    }
+    bare_part(alloc, shown_at(slots, row.key), attributes, children)
 }
 
 fn bare_part(
     alloc: Global,
-    content: &Content,
+    content: Seen<'_>,
     attributes: Vec<BareAttribute>,
     children: Vec<Bare>,
 ) -> Result<Below<BareAttribute, Bare>, AllocError>
-    ensures { IfOk result (λ part. shown part ≡ bare_with content.now attributes.items children.items) }
+    ensures { IfOk result (λ part. shown part ≡ bare_with (seen_content content.entry) attributes.items children.items) }
 {
     match content {
-        Content::Root => Ok(Below::Tree(Bare::Text(Word::new(alloc)))),
-        Content::Text(text) => {
-            let text = Word::from_str(alloc, text.as_str())?;
+        Seen::Root => Ok(Below::Tree(Bare::Text(Word::new(alloc)))),
+        Seen::Text(text) => {
+            let text = Word::from_str(alloc, text)?;
             Ok(Below::Tree(Bare::Text(text)))
         }
-        Content::Attribute(name, text) => {
+        Seen::Attribute(name, text) => {
             let name = duplicate_meaning(alloc, &name.meaning)?;
-            let text = Word::from_str(alloc, text.as_str())?;
+            let text = Word::from_str(alloc, text)?;
             Ok(Below::Attribute(BareAttribute { name, text }))
         }
-        Content::Element(name) => {
+        Seen::Element(name) => {
             let name = duplicate_meaning(alloc, &name.meaning)?;
             Ok(Below::Tree(Bare::Element(BareElement {
                 name,

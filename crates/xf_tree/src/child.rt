@@ -10,11 +10,11 @@ ghost use Rattle.xf_tree.specs.Tree.{node_of, content_in, no_row};
 ghost use Rattle.xf_tree.specs.Kids.{is_kid, is_no_attribute, is_attribute_like, is_lesser_attribute, kids_at};
 
 use crate::rows::{Row, end_of};
-use crate::slot::{Slot, has_same_name, is_attribute_at, is_element_at, is_less_at};
-use slab::Slab;
+use crate::slot::{has_same_name, is_attribute_at, is_element_at, is_less_at};
+use crate::slots::Slots;
 
 /// Whether the node at a place has so many children at least.
-pub fn has_children(rows: &[Row], slots: &Slab<Slot>, above: usize, least: u32) -> bool
+pub fn has_children(rows: &[Row], slots: &Slots, above: usize, least: u32) -> bool
     requires within { above < length rows.now }
     requires sized { Sized rows.now }
     ensures { result ≡ nat_le least (kids_at is_no_attribute slots.now rows.now above) }
@@ -36,7 +36,7 @@ pub fn has_children(rows: &[Row], slots: &Slab<Slot>, above: usize, least: u32) 
 }
 
 /// Whether the node at a place has an element child.
-pub fn has_element(rows: &[Row], slots: &Slab<Slot>, above: usize) -> bool
+pub fn has_element(rows: &[Row], slots: &Slots, above: usize) -> bool
     requires within { above < length rows.now }
     requires sized { Sized rows.now }
     ensures { result ≡ nat_lt 0 (kids_at is_element slots.now rows.now above) }
@@ -54,7 +54,7 @@ pub fn has_element(rows: &[Row], slots: &Slab<Slot>, above: usize) -> bool
 }
 
 /// Whether the node at a place has an attribute of the name of the node under a key.
-pub fn has_attribute(rows: &[Row], slots: &Slab<Slot>, above: usize, like: usize) -> bool
+pub fn has_attribute(rows: &[Row], slots: &Slots, above: usize, like: usize) -> bool
     requires within { above < length rows.now }
     requires first { AreFirst 0 (parts_in (map (node_of slots.now) rows.now)) }
     ensures { result ≡ nat_lt 0 (kids_at (is_attribute_like (content_in (get slots.now like))) slots.now rows.now above) }
@@ -71,7 +71,7 @@ pub fn has_attribute(rows: &[Row], slots: &Slab<Slot>, above: usize, like: usize
 }
 
 /// How many attributes of the node at a place have a written name that is less than that of the node under a key.
-pub fn count_lesser(rows: &[Row], slots: &Slab<Slot>, above: usize, key: usize) -> u32
+pub fn count_lesser(rows: &[Row], slots: &Slots, above: usize, key: usize) -> u32
     requires within { above < length rows.now }
     requires few { length rows.now < 2 ^ 31 }
     requires first { AreFirst 0 (parts_in (map (node_of slots.now) rows.now)) }
@@ -97,21 +97,21 @@ fn is_next(rows: &[Row], at: usize, depth: u32) -> bool
     rows[at].depth.saturating_sub(depth) == 1
 }
 
-fn is_child_at(rows: &[Row], slots: &Slab<Slot>, at: usize, depth: u32) -> bool
+fn is_child_at(rows: &[Row], slots: &Slots, at: usize, depth: u32) -> bool
     requires { at < length rows.now }
     ensures { result ≡ is_kid is_no_attribute (suc depth) (node_of slots.now (slice_index_or rows.now at no_row)) }
 {
     is_next(rows, at, depth) && !is_attribute_at(slots, rows[at].key)
 }
 
-fn is_element_below(rows: &[Row], slots: &Slab<Slot>, at: usize, depth: u32) -> bool
+fn is_element_below(rows: &[Row], slots: &Slots, at: usize, depth: u32) -> bool
     requires { at < length rows.now }
     ensures { result ≡ is_kid is_element (suc depth) (node_of slots.now (slice_index_or rows.now at no_row)) }
 {
     is_next(rows, at, depth) && is_element_at(slots, rows[at].key)
 }
 
-fn is_attribute_below(rows: &[Row], slots: &Slab<Slot>, at: usize, depth: u32) -> bool
+fn is_attribute_below(rows: &[Row], slots: &Slots, at: usize, depth: u32) -> bool
     requires { at < length rows.now }
     ensures { result ≡ is_kid is_attribute (suc depth) (node_of slots.now (slice_index_or rows.now at no_row)) }
 {

@@ -5,9 +5,9 @@ ghost use Rattle.xf_tree.specs.Print.{IsPlace, AreDeclared};
 ghost use Rattle.xf_tree.specs.Tree.{node_of};
 
 use crate::rows::Row;
-use crate::slot::{Slot, full_name};
+use crate::slot::full_name;
+use crate::slots::Slots;
 use indexmap::IndexSet;
-use slab::Slab;
 use std::alloc::{AllocError, Global};
 use xf_doc::Name;
 use xf_name::{Pair, Prefixes, Word};
@@ -15,7 +15,7 @@ use xf_name::{Pair, Prefixes, Word};
 /// The declarations of all prefixes that these rows use, the greatest first.
 pub fn declarations(
     alloc: Global,
-    slots: &Slab<Slot>,
+    slots: &Slots,
     prefixes: &Prefixes,
     rows: &[Row],
 ) -> Result<Vec<Pair>, AllocError>

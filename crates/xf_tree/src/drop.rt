@@ -13,8 +13,8 @@ ghost use Rattle.xf_tree.specs.Older.{is_older, is_newer, AreWhole};
 use crate::forest::Forest;
 use crate::lookup::{Hint, note_rows, tops_end};
 use crate::rows::Row;
-use crate::slot::{Slot, free_kept, free_rows, number_of};
-use slab::Slab;
+use crate::slot::{free_kept, free_rows, number_of};
+use crate::slots::Slots;
 
 impl Forest {
     /// Drops all detached trees and all kept texts. Takes no memory.
@@ -55,7 +55,7 @@ impl Forest {
 }
 
 /// Drops all kept texts.
-fn drop_kept(slots: &mut Slab<Slot>, kept: &mut Vec<usize>)
+fn drop_kept(slots: &mut Slots, kept: &mut Vec<usize>)
     ensures none { kept.new.items ≡ [] }
     ensures rest { KeepsButKept slots.old slots.new (map (kept_of slots.old) kept.old.items) }
     ensures less { (key : ℕ) → size_of (content_in (get slots.new key)) ≤ size_of (content_in (get slots.old key)) }
@@ -67,7 +67,7 @@ fn drop_kept(slots: &mut Slab<Slot>, kept: &mut Vec<usize>)
 /// Drops the trees from a place on whose tops have this number or a later one.
 fn drop_newer(
     rows: &mut Vec<Row>,
-    slots: &mut Slab<Slot>,
+    slots: &mut Slots,
     hints: &mut Vec<Hint>,
     from: usize,
     number: u128,
@@ -95,7 +95,7 @@ fn drop_newer(
 /// where the rows that stay end.
 fn move_older(
     rows: &mut [Row],
-    slots: &mut Slab<Slot>,
+    slots: &mut Slots,
     hints: &mut [Hint],
     from: usize,
     number: u128,

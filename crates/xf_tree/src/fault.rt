@@ -4,12 +4,13 @@ ghost use Rattle.std.specs.List.{list_any};
 ghost use Rattle.xf_name.specs.Faults.{name_fault};
 ghost use Rattle.xf_name.specs.Shown.{walk_of_all};
 ghost use Rattle.xf_name.specs.Written.{walk_of, walk_of_element, default_below};
-ghost use Rattle.xf_doc.specs.Forest.{own_text, is_element};
+ghost use Rattle.xf_doc.specs.Forest.{own_text};
 ghost use Rattle.xf_doc.specs.Limits.{limits};
 ghost use Rattle.xf_doc.specs.Planted.{lit_fault, written_fault, first_fault, fault_by, is_unknown_space};
 ghost use Rattle.xf_tree.specs.Contents.{is_long, is_deep};
 
 use crate::limits::{DEPTH_LIMIT, TEXT_LIMIT};
+use crate::seen::{is_element, lent};
 use crate::tree::Part;
 use std::alloc::AllocError;
 use xf_doc::{Content, TreeFault};
@@ -117,7 +118,7 @@ pub fn has_deep(tree: &[Part]) -> bool
     ensures { result ≡ list_any (is_deep limits) tree.now }
 {
     tree.iter()
-        .any(|part| is_element(&part.1) && part.0 >= DEPTH_LIMIT)
+        .any(|part| is_element(lent(&part.1)) && part.0 >= DEPTH_LIMIT)
 }
 
 fn own_len(content: &Content) -> usize
@@ -127,14 +128,5 @@ fn own_len(content: &Content) -> usize
         Content::Attribute(_, text) => text.len(),
         Content::Text(text) => text.len(),
         _ => 0,
-    }
-}
-
-pub fn is_element(content: &Content) -> bool
-    ensures { result ≡ is_element content.now }
-{
-    match content {
-        Content::Element(_) => true,
-        _ => false,
     }
 }

@@ -9,9 +9,9 @@ ghost use Rattle.xf_doc.specs.Visit.{visits, parent_of};
 use crate::lookup::{Hint, parent_row, root_row, row_of};
 use crate::rows::Row;
 use crate::slot;
-use crate::slot::{Slot, number_of};
+use crate::slot::number_of;
+use crate::slots::Slots;
 use crate::text::text_at;
-use slab::Slab;
 use std::alloc::{AllocError, Global};
 use std::marker::Model;
 use xf_doc::{Kind, NodeId};
@@ -23,7 +23,7 @@ use xf_name::{QName, Word};
 pub struct Forest {
     pub(crate) alloc: Global,
     pub(crate) rows: Vec<Row>,
-    pub(crate) slots: Slab<Slot>,
+    pub(crate) slots: Slots,
     // By key. What they say is tested where it is used, and owes nothing.
     pub(crate) hints: Vec<Hint>,
     // The keys of kept texts.
@@ -57,7 +57,7 @@ impl Forest {
         Forest {
             alloc,
             rows: Vec::new(alloc),
-            slots: Slab::new(alloc),
+            slots: Slots::new(alloc),
             hints: Vec::new(alloc),
             kept: Vec::new(alloc),
             next: 0,

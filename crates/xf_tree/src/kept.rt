@@ -9,10 +9,9 @@ ghost use Rattle.xf_tree.specs.Texts.{passed_by, valued_slot, owned_slot, text_s
 
 use crate::limits::{ALL_LIMIT, NODE_LIMIT, ROW_LIMIT, TEXT_LIMIT};
 use crate::rows::Row;
-use crate::slot::{Slot, free_node, is_attribute_at, number_of, size_in};
-use slab::Slab;
+use crate::slot::{free_node, is_attribute_at, number_of, size_at};
+use crate::slots::Slots;
 use std::alloc::AllocError;
-use std::mem;
 use xf_doc::{Content, NodeId, TreeFault};
 use xf_name::Word;
 
@@ -43,7 +42,7 @@ pub fn text_count(text: &str) -> usize
 }
 
 /// Gives an attribute another text, and counts its bytes anew. The answer is the text that it had.
-pub fn change_value(slots: &mut Slab<Slot>, key: usize, text: Word, bytes: &mut u128) -> Word
+pub fn change_value(slots: &mut Slots, key: usize, text: Word, bytes: &mut u128) -> Word
     requires { bytes.old < 2 ^ 127 }
     ensures slot { Updates slots.old slots.new key (option_map (valued_slot text) (get slots.old key)) }
     ensures answer { is_attribute (content_in (get slots.old key)) ≡ true → result ≡ own_text (content_in (get slots.old key)) }
@@ -51,26 +50,13 @@ pub fn change_value(slots: &mut Slab<Slot>, key: usize, text: Word, bytes: &mut 
     ensures small { size_of (content_in (get slots.new key)) ≤ 2 ^ 66 }
 {
     let had = size_at(slots, key);
-    let before = replace_value(slots, key, text);
+    let before = slots.replace_value(key, text);
     *bytes = bytes.saturating_sub(had) + size_at(slots, key);
     before
 }
 
-fn replace_value(slots: &mut Slab<Slot>, key: usize, text: Word) -> Word
-    ensures slot { Updates slots.old slots.new key (option_map (valued_slot text) (get slots.old key)) }
-    ensures answer { is_attribute (content_in (get slots.old key)) ≡ true → result ≡ own_text (content_in (get slots.old key)) }
-{
-    match slots.get_mut(key) {
-        Some(slot) => match &mut slot.content {
-            Content::Attribute(_, value) => mem::replace(value, text),
-            _ => text,
-        },
-        None => text,
-    }
-}
-
 /// Puts a text into the slab, or nothing where it is empty. The answer is its key.
-pub fn add_text(slots: &mut Slab<Slot>, number: u128, text: Word) -> usize
+pub fn add_text(slots: &mut Slots, number: u128, text: Word) -> usize
     requires { HasRoomFor slots.old 1 }
     ensures vacant { get slots.old result ≡ None }
     ensures slot { Updates slots.old slots.new result (text_slot number text) }
@@ -78,26 +64,11 @@ pub fn add_text(slots: &mut Slab<Slot>, number: u128, text: Word) -> usize
     if text.is_empty() {
         return slots.vacant_key();
     }
-    slots.insert_reserved(Slot {
-        number,
-        owner: 0,
-        content: Content::Text(text),
-    })
-}
-
-/// The bytes of a node's name and text.
-pub fn size_at(slots: &Slab<Slot>, key: usize) -> u128
-    ensures answer { result ≡ size_of (content_in (get slots.now key)) }
-    ensures small { result ≤ 2 ^ 66 }
-{
-    match slots.get(key) {
-        Some(slot) => size_in(&slot.content),
-        None => 0,
-    }
+    slots.insert(number, Content::Text(text))
 }
 
 /// How many of these rows are of no attribute, and their bytes.
-pub fn texts_in(rows: &[Row], slots: &Slab<Slot>) -> (usize, u128)
+pub fn texts_in(rows: &[Row], slots: &Slots) -> (usize, u128)
     requires { length rows.now < 2 ^ 31 }
     ensures count { result.0 ≡ length (children slots.now rows.now) }
     ensures size { result.1 ≡ all_size (map (node_of slots.now) (children slots.now rows.now)) }
@@ -115,7 +86,7 @@ pub fn texts_in(rows: &[Row], slots: &Slab<Slot>) -> (usize, u128)
 }
 
 /// The bytes of these texts.
-pub fn size_of_texts(texts: &[NodeId], slots: &Slab<Slot>) -> u128
+pub fn size_of_texts(texts: &[NodeId], slots: &Slots) -> u128
     requires { length texts.now < 2 ^ 31 }
     ensures answer { (depth : ℕ) → result ≡ all_size (map (node_of slots.now) (map (text_row depth) texts.now)) }
     ensures small { result ≤ 2 ^ 66 * length texts.now }
@@ -130,7 +101,7 @@ pub fn size_of_texts(texts: &[NodeId], slots: &Slab<Slot>) -> u128
 /// Puts those of these rows that are of no attribute behind the kept ones, as texts of an owner, and behind these nodes.
 pub fn keep_texts(
     rows: &[Row],
-    slots: &mut Slab<Slot>,
+    slots: &mut Slots,
     kept: &mut Vec<usize>,
     had: &mut Vec<NodeId>,
     owner: u128,
@@ -149,22 +120,14 @@ pub fn keep_texts(
             number: number_of(slots, row.key),
             place: row.key,
         });
-        set_owner(slots, row.key, owner);
+        slots.set_owner(row.key, owner);
         kept.push_reserved(row.key);
-    }
-}
-
-fn set_owner(slots: &mut Slab<Slot>, key: usize, owner: u128)
-    ensures { Updates slots.old slots.new key (option_map (owned_slot owner) (get slots.old key)) }
-{
-    if let Some(slot) = slots.get_mut(key) {
-        slot.owner = owner;
     }
 }
 
 /// Takes the texts with these numbers out of the kept ones. They stand at the end of the list then, from the place that is
 /// answered, as they stood among the kept ones. It looks from the end, and no further than it must.
-pub fn take_kept(kept: &mut Vec<usize>, slots: &Slab<Slot>, texts: &mut Vec<NodeId>) -> usize
+pub fn take_kept(kept: &mut Vec<usize>, slots: &Slots, texts: &mut Vec<NodeId>) -> usize
     requires { (n : ℕ) → kept_times n (map (kept_of slots.now) kept.old.items) ≤ 1 }
     ensures within { result ≤ length texts.new.items }
     ensures taken { places_of (drop result texts.new.items) ≡ filter (is_wanted slots.now (numbers_in texts.old.items)) kept.old.items }
@@ -228,7 +191,7 @@ fn move_text(texts: &mut Vec<NodeId>, from: usize, to: usize, key: usize)
 }
 
 /// Empties the slots of those of these rows that are of no attribute.
-pub fn free_texts(slots: &mut Slab<Slot>, rows: &[Row], total: &mut usize, size: &mut u128)
+pub fn free_texts(slots: &mut Slots, rows: &[Row], total: &mut usize, size: &mut u128)
     requires { (n : ℕ) → times n (map (node_of slots.old) rows.now) ≤ 1 }
     ensures rest { KeepsBut slots.old slots.new (map (node_of slots.old) (children slots.old rows.now)) }
     ensures kinds { (key : ℕ) → is_attribute (content_in (get slots.new key)) ≡ is_attribute (content_in (get slots.old key)) }
@@ -245,7 +208,7 @@ pub fn free_texts(slots: &mut Slab<Slot>, rows: &[Row], total: &mut usize, size:
 }
 
 /// Empties the slots of these texts, which are kept no more.
-pub fn free_all(slots: &mut Slab<Slot>, texts: &[NodeId])
+pub fn free_all(slots: &mut Slots, texts: &[NodeId])
     ensures rest { KeepsButKept slots.old slots.new (map (kept_of slots.old) (places_of texts.now)) }
     ensures less { (key : ℕ) → size_of (content_in (get slots.new key)) ≤ size_of (content_in (get slots.old key)) }
 {
@@ -259,7 +222,7 @@ pub fn free_all(slots: &mut Slab<Slot>, texts: &[NodeId])
 /// Makes room for one text more in the slab, so many kept ones, and rows for all of them.
 pub fn make_room(
     rows: &mut Vec<Row>,
-    slots: &mut Slab<Slot>,
+    slots: &mut Slots,
     kept: &mut Vec<usize>,
     taken: usize,
 ) -> Result<(), AllocError>

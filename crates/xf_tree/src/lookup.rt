@@ -6,8 +6,8 @@ ghost use Rattle.xf_tree.specs.Rows.{Sized, SizedBefore, deeper, parent_row_of, 
 ghost use Rattle.xf_tree.specs.Tree.{node_of, StandsAt, AllTops, number_at, no_row, is_kin, kin_before};
 
 use crate::rows::{Row, end_of};
-use crate::slot::{Slot, is_attribute_at, is_of_kind, is_root_at, number_of};
-use slab::Slab;
+use crate::slot::{is_attribute_at, is_of_kind, is_root_at, number_of};
+use crate::slots::Slots;
 use xf_doc::NodeId;
 
 /// What is thought of the node under a key: where its row stands, and the parent's key. It is tested where it is used.
@@ -18,7 +18,7 @@ pub struct Hint {
 }
 
 /// Where the node's row stands: where the hint says so, else found by looking.
-pub fn row_of(rows: &[Row], slots: &Slab<Slot>, hints: &[Hint], node: NodeId) -> Option<usize>
+pub fn row_of(rows: &[Row], slots: &Slots, hints: &[Hint], node: NodeId) -> Option<usize>
     ensures { MatchOption result (has_number node.number (map (node_of slots.now) rows.now) ≡ false) (λ at. StandsAt slots.now rows.now node.number at) }
 {
     if let Some(hint) = hints.get(node.place) {
@@ -93,7 +93,7 @@ fn above_row(rows: &[Row], hints: &[Hint], at: usize) -> Option<usize>
 }
 
 /// The row of the root with a place among the roots.
-pub fn root_row(rows: &[Row], slots: &Slab<Slot>, instance: u32) -> Option<usize>
+pub fn root_row(rows: &[Row], slots: &Slots, instance: u32) -> Option<usize>
     requires sized { Sized rows.now }
     requires tops { AllTops (map (node_of slots.now) rows.now) }
     ensures answer { number_at slots.now rows.now result ≡ root_of instance (map (node_of slots.now) rows.now) }
@@ -114,7 +114,7 @@ pub fn root_row(rows: &[Row], slots: &Slab<Slot>, instance: u32) -> Option<usize
 }
 
 /// Where the detached trees begin.
-pub fn tops_end(rows: &[Row], slots: &Slab<Slot>) -> usize
+pub fn tops_end(rows: &[Row], slots: &Slots) -> usize
     requires sized { Sized rows.now }
     ensures answer { map (node_of slots.now) (take result rows.now) ≡ in_instances (map (node_of slots.now) rows.now) }
     ensures within { result ≤ length rows.now }
@@ -131,7 +131,7 @@ pub fn tops_end(rows: &[Row], slots: &Slab<Slot>) -> usize
 }
 
 /// How many siblings of its kind stand before the node at a place, below the parent's row.
-pub fn place_of(rows: &[Row], slots: &Slab<Slot>, above: usize, at: usize) -> u32
+pub fn place_of(rows: &[Row], slots: &Slots, above: usize, at: usize) -> u32
     requires order { above < at }
     requires inside { at < above + length (tree_of (drop above rows.now)) }
     requires child { (slice_index_or rows.now at no_row).depth ≡ (slice_index_or rows.now above no_row).depth + 1 }
@@ -153,7 +153,7 @@ pub fn place_of(rows: &[Row], slots: &Slab<Slot>, above: usize, at: usize) -> u3
 }
 
 /// Whether the row at a place is of the top of a detached tree.
-fn is_detached_at(rows: &[Row], slots: &Slab<Slot>, at: usize) -> bool
+fn is_detached_at(rows: &[Row], slots: &Slots, at: usize) -> bool
     requires { at < length rows.now }
     ensures { result ≡ is_detached_top (node_of slots.now (slice_index_or rows.now at no_row)) }
 {
@@ -161,7 +161,7 @@ fn is_detached_at(rows: &[Row], slots: &Slab<Slot>, at: usize) -> bool
 }
 
 /// Whether the row at a place has this depth, and is of an attribute, where one is wanted, or of none, where none is.
-pub fn is_kin_at(rows: &[Row], slots: &Slab<Slot>, at: usize, depth: u32, wanted: bool) -> bool
+pub fn is_kin_at(rows: &[Row], slots: &Slots, at: usize, depth: u32, wanted: bool) -> bool
     requires { at < length rows.now }
     ensures { result ≡ is_kin depth wanted (node_of slots.now (slice_index_or rows.now at no_row)) }
 {

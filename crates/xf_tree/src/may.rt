@@ -11,8 +11,8 @@ use crate::child::{has_attribute, has_children, has_element};
 use crate::forest::Forest;
 use crate::lookup::{parent_row, row_of};
 use crate::rows::{Row, end_of};
-use crate::slot::{Slot, is_root_at, kind, number_of};
-use slab::Slab;
+use crate::slot::{is_root_at, kind, number_of};
+use crate::slots::Slots;
 use xf_doc::{Kind, NodeId};
 
 impl Forest {
@@ -157,7 +157,7 @@ impl Forest {
 
 /// Whether each tree's nodes have either all this number or a later one, and are no roots, or all an earlier one: a node
 /// that is no top is of one tree with the node before it.
-fn are_whole(rows: &[Row], slots: &Slab<Slot>, number: u128) -> bool
+fn are_whole(rows: &[Row], slots: &Slots, number: u128) -> bool
     ensures { IsTrue result ↔ AreWhole number false (map (node_of slots.now) rows.now) }
 {
     let mut before = false;

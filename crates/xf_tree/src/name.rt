@@ -3,9 +3,11 @@ ghost use Rattle.std.specs.Prelude.{◌≡◌, IfOk, length, slice_get};
 ghost use Rattle.std.specs.Str.{bytes_eq};
 ghost use Rattle.xf_doc.specs.Forest.{written};
 ghost use Rattle.xf_doc.specs.Plant.{is_less, name_for, no_name, written_of};
+ghost use Rattle.xf_tree.specs.Seen.{seen_content};
 
+use crate::seen::Seen;
 use std::alloc::{AllocError, Global};
-use xf_doc::{Content, Name};
+use xf_doc::Name;
 use xf_name::{Prefixes, QName, Word};
 
 /// A resolved name with its prefix as it is written.
@@ -32,8 +34,8 @@ pub fn no_name(alloc: Global, prefixes: &Prefixes) -> Result<Name, AllocError>
 }
 
 /// Whether the first node's name, as it is written, comes before the second's, by bytes.
-pub fn written_less(first: &Content, second: &Content) -> bool
-    ensures { result ≡ is_less (written_of first.now) (written_of second.now) }
+pub fn written_less(first: Seen<'_>, second: Seen<'_>) -> bool
+    ensures { result ≡ is_less (written_of (seen_content first.entry)) (written_of (seen_content second.entry)) }
 {
     for at in 0..written_len(second) {
         let Some(other) = written_byte(second, at) else {
@@ -50,18 +52,18 @@ pub fn written_less(first: &Content, second: &Content) -> bool
 }
 
 /// Whether the names of both are written alike: neither comes before the other.
-pub fn same_written(first: &Content, second: &Content) -> bool
-    ensures { result ≡ bytes_eq (written_of first.now) (written_of second.now) }
+pub fn same_written(first: Seen<'_>, second: Seen<'_>) -> bool
+    ensures { result ≡ bytes_eq (written_of (seen_content first.entry)) (written_of (seen_content second.entry)) }
 {
     !written_less(first, second) && !written_less(second, first)
 }
 
-fn written_len(content: &Content) -> usize
-    ensures { result ≡ length (written_of content.now) }
+fn written_len(content: Seen<'_>) -> usize
+    ensures { result ≡ length (written_of (seen_content content.entry)) }
 {
     match content {
-        Content::Element(name) => len_of(name),
-        Content::Attribute(name, _) => len_of(name),
+        Seen::Element(name) => len_of(name),
+        Seen::Attribute(name, _) => len_of(name),
         _ => 0,
     }
 }
@@ -77,12 +79,12 @@ fn len_of(name: &Name) -> usize
     prefix.len() + 1 + local.len()
 }
 
-fn written_byte(content: &Content, at: usize) -> Option<u8>
-    ensures { result ≡ slice_get (written_of content.now) at }
+fn written_byte(content: Seen<'_>, at: usize) -> Option<u8>
+    ensures { result ≡ slice_get (written_of (seen_content content.entry)) at }
 {
     match content {
-        Content::Element(name) => byte_of(name, at),
-        Content::Attribute(name, _) => byte_of(name, at),
+        Seen::Element(name) => byte_of(name, at),
+        Seen::Attribute(name, _) => byte_of(name, at),
         _ => None,
     }
 }

@@ -10,8 +10,8 @@ ghost use Rattle.xf_tree.specs.Walks.{number_of_row};
 use crate::forest::Forest;
 use crate::lookup::{Hint, row_of};
 use crate::rows::Row;
-use crate::slot::{Slot, number_of};
-use slab::Slab;
+use crate::slot::number_of;
+use crate::slots::Slots;
 use std::alloc::{AllocError, Global};
 use xf_doc::{NodeId, NodeList};
 
@@ -37,7 +37,7 @@ impl Forest {
 fn ranks_of(
     alloc: Global,
     rows: &[Row],
-    slots: &Slab<Slot>,
+    slots: &Slots,
     hints: &[Hint],
     nodes: &[NodeId],
 ) -> Result<Vec<usize>, AllocError>
@@ -71,7 +71,7 @@ fn put_up(ranks: &mut Vec<usize>)
 fn nodes_at(
     alloc: Global,
     rows: &[Row],
-    slots: &Slab<Slot>,
+    slots: &Slots,
     ranks: &[usize],
 ) -> Result<NodeList, AllocError>
     requires { All (λ rank. rank < length rows.now) ranks.now }

@@ -6,6 +6,7 @@ ghost use Rattle.xf_doc.specs.Forest.{IsLive, written};
 ghost use Rattle.xf_doc.specs.Path.{path_of, step_of};
 ghost use Rattle.xf_doc.specs.Visit.{visits};
 ghost use Rattle.xf_tree.specs.Rows.{Sized, parent_row_of};
+ghost use Rattle.xf_tree.specs.Seen.{seen_content};
 ghost use Rattle.xf_tree.specs.Siblings.{index_text, index_among, like_before, like_after, rows_up, AllPlaces};
 ghost use Rattle.xf_tree.specs.Tree.{content_in, node_of, no_row};
 ghost use Rattle.xf_tree.specs.Walks.{AreNodes, number_of_row};
@@ -13,12 +14,13 @@ ghost use Rattle.xf_tree.specs.Walks.{AreNodes, number_of_row};
 use crate::forest::Forest;
 use crate::lookup::{Hint, parent_row, row_of};
 use crate::rows::{Row, end_of};
+use crate::seen::Seen;
 use crate::siblings::{count_like, has_like};
-use crate::slot::Slot;
+use crate::slot::shown_at;
+use crate::slots::Slots;
 use itoa::Buffer;
-use slab::Slab;
 use std::alloc::{AllocError, Global};
-use xf_doc::{Content, Name, NodeId};
+use xf_doc::{Name, NodeId};
 use xf_name::Word;
 
 impl Forest {
@@ -37,7 +39,7 @@ impl Forest {
 fn path_at(
     alloc: Global,
     rows: &[Row],
-    slots: &Slab<Slot>,
+    slots: &Slots,
     hints: &[Hint],
     at: usize,
 ) -> Result<Word, AllocError>
@@ -79,7 +81,7 @@ fn places_up(
 fn push_steps(
     text: &mut String,
     rows: &[Row],
-    slots: &Slab<Slot>,
+    slots: &Slots,
     hints: &[Hint],
     places: Vec<usize>,
 ) -> Result<(), AllocError>
@@ -98,7 +100,7 @@ fn push_steps(
 fn push_step(
     text: &mut String,
     rows: &[Row],
-    slots: &Slab<Slot>,
+    slots: &Slots,
     hints: &[Hint],
     at: usize,
 ) -> Result<(), AllocError>
@@ -106,28 +108,26 @@ fn push_step(
     requires within { at < length rows.now }
     ensures { OnOk result (string_bytes text.new ≡ string_bytes text.old ++ step_of (visits (map (node_of slots.now) rows.now)) (number_of_row slots.now rows.now at)) }
 {
-    match slots.get(rows[at].key) {
-        Some(slot) => match &slot.content {
-            Content::Root => Ok(()),
-            Content::Element(name) => {
-                text.push('/')?;
-                push_name(text, name)?;
-                push_index(text, index_of(rows, slots, hints, at, &slot.content))?;
-                Ok(())
-            }
-            Content::Attribute(name, _) => {
-                text.push_str("/@")?;
-                push_name(text, name)?;
-                Ok(())
-            }
-            Content::Text(_) => {
-                text.push_str("/text()")?;
-                let earlier = count_before(rows, slots, hints, at, &slot.content);
-                push_index(text, Some(earlier + 1))?;
-                Ok(())
-            }
-        },
-        None => Ok(()),
+    let content = shown_at(slots, rows[at].key);
+    match content {
+        Seen::Root => Ok(()),
+        Seen::Element(name) => {
+            text.push('/')?;
+            push_name(text, name)?;
+            push_index(text, index_of(rows, slots, hints, at, content))?;
+            Ok(())
+        }
+        Seen::Attribute(name, _) => {
+            text.push_str("/@")?;
+            push_name(text, name)?;
+            Ok(())
+        }
+        Seen::Text(_) => {
+            text.push_str("/text()")?;
+            let earlier = count_before(rows, slots, hints, at, content);
+            push_index(text, Some(earlier + 1))?;
+            Ok(())
+        }
     }
 }
 
@@ -157,16 +157,10 @@ fn push_index(text: &mut String, index: Option<usize>) -> Result<(), AllocError>
 }
 
 /// The place of the node at a place of the rows among the siblings that are counted with it, from 1, where there are any.
-fn index_of(
-    rows: &[Row],
-    slots: &Slab<Slot>,
-    hints: &[Hint],
-    at: usize,
-    like: &Content,
-) -> Option<usize>
+fn index_of(rows: &[Row], slots: &Slots, hints: &[Hint], at: usize, like: Seen<'_>) -> Option<usize>
     requires nodes { AreNodes slots.now rows.now }
     requires within { at < length rows.now }
-    ensures { result ≡ index_among (like_before slots.now rows.now like.now at (parent_row_of rows.now at)) (like_after slots.now rows.now like.now at (parent_row_of rows.now at)) }
+    ensures { result ≡ index_among (like_before slots.now rows.now (seen_content like.entry) at (parent_row_of rows.now at)) (like_after slots.now rows.now (seen_content like.entry) at (parent_row_of rows.now at)) }
 {
     let above = parent_row(rows, hints, at)?;
     let earlier = count_before(rows, slots, hints, at, like);
@@ -186,16 +180,10 @@ fn index_of(
 }
 
 /// How many siblings before the node at a place are counted with it.
-fn count_before(
-    rows: &[Row],
-    slots: &Slab<Slot>,
-    hints: &[Hint],
-    at: usize,
-    like: &Content,
-) -> usize
+fn count_before(rows: &[Row], slots: &Slots, hints: &[Hint], at: usize, like: Seen<'_>) -> usize
     requires nodes { AreNodes slots.now rows.now }
     requires within { at < length rows.now }
-    ensures answer { result ≡ length (like_before slots.now rows.now like.now at (parent_row_of rows.now at)) }
+    ensures answer { result ≡ length (like_before slots.now rows.now (seen_content like.entry) at (parent_row_of rows.now at)) }
     ensures few { result < length rows.now }
 {
     match parent_row(rows, hints, at) {

@@ -8,14 +8,14 @@ ghost use Rattle.xf_tree.specs.Rows.{Sized};
 ghost use Rattle.xf_tree.specs.Tree.{content_in, no_row};
 
 use crate::rows::{Row, end_of};
-use crate::slot::{Slot, below, own};
-use slab::Slab;
+use crate::slot::{below, own};
+use crate::slots::Slots;
 use std::marker::Model;
 
 /// The texts that make a string value up, the first one first. Contracts see it as the list of those that are left.
 #[derive(Drop)]
 pub struct Pieces<'a> {
-    pub(crate) slots: &'a Slab<Slot>,
+    pub(crate) slots: &'a Slots,
     pub(crate) first: &'a str,
     pub(crate) rows: &'a [Row],
 }
@@ -55,7 +55,7 @@ impl<'a> Iterator for Pieces<'a> {
 }
 
 /// The texts of the node whose row stands at a place.
-pub fn pieces_at<'a>(rows: &'a [Row], slots: &'a Slab<Slot>, at: usize) -> Pieces<'a>
+pub fn pieces_at<'a>(rows: &'a [Row], slots: &'a Slots, at: usize) -> Pieces<'a>
     requires within { at < length rows.now }
     requires sized { Sized rows.now }
     ensures { result ≡ pieces_at slots.now rows.now at }
@@ -68,7 +68,7 @@ pub fn pieces_at<'a>(rows: &'a [Row], slots: &'a Slab<Slot>, at: usize) -> Piece
 }
 
 /// The place of the first of these rows that has characters, or how many rows there are.
-fn next_text(rows: &[Row], slots: &Slab<Slot>) -> usize
+fn next_text(rows: &[Row], slots: &Slots) -> usize
     ensures left { pieces_left slots.now [] (drop result rows.now) ≡ pieces_left slots.now [] rows.now }
     ensures found { result < length rows.now → has_character (characters (content_in (get slots.now (slice_index_or rows.now result no_row).key))) ≡ true }
     ensures within { result ≤ length rows.now }

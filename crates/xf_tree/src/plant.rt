@@ -9,6 +9,7 @@ ghost use Rattle.xf_tree.specs.Contents.{contents_of_element, contents_of_all, I
 ghost use Rattle.xf_tree.specs.Tree.{IsTree};
 
 use crate::name::{name_for, no_name, written_less};
+use crate::seen::lent;
 use crate::slot::size_in;
 use crate::tree::Part;
 use std::alloc::{AllocError, Global};
@@ -108,7 +109,7 @@ pub fn push_one(tree: &mut Vec<Part>, depth: u32, content: Content) -> Result<()
     ensures added { OnOk result (tree.new.items ≡ tree.old.items ++ (depth, content) ∷ []) }
     ensures small { size_of content ≤ 2 ^ 66 }
 {
-    let _ = size_in(&content);
+    let _ = size_in(lent(&content));
     tree.push((depth, content))?;
     Ok(())
 }
@@ -203,7 +204,7 @@ fn place_of(sorted: &[Content], content: &Content) -> usize
 {
     let mut at = sorted.len();
     while at > 0 {
-        if !written_less(&sorted[at - 1], content) {
+        if !written_less(lent(&sorted[at - 1]), lent(content)) {
             return at;
         }
         at -= 1;

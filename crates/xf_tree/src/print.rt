@@ -5,6 +5,7 @@ ghost use Rattle.xf_doc.specs.Forest.{written};
 ghost use Rattle.xf_doc.specs.Literal.{gathered, first_tree_in, attributes_in, trees_in, inner, outer};
 ghost use Rattle.xf_doc.specs.Printed.{lit_of, printing, printed_as};
 ghost use Rattle.xf_tree.specs.Print.{MayPrint, IsPrintable, shown, stacked, placed, lit_part, lit_with, lits_in};
+ghost use Rattle.xf_tree.specs.Seen.{seen_content};
 ghost use Rattle.xf_tree.specs.Tree.{node_of, content_in};
 
 use crate::declare::{declarations, element_pairs};
@@ -12,13 +13,14 @@ use crate::forest::Forest;
 use crate::gather::{Below, take_inner};
 use crate::lookup::row_of;
 use crate::rows::{Row, end_of};
+use crate::seen::Seen;
 use crate::shown::{numbers_of, printed_rows};
-use crate::slot::Slot;
+use crate::slot::shown_at;
+use crate::slots::Slots;
 use crate::spaces::{Line, with_spaces};
-use slab::Slab;
 use std::alloc::{AllocError, Global};
 use xf_base::Items;
-use xf_doc::{Content, Name, NodeId, NodeList};
+use xf_doc::{Name, NodeId, NodeList};
 use xf_name::{Lit, LitElement, Pair, Prefixes, Word};
 
 type Parts = Vec<(u32, Below<Pair, Lit>)>;
@@ -50,7 +52,7 @@ impl Forest {
 /// The tree that these rows are printed as.
 fn lit_of_rows(
     alloc: Global,
-    slots: &Slab<Slot>,
+    slots: &Slots,
     prefixes: &Prefixes,
     rows: &[Row],
 ) -> Result<Lit, AllocError>
@@ -69,7 +71,7 @@ fn lit_of_rows(
 /// The parts that these lines come to, from the last one back.
 fn lits_in(
     alloc: Global,
-    slots: &Slab<Slot>,
+    slots: &Slots,
     prefixes: &Prefixes,
     lines: &[Line],
 ) -> Result<Parts, AllocError>
@@ -89,7 +91,7 @@ fn lits_in(
 /// The part of a node, with what is below it taken off the stack. Of the declarations the greatest is first.
 fn lit_at(
     alloc: Global,
-    slots: &Slab<Slot>,
+    slots: &Slots,
     prefixes: &Prefixes,
     line: Line,
     declared: Vec<Pair>,
@@ -101,18 +103,15 @@ fn lit_at(
     let mut attributes = Vec::new(alloc);
     let mut children = Vec::new(alloc);
     take_inner(parts, line.row.depth, &mut attributes, &mut children)?;
-    match slots.get(line.row.key) {
-        Some(slot) => lit_part(
-            alloc,
-            prefixes,
-            line.above,
-            declared,
-            &slot.content,
-            attributes,
-            children,
-        ),
-        None => Ok(Below::Tree(Lit::Text(Word::new(alloc)))),
-    }
+    lit_part(
+        alloc,
+        prefixes,
+        line.above,
+        declared,
+        shown_at(slots, line.row.key),
+        attributes,
+        children,
+    )
 }
 
 fn lit_part(
@@ -120,24 +119,24 @@ fn lit_part(
     prefixes: &Prefixes,
     above: u16,
     declared: Vec<Pair>,
-    content: &Content,
+    content: Seen<'_>,
     attributes: Vec<Pair>,
     children: Vec<Lit>,
 ) -> Result<Below<Pair, Lit>, AllocError>
-    ensures { IfOk result (λ part. shown part ≡ lit_with prefixes.now above (reverse declared.items) content.now attributes.items children.items) }
+    ensures { IfOk result (λ part. shown part ≡ lit_with prefixes.now above (reverse declared.items) (seen_content content.entry) attributes.items children.items) }
 {
     match content {
-        Content::Root => Ok(Below::Tree(Lit::Text(Word::new(alloc)))),
-        Content::Text(text) => {
-            let text = Word::from_str(alloc, text.as_str())?;
+        Seen::Root => Ok(Below::Tree(Lit::Text(Word::new(alloc)))),
+        Seen::Text(text) => {
+            let text = Word::from_str(alloc, text)?;
             Ok(Below::Tree(Lit::Text(text)))
         }
-        Content::Attribute(name, text) => {
+        Seen::Attribute(name, text) => {
             let name = written_word(alloc, name)?;
-            let text = Word::from_str(alloc, text.as_str())?;
+            let text = Word::from_str(alloc, text)?;
             Ok(Below::Attribute(Pair { name, text }))
         }
-        Content::Element(name) => {
+        Seen::Element(name) => {
             let pairs = element_pairs(alloc, prefixes, above, name, attributes, declared)?;
             let name = written_word(alloc, name)?;
             Ok(Below::Tree(Lit::Element(LitElement {

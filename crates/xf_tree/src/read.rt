@@ -5,17 +5,19 @@ ghost use Rattle.xf_doc.specs.Forest.{IsLive, content_at};
 ghost use Rattle.xf_doc.specs.Order.{rank_of};
 ghost use Rattle.xf_doc.specs.StringValue.{pieces, whole};
 ghost use Rattle.xf_doc.specs.Visit.{visits};
+ghost use Rattle.xf_tree.specs.Seen.{seen_content};
 
 use crate::forest::Forest;
 use crate::lookup::{parent_row, place_of, row_of};
 use crate::pieces::{Pieces, pieces_at};
+use crate::seen::Seen;
 use crate::slot::{content_of, number_of};
-use xf_doc::{Content, NodeId};
+use xf_doc::NodeId;
 
 impl Forest {
     /// What the node is: its kind, its name as it is resolved and as it is written, its own text. `None` where it is not live.
-    pub fn content(&self, node: NodeId) -> Option<&Content>
-        ensures { option_map (λ content. content.now) result ≡ content_at node.number self.now.forest.nodes }
+    pub fn content(&self, node: NodeId) -> Option<Seen<'_>>
+        ensures { option_map seen_content result ≡ content_at node.number self.now.forest.nodes }
     {
         match row_of(&self.rows, &self.slots, &self.hints, node) {
             Some(at) => content_of(&self.slots, self.rows[at].key),

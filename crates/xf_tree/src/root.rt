@@ -7,15 +7,14 @@ ghost use Rattle.xf_tree.specs.Tree.{content_in, no_row, AllLive, AreSteps, dept
 
 use crate::lookup::{Hint, note_parent, note_rows, tops_end};
 use crate::rows::{Row, lift_root_in, put_last};
-use crate::slot::Slot;
+use crate::slots::Slots;
 use crate::tree::{hint_at, push_node};
-use slab::Slab;
 use xf_doc::Content;
 
 /// Puts a root over the top at a place, behind the instances. The answer is its key.
 pub fn root_over(
     rows: &mut Vec<Row>,
-    slots: &mut Slab<Slot>,
+    slots: &mut Slots,
     hints: &mut Vec<Hint>,
     at: usize,
     number: u128,

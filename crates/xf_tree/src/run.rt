@@ -7,14 +7,14 @@ ghost use Rattle.xf_tree.specs.Texts.{attributes, children, text_row, settled, A
 
 use crate::lookup::{Hint, note_rows};
 use crate::rows::{Row, end_of, grow, rotate, shrink};
-use crate::slot::{Slot, is_attribute_at};
-use slab::Slab;
+use crate::slot::is_attribute_at;
+use crate::slots::Slots;
 use xf_doc::NodeId;
 
 /// Puts these texts in place of those of the element at a place. Nothing moves where there are as many.
 pub fn change_texts(
     rows: &mut Vec<Row>,
-    slots: &Slab<Slot>,
+    slots: &Slots,
     hints: &mut [Hint],
     at: usize,
     texts: &[NodeId],
@@ -45,7 +45,7 @@ pub fn change_texts(
 }
 
 /// How many of these rows are of no attribute.
-fn text_rows(rows: &[Row], slots: &Slab<Slot>) -> usize
+fn text_rows(rows: &[Row], slots: &Slots) -> usize
     requires { length rows.now < 2 ^ 32 }
     ensures { result ≡ length (children slots.now rows.now) }
 {
@@ -59,7 +59,7 @@ fn text_rows(rows: &[Row], slots: &Slab<Slot>) -> usize
 }
 
 /// `pack` on a vector.
-fn pack_in(rows: &mut Vec<Row>, slots: &Slab<Slot>, from: usize, end: usize) -> usize
+fn pack_in(rows: &mut Vec<Row>, slots: &Slots, from: usize, end: usize) -> usize
     requires first { from ≤ end }
     requires second { end ≤ length rows.old.items }
     ensures order { from ≤ result }
@@ -73,7 +73,7 @@ fn pack_in(rows: &mut Vec<Row>, slots: &Slab<Slot>, from: usize, end: usize) -> 
 }
 
 /// Moves the rows of attributes from one place to before another to the front of these. The answer is where they end.
-fn pack(rows: &mut [Row], slots: &Slab<Slot>, from: usize, end: usize) -> usize
+fn pack(rows: &mut [Row], slots: &Slots, from: usize, end: usize) -> usize
     requires first { from ≤ end }
     requires second { end ≤ length rows.old }
     ensures order { from ≤ result }

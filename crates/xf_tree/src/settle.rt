@@ -17,9 +17,9 @@ use crate::kept::{add_text, change_value, keep_texts, make_room, passed, text_co
 use crate::lookup::row_of;
 use crate::rows::{Row, end_of};
 use crate::run::change_texts;
-use crate::slot::{Slot, is_attribute_at, is_text_at, own};
+use crate::slot::{is_attribute_at, is_text_at, own};
+use crate::slots::Slots;
 use crate::tree::hint_at;
-use slab::Slab;
 use std::alloc::AllocError;
 use xf_doc::{Kind, NodeId, TreeFault};
 use xf_name::Word;
@@ -146,7 +146,7 @@ impl Forest {
 }
 
 /// Whether the texts among these rows are this one alone, or none where it is empty.
-fn are_texts(rows: &[Row], slots: &Slab<Slot>, text: &str) -> bool
+fn are_texts(rows: &[Row], slots: &Slots, text: &str) -> bool
     ensures { result ≡ are_texts (as_texts text.now) (texts_in (map (node_of slots.now) rows.now)) }
 {
     let mut found = text.is_empty();

@@ -8,9 +8,9 @@ ghost use Rattle.xf_tree.specs.Tree.{node_of, number_in, content_in};
 ghost use Rattle.xf_tree.specs.Print.{is_inside};
 
 use crate::rows::Row;
-use crate::slot::{Slot, is_text};
+use crate::slot::{is_text_at, number_of};
+use crate::slots::Slots;
 use indexmap::IndexSet;
-use slab::Slab;
 use std::alloc::{AllocError, Global};
 use xf_doc::NodeList;
 
@@ -28,7 +28,7 @@ pub fn numbers_of(alloc: Global, nodes: &NodeList) -> Result<IndexSet<u128>, All
 /// Of the rows of a tree, those that are printed.
 pub fn printed_rows(
     alloc: Global,
-    slots: &Slab<Slot>,
+    slots: &Slots,
     rows: &[Row],
     kept: &IndexSet<u128>,
 ) -> Result<Vec<Row>, AllocError>
@@ -45,7 +45,7 @@ pub fn printed_rows(
 
 /// Pushes those that are printed of the rows after a top.
 fn push_printed(
-    slots: &Slab<Slot>,
+    slots: &Slots,
     rows: &[Row],
     kept: &IndexSet<u128>,
     left: &mut Vec<Row>,
@@ -78,11 +78,8 @@ fn is_inside(out: Option<u32>, depth: u32) -> bool
     }
 }
 
-fn is_kept(slots: &Slab<Slot>, key: usize, kept: &IndexSet<u128>) -> bool
+fn is_kept(slots: &Slots, key: usize, kept: &IndexSet<u128>) -> bool
     ensures { result ≡ (is_text (content_in (get slots.now key)) || has (number_in (get slots.now key)) kept.now.keys) }
 {
-    match slots.get(key) {
-        Some(slot) => is_text(&slot.content) || kept.contains(&slot.number),
-        None => kept.contains(&0),
-    }
+    is_text_at(slots, key) || kept.contains(&number_of(slots, key))
 }

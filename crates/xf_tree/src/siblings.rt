@@ -1,55 +1,52 @@
 //! The place of a node among its siblings, as a path has it.
 ghost use Rattle.std.specs.Prelude.{◌≡◌, ◌+◌, ◌<◌, ◌≤◌, length, nat_lt, slice_index_or};
 ghost use Rattle.xf_tree.specs.Rows.{Sized, AllDeep};
+ghost use Rattle.xf_tree.specs.Seen.{seen_content};
 ghost use Rattle.xf_tree.specs.Siblings.{same_sort, is_like};
 ghost use Rattle.xf_tree.specs.Tree.{node_of, no_row};
 ghost use Rattle.xf_tree.specs.Walks.{between, chosen};
 
-use crate::fault::is_element;
 use crate::name::same_written;
 use crate::rows::{Row, end_of};
-use crate::slot::{Slot, is_text};
-use slab::Slab;
-use xf_doc::Content;
+use crate::seen::{Seen, is_element, is_text};
+use crate::slot::shown_at;
+use crate::slots::Slots;
 
 /// Whether the second is counted with the first: elements whose names are written alike, or texts.
-fn same_sort(like: &Content, other: &Content) -> bool
-    ensures { result ≡ same_sort like.now other.now }
+fn same_sort(like: Seen<'_>, other: Seen<'_>) -> bool
+    ensures { result ≡ same_sort (seen_content like.entry) (seen_content other.entry) }
 {
     match like {
-        Content::Element(_) => is_element(other) && same_written(like, other),
-        Content::Text(_) => is_text(other),
+        Seen::Element(_) => is_element(other) && same_written(like, other),
+        Seen::Text(_) => is_text(other),
         _ => false,
     }
 }
 
 /// Whether the row at a place has this depth and is counted with a content.
-fn is_like_at(rows: &[Row], slots: &Slab<Slot>, at: usize, depth: u32, like: &Content) -> bool
+fn is_like_at(rows: &[Row], slots: &Slots, at: usize, depth: u32, like: Seen<'_>) -> bool
     requires { at < length rows.now }
-    ensures { result ≡ is_like depth like.now (node_of slots.now (slice_index_or rows.now at no_row)) }
+    ensures { result ≡ is_like depth (seen_content like.entry) (node_of slots.now (slice_index_or rows.now at no_row)) }
 {
     if rows[at].depth != depth {
         return false;
     }
-    match slots.get(rows[at].key) {
-        Some(slot) => same_sort(like, &slot.content),
-        None => false,
-    }
+    same_sort(like, shown_at(slots, rows[at].key))
 }
 
 /// How many of the trees from one place to before another have tops of this depth that are counted with a content.
 pub fn count_like(
     rows: &[Row],
-    slots: &Slab<Slot>,
+    slots: &Slots,
     from: usize,
     to: usize,
     depth: u32,
-    like: &Content,
+    like: Seen<'_>,
 ) -> usize
     requires sized { Sized rows.now }
     requires within { to ≤ length rows.now }
     requires deep { AllDeep depth (between from to rows.now) }
-    ensures { result ≡ length (chosen slots.now (is_like depth like.now) (between from to rows.now)) }
+    ensures { result ≡ length (chosen slots.now (is_like depth (seen_content like.entry)) (between from to rows.now)) }
 {
     let mut count = 0;
     let mut next = from;
@@ -65,16 +62,16 @@ pub fn count_like(
 /// Whether one of the trees from one place to before another has such a top.
 pub fn has_like(
     rows: &[Row],
-    slots: &Slab<Slot>,
+    slots: &Slots,
     from: usize,
     to: usize,
     depth: u32,
-    like: &Content,
+    like: Seen<'_>,
 ) -> bool
     requires sized { Sized rows.now }
     requires within { to ≤ length rows.now }
     requires deep { AllDeep depth (between from to rows.now) }
-    ensures { result ≡ nat_lt 0 (length (chosen slots.now (is_like depth like.now) (between from to rows.now))) }
+    ensures { result ≡ nat_lt 0 (length (chosen slots.now (is_like depth (seen_content like.entry)) (between from to rows.now))) }
 {
     let mut next = from;
     while next < to {

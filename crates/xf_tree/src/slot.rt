@@ -1,4 +1,4 @@
-//! What a node is, under a key that it keeps for life.
+//! What is told of the node under a key.
 ghost use Rattle.std.specs.Prelude.{◌≡◌, ◌-◌, ◌≤◌, ◌^◌, ℕ, not, cond, map, option_map, None, IfOk};
 ghost use Rattle.slab.specs.Slab.{get, Updates};
 ghost use Rattle.xf_doc.specs.Limits.{node_count, all_size, size_of};
@@ -6,168 +6,105 @@ ghost use Rattle.xf_doc.specs.Forest.{is_root, is_element, is_attribute, is_text
 ghost use Rattle.xf_doc.specs.Plant.{is_less, written_of};
 ghost use Rattle.xf_doc.specs.StringValue.{characters};
 ghost use Rattle.xf_doc.specs.WellFormed.{have_same_name};
+ghost use Rattle.xf_tree.specs.Seen.{seen_content};
 ghost use Rattle.xf_tree.specs.Tree.{number_in, content_in, same_kind, node_of, kept_of, times, KeepsBut, KeepsButKept};
 
 use crate::name::written_less;
 use crate::rows::Row;
-use slab::Slab;
+use crate::seen::Seen;
+use crate::slots::Slots;
 use std::alloc::{AllocError, Global};
 use xf_doc::{Content, Kind, Name};
 use xf_name::{QName, Word};
 
-/// A node or a kept text.
-#[derive(Drop)]
-pub struct Slot {
-    pub number: u128,
-    /// Of a kept text, the number of the element that it was taken from.
-    pub owner: u128,
-    pub content: Content,
-}
-
-pub fn number_of(slots: &Slab<Slot>, key: usize) -> u128
+pub fn number_of(slots: &Slots, key: usize) -> u128
     ensures { result ≡ number_in (get slots.now key) }
 {
-    match slots.get(key) {
-        Some(slot) => slot.number,
-        None => 0,
-    }
+    slots.number(key)
 }
 
 /// What the node under a key is, where there is one.
-pub fn content_of(slots: &Slab<Slot>, key: usize) -> Option<&Content>
-    ensures { option_map (λ content. content.now) result ≡ option_map (λ slot. slot.content) (get slots.now key) }
+pub fn content_of(slots: &Slots, key: usize) -> Option<Seen<'_>>
+    ensures { option_map seen_content result ≡ option_map (λ slot. slot.content) (get slots.now key) }
 {
-    match slots.get(key) {
-        Some(slot) => Some(&slot.content),
-        None => None,
-    }
+    slots.seen(key)
 }
 
-pub fn kind(slots: &Slab<Slot>, key: usize) -> Kind
+pub fn kind(slots: &Slots, key: usize) -> Kind
     ensures { result ≡ kind_of (content_in (get slots.now key)) }
 {
-    match slots.get(key) {
-        Some(slot) => match &slot.content {
-            Content::Root => Kind::Root,
-            Content::Element(_) => Kind::Element,
-            Content::Attribute(_, _) => Kind::Attribute,
-            Content::Text(_) => Kind::Text,
-        },
-        None => Kind::Root,
-    }
+    slots.kind(key)
 }
 
 /// The text that a node has itself: an attribute's value, or the characters of a text.
-pub fn own(slots: &Slab<Slot>, key: usize) -> &str
+pub fn own(slots: &Slots, key: usize) -> &str
     ensures { result.now ≡ own_text (content_in (get slots.now key)) }
 {
-    match slots.get(key) {
-        Some(slot) => match &slot.content {
-            Content::Attribute(_, word) => word.as_str(),
-            Content::Text(word) => word.as_str(),
-            _ => "",
-        },
-        None => "",
-    }
+    slots.own(key)
 }
 
 /// What a node adds to the string value of a node above it.
-pub fn below(slots: &Slab<Slot>, key: usize) -> &str
+pub fn below(slots: &Slots, key: usize) -> &str
     ensures { result.now ≡ characters (content_in (get slots.now key)) }
 {
-    match slots.get(key) {
-        Some(slot) => match &slot.content {
-            Content::Text(word) => word.as_str(),
-            _ => "",
-        },
-        None => "",
-    }
+    slots.below(key)
 }
 
 /// The name of an element or attribute, with its prefix as it is written.
-pub fn full_name(slots: &Slab<Slot>, key: usize) -> Option<&Name>
+pub fn full_name(slots: &Slots, key: usize) -> Option<&Name>
     ensures { option_map (λ name. name.now) result ≡ name_in (content_in (get slots.now key)) }
 {
-    match slots.get(key) {
-        Some(slot) => match &slot.content {
-            Content::Element(name) => Some(name),
-            Content::Attribute(name, _) => Some(name),
-            _ => None,
-        },
-        None => None,
-    }
+    slots.name(key)
 }
 
 /// The name of an element or attribute.
-pub fn name(slots: &Slab<Slot>, key: usize) -> Option<&QName>
+pub fn name(slots: &Slots, key: usize) -> Option<&QName>
     ensures { option_map (λ name. name.now) result ≡ option_map (λ name. name.meaning) (name_in (content_in (get slots.now key))) }
 {
-    match slots.get(key) {
-        Some(slot) => match &slot.content {
-            Content::Element(name) => Some(&name.meaning),
-            Content::Attribute(name, _) => Some(&name.meaning),
-            _ => None,
-        },
+    match slots.name(key) {
+        Some(name) => Some(&name.meaning),
         None => None,
     }
 }
 
-pub fn is_root_at(slots: &Slab<Slot>, key: usize) -> bool
+pub fn is_root_at(slots: &Slots, key: usize) -> bool
     ensures { result ≡ is_root (content_in (get slots.now key)) }
 {
-    match slots.get(key) {
-        Some(slot) => match &slot.content {
-            Content::Root => true,
-            _ => false,
-        },
-        None => true,
-    }
-}
-
-pub fn is_attribute_at(slots: &Slab<Slot>, key: usize) -> bool
-    ensures { result ≡ is_attribute (content_in (get slots.now key)) }
-{
-    match slots.get(key) {
-        Some(slot) => match &slot.content {
-            Content::Attribute(_, _) => true,
-            _ => false,
-        },
-        None => false,
-    }
-}
-
-pub fn is_text_at(slots: &Slab<Slot>, key: usize) -> bool
-    ensures { result ≡ is_text (content_in (get slots.now key)) }
-{
-    match slots.get(key) {
-        Some(slot) => is_text(&slot.content),
-        None => false,
-    }
-}
-
-pub fn is_text(content: &Content) -> bool
-    ensures { result ≡ is_text content.now }
-{
-    match content {
-        Content::Text(_) => true,
+    match slots.kind(key) {
+        Kind::Root => true,
         _ => false,
     }
 }
 
-pub fn is_element_at(slots: &Slab<Slot>, key: usize) -> bool
+pub fn is_attribute_at(slots: &Slots, key: usize) -> bool
+    ensures { result ≡ is_attribute (content_in (get slots.now key)) }
+{
+    match slots.kind(key) {
+        Kind::Attribute => true,
+        _ => false,
+    }
+}
+
+pub fn is_text_at(slots: &Slots, key: usize) -> bool
+    ensures { result ≡ is_text (content_in (get slots.now key)) }
+{
+    match slots.kind(key) {
+        Kind::Text => true,
+        _ => false,
+    }
+}
+
+pub fn is_element_at(slots: &Slots, key: usize) -> bool
     ensures { result ≡ is_element (content_in (get slots.now key)) }
 {
-    match slots.get(key) {
-        Some(slot) => match &slot.content {
-            Content::Element(_) => true,
-            _ => false,
-        },
-        None => false,
+    match slots.kind(key) {
+        Kind::Element => true,
+        _ => false,
     }
 }
 
 /// Whether both are named, with the same namespace and local name.
-pub fn has_same_name(slots: &Slab<Slot>, first: usize, second: usize) -> bool
+pub fn has_same_name(slots: &Slots, first: usize, second: usize) -> bool
     ensures { result ≡ have_same_name (name_in (content_in (get slots.now first))) (name_in (content_in (get slots.now second))) }
 {
     match (name(slots, first), name(slots, second)) {
@@ -177,18 +114,24 @@ pub fn has_same_name(slots: &Slab<Slot>, first: usize, second: usize) -> bool
 }
 
 /// Whether the first node's name, as it is written, comes before the second's, by bytes.
-pub fn is_less_at(slots: &Slab<Slot>, first: usize, second: usize) -> bool
+pub fn is_less_at(slots: &Slots, first: usize, second: usize) -> bool
     ensures { result ≡ is_less (written_of (content_in (get slots.now first))) (written_of (content_in (get slots.now second))) }
 {
-    match (slots.get(first), slots.get(second)) {
-        (Some(one), Some(other)) => written_less(&one.content, &other.content),
-        (None, Some(other)) => written_less(&Content::Root, &other.content),
-        _ => false,
+    written_less(shown_at(slots, first), shown_at(slots, second))
+}
+
+/// What the node under a key is: a root where there is none.
+pub fn shown_at(slots: &Slots, key: usize) -> Seen<'_>
+    ensures { seen_content result ≡ content_in (get slots.now key) }
+{
+    match slots.seen(key) {
+        Some(content) => content,
+        None => Seen::Root,
     }
 }
 
 /// Whether it is an attribute, where one is wanted, or is none, where none is.
-pub fn is_of_kind(slots: &Slab<Slot>, key: usize, wanted: bool) -> bool
+pub fn is_of_kind(slots: &Slots, key: usize, wanted: bool) -> bool
     ensures { result ≡ same_kind wanted (content_in (get slots.now key)) }
 {
     if wanted {
@@ -199,45 +142,43 @@ pub fn is_of_kind(slots: &Slab<Slot>, key: usize, wanted: bool) -> bool
 }
 
 /// How many bytes a node's name and text have.
-pub fn size_in(content: &Content) -> u128
-    ensures answer { result ≡ size_of content.now }
-    ensures small { size_of content.now ≤ 2 ^ 66 }
+pub fn size_in(content: Seen<'_>) -> u128
+    ensures answer { result ≡ size_of (seen_content content.entry) }
+    ensures small { size_of (seen_content content.entry) ≤ 2 ^ 66 }
 {
     match content {
-        Content::Root => 0,
-        Content::Element(name) => name.prefix.len() as u128 + name.meaning.local.len() as u128,
-        Content::Attribute(name, text) => name.prefix.len() as u128
+        Seen::Root => 0,
+        Seen::Element(name) => name.prefix.len() as u128 + name.meaning.local.len() as u128,
+        Seen::Attribute(name, text) => name.prefix.len() as u128
             + name.meaning.local.len() as u128
             + text.len() as u128,
-        Content::Text(text) => text.len() as u128,
+        Seen::Text(text) => text.len() as u128,
     }
 }
 
+/// The bytes of a node's name and text.
+pub fn size_at(slots: &Slots, key: usize) -> u128
+    ensures answer { result ≡ size_of (content_in (get slots.now key)) }
+    ensures small { result ≤ 2 ^ 66 }
+{
+    size_in(shown_at(slots, key))
+}
+
 /// Empties the slot of a node, which counts no more.
-pub fn free_node(slots: &mut Slab<Slot>, key: usize, total: &mut usize, size: &mut u128)
+pub fn free_node(slots: &mut Slots, key: usize, total: &mut usize, size: &mut u128)
     ensures gone { Updates slots.old slots.new key None }
     ensures total { total.new ≡ total.old - cond (not (is_root (content_in (get slots.old key)))) 1 0 }
     ensures size { size.new ≡ size.old - size_of (content_in (get slots.old key)) }
 {
-    if let Some(slot) = slots.try_remove(key) {
-        *size = size.saturating_sub(size_in(&slot.content));
-        if !is_root_content(&slot.content) {
-            *total = total.saturating_sub(1);
-        }
+    *size = size.saturating_sub(size_at(slots, key));
+    if !is_root_at(slots, key) {
+        *total = total.saturating_sub(1);
     }
-}
-
-fn is_root_content(content: &Content) -> bool
-    ensures { result ≡ is_root content.now }
-{
-    match content {
-        Content::Root => true,
-        _ => false,
-    }
+    slots.remove(key);
 }
 
 /// Empties the slots of these rows.
-pub fn free_rows(slots: &mut Slab<Slot>, rows: &[Row], total: &mut usize, size: &mut u128)
+pub fn free_rows(slots: &mut Slots, rows: &[Row], total: &mut usize, size: &mut u128)
     requires { (n : ℕ) → times n (map (node_of slots.old) rows.now) ≤ 1 }
     ensures rest { KeepsBut slots.old slots.new (map (node_of slots.old) rows.now) }
     ensures less { (key : ℕ) → size_of (content_in (get slots.new key)) ≤ size_of (content_in (get slots.old key)) }
@@ -250,7 +191,7 @@ pub fn free_rows(slots: &mut Slab<Slot>, rows: &[Row], total: &mut usize, size: 
 }
 
 /// Empties the slots of kept texts.
-pub fn free_kept(slots: &mut Slab<Slot>, keys: &[usize])
+pub fn free_kept(slots: &mut Slots, keys: &[usize])
     ensures rest { KeepsButKept slots.old slots.new (map (kept_of slots.old) keys.now) }
     ensures less { (key : ℕ) → size_of (content_in (get slots.new key)) ≤ size_of (content_in (get slots.old key)) }
 {
@@ -262,17 +203,17 @@ pub fn free_kept(slots: &mut Slab<Slot>, keys: &[usize])
 }
 
 /// A copy of a content.
-pub fn duplicate(alloc: Global, content: &Content) -> Result<Content, AllocError>
-    ensures { IfOk result (λ copy. copy ≡ content.now) }
+pub fn duplicate(alloc: Global, content: Seen<'_>) -> Result<Content, AllocError>
+    ensures { IfOk result (λ copy. copy ≡ seen_content content.entry) }
 {
     Ok(match content {
-        Content::Root => Content::Root,
-        Content::Element(name) => Content::Element(duplicate_name(alloc, name)?),
-        Content::Attribute(name, text) => {
+        Seen::Root => Content::Root,
+        Seen::Element(name) => Content::Element(duplicate_name(alloc, name)?),
+        Seen::Attribute(name, text) => {
             let name = duplicate_name(alloc, name)?;
-            Content::Attribute(name, Word::from_str(alloc, text.as_str())?)
+            Content::Attribute(name, Word::from_str(alloc, text)?)
         }
-        Content::Text(text) => Content::Text(Word::from_str(alloc, text.as_str())?),
+        Seen::Text(text) => Content::Text(Word::from_str(alloc, text)?),
     })
 }
 

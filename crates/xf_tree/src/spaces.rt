@@ -5,10 +5,10 @@ ghost use Rattle.xf_tree.specs.Print.{placed, with_spaces, left_at, begins_outsi
 ghost use Rattle.xf_tree.specs.Tree.{node_of, content_in};
 
 use crate::rows::Row;
-use crate::slot::Slot;
-use slab::Slab;
+use crate::seen::Seen;
+use crate::slot::shown_at;
+use crate::slots::Slots;
 use std::alloc::{AllocError, Global};
-use xf_doc::Content;
 
 /// A row that is printed, and the namespace in force above it.
 #[derive(Clone, Copy, Debug)]
@@ -18,7 +18,7 @@ pub struct Line {
 }
 
 /// Rows with the namespaces in force above them.
-pub fn with_spaces(alloc: Global, slots: &Slab<Slot>, rows: &[Row]) -> Result<Vec<Line>, AllocError>
+pub fn with_spaces(alloc: Global, slots: &Slots, rows: &[Row]) -> Result<Vec<Line>, AllocError>
     ensures { IfOk result (λ lines. map (placed slots.now) lines.items ≡ with_spaces [] (map (node_of slots.now) rows.now)) }
 {
     let mut lines = Vec::new(alloc);
@@ -61,19 +61,16 @@ fn space_in(around: &[(u32, u16)]) -> u16
 }
 
 /// The namespace in force below a node, where one is in force above it.
-fn force_in(slots: &Slab<Slot>, key: usize, above: u16) -> u16
+fn force_in(slots: &Slots, key: usize, above: u16) -> u16
     ensures { result ≡ force_in above (content_in (get slots.now key)) }
 {
-    match slots.get(key) {
-        Some(slot) => match &slot.content {
-            Content::Element(name) => {
-                if name.prefix.is_empty() {
-                    return name.meaning.space;
-                }
-                above
+    match shown_at(slots, key) {
+        Seen::Element(name) => {
+            if name.prefix.is_empty() {
+                return name.meaning.space;
             }
-            _ => above,
-        },
-        None => above,
+            above
+        }
+        _ => above,
     }
 }

@@ -5,8 +5,8 @@ ghost use Rattle.xf_tree.specs.Rows.{Sized};
 ghost use Rattle.xf_tree.specs.Tree.{texts_in, text_of};
 
 use crate::rows::{Row, end_of};
-use crate::slot::{Slot, below, own};
-use slab::Slab;
+use crate::slot::{below, own};
+use crate::slots::Slots;
 use std::alloc::{AllocError, Global};
 use xf_name::Word;
 
@@ -14,7 +14,7 @@ use xf_name::Word;
 pub fn text_at(
     alloc: Global,
     rows: &[Row],
-    slots: &Slab<Slot>,
+    slots: &Slots,
     at: usize,
     most: usize,
 ) -> Result<Option<Word>, AllocError>
@@ -39,7 +39,7 @@ pub fn text_at(
 /// Appends the texts of these rows, one after another, and tells whether they have no more bytes than that together.
 fn push_texts(
     rows: &[Row],
-    slots: &Slab<Slot>,
+    slots: &Slots,
     most: usize,
     text: &mut String,
 ) -> Result<bool, AllocError>

@@ -8,8 +8,9 @@ ghost use Rattle.xf_tree.specs.Tree.{node_of, content_in, no_row, AllLive, IsTre
 
 use crate::lookup::Hint;
 use crate::rows::Row;
-use crate::slot::{Slot, duplicate, size_in};
-use slab::Slab;
+use crate::seen::lent;
+use crate::slot::{duplicate, shown_at, size_in};
+use crate::slots::Slots;
 use std::alloc::{AllocError, Global};
 use xf_doc::Content;
 
@@ -19,7 +20,7 @@ pub type Part = (u32, Content);
 /// Puts a node behind all others.
 pub fn push_node(
     rows: &mut Vec<Row>,
-    slots: &mut Slab<Slot>,
+    slots: &mut Slots,
     number: u128,
     depth: u32,
     size: usize,
@@ -33,13 +34,9 @@ pub fn push_node(
     ensures more { vec_len rows.new ≡ vec_len rows.old + 1 }
     ensures room { vec_capacity rows.new ≡ vec_capacity rows.old }
     ensures count { slab_len slots.new ≡ slab_len slots.old + 1 }
-    ensures slots { slots.new.capacity ≡ slots.old.capacity }
+    ensures slots { slots.old.capacity ≤ slots.new.capacity }
 {
-    let key = slots.insert_reserved(Slot {
-        number,
-        owner: 0,
-        content,
-    });
+    let key = slots.insert(number, content);
     rows.push_reserved(Row { key, size, depth });
     key
 }
@@ -56,7 +53,7 @@ pub fn hint_at(hints: &mut Vec<Hint>, key: usize) {
 /// Puts the nodes of a tree behind all others, with numbers from the first one on.
 pub fn push_tree(
     rows: &mut Vec<Row>,
-    slots: &mut Slab<Slot>,
+    slots: &mut Slots,
     hints: &mut Vec<Hint>,
     first: u128,
     tree: Vec<Part>,
@@ -93,7 +90,7 @@ fn set_sizes_in(rows: &mut Vec<Row>, hints: &mut Vec<Hint>, start: usize)
 
 fn push_all(
     rows: &mut Vec<Row>,
-    slots: &mut Slab<Slot>,
+    slots: &mut Slots,
     hints: &mut Vec<Hint>,
     first: u128,
     tree: Vec<Part>,
@@ -160,7 +157,7 @@ fn tree_end(rows: &[Row], hints: &mut [Hint], at: usize) -> usize
 /// The contents of these rows, with their depths below a top.
 pub fn contents_of(
     alloc: Global,
-    slots: &Slab<Slot>,
+    slots: &Slots,
     rows: &[Row],
     top: u32,
 ) -> Result<Vec<Part>, AllocError>
@@ -168,10 +165,7 @@ pub fn contents_of(
 {
     let mut tree = Vec::new(alloc);
     for row in rows {
-        let content = match slots.get(row.key) {
-            Some(slot) => duplicate(alloc, &slot.content)?,
-            None => Content::Root,
-        };
+        let content = duplicate(alloc, shown_at(slots, row.key))?;
         tree.push((row.depth.saturating_sub(top), content))?;
     }
     Ok(tree)
@@ -185,7 +179,7 @@ pub fn size_of_tree(tree: &[Part]) -> u128
 {
     let mut size = 0;
     for part in tree {
-        size += size_in(&part.1);
+        size += size_in(lent(&part.1));
     }
     size
 }

@@ -7,8 +7,8 @@ ghost use Rattle.xf_tree.specs.Walks.{between, chosen, is_plain, left_of, IsRead
 
 use crate::lookup::{Hint, is_kin_at, parent_row};
 use crate::rows::{Row, end_of};
-use crate::slot::{Slot, is_attribute_at, number_of};
-use slab::Slab;
+use crate::slot::{is_attribute_at, number_of};
+use crate::slots::Slots;
 use std::marker::Model;
 use xf_doc::NodeId;
 
@@ -33,7 +33,7 @@ pub enum Left {
 #[derive(Drop)]
 pub struct Walk<'a> {
     pub(crate) rows: &'a [Row],
-    pub(crate) slots: &'a Slab<Slot>,
+    pub(crate) slots: &'a Slots,
     pub(crate) hints: &'a [Hint],
     pub(crate) first: Option<usize>,
     pub(crate) left: Left,
@@ -76,7 +76,7 @@ impl<'a> Iterator for Walk<'a> {
 }
 
 /// The row that comes next, and what is left behind it.
-fn step(rows: &[Row], slots: &Slab<Slot>, hints: &[Hint], left: Left) -> Option<(usize, Left)>
+fn step(rows: &[Row], slots: &Slots, hints: &[Hint], left: Left) -> Option<(usize, Left)>
     requires sized { Sized rows.now }
     requires ready { IsReady rows.now left }
     ensures { MatchOption result (left_of slots.now rows.now left ≡ []) (λ r. IsStep slots.now rows.now left r.0 r.1) }
@@ -96,7 +96,7 @@ fn step(rows: &[Row], slots: &Slab<Slot>, hints: &[Hint], left: Left) -> Option<
 
 fn step_over_trees(
     rows: &[Row],
-    slots: &Slab<Slot>,
+    slots: &Slots,
     at: usize,
     end: usize,
     depth: u32,
@@ -113,12 +113,7 @@ fn step_over_trees(
     Some((next, Left::Trees { at, end, depth }))
 }
 
-fn step_over_attributes(
-    rows: &[Row],
-    slots: &Slab<Slot>,
-    at: usize,
-    depth: u32,
-) -> Option<(usize, Left)>
+fn step_over_attributes(rows: &[Row], slots: &Slots, at: usize, depth: u32) -> Option<(usize, Left)>
     ensures { MatchOption result (left_of slots.now rows.now (Left.Attributes at depth) ≡ []) (λ r. IsStep slots.now rows.now (Left.Attributes at depth) r.0 r.1) }
 {
     if at >= rows.len() {
@@ -130,7 +125,7 @@ fn step_over_attributes(
     Some((at, Left::Attributes { at: at + 1, depth }))
 }
 
-fn step_over_rows(rows: &[Row], slots: &Slab<Slot>, at: usize, end: usize) -> Option<(usize, Left)>
+fn step_over_rows(rows: &[Row], slots: &Slots, at: usize, end: usize) -> Option<(usize, Left)>
     requires { end ≤ length rows.now }
     ensures { MatchOption result (left_of slots.now rows.now (Left.Rows at end) ≡ []) (λ r. IsStep slots.now rows.now (Left.Rows at end) r.0 r.1) }
 {
@@ -143,7 +138,7 @@ fn step_over_rows(rows: &[Row], slots: &Slab<Slot>, at: usize, end: usize) -> Op
 
 fn step_back(
     rows: &[Row],
-    slots: &Slab<Slot>,
+    slots: &Slots,
     hints: &[Hint],
     above: usize,
     at: usize,
@@ -168,7 +163,7 @@ fn step_back(
 }
 
 /// The place of the next top of a tree that has this depth and is no attribute, or the end or past it where there is none.
-fn next_kin(rows: &[Row], slots: &Slab<Slot>, at: usize, end: usize, depth: u32) -> usize
+fn next_kin(rows: &[Row], slots: &Slots, at: usize, end: usize, depth: u32) -> usize
     requires sized { Sized rows.now }
     requires within { end ≤ length rows.now }
     requires deep { AllDeep depth (between at end rows.now) }
@@ -184,7 +179,7 @@ fn next_kin(rows: &[Row], slots: &Slab<Slot>, at: usize, end: usize, depth: u32)
 }
 
 /// The place of the next node that is no attribute, or the end or past it where there is none.
-fn next_plain(rows: &[Row], slots: &Slab<Slot>, at: usize, end: usize) -> usize
+fn next_plain(rows: &[Row], slots: &Slots, at: usize, end: usize) -> usize
     requires within { end ≤ length rows.now }
     ensures found { result < end → is_plain (node_of slots.now (slice_index_or rows.now result no_row)) ≡ true }
     ensures same { chosen slots.now is_plain (between result end rows.now) ≡ chosen slots.now is_plain (between at end rows.now) }
@@ -200,7 +195,7 @@ fn next_plain(rows: &[Row], slots: &Slab<Slot>, at: usize, end: usize) -> usize
 /// behind it.
 fn last_kin(
     rows: &[Row],
-    slots: &Slab<Slot>,
+    slots: &Slots,
     hints: &[Hint],
     above: usize,
     at: usize,

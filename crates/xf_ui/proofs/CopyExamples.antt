@@ -173,6 +173,22 @@ a_container_is_told :
     ≡ Some ((codes "xforms-disabled", 1) ∷ (codes "xforms-disabled", 2) ∷ [])
 a_container_is_told = refl
 
+-- in a group on `.` a repeat over s and a switch with one case: each of these copies is told, the repeat and the case too
+abbrev containers : Interface
+containers = Examples.interface
+    (Examples.top (1 ∷ [])
+    ∷ Examples.by Examples.itself (inside 0 (2 ∷ 3 ∷ []) sort.group)
+    ∷ Examples.by (Examples.to (codes "s")) (inside 1 [] (sort.repeated 0 1))
+    ∷ inside 1 (4 ∷ []) (sort.switch 0)
+    ∷ inside 3 [] (sort.one_case false)
+    ∷ [])
+    (2 ∷ []) (3 ∷ [])
+
+each_container_is_told :
+    told_by_toggle (copies containers (around Examples.two_lists) as_usual (0 ∷ []) []) (copies containers (around Examples.two_lists) (irrelevant (λ n. n == 1)) (0 ∷ []) [])
+    ≡ Some ((codes "xforms-disabled", 1) ∷ (codes "xforms-disabled", 2) ∷ (codes "xforms-disabled", 3) ∷ (codes "xforms-disabled", 4) ∷ [])
+each_container_is_told = refl
+
 -- ---- how many
 
 counted : option_map copy_count (copies Examples.lists (around Examples.two_lists) as_usual [] []) ≡ Some 9

@@ -9,6 +9,7 @@ use Rattle.xf_lang.specs.Conversions.{nodes_of}
 use Rattle.xf_lang.specs.Binding.{stand_ins, bound_nodes}
 use Rattle.xf_ui.specs.Interface.{Bound, unbound, nodes, by_bind}
 
+-- what surrounds the expressions of a form
 pub record Around : Type 0 where
   pub functions : Functions
   -- the most bytes that a string may have, or None
@@ -19,9 +20,11 @@ pub record Around : Type 0 where
   -- the nodes of a bind over the present data, by its number: None where a string is too long
   pub bound : ℕ → Option (List ℕ)
 
+-- the setting of an expression of a model with this context node
 abbrev pub setting : Around → ℕ → ℕ → Setting
 setting a model n = setting_over a.functions a.most a.given a.all model n
 
+-- a node by itself as a context
 abbrev pub alone : ℕ → Focus
 alone n = record { node = n; position = 1; size = 1 }
 

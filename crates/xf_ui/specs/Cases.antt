@@ -4,13 +4,16 @@ use Rattle.std.specs.List.{position_or_len, list_all}
 use Rattle.xf_ui.specs.Interface.{Sort, Interface, switch, one_case}
 use Rattle.xf_ui.specs.Elements.{element_at, children, ancestors}
 
+-- the sort of a case
 abbrev pub is_case_sort : Sort → Bool
 is_case_sort (one_case is_selected) = true
 is_case_sort sort = false
 
+-- the element is a case
 abbrev pub is_case : Interface → ℕ → Bool
 is_case f n = is_case_sort (element_at f n).sort
 
+-- the cases of a switch, in document order
 abbrev pub cases_of : Interface → ℕ → List ℕ
 cases_of f n = filter (is_case f) (children f n)
 

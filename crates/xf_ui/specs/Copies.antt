@@ -16,6 +16,7 @@ use Rattle.xf_ui.specs.Cases.{is_in_selected}
 use Rattle.xf_ui.specs.Items.{items_of}
 use Rattle.xf_ui.specs.Places.{places}
 
+-- a copy of a control or container
 pub record Copy : Type 0 where
   pub element : ℕ
   -- the row nodes, the outermost first

@@ -8,9 +8,11 @@ use Rattle.xf_ui.specs.Interface.{Element, Interface, Sort, host, group, switch,
 abbrev pub no_element : Element
 no_element = record { id = []; parent = None; parts = []; model = None; binding = unbound; sort = host }
 
+-- the element with a number
 abbrev pub element_at : Interface → ℕ → Element
 element_at f n = get_or f.elements n no_element
 
+-- the elements that stand in an element, in document order
 abbrev pub children : Interface → ℕ → List ℕ
 children f n = flat_map child_in (element_at f n).parts
 
@@ -28,6 +30,7 @@ ancestors f n = above (length f.elements) f (element_at f n).parent
 abbrev pub path_to : Interface → ℕ → List ℕ
 path_to f n = reverse (ancestors f n)
 
+-- the elements with these numbers
 abbrev pub elements_on : Interface → List ℕ → List Element
 elements_on f ns = map (element_at f) ns
 

@@ -9,14 +9,17 @@ use Rattle.xf_ui.specs.Elements.{element_at, ancestors, repeats_around, repeat_n
 use Rattle.xf_ui.specs.Around.{Around}
 use Rattle.xf_ui.specs.Rows.{rows_of, row_at}
 
+-- the index of a repeat, and the node at it
 pub record Index : Type 0 where
   -- from 1, or 0 without rows
   pub index : ℕ
   pub node : Option ℕ
 
+-- that of a repeat without rows
 abbrev pub unset : Index
 unset = record { index = 0; node = None }
 
+-- the number of a repeat among the repeats
 abbrev pub number_of : Interface → ℕ → ℕ
 number_of f r = repeat_number (element_at f r).sort
 
@@ -24,6 +27,7 @@ number_of f r = repeat_number (element_at f r).sort
 abbrev pub index_of : Interface → List Index → ℕ → Index
 index_of f indexes r = get_or indexes (number_of f r) unset
 
+-- the indexes with this one for a repeat
 abbrev pub with_index : Interface → ℕ → Index → List Index → List Index
 with_index f r index indexes = slice_set indexes (number_of f r) index
 

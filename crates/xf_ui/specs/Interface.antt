@@ -55,6 +55,7 @@ pub data Sort : Type 0 where
   -- when it is called, where it is a handler
   action : Option Handler → Sort
 
+-- an element of a form
 pub record Element : Type 0 where
   -- empty where it has none
   pub id : List ℕ
@@ -65,6 +66,7 @@ pub record Element : Type 0 where
   pub binding : Bound
   pub sort : Sort
 
+-- a form by its elements
 pub record Interface : Type 0 where
   -- each at the place of its number
   pub elements : List Element

@@ -11,10 +11,12 @@ use Rattle.xf_ui.specs.Around.{Around, all_bound}
 use Rattle.xf_ui.specs.Context.{Inside, Context, on, standing_in, enter, inside, context_in}
 use Rattle.xf_ui.specs.Labels.{text_in}
 
+-- the sort of a label
 abbrev pub is_label : Sort → Bool
 is_label label = true
 is_label sort = false
 
+-- the sort of an item's value
 abbrev pub is_value : Sort → Bool
 is_value (item_value expr) = true
 is_value sort = false
@@ -24,6 +26,7 @@ abbrev pub text_if : Interface → Around → Inside → Option ℕ → Option (
 text_if f a s None = Some []
 text_if f a s (Some n) = text_in f a s (element_at f n)
 
+-- the text of the first child whose sort passes the test
 abbrev pub text_among : Interface → Around → Inside → (Sort → Bool) → ℕ → Option (List ℕ)
 text_among f a s test n = text_if f a s (find (λ m. test (element_at f m).sort) (children f n))
 
@@ -34,6 +37,7 @@ item_in f a n s = do
   value_text ← text_among f a s is_value n
   Some (record { label = label_text; value = value_text })
 
+-- what a node of the set gives to what stands in its item set
 abbrev pub at_node : List ℕ → Inside → Context → ℕ → Inside
 at_node set s c m = record { model = c.model; place = on (standing_in m set); rows = s.rows }
 
@@ -42,9 +46,11 @@ abbrev pub set_items : Interface → Around → Inside → ℕ → Element → O
 set_items f a s n e = let c = context_in f a s e in
     all_bound a c.model e.binding c.focus >>= λ set. each (λ m. item_in f a n (at_node set s c m)) set
 
+-- the items of all these lists
 abbrev pub all_items : Option (List (List Item)) → Option (List Item)
 all_items lists = option_map (flat_map (λ items. items)) lists
 
+-- by the sort of the element
 abbrev pub items_by : Interface → Around → (Inside → ℕ → Option (List Item)) → Inside → ℕ → Sort → Option (List Item)
 items_by f a further s n item = option_map (λ i. i ∷ []) (enter f a s (element_at f n) >>= item_in f a n)
 items_by f a further s n itemset = set_items f a s n (element_at f n)

@@ -4,6 +4,7 @@ use Rattle.std.specs.Prelude.{ℕ, Bool, true, false, ◌&&◌, List, [], ◌∷
 use Rattle.std.specs.List.{flat_map}
 use Rattle.xf_ui.specs.Copies.{Copy}
 
+-- an event that tells of a difference
 pub record Notification : Type 0 where
   -- the name of the event
   pub name : List ℕ

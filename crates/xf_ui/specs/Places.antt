@@ -11,9 +11,11 @@ use Rattle.xf_ui.specs.Rows.{rows_of}
 abbrev pub Places : Type 0
 Places = List (ℕ × List ℕ)
 
+-- the places of all these lists
 abbrev pub all_places : List Places → Places
 all_places lists = flat_map (λ places. places) lists
 
+-- those of these elements and of what stands in them
 abbrev pub places_in : (List ℕ → ℕ → Option Places) → List ℕ → List ℕ → Option Places
 places_in further ns rows = option_map all_places (each (further rows) ns)
 
@@ -24,6 +26,7 @@ places_by f a further rows n (repeated k start) = do
   option_map all_places (each (λ m. places_in further (children f n) (rows ++ m ∷ [])) set)
 places_by f a further rows n sort = places_in further (children f n) rows
 
+-- a control or container before what stands in it
 abbrev pub if_control : Bool → ℕ → List ℕ → Places → Places
 if_control true n rows places = (n, rows) ∷ places
 if_control false n rows places = places
@@ -34,5 +37,6 @@ places_at zero f a rows n = Some []
 places_at (suc most) f a rows n =
     option_map (if_control (is_control (element_at f n).sort) n rows) (places_by f a (places_at most f a) rows n (element_at f n).sort)
 
+-- those of the whole form
 abbrev pub places : Interface → Around → Option Places
 places f a = places_at (length f.elements) f a [] 0

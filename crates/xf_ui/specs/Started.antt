@@ -19,6 +19,7 @@ each_takes f a taken indexes (r ∷ rs) = do
 abbrev pub started : Interface → Around → Option (List Index)
 started f a = each_takes f a (λ r. held (repeat_start (element_at f r).sort)) (map (λ r. unset) f.repeats) f.repeats
 
+-- the repeats that stand in a repeat, in document order
 abbrev pub repeats_inside : Interface → ℕ → List ℕ
 repeats_inside f r = filter (λ q. has r (ancestors f q)) f.repeats
 

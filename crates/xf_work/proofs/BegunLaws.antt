@@ -4,6 +4,7 @@ use Rattle.std.specs.Prelude.{replicate, ◌≤◌}
 use Rattle.std.proofs.lemmas.List.{length-replicate}
 use Rattle.xf_doc.specs.Changes.{in_detached, in_instances}
 use Rattle.xf_doc.specs.Forest.{Forest}
+use Rattle.xf_doc.specs.Shape.{shape_of}
 use Rattle.xf_agree.specs.Hung.{are_hung}
 use Rattle.xf_form_machine.specs.Behave.{no_model}
 use Rattle.xf_binds.specs.Kept.{Kept, no_kept}
@@ -15,6 +16,7 @@ use Rattle.xf_work.specs.declared.flags.Flags.{Flags}
 use Rattle.xf_work.specs.declared.tally.Tally.{Tally}
 use Rattle.xf_work.specs.Built.{IsWhole}
 use Rattle.xf_work.specs.Flags.{none_due}
+use Rattle.xf_work.specs.Held.{planted_shape, shape_by}
 use Rattle.xf_work.specs.Parts.{IsLoaded, IsSound, models_of, standing_of}
 use Rattle.xf_work.specs.Planting.{IsBegun, growing, planted_by}
 use Rattle.xf_work.specs.Standing.{Standing, state_of}
@@ -44,28 +46,34 @@ begun-same loaded f made none =
     ap (λ ms. record (growing loaded f made) { models = ms }) (sym (models-none loaded.form.models))
     ∙ ap (λ (g : Forest). state_of (standing_of loaded g (replicate (length loaded.form.models) no_kept) (replicate (length loaded.form.models) none_due) [] (first_tally made))) (sym (instances-same f none))
 
-none-built : (loaded : Loaded) (f : Forest) (table : List Kept) → in_detached f.nodes ≡ [] → are_hung f.nodes ≡ true → IsWhole loaded (instances f) table 0
-none-built loaded f table none hung = record {
+none-built : (loaded : Loaded) (f : Forest) (table : List Kept) → in_detached f.nodes ≡ [] → are_hung f.nodes ≡ true → shape_of f.nodes ≡ planted_shape loaded → IsWhole loaded (instances f) table 0
+none-built loaded f table none hung shaped = record {
   hung = ap are_hung (all-instances f.nodes none) ∙ hung;
   alone = ap in_detached (all-instances f.nodes none) ∙ none;
+  shape = ap shape_of (all-instances f.nodes none) ∙ shaped;
   models = λ model h. absurd (omega (arith, h));
 }
+
+-- the shape of the data that were planted is what is kept
+pub shape-planted : (loaded : Loaded) (f : Forest) (made : ℕ) → planted_by loaded ≡ Ok (growing loaded f made) → shape_of f.nodes ≡ planted_shape loaded
+unfolding planted_shape
+shape-planted loaded f made e = sym (ap shape_by e)
 
 -- ---- what an engine works on then
 
 module _ (loaded : Loaded) (f : Forest) (made n : ℕ) (draft : Draft) (table : List Kept) (flags old : List Flags) (controls : List ControlCopy)
     (none : in_detached f.nodes ≡ []) (kept : draft ≡ kept_as (instances f)) (tables : table ≡ replicate n no_kept)
     (now : flags ≡ replicate n none_due) (before : old ≡ replicate n none_due) where
-  pub begun-sound : IsLoaded loaded → are_hung f.nodes ≡ true → n ≤ 4294967295 → IsSound loaded draft table flags old 0 0
-  begun-sound is hung few =
+  pub begun-sound : IsLoaded loaded → are_hung f.nodes ≡ true → shape_of f.nodes ≡ planted_shape loaded → n ≤ 4294967295 → IsSound loaded draft table flags old 0 0
+  begun-sound is hung shaped few =
       let due = ap length now ∙ length-replicate n none_due in
       record {
         loaded = is;
         many = ap length tables ∙ length-replicate n no_kept ∙ sym due;
         kept = ap length before ∙ length-replicate n none_due ∙ sym due;
         few = omega (arith, due, few);
-        now = subst (λ (d : Draft). IsWhole loaded d.now table 0) (sym kept) (none-built loaded f table none hung);
-        before = subst (λ (d : Draft). IsWhole loaded d.kept (all_rolled_back table) 0) (sym kept) (none-built loaded f (all_rolled_back table) none hung);
+        now = subst (λ (d : Draft). IsWhole loaded d.now table 0) (sym kept) (none-built loaded f table none hung shaped);
+        before = subst (λ (d : Draft). IsWhole loaded d.kept (all_rolled_back table) 0) (sym kept) (none-built loaded f (all_rolled_back table) none hung shaped);
       }
 
   abbrev first : List Kept → Standing

@@ -35,6 +35,7 @@ whole-as : (l : Loaded) (forest : Forest) (table other : List Kept) (built : ℕ
 whole-as l forest table other built same w = record {
   hung = w.hung;
   alone = w.alone;
+  shape = w.shape;
   models = λ model less. built-same _ forest.nodes (kept_at table model) (kept_at other model) (same model) (w.models model less);
 }
 

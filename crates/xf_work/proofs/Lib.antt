@@ -30,3 +30,7 @@ pub mod TextSetLaws
 pub mod EndLaws
 pub mod MarkedLaws
 pub mod DoesLaws
+pub mod HeldLaws
+pub mod KnownLaws
+pub mod KnownEnds
+pub mod SetKnown

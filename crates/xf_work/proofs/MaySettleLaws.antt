@@ -31,7 +31,7 @@ read-static b (bind ∷ binds) h = (by bind.properties.calculate h.0.calculate, 
     by None i = i
     by (Some expr) i = i
 
-are-covered : (l : Loaded) → IsLoaded l → AreCovered l.form.tables
+pub are-covered : (l : Loaded) → IsLoaded l → AreCovered l.form.tables
 are-covered l is = form_covered 6 l.prefixes l.form.tables (read-static l.prefixes l.form.tables.binds (loaded_static is.bytes l is.read))
 
 pub may-settle : (l : Loaded) (forest : Forest) (model : ℕ) (k : Kept) → IsLoaded l → HasTrees forest → are_hung forest.nodes ≡ true → forest.next < 2 ^ 126 → IsBuilt (scope_at l forest model) forest.nodes k

@@ -61,7 +61,7 @@ no-element (content.Element name) h e = no h
 no-element (content.Attribute name text) h e = no h
 no-element (content.Text text) h e = no h
 
-text-kept : (c : Content) → is_text (without_text c) ≡ is_text c
+pub text-kept : (c : Content) → is_text (without_text c) ≡ is_text c
 text-kept content.Root = refl
 text-kept (content.Element name) = refl
 text-kept (content.Attribute name text) = refl
@@ -79,7 +79,7 @@ module _ (forest : Forest) (trees : HasTrees forest) (hung : AreHung (visits for
   each : AllFound all all
   each = self-found all (visits-different forest trees)
 
-  solid : (n : ℕ) (y : Visit) → found n all ≡ Some y → is_text y.content ≡ false → IsSolid all n
+  pub solid : (n : ℕ) (y : Visit) → found n all ≡ Some y → is_text y.content ≡ false → IsSolid all n
   solid n y e plain =
       let v = forest-visits forest trees in
       (erased y, found-in is_solid n (map erased all) (erased y) v.apart (found-erased n all ∙ ap (option_map erased) e) (ap not (text-kept y.content ∙ plain)))

@@ -55,10 +55,10 @@ asking-at P code (f ∷ fs) (suc k) h e =
     let same : suc code + k ≡ code + suc k = omega arith in
     subst P same (asking-at P (suc code) fs k (asking-rest (P code) (EachAsking P (suc code) fs) (is_asking f) h) e)
 
-abbrev Truthful : ℕ → Type 0
+abbrev pub Truthful : ℕ → Type 0
 Truthful code = (ps : List Plain) (p : Plain) → called (Some bounds.string) 6 code ps ≡ Some p → IsTruth p
 
-truthful : (code : ℕ) → function_at code ≡ of.asking → Truthful code
+pub truthful : (code : ℕ) → function_at code ≡ of.asking → Truthful code
 unfolding is_asking
 truthful code e =
     let same : 0 + code ≡ code = omega arith in

@@ -43,6 +43,7 @@ module _ (l : Loaded) (before after : Forest) (b : HasTrees before) (a : HasTree
   whole-still w s alone = record {
     hung = s.hung;
     alone = alone;
+    shape = s.shaped ∙ w.shape;
     models = λ model less. still model (w.models model less);
   }
     where
@@ -96,6 +97,7 @@ pub whole-kept : (l : Loaded) (forest : Forest) (table : List Kept) (built model
 whole-kept l forest table built model k within same w = record {
   hung = w.hung;
   alone = w.alone;
+  shape = w.shape;
   models = λ other less. by other (other == model) refl (w.models other less);
 }
   where
@@ -127,6 +129,7 @@ pub whole-renewed : (l : Loaded) (forest : Forest) (before after : List Kept) (b
 whole-renewed l forest before after built model within r w = record {
   hung = w.hung;
   alone = w.alone;
+  shape = w.shape;
   models = λ other less. by other less (other == model) refl;
 }
   where

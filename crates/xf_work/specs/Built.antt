@@ -16,6 +16,7 @@ use Rattle.xf_binds.specs.Table.{kept_at}
 use Rattle.xf_recalc.specs.Web.{asks_of}
 use Rattle.xf_loader.specs.declared.loaded.Loaded.{Loaded}
 use Rattle.xf_work.specs.Around.{given_in}
+use Rattle.xf_work.specs.Held.{planted_shape}
 
 -- what the binds of a model share, outside an event
 abbrev pub scope_at : Loaded → Forest → ℕ → Scope
@@ -27,10 +28,11 @@ pub record IsBuilt (scope : Scope) (nodes : List Node) (k : Kept) : Type 0 where
   pub asks : k.asks ≡ map (asks_of scope (shape_of nodes)) k.entries
   pub acyclic : IsAcyclic (graph_over scope (shape_of nodes) k.entries)
 
--- texts stand in elements, no tree is detached, and these first models are built
+-- texts stand in elements, no tree is detached, the shape is that which was planted, and these first models are built
 pub record IsWhole (l : Loaded) (forest : Forest) (table : List Kept) (built : ℕ) : Type 0 where
   pub hung : are_hung forest.nodes ≡ true
   pub alone : in_detached forest.nodes ≡ []
+  pub shape : shape_of forest.nodes ≡ planted_shape l
   pub models : (model : ℕ) → model < built → IsBuilt (scope_at l forest model) forest.nodes (kept_at table model)
 
 -- after the rebuild of a model it is built, and what is kept of the others is the same

@@ -4,6 +4,7 @@ pub mod Does
 pub mod Flags
 pub mod Tally
 pub mod Around
+pub mod Held
 pub mod Built
 pub mod Parts
 pub mod Calls
@@ -12,3 +13,4 @@ pub mod Planting
 pub mod Grown
 pub mod Settling
 pub mod Setting
+pub mod Known

@@ -11,6 +11,7 @@ ghost use Rattle.xf_work.specs.Standing.{state_of};
 use crate::fault::WorkFault;
 use crate::flags::{Flag, clear};
 use crate::growing::grown;
+use crate::knowing::{known_still, marks_for};
 use crate::rebuilding::rebuild;
 use crate::recalculating::settle_texts;
 use crate::setting::{holder, is_other, mark, may_set, set_text};
@@ -18,7 +19,7 @@ use crate::showing::shown;
 use crate::work::Work;
 use xf_controls::ControlList;
 use xf_doc::NodeId;
-use xf_pertinent::pertinent_count;
+use xf_pertinent::{pertinent_count, pertinent_marks};
 use xf_valid::revalidate;
 
 impl Work {
@@ -42,7 +43,8 @@ impl Work {
         }
     }
 
-    /// Settles the texts that are calculated.
+    /// Settles the texts that are calculated, and evaluates the other entries: the pertinent ones alone, where the last recalculation of the model
+    /// is known.
     pub fn recalculate(&mut self, model: u32) -> Result<(), WorkFault>
         requires model { model < length self.old.now.models }
         requires built { model < self.old.built }
@@ -52,7 +54,11 @@ impl Work {
         ensures models { length self.new.now.models ≡ length self.old.now.models }
     {
         let tables = &self.loaded.form.tables;
-        let count = pertinent_count(self.alloc, tables, self.draft.forest(), &self.table, model)?;
+        let forest = self.draft.forest();
+        let marks = pertinent_marks(self.alloc, tables, forest, &self.table, model)?;
+        let count = pertinent_count(&marks);
+        let known = self.known;
+        self.known = None;
         let before = self.draft.forest().next_number();
         let truths = settle_texts(
             self.alloc,
@@ -60,10 +66,12 @@ impl Work {
             &mut self.draft,
             model,
             &self.table,
+            marks_for(&marks, known, model),
         )?;
         let made = self.draft.forest().next_number() - before;
         self.tally = grown(self.tally, made, count)?;
         self.table.recalculated(model, truths);
+        self.known = Some(model);
         clear(self.flags.as_mut_slice(), model, Flag::Recalculate);
         Ok(())
     }
@@ -104,6 +112,9 @@ impl Work {
         let holder = holder(instances, forest, node)?;
         let is_other = is_other(forest, node, text)?;
         forest.are_trees();
+        let stood = forest.has_text(node, text);
+        let known = known_still(self.known, holder, is_other, stood);
+        self.known = None;
         let made = set_text(&mut self.draft, node, text)?;
         self.draft.forest().are_trees();
         self.tally = grown(self.tally, made, 0)?;
@@ -114,6 +125,7 @@ impl Work {
             node,
             is_other,
         )?;
+        self.known = known;
         Ok(())
     }
 
@@ -121,6 +133,12 @@ impl Work {
     pub fn shown(&self) -> Result<ControlList, WorkFault>
         ensures { Finds (map seen_copy) result (update.shown profile (state_of self.now.now)) }
     {
-        shown(self.alloc, &self.loaded, self.draft.forest(), &self.table)
+        shown(
+            self.alloc,
+            &self.loaded,
+            self.draft.forest(),
+            &self.table,
+            &self.bound_nodes,
+        )
     }
 }

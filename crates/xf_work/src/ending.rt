@@ -39,6 +39,7 @@ impl Work {
         self.tally = self.tally.begun();
         self.old_tally = self.tally;
         self.old_built = self.built;
+        self.old_known = self.known;
     }
 
     /// What was kept stands again. Takes no memory.
@@ -53,6 +54,7 @@ impl Work {
         copy(self.old_flags.as_slice(), self.flags.as_mut_slice());
         self.tally = self.old_tally;
         self.built = self.old_built;
+        self.known = self.old_known;
     }
 }
 

@@ -8,6 +8,8 @@ mod ending;
 mod fault;
 mod flags;
 mod growing;
+mod holding;
+mod knowing;
 mod marks;
 mod planting;
 mod rebuilding;

@@ -9,6 +9,7 @@ ghost use Rattle.xf_work.specs.Planting.{Grows, IsPlanted, document_in, document
 use crate::fault::WorkFault;
 use crate::flags::Flags;
 use crate::growing::{MADE, NUMBERS};
+use crate::holding::held;
 use crate::tally::{TURNS, Tally};
 use crate::work::Work;
 use std::alloc::Global;
@@ -34,6 +35,7 @@ pub fn planted(alloc: Global, loaded: Loaded) -> Result<Work, WorkFault>
     }
     let mut forest = Forest::new(alloc);
     let made = plant_all(&mut forest, &loaded)?;
+    let bound_nodes = held(alloc, &loaded, &forest)?;
     let table = Table::new(alloc, count as u32)?;
     let flags = vec![in alloc; Flags::none(); count]?;
     let old_flags = vec![in alloc; Flags::none(); count]?;
@@ -56,6 +58,9 @@ pub fn planted(alloc: Global, loaded: Loaded) -> Result<Work, WorkFault>
         old_tally: tally,
         built: 0,
         old_built: 0,
+        known: None,
+        old_known: None,
+        bound_nodes,
     })
 }
 

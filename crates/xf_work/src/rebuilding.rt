@@ -4,6 +4,7 @@ ghost use Rattle.std.specs.Prelude.{◌≡◌, ◌<◌, length, IfOk, OnErr, OnO
 ghost use Rattle.xf_binds.specs.Table.{all_rolled_back};
 ghost use Rattle.xf_work.specs.Built.{IsRenewed, scope_at};
 ghost use Rattle.xf_work.specs.Calls.{Rebuilds};
+ghost use Rattle.xf_work.specs.Known.{KeepsMarks};
 ghost use Rattle.xf_work.specs.Parts.{IsLoaded};
 ghost use Rattle.xf_work.specs.Told.{ArePaths, IsTold, numbers};
 
@@ -32,6 +33,7 @@ pub(crate) fn rebuild(
     requires model { model < length table.old }
     ensures done { Rebuilds loaded.now forest.now.forest model table.old table.new result }
     ensures built { OnOk result (IsRenewed (scope_at loaded.now forest.now.forest model) forest.now.forest.nodes table.old table.new) }
+    ensures marks { OnOk result (KeepsMarks table.old table.new) }
     ensures err { OnErr result (table.new ≡ table.old) }
     ensures kept { all_rolled_back table.new ≡ all_rolled_back table.old }
     ensures models { length table.new ≡ length table.old }

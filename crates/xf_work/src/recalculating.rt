@@ -1,10 +1,13 @@
 //! The texts of a model, settled (XForms 1.1, section 4.3.2), and what its refusals mean.
 
-ghost use Rattle.std.specs.Prelude.{◌≡◌, true, IfOk, IfErr};
+ghost use Rattle.std.specs.Prelude.{◌≡◌, [], true, IfOk, IfErr};
+ghost use Rattle.xf_doc.specs.Changes.{in_detached};
 ghost use Rattle.xf_agree.specs.Hung.{are_hung};
+ghost use Rattle.xf_binds.specs.Kept.{recalculated};
 ghost use Rattle.xf_binds.specs.Table.{kept_at};
 ghost use Rattle.xf_settle.specs.Settles.{IsSettled, words_of};
 ghost use Rattle.xf_work.specs.Built.{IsBuilt, scope_at};
+ghost use Rattle.xf_work.specs.Known.{IsRemembered, MayBePassed};
 ghost use Rattle.xf_work.specs.Parts.{IsLoaded};
 ghost use Rattle.xf_work.specs.Settling.{IsPassed, StaysWhole, fault_of};
 
@@ -19,20 +22,24 @@ use xf_report::Refusal;
 use xf_settle::{SettleFault, settle};
 use xf_undo::Draft;
 
-/// Settles the texts of the calculates of a model. The answer is the truths of the entries, by their places. What was written before an
-/// `Err` stays.
+/// Settles the texts of the calculates of a model. The answer is the truths of the entries, by their places. Those that are not marked, by the same
+/// places, are passed over. What was written before an `Err` stays.
 pub(crate) fn settle_texts(
     alloc: Global,
     loaded: &Loaded,
     draft: &mut Draft,
     model: u32,
     table: &Table,
+    marks: &[bool],
 ) -> Result<TruthList, WorkFault>
     requires loaded { IsLoaded loaded.now }
     requires hung { are_hung draft.old.now.nodes ≡ true }
+    requires alone { in_detached draft.old.now.nodes ≡ [] }
     requires built { IsBuilt (scope_at loaded.now draft.old.now model) draft.old.now.nodes (kept_at table.now model) }
+    requires passes { MayBePassed loaded.now draft.old.now model (kept_at table.now model) marks.now }
     ensures ok { IfOk result (λ truths. IsSettled (scope_at loaded.now draft.old.now model) (kept_at table.now model).entries draft.old.now draft.new.now truths) }
     ensures err { IfErr result (λ fault. IsPassed fault (words_of (scope_at loaded.now draft.old.now model) (kept_at table.now model).entries draft.old.now)) }
+    ensures known { IfOk result (λ truths. IsRemembered (scope_at loaded.now draft.new.now model) draft.new.now (recalculated truths (kept_at table.now model))) }
     ensures whole { StaysWhole loaded.now draft.old.now draft.new.now }
     ensures kept { draft.new.kept ≡ draft.old.kept }
 {
@@ -47,7 +54,17 @@ pub(crate) fn settle_texts(
     if draft.forest().next_number() > NUMBERS {
         return Err(WorkFault::Memory);
     }
-    let settled = settle(alloc, &loaded.form.tables, draft, model, table, &around);
+    // Memory holds no more entries than there are numbers left.
+    let _ = table.len(model);
+    let settled = settle(
+        alloc,
+        &loaded.form.tables,
+        draft,
+        model,
+        table,
+        marks,
+        &around,
+    );
     draft.forest().are_trees();
     match settled {
         Ok(truths) => Ok(truths),

@@ -106,6 +106,7 @@ pub(crate) fn holder(
 pub(crate) fn set_text(draft: &mut Draft, node: NodeId, text: &str) -> Result<u128, WorkFault>
     requires { IsSettable node.number draft.old.now }
     ensures done { IsSet result node.number text.now draft.old draft.new }
+    ensures few { OnOk result (draft.old.now.next < 2 ^ 126) }
     ensures err { OnErr result (draft.new ≡ draft.old) }
 {
     let before = draft.forest().next_number();

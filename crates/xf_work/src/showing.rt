@@ -1,9 +1,12 @@
 //! The controls made afresh (XForms 1.1, section 4.3.4).
 
-ghost use Rattle.std.specs.Prelude.{◌≡◌, map, nat_lt};
+ghost use Rattle.std.specs.Prelude.{◌≡◌, true, map, nat_lt};
+ghost use Rattle.xf_agree.specs.Hung.{are_hung};
 ghost use Rattle.xf_controls.specs.Seen.{seen_copy};
+ghost use Rattle.xf_doc.specs.Shape.{shape_of};
 ghost use Rattle.xf_ui.specs.Copies.{copy_count};
 ghost use Rattle.xf_work.specs.Calls.{IsWithin, Shows};
+ghost use Rattle.xf_work.specs.Held.{IsHeld, planted_shape};
 ghost use Rattle.xf_work.specs.Parts.{IsLoaded};
 
 use crate::around::{Quiet, documents};
@@ -11,7 +14,7 @@ use crate::fault::WorkFault;
 use crate::marks::Marked;
 use std::alloc::Global;
 use xf_binds::Table;
-use xf_controls::{ControlCopy, ControlList, controls};
+use xf_controls::{ControlCopy, ControlList, KnownList, controls};
 use xf_eval::EvalFault;
 use xf_form_machine::LimitWord;
 use xf_loader::Loaded;
@@ -27,8 +30,12 @@ pub(crate) fn shown(
     loaded: &Loaded,
     forest: &Forest,
     table: &Table,
+    known: &KnownList,
 ) -> Result<ControlList, WorkFault>
-    requires { IsLoaded loaded.now }
+    requires loaded { IsLoaded loaded.now }
+    requires hung { are_hung forest.now.forest.nodes ≡ true }
+    requires shape { shape_of forest.now.forest.nodes ≡ planted_shape loaded.now }
+    requires known { IsHeld loaded.now known.now }
     ensures { Shows loaded.now forest.now.forest table.now result }
 {
     let instances = loaded.form.tables.instances.as_slice();
@@ -39,7 +46,8 @@ pub(crate) fn shown(
         documents: documents.as_slice(),
     };
     let marks = Marked { forest, table };
-    match controls(alloc, &loaded.form, forest, &around, &marks) {
+    forest.are_trees();
+    match controls(alloc, &loaded.form, forest, &around, &marks, known) {
         Ok(list) => within(list),
         Err(EvalFault::Long) => Err(WorkFault::Refused(Refusal::Limit(LimitWord::Long))),
         Err(EvalFault::Memory) => Err(WorkFault::Memory),

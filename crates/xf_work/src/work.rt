@@ -1,5 +1,6 @@
 //! What an engine works on, and what is read of it.
 
+ghost use Rattle.std.specs.Coded.{codes};
 ghost use Rattle.std.specs.Prelude.{◌≡◌, ◌<◌, ◌++◌, [], true, map, find, length, option_map, string_bytes, OnOk};
 ghost use Rattle.xf_controls.specs.Plain.{is_plain};
 ghost use Rattle.xf_controls.specs.Seen.{is_copy_at, seen_copy};
@@ -12,6 +13,7 @@ ghost use Rattle.xf_form_machine.specs.Update.{no_refresh};
 ghost use Rattle.xf_machine_laws.specs.Quiet.{Quiet};
 ghost use Rattle.xf_work.specs.Does.{Does, profile};
 ghost use Rattle.xf_work.specs.Flags.{flag_of};
+ghost use Rattle.xf_work.specs.Held.{IsHeld};
 ghost use Rattle.xf_work.specs.Standing.{state_of};
 
 use crate::fault::WorkFault;
@@ -23,7 +25,7 @@ use std::marker::Model;
 use std::mem::replace;
 use xf_ast::Form;
 use xf_binds::Table;
-use xf_controls::{ControlCopy, ControlList, control_of};
+use xf_controls::{ControlCopy, ControlList, KnownList, control_of};
 use xf_loader::Loaded;
 use xf_report::Refusal;
 use xf_undo::Draft;
@@ -44,6 +46,12 @@ pub struct Work {
     pub(crate) old_tally: Tally,
     pub(crate) built: u64,
     pub(crate) old_built: u64,
+    // The model of which the last recalculation is known: since then its data have changed where they are marked alone.
+    pub(crate) known: Option<u32>,
+    pub(crate) old_known: Option<u32>,
+    // The nodes that controls bind whatever texts the data have.
+    pub(crate) bound_nodes: KnownList,
+    ghost held: { IsHeld loaded bound_nodes } by { Prim.hlevel codes },
 }
 
 impl Model for Work {
@@ -51,7 +59,8 @@ impl Model for Work {
     ghost use Rattle.xf_ast.specs.contracts.expr.Expr as expr;
     ghost use Rattle.xf_binds.specs.Table.{all_rolled_back};
     ghost use Rattle.xf_work.specs.Does.{Twin};
-    ghost use Rattle.xf_work.specs.Parts.{IsSound, kept_or, standing_of};
+    ghost use Rattle.xf_work.specs.Known.{IsFit};
+    ghost use Rattle.xf_work.specs.Parts.{kept_or, standing_of};
 
     ghost Value = { Twin };
 
@@ -66,7 +75,7 @@ impl Model for Work {
       built = w.built;
     } };
 
-    ghost invariant = { λ w. IsSound w.loaded w.draft w.table w.flags.items w.old_flags.items w.built w.old_built };
+    ghost invariant = { λ w. IsFit w.loaded w.draft w.table w.flags.items w.old_flags.items w.built w.old_built w.known w.old_known };
 }
 
 impl Work {

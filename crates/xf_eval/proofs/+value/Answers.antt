@@ -1,4 +1,4 @@
-use Rattle.std.proofs.Common.{◌≡◌, ◌*◌, suc, ◌+◌, ◌<◌, ◌≤◌, [], drop, Some, true, false, length, map, refl, sym, ap, ◌∙◌, arith, rules, tests}
+use Rattle.std.proofs.Common.{◌≡◌, ◌*◌, suc, ◌+◌, ◌-◌, ◌<◌, ◌≤◌, [], drop, take, Some, None, option_map, true, false, length, map, refl, sym, ap, ◌∙◌, subst, arith, rules, tests}
 use denote.Param.Weighed.{most}
 use Rattle.std.proofs.lemmas.Result.{err_from_is_err_and}
 use Rattle.xf_ast.specs.declared.expr.Expr.{size-Expr}
@@ -8,27 +8,32 @@ use Rattle.xf_lang.specs.declared.fault.EvalFault.TheVariants.{Long, Memory}
 use Rattle.xf_lang.specs.declared.value.Value.TheVariants.{Nodes}
 use Rattle.xf_lang.specs.Conversions.{truth_of}
 use Rattle.xf_lang.specs.Functions.{branched, plain_arguments}
-use Rattle.xf_lang.specs.Meaning.{focus_of, meaning, walk_of}
+use Rattle.xf_lang.specs.Binding.{as_list}
+use Rattle.xf_lang.specs.Meaning.{focus_of, meaning, meaning_of_link, walk_of}
+use Rattle.xf_lang.specs.Operators.{chained, linked}
+use Rattle.xf_doc.specs.Axis.{is_reverse}
 use Rattle.xf_doc.specs.Forest.{has_number}
 use Rattle.xf_plain_values.specs.Bounded.{◌>>=◌}
 use Rattle.xf_lang.specs.Steps.{from_one, kept_by_all, kept_from, reached, walked}
 use Rattle.xf_lang.proofs.Equations.{meaning-Number}
 use Rattle.xf_eval.specs.Taken.{taken}
 use Rattle.xf_eval.proofs.Ordered.{alone-is, forward-in_order, taken-none, taken-one}
-use Rattle.xf_eval.proofs.Positions.{first-asked}
+use Rattle.xf_eval.proofs.Positions.{first-asked, live-placed}
 use Rattle.xf_eval.specs.Answered.{decides}
+use Rattle.xf_eval.specs.First.{converts, counted, first_node, leads}
 use Rattle.xf_eval.specs.ByKind.{argument_or, by_kind}
 use Rattle.xf_eval.specs.OfOne.{one_worth}
-use Rattle.xf_eval.specs.Worth.{setting_at}
+use Rattle.xf_eval.specs.Worth.{seen, setting_at}
 use Rattle.xf_eval.proofs.Arguments.{branched-long, branched-then, branched-else, one_plain, plain-long, plain-of-value, plains-done, plains-more, plains-stuck}
 use Rattle.xf_eval.proofs.Falls.{chain-falls, filter-falls, from-falls}
 use Rattle.xf_eval.proofs.Kept.{kept-long, kept-next, live-added, taken-done}
 use Rattle.xf_eval.proofs.Lists.{onto, onto-start}
-use Rattle.xf_eval.proofs.Lives.{live-get, live-in_order, live-is, live-item}
-use Rattle.xf_eval.proofs.Parts.{argument-past, argument-within, by-other, call-worth, linked-both}
+use Rattle.xf_eval.proofs.Lives.{live-get, live-in_order, live-is, live-item, reached-live}
+use Rattle.xf_eval.proofs.Parts.{argument-past, argument-within, by-other, call-worth, linked-both, linked-long}
 use Rattle.xf_eval.proofs.Runs.{added}
-use Rattle.xf_eval.proofs.WayLaws.{way-more, way-stuck}
+use Rattle.xf_eval.proofs.WayLaws.{empty-is, way-more, way-stuck, way-walks}
 use Rattle.xf_eval.proofs.Bounded.{gives-same, part-long}
+use Rattle.xf_eval.proofs.Firsts.{chain-made, chain-meaning, most-take, taken-first, walked-last, walked-part}
 use Rattle.xf_eval.proofs.+value.Goals as goal
 use Rattle.xf_eval.proofs.+value.Goals.{calls::branched-then-truth_of, calls::branched-else-truth_of, steps::asked_of_each-then-is_true_at+in_ok-push, steps::asked_of_each-else-is_true_at}
 
@@ -100,7 +105,7 @@ calls::plain_arguments-returns-in_err-value g t c =
     let f = focus_of c.args.context.now in
     let es = c.args.arguments.now in
     let p = err_from_is_err_and c.from_residual.result c.from_residual.ensures.1 in
-    rw (p.1, p.2) (part-long Memory Long _ (meaning c.argument-item.result s f) (plain_arguments (map meaning es) s f) c.in_err-value.ensures.value
+    rw (p.1, p.2) (part-long Memory Long _ _ (plain_arguments (map meaning es) s f) c.in_err-value.ensures.value
     (λ h. plains-stuck s f c.loop-argument.given.items es c.loop-argument.argument-index c.argument-item.result c.loop-argument.invariant c.loop-argument-test.true
     (ap (λ e. one_plain s f (meaning e)) (sym c.argument-item.is) ∙ plain-long given nodes c.args.context.now c.argument-item.result h)))
 
@@ -136,23 +141,40 @@ calls::plain_arguments-returns g t c =
 
 pub expression::value_at-chained-requires : goal.expression::value_at-chained-requires
 expression::value_at-chained-requires g t c =
-    let ls = c.as_slice.result.now in
-    let less : most size-Link ls < size-Expr c.args.expr.now = chain-falls c.args.expr.now c.in-Chain.first c.in-Chain.links ls c.in-Chain.is c.as_slice.ensures in
-    let falls : 4 * most size-Link ls + 1 < t = omega (arith, c.decreases, less) in
+    let ls = c.as_slice-behind.result.now in
+    let less : most size-Link ls < size-Expr c.args.expr.now = chain-falls c.args.expr.now c.in-Chain.first c.in-Chain.links ls c.in-Chain.is c.as_slice-behind.ensures in
+    let falls : 5 * most size-Link ls + 1 < t = omega (arith, c.decreases, less) in
     λ κs h. (falls, (search rules, (c.requires, c.in_ok-left-in-Chain.ensures.live)))
+
+pub expression::value_at-returns-in_ok-left-in-Chain-clause-value : goal.expression::value_at-returns-in_ok-left-in-Chain-clause-value
+expression::value_at-returns-in_ok-left-in-Chain-clause-value g t c =
+    let given = g.A.Around.given c.args.around.now in
+    let nodes = c.args.forest.now.forest.nodes in
+    let context = c.args.context.now in
+    let s = setting_at given nodes context in
+    let f = focus_of context in
+    let ls = c.as_slice-behind.result.now in
+    let left = c.in_ok-left-in-Chain.left in
+    let led : option_map (counted (leads ls)) (meaning c.get-start.result.now s f) ≡ Some (counted (leads ls) left) =
+    subst (λ b. option_map (counted b) (meaning c.get-start.result.now s f) ≡ Some (counted b left)) c.leads-is_converted.ensures c.in_ok-left-in-Chain.ensures.value in
+    gives-same Memory Long (λ v. v) c.chained.result _ (meaning c.args.expr.now s f)
+    (sym (chain-meaning given nodes context c.args.expr.now c.in-Chain.first c.in-Chain.links ls c.in-Chain.is c.as_slice-behind.ensures
+    ∙ ap (λ e. meaning e s f >>= λ v. chained (map meaning_of_link ls) v s f) (sym c.get-start.ensures)
+    ∙ chain-made ls (meaning c.get-start.result.now s f) left s f led))
+    c.chained.ensures.value
 
 pub expression::value_at-kept_by_all-requires : goal.expression::value_at-kept_by_all-requires
 expression::value_at-kept_by_all-requires g t c =
     let ps = c.as_slice-asked.result.now in
     let less : most size-Expr ps < size-Expr c.args.expr.now = filter-falls c.args.expr.now c.in-Filter.first c.in-Filter.predicates ps c.in-Filter.is c.as_slice-asked.ensures in
-    let falls : 4 * most size-Expr ps + 3 < t = omega (arith, c.decreases, less) in
+    let falls : 5 * most size-Expr ps + 3 < t = omega (arith, c.decreases, less) in
     λ κs h. (falls, (search rules, (c.requires, live-is c.args.forest.now.forest.nodes c.nodes_in-nodes.ensures c.in_ok-value-in-Filter.ensures.live)))
 
 pub expression::value_at-walked-requires-in-From : goal.expression::value_at-walked-requires-in-From
 expression::value_at-walked-requires-in-From g t c =
     let ss = c.as_slice-in-From.result.now in
     let less : most size-Step ss < size-Expr c.args.expr.now = from-falls c.args.expr.now c.in-From.first c.in-From.steps ss c.in-From.is c.as_slice-in-From.ensures in
-    let falls : 4 * most size-Step ss + 3 < t = omega (arith, c.decreases, less) in
+    let falls : 5 * most size-Step ss + 3 < t = omega (arith, c.decreases, less) in
     λ κs h. (falls, (search rules, (c.requires, live-is c.args.forest.now.forest.nodes c.nodes_in-from.ensures c.in_ok-value-in-From.ensures.live)))
 
 pub expression::value_at-returns-in-Call-clause-value : goal.expression::value_at-returns-in-Call-clause-value
@@ -174,11 +196,91 @@ operators::linked-returns-clause-value g t c =
     let given = g.A.Around.given c.args.around.now in
     let nodes = c.args.forest.now.forest.nodes in
     let context = c.args.context.now in
+    let s = setting_at given nodes context in
+    let m = meaning c.args.link.now.right in
     let o = c.args.link.now.operator in
     let undecided : decides o (truth_of c.args.left) ≡ false = ap (decides o) (sym c.truth_of.ensures) ∙ sym c.decides.ensures ∙ c.if-decides.false in
     gives-same Memory Long (λ v. v) c.combined.result _ _
-    (sym (linked-both o c.args.left c.in_ok-right.right (meaning c.args.link.now.right) given nodes context (focus_of context) undecided c.in_ok-right.ensures.value))
+    (sym (linked-both o c.args.left c.in_ok-right.right m given nodes context (focus_of context) undecided (subst (λ b. option_map (counted b) (m s (focus_of context)) ≡ Some (counted b c.in_ok-right.right)) c.converts-is_converted.ensures c.in_ok-right.ensures.value)))
     c.combined.ensures.value
+
+pub operators::linked-returns-in_err-right-clause-value : goal.operators::linked-returns-in_err-right-clause-value
+operators::linked-returns-in_err-right-clause-value g t c =
+    let s = setting_at (g.A.Around.given c.args.around.now) c.args.forest.now.forest.nodes c.args.context.now in
+    let f = focus_of c.args.context.now in
+    let m = meaning c.args.link.now.right in
+    let o = c.args.link.now.operator in
+    let undecided : decides o (truth_of c.args.left) ≡ false = ap (decides o) (sym c.truth_of.ensures) ∙ sym c.decides.ensures ∙ c.if-decides.false in
+    let p = err_from_is_err_and c.from_residual.result c.from_residual.ensures.1 in
+    rw (p.1, p.2) (part-long Memory Long _ _ (linked o c.args.left m s f) c.in_err-right.ensures.value
+    (λ h. linked-long o c.args.left m s f undecided (subst (λ b. option_map (counted b) (m s f) ≡ None) c.converts-is_converted.ensures h)))
+
+-- ---- first nodes
+
+pub first::asked_at-first_walked-requires-in-From : goal.first::asked_at-first_walked-requires-in-From
+first::asked_at-first_walked-requires-in-From g t c =
+    let ss = c.as_slice-behind.result.now in
+    let less : most size-Step ss < size-Expr c.args.expr.now = from-falls c.args.expr.now c.in-From.first c.in-From.steps ss c.in-From.is c.as_slice-behind.ensures in
+    let falls : 5 * most size-Step ss + 4 < t = omega (arith, c.decreases, less) in
+    λ κs h. (falls, (search rules, (c.requires, live-is c.args.forest.now.forest.nodes c.nodes_in-from.ensures c.in_ok-value-in-From.ensures.live)))
+
+pub first::first_walked-walked-requires : goal.first::first_walked-walked-requires
+first::first_walked-walked-requires g t c =
+    let ss = c.args.steps.now in
+    let k = length ss - 1 in
+    let less : most size-Step (take k ss) ≤ most size-Step ss = most-take size-Step k ss in
+    let falls : 5 * most size-Step (take k ss) + 3 < t = omega (arith, c.decreases, less) in
+    λ κs h. (falls, (search rules, (c.requires.ready, c.requires.from)))
+
+pub first::first_walked-returns-in_err-nodes-clause-value : goal.first::first_walked-returns-in_err-nodes-clause-value
+first::first_walked-returns-in_err-nodes-clause-value g t c =
+    let s = setting_at (g.A.Around.given c.args.around.now) c.args.forest.now.forest.nodes c.args.context.now in
+    let ss = c.args.steps.now in
+    let p = err_from_is_err_and c.from_residual.result c.from_residual.ensures.1 in
+    rw (p.1, p.2) (part-long Memory Long _ _ (option_map first_node (walked s (map walk_of ss) c.args.from)) c.in_err-nodes.ensures.value
+    (λ h. ap (option_map first_node) (walked-part s ss (length ss - 1) c.args.from h)))
+
+pub first::first_walked-returns-clause-value : goal.first::first_walked-returns-clause-value
+first::first_walked-returns-clause-value g t c =
+    let s = setting_at (g.A.Around.given c.args.around.now) c.args.forest.now.forest.nodes c.args.context.now in
+    let ss = c.args.steps.now in
+    let k = length ss - 1 in
+    let some : 0 < length ss = omega (arith, c.if-count-eq0.false) in
+    let whole : length ss ≡ suc k = omega (arith, some) in
+    gives-same Memory Long first_node c.first_taken.result _ _
+    (ap (option_map first_node)
+    (ap (λ x. walk_of x s c.in_ok-nodes.nodes) c.index-steps-count.is
+    ∙ sym (walked-last s ss c.index-steps-count.result k c.args.from c.in_ok-nodes.nodes whole c.in_ok-nodes.ensures.value)))
+    c.first_taken.ensures.value
+
+pub first::first_taken-reached_at-first-requires : goal.first::first_taken-reached_at-first-requires
+first::first_taken-reached_at-first-requires g t c = live-get c.in_ok-start.start 0 c.at.result.number c.args.forest.now.forest.nodes c.in_ok-start.ensures.live c.at.ensures
+
+pub first::first_taken-returns-then-count-eq1-clause-value : goal.first::first_taken-returns-then-count-eq1-clause-value
+first::first_taken-returns-then-count-eq1-clause-value g t c =
+    let given = g.A.Around.given c.args.around.now in
+    let nodes = c.args.forest.now.forest.nodes in
+    let context = c.args.context.now in
+    let s = setting_at given nodes context in
+    let step = c.args.step.now in
+    let way = c.way_of-way.result in
+    let n = c.at.result.number in
+    let one : length c.in_ok-start.start ≡ 1 = sym c.len-count.ensures ∙ c.if-count-eq1.true in
+    let none : step.predicates ≡ [] = empty-is step.predicates (sym c.len-asked.ensures ∙ c.if-asked-eq0.true) in
+    let forward : is_reverse way.axis ≡ false = sym c.is_reverse.ensures ∙ c.if-not-is_reverse.true in
+    ap (option_map first_node)
+    (way-walks given nodes context step c.args.from c.in_ok-start.start way c.way_of-way.ensures c.in_ok-start.ensures.value
+    ∙ ap (λ es. taken way.axis step.test (map meaning es) s c.in_ok-start.start) none
+    ∙ ap (taken way.axis step.test [] s) (alone-is c.in_ok-start.start n one c.at.ensures))
+    ∙ taken-first way.axis step.test s n c.in_ok-listed.field-0 c.args.forest.now c.are_trees.ensures refl forward (c.in_ok-listed.ensures ∙ ap as_list c.reached_at-first.ensures)
+
+pub first::first_taken-returns-then-count-eq1-clause-live : goal.first::first_taken-returns-then-count-eq1-clause-live
+first::first_taken-returns-then-count-eq1-clause-live g t c =
+    let nodes = c.args.forest.now.forest.nodes in
+    let axis = c.way_of-way.result.axis in
+    let test = c.args.step.now.test in
+    let n = c.at.result.number in
+    live-placed (reached axis test (seen nodes) n) c.in_ok-listed.field-0 1 nodes (reached-live axis test n c.args.forest.now c.are_trees.ensures) (c.in_ok-listed.ensures ∙ ap as_list c.reached_at-first.ensures)
 
 -- ---- steps
 

@@ -1,5 +1,5 @@
 use Rattle.xf_since_laws.proofs.PassedText.{pertinent_text}
-use Rattle.xf_since_laws.proofs.PassedWritten.{pertinent_written, pertinent_truth}
+use Rattle.xf_since_laws.proofs.PassedWritten.{pertinent_written, pertinent_truth, passed_turn}
 use Rattle.xf_since_laws.proofs.not_pertinent.Goals as goal
 
 pub returns-clause-text : goal.returns-clause-text
@@ -10,3 +10,6 @@ returns-clause-written c = pertinent_written
 
 pub returns-clause-truth : goal.returns-clause-truth
 returns-clause-truth c = pertinent_truth
+
+pub returns-clause-turn : goal.returns-clause-turn
+returns-clause-turn c = passed_turn

@@ -1,6 +1,6 @@
 use Rattle.std.proofs.Common.{◌≡◌, map, drop}
 use Rattle.xf_form_machine.specs.Flow.{in_turn}
-use Rattle.xf_actions.specs.Changed.{cut}
+use Rattle.xf_actions.specs.TreeChanges.{cut}
 use Rattle.xf_actions.proofs.delete.detach_all.Given as goal
 
 -- what is left of the nodes gives what all of them give

@@ -1,12 +1,14 @@
-use Rattle.std.proofs.Common.{◌≡◌, ◌-◌, ◌++◌, suc, map, option_map, ap, sym, ◌∙◌, arith}
+use Rattle.std.proofs.Common.{rules, ◌≡◌, ◌-◌, ◌++◌, suc, map, option_map, ap, sym, ◌∙◌, arith}
 use Rattle.std.proofs.lemmas.Result.{err_from_is_err_and}
 use Rattle.xf_lang.specs.declared.fault.EvalFault.TheVariants.{Long, Memory}
 use Rattle.xf_eval.proofs.Bounded.{part-long}
 use Rattle.xf_ui.specs.Interface.{element_of, interface_of}
 use Rattle.xf_controls.specs.Below.{copies_from, of_parts}
+use Rattle.xf_controls.specs.Known.{IsReached}
 use Rattle.xf_controls.specs.Seen.{number, seen_copy, seen_handed}
 use Rattle.xf_controls.specs.Surrounded.{around_in}
 use Rattle.xf_controls.proofs.CodeLaws.{part-lost, part-put, parts-put, put-nothing}
+use Rattle.xf_controls.proofs.KnownLaws.{knows-here, reached-part}
 use Rattle.xf_controls.proofs.WalkLaws.{lost-node, lost-own, not-passed, nothing-there, passed-over, put-all}
 use Rattle.xf_controls.proofs.walk.+push_copies.Goals as goal
 
@@ -118,3 +120,23 @@ returns g t c =
     ∙ put-all (copies_from k f a marks) f a marks h below n e (option_map number c.in_ok-found.found.node) old initial c.in_ok-found.ensures.value c.handed_by-below.ensures.value c.in_ok-push_own.ensures
     ∙ ap (λ qs. option_map (λ x. initial ++ x) (of_parts further qs)) (sym c.as_slice-part-items.ensures) ∙ sym c.loop-part.invariant
     ∙ parts-put further c.as_slice-part-items.result.now c.loop-part.part-index now c.loop-part-test.false
+
+pub found_at-requires-clause-known : goal.found_at-requires-clause-known
+found_at-requires-clause-known g t c =
+    let form = c.args.over.now.form.now in
+    let nodes = c.args.over.now.forest.now.forest.nodes in
+    let a = around_in (g.A.Around.given c.args.over.now.around.now) form.tables nodes in
+    knows-here form a nodes c.args.over.now.known.now (seen_handed c.args.handed.now) c.args.most c.args.element c.in-Some.here.now c.requires.plain c.requires.known c.requires.reached c.in-Some.ensures
+
+pub push_copies-requires : goal.push_copies-requires
+push_copies-requires g t c =
+    let form = c.args.over.now.form.now in
+    let f = interface_of form in
+    let a = around_in (g.A.Around.given c.args.over.now.around.now) form.tables c.args.over.now.forest.now.forest.nodes in
+    let marks = g.M.NodeMarks.marks_of c.args.over.now.marks.now in
+    let more : c.args.most ≡ suc (c.args.most - 1) = omega (arith, c.if-most-eq0.false) in
+    let reached : IsReached f a (seen_handed c.handed_by-below.result) (c.args.most - 1) c.in-Element.child =
+    reached-part form a marks (seen_handed c.args.handed.now) (seen_handed c.handed_by-below.result) c.args.most (c.args.most - 1) c.args.element c.in-Some.here.now (option_map number c.in_ok-found.found.node)
+    c.as_slice-part-items.result.now c.loop-part.part-index c.part-item.result c.in-Element.child c.requires.plain c.requires.reached more c.in-Some.ensures c.in_ok-found.ensures.value c.handed_by-below.ensures.value
+    c.as_slice-part-items.ensures c.loop-part-test.true c.part-item.is c.in-Element.is in
+    search rules

@@ -6,6 +6,7 @@ use Rattle.xf_ui.specs.Copies.{copies}
 use Rattle.xf_ui.specs.Interface.{interface_of}
 use Rattle.xf_controls.specs.Seen.{seen_copy, seen_handed}
 use Rattle.xf_controls.specs.Surrounded.{around_in}
+use Rattle.xf_controls.proofs.KnownLaws.{reached-first}
 use Rattle.xf_controls.proofs.WholeLaws.{begun-so}
 use Rattle.xf_controls.proofs.walk.controls.Goals as goal
 
@@ -28,3 +29,9 @@ returns g c = λ cases indexes.
     let marks = g.M.NodeMarks.marks_of c.args.marks.now in
     sym (begun-so form given nodes marks cases indexes c.len-most.result (seen_handed c.nothing_around.result) (map seen_copy c.new-copies.result) c.requires.plain c.requires.quiet c.len-most.ensures c.nothing_around.ensures.value
     (ap (map seen_copy) c.new-copies.ensures)) ∙ c.in_ok-push_copies.ensures
+
+pub push_copies-requires-clause-reached : goal.push_copies-requires-clause-reached
+push_copies-requires-clause-reached g c =
+    let form = c.args.form.now in
+    let a = around_in (g.A.Around.given c.args.around.now) form.tables c.args.forest.now.forest.nodes in
+    reached-first form a (g.M.NodeMarks.marks_of c.args.marks.now) (seen_handed c.nothing_around.result) c.len-most.result c.requires.plain c.len-most.ensures c.nothing_around.ensures.value

@@ -18,6 +18,9 @@ settle_in_turn-requires-clause-turns g c =
     subst (λ (turns : List Turn). AreTurns (scope_in given c.args.tables.now c.args.model) entries (visits now.nodes) turns) (sym c.as_slice.ensures.value)
     (are-turns given c.args.tables.now c.args.model now entries c.requires.may asks c.requires.asked c.in_ok-turns.turns.items c.in_ok-turns.ensures)
 
+pub settle_in_turn-requires-clause-passes : goal.settle_in_turn-requires-clause-passes
+settle_in_turn-requires-clause-passes g c = c.requires.passes
+
 pub returns-in_err-turns-clause-left : goal.returns-in_err-turns-clause-left
 returns-in_err-turns-clause-left g c =
     let p = err_from_is_err_and c.from_residual.result c.from_residual.ensures.1 in

@@ -1,4 +1,4 @@
-use Rattle.std.proofs.Common.{◌<◌, ◌^◌, [], length, refl, sym, ap, ◌∙◌, subst, arith}
+use Rattle.std.proofs.Common.{◌<◌, ◌^◌, [], map, length, refl, sym, ap, ◌∙◌, subst, arith}
 use Rattle.std.specs.List.{list_all}
 use Rattle.std.proofs.lemmas.Result.{err_from_is_err_and}
 use Rattle.xf_doc.specs.Limits.{limits, passed_by_all}
@@ -8,8 +8,10 @@ use Rattle.xf_eval.specs.Live.{AroundStands}
 use Rattle.xf_binds.specs.Table.{kept_at}
 use Rattle.xf_settle.specs.Known.{AreKnown}
 use Rattle.xf_settle.specs.Settles.{scope_in, word_of, words_of}
-use Rattle.xf_settle.specs.Turns.{found_over, is_there}
-use Rattle.xf_settle.proofs.Ending.{limit-told, long-after, long-told, settled, stands-after, there-after}
+use Rattle.xf_settle.specs.Passes.{AreTrue}
+use Rattle.xf_settle.specs.Turns.{entry_in, found_over, is_there}
+use Rattle.xf_settle.proofs.Ending.{after-nodes, limit-told, long-after, long-told, settled, stands-after, there-after}
+use Rattle.xf_settle.proofs.KeptTruths.{are-true}
 use Rattle.xf_settle.proofs.Left.{left-all, left-none}
 use Rattle.xf_settle.proofs.recalculation.settle_in_turn.Goals as goal
 
@@ -37,6 +39,20 @@ truths_of-requires-clause-known g c =
     let scope = scope_in (g.A.Around.given c.args.around.now) c.args.tables.now c.args.model in
     subst (AreKnown scope (visits c.forest.result.now.forest.nodes) entries) (sym c.as_slice.ensures.value)
     (subst (λ f. AreKnown scope (visits f.nodes) entries c.in_ok-known.known.items) (sym c.forest.ensures) c.in_ok-known.ensures.truths)
+
+pub settle_turns-requires-clause-passes : goal.settle_turns-requires-clause-passes
+settle_turns-requires-clause-passes g c = c.requires.passes
+
+pub truths_of-requires-clause-passed : goal.truths_of-requires-clause-passed
+truths_of-requires-clause-passed g c =
+    let given = g.A.Around.given c.args.around.now in
+    let kept = kept_at c.args.table.now c.args.model in
+    let scope = scope_in given c.args.tables.now c.args.model in
+    let few : length (calculates kept.entries) < 2 ^ 32 = let fits = c.if-count.false in let is = c.calculate_count-count.ensures in omega (arith, fits, is) in
+    let after = c.settle_turns.new.draft.now in
+    subst (λ f. AreTrue scope (visits f.nodes) kept c.args.marks.now) (sym c.forest.ensures)
+    (are-true given c.args.tables.now c.args.model c.args.draft.now.now kept (map entry_in c.args.turns.now) (record { ordered = c.requires.turns.ordered; single = c.requires.turns.single }) c.args.marks.now c.requires.passes after
+    (after-nodes given c.args.tables.now c.args.model c.args.draft.now.now kept.entries c.requires.may c.args.turns.now c.requires.turns few after c.in_ok-known.ensures.ok))
 
 pub returns-in_err-truths-clause-err : goal.returns-in_err-truths-clause-err
 returns-in_err-truths-clause-err g c =

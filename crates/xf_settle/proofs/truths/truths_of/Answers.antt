@@ -1,16 +1,18 @@
 use Rattle.std.proofs.Common.{◌≡◌, ◌+◌, length, take, sym, ap, ◌∙◌, subst, arith}
 use Rattle.std.proofs.lemmas.Result.{err_from_is_err_and}
-use Rattle.std.specs.Prelude.{slice_get}
+use Rattle.std.specs.Prelude.{option_map, slice_get}
 use Rattle.xf_doc.specs.Visit.{visits}
 use Rattle.xf_lang.specs.declared.fault.EvalFault.TheVariants.{Long, Memory}
 use Rattle.xf_model.specs.Settled.{calculates}
 use Rattle.xf_eval.proofs.Bounded.{part-long}
 use Rattle.xf_binds.specs.Table.{kept_at}
-use Rattle.xf_settle.specs.Known.{IsKnown, known_at}
+use Rattle.xf_binds.specs.Held.{entry_of}
+use Rattle.xf_settle.specs.Known.{IsKnown}
+use Rattle.xf_settle.specs.Passes.{IsKnownBy, is_passed}
 use Rattle.xf_settle.specs.Settles.{scope_in}
 use Rattle.xf_settle.specs.Turns.{found_step, is_calculate_at, is_there_at}
 use Rattle.xf_settle.proofs.HeldSteps.{counted, one_if, plus-none, there-at, step-none, step-some}
-use Rattle.xf_settle.proofs.Known.{is-known}
+use Rattle.xf_settle.proofs.Known.{known-by}
 use Rattle.xf_settle.proofs.truths.truths_of.Goals as goal
 use Rattle.xf_settle.proofs.truths.truths_of.Goals.{then-is_calculate, else-is_calculate}
 
@@ -22,10 +24,14 @@ pub push_truth-requires-clause-known : goal.push_truth-requires-clause-known
 push_truth-requires-clause-known g c =
     let scope = scope_in (g.A.Around.given c.args.around.now) c.args.tables.now c.args.model in
     let all = visits c.args.forest.now.forest.nodes in
-    let entries = (kept_at c.args.table.now c.args.model).entries in
-    let told = c.known_at-truth.ensures ∙ ap (λ e. known_at e c.args.known.now c.loop-at.place) c.entry-entry.ensures ∙ ap (known_at (slice_get entries c.loop-at.at) c.args.known.now) c.loop-at.invariant.so_far in
-    subst (λ e. IsKnown scope all e c.known_at-truth.result) (sym c.entry-entry.ensures)
-    (subst (IsKnown scope all (slice_get entries c.loop-at.at)) (sym told) (is-known scope all entries c.args.known.now c.requires.known c.loop-at.at))
+    let kept = kept_at c.args.table.now c.args.model in
+    let at = c.loop-at.at in
+    let marks = c.args.marks.now in
+    let told = subst (λ b. IsKnownBy b kept c.args.known.now c.loop-at.place (option_map entry_of c.entry-entry.result) c.known_of-truth.result) c.is_passed-passed.ensures c.known_of-truth.ensures in
+    let here = subst (λ e. IsKnownBy (is_passed marks at) kept c.args.known.now c.loop-at.place e c.known_of-truth.result) c.entry-entry.ensures told in
+    subst (λ e. IsKnown scope all e c.known_of-truth.result) (sym c.entry-entry.ensures)
+    (known-by scope all kept marks c.args.known.now c.requires.known c.requires.passed at c.known_of-truth.result
+    (subst (λ p. IsKnownBy (is_passed marks at) kept c.args.known.now p (slice_get kept.entries at) c.known_of-truth.result) c.loop-at.invariant.so_far here))
 
 pub returns-in_err-push_truth : goal.returns-in_err-push_truth
 returns-in_err-push_truth g c =

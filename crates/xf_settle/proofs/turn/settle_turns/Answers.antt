@@ -14,8 +14,9 @@ use Rattle.xf_settle.specs.Turns.{entry_in, turned}
 use Rattle.xf_settle.proofs.Known.{none-known}
 use Rattle.xf_settle.proofs.Left.{left-none}
 use Rattle.xf_settle.proofs.ListLemmas.{done_by, split-at}
+use Rattle.xf_settle.proofs.Passing.{passed-place}
 use Rattle.xf_settle.proofs.Surroundings.{stands-now}
-use Rattle.xf_settle.proofs.Turning.{Going, ended, may-write, no_turn, one-told, refused, settable, start, step, turned-kept, unused}
+use Rattle.xf_settle.proofs.Turning.{Going, ended, in-turn, may-write, no_turn, one-told, pass, placed, refused, settable, start, step, turned-kept, unused}
 use Rattle.xf_settle.proofs.turn.settle_turns.Goals as goal
 
 pub loop-turn-init : goal.loop-turn-init
@@ -110,6 +111,28 @@ loop-turn-preserved g c =
       known = subst (AreKnown scope (visits (settled_forest scope entries d.now).nodes) entries) (sym c.tell.ensures)
           (one-told given c.args.tables.now c.args.model d.now entries c.requires.may turns c.requires.turns few (take k turns) (drop (k + 1) turns) x
           (split-at turns k no_turn c.loop-turn-test.true) c.loop-turn.draft c.loop-turn.truths.items c.in_ok-truth.truth c.loop-turn.invariant.going c.loop-turn.invariant.known c.in_ok-truth.ensures.truth);
+    }
+
+pub loop-turn-preserved-then-is_passed_on : goal.loop-turn-preserved-then-is_passed_on
+loop-turn-preserved-then-is_passed_on g c =
+    let given = g.A.Around.given c.args.around.now in
+    let kept = kept_at c.args.table.now c.args.model in
+    let scope = scope_in given c.args.tables.now c.args.model in
+    let d = c.args.draft.now in
+    let k = c.loop-turn.turn-index in
+    let turns = c.args.turns.now in
+    let x = get_or turns k no_turn in
+    let few : length (calculates kept.entries) < 2 ^ 32 = let fits = c.ranges.count.fits in let is = c.requires.count in omega (arith, fits, is) in
+    let split = split-at turns k no_turn c.loop-turn-test.true in
+    let p = passed-place kept.entries c.args.marks.now x.place (entry_in x) (in-turn given c.args.tables.now c.args.model d.now kept.entries c.requires.may turns c.requires.turns few).single
+    (placed given c.args.tables.now c.args.model d.now kept.entries c.requires.may turns c.requires.turns few (take k turns) (drop (k + 1) turns) x split) (sym c.is_passed_on.ensures ∙ c.if-is_passed_on.true) in
+    let m = c.requires.passes p.place (entry_in x) p.got p.passed p.computed in
+    record {
+      going = subst (λ l. Going scope kept.entries d.now l c.loop-turn.draft) (sym (take_more turns k no_turn c.loop-turn-test.true))
+          (pass given c.args.tables.now c.args.model d.now kept.entries c.requires.may turns c.requires.turns few (take k turns) (drop (k + 1) turns) x split m.f m.taken kept.texts kept.lists m.was c.loop-turn.draft m.since m.outside
+          c.loop-turn.invariant.going);
+      kept = c.loop-turn.invariant.kept;
+      known = c.loop-turn.invariant.known;
     }
 
 pub returns-in_err-truths-clause-left : goal.returns-in_err-truths-clause-left

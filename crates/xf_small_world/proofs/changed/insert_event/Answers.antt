@@ -3,7 +3,7 @@ use Rattle.std.specs.Prelude.{codes}
 use Rattle.xf_doc.specs.Forest.{Forest}
 use Rattle.xf_doc.specs.Visit.{visits}
 use Rattle.xf_actions.specs.declared.place.Place.{Place}
-use Rattle.xf_actions.specs.Changed.{instance_event}
+use Rattle.xf_actions.specs.TreeChanges.{instance_event}
 use Rattle.xf_actions.specs.Seen.{fired_of}
 use Rattle.xf_actions.proofs.Flow.{same-reads}
 use Rattle.xf_small_world.specs.Fault.{means}

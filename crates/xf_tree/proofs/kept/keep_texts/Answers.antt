@@ -50,7 +50,7 @@ loop-row-preserved c =
       had = ap numbers_in c.push_reserved.ensures.items ∙ map-append (λ (n : NodeId). n.number) c.loop-row.had.items (record { number = c.number_of.result; place = x.key } ∷ [])
           ∙ ap (λ l. l ++ (c.number_of.result ∷ [])) inv.had ∙ ap (λ n. (numbers_in c.args.had.now.items ++ numbers_at s all) ++ (n ∷ [])) number
           ∙ append_assoc (numbers_in c.args.had.now.items) (numbers_at s all) (number_in (get s x.key) ∷ []) ∙ ap (λ l. numbers_in c.args.had.now.items ++ l) (sym numbers);
-      slots = subst (λ l. IsOwned c.args.owner l s c.set_owner.new.slots) (sym keys) (owned-more c.args.owner (keys_of all) x.key s c.loop-row.slots c.set_owner.new.slots inv.slots c.set_owner.ensures);
+      slots = subst (λ l. IsOwned c.args.owner l s c.set_owner.new.self) (sym keys) (owned-more c.args.owner (keys_of all) x.key s c.loop-row.slots c.set_owner.new.self inv.slots c.set_owner.ensures);
       kept_room = omega (arith, inv.kept_room, ap length left, c.push_reserved-in-loop-row.ensures.len, c.push_reserved-in-loop-row.ensures.capacity);
       had_room = omega (arith, inv.had_room, ap length left, c.push_reserved.ensures.len, c.push_reserved.ensures.capacity);
     }

@@ -1,4 +1,5 @@
 use Rattle.std.proofs.Common.{◌+◌, ◌-◌, drop, get_or, arith, length-take}
+use Rattle.xf_tree.specs.Seen.{seen_content}
 use Rattle.xf_tree.specs.Siblings.{is_like}
 use Rattle.xf_tree.specs.Tree.{no_row}
 use Rattle.xf_tree.specs.Walks.{between}
@@ -14,5 +15,5 @@ returns-in-Some-clause-few c =
     let rows = c.args.rows.now in
     let above = c.in-Some.above in
     let at = c.args.at in
-    let few = chosen-few c.args.slots.now (is_like (get_or rows at no_row).depth c.args.like.now) (between (above + 1) at rows) in
+    let few = chosen-few c.args.slots.now (is_like (get_or rows at no_row).depth (seen_content c.args.like)) (between (above + 1) at rows) in
     omega (arith, c.count_like.ensures, few, length-take (at - (above + 1)) (drop (above + 1) rows), c.requires.within)

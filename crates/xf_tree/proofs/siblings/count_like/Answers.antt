@@ -1,4 +1,5 @@
 use Rattle.std.proofs.Common.{length, sym, ap, ◌∙◌, arith}
+use Rattle.xf_tree.specs.Seen.{seen_content}
 use Rattle.xf_tree.specs.Siblings.{same_sort}
 use Rattle.xf_tree.proofs.WalkLemmas.{behind, kin-passed, kin-found}
 use Rattle.xf_tree.proofs.siblings.count_like.Goals as goal
@@ -10,7 +11,7 @@ loop-next-preserved c =
     let rows = c.args.rows.now in
     let next = c.loop-next.next in
     let i = c.loop-next.invariant in
-    let q = same_sort c.args.like.now in
+    let q = same_sort (seen_content c.args.like) in
     let b = behind s c.args.depth q rows next c.args.to c.end_of-next.result c.loop-next-test.true c.requires.within i.deep c.end_of-next.ensures.answer in
     let so_far = i.so_far in
     let few = i.few in

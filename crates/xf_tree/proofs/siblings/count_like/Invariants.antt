@@ -1,4 +1,5 @@
 use Rattle.std.proofs.Common.{◌≡◌, ◌≤◌, ◌+◌, ◌-◌, length}
+use Rattle.xf_tree.specs.Seen.{seen_content}
 use Rattle.xf_tree.specs.Rows.{AllDeep}
 use Rattle.xf_tree.specs.Siblings.{is_like}
 use Rattle.xf_tree.specs.Walks.{between, chosen}
@@ -6,7 +7,7 @@ use Rattle.xf_tree.proofs.siblings.count_like.Given as goal
 
 abbrev pub invariant-loop-next : goal.invariant-loop-next
 invariant-loop-next l = record {
-  so_far : l.count + length (chosen l.slots (is_like l.depth l.like) (between l.next l.to l.rows)) ≡ length (chosen l.slots (is_like l.depth l.like) (between l.from l.to l.rows));
+  so_far : l.count + length (chosen l.slots (is_like l.depth (seen_content l.like)) (between l.next l.to l.rows)) ≡ length (chosen l.slots (is_like l.depth (seen_content l.like)) (between l.from l.to l.rows));
   few : l.count ≤ l.next;
   deep : AllDeep l.depth (between l.next l.to l.rows);
 }

@@ -1,4 +1,5 @@
 use Rattle.std.proofs.Common.{◌+◌, drop, length, refl, sym, ap, ◌∙◌, arith}
+use Rattle.xf_tree.specs.Seen.{seen_content}
 use Rattle.xf_tree.specs.Rows.{tree_of}
 use Rattle.xf_tree.specs.Siblings.{same_sort}
 use Rattle.xf_tree.proofs.SizedLemmas.{lt-true}
@@ -11,7 +12,7 @@ returns-then-is_like_at c =
     let rows = c.args.rows.now in
     let next = c.loop-next.next in
     let i = c.loop-next.invariant in
-    let q = same_sort c.args.like.now in
+    let q = same_sort (seen_content c.args.like) in
     let stop = next + length (tree_of (drop next rows)) in
     let b = behind s c.args.depth q rows next c.args.to stop c.loop-next-test.true c.requires.within i.deep refl in
     let found = ap length (sym i.same ∙ kin-found s c.args.depth q rows next c.args.to stop b (sym c.is_like_at.ensures ∙ c.if-is_like_at.true)) in
@@ -23,7 +24,7 @@ loop-next-preserved c =
     let rows = c.args.rows.now in
     let next = c.loop-next.next in
     let i = c.loop-next.invariant in
-    let q = same_sort c.args.like.now in
+    let q = same_sort (seen_content c.args.like) in
     let b = behind s c.args.depth q rows next c.args.to c.end_of-next.result c.loop-next-test.true c.requires.within i.deep c.end_of-next.ensures.answer in
     record {
       same = kin-passed s c.args.depth q rows next c.args.to c.end_of-next.result b (sym c.is_like_at.ensures ∙ c.if-is_like_at.false) ∙ i.same;

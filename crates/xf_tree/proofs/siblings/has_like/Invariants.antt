@@ -1,4 +1,5 @@
 use Rattle.std.proofs.Common.{◌≡◌, ◌-◌}
+use Rattle.xf_tree.specs.Seen.{seen_content}
 use Rattle.xf_tree.specs.Rows.{AllDeep}
 use Rattle.xf_tree.specs.Siblings.{is_like}
 use Rattle.xf_tree.specs.Walks.{between, chosen}
@@ -6,7 +7,7 @@ use Rattle.xf_tree.proofs.siblings.has_like.Given as goal
 
 abbrev pub invariant-loop-next : goal.invariant-loop-next
 invariant-loop-next l = record {
-  same : chosen l.slots (is_like l.depth l.like) (between l.next l.to l.rows) ≡ chosen l.slots (is_like l.depth l.like) (between l.from l.to l.rows);
+  same : chosen l.slots (is_like l.depth (seen_content l.like)) (between l.next l.to l.rows) ≡ chosen l.slots (is_like l.depth (seen_content l.like)) (between l.from l.to l.rows);
   deep : AllDeep l.depth (between l.next l.to l.rows);
 }
 

@@ -8,6 +8,7 @@ use Rattle.xf_work.specs.Told.{IsTold}
 use Rattle.xf_work.proofs.AroundLaws.{around-stands}
 use Rattle.xf_work.proofs.FixedLaws.{are-fixed}
 use Rattle.xf_work.proofs.FoundLaws.{given-found}
+use Rattle.xf_work.proofs.KnownLaws.{rebuilt-marks}
 use Rattle.xf_work.proofs.RebuildLaws.{after-kept, after-many, after-rebuild, rebuild-done, stopped-does}
 use Rattle.xf_work.proofs.WholeLaws.{renewed}
 use Rattle.xf_work.proofs.rebuilding.rebuild.Goals.{After-rebuild, In-Ok}
@@ -38,6 +39,11 @@ returns-in-Ok-clause-done c = λ flags controls tally many.
 pub returns-in-Ok-clause-built : goal.returns-in-Ok-clause-built
 returns-in-Ok-clause-built c =
     renewed (scope_at c.args.loaded.now c.args.forest.now.forest c.args.model) c.args.forest.now.forest.nodes c.args.table.now c.rebuild.new.table c.requires.model (rebuilt-is (goal.at.returns-in-Ok-clause-built c).In-Ok)
+
+pub returns-in-Ok-clause-marks : goal.returns-in-Ok-clause-marks
+returns-in-Ok-clause-marks c =
+    rebuilt-marks c.args.table.now c.args.model c.rebuild.new.table c.requires.model
+    (after-rebuild (scope_at c.args.loaded.now c.args.forest.now.forest c.args.model) c.args.forest.now.forest.nodes c.args.table.now c.rebuild.new.table (rebuilt-is (goal.at.returns-in-Ok-clause-marks c).In-Ok))
 
 pub returns-in-Ok-clause-kept : goal.returns-in-Ok-clause-kept
 returns-in-Ok-clause-kept c =

@@ -2,7 +2,7 @@ use Rattle.std.proofs.Common.{◌≡◌, ◌+◌, ◌^◌, ◌<◌, ◌≤◌, l
 use Rattle.xf_tree.specs.Calls.{with_contents}
 use Rattle.xf_tree.specs.Tree.{IsState, AllLive, keeping_of, size_of_all}
 use Rattle.xf_tree.proofs.PushLemmas.{kept-live}
-use Rattle.xf_tree.proofs.AddLemmas.{same-state, same-view, room-same, added-state, added-view, bytes-most}
+use Rattle.xf_tree.proofs.AddLemmas.{same-state, same-view, added-state, added-view, bytes-most}
 use Rattle.xf_tree.proofs.forest.Forest.add.Goals as goal
 use Rattle.xf_tree.proofs.forest.Forest.add.Goals.{After-push_tree}
 
@@ -10,12 +10,12 @@ pub invariant_of-self : goal.invariant_of-self
 invariant_of-self c =
     let s = c.self.inside.slots in
     let same : vec_capacity c.self.inside.rows ≤ vec_capacity c.self.inside.rows = omega arith in
-    same-state s c.reserve.new.self c.self.inside.rows.items c.self.inside.kept.items c.self.inside.next c.self.inside.count c.self.inside.bytes _ _ (room-same s c.reserve.new.self _ c.reserve.ensures.rest_kept) same c.self.invariant
+    same-state s c.reserve.new.self c.self.inside.rows.items c.self.inside.kept.items c.self.inside.next c.self.inside.count c.self.inside.bytes _ _ (c.reserve.ensures.same) same c.self.invariant
 
 pub invariant_of-self-in_err-reserve-2 : goal.invariant_of-self-in_err-reserve-2
 invariant_of-self-in_err-reserve-2 c =
     let s = c.self.inside.slots in
-    let state = same-state s c.reserve.new.self c.self.inside.rows.items c.self.inside.kept.items c.self.inside.next c.self.inside.count c.self.inside.bytes _ _ (room-same s c.reserve.new.self _ c.reserve.ensures.rest_kept)
+    let state = same-state s c.reserve.new.self c.self.inside.rows.items c.self.inside.kept.items c.self.inside.next c.self.inside.count c.self.inside.bytes _ _ (c.reserve.ensures.same)
     c.reserve-2.ensures.capacity c.self.invariant in
     subst (λ r. IsState c.reserve.new.self r c.self.inside.kept.items c.self.inside.next c.self.inside.count c.self.inside.bytes (vec_capacity c.reserve-2.new.self)) (sym c.reserve-2.ensures.items) state
 
@@ -23,7 +23,7 @@ pub push_tree-requires-clause-live : goal.push_tree-requires-clause-live
 push_tree-requires-clause-live c =
     let s = c.self.inside.slots in
     subst (AllLive c.reserve.new.self) (sym c.reserve-2.ensures.items)
-    (kept-live s c.reserve.new.self c.self.inside.rows.items c.self.invariant.sound.live (λ key some. room-same s c.reserve.new.self _ c.reserve.ensures.rest_kept key))
+    (kept-live s c.reserve.new.self c.self.inside.rows.items c.self.invariant.sound.live (λ key some. c.reserve.ensures.same key))
 
 pub overflow_add-self-3 : goal.overflow_add-self-3
 overflow_add-self-3 c =
@@ -45,7 +45,7 @@ overflow_add-self-3 c =
 reserved : (c : After-push_tree) → IsState c.reserve.new.self c.reserve-2.new.self.items c.self.inside.kept.items c.self.inside.next c.self.inside.count c.self.inside.bytes (vec_capacity c.reserve-2.new.self)
 reserved c =
     let s = c.self.inside.slots in
-    let state = same-state s c.reserve.new.self c.self.inside.rows.items c.self.inside.kept.items c.self.inside.next c.self.inside.count c.self.inside.bytes _ _ (room-same s c.reserve.new.self _ c.reserve.ensures.rest_kept)
+    let state = same-state s c.reserve.new.self c.self.inside.rows.items c.self.inside.kept.items c.self.inside.next c.self.inside.count c.self.inside.bytes _ _ (c.reserve.ensures.same)
     c.reserve-2.ensures.capacity c.self.invariant in
     subst (λ r. IsState c.reserve.new.self r c.self.inside.kept.items c.self.inside.next c.self.inside.count c.self.inside.bytes (vec_capacity c.reserve-2.new.self)) (sym c.reserve-2.ensures.items) state
 
@@ -80,5 +80,5 @@ returns-clause-ok c =
     c.push_tree.ensures.front c.push_tree.ensures.nodes c.push_tree.ensures.rest in
     let before : keeping_of c.reserve.new.self c.reserve-2.new.self.items kept next ≡ c.args.self.now =
     ap (λ r. keeping_of c.reserve.new.self r kept next) c.reserve-2.ensures.items
-    ∙ same-view s c.reserve.new.self c.self.inside.rows.items kept next (room-same s c.reserve.new.self _ c.reserve.ensures.rest_kept) c.self.invariant.sound ∙ c.self.view_is in
+    ∙ same-view s c.reserve.new.self c.self.inside.rows.items kept next (c.reserve.ensures.same) c.self.invariant.sound ∙ c.self.view_is in
     ap (λ n. keeping_of c.push_tree.new.slots c.push_tree.new.rows.items kept (next + n)) (more-is k) ∙ added ∙ ap (with_contents cs) before

@@ -9,7 +9,7 @@ use Rattle.xf_doc.specs.Texts.{Keeping}
 use Rattle.xf_tree.specs.Tree.{IsState, StandsAt, content_in, keeping_of, no_row}
 use Rattle.xf_tree.proofs.PlaceLemmas.{stands, one_of, content-means}
 use Rattle.xf_tree.proofs.PushLemmas.{insert-keeps}
-use Rattle.xf_tree.proofs.AddLemmas.{same-state, same-view, room-same, kept-same, kept-texts, named-meets, zero-depth, element-is, stands-same}
+use Rattle.xf_tree.proofs.AddLemmas.{same-state, same-view, kept-same, kept-texts, named-meets, zero-depth, element-is, stands-same}
 use Rattle.xf_tree.proofs.OverLemmas.{over-state, over-view}
 use Rattle.xf_tree.proofs.forest.Forest.add_root.Goals as goal
 use Rattle.xf_tree.proofs.forest.Forest.add_root.Goals.{After-root_over-place}
@@ -18,12 +18,12 @@ pub invariant_of-self : goal.invariant_of-self
 invariant_of-self c =
     let s = c.self.inside.slots in
     let same : vec_capacity c.self.inside.rows ≤ vec_capacity c.self.inside.rows = omega arith in
-    same-state s c.reserve.new.self c.self.inside.rows.items c.self.inside.kept.items c.self.inside.next c.self.inside.count c.self.inside.bytes _ _ (room-same s c.reserve.new.self _ c.reserve.ensures.rest_kept) same c.self.invariant
+    same-state s c.reserve.new.self c.self.inside.rows.items c.self.inside.kept.items c.self.inside.next c.self.inside.count c.self.inside.bytes _ _ (c.reserve.ensures.same) same c.self.invariant
 
 pub invariant_of-self-in_err-reserve-2 : goal.invariant_of-self-in_err-reserve-2
 invariant_of-self-in_err-reserve-2 c =
     let s = c.self.inside.slots in
-    let state = same-state s c.reserve.new.self c.self.inside.rows.items c.self.inside.kept.items c.self.inside.next c.self.inside.count c.self.inside.bytes _ _ (room-same s c.reserve.new.self _ c.reserve.ensures.rest_kept)
+    let state = same-state s c.reserve.new.self c.self.inside.rows.items c.self.inside.kept.items c.self.inside.next c.self.inside.count c.self.inside.bytes _ _ (c.reserve.ensures.same)
     c.reserve-2.ensures.capacity c.self.invariant in
     subst (λ r. IsState c.reserve.new.self r c.self.inside.kept.items c.self.inside.next c.self.inside.count c.self.inside.bytes (vec_capacity c.reserve-2.new.self)) (sym c.reserve-2.ensures.items) state
 
@@ -42,7 +42,7 @@ root_over-place-requires-clause-top c =
 reserved : (c : After-root_over-place) → IsState c.reserve.new.self c.reserve-2.new.self.items c.self.inside.kept.items c.self.inside.next c.self.inside.count c.self.inside.bytes (vec_capacity c.reserve-2.new.self)
 reserved c =
     let s = c.self.inside.slots in
-    let state = same-state s c.reserve.new.self c.self.inside.rows.items c.self.inside.kept.items c.self.inside.next c.self.inside.count c.self.inside.bytes _ _ (room-same s c.reserve.new.self _ c.reserve.ensures.rest_kept)
+    let state = same-state s c.reserve.new.self c.self.inside.rows.items c.self.inside.kept.items c.self.inside.next c.self.inside.count c.self.inside.bytes _ _ (c.reserve.ensures.same)
     c.reserve-2.ensures.capacity c.self.invariant in
     subst (λ r. IsState c.reserve.new.self r c.self.inside.kept.items c.self.inside.next c.self.inside.count c.self.inside.bytes (vec_capacity c.reserve-2.new.self)) (sym c.reserve-2.ensures.items) state
 
@@ -52,7 +52,7 @@ standing-here c = subst (λ r. StandsAt c.self.inside.slots r c.args.top.number 
 standing-reserved : (c : After-root_over-place) → StandsAt c.reserve.new.self c.reserve-2.new.self.items c.args.top.number c.in-Some.at
 standing-reserved c =
     stands-same c.self.inside.slots c.reserve.new.self c.self.inside.rows.items c.reserve-2.new.self.items c.args.top.number c.in-Some.at
-    (room-same c.self.inside.slots c.reserve.new.self _ c.reserve.ensures.rest_kept) c.reserve-2.ensures.items (standing-here c)
+    (c.reserve.ensures.same) c.reserve-2.ensures.items (standing-here c)
 
 at-top : (c : After-root_over-place) → (get_or c.reserve-2.new.self.items c.in-Some.at no_row).depth ≡ 0
 at-top c =
@@ -75,7 +75,7 @@ element-there c =
     let means = ap (option_map kind_of) (content-means s n at rows c.self.inside.kept.items c.self.inside.next c.self.invariant.sound (standing-here c)) in
     let is = element-is (content_in (get s (get_or rows at no_row).key)) (sym means ∙ element) in
     ap (λ r. is_element (content_in (get s1 (get_or r at no_row).key))) c.reserve-2.ensures.items
-    ∙ ap (λ o. is_element (content_in o)) (room-same s s1 _ c.reserve.ensures.rest_kept (get_or rows at no_row).key) ∙ is
+    ∙ ap (λ o. is_element (content_in o)) (c.reserve.ensures.same (get_or rows at no_row).key) ∙ is
 
 pub invariant_of-self-2 : goal.invariant_of-self-2
 invariant_of-self-2 c =
@@ -100,7 +100,7 @@ returns-clause-ok c =
     (reserved k) (standing-reserved k) (at-top k) c.root_over-place.ensures.answer in
     let before : keeping_of c.reserve.new.self c.reserve-2.new.self.items kept next ≡ c.args.self.now =
     ap (λ r. keeping_of c.reserve.new.self r kept next) c.reserve-2.ensures.items
-    ∙ same-view s c.reserve.new.self c.self.inside.rows.items kept next (room-same s c.reserve.new.self _ c.reserve.ensures.rest_kept) c.self.invariant.sound ∙ c.self.view_is in
+    ∙ same-view s c.reserve.new.self c.self.inside.rows.items kept next (c.reserve.ensures.same) c.self.invariant.sound ∙ c.self.view_is in
     over ∙ ap (λ (q : Keeping). with_root n q.forest) before
 
 pub returns-clause-kept : goal.returns-clause-kept
@@ -109,7 +109,7 @@ returns-clause-kept c =
     let s1 = c.reserve.new.self in
     let kept = c.self.inside.kept.items in
     let over = c.root_over-place.ensures.answer in
-    let same = room-same s s1 _ c.reserve.ensures.rest_kept in
+    let same = c.reserve.ensures.same in
     let texts = c.self.invariant.sound.kept_live in
     kept-same s1 c.root_over-place.new.slots kept (kept-texts s s1 kept texts (λ key some. same key)) (insert-keeps s1 c.root_over-place.new.slots c.root_over-place.result _ over.vacant over.slot)
     ∙ kept-same s s1 kept texts (λ key some. same key) ∙ ap (λ (q : Keeping). q.kept) c.self.view_is

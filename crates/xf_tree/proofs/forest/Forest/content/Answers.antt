@@ -4,7 +4,7 @@ use Rattle.slab.specs.Slab.{get}
 use Rattle.xf_doc.specs.Forest.{has_number, content_at}
 use Rattle.xf_doc.specs.Texts.{Keeping}
 use Rattle.xf_tree.specs.declared.rows.Row.{Row}
-use Rattle.xf_tree.specs.declared.slot.Slot.{Slot}
+use Rattle.xf_tree.specs.Slot.{Slot}
 use Rattle.xf_tree.specs.Tree.{StandsAt, no_row, node_of}
 use Rattle.xf_tree.proofs.ReadLemmas.{absent-content, slot-content}
 use Rattle.xf_tree.proofs.forest.Forest.content.Goals as goal

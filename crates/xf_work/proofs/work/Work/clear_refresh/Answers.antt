@@ -15,5 +15,5 @@ returns-clause-now c =
     let items = with_items_is w.flags fs (ap length cleared ∙ flags-map w.flags.items without_refresh ∙ sym w.flags.ok.0) in
     let here = standing_of w.loaded w.draft.now w.table w.flags.items w.controls w.tally in
     ap (λ gs. standing_of w.loaded w.draft.now w.table gs w.controls w.tally) (items ∙ cleared)
-    ∙ ap (λ ms. record here { models = ms }) (sym (none-refreshed w.table w.flags.items c.self.invariant.many))
+    ∙ ap (λ ms. record here { models = ms }) (sym (none-refreshed w.table w.flags.items c.self.invariant.sound.many))
     ∙ ap (λ (t : Twin). record t.now { models = map no_refresh t.now.models }) c.self.view_is

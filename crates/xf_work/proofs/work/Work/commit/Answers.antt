@@ -3,21 +3,27 @@ use Rattle.std.proofs.lemmas.List.{with_items_is}
 use Rattle.xf_form_machine.specs.Step.{at_end}
 use Rattle.xf_work.specs.Does.{Twin, profile}
 use Rattle.xf_work.specs.Standing.{state_of}
+use Rattle.xf_work.proofs.KnownEnds.{committed-known}
 use Rattle.xf_work.proofs.EndLaws.{committed-sound, committed-now, committed-kept}
 use Rattle.xf_work.proofs.work.Work.commit.Goals as goal
 
 pub invariant_of-self : goal.invariant_of-self
 invariant_of-self c =
     let w = c.self.inside in
-    let i = c.self.invariant in
+    let i = c.self.invariant.sound in
     let flags : c.copy.new.to ≡ w.flags.items = c.copy.ensures ∙ c.as_slice.ensures.value in
     let items = with_items_is w.old_flags c.copy.new.to (ap length flags ∙ sym i.kept ∙ sym w.old_flags.ok.0) in
-    committed-sound w.loaded w.draft w.table w.flags.items w.old_flags.items w.built w.old_built i c.commit.new.self c.commit-2.new.self _ c.commit.ensures c.commit-2.ensures (items ∙ flags)
+    let known = committed-known w.loaded w.draft w.table w.known i.now.alone c.self.invariant.now c.commit.new.self c.commit-2.new.self c.commit.ensures c.commit-2.ensures in
+    record {
+      sound = committed-sound w.loaded w.draft w.table w.flags.items w.old_flags.items w.built w.old_built i c.commit.new.self c.commit-2.new.self _ c.commit.ensures c.commit-2.ensures (items ∙ flags);
+      now = known.0;
+      before = known.1;
+    }
 
 pub returns : goal.returns
 returns c =
     let w = c.self.inside in
-    let i = c.self.invariant in
+    let i = c.self.invariant.sound in
     let flags : c.copy.new.to ≡ w.flags.items = c.copy.ensures ∙ c.as_slice.ensures.value in
     let items = with_items_is w.old_flags c.copy.new.to (ap length flags ∙ sym i.kept ∙ sym w.old_flags.ok.0) in
     let d = c.commit.new.self in

@@ -11,5 +11,5 @@ use Rattle.xf_work.proofs.work.Work.is_due.Goals as goal
 pub returns : goal.returns
 returns c =
     let w = c.self.inside in
-    c.is_due.ensures ∙ ap (list_any (λ f. has_flag (flags_of f))) c.as_slice.ensures.value ∙ sym (any-due has_flag w.table w.flags.items c.self.invariant.many)
+    c.is_due.ensures ∙ ap (list_any (λ f. has_flag (flags_of f))) c.as_slice.ensures.value ∙ sym (any-due has_flag w.table w.flags.items c.self.invariant.sound.many)
     ∙ ap (λ (t : Twin). update.is_due (state_of t.now)) c.self.view_is

@@ -11,7 +11,7 @@ use Rattle.xf_work.proofs.work.Work.is_flagged.Goals as goal
 
 within : (c : After-self) → c.args.model < length c.self.inside.flags.items
 within c =
-    let many = models-length c.self.inside.table c.self.inside.flags.items c.self.invariant.many in
+    let many = models-length c.self.inside.table c.self.inside.flags.items c.self.invariant.sound.many in
     subst (λ n. c.args.model < n) (sym (ap (λ (t : Twin). length t.now.models) c.self.view_is) ∙ many) c.requires
 
 pub index-requires : goal.index-requires
@@ -22,5 +22,5 @@ returns c =
     let w = c.self.inside in
     let less = within (goal.at.returns c).After-self in
     c.has.ensures ∙ ap (λ f. flag_of c.args.flag (flags_of f)) (c.index.ensures ∙ get_or_default w.flags.items c.args.model _ none_due less)
-    ∙ sym (ap (λ (m : Model). flag_of c.args.flag m.flags) (model-at w.table w.flags.items c.args.model c.self.invariant.many less))
+    ∙ sym (ap (λ (m : Model). flag_of c.args.flag m.flags) (model-at w.table w.flags.items c.args.model c.self.invariant.sound.many less))
     ∙ ap (λ (t : Twin). flag_of c.args.flag (model_at (state_of t.now) c.args.model).flags) c.self.view_is

@@ -11,5 +11,5 @@ use Rattle.xf_work.proofs.work.Work.is_refresh_due.Goals as goal
 pub returns : goal.returns
 returns c =
     let w = c.self.inside in
-    c.is_refresh_due.ensures ∙ ap (list_any (λ (f : Flags). f.refresh)) c.as_slice.ensures.value ∙ sym (any-due (λ (f : machine.Flags). f.refresh) w.table w.flags.items c.self.invariant.many)
+    c.is_refresh_due.ensures ∙ ap (list_any (λ (f : Flags). f.refresh)) c.as_slice.ensures.value ∙ sym (any-due (λ (f : machine.Flags). f.refresh) w.table w.flags.items c.self.invariant.sound.many)
     ∙ ap (λ (t : Twin). update.is_refresh_due (state_of t.now)) c.self.view_is

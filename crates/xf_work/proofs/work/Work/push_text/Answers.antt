@@ -13,6 +13,6 @@ returns c =
     let after = string_bytes c.push_text.new.text in
     on_ok_weaker c.push_text.result
     (λ (h : Writes w.loaded c.forest-forest.result.now.forest w.table w.controls before after).
-    subst (λ f. Writes w.loaded f w.table w.controls before after) c.forest-forest.ensures h w.flags.items w.tally c.self.invariant.many
+    subst (λ f. Writes w.loaded f w.table w.controls before after) c.forest-forest.ensures h w.flags.items w.tally c.self.invariant.sound.many
     ∙ ap (λ (t : Twin). before ++ state_text profile (state_of t.now)) c.self.view_is)
     c.push_text.ensures

@@ -7,5 +7,5 @@ use Rattle.xf_work.proofs.work.Work.quiet.Goals as goal
 
 pub returns : goal.returns
 returns c =
-    let l = c.self.invariant.loaded in
+    let l = c.self.invariant.sound.loaded in
     subst (λ (t : Twin). Quiet (state_of t.now)) c.self.view_is (record { form = loaded-quiet l.bytes c.self.inside.loaded l.read; indexes = refl })

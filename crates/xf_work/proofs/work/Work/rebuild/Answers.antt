@@ -8,9 +8,11 @@ use Rattle.xf_work.specs.Built.{IsRenewed, scope_at}
 use Rattle.xf_work.specs.Calls.{Rebuilds, rebuilt_flags}
 use Rattle.xf_work.specs.Does.{Does, Twin, profile}
 use Rattle.xf_work.specs.Flags.{none_due, without}
+use Rattle.xf_work.specs.Known.{Knows}
 use Rattle.xf_work.specs.Parts.{IsSound, standing_of}
 use Rattle.xf_work.specs.Standing.{state_of}
 use Rattle.xf_work.proofs.DoesLaws.{does-any}
+use Rattle.xf_work.proofs.KnownLaws.{knows-marks}
 use Rattle.xf_work.proofs.Models.{flags-length, models-length}
 use Rattle.xf_work.proofs.SoundLaws.{sound-flags, sound-renewed, within-table}
 use Rattle.xf_work.proofs.work.Work.rebuild.Goals as goal
@@ -18,18 +20,18 @@ use Rattle.xf_work.proofs.work.Work.rebuild.Goals as goal
 pub rebuild-requires-clause-model : goal.rebuild-requires-clause-model
 rebuild-requires-clause-model c =
     let w = c.self.inside in
-    within-table w.table w.flags.items c.args.model c.self.invariant.many (subst (λ (t : Twin). c.args.model < length t.now.models) (sym c.self.view_is) c.requires.model)
+    within-table w.table w.flags.items c.args.model c.self.invariant.sound.many (subst (λ (t : Twin). c.args.model < length t.now.models) (sym c.self.view_is) c.requires.model)
 
 pub clear-requires : goal.clear-requires
 clear-requires c =
     let w = c.self.inside in
-    let h = within-table w.table w.flags.items c.args.model c.self.invariant.many (subst (λ (t : Twin). c.args.model < length t.now.models) (sym c.self.view_is) c.requires.model) in
-    subst (λ n. c.args.model < n) (c.self.invariant.many ∙ ap length (sym c.as_mut_slice.ensures.value)) h
+    let h = within-table w.table w.flags.items c.args.model c.self.invariant.sound.many (subst (λ (t : Twin). c.args.model < length t.now.models) (sym c.self.view_is) c.requires.model) in
+    subst (λ n. c.args.model < n) (c.self.invariant.sound.many ∙ ap length (sym c.as_mut_slice.ensures.value)) h
 
 pub invariant_of-self : goal.invariant_of-self
 invariant_of-self c =
     let w = c.self.inside in
-    let i = c.self.invariant in
+    let i = c.self.invariant.sound in
     let many = flags-length w.flags.items c.args.model (without Rebuild (get_or w.flags.items c.args.model none_due)) in
     let cleared : c.clear.new.flags ≡ rebuilt_flags w.flags.items c.args.model =
     c.clear.ensures ∙ ap (λ fs. slice_set fs c.args.model (without Rebuild (get_or fs c.args.model none_due))) c.as_mut_slice.ensures.value in
@@ -38,8 +40,12 @@ invariant_of-self c =
     let s = sound-renewed w.loaded w.draft w.table w.flags.items w.old_flags.items w.built w.old_built i c.args.model c.rebuild.new.table
     (subst (λ (t : Twin). c.args.model ≤ t.built) (sym c.self.view_is) c.requires.built) c.in-Ok.ensures.models c.in-Ok.ensures.kept renewed in
     let one : c.args.model + 1 ≡ suc c.args.model = omega arith in
-    subst (λ n. IsSound w.loaded w.draft c.rebuild.new.table (with_items w.flags c.clear.new.flags).items w.old_flags.items n w.old_built) (sym (c.max-self-inside.ensures ∙ ap (max w.built) one))
-    (sound-flags w.loaded w.draft c.rebuild.new.table w.flags.items w.old_flags.items (max w.built (suc c.args.model)) w.old_built s (with_items w.flags c.clear.new.flags).items (ap length (items ∙ cleared) ∙ many))
+    record {
+      sound = subst (λ n. IsSound w.loaded w.draft c.rebuild.new.table (with_items w.flags c.clear.new.flags).items w.old_flags.items n w.old_built) (sym (c.max-self-inside.ensures ∙ ap (max w.built) one))
+          (sound-flags w.loaded w.draft c.rebuild.new.table w.flags.items w.old_flags.items (max w.built (suc c.args.model)) w.old_built s (with_items w.flags c.clear.new.flags).items (ap length (items ∙ cleared) ∙ many));
+      now = knows-marks w.loaded w.draft.now w.table c.rebuild.new.table w.known c.in-Ok.ensures.models c.in-Ok.ensures.marks c.self.invariant.now;
+      before = subst (λ t. Knows w.loaded w.draft.kept t w.old_known) (sym c.in-Ok.ensures.kept) c.self.invariant.before;
+    }
 
 pub returns-in-Ok-clause-done : goal.returns-in-Ok-clause-done
 returns-in-Ok-clause-done c =
@@ -50,7 +56,7 @@ returns-in-Ok-clause-done c =
     let items = with_items_is w.flags c.clear.new.flags (ap length cleared ∙ many ∙ sym w.flags.ok.0) in
     let done = subst (λ f. Rebuilds {X = Unit {0}} w.loaded f c.args.model w.table c.rebuild.new.table (Ok tt)) c.forest-forest.ensures c.in-Ok.ensures.done in
     ap (λ (t : Twin). machine.rebuild profile c.args.model (state_of t.now)) (sym c.self.view_is)
-    ∙ done w.flags.items w.controls w.tally c.self.invariant.many
+    ∙ done w.flags.items w.controls w.tally c.self.invariant.sound.many
     ∙ ap (λ fs. Ok (state_of (standing_of w.loaded w.draft.now c.rebuild.new.table fs w.controls w.tally))) (sym (items ∙ cleared))
 
 pub returns-in-Ok-clause-models : goal.returns-in-Ok-clause-models
@@ -60,8 +66,8 @@ returns-in-Ok-clause-models c =
     let cleared : c.clear.new.flags ≡ rebuilt_flags w.flags.items c.args.model =
     c.clear.ensures ∙ ap (λ fs. slice_set fs c.args.model (without Rebuild (get_or fs c.args.model none_due))) c.as_mut_slice.ensures.value in
     let items = with_items_is w.flags c.clear.new.flags (ap length cleared ∙ many ∙ sym w.flags.ok.0) in
-    models-length c.rebuild.new.table (with_items w.flags c.clear.new.flags).items (c.in-Ok.ensures.models ∙ c.self.invariant.many ∙ sym (ap length (items ∙ cleared) ∙ many))
-    ∙ ap length (items ∙ cleared) ∙ many ∙ sym (models-length w.table w.flags.items c.self.invariant.many)
+    models-length c.rebuild.new.table (with_items w.flags c.clear.new.flags).items (c.in-Ok.ensures.models ∙ c.self.invariant.sound.many ∙ sym (ap length (items ∙ cleared) ∙ many))
+    ∙ ap length (items ∙ cleared) ∙ many ∙ sym (models-length w.table w.flags.items c.self.invariant.sound.many)
     ∙ ap (λ (x : Twin). length x.now.models) c.self.view_is
 
 pub returns-in-Err-clause-done : goal.returns-in-Err-clause-done
@@ -70,4 +76,4 @@ returns-in-Err-clause-done c =
     let done = subst (λ f. Rebuilds {X = Unit {0}} w.loaded f c.args.model w.table c.rebuild.new.table (Err c.in-Err.fault)) c.forest-forest.ensures c.in-Err.ensures.done in
     let after = standing_of w.loaded w.draft.now c.rebuild.new.table w.flags.items w.controls w.tally in
     subst (λ (t : Twin). Does {X = Unit {0}} (Err c.in-Err.fault) after (machine.rebuild profile c.args.model (state_of t.now))) c.self.view_is
-    (does-any c.in-Err.fault _ after (machine.rebuild profile c.args.model (state_of (standing_of w.loaded w.draft.now w.table w.flags.items w.controls w.tally))) (done w.flags.items w.controls w.tally c.self.invariant.many))
+    (does-any c.in-Err.fault _ after (machine.rebuild profile c.args.model (state_of (standing_of w.loaded w.draft.now w.table w.flags.items w.controls w.tally))) (done w.flags.items w.controls w.tally c.self.invariant.sound.many))

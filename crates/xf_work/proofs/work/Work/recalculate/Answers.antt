@@ -1,4 +1,4 @@
-use Rattle.std.proofs.Common.{◌≡◌, ◌<◌, ◌+◌, ◌-◌, ◌^◌, nat_lt, length, get_or, Ok, Err, map, refl, sym, ap, ◌∙◌, subst}
+use Rattle.std.proofs.Common.{◌≡◌, ◌<◌, ◌+◌, ◌-◌, ◌^◌, nat_lt, length, get_or, Some, Ok, Err, map, refl, sym, ap, ◌∙◌, subst}
 use Rattle.std.proofs.lemmas.List.{with_items_is}
 use Rattle.std.proofs.lemmas.Result.{err_from_is_err_and}
 use Rattle.std.specs.Prelude.{slice_set}
@@ -15,23 +15,43 @@ use Rattle.xf_work.specs.Built.{scope_at}
 use Rattle.xf_work.specs.Does.{Does, Twin, profile}
 use Rattle.xf_work.specs.Flags.{none_due, without}
 use Rattle.xf_work.specs.Grown.{with_more}
+use Rattle.xf_pertinent.specs.Marked.{pertinent_marks}
 use Rattle.xf_pertinent.specs.OfTable.{changes_in}
+use Rattle.xf_work.specs.Known.{IsRemembered, Knows, MayBePassed}
 use Rattle.xf_work.specs.Parts.{IsSound, kept_or, standing_of}
 use Rattle.xf_work.specs.Standing.{state_of}
+use Rattle.xf_work.proofs.KnownLaws.{may-be_passed}
+use Rattle.xf_work.proofs.WholeLaws.{kept-set}
 use Rattle.xf_work.proofs.Models.{back-same, flags-length, models-length, set-length}
 use Rattle.xf_work.proofs.RecalculateLaws.{grown-refused, made-is, recalculate-done, recalculate-passed}
 use Rattle.xf_work.proofs.SoundLaws.{sound-draft, sound-flags, sound-kept, within-table}
 use Rattle.xf_work.proofs.work.Work.recalculate.Goals as goal
 
+pub settle_texts-requires-clause-passes : goal.settle_texts-requires-clause-passes
+settle_texts-requires-clause-passes c =
+    let w = c.self.inside in
+    let i = c.self.invariant.sound in
+    let k = kept_at w.table c.args.model in
+    let x = scope_at w.loaded w.draft.now c.args.model in
+    let built = i.now.models c.args.model (subst (λ (t : Twin). c.args.model < t.built) (sym c.self.view_is) c.requires.built) in
+    let marked = c.in_ok-marks.ensures x (record { rules = refl; asks = subst (λ f. k.asks ≡ map (asks_of x (shape_of f.nodes)) k.entries) (sym c.forest-forest.ensures) built.asks }) in
+    subst (MayBePassed w.loaded w.draft.now c.args.model k) (sym c.marks_for.ensures)
+    (may-be_passed w.loaded w.draft.now w.table w.known c.args.model c.in_ok-marks.marks c.self.invariant.now
+    (marked ∙ ap (λ f. pertinent_marks x (shape_of f.nodes) k.entries (changes_in k)) c.forest-forest.ensures))
+
 pub invariant_of-self : goal.invariant_of-self
 invariant_of-self c =
     let w = c.self.inside in
-    sound-draft w.loaded w.draft w.table w.flags.items w.old_flags.items w.built w.old_built c.self.invariant c.settle_texts.new.draft c.in_err-truths.ensures.whole c.in_err-truths.ensures.kept
+    record {
+      sound = sound-draft w.loaded w.draft w.table w.flags.items w.old_flags.items w.built w.old_built c.self.invariant.sound c.settle_texts.new.draft c.in_err-truths.ensures.whole c.in_err-truths.ensures.kept;
+      now = tt;
+      before = subst (λ f. Knows w.loaded f (all_rolled_back w.table) w.old_known) (sym c.in_err-truths.ensures.kept) c.self.invariant.before;
+    }
 
 pub returns-in_err-truths-clause-done : goal.returns-in_err-truths-clause-done
 returns-in_err-truths-clause-done c =
     let w = c.self.inside in
-    let i = c.self.invariant in
+    let i = c.self.invariant.sound in
     let h = within-table w.table w.flags.items c.args.model i.many (subst (λ (t : Twin). c.args.model < length t.now.models) (sym c.self.view_is) c.requires.model) in
     let after = standing_of w.loaded c.settle_texts.new.draft.now w.table w.flags.items w.controls w.tally in
     let p = err_from_is_err_and c.from_residual-in_err-truths.result c.from_residual-in_err-truths.ensures.1 in
@@ -41,12 +61,16 @@ returns-in_err-truths-clause-done c =
 pub invariant_of-self-in_err-self-inside : goal.invariant_of-self-in_err-self-inside
 invariant_of-self-in_err-self-inside c =
     let w = c.self.inside in
-    sound-draft w.loaded w.draft w.table w.flags.items w.old_flags.items w.built w.old_built c.self.invariant c.settle_texts.new.draft c.in_ok-truths.ensures.whole c.in_ok-truths.ensures.kept
+    record {
+      sound = sound-draft w.loaded w.draft w.table w.flags.items w.old_flags.items w.built w.old_built c.self.invariant.sound c.settle_texts.new.draft c.in_ok-truths.ensures.whole c.in_ok-truths.ensures.kept;
+      now = tt;
+      before = subst (λ f. Knows w.loaded f (all_rolled_back w.table) w.old_known) (sym c.in_ok-truths.ensures.kept) c.self.invariant.before;
+    }
 
 pub returns-in_err-self-inside-clause-done : goal.returns-in_err-self-inside-clause-done
 returns-in_err-self-inside-clause-done c =
     let w = c.self.inside in
-    let i = c.self.invariant in
+    let i = c.self.invariant.sound in
     let h = within-table w.table w.flags.items c.args.model i.many (subst (λ (t : Twin). c.args.model < length t.now.models) (sym c.self.view_is) c.requires.model) in
     let after = standing_of w.loaded c.settle_texts.new.draft.now w.table w.flags.items w.controls w.tally in
     let k = kept_at w.table c.args.model in
@@ -54,41 +78,50 @@ returns-in_err-self-inside-clause-done c =
     let settled = c.in_ok-truths.ensures.ok in
     let p = err_from_is_err_and c.from_residual-in_err-self-inside.result c.from_residual-in_err-self-inside.ensures.1 in
     rw (p.1, p.2) (subst (λ (t : Twin). Does {X = Unit {0}} (Err c.in_err-self-inside.field-0.0) after (machine.recalculate profile c.args.model (state_of t.now))) c.self.view_is
-    (grown-refused w.loaded i.loaded w.draft.now c.args.model w.table w.flags.items w.controls w.tally i.many h c.in_err-self-inside.field-0.0 (c.next_number.result - c.next_number-before.result) c.in_ok-count.count
-    (ap (λ n. n - c.next_number-before.result) (c.next_number.ensures ∙ ap (λ f. f.next) c.forest-3.ensures) ∙ ap (λ n. c.settle_texts.new.draft.now.next - n) (c.next_number-before.ensures ∙ ap (λ f. f.next) c.forest-2.ensures)
+    (grown-refused w.loaded i.loaded w.draft.now c.args.model w.table w.flags.items w.controls w.tally i.many h c.in_err-self-inside.field-0.0 (c.next_number.result - c.next_number-before.result) c.pertinent_count-count.result
+    (ap (λ n. n - c.next_number-before.result) (c.next_number.ensures ∙ ap (λ f. f.next) c.forest-2.ensures) ∙ ap (λ n. c.settle_texts.new.draft.now.next - n) (c.next_number-before.ensures ∙ ap (λ f. f.next) c.forest.ensures)
     ∙ made-is x k.entries w.draft.now c.settle_texts.new.draft.now c.in_ok-truths.truths settled)
     settled.within c.in_err-self-inside.ensures after))
 
 pub recalculated-requires : goal.recalculated-requires
 recalculated-requires c =
     let w = c.self.inside in
-    within-table w.table w.flags.items c.args.model c.self.invariant.many (subst (λ (t : Twin). c.args.model < length t.now.models) (sym c.self.view_is) c.requires.model)
+    within-table w.table w.flags.items c.args.model c.self.invariant.sound.many (subst (λ (t : Twin). c.args.model < length t.now.models) (sym c.self.view_is) c.requires.model)
 
 pub clear-requires : goal.clear-requires
 clear-requires c =
     let w = c.self.inside in
-    let h = within-table w.table w.flags.items c.args.model c.self.invariant.many (subst (λ (t : Twin). c.args.model < length t.now.models) (sym c.self.view_is) c.requires.model) in
-    subst (λ n. c.args.model < n) (c.self.invariant.many ∙ ap length (sym c.as_mut_slice.ensures.value)) h
+    let h = within-table w.table w.flags.items c.args.model c.self.invariant.sound.many (subst (λ (t : Twin). c.args.model < length t.now.models) (sym c.self.view_is) c.requires.model) in
+    subst (λ n. c.args.model < n) (c.self.invariant.sound.many ∙ ap length (sym c.as_mut_slice.ensures.value)) h
 
 pub invariant_of-self-2 : goal.invariant_of-self-2
 invariant_of-self-2 c =
     let w = c.self.inside in
     let d = c.settle_texts.new.draft in
-    let h = within-table w.table w.flags.items c.args.model c.self.invariant.many (subst (λ (t : Twin). c.args.model < length t.now.models) (sym c.self.view_is) c.requires.model) in
+    let h = within-table w.table w.flags.items c.args.model c.self.invariant.sound.many (subst (λ (t : Twin). c.args.model < length t.now.models) (sym c.self.view_is) c.requires.model) in
     let gs = slice_set w.flags.items c.args.model (without Recalculate (get_or w.flags.items c.args.model none_due)) in
     let cleared : c.clear.new.flags ≡ gs = c.clear.ensures ∙ ap (λ fs. slice_set fs c.args.model (without Recalculate (get_or fs c.args.model none_due))) c.as_mut_slice.ensures.value in
     let many = flags-length w.flags.items c.args.model (without Recalculate (get_or w.flags.items c.args.model none_due)) in
     let items = with_items_is w.flags c.clear.new.flags (ap length cleared ∙ many ∙ sym w.flags.ok.0) in
-    let s = sound-draft w.loaded w.draft w.table w.flags.items w.old_flags.items w.built w.old_built c.self.invariant d c.in_ok-truths.ensures.whole c.in_ok-truths.ensures.kept in
+    let s = sound-draft w.loaded w.draft w.table w.flags.items w.old_flags.items w.built w.old_built c.self.invariant.sound d c.in_ok-truths.ensures.whole c.in_ok-truths.ensures.kept in
     let k = recalculated c.in_ok-truths.truths (kept_at w.table c.args.model) in
     let t = sound-kept w.loaded d w.table w.flags.items w.old_flags.items w.built w.old_built s c.args.model k h (record { entries = refl; asks = refl }) refl in
-    subst (λ x. IsSound w.loaded d x (with_items w.flags c.clear.new.flags).items w.old_flags.items w.built w.old_built) (sym c.recalculated.ensures)
-    (sound-flags w.loaded d (with_kept w.table c.args.model k) w.flags.items w.old_flags.items w.built w.old_built t _ (ap length (items ∙ cleared) ∙ many))
+    record {
+      sound = subst (λ x. IsSound w.loaded d x (with_items w.flags c.clear.new.flags).items w.old_flags.items w.built w.old_built) (sym c.recalculated.ensures)
+          (sound-flags w.loaded d (with_kept w.table c.args.model k) w.flags.items w.old_flags.items w.built w.old_built t _ (ap length (items ∙ cleared) ∙ many));
+      now = subst (λ x. Knows w.loaded d.now x (Some c.args.model)) (sym c.recalculated.ensures) (
+        subst (λ n. c.args.model < n) (sym (set-length w.table c.args.model k)) h,
+        subst (IsRemembered (scope_at w.loaded d.now c.args.model) d.now) (sym (kept-set w.table c.args.model k h)) c.in_ok-truths.ensures.known,
+      );
+      before = subst (λ x. Knows w.loaded d.kept (all_rolled_back x) w.old_known) (sym c.recalculated.ensures)
+          (subst (λ x. Knows w.loaded d.kept x w.old_known) (sym (back-same w.table c.args.model k h refl))
+          (subst (λ f. Knows w.loaded f (all_rolled_back w.table) w.old_known) (sym c.in_ok-truths.ensures.kept) c.self.invariant.before));
+    }
 
 pub returns-clause-done : goal.returns-clause-done
 returns-clause-done c =
     let w = c.self.inside in
-    let i = c.self.invariant in
+    let i = c.self.invariant.sound in
     let d = c.settle_texts.new.draft.now in
     let h = within-table w.table w.flags.items c.args.model i.many (subst (λ (t : Twin). c.args.model < length t.now.models) (sym c.self.view_is) c.requires.model) in
     let k = kept_at w.table c.args.model in
@@ -99,22 +132,23 @@ returns-clause-done c =
     let many = flags-length w.flags.items c.args.model (without Recalculate (get_or w.flags.items c.args.model none_due)) in
     let items = with_items_is w.flags c.clear.new.flags (ap length cleared ∙ many ∙ sym w.flags.ok.0) in
     let built = i.now.models c.args.model (subst (λ (t : Twin). c.args.model < t.built) (sym c.self.view_is) c.requires.built) in
-    let counted = c.in_ok-count.ensures x (record { rules = refl; asks = subst (λ f. k.asks ≡ map (asks_of x (shape_of f.nodes)) k.entries) (sym c.forest.ensures) built.asks }) in
+    let marked = c.in_ok-marks.ensures x (record { rules = refl; asks = subst (λ f. k.asks ≡ map (asks_of x (shape_of f.nodes)) k.entries) (sym c.forest-forest.ensures) built.asks }) in
+    let counted = c.pertinent_count-count.ensures x (shape_of c.forest-forest.result.now.forest.nodes) k.entries (changes_in k) marked in
     let made : c.next_number.result - c.next_number-before.result ≡ length (calculates k.entries) =
-    ap (λ n. n - c.next_number-before.result) (c.next_number.ensures ∙ ap (λ f. f.next) c.forest-3.ensures) ∙ ap (λ n. d.next - n) (c.next_number-before.ensures ∙ ap (λ f. f.next) c.forest-2.ensures)
+    ap (λ n. n - c.next_number-before.result) (c.next_number.ensures ∙ ap (λ f. f.next) c.forest-2.ensures) ∙ ap (λ n. d.next - n) (c.next_number-before.ensures ∙ ap (λ f. f.next) c.forest.ensures)
     ∙ made-is x k.entries w.draft.now d c.in_ok-truths.truths settled in
     ap (λ (t : Twin). machine.recalculate profile c.args.model (state_of t.now)) (sym c.self.view_is)
-    ∙ recalculate-done w.loaded i.loaded w.draft.now c.args.model w.table w.flags.items w.controls w.tally i.many h d c.in_ok-truths.truths settled c.in_ok-count.count
-    (counted ∙ ap (λ f. pertinent_count x (shape_of f.nodes) k.entries (changes_in k)) c.forest.ensures)
+    ∙ recalculate-done w.loaded i.loaded w.draft.now c.args.model w.table w.flags.items w.controls w.tally i.many h d c.in_ok-truths.truths settled c.pertinent_count-count.result
+    (counted ∙ ap (λ f. pertinent_count x (shape_of f.nodes) k.entries (changes_in k)) c.forest-forest.ensures)
     (ap (λ n. nat_lt (2 ^ 32) (w.tally.made + n)) (sym made) ∙ c.in_ok-self-inside.ensures.1)
-    ∙ ap (λ t. Ok (state_of (standing_of w.loaded d t gs w.controls (with_more (length (calculates k.entries)) c.in_ok-count.count w.tally)))) (sym c.recalculated.ensures)
-    ∙ ap (λ fs. Ok (state_of (standing_of w.loaded d c.recalculated.new.self fs w.controls (with_more (length (calculates k.entries)) c.in_ok-count.count w.tally)))) (sym (items ∙ cleared))
-    ∙ ap (λ u. Ok (state_of (standing_of w.loaded d c.recalculated.new.self (with_items w.flags c.clear.new.flags).items w.controls u))) (ap (λ n. with_more n c.in_ok-count.count w.tally) (sym made) ∙ sym c.in_ok-self-inside.ensures.0)
+    ∙ ap (λ t. Ok (state_of (standing_of w.loaded d t gs w.controls (with_more (length (calculates k.entries)) c.pertinent_count-count.result w.tally)))) (sym c.recalculated.ensures)
+    ∙ ap (λ fs. Ok (state_of (standing_of w.loaded d c.recalculated.new.self fs w.controls (with_more (length (calculates k.entries)) c.pertinent_count-count.result w.tally)))) (sym (items ∙ cleared))
+    ∙ ap (λ u. Ok (state_of (standing_of w.loaded d c.recalculated.new.self (with_items w.flags c.clear.new.flags).items w.controls u))) (ap (λ n. with_more n c.pertinent_count-count.result w.tally) (sym made) ∙ sym c.in_ok-self-inside.ensures.0)
 
 pub returns-clause-kept : goal.returns-clause-kept
 returns-clause-kept c =
     let w = c.self.inside in
-    let h = within-table w.table w.flags.items c.args.model c.self.invariant.many (subst (λ (t : Twin). c.args.model < length t.now.models) (sym c.self.view_is) c.requires.model) in
+    let h = within-table w.table w.flags.items c.args.model c.self.invariant.sound.many (subst (λ (t : Twin). c.args.model < length t.now.models) (sym c.self.view_is) c.requires.model) in
     let k = recalculated c.in_ok-truths.truths (kept_at w.table c.args.model) in
     let table : all_rolled_back c.recalculated.new.self ≡ all_rolled_back w.table = ap all_rolled_back c.recalculated.ensures ∙ back-same w.table c.args.model k h refl in
     ap (λ f. record { standing = standing_of w.loaded f (all_rolled_back c.recalculated.new.self) w.old_flags.items (kept_or w.controls w.old_controls) w.old_tally; built = w.old_built }) c.in_ok-truths.ensures.kept
@@ -130,6 +164,6 @@ returns-clause-models c =
     let items = with_items_is w.flags c.clear.new.flags (ap length cleared ∙ many ∙ sym w.flags.ok.0) in
     let k = recalculated c.in_ok-truths.truths (kept_at w.table c.args.model) in
     let table : length c.recalculated.new.self ≡ length w.table = ap length c.recalculated.ensures ∙ set-length w.table c.args.model k in
-    models-length c.recalculated.new.self _ (table ∙ c.self.invariant.many ∙ sym (ap length (items ∙ cleared) ∙ many))
-    ∙ ap length (items ∙ cleared) ∙ many ∙ sym (models-length w.table w.flags.items c.self.invariant.many)
+    models-length c.recalculated.new.self _ (table ∙ c.self.invariant.sound.many ∙ sym (ap length (items ∙ cleared) ∙ many))
+    ∙ ap length (items ∙ cleared) ∙ many ∙ sym (models-length w.table w.flags.items c.self.invariant.sound.many)
     ∙ ap (λ (x : Twin). length x.now.models) c.self.view_is

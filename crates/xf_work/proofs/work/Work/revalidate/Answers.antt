@@ -11,9 +11,11 @@ use Rattle.xf_valid.specs.Invalid.{revalidated}
 use Rattle.xf_work.specs.declared.flags.Flag.TheVariants.{Revalidate}
 use Rattle.xf_work.specs.Does.{Twin, profile}
 use Rattle.xf_work.specs.Flags.{none_due, without}
+use Rattle.xf_work.specs.Known.{Knows}
 use Rattle.xf_work.specs.Parts.{IsSound, kept_or, standing_of}
 use Rattle.xf_work.specs.Standing.{state_of}
 use Rattle.xf_work.proofs.MarkLaws.{revalidate-done}
+use Rattle.xf_work.proofs.KnownLaws.{keeps-set, knows-marks}
 use Rattle.xf_work.proofs.Models.{back-same, flags-length, models-length, set-length}
 use Rattle.xf_work.proofs.SoundLaws.{sound-flags, sound-kept, within-table}
 use Rattle.xf_work.proofs.work.Work.revalidate.Goals as goal
@@ -21,18 +23,18 @@ use Rattle.xf_work.proofs.work.Work.revalidate.Goals as goal
 pub revalidate-requires : goal.revalidate-requires
 revalidate-requires c =
     let w = c.self.inside in
-    within-table w.table w.flags.items c.args.model c.self.invariant.many (subst (λ (t : Twin). c.args.model < length t.now.models) (sym c.self.view_is) c.requires.model)
+    within-table w.table w.flags.items c.args.model c.self.invariant.sound.many (subst (λ (t : Twin). c.args.model < length t.now.models) (sym c.self.view_is) c.requires.model)
 
 pub clear-requires : goal.clear-requires
 clear-requires c =
     let w = c.self.inside in
-    let h = within-table w.table w.flags.items c.args.model c.self.invariant.many (subst (λ (t : Twin). c.args.model < length t.now.models) (sym c.self.view_is) c.requires.model) in
-    subst (λ n. c.args.model < n) (c.self.invariant.many ∙ ap length (sym c.as_mut_slice.ensures.value)) h
+    let h = within-table w.table w.flags.items c.args.model c.self.invariant.sound.many (subst (λ (t : Twin). c.args.model < length t.now.models) (sym c.self.view_is) c.requires.model) in
+    subst (λ n. c.args.model < n) (c.self.invariant.sound.many ∙ ap length (sym c.as_mut_slice.ensures.value)) h
 
 pub invariant_of-self-2 : goal.invariant_of-self-2
 invariant_of-self-2 c =
     let w = c.self.inside in
-    let h = within-table w.table w.flags.items c.args.model c.self.invariant.many (subst (λ (t : Twin). c.args.model < length t.now.models) (sym c.self.view_is) c.requires.model) in
+    let h = within-table w.table w.flags.items c.args.model c.self.invariant.sound.many (subst (λ (t : Twin). c.args.model < length t.now.models) (sym c.self.view_is) c.requires.model) in
     let x = scope profile (state_of (standing_of w.loaded w.draft.now w.table w.flags.items w.controls w.tally)) c.args.model in
     let k = revalidated x w.loaded.form.tables.instances w.draft.now.nodes (kept_at w.table c.args.model) in
     let table : c.revalidate.new.table ≡ with_kept w.table c.args.model k =
@@ -41,14 +43,20 @@ invariant_of-self-2 c =
     let cleared : c.clear.new.flags ≡ slice_set w.flags.items c.args.model (without Revalidate (get_or w.flags.items c.args.model none_due)) =
     c.clear.ensures ∙ ap (λ fs. slice_set fs c.args.model (without Revalidate (get_or fs c.args.model none_due))) c.as_mut_slice.ensures.value in
     let items = with_items_is w.flags c.clear.new.flags (ap length cleared ∙ many ∙ sym w.flags.ok.0) in
-    let s = sound-kept w.loaded w.draft w.table w.flags.items w.old_flags.items w.built w.old_built c.self.invariant c.args.model k h (record { entries = refl; asks = refl }) refl in
-    subst (λ t. IsSound w.loaded w.draft t (with_items w.flags c.clear.new.flags).items w.old_flags.items w.built w.old_built) (sym table)
-    (sound-flags w.loaded w.draft (with_kept w.table c.args.model k) w.flags.items w.old_flags.items w.built w.old_built s (with_items w.flags c.clear.new.flags).items (ap length (items ∙ cleared) ∙ many))
+    let s = sound-kept w.loaded w.draft w.table w.flags.items w.old_flags.items w.built w.old_built c.self.invariant.sound c.args.model k h (record { entries = refl; asks = refl }) refl in
+    record {
+      sound = subst (λ t. IsSound w.loaded w.draft t (with_items w.flags c.clear.new.flags).items w.old_flags.items w.built w.old_built) (sym table)
+          (sound-flags w.loaded w.draft (with_kept w.table c.args.model k) w.flags.items w.old_flags.items w.built w.old_built s (with_items w.flags c.clear.new.flags).items (ap length (items ∙ cleared) ∙ many));
+      now = subst (λ t. Knows w.loaded w.draft.now t w.known) (sym table)
+          (knows-marks w.loaded w.draft.now w.table (with_kept w.table c.args.model k) w.known (set-length w.table c.args.model k) (keeps-set w.table c.args.model k h (record { stood = refl; texts = refl; lists = refl })) c.self.invariant.now);
+      before = subst (λ t. Knows w.loaded w.draft.kept (all_rolled_back t) w.old_known) (sym table)
+          (subst (λ t. Knows w.loaded w.draft.kept t w.old_known) (sym (back-same w.table c.args.model k h refl)) c.self.invariant.before);
+    }
 
 pub returns-clause-done : goal.returns-clause-done
 returns-clause-done c =
     let w = c.self.inside in
-    let h = within-table w.table w.flags.items c.args.model c.self.invariant.many (subst (λ (t : Twin). c.args.model < length t.now.models) (sym c.self.view_is) c.requires.model) in
+    let h = within-table w.table w.flags.items c.args.model c.self.invariant.sound.many (subst (λ (t : Twin). c.args.model < length t.now.models) (sym c.self.view_is) c.requires.model) in
     let x = scope profile (state_of (standing_of w.loaded w.draft.now w.table w.flags.items w.controls w.tally)) c.args.model in
     let table : c.revalidate.new.table ≡ with_kept w.table c.args.model (revalidated x w.loaded.form.tables.instances w.draft.now.nodes (kept_at w.table c.args.model)) =
     c.in_ok-revalidate.ensures.ok called x.given ∙ ap (λ (f : Forest). with_kept w.table c.args.model (revalidated x w.loaded.form.tables.instances f.nodes (kept_at w.table c.args.model))) c.forest-forest.ensures in
@@ -57,13 +65,13 @@ returns-clause-done c =
     c.clear.ensures ∙ ap (λ fs. slice_set fs c.args.model (without Revalidate (get_or fs c.args.model none_due))) c.as_mut_slice.ensures.value in
     let items = with_items_is w.flags c.clear.new.flags (ap length cleared ∙ many ∙ sym w.flags.ok.0) in
     ap (λ (t : Twin). Ok (machine.revalidate profile c.args.model (state_of t.now))) (sym c.self.view_is)
-    ∙ ap Ok (revalidate-done w.loaded w.draft.now c.args.model w.table w.flags.items w.controls w.tally c.self.invariant.many (subst (λ n. c.args.model < n) c.self.invariant.many h) c.revalidate.new.table table)
+    ∙ ap Ok (revalidate-done w.loaded w.draft.now c.args.model w.table w.flags.items w.controls w.tally c.self.invariant.sound.many (subst (λ n. c.args.model < n) c.self.invariant.sound.many h) c.revalidate.new.table table)
     ∙ ap (λ fs. Ok (state_of (standing_of w.loaded w.draft.now c.revalidate.new.table fs w.controls w.tally))) (sym (items ∙ cleared))
 
 pub returns-clause-kept : goal.returns-clause-kept
 returns-clause-kept c =
     let w = c.self.inside in
-    let h = within-table w.table w.flags.items c.args.model c.self.invariant.many (subst (λ (t : Twin). c.args.model < length t.now.models) (sym c.self.view_is) c.requires.model) in
+    let h = within-table w.table w.flags.items c.args.model c.self.invariant.sound.many (subst (λ (t : Twin). c.args.model < length t.now.models) (sym c.self.view_is) c.requires.model) in
     let x = scope profile (state_of (standing_of w.loaded w.draft.now w.table w.flags.items w.controls w.tally)) c.args.model in
     let k = revalidated x w.loaded.form.tables.instances c.forest-forest.result.now.forest.nodes (kept_at w.table c.args.model) in
     let table : all_rolled_back c.revalidate.new.table ≡ all_rolled_back w.table = ap all_rolled_back (c.in_ok-revalidate.ensures.ok called x.given) ∙ back-same w.table c.args.model k h refl in
@@ -80,6 +88,6 @@ returns-clause-models c =
     c.clear.ensures ∙ ap (λ fs. slice_set fs c.args.model (without Revalidate (get_or fs c.args.model none_due))) c.as_mut_slice.ensures.value in
     let items = with_items_is w.flags c.clear.new.flags (ap length cleared ∙ many ∙ sym w.flags.ok.0) in
     let table : length c.revalidate.new.table ≡ length w.table = ap length (c.in_ok-revalidate.ensures.ok called x.given) ∙ set-length w.table c.args.model k in
-    models-length c.revalidate.new.table (with_items w.flags c.clear.new.flags).items (table ∙ c.self.invariant.many ∙ sym (ap length (items ∙ cleared) ∙ many))
-    ∙ ap length (items ∙ cleared) ∙ many ∙ sym (models-length w.table w.flags.items c.self.invariant.many)
+    models-length c.revalidate.new.table (with_items w.flags c.clear.new.flags).items (table ∙ c.self.invariant.sound.many ∙ sym (ap length (items ∙ cleared) ∙ many))
+    ∙ ap length (items ∙ cleared) ∙ many ∙ sym (models-length w.table w.flags.items c.self.invariant.sound.many)
     ∙ ap (λ (t : Twin). length t.now.models) c.self.view_is

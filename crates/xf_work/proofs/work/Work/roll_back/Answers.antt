@@ -3,16 +3,22 @@ use Rattle.std.proofs.lemmas.List.{with_items_is}
 use Rattle.xf_binds.specs.Table.{all_rolled_back}
 use Rattle.xf_work.specs.Does.{Twin}
 use Rattle.xf_work.specs.Parts.{kept_or, standing_of}
+use Rattle.xf_work.proofs.KnownEnds.{back-known}
 use Rattle.xf_work.proofs.EndLaws.{back-sound, back-kept}
 use Rattle.xf_work.proofs.work.Work.roll_back.Goals as goal
 
 pub invariant_of-self : goal.invariant_of-self
 invariant_of-self c =
     let w = c.self.inside in
-    let i = c.self.invariant in
+    let i = c.self.invariant.sound in
     let flags : c.copy.new.to ≡ w.old_flags.items = c.copy.ensures ∙ c.as_slice.ensures.value in
     let items = with_items_is w.flags c.copy.new.to (ap length flags ∙ i.kept ∙ sym w.flags.ok.0) in
-    back-sound w.loaded w.draft w.table w.flags.items w.old_flags.items w.built w.old_built i c.roll_back.new.self c.roll_back-2.new.self _ c.roll_back.ensures c.roll_back-2.ensures (items ∙ flags)
+    let known = back-known w.loaded w.draft w.table w.old_known c.self.invariant.before c.roll_back.new.self c.roll_back-2.new.self c.roll_back.ensures c.roll_back-2.ensures in
+    record {
+      sound = back-sound w.loaded w.draft w.table w.flags.items w.old_flags.items w.built w.old_built i c.roll_back.new.self c.roll_back-2.new.self _ c.roll_back.ensures c.roll_back-2.ensures (items ∙ flags);
+      now = known.0;
+      before = known.1;
+    }
 
 pub returns-clause-kept : goal.returns-clause-kept
 returns-clause-kept c =

@@ -7,6 +7,7 @@ use Rattle.xf_doc.specs.declared.content.Kind.TheVariants.{Attribute, Element}
 use Rattle.xf_doc.specs.declared.node.NodeId.{NodeId}
 use Rattle.xf_doc.specs.Forest.{Forest}
 use Rattle.xf_doc.specs.Needs.{IsSettable}
+use Rattle.xf_doc.specs.Settle.{has_text}
 use Rattle.xf_doc.specs.Texts.{new_texts, with_text}
 use Rattle.xf_doc.specs.Visit.{visits}
 use Rattle.xf_doc.specs.WellFormed.{HasTrees}
@@ -17,9 +18,11 @@ use Rattle.xf_binds.specs.Table.{all_rolled_back}
 use Rattle.xf_undo.specs.Draft.{Draft}
 use Rattle.xf_work.specs.Does.{Does, Twin, profile}
 use Rattle.xf_work.specs.Grown.{with_more}
+use Rattle.xf_work.specs.Known.{Knows}
 use Rattle.xf_work.specs.Parts.{IsSound, kept_or, standing_of}
 use Rattle.xf_work.specs.Setting.{MayBeSet, due, holder_of, is_other, marked}
 use Rattle.xf_work.specs.Standing.{state_of}
+use Rattle.xf_work.proofs.SetKnown.{knows-text}
 use Rattle.xf_work.proofs.MarkedLaws.{due-length, marked-back, marked-length, sound-marked, text-whole}
 use Rattle.xf_work.proofs.Models.{models-length}
 use Rattle.xf_work.proofs.SetLaws.{grown-refused, limit-refused, may-refused, set-done}
@@ -39,7 +42,7 @@ sound c =
     let is = c.in_ok-made.ensures.done.0 in
     let before : HasTrees w.draft.now = subst HasTrees c.forest-forest.ensures (in_forest c.are_trees.ensures) in
     let after : HasTrees d.now = subst HasTrees c.forest.ensures (in_forest c.are_trees-2.ensures) in
-    sound-draft w.loaded w.draft w.table w.flags.items w.old_flags.items w.built w.old_built c.self.invariant d
+    sound-draft w.loaded w.draft w.table w.flags.items w.old_flags.items w.built w.old_built c.self.invariant.sound d
     (text-whole w.loaded w.draft d c.in-Some.node.number c.args.text.now before after (settable (goal.at.After-are_trees-2 c).In_ok-may_set) is)
     (ap (λ (x : Draft). x.kept) is)
 
@@ -53,7 +56,7 @@ returns-in_err-may_set-clause-done c =
     let p = err_from_is_err_and c.from_residual.result c.from_residual.ensures.1 in
     rw (p.1, p.2) (subst (λ o. Does {X = Unit {0}} (Err told) c.args.self.now.now (bound_set profile c.args.text.now (option_map (λ (m : NodeId). m.number) o) (state_of c.args.self.now.now))) (sym c.in-Some.is)
     (subst (λ (t : Twin). Does {X = Unit {0}} (Err told) c.args.self.now.now (bound_set profile c.args.text.now (Some n) (state_of t.now))) c.self.view_is
-    (may-refused w.loaded w.draft.now w.table w.flags.items w.controls w.tally c.self.invariant.many c.args.text.now n told here c.args.self.now.now)))
+    (may-refused w.loaded w.draft.now w.table w.flags.items w.controls w.tally c.self.invariant.sound.many c.args.text.now n told here c.args.self.now.now)))
 
 pub holder-requires : goal.holder-requires
 holder-requires c =
@@ -77,10 +80,16 @@ returns-in_err-made-clause-done c =
     let p = err_from_is_err_and c.from_residual-in_err-made.result c.from_residual-in_err-made.ensures.1 in
     rw (p.1, p.2) (subst (λ o. Does {X = Unit {0}} (Err told) after (bound_set profile c.args.text.now (option_map (λ (m : NodeId). m.number) o) (state_of c.args.self.now.now))) (sym c.in-Some.is)
     (subst (λ (t : Twin). Does {X = Unit {0}} (Err told) after (bound_set profile c.args.text.now (Some n) (state_of t.now))) c.self.view_is
-    (limit-refused w.loaded w.draft.now w.table w.flags.items w.controls w.tally c.self.invariant.many c.args.text.now n able.childless told c.in_err-made.ensures.done after)))
+    (limit-refused w.loaded w.draft.now w.table w.flags.items w.controls w.tally c.self.invariant.sound.many c.args.text.now n able.childless told c.in_err-made.ensures.done after)))
 
 pub invariant_of-self-in_err-self-inside : goal.invariant_of-self-in_err-self-inside
-invariant_of-self-in_err-self-inside c = sound (goal.at.invariant_of-self-in_err-self-inside c).After-are_trees-2
+invariant_of-self-in_err-self-inside c =
+    let w = c.self.inside in
+    record {
+      sound = sound (goal.at.invariant_of-self-in_err-self-inside c).After-are_trees-2;
+      now = tt;
+      before = subst (λ f. Knows w.loaded f (all_rolled_back w.table) w.old_known) (sym (ap (λ (x : Draft). x.kept) c.in_ok-made.ensures.done.0)) c.self.invariant.before;
+    }
 
 pub returns-in_err-self-inside-clause-done : goal.returns-in_err-self-inside-clause-done
 returns-in_err-self-inside-clause-done c =
@@ -93,15 +102,20 @@ returns-in_err-self-inside-clause-done c =
     let p = err_from_is_err_and c.from_residual-in_err-self-inside.result c.from_residual-in_err-self-inside.ensures.1 in
     rw (p.1, p.2) (subst (λ o. Does {X = Unit {0}} (Err told) after (bound_set profile c.args.text.now (option_map (λ (m : NodeId). m.number) o) (state_of c.args.self.now.now))) (sym c.in-Some.is)
     (subst (λ (t : Twin). Does {X = Unit {0}} (Err told) after (bound_set profile c.args.text.now (Some n) (state_of t.now))) c.self.view_is
-    (grown-refused w.loaded w.draft.now w.table w.flags.items w.controls w.tally c.self.invariant.many c.args.text.now n able.childless set.2 told c.in_ok-made.made set.1 c.in_err-self-inside.ensures after)))
+    (grown-refused w.loaded w.draft.now w.table w.flags.items w.controls w.tally c.self.invariant.sound.many c.args.text.now n able.childless set.2 told c.in_ok-made.made set.1 c.in_err-self-inside.ensures after)))
 
 pub invariant_of-self-in_err-mark : goal.invariant_of-self-in_err-mark
 invariant_of-self-in_err-mark c =
     let w = c.self.inside in
     let flags : c.mark.new.flags ≡ w.flags.items = c.in_err-mark.ensures.flags ∙ c.as_mut_slice.ensures.value in
     let items = with_items_is w.flags c.mark.new.flags (ap length flags ∙ sym w.flags.ok.0) in
-    subst (λ t. IsSound w.loaded c.set_text.new.draft t (with_items w.flags c.mark.new.flags).items w.old_flags.items w.built w.old_built) (sym c.in_err-mark.ensures.table)
-    (subst (λ fs. IsSound w.loaded c.set_text.new.draft w.table fs w.old_flags.items w.built w.old_built) (sym (items ∙ flags)) (sound (goal.at.invariant_of-self-in_err-mark c).After-are_trees-2))
+    record {
+      sound = subst (λ t. IsSound w.loaded c.set_text.new.draft t (with_items w.flags c.mark.new.flags).items w.old_flags.items w.built w.old_built) (sym c.in_err-mark.ensures.table)
+          (subst (λ fs. IsSound w.loaded c.set_text.new.draft w.table fs w.old_flags.items w.built w.old_built) (sym (items ∙ flags)) (sound (goal.at.invariant_of-self-in_err-mark c).After-are_trees-2));
+      now = tt;
+      before = subst (λ t. Knows w.loaded c.set_text.new.draft.kept (all_rolled_back t) w.old_known) (sym c.in_err-mark.ensures.table)
+          (subst (λ f. Knows w.loaded f (all_rolled_back w.table) w.old_known) (sym (ap (λ (x : Draft). x.kept) c.in_ok-made.ensures.done.0)) c.self.invariant.before);
+    }
 
 pub invariant_of-self-2 : goal.invariant_of-self-2
 invariant_of-self-2 c =
@@ -112,9 +126,23 @@ invariant_of-self-2 c =
     let marks = c.in_ok-mark.ensures.ok in
     let flags : c.mark.new.flags ≡ due holder w.flags.items = marks.dues ∙ ap (due holder) c.as_mut_slice.ensures.value in
     let items = with_items_is w.flags c.mark.new.flags (ap length flags ∙ due-length holder w.flags.items ∙ sym w.flags.ok.0) in
-    subst (λ t. IsSound w.loaded c.set_text.new.draft t (with_items w.flags c.mark.new.flags).items w.old_flags.items w.built w.old_built) (sym marks.marks)
-    (subst (λ fs. IsSound w.loaded c.set_text.new.draft (marked holder other n w.table) fs w.old_flags.items w.built w.old_built) (sym (items ∙ flags))
-    (sound-marked w.loaded c.set_text.new.draft w.table w.flags.items w.old_flags.items w.built w.old_built (sound (goal.at.invariant_of-self-2 c).After-are_trees-2) holder other n))
+    let is = c.in_ok-made.ensures.done.0 in
+    let text = c.args.text.now in
+    let now : c.set_text.new.draft.now ≡ with_text n text w.draft.now = ap (λ (x : Draft). x.now) is in
+    let before : HasTrees w.draft.now = subst HasTrees c.forest-forest.ensures (in_forest c.are_trees.ensures) in
+    let after : HasTrees c.set_text.new.draft.now = subst HasTrees c.forest.ensures (in_forest c.are_trees-2.ensures) in
+    record {
+      sound = subst (λ t. IsSound w.loaded c.set_text.new.draft t (with_items w.flags c.mark.new.flags).items w.old_flags.items w.built w.old_built) (sym marks.marks)
+          (subst (λ fs. IsSound w.loaded c.set_text.new.draft (marked holder other n w.table) fs w.old_flags.items w.built w.old_built) (sym (items ∙ flags))
+          (sound-marked w.loaded c.set_text.new.draft w.table w.flags.items w.old_flags.items w.built w.old_built (sound (goal.at.invariant_of-self-2 c).After-are_trees-2) holder other n));
+      now = subst (λ t. Knows w.loaded c.set_text.new.draft.now t c.known_still-known.result) (sym marks.marks)
+          (subst (λ f. Knows w.loaded f (marked holder other n w.table) c.known_still-known.result) (sym now)
+          (knows-text w.loaded w.draft.now n text before (subst HasTrees now after) c.self.invariant.sound.now.hung c.self.invariant.sound.now.alone (settable (goal.at.invariant_of-self-2 c).In_ok-may_set) c.in_ok-made.ensures.few
+          w.table w.known holder other c.has_text-stood.result c.known_still-known.result (c.has_text-stood.ensures ∙ ap (λ (f : Forest). has_text n text f.nodes) c.forest-forest.ensures) c.known_still-known.ensures c.self.invariant.now));
+      before = subst (λ t. Knows w.loaded c.set_text.new.draft.kept (all_rolled_back t) w.old_known) (sym marks.marks)
+          (subst (λ t. Knows w.loaded c.set_text.new.draft.kept t w.old_known) (sym (marked-back holder other n w.table))
+          (subst (λ f. Knows w.loaded f (all_rolled_back w.table) w.old_known) (sym (ap (λ (x : Draft). x.kept) is)) c.self.invariant.before));
+    }
 
 pub returns-clause-done : goal.returns-clause-done
 returns-clause-done c =
@@ -136,7 +164,7 @@ returns-clause-done c =
     let told : other ≡ is_other (visits w.draft.now.nodes) n text = c.in_ok-is_other.ensures ∙ ap (λ (f : Forest). is_other (visits f.nodes) n text) c.forest-forest.ensures in
     ap (λ o. bound_set profile text (option_map (λ (m : NodeId). m.number) o) (state_of c.args.self.now.now)) c.in-Some.is
     ∙ ap (λ (t : Twin). bound_set profile text (Some n) (state_of t.now)) (sym c.self.view_is)
-    ∙ set-done w.loaded w.draft.now w.table w.flags.items w.controls w.tally c.self.invariant.many text n able.childless set.2 (ap (λ m. nat_lt (2 ^ 32) (w.tally.made + m)) (sym set.1) ∙ c.in_ok-self-inside.ensures.1)
+    ∙ set-done w.loaded w.draft.now w.table w.flags.items w.controls w.tally c.self.invariant.sound.many text n able.childless set.2 (ap (λ m. nat_lt (2 ^ 32) (w.tally.made + m)) (sym set.1) ∙ c.in_ok-self-inside.ensures.1)
     ∙ ap (λ h. Ok (state_of (standing_of w.loaded after (marked h (is_other (visits w.draft.now.nodes) n text) n w.table) (due h w.flags.items) w.controls (with_more made 0 w.tally)))) (sym held)
     ∙ ap (λ o. Ok (state_of (standing_of w.loaded after (marked holder o n w.table) (due holder w.flags.items) w.controls (with_more made 0 w.tally)))) (sym told)
     ∙ ap (λ (x : Draft). Ok (state_of (standing_of w.loaded x.now (marked holder other n w.table) (due holder w.flags.items) w.controls (with_more made 0 w.tally)))) (sym set.0)
@@ -166,6 +194,6 @@ returns-clause-models c =
     let many = due-length holder w.flags.items in
     let items = with_items_is w.flags c.mark.new.flags (ap length flags ∙ many ∙ sym w.flags.ok.0) in
     let table : length c.mark.new.table ≡ length w.table = ap length marks.marks ∙ marked-length holder other n w.table in
-    models-length c.mark.new.table (with_items w.flags c.mark.new.flags).items (table ∙ c.self.invariant.many ∙ sym (ap length (items ∙ flags) ∙ many))
-    ∙ ap length (items ∙ flags) ∙ many ∙ sym (models-length w.table w.flags.items c.self.invariant.many)
+    models-length c.mark.new.table (with_items w.flags c.mark.new.flags).items (table ∙ c.self.invariant.sound.many ∙ sym (ap length (items ∙ flags) ∙ many))
+    ∙ ap length (items ∙ flags) ∙ many ∙ sym (models-length w.table w.flags.items c.self.invariant.sound.many)
     ∙ ap (λ (x : Twin). length x.now.models) c.self.view_is

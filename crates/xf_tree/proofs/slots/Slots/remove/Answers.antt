@@ -1,0 +1,8 @@
+use Rattle.std.proofs.Common.{None, refl}
+use Rattle.xf_tree.proofs.SlotLemmas.{same-names, seen-updated}
+use Rattle.xf_tree.proofs.slots.Slots.remove.Goals as goal
+
+pub returns : goal.returns
+returns c =
+    let names = c.self.inside.names in
+    seen-updated c.self.inside.slab c.try_remove.new.self names names c.args.key None (same-names names.names) c.self.invariant c.try_remove.ensures.updates c.args.self.now None c.self.view_is refl

@@ -1,0 +1,27 @@
+use Rattle.std.proofs.Common.{option_map, refl, sym, ap, ◌∙◌, subst}
+use Rattle.std.specs.Option.{option_copied_mut}
+use Rattle.slab.specs.Slab.{get, Updates}
+use Rattle.xf_tree.specs.declared.slots.Slots.TheInside.{Inside}
+use Rattle.xf_tree.specs.Slots.{slots_of}
+use Rattle.xf_tree.specs.Texts.{owned_slot}
+use Rattle.xf_tree.proofs.SlotLemmas.{written, absent}
+use Rattle.xf_tree.proofs.slots.Slots.set_owner.Goals as goal
+use Rattle.xf_tree.proofs.slots.Slots.set_owner.Goals.{in-Some, in_default}
+
+pub returns : goal.returns
+returns c =
+    let slab = c.self.inside.slab in
+    let names = c.self.inside.names in
+    let seen = c.args.self.now in
+    let key = c.args.key in
+    let change = owned_slot c.args.owner in
+    elim c.match-get_mut.branch [
+      | in-Some w ↦
+          let is = sym (ap option_copied_mut w.in-Some.is) ∙ c.get_mut.ensures.value in
+          subst (λ (i : Inside). Updates seen (slots_of i.slab i.names) key (option_map change (get seen key))) (sym w.self-inside-is)
+          (written slab names seen key c.self.view_is change w.in-Some.entry.now _ c.self.invariant is refl)
+      | in_default w ↦
+          let is = sym (ap option_copied_mut w.in_default.is) ∙ c.get_mut.ensures.value in
+          subst (λ (i : Inside). Updates seen (slots_of i.slab i.names) key (option_map change (get seen key))) (sym w.self-inside-is)
+          (absent slab names seen key c.self.view_is change is)
+    ]

@@ -1,0 +1,42 @@
+-- What the entries of the slab stand for, by the table of names.
+use Rattle.std.specs.Prelude.{ℕ, ◌+◌, List, map, min, Option, Some, None, IsSome, option_map, slice_get}
+use Rattle.slab.specs.Slab.{Slab, get, slab_len}
+use Rattle.xf_doc.specs.declared.content.Content.{Content}
+use Rattle.xf_doc.specs.declared.content.Content.TheVariants.{Root, Element, Attribute, Text}
+use Rattle.xf_doc.specs.declared.content.Kind.{Kind}
+use Rattle.xf_doc.specs.declared.content.Kind.TheVariants as kind
+use Rattle.xf_tree.specs.declared.names.Known.{Known}
+use Rattle.xf_tree.specs.declared.slots.Entry.{Entry}
+use Rattle.xf_tree.specs.Names.{NameTable}
+use Rattle.xf_tree.specs.Slot.{Slot}
+
+-- the content of this kind, with the name that was found and a text
+abbrev pub content_by : Kind → Option Known → List ℕ → Content
+content_by kind.Root known text = Root
+content_by kind.Text known text = Text text
+content_by kind.Element None text = Root
+content_by kind.Element (Some known) text = Element known.name
+content_by kind.Attribute None text = Root
+content_by kind.Attribute (Some known) text = Attribute known.name text
+
+abbrev pub slot_of : List Known → Entry → Slot
+slot_of names e = record { number = e.number; owner = e.owner; content = content_by e.kind (slice_get names e.name) e.text }
+
+-- the slab of what the entries stand for, with room for nodes of any names
+abbrev pub slots_of : Slab Entry → NameTable → Slab Slot
+slots_of slab table = record { slots = map (option_map (slot_of table.names)) slab.slots; vacant_key = slab.vacant_key; capacity = min slab.capacity (slab_len slab + table.room) }
+
+-- an element or attribute has a name that was found
+abbrev pub HasName : Kind → Option Known → Type 0
+HasName kind.Root known = Unit {0}
+HasName kind.Text known = Unit {0}
+HasName kind.Element known = IsSome known
+HasName kind.Attribute known = IsSome known
+
+abbrev pub IsNamed : List Known → Option Entry → Type 0
+IsNamed names None = Unit {0}
+IsNamed names (Some e) = HasName e.kind (slice_get names e.name)
+
+-- the name of each element and attribute is one of the table
+abbrev pub AreNamed : Slab Entry → NameTable → Type 0
+AreNamed slab table = (key : ℕ) → IsNamed table.names (get slab key)

@@ -1,0 +1,113 @@
+//! The names of nodes, each kept once and told by a number.
+ghost use Rattle.std.specs.Prelude.{◌≡◌, ◌≤◌, ◌<◌, ◌+◌, ◌++◌, [], Some, slice_get, option_map, OnOk};
+ghost use Rattle.std.specs.Cmp.Rules.{comparing, hashing};
+ghost use Rattle.std.specs.Hash as fed;
+ghost use Rattle.std.proofs.Common.{rules};
+ghost use Rattle.xf_tree.specs.Names.{KeepsNames};
+
+use indexmap::IndexSet;
+use std::alloc::{AllocError, Global};
+use std::hash::{Hash, Hasher};
+use std::marker::Model;
+use xf_doc::Name;
+
+// A name is told by a number of 32 bits.
+const NAME_LIMIT: usize = 4294967296;
+
+/// A name in a table: its numbers, its local part and its prefix as it is written tell it from others.
+#[derive(Drop)]
+pub struct Known {
+    pub name: Name,
+}
+
+impl PartialEq for Known {
+    ghost use Rattle.xf_tree.specs.Names.{same_known};
+
+    ghost eq = { same_known };
+
+    ghost laws = { Prim.search (comparing, rules) };
+
+    fn eq(&self, other: &Known) -> bool {
+        self.name.meaning.space == other.name.meaning.space
+            && self.name.meaning.prefix == other.name.meaning.prefix
+            && self.name.meaning.local.as_str() == other.name.meaning.local.as_str()
+            && self.name.prefix.as_str() == other.name.prefix.as_str()
+    }
+}
+
+impl Eq for Known {
+    ghost laws = { Prim.search (comparing, rules) };
+}
+
+impl Hash for Known {
+    ghost hash_input = { λ k. fed.u16 k.name.meaning.space ++ fed.str k.name.meaning.local };
+
+    ghost respects_eq = { Prim.search (hashing, rules) };
+
+    fn hash<H: Hasher>(&self, state: &mut H) {
+        state.write_u16(self.name.meaning.space);
+        self.name.meaning.local.as_str().hash(state);
+    }
+}
+
+/// The names of a forest's nodes. A name that came in stays as long as the forest, also when its last node is gone: a form and
+/// its data have few different names.
+#[derive(Drop)]
+pub struct Names {
+    names: IndexSet<Known>,
+}
+
+impl Model for Names {
+    ghost use Rattle.xf_tree.specs.Names.{NameTable, room_of};
+    ghost use Rattle.indexmap.specs.IndexSet.{spare};
+
+    ghost Value = { NameTable };
+
+    ghost view = { λ n. record { names = n.names.keys; room = room_of n.names.keys (spare n.names) } };
+}
+
+impl Names {
+    /// No names. Takes no memory.
+    pub fn new(alloc: Global) -> Self
+        ensures { result.names ≡ [] }
+    {
+        Names {
+            names: IndexSet::new(alloc),
+        }
+    }
+
+    /// The name with a number.
+    pub fn get(&self, number: u32) -> Option<&Name>
+        ensures { option_map (λ name. name.now) result ≡ option_map (λ known. known.name) (slice_get self.now.names number) }
+    {
+        match self.names.get_index(number as usize) {
+            Some(known) => Some(&known.name),
+            None => None,
+        }
+    }
+
+    /// Makes room for so many names more, so that none of these needs memory.
+    pub fn reserve(&mut self, more: usize) -> Result<(), AllocError>
+        ensures names { self.new.names ≡ self.old.names }
+        ensures room { OnOk result (more ≤ self.new.room) }
+        ensures spare { self.old.room ≤ self.new.room }
+    {
+        if NAME_LIMIT.saturating_sub(self.names.len()) < more {
+            return Err(AllocError);
+        }
+        self.names.reserve(more)
+    }
+
+    /// The number of a name, which comes into the table where it is not there yet.
+    pub fn number_of(&mut self, name: Name) -> u32
+        requires { 0 < self.old.room }
+        ensures found { slice_get self.new.names result ≡ Some (record { name = name }) }
+        ensures kept { KeepsNames self.old.names self.new.names }
+        ensures room { self.old.room ≤ self.new.room + 1 }
+    {
+        match self.names.insert_full(Known { name }) {
+            Ok((at, _)) => at as u32,
+            Err(_) => unreachable!(),
+        }
+    }
+}

@@ -1,0 +1,235 @@
+//! What each node is, under a key that it keeps for life.
+ghost use Rattle.std.specs.Prelude.{◌≡◌, ℕ, ◌≤◌, ◌+◌, true, [], None, Some, option_map, OnOk};
+ghost use Rattle.slab.specs.Slab.{get, slab_len, Updates, HasRoomFor};
+ghost use Rattle.xf_doc.specs.Forest.{is_attribute, is_text, kind_of, name_in, own_text};
+ghost use Rattle.xf_doc.specs.StringValue.{characters};
+ghost use Rattle.xf_tree.specs.Seen.{seen_content};
+ghost use Rattle.xf_tree.specs.Texts.{valued_slot, owned_slot};
+ghost use Rattle.xf_tree.specs.Tree.{number_in, content_in};
+
+use crate::names::Names;
+use crate::seen::Seen;
+use slab::Slab;
+use std::alloc::{AllocError, Global};
+use std::marker::Model;
+use std::mem;
+use xf_doc::{Content, Kind, Name};
+use xf_name::Word;
+
+/// A node or a kept text, with the number of its name. What has no name or no text of its own has 0 or an empty one there.
+#[derive(Drop)]
+struct Entry {
+    number: u128,
+    /// Of a kept text, the number of the element that it was taken from.
+    owner: u128,
+    text: Word,
+    name: u32,
+    kind: Kind,
+}
+
+/// Nodes and kept texts by their keys. A name that many nodes have stands once.
+#[derive(Drop)]
+pub struct Slots {
+    alloc: Global,
+    slab: Slab<Entry>,
+    names: Names,
+}
+
+impl Model for Slots {
+    ghost use Rattle.slab.specs.Slab.{Slab};
+    ghost use Rattle.xf_tree.specs.Slot.{Slot};
+
+    ghost Value = { Slab Slot };
+
+    ghost use Rattle.xf_tree.specs.Slots.{slots_of, AreNamed};
+
+    ghost view = { λ s. slots_of s.slab s.names };
+
+    ghost invariant = { λ s. AreNamed s.slab s.names };
+}
+
+impl Slots {
+    /// No nodes. Takes no memory.
+    pub fn new(alloc: Global) -> Self
+        ensures { result.slots ≡ [] }
+    {
+        Slots {
+            alloc,
+            slab: Slab::new(alloc),
+            names: Names::new(alloc),
+        }
+    }
+
+    pub fn number(&self, key: usize) -> u128
+        ensures { result ≡ number_in (get self.now key) }
+    {
+        match self.slab.get(key) {
+            Some(entry) => entry.number,
+            None => 0,
+        }
+    }
+
+    /// The kind of what is under a key: a root where nothing is.
+    pub fn kind(&self, key: usize) -> Kind
+        ensures { result ≡ kind_of (content_in (get self.now key)) }
+    {
+        match self.slab.get(key) {
+            Some(entry) => entry.kind,
+            None => Kind::Root,
+        }
+    }
+
+    /// The text that a node has itself: an attribute's value, or the characters of a text.
+    pub fn own(&self, key: usize) -> &str
+        ensures { result.now ≡ own_text (content_in (get self.now key)) }
+    {
+        match self.slab.get(key) {
+            Some(entry) => match entry.kind {
+                Kind::Attribute => entry.text.as_str(),
+                Kind::Text => entry.text.as_str(),
+                _ => "",
+            },
+            None => "",
+        }
+    }
+
+    /// What a node adds to the string value of a node above it.
+    pub fn below(&self, key: usize) -> &str
+        ensures { result.now ≡ characters (content_in (get self.now key)) }
+    {
+        match self.slab.get(key) {
+            Some(entry) => match entry.kind {
+                Kind::Text => entry.text.as_str(),
+                _ => "",
+            },
+            None => "",
+        }
+    }
+
+    /// The name of an element or attribute.
+    pub fn name(&self, key: usize) -> Option<&Name>
+        ensures { option_map (λ name. name.now) result ≡ name_in (content_in (get self.now key)) }
+    {
+        match self.slab.get(key) {
+            Some(entry) => match entry.kind {
+                Kind::Element => self.names.get(entry.name),
+                Kind::Attribute => self.names.get(entry.name),
+                _ => None,
+            },
+            None => None,
+        }
+    }
+
+    /// What is under a key, where there is something.
+    pub fn seen(&self, key: usize) -> Option<Seen<'_>>
+        ensures { option_map seen_content result ≡ option_map (λ slot. slot.content) (get self.now key) }
+    {
+        match self.slab.get(key) {
+            Some(entry) => match entry.kind {
+                Kind::Root => Some(Seen::Root),
+                Kind::Text => Some(Seen::Text(entry.text.as_str())),
+                Kind::Element => match self.names.get(entry.name) {
+                    Some(name) => Some(Seen::Element(name)),
+                    None => unreachable!(),
+                },
+                Kind::Attribute => match self.names.get(entry.name) {
+                    Some(name) => Some(Seen::Attribute(name, entry.text.as_str())),
+                    None => unreachable!(),
+                },
+            },
+            None => None,
+        }
+    }
+
+    /// The key that the next node takes.
+    pub fn vacant_key(&self) -> usize
+        ensures value { result ≡ self.now.vacant_key }
+        ensures vacant { get self.now result ≡ None }
+    {
+        self.slab.vacant_key()
+    }
+
+    /// Makes room for so many nodes more, whatever their names.
+    pub fn reserve(&mut self, more: usize) -> Result<(), AllocError>
+        ensures room { OnOk result (HasRoomFor self.new more) }
+        ensures same { (key : ℕ) → get self.new key ≡ get self.old key }
+        ensures vacant { self.new.vacant_key ≡ self.old.vacant_key }
+    {
+        self.slab.reserve(more)?;
+        self.names.reserve(more)
+    }
+
+    /// Puts a node under the next key, which is answered.
+    pub fn insert(&mut self, number: u128, content: Content) -> usize
+        requires { HasRoomFor self.old 1 }
+        ensures key { result ≡ self.old.vacant_key }
+        ensures vacant { get self.old result ≡ None }
+        ensures slot { Updates self.old self.new result (Some (record { number = number; owner = 0; content = content })) }
+        ensures count { slab_len self.new ≡ slab_len self.old + 1 }
+        ensures room { self.old.capacity ≤ self.new.capacity }
+    {
+        match content {
+            Content::Root => {
+                let text = Word::new(self.alloc);
+                self.slab
+                    .insert_reserved(new_entry(number, Kind::Root, 0, text))
+            }
+            Content::Text(text) => self
+                .slab
+                .insert_reserved(new_entry(number, Kind::Text, 0, text)),
+            Content::Element(name) => {
+                let name = self.names.number_of(name);
+                let text = Word::new(self.alloc);
+                self.slab
+                    .insert_reserved(new_entry(number, Kind::Element, name, text))
+            }
+            Content::Attribute(name, text) => {
+                let name = self.names.number_of(name);
+                self.slab
+                    .insert_reserved(new_entry(number, Kind::Attribute, name, text))
+            }
+        }
+    }
+
+    /// Takes out what is under a key.
+    pub fn remove(&mut self, key: usize)
+        ensures { Updates self.old self.new key None }
+    {
+        let _ = self.slab.try_remove(key);
+    }
+
+    /// Gives an attribute another text. The answer is the one that it had.
+    pub fn replace_value(&mut self, key: usize, text: Word) -> Word
+        ensures slot { Updates self.old self.new key (option_map (valued_slot text) (get self.old key)) }
+        ensures answer { is_attribute (content_in (get self.old key)) ≡ true → result ≡ own_text (content_in (get self.old key)) }
+    {
+        match self.slab.get_mut(key) {
+            Some(entry) => match entry.kind {
+                Kind::Attribute => mem::replace(&mut entry.text, text),
+                _ => text,
+            },
+            None => text,
+        }
+    }
+
+    /// Notes whose text a kept text was.
+    pub fn set_owner(&mut self, key: usize, owner: u128)
+        ensures { Updates self.old self.new key (option_map (owned_slot owner) (get self.old key)) }
+    {
+        if let Some(entry) = self.slab.get_mut(key) {
+            entry.owner = owner;
+        }
+    }
+}
+
+fn new_entry(number: u128, kind: Kind, name: u32, text: Word) -> Entry
+    ensures { result ≡ record { number = number; owner = 0; text = text; name = name; kind = kind } }
+{
+    Entry {
+        number,
+        owner: 0,
+        text,
+        name,
+        kind,
+    }
+}

@@ -1,0 +1,97 @@
+-- What is known of the nodes of controls over the data that were planted is known over all data of their shape.
+use Rattle.std.proofs.Common.{◌≡◌, ℕ, Bool, true, ◌&&◌, List, [], ◌∷◌, map, Option, Some, None, option_map, refl, sym, ap, ◌∙◌}
+use Rattle.xf_base.specs.Limits.{string_limit}
+use Rattle.xf_doc.specs.declared.content.Node.{Node}
+use Rattle.xf_doc.specs.declared.node.NodeId.{NodeId}
+use Rattle.xf_doc.specs.Forest.{Forest, has_number}
+use Rattle.xf_doc.specs.Shape.{erased, shape_of}
+use Rattle.xf_doc.specs.Visit.{Visit, has, visits}
+use Rattle.xf_doc.specs.WellFormed.{HasTrees}
+use Rattle.xf_doc.proofs.OrderLaws.{seen-has}
+use Rattle.xf_funcs.specs.Called.{called}
+use Rattle.xf_lang.specs.Agree.{numbers_of}
+use Rattle.xf_lang.specs.Given.{Given}
+use Rattle.xf_lang.proofs.ForestVisits.{forest-visits}
+use Rattle.xf_lang.proofs.UntextedLaws.{solid-found}
+use Rattle.xf_lang.proofs.VisitFacts.{present}
+use Rattle.xf_model.specs.Nested.{nested}
+use Rattle.xf_model.specs.Rules.{scope_of}
+use Rattle.xf_agree.specs.Hung.{are_hung}
+use Rattle.xf_agree.specs.Settles.{IsSolid}
+use Rattle.xf_agree.proofs.HungLaws.{hung_forest}
+use Rattle.xf_eval.specs.Worth.{with_six}
+use Rattle.xf_ui.specs.Around.{Around}
+use Rattle.xf_ui.specs.Copies.{node_of}
+use Rattle.xf_ui.specs.Interface.{Interface, interface_of}
+use Rattle.xf_bound_laws.specs.OneShape.{HaveOneShape}
+use Rattle.xf_bound_laws.proofs.Chains.{node_stands, node_stays}
+use Rattle.xf_controls.specs.declared.known.Known.{Known}
+use Rattle.xf_controls.specs.Known.{AreHeld, AreKnown, known_at}
+use Rattle.xf_controls.specs.Seen.{IsThere, number}
+use Rattle.xf_controls.specs.Surrounded.{around_in}
+use Rattle.xf_controls.proofs.KnownLaws.{nothing-known}
+use Rattle.xf_loader.specs.declared.loaded.Loaded.{Loaded}
+use Rattle.xf_work.specs.Around.{given_by, given_in}
+use Rattle.xf_work.specs.Held.{IsHeld, around_over, planted_shape}
+use Rattle.xf_work.proofs.Documents.{documents-same}
+use Rattle.xf_work.proofs.SolidLaws.{document-solid}
+use Rattle.xf_work.proofs.SurroundLaws.{truthful}
+
+-- ---- a node that is no text stands in the data
+
+numbers-erased : (xs : List Visit) → numbers_of (map erased xs) ≡ numbers_of xs
+numbers-erased [] = refl
+numbers-erased (x ∷ xs) = ap (λ l. x.number ∷ l) (numbers-erased xs)
+
+solid-live : (forest : Forest) (n : ℕ) → HasTrees forest → IsSolid (visits forest.nodes) n → has_number n forest.nodes ≡ true
+solid-live forest n trees s =
+    let all : List Visit = map erased (visits forest.nodes) in
+    sym (seen-has n [] forest.nodes) ∙ ap (has n) (sym (numbers-erased (visits forest.nodes))) ∙ present n all s.0 (solid-found all (forest-visits forest trees) n s.0 s.1).0
+
+-- ---- over data of one shape
+
+module _ (l : Loaded) (before after : Forest) (b : HasTrees before) (a : HasTrees after) (hung : are_hung before.nodes ≡ true) (hung_too : are_hung after.nodes ≡ true)
+    (same : shape_of after.nodes ≡ shape_of before.nodes) where
+  abbrev given : Given
+  given = with_six (given_in l.form.tables.instances l.prefixes before)
+
+  abbrev first : ℕ → Option (List ℕ)
+  first k = nested (Some string_limit) (scope_of called given l.form.tables 0) (visits before.nodes) k
+
+  abbrev second : ℕ → Option (List ℕ)
+  second k = nested (Some string_limit) (scope_of called given l.form.tables 0) (visits after.nodes) k
+
+  one : HaveOneShape called (Some string_limit) given before after
+  one = record {
+    trees = b;
+    trees_too = a;
+    hung = hung_forest before b hung;
+    hung_too = hung_forest after a hung_too;
+    shape = sym same;
+    documents = λ model id n e. document-solid before b (hung_forest before b hung) l.form.tables.instances model id n e;
+    truths = λ code ps p e f. truthful code e ps p f;
+  }
+
+  around-same : around_over l after ≡ around_in (given_in l.form.tables.instances l.prefixes before) l.form.tables after.nodes
+  around-same =
+      ap (λ ds. around_in (given_by l.form.tables.instances l.prefixes ds) l.form.tables after.nodes) (documents-same l.form.tables.instances before after b a hung hung_too same)
+
+  known-after : (known : List Known) → AreHeld (interface_of l.form) (around_over l before) known → AreKnown (interface_of l.form) (around_over l after) after.nodes known
+  known-after known h = record {
+    node = λ n k e.
+        ap (λ x. node_of (interface_of l.form) x [] n) around-same
+        ∙ sym (node_stays called (Some string_limit) given before after first second (interface_of l.form) n one (h.fixed n k e)) ∙ h.node n k e;
+    live = λ n k e. stands n k e (h.node n k e);
+  }
+    where
+      stands : (n : ℕ) (k : Option NodeId) → known_at known n ≡ Some k → node_of (interface_of l.form) (around_over l before) [] n ≡ Some (option_map number k) → IsThere k after.nodes
+      stands n None e at = refl
+      stands n (Some k) e at =
+          ap (λ c. c && true) (solid-live after k.number a (node_stands called (Some string_limit) given before after first (interface_of l.form) n k.number one (h.fixed n (Some k) e) at))
+
+pub held-over : (l : Loaded) (before : Forest) (known : List Known) → HasTrees before → are_hung before.nodes ≡ true → shape_of before.nodes ≡ planted_shape l → AreHeld (interface_of l.form) (around_over l before) known → IsHeld l known
+held-over l before known trees hung planted h = record { over = λ after a hung_too shaped. known-after l before after trees a hung hung_too (shaped ∙ sym planted) known h }
+
+-- nothing is known
+pub held-nothing : (l : Loaded) (known : List Known) → known ≡ [] → IsHeld l known
+held-nothing l known e = record { over = λ forest trees hung shaped. nothing-known (interface_of l.form) (around_over l forest) forest.nodes known e }

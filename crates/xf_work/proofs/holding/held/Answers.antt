@@ -1,0 +1,26 @@
+use Rattle.std.proofs.Common.{◌≡◌, sym, ap, ◌∙◌, subst}
+use Rattle.xf_doc.proofs.TextLaws.{in_forest}
+use Rattle.xf_ui.specs.Interface.{interface_of}
+use Rattle.xf_controls.specs.Known.{AreHeld}
+use Rattle.xf_controls.specs.Surrounded.{around_in}
+use Rattle.xf_work.specs.Around.{numbers_of}
+use Rattle.xf_work.proofs.AroundLaws.{around-stands}
+use Rattle.xf_work.proofs.FoundLaws.{given-found}
+use Rattle.xf_work.proofs.HeldLaws.{held-nothing, held-over}
+use Rattle.xf_work.proofs.holding.held.Goals as goal
+
+pub known_nodes-requires-clause-around : goal.known_nodes-requires-clause-around
+known_nodes-requires-clause-around c =
+    around-stands c.as_slice-instances.result.now c.args.loaded.now.prefixes c.args.forest.now.forest.nodes (numbers_of c.as_slice.result.now) (ap numbers_of c.as_slice.ensures.value ∙ c.in_ok-documents.ensures.all)
+
+pub returns-in-Ok : goal.returns-in-Ok
+returns-in-Ok c =
+    let l = c.args.loaded.now in
+    let forest = c.args.forest.now.forest in
+    held-over l forest c.in-Ok.known (in_forest c.are_trees.ensures) c.requires.hung c.requires.shape
+    (subst (λ g. AreHeld (interface_of l.form) (around_in g l.form.tables forest.nodes) c.in-Ok.known)
+    (given-found l.form.tables.instances c.as_slice-instances.result.now l.prefixes forest (numbers_of c.as_slice.result.now) c.as_slice-instances.ensures
+    (ap numbers_of c.as_slice.ensures.value ∙ c.in_ok-documents.ensures.all)) c.in-Ok.ensures)
+
+pub returns-in-Err-Long : goal.returns-in-Err-Long
+returns-in-Err-Long c = held-nothing c.args.loaded.now c.new.result c.new.ensures

@@ -1,0 +1,32 @@
+-- What is known of the nodes that controls bind: it is so over all data of the shape that was planted, which changes of texts leave as it is.
+use Rattle.std.specs.Prelude.{ℕ, ◌≡◌, true, List, [], Result, Ok, Err}
+use Rattle.xf_doc.specs.Forest.{Forest}
+use Rattle.xf_doc.specs.Shape.{shape_of}
+use Rattle.xf_doc.specs.Visit.{Visit}
+use Rattle.xf_doc.specs.WellFormed.{HasTrees}
+use Rattle.xf_ui.specs.Around.{Around}
+use Rattle.xf_ui.specs.Interface.{interface_of}
+use Rattle.xf_agree.specs.Hung.{are_hung}
+use Rattle.xf_controls.specs.declared.known.Known.{Known}
+use Rattle.xf_controls.specs.Known.{AreKnown}
+use Rattle.xf_controls.specs.Surrounded.{around_in}
+use Rattle.xf_form_machine.specs.Refusal.{Refused}
+use Rattle.xf_form_machine.specs.State.{State}
+use Rattle.xf_loader.specs.declared.loaded.Loaded.{Loaded}
+use Rattle.xf_work.specs.Around.{given_in}
+use Rattle.xf_work.specs.Planting.{planted_by}
+
+abbrev pub shape_by : Result State Refused → List Visit
+shape_by (Ok s) = shape_of s.forest.nodes
+shape_by (Err r) = []
+
+-- of the data of all instances, as they are planted
+unfoldable pub planted_shape : Loaded → List Visit
+planted_shape l = shape_by (planted_by l)
+
+-- what surrounds the controls of a form over data, outside an event
+abbrev pub around_over : Loaded → Forest → Around
+around_over l forest = around_in (given_in l.form.tables.instances l.prefixes forest) l.form.tables forest.nodes
+
+pub record IsHeld (l : Loaded) (known : List Known) : Type 0 where
+  pub over : (forest : Forest) → HasTrees forest → are_hung forest.nodes ≡ true → shape_of forest.nodes ≡ planted_shape l → AreKnown (interface_of l.form) (around_over l forest) forest.nodes known

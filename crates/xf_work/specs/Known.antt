@@ -1,0 +1,83 @@
+-- What is known of the last recalculation of a model (XForms 1.1, section 4.3.2 and appendix C): how the data of now stand beside those that it
+-- left, by what the table keeps of it and what was marked since. So entries that are not pertinent may be passed over in the next one.
+use Rattle.std.specs.Prelude.{ℕ, ◌≡◌, ◌<◌, ◌==◌, Bool, true, false, List, [], length, Option, Some, None, slice_get}
+use Rattle.xf_doc.specs.Forest.{Forest}
+use Rattle.xf_model.specs.Rules.{Scope}
+use Rattle.xf_model.specs.Applied.{Entry}
+use Rattle.xf_model.specs.Entries.{is_computed}
+use Rattle.xf_model.specs.Settled.{bounds}
+use Rattle.xf_model.specs.Pertinent.{AllOf}
+use Rattle.xf_agree.specs.Settles.{IsSolid}
+use Rattle.xf_marks_laws.specs.Instances.{standing}
+use Rattle.xf_marks_laws.specs.Outside.{IsOutside}
+use Rattle.xf_change_laws.specs.Carried.{Carried}
+use Rattle.xf_since_laws.specs.Since.{Before, Stood}
+use Rattle.xf_binds.specs.Kept.{Kept}
+use Rattle.xf_binds.specs.Table.{all_rolled_back, kept_at}
+use Rattle.xf_pertinent.specs.OfTable.{changes_in}
+use Rattle.xf_settle.specs.Passes.{is_passed}
+use Rattle.xf_loader.specs.declared.loaded.Loaded.{Loaded}
+use Rattle.xf_undo.specs.Draft.{Draft}
+use Rattle.xf_work.specs.declared.flags.Flags.{Flags}
+use Rattle.xf_work.specs.Built.{scope_at}
+use Rattle.xf_work.specs.Parts.{IsSound}
+
+-- the data as they were then, and what of them stands now
+pub record IsRemembered (scope : Scope) (forest : Forest) (k : Kept) : Type 0 where
+  pub f : ℕ → ℕ
+  pub taken : ℕ → Bool
+  pub was : Before
+  pub carried : Carried f taken k.texts k.lists scope was.documents forest was.forest
+  pub stood : AllOf (Stood f bounds scope was forest) was.stood
+  pub same : was.stood ≡ k.stood
+  -- no list is marked, and no text is
+  pub unlisted : k.lists ≡ []
+  pub solid : AllOf (λ n. IsSolid (standing forest) n) k.texts
+
+-- of the model that is told
+abbrev pub Knows : Loaded → Forest → List Kept → Option ℕ → Type 0
+Knows l forest table None = Unit {0}
+Knows l forest table (Some model) = (model < length table) × IsRemembered (scope_at l forest model) forest (kept_at table model)
+
+-- all that is known of what an engine works on, as it stands and as it was kept
+pub record IsFit (l : Loaded) (draft : Draft) (table : List Kept) (flags old_flags : List Flags) (built old_built : ℕ) (known old_known : Option ℕ) : Type 0 where
+  pub sound : IsSound l draft table flags old_flags built old_built
+  pub now : Knows l draft.now table known
+  pub before : Knows l draft.kept (all_rolled_back table) old_known
+
+-- ---- marks that stay
+
+pub record HasMarks (j k : Kept) : Type 0 where
+  pub stood : k.stood ≡ j.stood
+  pub texts : k.texts ≡ j.texts
+  pub lists : k.lists ≡ j.lists
+
+abbrev pub KeepsMarks : List Kept → List Kept → Type 0
+KeepsMarks before after = (model : ℕ) → HasMarks (kept_at before model) (kept_at after model)
+
+-- ---- what may be passed over
+
+-- entries that are not pertinent, where the last recalculation is known
+abbrev pub MayBePassed : Loaded → Forest → ℕ → Kept → List Bool → Type 0
+MayBePassed l forest model k marks =
+    (place : ℕ) (e : Entry) → slice_get k.entries place ≡ Some e → is_passed marks place ≡ true → is_computed e ≡ true →
+    IsRemembered (scope_at l forest model) forest k × IsOutside (scope_at l forest model) forest (changes_in k) k.entries e
+
+abbrev pub is_of : Option ℕ → ℕ → Bool
+is_of None model = false
+is_of (Some known) model = known == model
+
+-- the marks of the pertinent entries, where it is known; or else none, so that each entry is evaluated
+abbrev pub marks_if : Bool → List Bool → List Bool
+marks_if true marks = marks
+marks_if false marks = []
+
+-- a text that was set is another one, of a node in an instance of the model, where it is marked; or it stood there
+abbrev pub IsHeld : Bool → Option ℕ → Bool → ℕ → Type 0
+IsHeld true holder stood model = holder ≡ Some model
+IsHeld false holder stood model = stood ≡ true
+
+-- what is known still
+abbrev pub IsKnownStill : Option ℕ → Option ℕ → Bool → Bool → Option ℕ → Type 0
+IsKnownStill known holder other stood None = Unit {0}
+IsKnownStill known holder other stood (Some model) = (known ≡ Some model) × IsHeld other holder stood model

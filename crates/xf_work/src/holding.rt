@@ -1,0 +1,38 @@
+//! The nodes that controls bind whatever texts the data have, found once.
+
+ghost use Rattle.std.specs.Prelude.{◌≡◌, true, IfOk};
+ghost use Rattle.xf_agree.specs.Hung.{are_hung};
+ghost use Rattle.xf_doc.specs.Shape.{shape_of};
+ghost use Rattle.xf_work.specs.Held.{IsHeld, planted_shape};
+ghost use Rattle.xf_work.specs.Parts.{IsLoaded};
+
+use crate::around::{Quiet, documents};
+use crate::fault::WorkFault;
+use std::alloc::Global;
+use xf_base::Items;
+use xf_controls::{KnownList, known_nodes};
+use xf_eval::EvalFault;
+use xf_loader::Loaded;
+use xf_tree::Forest;
+
+/// The nodes of the controls of a form over the data that were planted. Where a string of these is too long, nothing is known.
+pub(crate) fn held(alloc: Global, loaded: &Loaded, forest: &Forest) -> Result<KnownList, WorkFault>
+    requires loaded { IsLoaded loaded.now }
+    requires hung { are_hung forest.now.forest.nodes ≡ true }
+    requires shape { shape_of forest.now.forest.nodes ≡ planted_shape loaded.now }
+    ensures { IfOk result (IsHeld loaded.now) }
+{
+    let instances = loaded.form.tables.instances.as_slice();
+    let documents = documents(alloc, instances, forest)?;
+    let around = Quiet {
+        instances,
+        prefixes: &loaded.prefixes,
+        documents: documents.as_slice(),
+    };
+    forest.are_trees();
+    match known_nodes(alloc, &loaded.form, forest, &around) {
+        Ok(known) => Ok(known),
+        Err(EvalFault::Long) => Ok(Items::new(alloc)),
+        Err(EvalFault::Memory) => Err(WorkFault::Memory),
+    }
+}
