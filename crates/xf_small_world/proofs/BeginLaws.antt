@@ -14,9 +14,9 @@ pub all-same : {X : Type 0} (x : X) (ns : List ℕ) → replicate (length ns) x 
 all-same x [] = refl
 all-same x (n ∷ ns) = ap (λ l. x ∷ l) (all-same x ns)
 
-pub begins : (l : Loaded) (t : Tally) {f g : Forest} {ms : List ModelState} {models : List machine.Model} {notes : List Note}
+pub begins : (l : Loaded) (t : Tally) (ms : List ModelState) {f g : Forest} {models : List machine.Model} {notes : List Note}
     → f ≡ g → models_of ms ≡ models → notes ≡ []
     → standing l f ms notes t ≡ record (standing l g ms [] t) { models = models }
-begins l t {f} {g} {ms} {models} {notes} same computed none =
+begins l t ms {f} {g} {models} {notes} same computed none =
     ap (λ (x : Forest). standing l x ms notes t) same ∙ ap (λ (x : List Note). standing l g ms x t) none
     ∙ ap (λ (x : List machine.Model). record (standing l g ms [] t) { models = x }) computed

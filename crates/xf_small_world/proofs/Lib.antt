@@ -15,3 +15,4 @@ pub mod AskLaws
 pub mod BeginLaws
 pub mod ToldLaws
 pub mod IndexLaws
+pub mod InnerLaws

@@ -13,3 +13,4 @@ pub mod Setting
 pub mod Handlers
 pub mod Telling
 pub mod Beginning
+pub mod Inner

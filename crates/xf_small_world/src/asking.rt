@@ -164,7 +164,7 @@ pub(crate) fn insert_location(
     if count == 0 {
         return one(world, focus.node);
     }
-    listed(world, set, before(held_at(count, at)))
+    listed(world, set, one_less(held_at(count, at)))
 }
 
 fn listed(world: &SmallWorld, set: &NodeList, place: usize) -> Result<NodeList, SmallFault>
@@ -176,7 +176,7 @@ fn listed(world: &SmallWorld, set: &NodeList, place: usize) -> Result<NodeList, 
     }
 }
 
-fn before(place: usize) -> usize
+fn one_less(place: usize) -> usize
     ensures { result ≡ place - 1 }
 {
     place.saturating_sub(1)

@@ -16,6 +16,7 @@ mod flagging;
 mod growing;
 mod handlers;
 mod indexing;
+mod inner;
 mod inside;
 mod model;
 mod models;
