@@ -146,7 +146,11 @@ fn told_insert(
     let mut location = NodeList::new(alloc);
     append(&mut location, &inserting.location)?;
     push_nodes(alloc, "insert-location-node", location, &mut told)?;
-    let side = if inserting.is_before { "before" } else { "after" };
+    let side = if inserting.is_before {
+        "before"
+    } else {
+        "after"
+    };
     let text = Value::Text(Word::from_str(alloc, side)?);
     push_property(alloc, "position", text, &mut told)?;
     Ok(told)

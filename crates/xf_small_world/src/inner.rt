@@ -55,12 +55,7 @@ fn actions_at(alloc: Global, form: &Form, element: u32) -> Result<ElementList, A
     Ok(all)
 }
 
-fn push_words(
-    form: &Form,
-    most: usize,
-    parts: &[Part],
-    all: &mut Word,
-) -> Result<(), AllocError>
+fn push_words(form: &Form, most: usize, parts: &[Part], all: &mut Word) -> Result<(), AllocError>
     ensures { OnOk result (all.new ≡ all.old ++ inner.words_through most (interface_of form.now) parts.now) }
 {
     if most == 0 {

@@ -75,11 +75,7 @@ pub(crate) fn entered(over: &Over<'_>, element: u32) -> Result<Inside, EvalFault
 }
 
 /// What an element and those around it, of which there are at most so many, give to what stands in it.
-fn inside_above(
-    over: &Over<'_>,
-    most: usize,
-    parent: Option<u32>,
-) -> Result<Inside, EvalFault>
+fn inside_above(over: &Over<'_>, most: usize, parent: Option<u32>) -> Result<Inside, EvalFault>
     ensures { GivesBounded EvalFault.Memory EvalFault.Long seen_inside result (context.entered (interface_of over.now.loaded.now.form) (around_over over.now) first_inside (elements_on (interface_of over.now.loaded.now.form) (reverse (above most (interface_of over.now.loaded.now.form) parent)))) }
 {
     if most == 0 {

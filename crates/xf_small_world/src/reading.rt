@@ -14,8 +14,9 @@ ghost use Rattle.xf_small_world.specs.State.{profile, state_of};
 use crate::binding::{binding_at, over_event, over_quiet};
 use crate::fault::SmallFault;
 use crate::inside::context_of;
-
-use crate::over::{alone, all_bound, first_bound, first_selected, text, value, whole as whole_value};
+use crate::over::{
+    all_bound, alone, first_bound, first_selected, text, value, whole as whole_value,
+};
 use crate::world::SmallWorld;
 use xf_actions::{Acting, Fired, Focus};
 use xf_ast::Expr;

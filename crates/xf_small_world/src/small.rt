@@ -71,9 +71,14 @@ mod tests {
     use std::test::Fail;
     use xf_loader::load;
 
-    const PLAIN: &str = "[\"f\",{\"xmlns:xf\":\"http://www.w3.org/2002/xforms\"},[\"xf:model\",[\"xf:instance\",[\"a\",[\"b\"]]]]]";
-    const BINDING: &str = "[\"f\",{\"xmlns:xf\":\"http://www.w3.org/2002/xforms\"},[\"xf:model\",[\"xf:instance\",[\"a\",[\"b\"]]],[\"xf:bind\",{\"nodeset\":\"b\",\"readonly\":\"true()\"}]]]";
-    const SHOWING: &str = "[\"f\",{\"xmlns:xf\":\"http://www.w3.org/2002/xforms\"},[\"xf:model\",[\"xf:instance\",[\"a\",[\"b\"]]]],[\"xf:input\",{\"ref\":\"b\"}]]";
+    const PLAIN: &str =
+        "[\"f\",{\"xmlns:xf\":\"http://www.w3.org/2002/xforms\"},[\"xf:model\",[\"xf:instance\",[\"a\",[\"b\"]]]]]";
+
+    const BINDING: &str =
+        "[\"f\",{\"xmlns:xf\":\"http://www.w3.org/2002/xforms\"},[\"xf:model\",[\"xf:instance\",[\"a\",[\"b\"]]],[\"xf:bind\",{\"nodeset\":\"b\",\"readonly\":\"true()\"}]]]";
+
+    const SHOWING: &str =
+        "[\"f\",{\"xmlns:xf\":\"http://www.w3.org/2002/xforms\"},[\"xf:model\",[\"xf:instance\",[\"a\",[\"b\"]]]],[\"xf:input\",{\"ref\":\"b\"}]]";
 
     fn taken(alloc: Global, form: &str) -> Option<bool> {
         match load(alloc, form.as_bytes()) {

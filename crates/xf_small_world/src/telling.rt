@@ -31,7 +31,15 @@ pub(crate) fn event(
     ensures { Reads means fired_of (state_of world.now) result (Ok (events.fired name.now bubbles is_cancelable [] target rows.now)) }
 {
     let none = Items::new(world.alloc);
-    match made(world.alloc, name, bubbles, is_cancelable, target, rows, none) {
+    match made(
+        world.alloc,
+        name,
+        bubbles,
+        is_cancelable,
+        target,
+        rows,
+        none,
+    ) {
         Ok(event) => Ok(event),
         Err(_) => Err(SmallFault::Memory),
     }

@@ -21,6 +21,6 @@ returns c =
     let count = c.len-count.result in
     let many : length ns ≡ suc (count - 1) = omega (arith, c.len-count.ensures, c.if-count-eq0.false) in
     let place : c.one_less.result ≡ held (length ns) c.args.at - 1 =
-        c.one_less.ensures ∙ ap (λ n. n - 1) c.held_at.ensures ∙ ap (λ n. held n c.args.at - 1) c.len-count.ensures in
+    c.one_less.ensures ∙ ap (λ n. n - 1) c.held_at.ensures ∙ ap (λ n. held n c.args.at - 1) c.len-count.ensures in
     same-reads means (λ ns. ns) (state_of c.args.world.now) c.listed.result _ _
     (ap (λ l. Ok l) (location-named c.args.at (focus_of c.args.focus.now) ns (count - 1) many ∙ ap (λ n. as_list (slice_get ns n)) (sym place))) c.listed.ensures
