@@ -7,7 +7,6 @@ use Rattle.std.proofs.lemmas.Bool.Decides.{nat_tests}
 use denote.Ref.{Bor}
 use Rattle.xf_name.specs.Bindings.{Bindings}
 use Rattle.xf_name.specs.declared.axis.Axis.TheVariants.{Child}
-use Rattle.xf_ast.specs.declared.form.Form.{Form}
 use Rattle.xf_ast.specs.declared.form.Instance.{Instance}
 use Rattle.xf_ast.specs.Ordered.{numbered_from}
 use Rattle.xf_doc.specs.declared.content.Node.{Node}

@@ -1,5 +1,5 @@
 -- What an insert and a delete ask for, by the nodes of a set.
-use Rattle.std.proofs.Common.{◌≡◌, ◌-◌, ℕ, ℤ, zero, suc, List, [], ◌∷◌, length, Option, Some, None, Result, Ok, refl, ap, ◌∙◌}
+use Rattle.std.proofs.Common.{◌≡◌, ◌-◌, ℕ, ℤ, zero, suc, List, [], ◌∷◌, length, Option, Some, None, Ok, refl, ap}
 use Rattle.std.specs.Prelude.{slice_get}
 use Rattle.xf_lang.specs.Binding.{as_list}
 use Rattle.xf_lang.specs.Setting.{Focus, Meaning}

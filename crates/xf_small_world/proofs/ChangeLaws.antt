@@ -1,11 +1,9 @@
 -- What is changed in the data of a small world is what the machine changes in its state.
-use Rattle.std.proofs.Common.{◌≡◌, ℕ, ◌+◌, Bool, true, false, List, [], ◌∷◌, ◌++◌, length, nat_lt, Option, Some, None, Result, Ok, Err, refl, sym, ap, ◌∙◌, subst, ◌⊎◌, inl, inr, arith}
+use Rattle.std.proofs.Common.{◌≡◌, ℕ, ◌+◌, true, false, List, [], ◌∷◌, ◌++◌, length, nat_lt, Option, Some, None, Result, Ok, Err, refl, sym, ap, ◌∙◌, subst, inl}
 use Rattle.std.specs.Prelude.{◌^◌}
 use Rattle.xf_doc.specs.declared.fault.TreeFault.{TreeFault}
-use Rattle.xf_doc.specs.declared.fault.TreeFault.TheVariants as tree
 use Rattle.xf_doc.specs.Forest.{Forest}
 use Rattle.xf_doc.specs.Limits.{limits, passed_by_text, unless}
-use Rattle.xf_doc.specs.Shape.{has_elements}
 use Rattle.xf_doc.specs.Texts.{new_texts, with_text}
 use Rattle.xf_doc.specs.Visit.{visits}
 use Rattle.xf_loader.specs.declared.loaded.Loaded.{Loaded}
@@ -13,8 +11,7 @@ use Rattle.xf_form_machine.specs.declared.limit.LimitWord.{LimitWord}
 use Rattle.xf_form_machine.specs.declared.limit.LimitWord.TheVariants as word
 use Rattle.xf_form_machine.specs.declared.note.Note.{Note}
 use Rattle.xf_form_machine.specs.Primitives.{grown, grown_to, in_some_model, over_made, set_text}
-use Rattle.xf_form_machine.specs.Properties.{path_in}
-use Rattle.xf_form_machine.specs.Refusal.{Refused, binding, if_over, limit, refused, unless_passed, words_of}
+use Rattle.xf_form_machine.specs.Refusal.{Refused, binding, if_over, limit, unless_passed, words_of}
 use Rattle.xf_form_machine.specs.SetValue.{unless_parent}
 use Rattle.xf_form_machine.specs.State as machine
 use Rattle.xf_form_machine.specs.State.{State}
@@ -25,7 +22,7 @@ use Rattle.xf_small_world.specs.declared.fault.SmallFault.TheVariants as fault
 use Rattle.xf_small_world.specs.declared.model.ModelState.{ModelState}
 use Rattle.xf_small_world.specs.declared.tally.Tally.{Tally}
 use Rattle.xf_small_world.specs.Fault.{means}
-use Rattle.xf_small_world.specs.Growing.{IsGrown, SaysLimit, fault_of_tree, with_made}
+use Rattle.xf_small_world.specs.Growing.{IsGrown, SaysLimit}
 use Rattle.xf_small_world.specs.Models.{models_of}
 use Rattle.xf_small_world.specs.Setting.{MayBeSet, changed_in, holder_of, is_other, text_change}
 use Rattle.xf_small_world.specs.State.{profile, standing}

@@ -10,7 +10,7 @@ use Rattle.xf_ast.specs.declared.action.Phase.TheVariants.{Capture, Default}
 use Rattle.xf_ast.specs.declared.element.Element.{Element}
 use Rattle.xf_ast.specs.declared.form.Tables.{Tables}
 use Rattle.xf_ast.specs.Ordered.{numbered_from}
-use Rattle.xf_ui.specs.Calls.{Event, handlers_of, heard_at, hears, reached, stages, stops}
+use Rattle.xf_ui.specs.Calls.{Event, handlers_of, heard_at, hears, reached, stops}
 use Rattle.xf_ui.specs.Elements.{ancestors, path_to}
 use Rattle.xf_ui.specs.Interface.{Interface, element_of, sort_of}
 use Rattle.xf_small_world.specs.declared.handlers.Stage.{Stage}

@@ -7,7 +7,7 @@ use Rattle.xf_lang.specs.Setting as option
 use Rattle.xf_loader.specs.declared.loaded.Loaded.{Loaded}
 use Rattle.xf_ui.specs.Around.{Around}
 use Rattle.xf_ui.specs.Elements.{ancestors}
-use Rattle.xf_ui.specs.Index.{Index, index_at, index_of, index_of, indexed_rows, rows_now, rows_under, same_node, seeing, with_index}
+use Rattle.xf_ui.specs.Index.{Index, index_at, index_of, index_of, rows_now, rows_under, same_node, seeing, with_index}
 use Rattle.xf_ui.specs.Interface.{Interface, interface_of}
 use Rattle.xf_ui.specs.Rows.{held, rows_of}
 use Rattle.xf_ui.specs.Started.{each_takes, restarted}

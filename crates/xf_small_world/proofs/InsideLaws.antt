@@ -1,7 +1,7 @@
 -- What an element gives to what stands in it, in a form without repeats.
-use Rattle.std.proofs.Common.{◌≡◌, ℕ, suc, Bool, true, false, List, [], ◌∷◌, ◌++◌, map, Option, Some, None, option_map, reverse, refl, sym, ap, ◌∙◌}
+use Rattle.std.proofs.Common.{◌≡◌, ℕ, suc, false, List, [], ◌∷◌, ◌++◌, Option, Some, None, reverse, refl, ap, ◌∙◌}
 use Rattle.std.proofs.lemmas.List.{map-append, reverse-append}
-use Rattle.xf_lang.specs.Setting.{Meaning, ◌>>=◌}
+use Rattle.xf_lang.specs.Setting.{◌>>=◌}
 use Rattle.xf_ui.specs.Around.{Around}
 use Rattle.xf_ui.specs.Context.{Inside, Place, enter, enter_bound, enter_by, entered}
 use Rattle.xf_ui.specs.Elements.{above, element_at, elements_on, is_repeat_sort}

@@ -1,5 +1,5 @@
 -- A model that is changed among the models of a small world.
-use Rattle.std.proofs.Common.{◌≡◌, ℕ, zero, suc, ◌<◌, ◌≤◌, Bool, List, [], ◌∷◌, map, length, get_or, replicate, refl, ap, arith}
+use Rattle.std.proofs.Common.{◌≡◌, ℕ, zero, suc, ◌<◌, ◌≤◌, Bool, List, [], ◌∷◌, map, length, get_or, refl, ap, arith}
 use Rattle.std.specs.Prelude.{slice_set, ◌||◌}
 use Rattle.std.specs.List.{list_any}
 use Rattle.xf_form_machine.specs.State as machine

@@ -1,5 +1,5 @@
 -- A note that is added.
-use Rattle.std.proofs.Common.{◌≡◌, Bool, true, false, List, [], ◌∷◌, ◌++◌, nat_lt, Some, Ok, refl, sym, ap, subst, inl}
+use Rattle.std.proofs.Common.{◌≡◌, true, false, List, [], ◌∷◌, ◌++◌, nat_lt, Some, Ok, refl, sym, ap, subst, inl}
 use Rattle.std.specs.Prelude.{◌^◌}
 use Rattle.xf_form_machine.specs.declared.limit.LimitWord.TheVariants.{Notes}
 use Rattle.xf_form_machine.specs.declared.note.Note.{Note}

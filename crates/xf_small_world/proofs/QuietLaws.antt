@@ -1,5 +1,5 @@
 -- What the behaviours of a machine are where no binds apply, and there are no controls and repeats.
-use Rattle.std.proofs.Common.{◌≡◌, ℕ, zero, suc, ◌+◌, Bool, true, false, cond, ◌&&◌, List, [], ◌∷◌, ◌++◌, map, length, get_or, nat_lt, Option, Some, None, option_map, Result, Ok, Err, refl, sym, ap, ◌∙◌, subst}
+use Rattle.std.proofs.Common.{◌≡◌, ℕ, zero, suc, ◌+◌, Bool, true, false, cond, ◌&&◌, List, [], ◌∷◌, map, length, get_or, nat_lt, Option, Some, None, option_map, Ok, refl, ap, ◌∙◌}
 use Rattle.std.specs.Prelude.{filter, fold, not, sum_by, count_by, ◌^◌}
 use Rattle.std.specs.List.{flat_map, list_any}
 use Rattle.xf_doc.specs.declared.content.Content.{Content}
@@ -7,26 +7,25 @@ use Rattle.xf_doc.specs.declared.content.Node.{Node}
 use Rattle.xf_doc.specs.Forest.{Forest, is_element, is_root, is_text}
 use Rattle.xf_doc.specs.Limits.{all_size, node_count, size_of}
 use Rattle.xf_doc.specs.Shape.{filled, given_visits, is_borne, is_gone, is_replaced, retexted, shape_of, visits_in, with_value}
-use Rattle.xf_doc.specs.Visit.{Visit, ancestors_of, still_above, visit, visits, visits_from}
+use Rattle.xf_doc.specs.Visit.{Visit, ancestors_of, still_above, visits, visits_from}
 use Rattle.xf_lang.specs.Setting as option
 use Rattle.xf_lang.specs.Setting.{each}
-use Rattle.xf_model.specs.Applied.{Entry, applied, applied_over}
+use Rattle.xf_model.specs.Applied.{applied}
 use Rattle.xf_model.specs.Circular.{by_nodes, calculated, dependents}
 use Rattle.xf_model.specs.Entries.{is_computed, reads_of}
 use Rattle.xf_model.specs.Properties.{is_valid, own_readonly}
-use Rattle.xf_model.specs.Rules.{Rule, Scope, rule_of}
-use Rattle.xf_model.specs.Settled.{Valued, content_of, holding}
+use Rattle.xf_model.specs.Rules.{Scope, rule_of}
+use Rattle.xf_model.specs.Settled.{content_of, holding}
 use Rattle.xf_ui.specs.Around.{Around}
-use Rattle.xf_ui.specs.Copies.{Copy, copies, copy_of}
-use Rattle.xf_ui.specs.Elements.{element_at, children, is_control, repeats_around}
-use Rattle.xf_ui.specs.Index.{brought_up, indexed_rows, index_of, pass, pass_over, after_pass, seeing}
+use Rattle.xf_ui.specs.Copies.{copy_of}
+use Rattle.xf_ui.specs.Elements.{element_at, children}
+use Rattle.xf_ui.specs.Index.{brought_up, index_of, pass_over, after_pass, seeing}
 use Rattle.xf_ui.specs.Interface.{Interface, Sort, interface_of, repeated}
 use Rattle.xf_ui.specs.Notifications.{notifications}
-use Rattle.xf_ui.specs.Places.{Places, all_places, if_control, places, places_at, places_by, places_in}
+use Rattle.xf_ui.specs.Places.{Places, all_places, if_control, places_at, places_by, places_in}
 use Rattle.xf_loader.specs.declared.loaded.Loaded.{Loaded}
 use Rattle.xf_form_machine.specs.declared.note.Note.{Note}
-use Rattle.xf_form_machine.specs.Behave as behave
-use Rattle.xf_form_machine.specs.Behave.{by_applied, is_invalid, is_model, model_at, no_cycle, no_model, rebuild, rebuilt_with, revalidate, revalidated_with, unless_cycle, within_edges}
+use Rattle.xf_form_machine.specs.Behave.{by_applied, is_invalid, is_model, model_at, no_cycle, no_model, rebuild, rebuilt_with, revalidate, revalidated_with, unless_cycle}
 use Rattle.xf_form_machine.specs.declared.limit.LimitWord.TheVariants.{Edges}
 use Rattle.xf_form_machine.specs.Choose.{named_copy}
 use Rattle.xf_form_machine.specs.Cycles.{reported_cycle}
@@ -34,15 +33,15 @@ use Rattle.xf_form_machine.specs.Events.{told_by}
 use Rattle.xf_form_machine.specs.Flow.{◌>>=◌}
 use Rattle.xf_form_machine.specs.Primitives.{changed_at, in_model}
 use Rattle.xf_form_machine.specs.Properties.{marks_in, readonly_in, value_from, values_of}
-use Rattle.xf_form_machine.specs.Refusal.{Refused, or_long, if_over, unless_passed}
+use Rattle.xf_form_machine.specs.Refusal.{or_long, if_over, unless_passed}
 use Rattle.xf_form_machine.specs.State as machine
 use Rattle.xf_form_machine.specs.State.{State}
-use Rattle.xf_form_machine.specs.Surround.{all_in, interface, model_holding, quiet, scope}
+use Rattle.xf_form_machine.specs.Surround.{all_in, model_holding, quiet, scope}
 use Rattle.xf_form_machine.specs.Update.{reindex, shown, with_brought, within_controls}
 use Rattle.xf_actions.specs.Told.{refreshed}
 use Rattle.xf_small_world.specs.declared.model.ModelState.{ModelState}
 use Rattle.xf_small_world.specs.declared.tally.Tally.{Tally}
-use Rattle.xf_small_world.specs.Models.{model_of, models_of}
+use Rattle.xf_small_world.specs.Models.{models_of}
 use Rattle.xf_small_world.specs.Small.{is_small}
 use Rattle.xf_small_world.specs.State.{profile, standing}
 use Rattle.xf_small_world.proofs.SmallLaws.{is_bare, bare-at, is-no_control, no-binds, no-repeats, no-repeats-around}

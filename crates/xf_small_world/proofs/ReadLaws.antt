@@ -1,5 +1,5 @@
 -- What is read over a small world is what the machine reads in its state.
-use Rattle.std.proofs.Common.{◌≡◌, ℕ, ℤ, true, List, [], ◌∷◌, Option, Some, None, option_map, Result, Ok, Err, refl, sym, ap, ◌∙◌, subst, ◌⊎◌, inl, inr}
+use Rattle.std.proofs.Common.{◌≡◌, ℕ, true, List, [], ◌∷◌, Option, Some, None, option_map, Ok, refl, sym, ap, ◌∙◌, subst, ◌⊎◌, inl, inr}
 use Rattle.xf_lang.specs.declared.fault.EvalFault.{EvalFault}
 use Rattle.xf_lang.specs.declared.fault.EvalFault.TheVariants as eval
 use Rattle.xf_lang.specs.declared.value.Value.{Value}
@@ -14,7 +14,7 @@ use Rattle.xf_ui.specs.Elements.{ancestors}
 use Rattle.xf_form_machine.specs.declared.limit.LimitWord.TheVariants as word
 use Rattle.xf_form_machine.specs.Acting.{whole_of}
 use Rattle.xf_form_machine.specs.Flow.{◌>>=◌}
-use Rattle.xf_form_machine.specs.Refusal.{Refused, limit, or_long}
+use Rattle.xf_form_machine.specs.Refusal.{limit, or_long}
 use Rattle.xf_form_machine.specs.State.{State}
 use Rattle.xf_form_machine.specs.Surround.{Told, around}
 use Rattle.xf_ast.specs.declared.form.Form.{Form}

@@ -1,9 +1,9 @@
 -- A recalculation where nothing is calculated: it changes no text, evaluates nothing, and holds the data to their limits.
-use Rattle.std.proofs.Common.{◌≡◌, ℕ, ◌+◌, Bool, true, false, cond, List, [], ◌∷◌, ◌++◌, map, length, nat_lt, Option, Some, None, Result, Ok, Err, refl, sym, ap, ◌∙◌, subst, inl, inr, arith}
+use Rattle.std.proofs.Common.{◌≡◌, ℕ, ◌+◌, Bool, true, false, cond, List, [], ◌∷◌, ◌++◌, map, length, nat_lt, Option, Some, None, Result, Ok, Err, refl, sym, ap, ◌∙◌, subst, inl, arith}
 use Rattle.std.specs.Prelude.{◌^◌, is_none, sum_by}
 use Rattle.xf_doc.specs.declared.fault.TreeFault.{TreeFault}
 use Rattle.xf_doc.specs.declared.fault.TreeFault.TheVariants as tree
-use Rattle.xf_doc.specs.Forest.{Forest, is_root}
+use Rattle.xf_doc.specs.Forest.{Forest}
 use Rattle.xf_doc.specs.Limits.{all_size, limits, node_count, passed_by_all, size_of}
 use Rattle.xf_doc.specs.Shape.{shape}
 use Rattle.xf_doc.specs.Visit.{Visit, visits}
@@ -21,7 +21,7 @@ use Rattle.xf_form_machine.specs.Flow.{◌>>=◌}
 use Rattle.xf_form_machine.specs.Primitives.{changed_at, over_made}
 use Rattle.xf_form_machine.specs.Refusal.{Refused, if_over, limit, unless_passed, word_of}
 use Rattle.xf_form_machine.specs.State.{State}
-use Rattle.xf_form_machine.specs.Surround.{all_in, scope}
+use Rattle.xf_form_machine.specs.Surround.{scope}
 use Rattle.xf_actions.specs.Performs.{RefusedAs, Refuses}
 use Rattle.xf_small_world.specs.declared.fault.SmallFault.{SmallFault}
 use Rattle.xf_small_world.specs.declared.fault.SmallFault.TheVariants as fault

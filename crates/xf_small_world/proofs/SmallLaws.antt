@@ -11,7 +11,7 @@ use Rattle.xf_ast.specs.declared.form.Tables.{Tables}
 use Rattle.xf_ui.specs.Cases.{cases_of, is_case, is_case_sort}
 use Rattle.xf_ui.specs.Elements.{element_at, is_control, is_repeat, is_repeat_sort, no_element, path_to, repeats_around}
 use Rattle.xf_ui.specs.Elements as ui
-use Rattle.xf_ui.specs.Interface.{Interface, Sort, interface_of, element_of, sort_of, host, other, group, switch, one_case, repeated, field, output, select, item, itemset, choices, label, item_value, inline, action}
+use Rattle.xf_ui.specs.Interface.{Sort, interface_of, element_of, sort_of, host, other, group, switch, one_case, repeated, field, output, select, item, itemset, choices, label, item_value, inline, action}
 use Rattle.xf_form_machine.specs.Choose.{switch_number}
 use Rattle.xf_small_world.specs.Small.{lacks, is_small_kind, is_small_binding, is_small_element, has_no_tables, is_small}
 

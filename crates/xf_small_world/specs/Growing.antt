@@ -2,11 +2,10 @@
 use Rattle.std.specs.Prelude.{ℕ, ◌≡◌, ◌+◌, ◌^◌, true, false, nat_lt, [], ◌∷◌, Option, Some, None, Result, Ok, Err}
 use Rattle.xf_doc.specs.declared.fault.TreeFault.{TreeFault}
 use Rattle.xf_doc.specs.declared.fault.TreeFault.TheVariants as tree
-use Rattle.xf_form_machine.specs.declared.limit.LimitWord.{LimitWord}
 use Rattle.xf_form_machine.specs.declared.limit.LimitWord.TheVariants as word
 use Rattle.xf_form_machine.specs.Refusal.{words_of}
 use Rattle.xf_small_world.specs.declared.fault.SmallFault.{SmallFault}
-use Rattle.xf_small_world.specs.declared.fault.SmallFault.TheVariants.{Limit, Binding, Budget, Depth, Memory}
+use Rattle.xf_small_world.specs.declared.fault.SmallFault.TheVariants.{Limit, Memory}
 use Rattle.xf_small_world.specs.declared.tally.Tally.{Tally}
 
 -- the limit of the forest that is passed; a name that is wrong comes from no form that is loaded

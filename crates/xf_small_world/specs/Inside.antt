@@ -1,5 +1,5 @@
 -- What stands around an element of a form without repeats, as code has it and as definitions do (XForms 1.1, section 7.2).
-use Rattle.std.specs.Prelude.{ℕ, [], Option, Some, None, option_map}
+use Rattle.std.specs.Prelude.{ℕ, [], Option, Some, option_map}
 use Rattle.xf_ui.specs.Around.{Around, alone, first_bound}
 use Rattle.xf_ui.specs.Context as context
 use Rattle.xf_ui.specs.Interface.{Bound, unbound, Sort, other}

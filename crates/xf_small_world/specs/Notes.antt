@@ -5,7 +5,7 @@ use Rattle.xf_form_machine.specs.declared.note.Note.{Note}
 use Rattle.xf_form_machine.specs.NoteLines.{notes_size}
 use Rattle.xf_form_machine.specs.Replies.{note_lines}
 use Rattle.xf_small_world.specs.declared.fault.SmallFault.{SmallFault}
-use Rattle.xf_small_world.specs.declared.fault.SmallFault.TheVariants.{Limit, Binding, Budget, Depth, Memory}
+use Rattle.xf_small_world.specs.declared.fault.SmallFault.TheVariants.{Limit, Memory}
 
 abbrev pub IsNoted : {X : Type 0} → Result X SmallFault → Note → List Note → List Note → Type 0
 IsNoted (Ok x) note before after = (after ≡ before ++ note ∷ []) × (nat_lt (2 ^ 20) (notes_size (before ++ note ∷ [])) ≡ false)

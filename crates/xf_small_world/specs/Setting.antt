@@ -1,5 +1,5 @@
 -- A text that is set at a node (XForms 1.1, section 10.2): what it needs, and what follows in the model whose instance holds the node.
-use Rattle.std.specs.Prelude.{ℕ, ◌≡◌, Bool, true, false, not, ◌||◌, List, length, Option, Some, None, option_map, option_and_then, nat_lt, bytes_eq, slice_get, Result, Ok, Err}
+use Rattle.std.specs.Prelude.{ℕ, ◌≡◌, Bool, true, not, ◌||◌, List, length, Option, Some, None, option_map, option_and_then, nat_lt, bytes_eq, slice_get, Result, Ok, Err}
 use Rattle.xf_ast.specs.declared.form.Instance.{Instance}
 use Rattle.xf_doc.specs.Forest.{Forest}
 use Rattle.xf_doc.specs.Limits.{limits, passed_by_text}
@@ -14,7 +14,7 @@ use Rattle.xf_form_machine.specs.State as machine
 use Rattle.xf_report.specs.Paths.{IsPath}
 use Rattle.xf_undo.specs.Draft.{Draft, changed}
 use Rattle.xf_small_world.specs.declared.fault.SmallFault.{SmallFault}
-use Rattle.xf_small_world.specs.declared.fault.SmallFault.TheVariants.{Limit, Binding, Budget, Depth, Memory}
+use Rattle.xf_small_world.specs.declared.fault.SmallFault.TheVariants.{Binding, Memory}
 use Rattle.xf_small_world.specs.Growing.{SaysLimit}
 
 -- it has another text, or had several

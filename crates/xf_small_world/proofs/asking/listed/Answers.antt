@@ -1,4 +1,4 @@
-use Rattle.std.proofs.Common.{◌≡◌, Ok, sym, ap, ◌∙◌}
+use Rattle.std.proofs.Common.{Ok, sym, ap, ◌∙◌}
 use Rattle.xf_lang.specs.Binding.{as_list}
 use Rattle.xf_actions.proofs.Flow.{same-reads}
 use Rattle.xf_small_world.specs.Fault.{means}

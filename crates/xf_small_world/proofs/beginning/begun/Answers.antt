@@ -1,4 +1,4 @@
-use Rattle.std.proofs.Common.{◌≡◌, length, replicate, ap, ◌∙◌}
+use Rattle.std.proofs.Common.{replicate, ap, ◌∙◌}
 use Rattle.xf_undo.specs.Draft.{Draft}
 use Rattle.xf_form_machine.specs.Behave.{no_model}
 use Rattle.xf_small_world.proofs.BeginLaws.{all-same, begins}

@@ -1,6 +1,5 @@
 use Rattle.std.proofs.Common.{◌≡◌, ◌++◌, ◌+◌, ◌-◌, suc, drop, refl, ap, ◌∙◌, arith}
 use Rattle.std.proofs.lemmas.List.{drop_all}
-use Rattle.xf_lang.specs.Binding.{as_list}
 use Rattle.xf_ui.specs.Interface.{interface_of}
 use Rattle.xf_small_world.specs.Inner.{host_parts, own_text, words_through}
 use Rattle.xf_small_world.proofs.InnerLaws.{all-told, carried, no-words, no-words-further, unchanged, words-more}

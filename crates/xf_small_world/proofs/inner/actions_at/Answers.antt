@@ -1,4 +1,4 @@
-use Rattle.std.proofs.Common.{◌≡◌, ◌++◌, length, sym, ap, ◌∙◌}
+use Rattle.std.proofs.Common.{◌++◌, length, sym, ap, ◌∙◌}
 use Rattle.xf_elements.proofs.ElementLemmas.{as-many}
 use Rattle.xf_ui.specs.Interface.{interface_of}
 use Rattle.xf_small_world.specs.Inner.{actions_through}

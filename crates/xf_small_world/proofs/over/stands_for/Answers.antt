@@ -1,4 +1,4 @@
-use Rattle.std.proofs.Common.{◌≡◌, [], ◌∷◌, inl, inr, Some, option_map, ap, sym, ◌∙◌}
+use Rattle.std.proofs.Common.{◌≡◌, [], ◌∷◌, inl, inr, Some, ap, sym, ◌∙◌}
 use Rattle.xf_doc.specs.Visit.{first_of, parent_of, visits}
 use Rattle.xf_nested.specs.StandIns.{stand_ins_of}
 use Rattle.xf_nested.proofs.StandInLaws.{stand-attribute, stand-element, stand-root, stand-text}

@@ -1,4 +1,4 @@
-use Rattle.std.proofs.Common.{◌≡◌, Some, sym, ap, ◌∙◌, subst}
+use Rattle.std.proofs.Common.{Some, sym, ap, ◌∙◌, subst}
 use Rattle.xf_base.specs.Limits.{string_limit}
 use Rattle.xf_plain_values.specs.Bounded.{GivesBounded}
 use Rattle.xf_doc.specs.Visit.{visits}

@@ -1,4 +1,4 @@
-use Rattle.std.proofs.Common.{◌≡◌, ◌+◌, [], None, Some, Ok, sym, ap, ◌∙◌, subst}
+use Rattle.std.proofs.Common.{◌+◌, [], Ok, sym, ap, ◌∙◌, subst}
 use Rattle.xf_doc.specs.Forest.{Forest}
 use Rattle.xf_doc.specs.Limits.{limits, passed_by_all}
 use Rattle.xf_form_machine.specs.Behave.{recalculate}

@@ -1,6 +1,5 @@
 use Rattle.std.proofs.Common.{ap, ◌∙◌}
 use Rattle.std.specs.List.{list_any}
-use Rattle.xf_form_machine.specs.State as machine
 use Rattle.xf_form_machine.specs.Update.{has_flag}
 use Rattle.xf_small_world.specs.declared.model.ModelState.{ModelState}
 use Rattle.xf_small_world.specs.Models.{flags_of}

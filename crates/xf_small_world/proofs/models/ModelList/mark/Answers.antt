@@ -1,4 +1,4 @@
-use Rattle.std.proofs.Common.{◌≡◌, ◌<◌, ◌≤◌, length, sym, ap, ◌∙◌, subst}
+use Rattle.std.proofs.Common.{◌<◌, ◌≤◌, length, sym, ap, ◌∙◌, subst}
 use Rattle.xf_form_machine.specs.Primitives.{changed_at}
 use Rattle.xf_small_world.specs.Models.{marked_by, model_of, models_of}
 use Rattle.xf_small_world.proofs.ModelLaws.{changed-here, changed-past}

@@ -1,5 +1,4 @@
-use Rattle.std.proofs.Common.{◌≡◌, ◌-◌, ◌≤◌, ◌<◌, replicate, length, vec_len}
-use Rattle.std.specs.Prelude.{◌^◌}
+use Rattle.std.proofs.Common.{◌≡◌, ◌-◌, ◌≤◌, replicate, vec_len}
 use Rattle.xf_form_machine.specs.Behave.{no_model}
 use Rattle.xf_small_world.specs.Models.{models_of}
 use Rattle.xf_small_world.proofs.models.ModelList.new.Given as goal
