@@ -63,35 +63,3 @@ fn is_small_binding(binding: &Binding) -> bool
         _ => true,
     }
 }
-
-#[cfg(test)]
-mod tests {
-    use crate::small::is_small;
-    use std::alloc::Global;
-    use std::test::Fail;
-    use xf_loader::load;
-
-    const PLAIN: &str =
-        "[\"f\",{\"xmlns:xf\":\"http://www.w3.org/2002/xforms\"},[\"xf:model\",[\"xf:instance\",[\"a\",[\"b\"]]]]]";
-
-    const BINDING: &str =
-        "[\"f\",{\"xmlns:xf\":\"http://www.w3.org/2002/xforms\"},[\"xf:model\",[\"xf:instance\",[\"a\",[\"b\"]]],[\"xf:bind\",{\"nodeset\":\"b\",\"readonly\":\"true()\"}]]]";
-
-    const SHOWING: &str =
-        "[\"f\",{\"xmlns:xf\":\"http://www.w3.org/2002/xforms\"},[\"xf:model\",[\"xf:instance\",[\"a\",[\"b\"]]]],[\"xf:input\",{\"ref\":\"b\"}]]";
-
-    fn taken(alloc: Global, form: &str) -> Option<bool> {
-        match load(alloc, form.as_bytes()) {
-            Ok(loaded) => Some(is_small(&loaded.form)),
-            Err(_) => None,
-        }
-    }
-
-    #[test]
-    fn forms_without_binds_and_controls_are_small(rt: HostRuntime) -> Result<(), Fail> {
-        assert_eq!(rt; taken(rt.alloc(), PLAIN), Some(true));
-        assert_eq!(rt; taken(rt.alloc(), BINDING), Some(false));
-        assert_eq!(rt; taken(rt.alloc(), SHOWING), Some(false));
-        Ok(())
-    }
-}
