@@ -1,5 +1,5 @@
-//! The form machine in memory, for forms without binds, controls, repeats, switches and submissions: a world that dispatch, actions and default
-//! actions run on.
+//! The form machine in memory, for forms without binds, controls, repeats, switches and submissions: what dispatch, actions and default actions ask
+//! of a world, call by call. It is no `World` yet: messages, what a reset puts back, and the places of inserts and deletes are not written.
 #![tactic(auto, unfolding(xf_actions::specs::Performs::Refuses))]
 
 mod around;
