@@ -1,0 +1,16 @@
+pub mod Fault
+pub mod Small
+pub mod Models
+pub mod Notes
+pub mod Places
+pub mod State
+pub mod Around
+pub mod Over
+pub mod Inside
+pub mod Seen
+pub mod Growing
+pub mod Setting
+pub mod Handlers
+pub mod Telling
+pub mod Beginning
+pub mod Inner

@@ -1,0 +1,43 @@
+//! The form machine in memory, for forms without binds, controls, repeats, switches and submissions: what dispatch, actions and default actions ask
+//! of a world, call by call. It is no `World` yet: messages, what a reset puts back, and the places of inserts and deletes are not written.
+#![tactic(auto, unfolding(xf_actions::specs::Performs::Refuses))]
+
+mod around;
+mod asking;
+mod beginning;
+mod behaviours;
+mod binding;
+mod changed;
+mod changing;
+mod counting;
+mod elements;
+mod fault;
+mod flagging;
+mod growing;
+mod handlers;
+mod indexing;
+mod inner;
+mod inside;
+mod model;
+mod models;
+mod notes;
+mod noting;
+mod over;
+mod reading;
+mod recalculating;
+mod setting;
+mod small;
+mod speaking;
+mod submitting;
+mod tally;
+mod telling;
+mod world;
+
+pub use beginning::begun;
+pub use fault::SmallFault;
+pub use model::{Change, Flags, Mark, ModelState};
+pub use models::ModelList;
+pub use notes::NoteList;
+pub use small::is_small;
+pub use tally::Tally;
+pub use world::SmallWorld;

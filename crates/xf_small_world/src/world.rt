@@ -1,0 +1,24 @@
+//! The small world: the form, its data, and what is kept of its models and of the event that is handled.
+
+ghost use Rattle.std.specs.Prelude.{◌≡◌, true, length};
+ghost use Rattle.xf_small_world.specs.Small.{is_small};
+
+use crate::models::ModelList;
+use crate::notes::NoteList;
+use crate::tally::Tally;
+use std::alloc::Global;
+use xf_loader::Loaded;
+use xf_undo::Draft;
+
+/// A form without binds, controls, repeats, switches and submissions over its data.
+#[derive(Drop)]
+pub struct SmallWorld {
+    pub(crate) alloc: Global,
+    pub(crate) loaded: Loaded,
+    pub(crate) draft: Draft,
+    pub(crate) models: ModelList,
+    pub(crate) notes: NoteList,
+    pub(crate) tally: Tally,
+    ghost small: { is_small loaded.form ≡ true },
+    ghost many: { length models ≡ length loaded.form.models },
+}
