@@ -139,3 +139,10 @@ module _ (slab : Slab Entry) (table : NameTable) (seen : Slab Slot) (key : ℕ) 
   absent is =
       let here = slots-at slab table seen key None view is in
       record { changed = ap (λ s. get s key) view ∙ here ∙ sym (ap (option_map change) here); others = λ other ne. ap (λ s. get s other) view }
+
+-- room that is given back changes nothing else
+pub room-aside : (slab : Slab Entry) (old new : NameTable) (seen : Slab Slot) → slots_of slab old ≡ seen → new.names ≡ old.names → slots_of slab new ≡ record seen { capacity = (slots_of slab new).capacity }
+room-aside slab old new seen view same =
+    let first : slots_of slab new ≡ record (slots_of slab old) { capacity = (slots_of slab new).capacity } =
+    ap (λ l. record { slots = map (option_map (slot_of l)) slab.slots; vacant_key = slab.vacant_key; capacity = (slots_of slab new).capacity }) same in
+    first ∙ ap (λ (s : Slab Slot). record s { capacity = (slots_of slab new).capacity }) view

@@ -40,3 +40,14 @@ IsNamed names (Some e) = HasName e.kind (slice_get names e.name)
 -- the name of each element and attribute is one of the table
 abbrev pub AreNamed : Slab Entry → NameTable → Type 0
 AreNamed slab table = (key : ℕ) → IsNamed table.names (get slab key)
+
+-- the number of the name of an element or attribute
+abbrev pub number_by : Kind → ℕ → Option ℕ
+number_by kind.Root number = None
+number_by kind.Text number = None
+number_by kind.Element number = Some number
+number_by kind.Attribute number = Some number
+
+abbrev pub name_number : Option Entry → Option ℕ
+name_number None = None
+name_number (Some e) = number_by e.kind e.name

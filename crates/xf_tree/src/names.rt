@@ -3,7 +3,8 @@ ghost use Rattle.std.specs.Prelude.{◌≡◌, ◌≤◌, ◌<◌, ◌+◌, ◌+
 ghost use Rattle.std.specs.Cmp.Rules.{comparing, hashing};
 ghost use Rattle.std.specs.Hash as fed;
 ghost use Rattle.std.proofs.Common.{rules};
-ghost use Rattle.xf_tree.specs.Names.{KeepsNames};
+ghost use Rattle.xf_doc.specs.WellFormed.{have_same_name};
+ghost use Rattle.xf_tree.specs.Names.{named, KeepsNames};
 
 use indexmap::IndexSet;
 use std::alloc::{AllocError, Global};
@@ -98,6 +99,26 @@ impl Names {
         self.names.reserve(more)
     }
 
+    /// Gives back room, where there is far more than the names may soon need.
+    pub fn give_back(&mut self)
+        ensures { self.new.names ≡ self.old.names }
+    {
+        let count = self.names.len();
+        if self.names.capacity() / 4 > count + 16 {
+            self.names.shrink_to(count * 2);
+        }
+    }
+
+    /// Whether two numbers are of names with the same namespace and local part.
+    pub fn is_same(&self, one: u32, other: u32) -> bool
+        ensures { result ≡ have_same_name (named self.now.names (Some one)) (named self.now.names (Some other)) }
+    {
+        match (self.get(one), self.get(other)) {
+            (Some(first), Some(second)) => one == other || means_same(first, second),
+            _ => false,
+        }
+    }
+
     /// The number of a name, which comes into the table where it is not there yet.
     pub fn number_of(&mut self, name: Name) -> u32
         requires { 0 < self.old.room }
@@ -110,4 +131,12 @@ impl Names {
             Err(_) => unreachable!(),
         }
     }
+}
+
+/// Whether both have the same namespace and local part.
+fn means_same(first: &Name, second: &Name) -> bool
+    ensures { result ≡ have_same_name (Some first.now) (Some second.now) }
+{
+    first.meaning.space == second.meaning.space
+        && first.meaning.local.is(second.meaning.local.as_str())
 }

@@ -107,10 +107,7 @@ pub fn is_element_at(slots: &Slots, key: usize) -> bool
 pub fn has_same_name(slots: &Slots, first: usize, second: usize) -> bool
     ensures { result ≡ have_same_name (name_in (content_in (get slots.now first))) (name_in (content_in (get slots.now second))) }
 {
-    match (name(slots, first), name(slots, second)) {
-        (Some(one), Some(other)) => one.space == other.space && one.local.is(other.local.as_str()),
-        _ => false,
-    }
+    slots.has_same_name(first, second)
 }
 
 /// Whether the first node's name, as it is written, comes before the second's, by bytes.

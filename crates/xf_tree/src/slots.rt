@@ -3,7 +3,9 @@ ghost use Rattle.std.specs.Prelude.{◌≡◌, ℕ, ◌≤◌, ◌+◌, true, []
 ghost use Rattle.slab.specs.Slab.{get, slab_len, Updates, HasRoomFor};
 ghost use Rattle.xf_doc.specs.Forest.{is_attribute, is_text, kind_of, name_in, own_text};
 ghost use Rattle.xf_doc.specs.StringValue.{characters};
+ghost use Rattle.xf_doc.specs.WellFormed.{have_same_name};
 ghost use Rattle.xf_tree.specs.Seen.{seen_content};
+ghost use Rattle.xf_tree.specs.Slots.{name_number};
 ghost use Rattle.xf_tree.specs.Texts.{valued_slot, owned_slot};
 ghost use Rattle.xf_tree.specs.Tree.{number_in, content_in};
 
@@ -120,6 +122,19 @@ impl Slots {
         }
     }
 
+    /// Whether both are named, with the same namespace and local part.
+    pub fn has_same_name(&self, first: usize, second: usize) -> bool
+        ensures { result ≡ have_same_name (name_in (content_in (get self.now first))) (name_in (content_in (get self.now second))) }
+    {
+        match (
+            name_number(&self.slab, first),
+            name_number(&self.slab, second),
+        ) {
+            (Some(one), Some(other)) => self.names.is_same(one, other),
+            _ => false,
+        }
+    }
+
     /// What is under a key, where there is something.
     pub fn seen(&self, key: usize) -> Option<Seen<'_>>
         ensures { option_map seen_content result ≡ option_map (λ slot. slot.content) (get self.now key) }
@@ -191,6 +206,13 @@ impl Slots {
         }
     }
 
+    /// Gives back room for names that none took.
+    pub fn give_back(&mut self)
+        ensures { self.new ≡ record self.old { capacity = self.new.capacity } }
+    {
+        self.names.give_back();
+    }
+
     /// Takes out what is under a key.
     pub fn remove(&mut self, key: usize)
         ensures { Updates self.old self.new key None }
@@ -231,5 +253,19 @@ fn new_entry(number: u128, kind: Kind, name: u32, text: Word) -> Entry
         text,
         name,
         kind,
+    }
+}
+
+/// The number of the name of an element or attribute.
+fn name_number(slab: &Slab<Entry>, key: usize) -> Option<u32>
+    ensures { result ≡ name_number (get slab.now key) }
+{
+    match slab.get(key) {
+        Some(entry) => match entry.kind {
+            Kind::Element => Some(entry.name),
+            Kind::Attribute => Some(entry.name),
+            _ => None,
+        },
+        None => None,
     }
 }

@@ -74,6 +74,7 @@ pub fn push_tree(
 {
     let start = rows.len();
     push_all(rows, slots, hints, first, tree);
+    slots.give_back();
     set_sizes_in(rows, hints, start);
 }
 

@@ -1,7 +1,6 @@
-use Rattle.std.proofs.Common.{◌≡◌, ℕ, List, Some, refl, sym, ap, ◌∙◌}
+use Rattle.std.proofs.Common.{Some, sym, ap, ◌∙◌}
 use Rattle.xf_doc.specs.declared.content.Content.{Content}
 use Rattle.xf_doc.specs.declared.content.Kind.TheVariants as kind
-use Rattle.xf_tree.specs.Slot.{Slot}
 use Rattle.xf_tree.specs.Slots.{content_by, slot_of}
 use Rattle.xf_tree.proofs.SlotLemmas.{same-names, seen-updated, room-there, counted}
 use Rattle.xf_tree.proofs.slots.Slots.insert.Goals as goal
