@@ -1,5 +1,6 @@
 -- Where actions are evaluated, and what they leave undone.
 use Rattle.std.proofs.Common.{◌≡◌, ℕ, false, List, [], ◌∷◌, map, Option, Some, None, refl, codes}
+use Rattle.std.specs.Fmt.{digits}
 use Rattle.json.specs.Print.{escape_byte}
 use Rattle.xf_num.specs.Number.{scale}
 use Rattle.xf_name.specs.declared.axis.Axis.TheVariants as axis
@@ -7,6 +8,7 @@ use Rattle.xf_ast.specs.declared.expr.Operator.TheVariants as operator
 use Rattle.xf_ast.specs.declared.expr.Test.TheVariants as test
 use Rattle.xf_doc.specs.declared.content.Content.TheVariants as content
 use Rattle.xf_doc.specs.Examples.{plain}
+use Rattle.xf_doc.specs.StringValue.{string_value}
 use Rattle.xf_lang.specs.Asked.{Trace}
 use Rattle.xf_lang.specs.Examples.{simple, step, child, path, from, call, number, literal, two}
 use Rattle.xf_lang.specs.Setting.{Meaning}
@@ -15,6 +17,7 @@ use Rattle.xf_model.specs.Examples as bind
 use Rattle.xf_model.specs.Rules.{Rule}
 use Rattle.xf_ui.specs.Interface as sort
 use Rattle.xf_ui.specs.Interface.{by_bind}
+use Rattle.xf_ui.specs.Examples.{stopping}
 use Rattle.xf_form_machine.specs.declared.limit.LimitWord.TheVariants as word
 use Rattle.xf_form_machine.specs.declared.note.Note.{Note}
 use Rattle.xf_form_machine.specs.declared.note.Note.TheVariants.{Message, Load}
@@ -23,10 +26,11 @@ use Rattle.xf_form_machine.specs.Program.{Program, Work, InsertBy}
 use Rattle.xf_form_machine.specs.Program as role
 use Rattle.xf_form_machine.specs.Refusal.{binding, budget, limit}
 use Rattle.xf_form_machine.specs.State.{State}
+use Rattle.xf_form_machine.specs.Surround.{all_in}
 use Rattle.xf_form_machine.specs.Step.{Outcome, step as stepped, accepted, refused}
 use Rattle.xf_form_machine.specs.Start.{start}
 use Rattle.xf_form_machine.specs.Examples
-use Rattle.xf_form_machine.specs.Examples.{Part, Tree, profile, element, bound, named, saying, model, instance, on, with_handler, capturing, stopping, during, given_that, to, itself, event_of, element_at, text_at}
+use Rattle.xf_form_machine.specs.Examples.{Part, Tree, profile, element, bound, named, saying, model, instance, on, with_handler, capturing, during, given_that, to, itself, event_of, element_at, text_at}
 use Rattle.xf_form_machine.specs.ExampleOutcomes.{seen, given_out, why, then}
 use Rattle.xf_form_machine.specs.ExampleEvents.{pair, beside, no}
 
@@ -241,3 +245,68 @@ stopped = Examples.form
 
 it_stops_all_the_same : notes (then (start profile stopped []) (Activate (codes "x") [])) ≡ Some []
 it_stops_all_the_same = refl
+
+-- both are told to the instance, each with the node of which it is a copy
+abbrev telling_keys : List ℕ → Program
+telling_keys name = Examples.form
+    (element None (1 ∷ 3 ∷ []) sort.host role.other ∷ model (2 ∷ []) ∷ instance
+    ∷ named (codes "x") (element (Some 0) (4 ∷ []) sort.field role.trigger)
+    ∷ bound key_of_r (doing (inserting None (Some each_key) None))
+    ∷ with_handler (λ h. record h { observer = Some 2 }) (on (codes "xforms-insert") 0 (6 ∷ []) role.message)
+    ∷ element (Some 5) [] (sort.inline (Some (call 8 (call 13 (literal name ∷ []) ∷ [])).meaning)) role.other ∷ []) [] [] [] keyed
+
+both_are_inserted : notes (then (start profile (telling_keys (codes "inserted-nodes")) []) (Activate (codes "x") [])) ≡ Some (Message (codes "2") ∷ [])
+unfolding escape_byte scale digits
+both_are_inserted = refl
+
+both_are_copied : notes (then (start profile (telling_keys (codes "origin-nodes")) []) (Activate (codes "x") [])) ≡ Some (Message (codes "2") ∷ [])
+unfolding escape_byte scale digits
+both_are_copied = refl
+
+-- a text is no origin, while in a node set it stands for its parent
+abbrev text_of_a : Meaning
+text_of_a = (path (child (codes "a") ∷ step axis.Child test.Text [] ∷ [])).meaning
+
+no_copy_of_a_text : seen numbers (done (bound children (doing (inserting None (Some text_of_a) None)))) ≡ Some (5 ∷ 0 ∷ 1 ∷ 2 ∷ 3 ∷ 4 ∷ [])
+no_copy_of_a_text = refl
+
+but_of_its_parent : seen numbers (done (bound text_of_a (doing (inserting None None None)))) ≡ Some (5 ∷ 0 ∷ 1 ∷ 2 ∷ 6 ∷ 7 ∷ 3 ∷ 4 ∷ [])
+but_of_its_parent = refl
+
+-- ---- `if` and `while` are evaluated where the action stands: b is there, and not in a
+
+an_if_out_of_the_context : seen numbers (done (given_that (to (codes "b")) (bound (beside (codes "b")) (doing (delete_in (to (codes "a"))))))) ≡ Some (5 ∷ 0 ∷ 1 ∷ 2 ∷ [])
+an_if_out_of_the_context = refl
+
+no_if_in_the_context : seen numbers (done (given_that (beside (codes "b")) (bound (beside (codes "b")) (doing (delete_in (to (codes "a"))))))) ≡ Some (5 ∷ 0 ∷ 1 ∷ 2 ∷ 3 ∷ 4 ∷ [])
+no_if_in_the_context = refl
+
+a_while_out_of_the_context : seen numbers (done (during (to (codes "b")) (bound (beside (codes "b")) (doing (delete_in (to (codes "a"))))))) ≡ Some (5 ∷ 0 ∷ 1 ∷ 2 ∷ [])
+a_while_out_of_the_context = refl
+
+an_if_of_an_insert : seen numbers (done (given_that (beside (codes "b")) (doing (inserting (Some itself) (Some (to (codes "a"))) None)))) ≡ Some (5 ∷ 0 ∷ 1 ∷ 2 ∷ 3 ∷ 4 ∷ [])
+an_if_of_an_insert = refl
+
+-- ---- the node that a setvalue binds stands alone: in the second row its `value` `position()` is 1, while the row has the place 2
+
+abbrev in_rows : Part → Program
+in_rows part = Examples.form
+    (element None (1 ∷ 3 ∷ []) sort.host role.other ∷ model (2 ∷ []) ∷ instance
+    ∷ bound children (element (Some 0) (4 ∷ []) (sort.repeated 0 1) role.other)
+    ∷ named (codes "x") (element (Some 3) (5 ∷ 6 ∷ []) sort.field role.trigger)
+    ∷ part
+    ∷ element (Some 5) [] (sort.inline (Some (call 29 []).meaning)) role.other ∷ []) [] (3 ∷ []) [] pair
+
+abbrev in_the_second_row : Part → Outcome
+in_the_second_row part = then (start profile (in_rows part) []) (Activate (codes "x") (2 ∷ []))
+
+abbrev values : State → List (List ℕ)
+values s = map (λ n. string_value n (all_in s)) (1 ∷ 3 ∷ [])
+
+a_bound_node_alone : seen values (in_the_second_row (bound itself (on (codes "DOMActivate") 4 [] (role.set_value (Some (call 29 []).meaning))))) ≡ Some (codes "1" ∷ codes "1" ∷ [])
+unfolding scale digits
+a_bound_node_alone = refl
+
+a_row_at_its_place : notes (in_the_second_row (on (codes "DOMActivate") 4 (6 ∷ []) role.message)) ≡ Some (Message (codes "2") ∷ [])
+unfolding escape_byte scale digits
+a_row_at_its_place = refl

@@ -126,3 +126,36 @@ after_the_behaviours = refl
 -- at once no row would stand
 were_it_at_once : left_by (λ s. set_text profile 1 (codes "2") s >>= reindex profile []) ≡ Some (0 ∷ [])
 were_it_at_once = refl
+
+-- ---- what is left in the state: the index by then, and nothing of the detached tree
+
+abbrev numbers : State → List ℕ
+numbers s = map (λ x. x.number) s.forest.nodes
+
+abbrev indexes_in : State → List ℕ
+indexes_in s = map (λ i. i.index) s.indexes
+
+the_tree_is_dropped : seen numbers (done (insert_into the_deleted)) ≡ Some (11 ∷ 0 ∷ 3 ∷ 12 ∷ 5 ∷ 6 ∷ 7 ∷ 8 ∷ 9 ∷ 10 ∷ [])
+unfolding escape_byte digits scale
+the_tree_is_dropped = refl
+
+the_index_by_then : seen indexes_in (done (insert_into the_deleted)) ≡ Some (1 ∷ [])
+unfolding escape_byte digits scale
+the_index_by_then = refl
+
+-- a delete there brings the indexes up to date as well, and is not told
+deleted_in_a_detached_tree : notes (done (bound (path (child (codes "zz") ∷ [])).meaning (inner 3 (role.delete (record { context = Some the_deleted; at = None }))))) ≡ Some (Message (codes "2") ∷ [])
+unfolding escape_byte digits scale
+deleted_in_a_detached_tree = refl
+
+abbrev delete_y : Part
+delete_y = bound (path (child (codes "y") ∷ [])).meaning (inner 3 (role.delete (record { context = Some the_deleted; at = None })))
+
+what_was_below_it : notes (done delete_y) ≡ Some (Message (codes "1") ∷ [])
+unfolding escape_byte digits scale
+what_was_below_it = refl
+
+-- the top of a detached tree is deleted no second time
+not_again : notes (done (bound the_deleted (inner 3 (role.delete (record { context = None; at = None }))))) ≡ Some (Message (codes "2") ∷ [])
+unfolding escape_byte digits scale
+not_again = refl

@@ -1,20 +1,25 @@
 -- Which handlers an event calls, what their default is, and when updates come.
-use Rattle.std.proofs.Common.{◌≡◌, ℕ, Bool, true, false, List, [], ◌∷◌, map, Option, Some, refl, codes}
+use Rattle.std.proofs.Common.{◌≡◌, ℕ, Bool, true, false, List, [], ◌∷◌, map, Option, Some, None, refl, codes}
 use Rattle.json.specs.Print.{escape_byte}
 use Rattle.xf_ast.specs.declared.action.Handler.{Handler}
 use Rattle.xf_line.specs.declared.event.Event.{Event}
 use Rattle.xf_line.specs.declared.event.Event.TheVariants.{Set, Activate, Dispatch, Reset}
 use Rattle.xf_form_machine.specs.declared.note.Note.{Note}
 use Rattle.xf_form_machine.specs.declared.note.Note.TheVariants.{Message}
+use Rattle.xf_ui.specs.Interface as sort
+use Rattle.xf_ui.specs.Elements.{no_element}
 use Rattle.xf_form_machine.specs.Program.{Program}
+use Rattle.xf_form_machine.specs.Program as role
 use Rattle.xf_form_machine.specs.State.{State}
 use Rattle.xf_form_machine.specs.Surround.{all_in}
 use Rattle.xf_doc.specs.StringValue.{string_value}
 use Rattle.xf_form_machine.specs.Events.{fired}
 use Rattle.xf_form_machine.specs.Start.{start}
-use Rattle.xf_form_machine.specs.Examples.{profile, stopping, cancelling}
+use Rattle.xf_ui.specs.Examples.{stopping, cancelling}
+use Rattle.xf_form_machine.specs.Examples
+use Rattle.xf_form_machine.specs.Examples.{profile, element, named, saying, model, instance, on, with_handler, given_that}
 use Rattle.xf_form_machine.specs.ExampleOutcomes.{seen, given_out, then}
-use Rattle.xf_form_machine.specs.ExampleEvents.{way, resetting, changing}
+use Rattle.xf_form_machine.specs.ExampleEvents.{pair, no, way, resetting, changing}
 
 abbrev noted : Program → Event → Option (List Note)
 noted form event = given_out (λ g. g.notes) (then (start profile form []) event)
@@ -94,3 +99,35 @@ one_that_can_be_cancelled = refl
 
 one_that_cannot : (fired (codes "xforms-insert") true true [] 0 []).event.is_cancelable ≡ false
 one_that_cannot = refl
+
+-- ---- a handler that cancels though its `if` is false
+
+abbrev never : Program → Program
+never form = record form { roles = map (λ r. (given_that no (no_element, r)).1) form.roles }
+
+it_cancels_all_the_same : after (never (resetting cancelling)) (Reset []) ≡ Some (5 ∷ 0 ∷ 1 ∷ 2 ∷ 3 ∷ 4 ∷ [])
+it_cancels_all_the_same = refl
+
+and_says_nothing : noted (never (resetting cancelling)) (Reset []) ≡ says []
+and_says_nothing = refl
+
+-- ---- the default action of a submit control: its submission is told, unless a handler cancels
+
+abbrev submitting : (Handler → Handler) → Program
+submitting more = record (Examples.form
+    (element None (1 ∷ 5 ∷ []) sort.host role.other
+    ∷ model (2 ∷ 3 ∷ [])
+    ∷ instance
+    ∷ element (Some 1) (4 ∷ []) sort.other (role.submission 0)
+    ∷ saying (codes "sent") (with_handler cancelling (on (codes "xforms-submit") 3 [] role.message))
+    ∷ named (codes "x") (element (Some 0) (6 ∷ []) sort.field (role.submit (Some 0)))
+    ∷ saying (codes "x") (with_handler more (on (codes "DOMActivate") 5 [] role.message))
+    ∷ []) [] [] [] pair) { submission_elements = 3 ∷ [] }
+
+a_submit : noted (submitting plain) at_x ≡ says (codes "x" ∷ codes "sent" ∷ [])
+unfolding escape_byte
+a_submit = refl
+
+a_cancelled_submit : noted (submitting cancelling) at_x ≡ says (codes "x" ∷ [])
+unfolding escape_byte
+a_cancelled_submit = refl

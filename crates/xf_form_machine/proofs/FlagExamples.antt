@@ -109,3 +109,20 @@ a_number = refl
 not_a_number : left_by flags (over (codes "a")) (act_index profile acting 0 (to (codes "zz"))) ≡ Some (no_flags ∷ [])
 unfolding scale
 not_a_number = refl
+
+-- ---- the repeat q over i in a repeat over these nodes
+
+abbrev nested_over : List ℕ → Program
+nested_over name = Examples.form
+    (element None (1 ∷ 3 ∷ []) sort.host role.other ∷ model (2 ∷ []) ∷ instance
+    ∷ bound (to name) (element (Some 0) (4 ∷ []) (sort.repeated 0 1) role.other)
+    ∷ bound (to (codes "i")) (element (Some 3) [] (sort.repeated 1 1) role.other) ∷ []) [] (3 ∷ 4 ∷ []) [] pair
+
+-- it is there in a row, though it has no rows itself
+in_a_row : left_by flags (nested_over (codes "a")) (act_index profile acting 1 (number 7).meaning) ≡ Some (refresh_alone ∷ [])
+unfolding scale
+in_a_row = refl
+
+-- without a row around it there is none to set
+without_a_copy : left_by flags (nested_over (codes "zz")) (act_index profile acting 1 (number 7).meaning) ≡ Some (no_flags ∷ [])
+without_a_copy = refl

@@ -13,3 +13,4 @@ mod StepExamples
 mod BindExamples
 mod ReplyExamples
 mod RestExamples
+mod RunExamples

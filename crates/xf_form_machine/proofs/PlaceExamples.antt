@@ -1,6 +1,11 @@
 -- Where the copies of an insert come to stand in the data, and what a delete leaves.
 use Rattle.std.proofs.Common.{◌≡◌, ℕ, true, false, List, [], ◌∷◌, map, Some, None, refl, codes}
+use Rattle.xf_num.specs.Number.{scale}
+use Rattle.xf_name.specs.declared.axis.Axis.TheVariants as axis
+use Rattle.xf_ast.specs.declared.expr.Test.TheVariants as test
 use Rattle.xf_doc.specs.declared.content.Content.{Content}
+use Rattle.xf_lang.specs.Setting.{Meaning}
+use Rattle.xf_lang.specs.Examples.{step, up, path, number}
 use Rattle.xf_line.specs.declared.event.Event.TheVariants.{Activate}
 use Rattle.xf_form_machine.specs.Program.{Program, Work}
 use Rattle.xf_form_machine.specs.Program as work
@@ -46,3 +51,39 @@ no_delete = refl
 
 a_delete : seen numbers (done (bound (to (codes "a"))) (work.delete (record { context = None; at = None })) work.all_in_it) ≡ Some (5 ∷ 0 ∷ 3 ∷ 4 ∷ [])
 a_delete = refl
+
+-- ---- by `at`, which counts from 1, among the children a and b
+
+abbrev children : Meaning
+children = (path (step axis.Child test.AnyName [] ∷ [])).meaning
+
+abbrev copy_at : ℕ → Work
+copy_at n = work.insert (record { context = None; origin = Some (to (codes "b")); at = Some (number n).meaning; is_before = false })
+
+behind_the_first : seen numbers (done (bound children) (copy_at 1) work.all_in_it) ≡ Some (5 ∷ 0 ∷ 1 ∷ 2 ∷ 6 ∷ 7 ∷ 3 ∷ 4 ∷ [])
+unfolding scale
+behind_the_first = refl
+
+behind_the_second : seen numbers (done (bound children) (copy_at 2) work.all_in_it) ≡ Some (5 ∷ 0 ∷ 1 ∷ 2 ∷ 3 ∷ 4 ∷ 6 ∷ 7 ∷ [])
+unfolding scale
+behind_the_second = refl
+
+-- held between 1 and the size
+held_at_the_first : seen numbers (done (bound children) (copy_at 0) work.all_in_it) ≡ Some (5 ∷ 0 ∷ 1 ∷ 2 ∷ 6 ∷ 7 ∷ 3 ∷ 4 ∷ [])
+unfolding scale
+held_at_the_first = refl
+
+held_at_the_last : seen numbers (done (bound children) (copy_at 9) work.all_in_it) ≡ Some (5 ∷ 0 ∷ 1 ∷ 2 ∷ 3 ∷ 4 ∷ 6 ∷ 7 ∷ [])
+unfolding scale
+held_at_the_last = refl
+
+-- several origins, in document order, all copied before the first goes to its place
+both_copied : seen numbers (done (bound (to (codes "a"))) (work.insert (record { context = None; origin = Some children; at = None; is_before = false })) work.all_in_it)
+    ≡ Some (5 ∷ 0 ∷ 1 ∷ 2 ∷ 6 ∷ 7 ∷ 8 ∷ 9 ∷ 3 ∷ 4 ∷ [])
+both_copied = refl
+
+-- the document element into its own child: the copy does not hold itself
+in_its_own_child : seen documents (done (bound (to (codes "z"))) (work.insert (record { context = Some (to (codes "a")); origin = Some (path (up false ∷ [])).meaning; at = None; is_before = false })) work.all_in_it)
+    ≡ Some ((element_at 0 (codes "d") ∷ element_at 1 (codes "a") ∷ element_at 2 (codes "d") ∷ element_at 3 (codes "a") ∷ text_at 4 (codes "1") ∷ element_at 3 (codes "b") ∷ text_at 4 (codes "2")
+    ∷ text_at 2 (codes "1") ∷ element_at 1 (codes "b") ∷ text_at 2 (codes "2") ∷ []) ∷ [])
+in_its_own_child = refl

@@ -1,6 +1,6 @@
 -- What an accepted event leaves.
-use Rattle.std.proofs.Common.{◌≡◌, ◌∙◌, sym, ap, zero, suc, true, false, [], ◌∷◌, ◌++◌, length, Some, None, refl, codes}
-use Rattle.std.specs.List.{list_all}
+use Rattle.std.proofs.Common.{◌≡◌, ◌∙◌, sym, ap, ℕ, zero, suc, true, false, [], ◌∷◌, ◌++◌, length, Some, None, refl, codes}
+use Rattle.std.specs.List.{list_any, list_all}
 use Rattle.xf_num.specs.Number.{scale}
 use Rattle.xf_name.specs.Bindings.{no_bindings}
 use Rattle.xf_doc.specs.declared.bare.Bare.{Bare}
@@ -11,11 +11,12 @@ use Rattle.xf_doc.specs.declared.bare.Bare.TheViews.{roll-BareElement}
 use Rattle.xf_doc.specs.declared.bare.BareElement.{BareElement}
 use Rattle.xf_doc.specs.declared.content.Content.TheVariants.{Root, Element}
 use Rattle.xf_doc.specs.Examples.{qname, plain}
+use Rattle.xf_doc.specs.Changes.{in_instances}
 use Rattle.xf_doc.specs.Plant.{Contents}
 use Rattle.xf_doc.specs.Planted.{contents_of_bare, bare_contents, bare_element_contents}
 use Rattle.xf_line.specs.declared.event.Event.TheVariants.{Activate}
 use Rattle.xf_ui.specs.Interface as sort
-use Rattle.xf_form_machine.specs.AtRest.{IsAtRest, HasDocuments, is_well_named, are_placed}
+use Rattle.xf_form_machine.specs.AtRest.{IsAtRest, HasDocuments, is_empty_text, is_well_named, are_placed}
 use Rattle.xf_form_machine.specs.Program.{Program}
 use Rattle.xf_form_machine.specs.Program as role
 use Rattle.xf_form_machine.specs.State.{State}
@@ -83,3 +84,36 @@ its_documents named = (
 
 no_models : IsAtRest profile (record begun { models = [] }) → zero ≡ suc zero
 no_models rests = rests.model_count
+
+-- ---- the start of a form with rows, an insert and a delete leave nothing due, and every index at the place of its row
+
+abbrev begun_with_rows : Outcome
+begun_with_rows = start profile rows []
+
+after_the_start : seen is_due begun_with_rows ≡ Some false
+after_the_start = refl
+
+placed_by_the_start : seen (are_placed profile) begun_with_rows ≡ Some true
+placed_by_the_start = refl
+
+after_an_insert : seen is_due (then begun_with_rows (Activate (codes "add") [])) ≡ Some false
+after_an_insert = refl
+
+placed_by_an_insert : seen (are_placed profile) (then begun_with_rows (Activate (codes "add") [])) ≡ Some true
+placed_by_an_insert = refl
+
+-- what an event has used up is given back
+a_whole_budget : seen {X = ℕ × ℕ × ℕ × ℕ} (λ s. (s.turns, s.made, length s.notes, length s.calls)) (then begun_with_rows (Activate (codes "add") [])) ≡ Some (profile.turns, 0, 0, 0)
+a_whole_budget = refl
+
+-- no text is empty, and no tree is detached
+none_is_empty : seen (λ s. list_any is_empty_text s.forest.nodes) later ≡ Some false
+unfolding scale
+none_is_empty = refl
+
+none_is_detached : seen (λ s. length (in_instances s.forest.nodes)) later ≡ Some 3
+unfolding scale
+none_is_detached = refl
+
+the_controls_of_now : seen (λ s. length s.controls) begun_with_rows ≡ Some 3
+the_controls_of_now = refl

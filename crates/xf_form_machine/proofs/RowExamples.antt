@@ -2,7 +2,7 @@
 use Rattle.std.proofs.Common.{◌≡◌, ℕ, List, [], ◌∷◌, map, Some, refl, codes}
 use Rattle.xf_num.specs.Number.{scale}
 use Rattle.xf_line.specs.declared.event.Event.{Event}
-use Rattle.xf_line.specs.declared.event.Event.TheVariants.{Activate, Index}
+use Rattle.xf_line.specs.declared.event.Event.TheVariants.{Activate, Index, Reset}
 use Rattle.xf_form_machine.specs.State.{State}
 use Rattle.xf_form_machine.specs.Refusal.{bad_index}
 use Rattle.xf_form_machine.specs.Step.{Outcome}
@@ -62,3 +62,21 @@ no_rows = refl
 no_index : why (then (then (then first del) del) (Index (codes "r") 1)) ≡ Some bad_index
 unfolding scale
 no_index = refl
+
+-- ---- what a reset puts back counts as nothing just inserted: the old index counts, held to the rows
+
+after_a_reset : seen indexes (then first (Reset [])) ≡ Some (1 ∷ [])
+after_a_reset = refl
+
+at_the_old_index : seen indexes (then (then first (Index (codes "r") 2)) (Reset [])) ≡ Some (2 ∷ [])
+at_the_old_index = refl
+
+-- also where a reset brings a row back
+held_to_what_is_back : seen indexes (then (then first del) (Reset [])) ≡ Some (1 ∷ [])
+unfolding scale
+held_to_what_is_back = refl
+
+-- the row that a repeat gets after it had none
+from_none : seen indexes (then (then (then first del) del) (Reset [])) ≡ Some (1 ∷ [])
+unfolding scale
+from_none = refl

@@ -1,5 +1,5 @@
 -- How submissions end, by the answers of the store.
-use Rattle.std.proofs.Common.{◌≡◌, ℕ, List, [], ◌∷◌, Option, Some, None, refl, codes}
+use Rattle.std.proofs.Common.{◌≡◌, ℕ, Bool, true, false, List, [], ◌∷◌, Option, Some, None, refl, codes}
 use Rattle.std.specs.Prelude.{Result, Ok, Err}
 use Rattle.std.specs.Str.{is_utf8, chars}
 use lib.Utf8.{encode}
@@ -11,6 +11,7 @@ use Rattle.xf_ast.specs.declared.form.Selection.TheVariants.{Bind}
 use Rattle.xf_ast.specs.declared.form.Submission.{Submission}
 use Rattle.xf_doc.specs.StringValue.{string_value}
 use Rattle.xf_line.specs.declared.event.Event.TheVariants.{Send}
+use Rattle.xf_json.specs.declared.fault.JsonFault.TheVariants.{NotJson}
 use Rattle.xf_store.specs.declared.answers.Answer.{Answer}
 use Rattle.xf_store.specs.declared.answers.Answer.TheVariants as answer
 use Rattle.xf_store.specs.declared.call.Asked.TheVariants as asked
@@ -26,7 +27,7 @@ use Rattle.xf_form_machine.specs.Program.{Program}
 use Rattle.xf_form_machine.specs.Program as role
 use Rattle.xf_form_machine.specs.Refusal.{Refused}
 use Rattle.xf_form_machine.specs.State.{State}
-use Rattle.xf_form_machine.specs.Submit.{Ended, done, failed}
+use Rattle.xf_form_machine.specs.Submit.{Ended, done, failed, with_tree, takes_tree, takes_text}
 use Rattle.xf_form_machine.specs.Surround.{all_in}
 use Rattle.xf_form_machine.specs.Step.{Outcome}
 use Rattle.xf_form_machine.specs.Start.{start}
@@ -166,3 +167,41 @@ selecting_nothing = record (Examples.form
 heard_outside : notes (then_with [] (start profile selecting_nothing []) (Send (codes "s"))) ≡ Some (Message (codes "outside") ∷ [])
 unfolding escape_byte
 heard_outside = refl
+
+-- ---- a response that is to be an element, and the other answers of the store
+
+abbrev get_tree : Submission
+get_tree = sending Get replace.Instance (codes "r")
+
+no_element : seen (λ s. ended_by (with_tree profile (λ e t. Ok t) get_tree 0 s (Err NotJson))) (start profile (submitting get_tree [] one) []) ≡ Some (Some (codes "parse-error"))
+no_element = refl
+
+an_empty_tree : notes (sent get_tree [] one (answer.Found [] ∷ [])) ≡ Some (Message (codes "done") ∷ [])
+unfolding escape_byte
+an_empty_tree = refl
+
+-- where a tree may come, and where a text: the document element and its text in ["d","1"], d with an element in ["d",["x","1"]]
+abbrev takes : Examples.Tree → ℕ → Option (Bool × Bool)
+takes document n = seen {X = Bool × Bool} (λ s. (takes_tree s n, takes_text s n)) (start profile (submitting get_tree [] document) [])
+
+both : takes one 0 ≡ Some (true, true)
+both = refl
+
+a_tree_alone : takes nest 0 ≡ Some (true, false)
+a_tree_alone = refl
+
+neither : seen {X = Bool × Bool} (λ s. (takes_tree s 0, takes_text s 0)) (start profile (submitting get_tree never_open nest) []) ≡ Some (false, false)
+neither = refl
+
+too_long : notes (sent get_text [] one (answer.TooLong ∷ [])) ≡ fails_by (codes "resource-error")
+unfolding escape_byte
+too_long = refl
+
+-- an answer of a put does not fit a get: it counts as a failed call; so does one that is missing
+not_its_answer : notes (sent get_text [] one (answer.PutDone ∷ [])) ≡ fails_by (codes "resource-error")
+unfolding escape_byte
+not_its_answer = refl
+
+no_answer : notes (sent get_text [] one []) ≡ fails_by (codes "resource-error")
+unfolding escape_byte
+no_answer = refl

@@ -1,7 +1,10 @@
 -- What is named where an index is 0, and what still hears of it.
 use Rattle.std.proofs.Common.{◌≡◌, ℕ, true, List, [], ◌∷◌, Option, Some, None, refl, codes}
 use Rattle.json.specs.Print.{escape_byte}
-use Rattle.xf_line.specs.declared.event.Event.TheVariants.{Activate, Index, Dispatch}
+use Rattle.xf_ast.specs.declared.form.Method.TheVariants.{Put}
+use Rattle.xf_ast.specs.declared.form.Replace.TheVariants as replace
+use Rattle.xf_store.specs.declared.answers.Answer.TheVariants as answer
+use Rattle.xf_line.specs.declared.event.Event.TheVariants.{Activate, Index, Send, Dispatch, Reset}
 use Rattle.xf_line.specs.declared.event.Event.{Event}
 use Rattle.xf_ui.specs.Interface as sort
 use Rattle.xf_form_machine.specs.declared.note.Note.{Note}
@@ -13,8 +16,9 @@ use Rattle.xf_form_machine.specs.Step.{Outcome}
 use Rattle.xf_form_machine.specs.Start.{start}
 use Rattle.xf_form_machine.specs.Examples
 use Rattle.xf_form_machine.specs.Examples.{Part, profile, element, bound, named, saying, model, instance, on, to}
-use Rattle.xf_form_machine.specs.ExampleOutcomes.{given_out, why, then}
+use Rattle.xf_form_machine.specs.ExampleOutcomes.{given_out, why, then, then_with}
 use Rattle.xf_form_machine.specs.ExampleEvents.{pair}
+use Rattle.xf_form_machine.specs.ExampleSends.{sending}
 
 abbrev notes : Outcome → Option (List Note)
 notes = given_out (λ g. g.notes)
@@ -109,3 +113,42 @@ rebuilt_in_none = refl
 -- a line that names the model tells nothing there
 a_line_to_that_model : notes (then (start profile (holding has_none) []) (Dispatch (codes "xforms-rebuild") (codes "m"))) ≡ Some []
 a_line_to_that_model = refl
+
+-- ---- a submission in a model in the repeat over these nodes: the trigger x sends it, and the root hears how it ended
+
+abbrev holding_one : List ℕ → Program
+holding_one name = record (Examples.form
+    (element None (1 ∷ 5 ∷ 6 ∷ []) sort.host role.other
+    ∷ bound (to name) (element (Some 0) (2 ∷ []) (sort.repeated 0 1) role.other)
+    ∷ element (Some 1) (3 ∷ 4 ∷ []) sort.other (role.model 0)
+    ∷ element (Some 2) [] sort.other role.other
+    ∷ named (codes "s") (element (Some 2) [] sort.other (role.submission 0))
+    ∷ saying (codes "done") (on (codes "xforms-submit-done") 0 [] role.message)
+    ∷ named (codes "x") (element (Some 0) (7 ∷ []) sort.field role.trigger)
+    ∷ on (codes "DOMActivate") 6 [] (role.send (Some 0))
+    ∷ []) [] (1 ∷ []) [] pair)
+    { model_elements = 2 ∷ []; instance_elements = 3 ∷ []; submissions = sending Put replace.Nothing (codes "o") ∷ []; submission_elements = 4 ∷ [] }
+
+abbrev with_done : List ℕ → Event → Option (List Note)
+with_done name event = notes (then_with (answer.PutDone ∷ []) (start profile (holding_one name) []) event)
+
+sent_from_a_row : with_done has_rows (Activate (codes "x") []) ≡ Some (Message (codes "done") ∷ [])
+unfolding escape_byte
+sent_from_a_row = refl
+
+-- an action sends it always
+sent_from_none : with_done has_none (Activate (codes "x") []) ≡ Some (Message (codes "done") ∷ [])
+unfolding escape_byte
+sent_from_none = refl
+
+-- a line that names it does not
+a_line_that_sends : with_done has_rows (Send (codes "s")) ≡ Some (Message (codes "done") ∷ [])
+unfolding escape_byte
+a_line_that_sends = refl
+
+a_line_that_sends_none : with_done has_none (Send (codes "s")) ≡ Some []
+a_line_that_sends_none = refl
+
+-- nor does one that resets its model, be it the first one
+a_line_that_resets_none : notes (then (start profile (holding has_none) []) (Reset [])) ≡ Some []
+a_line_that_resets_none = refl

@@ -80,3 +80,11 @@ within_the_sum = refl
 
 past_the_sum : seen (λ s. refusal_of (within_edges profile (asking (60 ∷ 41 ∷ []) s))) (start profile (twice as_it_is as_it_is again again) []) ≡ Some (Some (limit (word.Edges ∷ [])))
 past_the_sum = refl
+
+-- a false `if` passes over the work of a turn, and the `while` is tested again
+a_false_if_in_a_while : why (activated (twice as_it_is (λ x. during yes (given_that no x)) work.message work.all_in_it)) ≡ Some budget
+a_false_if_in_a_while = refl
+
+-- so does a true one, up to the limit of the notes
+a_true_if_in_a_while : why (activated (twice as_it_is (λ x. during yes (given_that yes x)) work.all_in_it work.all_in_it)) ≡ Some budget
+a_true_if_in_a_while = refl

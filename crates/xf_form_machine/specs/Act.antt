@@ -30,6 +30,7 @@ while_true zero p x test once s = refused budget s
 while_true (suc left) p x test once s =
     spend s >>= λ t. truth_for p x t test >>= λ b. when b (λ u. once u >>= while_true left p x test once) t
 
+-- as long as its `while` holds, or once
 abbrev pub repeated : Profile → Acting → Option Meaning → Run → Run
 repeated p x None once s = once s
 repeated p x (Some test) once s = while_true (suc s.turns) p x test once s
@@ -61,5 +62,6 @@ abbrev pub act_within : ℕ → Profile → Tell → Fired → ℕ → Run
 act_within zero p tell e n s = Ok s
 act_within (suc left) p tell e n s = where_some (act_at s n) (begun p tell e (act_within left p tell e) n) s
 
+-- a handler that is called for this event
 abbrev pub act : Profile → Tell → Fired → ℕ → Run
 act p tell e n s = act_within (length s.form.roles) p tell e n s

@@ -34,6 +34,7 @@ use Rattle.xf_form_machine.specs.Step.{fresh}
 
 -- ---- the data
 
+-- a text node without any text
 abbrev pub is_empty_text : Node → Bool
 is_empty_text x = is_text x.content && (length (own_text x.content) == 0)
 
@@ -41,10 +42,12 @@ is_empty_text x = is_text x.content && (length (own_text x.content) == 0)
 abbrev pub text_below : ℕ → Visit → List (List ℕ)
 text_below n x = if is_text x.content && is_first n x.above then own_text x.content ∷ [] else []
 
+-- by what the node is
 abbrev pub texts_by : State → ℕ → Option Content → List (List ℕ)
 texts_by s n (Some (Attribute name text)) = as_texts text
 texts_by s n content = flat_map (text_below n) (all_in s)
 
+-- those of the node with this number
 abbrev pub texts_at : State → ℕ → List (List ℕ)
 texts_at s n = texts_by s n (content_at n s.forest.nodes)
 
@@ -68,6 +71,7 @@ HasDocuments s =
 abbrev pub IsSettledAt : Profile → State → ℕ → Entry → Type 0
 IsSettledAt p s model e = texts_at s e.node ≡ as_texts (content_by p.bounds (scope p s model) (all_in s) e).1
 
+-- what a model keeps is what would be made of the data by now
 pub record RestsModel (p : Profile) (s : State) (model : ℕ) : Type 0 where
   -- the entries are those that the binds set, without an exception and without a cycle
   pub entries : applied (scope p s model) s.forest.nodes ≡ Ok (model_at s model).entries
@@ -84,6 +88,7 @@ pub record RestsModel (p : Profile) (s : State) (model : ℕ) : Type 0 where
 
 -- ---- indexes and cases
 
+-- there is a place, and it is this one
 abbrev pub is_same_place : Option ℕ → ℕ → Bool
 is_same_place None k = false
 is_same_place (Some place) k = place == k
@@ -93,20 +98,24 @@ abbrev pub is_placed : List ℕ → Index → Bool
 is_placed [] i = (i.index == 0) && is_none i.node
 is_placed (n ∷ ns) i = is_same_place (option_and_then (place_in (n ∷ ns)) i.node) i.index
 
+-- so of the rows, where no string is too long
 abbrev pub is_placed_in : Option (List ℕ) → Index → Bool
 is_placed_in None i = false
 is_placed_in (Some rows) i = is_placed rows i
 
+-- each repeat has an index that is placed
 abbrev pub are_placed : Profile → State → Bool
 are_placed p s =
     (length s.indexes == length (interface s).repeats)
     && list_all (λ r. is_placed_in (rows_now (interface s) (quiet p s) s.indexes r) (index_of (interface s) s.indexes r)) (interface s).repeats
 
+-- each switch has one of its cases
 abbrev pub are_cases : State → Bool
 are_cases s = (length s.cases == length (interface s).switches) && list_all (λ q. nat_lt q.1 (length (cases_of (interface s) q.0))) (zip (interface s).switches s.cases)
 
 -- ---- the state
 
+-- all of it
 pub record IsAtRest (p : Profile) (s : State) : Type 0 where
   pub trees : HasTrees s.forest
   pub documents : HasDocuments s

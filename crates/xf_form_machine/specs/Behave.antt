@@ -31,11 +31,13 @@ no_flags = record { rebuild = false; recalculate = false; revalidate = false; re
 abbrev pub no_model : Model
 no_model = record { entries = []; asked = 0; stood = []; invalid = []; flags = no_flags; texts = []; lists = [] }
 
+-- what the model with this number keeps
 abbrev pub model_at : State → ℕ → Model
 model_at s model = get_or s.models model no_model
 
 -- ---- rebuild
 
+-- an exception of binds, told by the path of its node
 abbrev pub refusal_of : State → Exception → Refusal
 refusal_of s (twice n) = refusal.twice (path_in s n)
 refusal_of s (on_parent n) = refusal.on_parent (path_in s n)
@@ -44,21 +46,26 @@ refusal_of s (on_parent n) = refusal.on_parent (path_in s n)
 abbrev pub asked_by_all : State → ℕ
 asked_by_all s = sum_by (λ m. m.asked) s.models
 
+-- unless all entries together read and look at more than may be
 abbrev pub within_edges : Profile → Run
 within_edges p after = unless_passed after (if_over (nat_lt p.edges (asked_by_all after)) Edges) after
 
+-- what a model keeps after its rebuild
 abbrev pub rebuilt_with : List Entry → ℕ → Model → Model
 rebuilt_with entries asked m = record m { entries = entries; asked = asked; flags = record m.flags { rebuild = false } }
 
+-- where a cycle is reported, it is told by the paths of its nodes
 abbrev pub unless_cycle : State → List Reader → Option (List ℕ) → Run
 unless_cycle before readers None s = Ok s
 unless_cycle before readers (Some places) s = refused (circular (map (path_in before) (nodes_at readers places))) s
 
+-- unless the calculates of these entries stand in a cycle
 abbrev pub no_cycle : Profile → ℕ → List Entry → Run
 no_cycle p model entries s =
     let readers = calculated (scope p s model) (shape_of s.forest.nodes) entries in
     unless_cycle s readers (reported_cycle (dependents (shape_of s.forest.nodes) readers)) s
 
+-- by what the binds set, or their first exception
 abbrev pub by_applied : Profile → ℕ → Result (List Entry) Exception → Run
 by_applied p model (Err x) s = refused (refusal_of s x) s
 by_applied p model (Ok entries) s =
@@ -71,6 +78,7 @@ rebuild p model s = by_applied p model (applied (scope p s model) s.forest.nodes
 
 -- ---- recalculate
 
+-- what changed since the last recalculation of a model
 abbrev pub changes_of : Model → Changes
 changes_of m = record { texts = m.texts; lists = m.lists; stood = map (λ v. v.entry) m.stood }
 
@@ -83,14 +91,17 @@ with_contents number ((n, text) ∷ contents) nodes = with_contents (suc number)
 abbrev pub truly : Valued → Valued
 truly v = record v { value = option_map (λ value. Truth (truth_of value)) v.value }
 
+-- what a model keeps after its recalculation
 abbrev pub recalculated_with : List Valued → Model → Model
 recalculated_with values m = record m { stood = map truly values; texts = []; lists = []; flags = record m.flags { recalculate = false } }
 
+-- the data with settled contents, and the values over them
 abbrev pub settled_in : Profile → ℕ → List Entry → Contents → State → State
 settled_in p model entries contents s =
     let forest = record (reserved (length contents) s.forest) { nodes = with_contents s.forest.next contents s.forest.nodes } in
     in_model (recalculated_with (values_over p.bounds (scope p s model) entries (visits forest.nodes))) model (record s { forest = forest })
 
+-- so many nodes more are made, and so many evaluations more counted
 abbrev pub evaluated_more : ℕ → ℕ → State → State
 evaluated_more made count s = record s { made = s.made + made; evaluated = s.evaluated + count }
 
@@ -106,15 +117,18 @@ recalculate p model s =
 
 -- ---- revalidate
 
+-- there is a model, and it is this one
 abbrev pub is_model : ℕ → Option ℕ → Bool
 is_model model None = false
 is_model model (Some other) = model == other
 
+-- the node stands in an instance of the model, and is not valid
 abbrev pub is_invalid : Profile → ℕ → State → Visit → Bool
 is_invalid p model s x =
     let m = model_at s model in
     is_model model (model_holding s x.number) && not (is_valid p.meets (scope p s model) (all_in s) m.entries (values_of m) x.number)
 
+-- what a model keeps after its revalidation
 abbrev pub revalidated_with : List ℕ → Model → Model
 revalidated_with ns m = record m { invalid = ns; flags = record m.flags { revalidate = false } }
 

@@ -23,6 +23,7 @@ named_copy s n = indexed_rows (interface s) s.indexes n
 
 -- ---- setindex
 
+-- the whole number, or 0 where it is below
 abbrev pub not_below_zero : ℤ → ℕ
 not_below_zero (pos k) = k
 not_below_zero (negsuc k) = 0
@@ -41,6 +42,7 @@ act_index p x k m s =
 
 -- ---- toggle
 
+-- the number of a switch among the switches
 abbrev pub switch_number : Sort → ℕ
 switch_number (switch k) = k
 switch_number sort = 0
@@ -51,10 +53,12 @@ toggled tell model k place one rows s =
     let old = get_or (cases_of (interface s) (get_or (interface s).switches k 0)) (get_or s.cases k 0) 0 in
     tell (plainly (codes "xforms-deselect") old rows) (in_model refresh_due model (set_case k place s)) >>= tell (plainly (codes "xforms-select") one rows)
 
+-- a change, unless the case is selected already
 abbrev pub unless_same : Bool → Run → Run
 unless_same true run s = Ok s
 unless_same false run s = run s
 
+-- to a case in the switch that is its parent
 abbrev pub toggle_in : Tell → ℕ → ℕ → ℕ → Run
 toggle_in tell model one parent s =
     let k = switch_number (element_at (interface s) parent).sort in
@@ -67,6 +71,7 @@ toggle tell model one s = where_some (element_at (interface s) one).parent (togg
 
 -- ---- events
 
+-- an event to the copy of the element that is named
 abbrev pub act_dispatch : Tell → DispatchWork → Run
 act_dispatch tell w s = where_some (named_copy s w.target) (λ rows t. tell (fired w.name w.bubbles w.is_cancelable [] w.target rows) t) s
 

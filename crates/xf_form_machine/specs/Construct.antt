@@ -39,6 +39,7 @@ unbuilt p form answers = record {
   to_come = answers;
 }
 
+-- with a root over the tree that was planted
 abbrev pub rooted : Result ((ℕ × Forest) × State) Refused → Result State Refused
 rooted (Err refusal) = Err refusal
 rooted (Ok ((top, forest), s)) = Ok (with_forest (with_root top forest).1 s)
@@ -47,6 +48,7 @@ rooted (Ok ((top, forest), s)) = Ok (with_forest (with_root top forest).1 s)
 abbrev pub plant_document : Profile → List (ℕ × Content) → Run
 plant_document p contents s = rooted (grown p (length contents) (with_tree p.bounds.limits contents s.forest) s)
 
+-- a model is rebuilt, recalculated and revalidated
 abbrev pub build_model : Profile → ℕ → Run
 build_model p model s = rebuild p model s >>= recalculate p model >>= λ t. Ok (revalidate p model t)
 
@@ -72,11 +74,13 @@ construct p form answers =
 abbrev pub replace_at : Profile → ℕ → List (ℕ × Content) → ℕ × ℕ → Run
 replace_at p n contents (parent, place) s = plant p contents s >>= λ made. attach p made.0 parent place (detach n made.1)
 
+-- a tree in place of a node, where that has a place
 abbrev pub replace : Profile → ℕ → List (ℕ × Content) → Run
 replace p n contents s = where_some (standing n s.forest.nodes) (replace_at p n contents) s
 
 -- ---- reset
 
+-- the contents of the tree under a node: none where there is no node
 abbrev pub contents_under : State → Option ℕ → List (ℕ × Content)
 contents_under s None = []
 contents_under s (Some n) = contents_in (tree_of n s.forest.nodes)
@@ -86,9 +90,11 @@ abbrev pub first_contents : Result State Refused → ℕ → List (ℕ × Conten
 first_contents (Err refusal) place = []
 first_contents (Ok first) place = contents_under first (document_at first place)
 
+-- the first document element in place of that of now
 abbrev pub put_back : Profile → Result State Refused → ℕ → Run
 put_back p first place s = where_some (document_at s place) (λ n. replace p n (first_contents first place)) s
 
+-- the instances of a model, by their places
 abbrev pub instances_of : State → ℕ → List ℕ
 instances_of s model = map (λ i. i.0) (filter (λ i. i.1.model == model) (numbered_from 0 (instances_in s)))
 

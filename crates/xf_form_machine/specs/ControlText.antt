@@ -17,6 +17,7 @@ use Rattle.xf_form_machine.specs.StateText.{spaced, line_of, marks_text, instanc
 
 -- ---- the rows of a copy, by their numbers
 
+-- the place of a row among the rows, from 1
 abbrev pub number_in : List ℕ → ℕ → ℕ
 number_in rows n = suc (position_or_len (λ m. m == n) rows)
 
@@ -26,23 +27,28 @@ row_numbers p s chain (r ∷ rs) (n ∷ ns) =
     number_in (unwrap_or (rows_of (interface s) (quiet p s) chain r) []) n ∷ row_numbers p s (chain ++ n ∷ []) rs ns
 row_numbers p s chain rs ns = []
 
+-- with commas between
 abbrev pub joined : List ℕ → List ℕ
 joined [] = []
 joined (k ∷ []) = decimal k
 joined (k ∷ l ∷ ks) = decimal k ++ codes "," ++ joined (l ∷ ks)
 
+-- the numbers of a copy's rows, in brackets
 abbrev pub rows_text : Profile → State → Copy → List ℕ
 rows_text p s c = codes "[" ++ joined (row_numbers p s [] (repeats_around (interface s) c.element) c.rows) ++ codes "]"
 
 -- ---- a copy
 
+-- the states of a copy, as marks
 abbrev pub marks_of : Copy → Marks
 marks_of c = record { relevant = c.enabled; readonly = not c.readwrite; required = c.required; valid = c.valid }
 
+-- the value in quotes, where there is one
 abbrev pub value_part : Option (List ℕ) → List ℕ
 value_part None = []
 value_part (Some text) = spaced (quoted text)
 
+-- the sign of an item: chosen or not
 abbrev pub sign_if : Bool → List ℕ
 sign_if true = codes " +"
 sign_if false = codes " -"
@@ -52,14 +58,17 @@ abbrev pub is_chosen_in : Bool → Option (List ℕ) → Item → Bool
 is_chosen_in many None i = false
 is_chosen_in many (Some text) i = is_chosen many text i
 
+-- the line of an item
 abbrev pub item_line : Profile → State → Copy → Bool → Item → List ℕ
 item_line p s c many i = line_of (codes "item " ++ name_of s c.element ++ spaced (rows_text p s c) ++ spaced (quoted i.label) ++ spaced (quoted i.value)
     ++ sign_if (is_chosen_in many c.value i))
 
+-- those of a select
 abbrev pub item_lines : Profile → State → Copy → Sort → List ℕ
 item_lines p s c (select many is_free) = flat_map (item_line p s c many) c.items
 item_lines p s c sort = []
 
+-- the line of a copy, and those of its items
 abbrev pub copy_lines : Profile → State → Copy → List ℕ
 copy_lines p s c =
     line_of (codes "control " ++ name_of s c.element ++ spaced (rows_text p s c) ++ spaced (marks_text (marks_of c)) ++ value_part c.value)
@@ -73,6 +82,7 @@ has_line sort = true
 
 -- ---- the state
 
+-- instances, repeats, switches, controls
 abbrev pub state_text : Profile → State → List ℕ
 state_text p s =
     flat_map (instance_lines s) (counted_from 0 (length (instances_in s)))

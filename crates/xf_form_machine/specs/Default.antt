@@ -17,15 +17,19 @@ nothing s = Ok s
 
 -- ---- of a model: what is flagged of the earlier behaviours, then the behaviour itself
 
+-- what is flagged of the rebuild, then the recalculation
 abbrev pub recalculate_now : Profile → ℕ → Run
 recalculate_now p model s = due_rebuild p model s >>= recalculate p model
 
+-- what is flagged before, then the revalidation
 abbrev pub revalidate_now : Profile → ℕ → Run
 revalidate_now p model s = due_recalculation p model s >>= λ t. Ok (revalidate p model t)
 
+-- what is flagged before, then the refresh
 abbrev pub refresh_now : Profile → Tell → ℕ → Run
 refresh_now p tell model s = due_revalidation p model s >>= refresh p (refresh_cleared model) tell
 
+-- of an event at a model, by its name
 abbrev pub of_model : Profile → Tell → ℕ → List ℕ → Run
 of_model p tell model name =
     if bytes_eq name (codes "xforms-rebuild") then rebuild p model
@@ -37,6 +41,7 @@ of_model p tell model name =
 
 -- ---- by the target
 
+-- by what the target is
 abbrev pub of_role : Profile → Tell → List ℕ → Role → Run
 of_role p tell name (role.model k) = of_model p tell k name
 of_role p tell name (role.submission k) = when (bytes_eq name (codes "xforms-submit")) (submit p tell k)

@@ -34,6 +34,7 @@ at_asked p x (Some m) [] s = Ok None
 at_asked p x (Some m) (n ∷ ns) s =
     whole_for p x s (record { node = n; position = 1; size = length (n ∷ ns) }) m >>= λ at. Ok (or_last (length (n ∷ ns)) at)
 
+-- what a delete is planned by
 abbrev pub asked_with : State → List ℕ → Option ℤ → DeleteAsked
 asked_with s set at = record { set = set; at = at; closed = closed_in s }
 
@@ -44,6 +45,7 @@ abbrev pub location_of : ℕ → List ℕ → Option ℤ → Decimal
 location_of d set None = None
 location_of d set (Some k) = whole d (held (length set) (Some k))
 
+-- the properties of its event
 abbrev pub delete_told : State → List ℕ → Decimal → Told
 delete_told s ns location = (codes "deleted-nodes", Nodes (in_order (all_in s) ns)) ∷ (codes "delete-location", Number location) ∷ []
 
@@ -57,10 +59,12 @@ deleted p tell location (n ∷ ns) s =
     in_turn (λ m t. Ok (detach m t)) (n ∷ ns) s >>= reindex p []
     >>= tell_instance tell (codes "xforms-delete") (λ t. delete_told t (n ∷ ns) location) instance
 
+-- in this context: the set, `at`, and then the nodes that are planned
 abbrev pub delete_at : Profile → Tell → Acting → DeleteBy → Focus → Run
 delete_at p tell x w c s =
     set_asked p x c s >>= λ set. at_asked p x w.at set s >>= λ at.
     deleted p tell (location_of p.decimals set at) (planned_delete s.forest.nodes (asked_with s set at)) s
 
+-- no effect where `context` selects nothing
 abbrev pub delete : Profile → Tell → Acting → DeleteBy → Run
 delete p tell x w s = moved_focus p x w.context s >>= λ c. where_some c (delete_at p tell x w) s

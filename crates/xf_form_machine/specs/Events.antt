@@ -21,11 +21,13 @@ Tell = Fired → Run
 
 -- ---- which events can be cancelled
 
+-- the known events that can be cancelled
 abbrev pub cancelable_names : List (List ℕ)
 cancelable_names =
     codes "DOMActivate" ∷ codes "xforms-rebuild" ∷ codes "xforms-recalculate" ∷ codes "xforms-revalidate" ∷ codes "xforms-refresh"
     ∷ codes "xforms-reset" ∷ codes "xforms-submit" ∷ []
 
+-- the known events that cannot
 abbrev pub other_names : List (List ℕ)
 other_names =
     codes "xforms-submit-done" ∷ codes "xforms-submit-error" ∷ codes "xforms-insert" ∷ codes "xforms-delete"
@@ -34,6 +36,7 @@ other_names =
     ∷ codes "xforms-select" ∷ codes "xforms-deselect"
     ∷ codes "xforms-model-construct" ∷ codes "xforms-model-construct-done" ∷ codes "xforms-ready" ∷ []
 
+-- the name is one of these
 abbrev pub is_named : List (List ℕ) → List ℕ → Bool
 is_named names name = list_any (bytes_eq name) names
 
@@ -41,6 +44,7 @@ is_named names name = list_any (bytes_eq name) names
 abbrev pub can_be_cancelled : List ℕ → Bool → Bool
 can_be_cancelled name written = if is_named cancelable_names name then true else if is_named other_names name then false else written
 
+-- each known event bubbles; another one as it is written
 abbrev pub bubbles_if : List ℕ → Bool → Bool
 bubbles_if name written = if is_named cancelable_names name then true else if is_named other_names name then true else written
 
@@ -54,6 +58,7 @@ fired name bubbles is_cancelable told target rows = record {
   told = told;
 }
 
+-- an event without properties
 abbrev pub plainly : List ℕ → ℕ → List ℕ → Fired
 plainly name target rows = fired name true true [] target rows
 
@@ -61,13 +66,16 @@ plainly name target rows = fired name true true [] target rows
 abbrev pub fired_at : State → List ℕ → Told → ℕ → Fired
 fired_at s name told target = fired name true true told target (rows_cut (interface s) s.indexes target)
 
+-- the event of a notification
 abbrev pub told_by : Notification → Fired
 told_by n = plainly n.name n.target n.rows
 
 -- ---- elements by their numbers among their kind
 
+-- that of a model
 abbrev pub model_element : State → ℕ → ℕ
 model_element s k = get_or s.form.model_elements k 0
 
+-- that of a submission
 abbrev pub submission_element : State → ℕ → ℕ
 submission_element s k = get_or s.form.submission_elements k 0

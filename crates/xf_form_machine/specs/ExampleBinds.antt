@@ -9,6 +9,7 @@ use Rattle.xf_form_machine.specs.Program as role
 use Rattle.xf_form_machine.specs.Examples
 use Rattle.xf_form_machine.specs.Examples.{element, bound, named, model, instance, to, element_at, text_at}
 
+-- a form with these binds
 abbrev pub binding : List Rule → Program
 binding rules = Examples.form
     (element None (1 ∷ 3 ∷ []) sort.host role.other
@@ -17,6 +18,7 @@ binding rules = Examples.form
     ∷ named (codes "i") (bound (to (codes "a")) (element (Some 0) [] sort.field role.entry))
     ∷ []) rules [] [] (element_at 0 (codes "d") ∷ element_at 1 (codes "a") ∷ text_at 2 (codes "1") ∷ element_at 1 (codes "b") ∷ [])
 
+-- a bind of the children of this name
 abbrev pub of_node : List ℕ → Rule
 of_node name = bind.bind (path (child name ∷ []))
 
@@ -24,8 +26,10 @@ of_node name = bind.bind (path (child name ∷ []))
 abbrev pub b_by_a : Rule
 b_by_a = bind.calculate (bind.beside (codes "a")) (of_node (codes "b"))
 
+-- a takes the text of b
 abbrev pub a_by_b : Rule
 a_by_b = bind.calculate (bind.beside (codes "b")) (of_node (codes "a"))
 
+-- a calculate of the document element
 abbrev pub of_whole : Rule
 of_whole = bind.calculate bind.yes (bind.bind (path (here false ∷ [])))

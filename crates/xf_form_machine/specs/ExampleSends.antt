@@ -15,6 +15,7 @@ use Rattle.xf_form_machine.specs.Examples.{Part, element, bound, named, saying, 
 
 -- ---- a submission that sends the whole data
 
+-- by this method, for this replacement, under this name
 abbrev pub sending : Method → Replace → List ℕ → Submission
 sending method replace resource = record {
   model = 0;
@@ -42,6 +43,7 @@ parts =
     ∷ saying (codes "done") (on (codes "xforms-submit-done") 3 [] role.message)
     ∷ []
 
+-- a form whose element 3 is this submission
 abbrev pub with_submission : Submission → Program → Program
 with_submission s form = record form { submissions = s ∷ []; submission_elements = 3 ∷ [] }
 
@@ -53,6 +55,7 @@ one = element_at 0 (codes "d") ∷ text_at 1 (codes "1") ∷ []
 abbrev pub nest : Examples.Tree
 nest = element_at 0 (codes "d") ∷ element_at 1 (codes "x") ∷ text_at 2 (codes "1") ∷ []
 
+-- a form with this submission, these binds and these data
 abbrev pub submitting : Submission → List Rule → Examples.Tree → Program
 submitting s rules document = with_submission s (Examples.form parts rules [] [] document)
 
@@ -60,17 +63,21 @@ submitting s rules document = with_submission s (Examples.form parts rules [] []
 abbrev pub whole : Rule
 whole = bind.bind (path (here false ∷ []))
 
+-- what is sent is not relevant
 abbrev pub never_relevant : List Rule
 never_relevant = bind.relevant bind.no whole ∷ []
 
+-- what is sent is not valid
 abbrev pub never_valid : List Rule
 never_valid = bind.constraint bind.no whole ∷ []
 
+-- what is sent is readonly
 abbrev pub never_open : List Rule
 never_open = bind.readonly bind.yes whole ∷ []
 
 -- ---- a select m on a, with one item, whose value is `x`; and a trigger t
 
+-- a form with these binds
 abbrev pub choosing : List Rule → Program
 choosing rules = Examples.form
     (element None (1 ∷ 3 ∷ 7 ∷ []) sort.host role.other
@@ -83,5 +90,6 @@ choosing rules = Examples.form
     ∷ named (codes "t") (element (Some 0) [] sort.field role.trigger)
     ∷ []) rules [] [] (element_at 0 (codes "d") ∷ element_at 1 (codes "a") ∷ [])
 
+-- a bind of a
 abbrev pub of_a : Rule
 of_a = bind.bind (path (child (codes "a") ∷ []))

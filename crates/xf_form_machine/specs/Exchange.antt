@@ -24,6 +24,7 @@ use Rattle.xf_form_machine.specs.Submit.{Ended, done, failed, Sending, answered}
 
 -- ---- the name (step 4)
 
+-- from the least to the most
 abbrev pub is_between : ℕ → ℕ → ℕ → Bool
 is_between least most c = nat_le least c && nat_le c most
 
@@ -31,6 +32,7 @@ is_between least most c = nat_le least c && nat_le c most
 abbrev pub is_name_byte : ℕ → Bool
 is_name_byte c = is_between 65 90 c || is_between 97 122 c || is_between 48 57 c || (c == 46) || (c == 95) || (c == 45)
 
+-- there is a first byte, and it is no point
 abbrev pub begins_well : List ℕ → Bool
 begins_well [] = false
 begins_well (c ∷ cs) = not (c == 46)
@@ -41,6 +43,7 @@ is_store_name name = begins_well name && nat_le (length name) 64 && list_all is_
 
 -- ---- the call (step 5)
 
+-- the answer is one to such a call
 abbrev pub fits : Asked → Answer → Bool
 fits (store.Put bytes) answer = fits_put answer
 fits store.Get answer = fits_get answer
@@ -52,10 +55,12 @@ with_call name asked answer s = record s {
   to_come = after (fits asked) s.to_come;
 }
 
+-- unless all calls of the event are made
 abbrev pub unless_many : Bool → State → Result State Refused
 unless_many true s = refused sends s
 unless_many false s = Ok s
 
+-- the call, and what its answer makes
 abbrev pub exchange : Profile → Tell → Submission → ℕ → Asked → State → Sending
 exchange p tell sub n asked s =
     unless_many (nat_le p.sends (length s.calls)) s >>= λ t.
@@ -66,6 +71,7 @@ abbrev pub sent_bytes : Submission → ℕ → List ℕ → State → List ℕ
 sent_bytes sub n kept s =
     if sub.is_serialized then unwrap_or (option_map text_of (lit_of s.form.bindings kept n s.forest.nodes)) [] else []
 
+-- what the store is asked for, by the method
 abbrev pub asked_by : Submission → ℕ → List ℕ → State → Method → Asked
 asked_by sub n kept s Put = store.Put (sent_bytes sub n kept s)
 asked_by sub n kept s Post = store.Put (sent_bytes sub n kept s)
@@ -73,20 +79,24 @@ asked_by sub n kept s Get = store.Get
 
 -- ---- the selection (steps 2 and 3)
 
+-- by what is selected: an error, or the call where the resource is a name
 abbrev pub selected : Profile → Tell → Submission → State → Submitted → Sending
 selected p tell sub s no_data = Ok (failed (codes "no-data") s)
 selected p tell sub s (invalid n) = Ok (failed (codes "validation-error") s)
 selected p tell sub s (left n kept) =
     if is_store_name sub.resource then exchange p tell sub n (asked_by sub n kept s sub.method) s else Ok (failed (codes "resource-error") s)
 
+-- steps 2 to 8
 abbrev pub attempt : Profile → Tell → Submission → State → Sending
 attempt p tell sub s = or_long s (submitted (scope p s sub.model) (relevant_in s) (valid_in s) s.forest.nodes sub) >>= selected p tell sub s
 
 -- ---- the whole
 
+-- the properties of the event of a success
 abbrev pub done_told : Submission → Told
 done_told sub = (codes "resource-uri", Text sub.resource) ∷ []
 
+-- the properties of the event of a failure
 abbrev pub failed_told : Submission → List ℕ → Told
 failed_told sub error = (codes "resource-uri", Text sub.resource) ∷ (codes "error-type", Text error) ∷ []
 
@@ -95,6 +105,7 @@ abbrev pub told_end : Tell → ℕ → Submission → Ended → Result State Ref
 told_end tell k sub (done s) = tell (fired_at s (codes "xforms-submit-done") (done_told sub) (submission_element s k)) s
 told_end tell k sub (failed error s) = tell (fired_at s (codes "xforms-submit-error") (failed_told sub error) (submission_element s k)) s
 
+-- of this submission
 abbrev pub submit_by : Profile → Tell → ℕ → Submission → Run
 submit_by p tell k sub s = due_revalidation p sub.model s >>= attempt p tell sub >>= told_end tell k sub
 

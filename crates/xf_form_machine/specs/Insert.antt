@@ -28,9 +28,11 @@ abbrev pub moved_focus : Profile → Acting → Option Meaning → State → Res
 moved_focus p x context s =
     or_long s (moved (surroundings p x s) (record { model = x.model; focus = Some x.focus }) context) >>= λ c. Ok c.focus
 
+-- the nodes that the insert binds, in its context
 abbrev pub set_asked : Profile → Acting → Focus → State → Result (List ℕ) Refused
 set_asked p x c s = or_long s (all_bound (surroundings p x s) x.model (binding_of x s) (Some c))
 
+-- the last node of a set, where it has one
 abbrev pub last_one : List ℕ → List ℕ
 last_one [] = []
 last_one (n ∷ []) = n ∷ []
@@ -47,10 +49,12 @@ at_asked p x None set s = Ok None
 at_asked p x (Some m) [] s = Ok None
 at_asked p x (Some m) (n ∷ ns) s = whole_for p x s (record { node = n; position = 1; size = length (n ∷ ns) }) m
 
+-- the attribute is written
 abbrev pub is_written : Option Meaning → Bool
 is_written None = false
 is_written (Some m) = true
 
+-- what an insert is planned by
 abbrev pub asked_with : InsertBy → State → Focus → List ℕ → List ℕ → Option ℤ → InsertAsked
 asked_with w s c set origin at = record {
   set = set;
@@ -64,10 +68,12 @@ asked_with w s c set origin at = record {
 
 -- ---- the copies
 
+-- a copy of each of these nodes, one after the other
 abbrev pub copies_of : Profile → List ℕ → State → Result (List ℕ × State) Refused
 copies_of p [] s = Ok ([], s)
 copies_of p (n ∷ ns) s = copy p n s >>= λ one. copies_of p ns one.1 >>= λ more. Ok (one.0 ∷ more.0, more.1)
 
+-- a node is cut off, where there is one
 abbrev pub without_one : Option ℕ → State → State
 without_one None s = s
 without_one (Some n) s = detach n s
@@ -79,13 +85,16 @@ put_copy p tops (place, top) s =
 
 -- ---- what is told
 
+-- the node that is told as the place: the context node for an empty set
 abbrev pub location_of : Option ℤ → Focus → List ℕ → List ℕ
 location_of at c [] = c.node ∷ []
 location_of at c (n ∷ ns) = as_list (named_by at (n ∷ ns))
 
+-- the text of `position`
 abbrev pub side_text : Bool → List ℕ
 side_text is_before = if is_before then codes "before" else codes "after"
 
+-- the properties of its event
 abbrev pub insert_told : State → Bool → List ℕ → List ℕ → List ℕ → Told
 insert_told s is_before tops origins location =
     (codes "inserted-nodes", Nodes (in_order (all_in s) tops)) ∷ (codes "origin-nodes", Nodes (in_order (all_in s) origins))
@@ -107,10 +116,12 @@ inserted p tell is_before location (place ∷ places) s =
     in_turn (put_copy p made.0) (zip (place ∷ places) made.0) made.1 >>= reindex p made.0
     >>= tell_instance tell (codes "xforms-insert") (λ t. insert_told t is_before made.0 origins location) instance
 
+-- in this context: the set, the origin, `at`, and then the places that are planned
 abbrev pub insert_at : Profile → Tell → Acting → InsertBy → Focus → Run
 insert_at p tell x w c s =
     set_asked p x c s >>= λ set. origin_asked p x c w.origin set s >>= λ origin. at_asked p x w.at set s >>= λ at.
     inserted p tell w.is_before (location_of at c set) (planned_insert s.forest.nodes (asked_with w s c set origin at)) s
 
+-- no effect where `context` selects nothing
 abbrev pub insert : Profile → Tell → Acting → InsertBy → Run
 insert p tell x w s = moved_focus p x w.context s >>= λ c. where_some c (insert_at p tell x w) s

@@ -23,6 +23,7 @@ use Rattle.xf_form_machine.specs.NoteLines.{notes_size}
 
 -- ---- turns
 
+-- where a turn is left
 abbrev pub spent_from : ℕ → Run
 spent_from zero s = refused budget s
 spent_from (suc left) s = Ok (record s { turns = left })
@@ -33,14 +34,17 @@ spend s = spent_from s.turns s
 
 -- ---- flags and marks of models
 
+-- one element of a list is changed
 abbrev pub changed_at : ℕ → (Model → Model) → List Model → List Model
 changed_at at change [] = []
 changed_at zero change (m ∷ ms) = change m ∷ ms
 changed_at (suc at) change (m ∷ ms) = m ∷ changed_at at change ms
 
+-- one model is changed
 abbrev pub in_model : (Model → Model) → ℕ → State → State
 in_model change model s = record s { models = changed_at model change s.models }
 
+-- a model is changed, where there is one
 abbrev pub in_some_model : (Model → Model) → Option ℕ → State → State
 in_some_model change None s = s
 in_some_model change (Some model) s = in_model change model s
@@ -49,15 +53,19 @@ in_some_model change (Some model) s = in_model change model s
 abbrev pub all_due : Model → Model
 all_due m = record m { flags = record { rebuild = true; recalculate = true; revalidate = true; refresh = true } }
 
+-- all but the rebuild are due
 abbrev pub texts_due : Model → Model
 texts_due m = record m { flags = record m.flags { recalculate = true; revalidate = true; refresh = true } }
 
+-- the refresh alone is due
 abbrev pub refresh_due : Model → Model
 refresh_due m = record m { flags = record m.flags { refresh = true } }
 
+-- a node has another text
 abbrev pub with_text_mark : ℕ → Model → Model
 with_text_mark n m = record m { texts = m.texts ++ n ∷ [] }
 
+-- a node's list is another one
 abbrev pub with_list_mark : ℕ → Model → Model
 with_list_mark n m = record m { lists = m.lists ++ n ∷ [] }
 
@@ -68,9 +76,11 @@ list_changed (Some parent) s = in_some_model (λ m. all_due (with_list_mark pare
 
 -- ---- the forest
 
+-- more nodes were made than may be
 abbrev pub over_made : Profile → ℕ → List LimitWord
 over_made p made = if_over (nat_lt p.made made) Made
 
+-- with other data
 abbrev pub with_forest : Forest → State → State
 with_forest forest s = record s { forest = forest }
 
@@ -79,10 +89,12 @@ abbrev pub grown : {X : Type 0} → Profile → ℕ → Result X TreeFault → S
 grown p count (Err fault) s = refused (limit (words_of fault ++ over_made p (s.made + count))) s
 grown p count (Ok x) s = unless_passed s (over_made p (s.made + count)) (x, record s { made = s.made + count })
 
+-- the data that a change left
 abbrev pub grown_to : Result (Forest × State) Refused → Result State Refused
 grown_to (Err refusal) = Err refusal
 grown_to (Ok (forest, s)) = Ok (with_forest forest s)
 
+-- the data that a copy or a planting left, and the top of the tree that came
 abbrev pub grown_by : Result ((ℕ × Forest) × State) Refused → Result (ℕ × State) Refused
 grown_by (Err refusal) = Err refusal
 grown_by (Ok ((top, forest), s)) = Ok (top, with_forest forest s)
@@ -91,6 +103,7 @@ grown_by (Ok ((top, forest), s)) = Ok (top, with_forest forest s)
 abbrev pub is_other_text : State → ℕ → List ℕ → Bool
 is_other_text s n text = not (bytes_eq (string_value n (all_in s)) text) || nat_lt 1 (length (children_of n (all_in s)))
 
+-- a change, where the text is another one
 abbrev pub if_other : Bool → (Model → Model) → Model → Model
 if_other true change m = change m
 if_other false change m = m
@@ -120,12 +133,15 @@ detach n s = with_forest (detached n s.forest) (list_changed (parent_of n (all_i
 
 -- ---- indexes, cases, notes, calls
 
+-- with other indexes
 abbrev pub with_indexes : List Index → State → State
 with_indexes indexes s = record s { indexes = indexes }
 
+-- another case of a switch is selected
 abbrev pub set_case : ℕ → ℕ → State → State
 set_case switch place s = record s { cases = slice_set s.cases switch place }
 
+-- a note more, unless the lines of all are too long
 abbrev pub add_note : Profile → Note → Run
 add_note p note s =
     let notes = s.notes ++ note ∷ [] in unless_passed s (if_over (nat_lt p.notes (notes_size notes)) Notes) (record s { notes = notes })

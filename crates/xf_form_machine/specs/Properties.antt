@@ -23,14 +23,17 @@ value_from stood e = record { entry = e; value = option_and_then (λ v. v.value)
 abbrev pub values_of : Model → List Valued
 values_of m = map (value_from m.stood) (filter is_computed m.entries)
 
+-- those of all models
 abbrev pub values_in : State → List Valued
 values_in s = flat_map values_of s.models
 
 -- ---- properties
 
+-- the node is relevant
 abbrev pub relevant_in : State → ℕ → Bool
 relevant_in s n = is_relevant (all_in s) (values_in s) n
 
+-- the node is readonly
 abbrev pub readonly_in : State → ℕ → Bool
 readonly_in s n = is_readonly (all_in s) (values_in s) n
 
@@ -38,6 +41,7 @@ readonly_in s n = is_readonly (all_in s) (values_in s) n
 abbrev pub valid_in : State → ℕ → Bool
 valid_in s n = not (list_any (λ m. has n m.invalid) s.models)
 
+-- the four properties of a node
 abbrev pub marks_in : State → ℕ → Marks
 marks_in s n = record {
   relevant = relevant_in s n;
@@ -56,6 +60,7 @@ closed_in s = filter (readonly_in s) (map (λ x. x.number) (all_in s))
 abbrev pub pair_of : State → ℕ → ℕ → ℕ × ℕ
 pair_of s place model = (suc model, suc (count_by (λ i. i.model == model) (take place (instances_in s))))
 
+-- the two numbers with a point between
 abbrev pub pair_text : ℕ × ℕ → List ℕ
 pair_text pair = decimal pair.0 ++ codes "." ++ decimal pair.1
 
@@ -63,10 +68,12 @@ pair_text pair = decimal pair.0 ++ codes "." ++ decimal pair.1
 abbrev pub braced : ℕ × ℕ → List ℕ
 braced pair = if (pair.0 == 1) && (pair.1 == 1) then [] else codes "{" ++ pair_text pair ++ codes "}"
 
+-- of an instance that is none, as of the first one
 abbrev pub pair_by : State → ℕ → Option ℕ → ℕ × ℕ
 pair_by s place None = (1, 1)
 pair_by s place (Some model) = pair_of s place model
 
+-- of the instance at this place
 abbrev pub pair_at : State → ℕ → ℕ × ℕ
 pair_at s place = pair_by s place (model_of_instance s place)
 
@@ -75,5 +82,6 @@ abbrev pub before_path : State → Option ℕ → List ℕ
 before_path s None = []
 before_path s (Some place) = braced (pair_at s place)
 
+-- the path of a node, with its instance before it
 abbrev pub path_in : State → ℕ → List ℕ
 path_in s n = before_path s (instance_holding s n) ++ path_of n (all_in s)

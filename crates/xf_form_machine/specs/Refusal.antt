@@ -44,6 +44,7 @@ pub record Refused : Type 0 where
 
 -- ---- the words of limits that the definitions below know under their own names
 
+-- those of a tree that passes a limit
 abbrev pub words_of : TreeFault → List LimitWord
 words_of tree.Nodes = Nodes ∷ []
 words_of tree.NodeText = Text ∷ []
@@ -51,12 +52,14 @@ words_of tree.AllText = All ∷ []
 words_of tree.Depth = Depth ∷ []
 words_of fault = []
 
+-- that of settled data that pass one
 abbrev pub word_of : Passed → LimitWord
 word_of (settled.long n) = Long
 word_of settled.text = Text
 word_of settled.nodes = Nodes
 word_of settled.all_texts = All
 
+-- that of indexes that come to no end
 abbrev pub word_of_stop : Stop → LimitWord
 word_of_stop index.long = Long
 word_of_stop index.passes = Passes
@@ -77,6 +80,7 @@ abbrev pub unless_passed : {X : Type 0} → State → List LimitWord → X → R
 unless_passed s [] x = Ok x
 unless_passed s (word ∷ words) x = refused (limit (word ∷ words)) s
 
+-- the word, where its limit is passed
 abbrev pub if_over : Bool → LimitWord → List LimitWord
 if_over true word = word ∷ []
 if_over false word = []

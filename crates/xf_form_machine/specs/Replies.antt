@@ -29,14 +29,17 @@ abbrev pub count_part : Bool → ℕ → List ℕ
 count_part Bool.true count = spaced (decimal count)
 count_part Bool.false count = []
 
+-- those of the notes, in order
 abbrev pub note_lines : List Note → List ℕ
 note_lines notes = flat_map note_line notes
 
+-- the notes, then how many events were accepted
 abbrev pub ok_text : Bool → State → Posted → List ℕ
 ok_text counts s posted = note_lines posted.notes ++ line_of (codes "ok " ++ decimal s.accepted ++ count_part counts posted.evaluated)
 
 -- ---- a refused event
 
+-- the word of a limit
 abbrev pub limit_text : LimitWord → List ℕ
 limit_text word.Nodes = codes "nodes"
 limit_text word.Text = codes "text"
@@ -74,23 +77,28 @@ pub record Reply : Type 0 where
   pub after : State
   pub calls : List StoreCall
 
+-- the state stays, and no call is made
 abbrev pub without_event : State → List (List ℕ) → Reply
 without_event s texts = record { texts = texts; after = s; calls = [] }
 
+-- by how the event ended
 abbrev pub reply_outcome : Bool → State → Outcome → Reply
 reply_outcome counts s (accepted t posted) = record { texts = ok_text counts t posted ∷ []; after = t; calls = posted.calls }
 reply_outcome counts s (refused why calls) = record { texts = map line_of (refusal_texts why); after = s; calls = calls }
 
+-- to an event, or to a line that asks for the state
 abbrev pub reply_asked : Profile → Bool → State → List Answer → Asked → Reply
 reply_asked p counts s answers (asked.Event event) = reply_outcome counts s (step p s event answers)
 reply_asked p counts s answers asked.Show = without_event s (state_text p s ∷ [])
 
+-- to what was read of the line
 abbrev pub reply_read : Profile → Bool → State → List Answer → Result Asked LineFault → Reply
 reply_read p counts s answers (Ok asked) = reply_asked p counts s answers asked
 reply_read p counts s answers (Err NotJson) = without_event s (codes "no E2 NotJson\n" ∷ [])
 reply_read p counts s answers (Err NotEvent) = without_event s (codes "no E3 NotEvent\n" ∷ [])
 reply_read p counts s answers (Err Memory) = without_event s []
 
+-- a space, a tab or a carriage return
 abbrev pub is_blank : ℕ → Bool
 is_blank b = b == 32 || b == 9 || b == 13
 
@@ -103,6 +111,7 @@ reply p counts s answers line =
 
 -- ---- lines, one after the other
 
+-- those of the calls, in order
 abbrev pub answers_in : List StoreCall → List Answer
 answers_in calls = map (λ c. c.answer) calls
 

@@ -17,6 +17,7 @@ pub data Item : Type 0 where
 
 -- ---- answers
 
+-- the two answers are the same
 abbrev pub same_answer : Answer → Answer → Bool
 same_answer PutDone PutDone = true
 same_answer Failed Failed = true
@@ -38,6 +39,7 @@ if_exact answers (accepted s posted) = if are_those_of posted.calls answers then
 
 -- ---- runs
 
+-- what comes of one item
 abbrev pub take_item : Profile → State → Item → Option State
 take_item p s (line event answers) = if_exact answers (step p s event answers)
 

@@ -33,6 +33,7 @@ tell p e s = dispatch p p.depth true e s
 
 -- ---- each event
 
+-- the text of the node that the copy binds, where it binds one
 abbrev pub set_bound : Profile → List ℕ → Option ℕ → Run
 set_bound p text bound s = where_some bound (λ n. set_node p n text) s
 
@@ -42,18 +43,22 @@ try_set n c text s =
     unless (not c.enabled) disabled s >>= unless (not c.readwrite) readonly
     >>= unless (not (takes_text (element_at (interface s) n).sort c text)) not_an_item
 
+-- the text of a control's node
 abbrev pub set : Profile → ℕ → List ℕ → List ℕ → Run
 set p n rows text s =
     copy_named p s n rows >>= λ c. try_set n c text s >>= take_rows p n rows >>= set_bound p text c.node >>= settle p
 
+-- a trigger or submit
 abbrev pub activate : Profile → ℕ → List ℕ → Run
 activate p n rows s =
     copy_named p s n rows >>= λ c. unless (not c.enabled) disabled s >>= take_rows p n rows >>= settle p
     >>= tell p (plainly (codes "DOMActivate") n c.rows)
 
+-- the number is one of the rows
 abbrev pub is_row : List ℕ → ℕ → Bool
 is_row rows k = nat_le 1 k && nat_le k (length rows)
 
+-- the index of a repeat
 abbrev pub index : Profile → ℕ → ℕ → Run
 index p r k s =
     or_long s (rows_now (interface s) (quiet p s) s.indexes r) >>= λ rows. unless (not (is_row rows k)) bad_index s
@@ -63,6 +68,7 @@ index p r k s =
 abbrev pub to_copy : Profile → (State → List ℕ → Fired) → ℕ → Run
 to_copy p event n s = where_some (named_copy s n) (λ rows t. tell p (event t rows) t) s
 
+-- an event of this name
 abbrev pub to_element : Profile → List ℕ → ℕ → Run
 to_element p name n = to_copy p (λ s rows. fired name true true [] n rows) n
 
@@ -71,6 +77,7 @@ abbrev pub model_named : State → List ℕ → Option ℕ
 model_named s [] = Some (model_element s 0)
 model_named s (b ∷ bs) = element_named s (by_role s is_model) (b ∷ bs)
 
+-- what the event names is looked for, and then it is done
 abbrev pub changed_by : Profile → Event → Run
 changed_by p (Set id rows text) s = or_no_target s (element_named s (by_role s is_entry) id) >>= λ n. set p n rows text s
 changed_by p (Activate id rows) s = or_no_target s (element_named s (by_role s is_trigger) id) >>= λ n. activate p n rows s
@@ -92,6 +99,7 @@ pub record Posted : Type 0 where
   pub evaluated : ℕ
   pub calls : List StoreCall
 
+-- what a state has of its event
 abbrev pub posted : State → Posted
 posted s = record { notes = s.notes; evaluated = s.evaluated; calls = s.calls }
 
@@ -99,16 +107,19 @@ posted s = record { notes = s.notes; evaluated = s.evaluated; calls = s.calls }
 abbrev pub at_end : Profile → State → State
 at_end p s = fresh p [] (record s { forest = record s.forest { nodes = in_instances s.forest.nodes } })
 
+-- how an event ends
 pub data Outcome : Type 0 where
   -- with the new state
   accepted : State → Posted → Outcome
   -- with the calls of the store that were made; the old state stands
   refused : Refusal → List StoreCall → Outcome
 
+-- of what the event made, with what comes at its end
 abbrev pub outcome : (State → State) → Result State Refused → Outcome
 outcome ended (Err r) = refused r.why r.calls
 outcome ended (Ok s) = accepted (ended s) (posted s)
 
+-- one event more was accepted
 abbrev pub one_more : State → State
 one_more s = record s { accepted = suc s.accepted }
 

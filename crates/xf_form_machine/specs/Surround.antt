@@ -34,6 +34,7 @@ all_in s = visits s.forest.nodes
 
 -- ---- instances
 
+-- that of a root
 abbrev pub document_under : State → Option ℕ → Option ℕ
 document_under s None = None
 document_under s (Some root) = first_of (children_of root (all_in s))
@@ -42,10 +43,12 @@ document_under s (Some root) = first_of (children_of root (all_in s))
 abbrev pub document_at : State → ℕ → Option ℕ
 document_at s place = document_under s (root_of place s.forest.nodes)
 
+-- as one of the documents that expressions may name
 abbrev pub document_in : Instance → Option ℕ → List Document
 document_in i None = []
 document_in i (Some n) = record { model = i.model; id = i.id; element = n } ∷ []
 
+-- those of all instances that have one
 abbrev pub documents : State → List Document
 documents s = flat_map (λ i. document_in i.1 (document_at s i.0)) (numbered_from 0 (instances_in s))
 
@@ -53,6 +56,7 @@ documents s = flat_map (λ i. document_in i.1 (document_at s i.0)) (numbered_fro
 abbrev pub instance_holding : State → ℕ → Option ℕ
 instance_holding s n = instance_of (top_of n (all_in s)) s.forest.nodes
 
+-- the model of the instance at this place
 abbrev pub model_of_instance : State → ℕ → Option ℕ
 model_of_instance s place = option_map (λ i. i.model) (slice_get (instances_in s) place)
 
@@ -62,6 +66,7 @@ model_holding s n = option_and_then (model_of_instance s) (instance_holding s n)
 
 -- ---- surroundings
 
+-- what is given to the expressions of a form, within an event or outside
 abbrev pub given : Profile → State → Option Told → Given
 given p s event = record {
   documents = documents s;
@@ -75,6 +80,7 @@ given p s event = record {
 abbrev pub scope : Profile → State → ℕ → Scope
 scope p s model = record { functions = p.functions; given = given p s None; model = model; rules = s.form.rules }
 
+-- all that surrounds them
 abbrev pub around : Profile → State → Option Told → Around
 around p s event = record {
   functions = p.functions;

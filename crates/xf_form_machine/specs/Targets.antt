@@ -18,6 +18,7 @@ use Rattle.xf_form_machine.specs.Choose.{set_index}
 
 -- ---- elements
 
+-- the text is not empty
 abbrev pub is_some_text : List ℕ → Bool
 is_some_text [] = false
 is_some_text (b ∷ bs) = true
@@ -27,6 +28,7 @@ abbrev pub element_named : State → (ℕ → Bool) → List ℕ → Option ℕ
 element_named s test id =
     option_map (λ e. e.0) (find (λ e. is_some_text id && bytes_eq e.1.id id && test e.0) (numbered_from 0 (interface s).elements))
 
+-- a control whose text is set
 abbrev pub is_entry : Role → Bool
 is_entry role.entry = true
 is_entry as_what = false
@@ -37,17 +39,21 @@ is_trigger role.trigger = true
 is_trigger (role.submit target) = true
 is_trigger as_what = false
 
+-- a model
 abbrev pub is_model : Role → Bool
 is_model (role.model k) = true
 is_model as_what = false
 
+-- a submission
 abbrev pub is_submission : Role → Bool
 is_submission (role.submission k) = true
 is_submission as_what = false
 
+-- of an element, by its number
 abbrev pub by_role : State → (Role → Bool) → ℕ → Bool
 by_role s test n = test (role_at s.form n)
 
+-- the element is a repeat
 abbrev pub is_repeat_in : State → ℕ → Bool
 is_repeat_in s n = is_repeat_sort (element_at (interface s) n).sort
 
@@ -58,6 +64,7 @@ or_no_target s (Some x) = Ok x
 
 -- ---- copies
 
+-- the copy is that of this element in these rows
 abbrev pub is_copy_at : ℕ → List ℕ → Copy → Bool
 is_copy_at n rows c = (c.element == n) && bytes_eq c.rows rows
 
@@ -79,6 +86,7 @@ takes_text sort c text = true
 
 -- ---- the rows that are named become the indexed ones
 
+-- the model in scope, through these elements
 abbrev pub scope_through : Interface → ℕ → List Element → ℕ
 scope_through f model [] = model
 scope_through f model (e ∷ es) = scope_through f (scope_of f model e) es

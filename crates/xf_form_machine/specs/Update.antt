@@ -19,6 +19,7 @@ use Rattle.xf_form_machine.specs.Events.{Tell, told_by}
 
 -- ---- indexes
 
+-- the state with these indexes
 abbrev pub with_brought : State → Result (List Index) Stop → Result State Refused
 with_brought s (Err stop) = refused (limit (word_of_stop stop ∷ [])) s
 with_brought s (Ok indexes) = Ok (with_indexes indexes s)
@@ -29,6 +30,7 @@ reindex p added s = with_brought s (brought_up p.passes (interface s) (quiet p s
 
 -- ---- the refresh
 
+-- unless there are more copies and items than may be
 abbrev pub within_controls : Profile → List Copy → State → Result (List Copy) Refused
 within_controls p list s = unless_passed s (if_over (nat_lt p.controls (copy_count list)) Controls) list
 
@@ -42,6 +44,7 @@ refresh p cleared tell s =
     reindex p [] s >>= λ t. shown p t >>= λ list.
     in_turn (λ n. tell (told_by n)) (notifications t.controls list) (cleared (record t { controls = list }))
 
+-- no refresh of a model is due
 abbrev pub no_refresh : Model → Model
 no_refresh m = record m { flags = record m.flags { refresh = false } }
 
@@ -49,34 +52,43 @@ no_refresh m = record m { flags = record m.flags { refresh = false } }
 abbrev pub refresh_cleared : ℕ → State → State
 refresh_cleared model s = in_model no_refresh model s
 
+-- of all models
 abbrev pub all_cleared : State → State
 all_cleared s = record s { models = map no_refresh s.models }
 
 -- ---- the flagged behaviours of a model
 
+-- a behaviour, where its flag is set
 abbrev pub if_due : (Flags → Bool) → ℕ → Run → Run
 if_due flag model run s = when (flag (model_at s model).flags) run s
 
+-- the rebuild
 abbrev pub due_rebuild : Profile → ℕ → Run
 due_rebuild p model = if_due (λ f. f.rebuild) model (rebuild p model)
 
+-- and the recalculation
 abbrev pub due_recalculation : Profile → ℕ → Run
 due_recalculation p model s = due_rebuild p model s >>= if_due (λ f. f.recalculate) model (recalculate p model)
 
+-- and the revalidation
 abbrev pub due_revalidation : Profile → ℕ → Run
 due_revalidation p model s = due_recalculation p model s >>= if_due (λ f. f.revalidate) model (λ t. Ok (revalidate p model t))
 
 -- ---- rounds
 
+-- one of the four is due
 abbrev pub has_flag : Flags → Bool
 has_flag f = f.rebuild || f.recalculate || f.revalidate || f.refresh
 
+-- so of one of the models
 abbrev pub is_due : State → Bool
 is_due s = list_any (λ m. has_flag m.flags) s.models
 
+-- the refresh of one of the models is due
 abbrev pub is_refresh_due : State → Bool
 is_refresh_due s = list_any (λ m. m.flags.refresh) s.models
 
+-- model by model, then the refresh
 abbrev pub round : Profile → Tell → Run
 round p tell s = in_turn (due_revalidation p) (counted_from 0 (length s.models)) s >>= λ t. when (is_refresh_due t) (refresh p all_cleared tell) t
 

@@ -9,7 +9,7 @@ use Rattle.xf_ast.specs.declared.element.Kind.TheVariants as kind
 use Rattle.xf_ast.specs.declared.element.Part.TheVariants as part
 use Rattle.xf_ast.specs.declared.form.Form.{Form}
 use Rattle.xf_ast.specs.Ordered.{IsOrdered, numbered, are_later, are_in_order, has_its_children, are_listed, are_counted, repeat_in, place_in}
-use Rattle.xf_ui.specs.Interface.{Sort, interface_of, by_bind, bound_of}
+use Rattle.xf_ui.specs.Interface.{Sort, interface_of, unbound, by_bind, bound_of, sort_of_control, element_of}
 use Rattle.xf_ui.specs.Interface as sort
 
 abbrev element : Option ℕ → List ℕ → Kind → written.Element
@@ -87,3 +87,20 @@ the_sorts = refl
 
 a_bind : bound_of (Bind 3) ≡ by_bind 3
 a_bind = refl
+
+no_binding : bound_of Absent ≡ unbound
+no_binding = refl
+
+-- what is chosen by a select, and what other texts are allowed
+several_of_a_select : sort_of_control (control.Select true) ≡ sort.select true true
+several_of_a_select = refl
+
+one_of_a_select : sort_of_control (control.SelectOne false) ≡ sort.select false false
+one_of_a_select = refl
+
+a_submit_as_a_field : sort_of_control (control.Submit (Some 3)) ≡ sort.field
+a_submit_as_a_field = refl
+
+-- a bind binds nothing for what stands in it
+a_bind_is_no_binding : (element_of (form elements []).tables (element (Some 1) [] (kind.Bind 0))).binding ≡ unbound
+a_bind_is_no_binding = refl

@@ -30,6 +30,7 @@ alone n = record { node = n; position = 1; size = 1 }
 
 -- ---- what a binding selects
 
+-- the nodes that an expression selects at a context node; none of a plain value
 abbrev pub selected_by : Around → ℕ → Focus → Meaning → Option (List ℕ)
 selected_by a model c m = option_map nodes_of (m (setting a model c.node) c)
 
@@ -40,9 +41,11 @@ all_bound a model unbound (Some c) = Some []
 all_bound a model (nodes m) (Some c) = option_map (bound_nodes a.all) (selected_by a model c m)
 all_bound a model (by_bind k) (Some c) = a.bound k
 
+-- what stands for a node: for a text its parent, for a root its document element
 abbrev pub stands_for : Around → ℕ → Option ℕ
 stands_for a n = first_of (stand_ins a.all (find (λ x. x.number == n) a.all))
 
+-- what stands for the first of the nodes
 abbrev pub first_stand : Around → List ℕ → Option ℕ
 first_stand a [] = None
 first_stand a (n ∷ ns) = stands_for a n

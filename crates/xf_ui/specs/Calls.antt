@@ -19,6 +19,7 @@ pub record Event : Type 0 where
 
 -- ---- handlers, each with its element
 
+-- the handler that an element is, where it is one
 abbrev pub handlers_of : ℕ → Sort → List (ℕ × Handler)
 handlers_of n (action (Some h)) = (n, h) ∷ []
 handlers_of n sort = []
@@ -27,6 +28,7 @@ handlers_of n sort = []
 abbrev pub handlers : Interface → List (ℕ × Handler)
 handlers f = flat_map (λ e. handlers_of e.0 e.1.sort) (numbered_from 0 f.elements)
 
+-- the observer that is named is this element
 abbrev pub is_element : Option ℕ → ℕ → Bool
 is_element None n = false
 is_element (Some m) n = m == n
@@ -36,11 +38,13 @@ abbrev pub may_have : Option ℕ → ℕ → Bool
 may_have None n = true
 may_have (Some m) n = m == n
 
+-- the two phases are the same
 abbrev pub is_phase : Phase → Phase → Bool
 is_phase Capture Capture = true
 is_phase Default Default = true
 is_phase one other = false
 
+-- the handler is called for the event, in this phase at this observer
 abbrev pub hears : Event → Phase → ℕ → Handler → Bool
 hears e phase observer h =
     bytes_eq h.event e.name && is_element h.observer observer && is_phase h.phase phase && may_have h.target e.target
@@ -57,6 +61,7 @@ stages f e =
     map (heard_at f e Capture) (path_to f e.target)
     ++ heard_at f e Default e.target ∷ (if e.bubbles then map (heard_at f e Default) (ancestors f e.target) else [])
 
+-- one of the handlers of a stage stops the event
 abbrev pub stops : List (ℕ × Handler) → Bool
 stops stage = list_any (λ h. h.1.stops) stage
 

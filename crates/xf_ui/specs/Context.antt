@@ -19,6 +19,7 @@ pub data Place : Type 0 where
   lost : Place
   on : Focus → Place
 
+-- what the elements above give to one that stands in them
 pub record Inside : Type 0 where
   -- the model in scope
   pub model : ℕ
@@ -32,6 +33,7 @@ focus_in a model free = option_map alone (first_document model a.given.documents
 focus_in a model lost = None
 focus_in a model (on c) = Some c
 
+-- the model of the bind that is named, else the one that `model` names
 abbrev pub named_model : Interface → Bound → Option ℕ → Option ℕ
 named_model f (by_bind k) model = slice_get f.bind_models k
 named_model f binding model = model
@@ -45,18 +47,22 @@ abbrev pub standing_in : ℕ → List ℕ → Focus
 standing_in n rows =
     if has n rows then record { node = n; position = suc (position_or_len (λ m. m == n) rows); size = length rows } else alone n
 
+-- the row that stands first in the chain; without one the place is lost
 abbrev pub row_place : List ℕ → List ℕ → Place
 row_place rows [] = lost
 row_place rows (n ∷ ns) = on (standing_in n rows)
 
+-- the rows of the repeats further in
 abbrev pub rest : List ℕ → List ℕ
 rest [] = []
 rest (n ∷ ns) = ns
 
+-- the bound node by itself
 abbrev pub place_of : Option ℕ → Place
 place_of None = lost
 place_of (Some n) = on (alone n)
 
+-- into an element with a binding: its first node is the place from there on
 abbrev pub enter_bound : Around → Inside → ℕ → Bound → Option Inside
 enter_bound a s model unbound = Some (record s { model = model })
 enter_bound a s model binding =
@@ -67,10 +73,12 @@ abbrev pub enter_sent : Around → Inside → ℕ → Bound → Option Inside
 enter_sent a s model unbound = Some (record s { model = model })
 enter_sent a s model binding = enter_bound a (record s { place = free }) model binding
 
+-- into a repeat: the next row of the chain is the place from there on
 abbrev pub enter_row : Around → Inside → ℕ → Bound → Option Inside
 enter_row a s model binding =
     option_map (λ rows. record { model = model; place = row_place rows s.rows; rows = rest s.rows }) (all_bound a model binding (focus_in a model s.place))
 
+-- by the sort of the element
 abbrev pub enter_by : Around → Inside → ℕ → Bound → Sort → Option Inside
 enter_by a s model binding (repeated k start) = enter_row a s model binding
 enter_by a s model binding other = enter_sent a s model binding
@@ -80,6 +88,7 @@ enter_by a s model binding sort = enter_bound a s model binding
 abbrev pub enter : Interface → Around → Inside → Element → Option Inside
 enter f a s e = enter_by a s (scope_of f s.model e) e.binding e.sort
 
+-- through these elements, one in the other
 abbrev pub entered : Interface → Around → Inside → List Element → Option Inside
 entered f a s [] = Some s
 entered f a s (e ∷ es) = do
@@ -88,6 +97,7 @@ entered f a s (e ∷ es) = do
 
 -- ---- of an element, under a chain of row nodes of the repeats around it
 
+-- where the expressions of an element are evaluated
 pub record Context : Type 0 where
   pub model : ℕ
   -- None where it has no context node
@@ -97,9 +107,11 @@ pub record Context : Type 0 where
 abbrev pub inside : Interface → Around → List ℕ → ℕ → Option Inside
 inside f a rows n = entered f a (record { model = 0; place = free; rows = rows }) (elements_on f (path_to f n))
 
+-- by what the elements around it give
 abbrev pub context_in : Interface → Around → Inside → Element → Context
 context_in f a s e = let model = scope_of f s.model e in record { model = model; focus = focus_in a model s.place }
 
+-- of an element of the form
 abbrev pub context_of : Interface → Around → List ℕ → ℕ → Option Context
 context_of f a rows n = option_map (λ s. context_in f a s (element_at f n)) (inside f a rows n)
 

@@ -38,6 +38,7 @@ abbrev pub own_binding : Element → Sort → Bound
 own_binding e (repeated k start) = unbound
 own_binding e sort = e.binding
 
+-- the node that an element binds in these rows
 abbrev pub node_of : Interface → Around → List ℕ → ℕ → Option (Option ℕ)
 node_of f a rows n = do
   c ← context_of f a rows n
@@ -45,10 +46,12 @@ node_of f a rows n = do
 
 -- ---- its value: that of the bound node, or of an output's expression where there is a context node
 
+-- the text of an output's expression: no value without a context node
 abbrev pub printed_value : Around → Context → Meaning → Option Focus → Option (Option (List ℕ))
 printed_value a c m None = Some None
 printed_value a c m (Some x) = option_map Some (text_worth m (setting a c.model x.node) x)
 
+-- by what the copy binds, else by its sort
 abbrev pub value_by : Around → Context → Bound → Sort → Option ℕ → Option (Option (List ℕ))
 value_by a c binding sort (Some n) = option_map Some (string_of_node (setting a c.model n) n)
 value_by a c unbound (output (Some m)) None = printed_value a c m c.focus
@@ -56,6 +59,7 @@ value_by a c binding sort None = Some None
 
 -- ---- its states
 
+-- there is a node, and it is relevant
 abbrev pub relevant_if : (ℕ → Marks) → Option ℕ → Bool
 relevant_if marks None = false
 relevant_if marks (Some n) = (marks n).relevant
@@ -65,6 +69,7 @@ abbrev pub is_open_by : (ℕ → Marks) → Bound → Option ℕ → Bool
 is_open_by marks unbound selected = true
 is_open_by marks binding selected = relevant_if marks selected
 
+-- so of an element in these rows
 abbrev pub is_open : Interface → Around → (ℕ → Marks) → List ℕ → ℕ → Option Bool
 is_open f a marks rows n =
     option_map (is_open_by marks (own_binding (element_at f n) (element_at f n).sort)) (node_of f a rows n)
@@ -73,6 +78,7 @@ is_open f a marks rows n =
 abbrev pub with_containers : Interface → ℕ → List ℕ
 with_containers f n = n ∷ filter (λ m. is_container (element_at f m).sort) (ancestors f n)
 
+-- all of these are open, and no case around is unselected
 abbrev pub is_enabled : Interface → Around → (ℕ → Marks) → List ℕ → List ℕ → ℕ → Option Bool
 is_enabled f a marks cases rows n =
     option_map (λ all. list_all (λ b. b) all && is_in_selected f cases n) (each (is_open f a marks rows) (with_containers f n))
@@ -81,16 +87,19 @@ is_enabled f a marks cases rows n =
 abbrev pub no_marks : Marks
 no_marks = record { relevant = true; readonly = false; required = false; valid = true }
 
+-- the properties of the bound node
 abbrev pub marks_if : (ℕ → Marks) → Option ℕ → Marks
 marks_if marks None = no_marks
 marks_if marks (Some n) = marks n
 
 -- ---- the copies
 
+-- the items of a select; other controls have none
 abbrev pub items_if : Interface → Around → List ℕ → ℕ → Sort → Option (List Item)
 items_if f a rows n (select many is_free) = items_of f a rows n
 items_if f a rows n sort = Some []
 
+-- the copy that is made of all this
 abbrev pub copy_with : ℕ → List ℕ → Option ℕ → Option (List ℕ) → Bool → Marks → List Item → Copy
 copy_with n rows node value enabled marks items = record {
   element = n;

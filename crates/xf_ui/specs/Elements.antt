@@ -36,10 +36,12 @@ elements_on f ns = map (element_at f) ns
 
 -- ---- sorts of elements
 
+-- the sort of a repeat
 abbrev pub is_repeat_sort : Sort → Bool
 is_repeat_sort (repeated k start) = true
 is_repeat_sort sort = false
 
+-- the element is a repeat
 abbrev pub is_repeat : Interface → ℕ → Bool
 is_repeat f n = is_repeat_sort (element_at f n).sort
 
@@ -47,10 +49,12 @@ is_repeat f n = is_repeat_sort (element_at f n).sort
 abbrev pub repeats_around : Interface → ℕ → List ℕ
 repeats_around f n = filter (is_repeat f) (path_to f n)
 
+-- the number of a repeat among the repeats
 abbrev pub repeat_number : Sort → ℕ
 repeat_number (repeated k start) = k
 repeat_number sort = 0
 
+-- the index that a repeat starts at
 abbrev pub repeat_start : Sort → ℕ
 repeat_start (repeated k start) = start
 repeat_start sort = 1
@@ -72,10 +76,12 @@ is_control sort = is_container sort
 
 -- ---- through host elements
 
+-- the sort of an action
 abbrev pub is_action : Sort → Bool
 is_action (action handler) = true
 is_action sort = false
 
+-- the element itself, or what stands in it where it is a host element
 abbrev pub through : (List ℕ → List ℕ) → Interface → ℕ → Sort → List ℕ
 through further f n host = further (children f n)
 through further f n sort = n ∷ []

@@ -55,9 +55,8 @@ pub data Sort : Type 0 where
   -- when it is called, where it is a handler
   action : Option Handler → Sort
 
--- an element of a form
+-- an element of a form; its id is empty where it has none
 pub record Element : Type 0 where
-  -- empty where it has none
   pub id : List ℕ
   pub parent : Option ℕ
   pub parts : List Part
@@ -76,18 +75,19 @@ pub record Interface : Type 0 where
   -- the model of each bind
   pub bind_models : List ℕ
 
--- ---- of the tables of a form
-
+-- what is written as a binding
 abbrev pub bound_of : Binding → Bound
 bound_of Absent = unbound
 bound_of (Nodes expr) = nodes (meaning expr)
 bound_of (Bind k) = by_bind k
 
+-- what a submission is to select, as a binding
 abbrev pub selected_of : Selection → Bound
 selected_of selection.Whole = unbound
 selected_of (selection.Ref expr) = nodes (meaning expr)
 selected_of (selection.Bind k) = by_bind k
 
+-- of the submission in the tables of a form
 abbrev pub sent_of : Option Submission → Bound
 sent_of None = unbound
 sent_of (Some s) = selected_of s.selection
@@ -97,6 +97,7 @@ abbrev pub binding_of : Tables → Kind → Binding → Bound
 binding_of tables (kind.Submission k) binding = sent_of (slice_get tables.submissions k)
 binding_of tables other_kind binding = bound_of binding
 
+-- the sort of a control or container
 abbrev pub sort_of_control : Control → Sort
 sort_of_control control.Group = group
 sort_of_control (control.Switch k) = switch k
@@ -111,6 +112,7 @@ sort_of_control (control.SelectOne is_free) = select false is_free
 sort_of_control control.Trigger = field
 sort_of_control (control.Submit k) = field
 
+-- the sort of an element
 abbrev pub sort_of : Kind → Sort
 sort_of kind.Host = host
 sort_of (kind.Model k) = other
@@ -126,6 +128,7 @@ sort_of (kind.Value expr) = item_value (option_map meaning expr)
 sort_of (kind.Output expr) = inline (option_map meaning expr)
 sort_of (kind.Action a) = action a.handler
 
+-- an element, by the tables of its form
 abbrev pub element_of : Tables → written.Element → Element
 element_of tables e = record {
   id = e.id;
@@ -136,6 +139,7 @@ element_of tables e = record {
   sort = sort_of e.kind;
 }
 
+-- the elements of a form as they are seen here
 abbrev pub interface_of : Form → Interface
 interface_of form = record {
   elements = map (element_of form.tables) form.elements;

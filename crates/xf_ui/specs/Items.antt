@@ -75,6 +75,7 @@ items_of f a rows n = do
 abbrev pub words : List ℕ → List (List ℕ)
 words text = filter (λ word. not (is_empty word)) (slice_split is_space text)
 
+-- one of the items has this value
 abbrev pub has_value : List Item → List ℕ → Bool
 has_value items text = list_any (λ i. bytes_eq i.value text) items
 

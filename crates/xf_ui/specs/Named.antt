@@ -16,6 +16,7 @@ abbrev pub with_row : (ℕ → Option (Option (List ℕ))) → Option ℕ → Op
 with_row further None = Some None
 with_row further (Some n) = further n
 
+-- by the rows that were found so far, the repeats further in and the numbers that are left
 abbrev pub named_from : Interface → Around → List ℕ → List ℕ → List ℕ → Option (Option (List ℕ))
 named_from f a chain [] [] = Some (Some chain)
 named_from f a chain (r ∷ rs) (k ∷ ks) = do
@@ -29,10 +30,12 @@ named_rows f a n numbers = named_from f a [] (repeats_around f n) numbers
 
 -- ---- by the indexes, as far as these go: the rows of an event at a model or at what stands in one
 
+-- what follows a row, where there is one
 abbrev pub cut_before : Option ℕ → List ℕ → List ℕ
 cut_before None ns = []
 cut_before (Some n) ns = n ∷ ns
 
+-- of these repeats, one in the other
 abbrev pub cut_at : Interface → List Index → List ℕ → List ℕ
 cut_at f indexes [] = []
 cut_at f indexes (r ∷ rs) = cut_before (index_of f indexes r).node (cut_at f indexes rs)
@@ -43,9 +46,11 @@ rows_cut f indexes n = cut_at f indexes (repeats_around f n)
 
 -- ---- by the target of the event that a handler is called for
 
+-- the row for one repeat around the handler, which stands at this place in the chain
 abbrev pub row_for : Interface → List Index → List ℕ → List ℕ → ℕ → ℕ → Option ℕ
 row_for f indexes around_target rows place r = if has r around_target then slice_get rows place else (index_of f indexes r).node
 
+-- the rows for these repeats, from this place of the chain on
 abbrev pub rows_from : Interface → List Index → List ℕ → List ℕ → ℕ → List ℕ → Option (List ℕ)
 rows_from f indexes around_target rows place [] = Some []
 rows_from f indexes around_target rows place (r ∷ rs) = do

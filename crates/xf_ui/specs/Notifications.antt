@@ -14,6 +14,7 @@ pub record Notification : Type 0 where
 
 -- ---- of one copy
 
+-- both have the same value, or none
 abbrev pub same_value : Option (List ℕ) → Option (List ℕ) → Bool
 same_value None None = true
 same_value (Some text) (Some other) = bytes_eq text other
@@ -30,6 +31,7 @@ state_names on off true false = off ∷ []
 state_names on off false true = on ∷ []
 state_names on off false false = []
 
+-- the events that tell how a copy differs from what it was, in their order
 abbrev pub names_of : Copy → Copy → List (List ℕ)
 names_of old new =
     value_names old new
@@ -40,9 +42,11 @@ names_of old new =
 
 -- ---- of two lists
 
+-- the copies are of the same element in the same rows
 abbrev pub is_same_copy : Copy → Copy → Bool
 is_same_copy one other = (one.element == other.element) && bytes_eq one.rows other.rows
 
+-- events of these names to a copy
 abbrev pub told : Copy → List (List ℕ) → List Notification
 told c [] = []
 told c (name ∷ names) = record { name = name; target = c.element; rows = c.rows } ∷ told c names
