@@ -41,6 +41,7 @@ pub mod OverLemmas
 pub mod NamedLemmas
 pub mod ChildLemmas
 pub mod WalkLemmas
+pub mod SoughtLemmas
 pub mod FoundLemmas
 pub mod SiblingLemmas
 pub mod AheadLemmas

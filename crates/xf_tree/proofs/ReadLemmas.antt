@@ -24,7 +24,7 @@ absent-node n (x ∷ xs) h = let p = absent-parts n x xs h in rw p.0 (absent-nod
 pub absent-content : (n : ℕ) (xs : List Node) → has_number n xs ≡ false → content_at n xs ≡ None
 absent-content n xs h = ap (option_map (λ (x : Node). x.content)) (absent-node n xs h)
 
-find-none : (n : ℕ) (above us : List Node) → has_number n us ≡ false → find (λ (v : Visit). v.number == n) (visits_from above us) ≡ None
+pub find-none : (n : ℕ) (above us : List Node) → has_number n us ≡ false → find (λ (v : Visit). v.number == n) (visits_from above us) ≡ None
 find-none n above [] h = refl
 find-none n above (u ∷ us) h = let p = absent-parts n u us h in rw p.0 (find-none n (u ∷ still_above u.depth above) us p.1)
 

@@ -11,6 +11,8 @@ pub mod Contents
 pub mod Kids
 pub mod Older
 pub mod Walks
+pub mod Sought
+pub mod Found
 pub mod Reads
 pub mod Below
 pub mod Siblings

@@ -1,5 +1,5 @@
 -- What the entries of the slab stand for, by the table of names.
-use Rattle.std.specs.Prelude.{ℕ, ◌+◌, List, map, min, Option, Some, None, IsSome, option_map, slice_get}
+use Rattle.std.specs.Prelude.{ℕ, Bool, true, false, if◌then◌else◌, ◌+◌, List, map, min, Option, Some, None, IsSome, option_map, slice_get}
 use Rattle.slab.specs.Slab.{Slab, get, slab_len}
 use Rattle.xf_doc.specs.declared.content.Content.{Content}
 use Rattle.xf_doc.specs.declared.content.Content.TheVariants.{Root, Element, Attribute, Text}
@@ -7,6 +7,8 @@ use Rattle.xf_doc.specs.declared.content.Kind.{Kind}
 use Rattle.xf_doc.specs.declared.content.Kind.TheVariants as kind
 use Rattle.xf_tree.specs.declared.names.Known.{Known}
 use Rattle.xf_tree.specs.declared.slots.Entry.{Entry}
+use Rattle.xf_tree.specs.declared.sought.Principal.{Principal}
+use Rattle.xf_tree.specs.declared.sought.Principal.TheVariants as principal
 use Rattle.xf_tree.specs.Names.{NameTable}
 use Rattle.xf_tree.specs.Slot.{Slot}
 
@@ -51,3 +53,15 @@ number_by kind.Attribute number = Some number
 abbrev pub name_number : Option Entry → Option ℕ
 name_number None = None
 name_number (Some e) = number_by e.kind e.name
+
+-- a kind is the principal one
+abbrev pub is_of_kind : Principal → Kind → Bool
+is_of_kind principal.Element kind.Element = true
+is_of_kind principal.Element other = false
+is_of_kind principal.Attribute kind.Attribute = true
+is_of_kind principal.Attribute other = false
+
+-- the number of the name of an element, or of an attribute
+abbrev pub principal_number : Principal → Option Entry → Option ℕ
+principal_number p None = None
+principal_number p (Some e) = if is_of_kind p e.kind then Some e.name else None

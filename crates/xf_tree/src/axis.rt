@@ -57,7 +57,7 @@ fn walk_from<'a>(
 }
 
 /// The first node of a walk and what it has left then.
-fn start(
+pub fn start(
     rows: &[Row],
     slots: &Slots,
     hints: &[Hint],

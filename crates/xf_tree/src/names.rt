@@ -5,12 +5,14 @@ ghost use Rattle.std.specs.Hash as fed;
 ghost use Rattle.std.proofs.Common.{rules};
 ghost use Rattle.xf_doc.specs.WellFormed.{have_same_name};
 ghost use Rattle.xf_tree.specs.Names.{named, KeepsNames};
+ghost use Rattle.xf_tree.specs.Sought.{has_name, is_in_space};
 
 use indexmap::IndexSet;
 use std::alloc::{AllocError, Global};
 use std::hash::{Hash, Hasher};
 use std::marker::Model;
 use xf_doc::Name;
+use xf_name::QName;
 
 // A name is told by a number of 32 bits.
 const NAME_LIMIT: usize = 4294967296;
@@ -116,6 +118,28 @@ impl Names {
         match (self.get(one), self.get(other)) {
             (Some(first), Some(second)) => one == other || means_same(first, second),
             _ => false,
+        }
+    }
+
+    /// Whether a number is of a name with this namespace and local part.
+    pub fn has_name(&self, number: u32, asked: &QName) -> bool
+        ensures { result ≡ has_name asked.now (named self.now.names (Some number)) }
+    {
+        match self.get(number) {
+            Some(name) => {
+                asked.space == name.meaning.space && asked.local.is(name.meaning.local.as_str())
+            }
+            None => false,
+        }
+    }
+
+    /// Whether a number is of a name in a namespace.
+    pub fn is_in_space(&self, number: u32, space: u16) -> bool
+        ensures { result ≡ is_in_space space (named self.now.names (Some number)) }
+    {
+        match self.get(number) {
+            Some(name) => space == name.meaning.space,
+            None => false,
         }
     }
 

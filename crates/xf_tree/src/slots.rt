@@ -5,12 +5,14 @@ ghost use Rattle.xf_doc.specs.Forest.{is_attribute, is_text, kind_of, name_in, o
 ghost use Rattle.xf_doc.specs.StringValue.{characters};
 ghost use Rattle.xf_doc.specs.WellFormed.{have_same_name};
 ghost use Rattle.xf_tree.specs.Seen.{seen_content};
-ghost use Rattle.xf_tree.specs.Slots.{name_number};
+ghost use Rattle.xf_tree.specs.Slots.{name_number, is_of_kind, principal_number};
+ghost use Rattle.xf_tree.specs.Sought.{is_sought};
 ghost use Rattle.xf_tree.specs.Texts.{valued_slot, owned_slot};
 ghost use Rattle.xf_tree.specs.Tree.{number_in, content_in};
 
 use crate::names::Names;
 use crate::seen::Seen;
+use crate::sought::{Principal, Sought};
 use slab::Slab;
 use std::alloc::{AllocError, Global};
 use std::marker::Model;
@@ -156,6 +158,33 @@ impl Slots {
         }
     }
 
+    /// Whether what is under a key is sought. No name is fetched where only the kind is asked.
+    pub fn is_sought(&self, key: usize, sought: Sought<'_>) -> bool
+        ensures { result ≡ is_sought sought.entry (content_in (get self.now key)) }
+    {
+        match sought {
+            Sought::Any => true,
+            Sought::Texts => match self.kind(key) {
+                Kind::Text => true,
+                _ => false,
+            },
+            Sought::All(principal) => is_of(principal, self.kind(key)),
+            Sought::InSpace(principal, space) => {
+                match principal_number(&self.slab, key, principal) {
+                    Some(number) => self.names.is_in_space(number, space),
+                    None => false,
+                }
+            }
+            Sought::Named(principal, asked) => {
+                match principal_number(&self.slab, key, principal) {
+                    Some(number) => self.names.has_name(number, asked),
+                    None => false,
+                }
+            }
+            Sought::Nothing => false,
+        }
+    }
+
     /// The key that the next node takes.
     pub fn vacant_key(&self) -> usize
         ensures value { result ≡ self.now.vacant_key }
@@ -267,5 +296,37 @@ fn name_number(slab: &Slab<Entry>, key: usize) -> Option<u32>
             _ => None,
         },
         None => None,
+    }
+}
+
+/// The number of the name of an element, or of an attribute.
+fn principal_number(slab: &Slab<Entry>, key: usize, principal: Principal) -> Option<u32>
+    ensures { result ≡ principal_number principal (get slab.now key) }
+{
+    match slab.get(key) {
+        Some(entry) => {
+            if is_of(principal, entry.kind) {
+                Some(entry.name)
+            } else {
+                None
+            }
+        }
+        None => None,
+    }
+}
+
+/// Whether a kind is the principal one of an axis.
+fn is_of(principal: Principal, kind: Kind) -> bool
+    ensures { result ≡ is_of_kind principal kind }
+{
+    match principal {
+        Principal::Element => match kind {
+            Kind::Element => true,
+            _ => false,
+        },
+        Principal::Attribute => match kind {
+            Kind::Attribute => true,
+            _ => false,
+        },
     }
 }

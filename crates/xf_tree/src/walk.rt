@@ -76,7 +76,7 @@ impl<'a> Iterator for Walk<'a> {
 }
 
 /// The row that comes next, and what is left behind it.
-fn step(rows: &[Row], slots: &Slots, hints: &[Hint], left: Left) -> Option<(usize, Left)>
+pub fn step(rows: &[Row], slots: &Slots, hints: &[Hint], left: Left) -> Option<(usize, Left)>
     requires sized { Sized rows.now }
     requires ready { IsReady rows.now left }
     ensures { MatchOption result (left_of slots.now rows.now left ≡ []) (λ r. IsStep slots.now rows.now left r.0 r.1) }

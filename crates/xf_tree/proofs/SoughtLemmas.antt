@@ -1,0 +1,130 @@
+-- What is sought among the nodes of a walk.
+use Rattle.std.proofs.Common.{◌≡◌, ℕ, zero, suc, ◌+◌, ◌-◌, ◌<◌, ◌≤◌, ◌&&◌, Bool, true, false, List, [], ◌∷◌, ◌++◌, map, length, slice_get, Option, Some, option_map, refl, sym, ap, ◌∙◌, arith, get_or}
+use Rattle.std.specs.Prelude.{filter}
+use Rattle.slab.specs.Slab.{Slab, get}
+use Rattle.xf_name.specs.declared.axis.Axis.{Axis}
+use Rattle.xf_doc.specs.declared.content.Node.{Node}
+use Rattle.xf_doc.specs.Axis.{axis_from}
+use Rattle.xf_doc.specs.Forest.{content_at, has_number}
+use Rattle.xf_doc.specs.Visit.{Visit, visits}
+use Rattle.xf_tree.specs.declared.rows.Row.{Row}
+use Rattle.xf_tree.specs.declared.sought.Sought.{Sought}
+use Rattle.xf_tree.specs.declared.walk.Left.{Left}
+use Rattle.xf_tree.specs.Slot.{Slot}
+use Rattle.xf_tree.specs.Sought.{is_met, is_sought, met_on}
+use Rattle.xf_tree.specs.Found.{alone_where, is_met_in, left_met, walk_met, sought_within, is_kin_sought, is_plain_sought, IsFound}
+use Rattle.xf_tree.specs.Tree.{node_of, content_in, is_kin, no_row, same_kind}
+use Rattle.xf_tree.specs.Walks.{between, chosen, is_plain, left_of, number_of_row, IsStep, AreNodes}
+use Rattle.xf_tree.proofs.PlaceLemmas.{stands}
+use Rattle.xf_tree.proofs.NodeLemmas.{parted-node}
+use Rattle.xf_tree.proofs.ReadLemmas.{find-none}
+use Rattle.xf_tree.proofs.WalkLemmas.{Behind, kin-found, kin-passed, between-first, between-none, chosen-yes, chosen-no}
+
+-- on no axis from a node that is not there
+pub met-absent : (axis : Axis) (sought : Sought) (nodes : List Node) (n : ℕ) → has_number n nodes ≡ false → met_on axis sought nodes n ≡ []
+met-absent axis sought nodes n h = ap (λ m. filter (λ k. is_met sought (content_at k nodes)) (map (λ (x : Visit). x.number) (axis_from axis (visits nodes) m))) (find-none n [] nodes h)
+
+module _ (s : Slab Slot) (rows : List Row) (sought : Sought) (nodes : AreNodes s rows) where
+  -- a node is sought by what it is
+  pub met-is : (at : ℕ) → at < length rows → is_met_in s rows sought (number_of_row s rows at) ≡ is_sought sought (content_in (get s (get_or rows at no_row).key))
+  met-is at within =
+      let n = number_of_row s rows at in
+      ap (is_met sought) (ap (option_map (λ (x : Node). x.content)) (parted-node n _ _ _ _ (stands s n at rows (record { within = within; number = refl }) (nodes.apart n))))
+
+  pub kept : (n : ℕ) (ns : List ℕ) → is_met_in s rows sought n ≡ true → filter (is_met_in s rows sought) (n ∷ ns) ≡ n ∷ filter (is_met_in s rows sought) ns
+  kept n ns e = rw e refl
+
+  pub passed : (n : ℕ) (ns : List ℕ) → is_met_in s rows sought n ≡ false → filter (is_met_in s rows sought) (n ∷ ns) ≡ filter (is_met_in s rows sought) ns
+  passed n ns e = rw e refl
+
+  pub step-found : (old new : Left) (at : ℕ) → IsStep s rows old at new → is_sought sought (content_in (get s (get_or rows at no_row).key)) ≡ true → IsFound s rows sought old at new
+  step-found old new at i e = record {
+    within = i.within;
+    ready = i.ready;
+    rest = ap (filter (is_met_in s rows sought)) i.rest ∙ kept (number_of_row s rows at) (left_of s rows new) (met-is at i.within ∙ e);
+  }
+
+  pub step-passed : (old new : Left) (at : ℕ) → IsStep s rows old at new → is_sought sought (content_in (get s (get_or rows at no_row).key)) ≡ false
+      → left_met s rows sought new ≡ left_met s rows sought old
+  step-passed old new at i e = sym (ap (filter (is_met_in s rows sought)) i.rest ∙ passed (number_of_row s rows at) (left_of s rows new) (met-is at i.within ∙ e))
+
+  and-first : (a b : Bool) → (a && b) ≡ true → a ≡ true
+  and-first true b h = refl
+  and-first false b h = h
+
+  and-second : (a b : Bool) → (a && b) ≡ true → b ≡ true
+  and-second true b h = h
+  and-second false b h = cc h
+
+  -- ---- among trees
+
+  pub trees-passed : (d next end stop : ℕ) → Behind s d (same_kind false) rows next end stop → next < length rows → is_kin_sought d sought (node_of s (get_or rows next no_row)) ≡ false
+      → sought_within s rows sought (is_kin d false) stop end ≡ sought_within s rows sought (is_kin d false) next end
+  trees-passed d next end stop b within e = by (is_kin d false (node_of s (get_or rows next no_row))) refl e
+    where
+      by : (k : Bool) → is_kin d false (node_of s (get_or rows next no_row)) ≡ k → (k && is_sought sought (content_in (get s (get_or rows next no_row).key))) ≡ false
+          → sought_within s rows sought (is_kin d false) stop end ≡ sought_within s rows sought (is_kin d false) next end
+      by true h other =
+          sym (ap (filter (is_met_in s rows sought)) (kin-found s d (same_kind false) rows next end stop b h)
+          ∙ passed (number_of_row s rows next) (chosen s (is_kin d false) (between stop end rows)) (met-is next within ∙ other))
+      by false h other = ap (filter (is_met_in s rows sought)) (kin-passed s d (same_kind false) rows next end stop b h)
+
+  pub trees-found : (d next end stop : ℕ) → Behind s d (same_kind false) rows next end stop → next < length rows → is_kin_sought d sought (node_of s (get_or rows next no_row)) ≡ true
+      → sought_within s rows sought (is_kin d false) next end ≡ number_of_row s rows next ∷ sought_within s rows sought (is_kin d false) stop end
+  trees-found d next end stop b within e =
+      let kin = is_kin d false (node_of s (get_or rows next no_row)) in
+      let is = is_sought sought (content_in (get s (get_or rows next no_row).key)) in
+      ap (filter (is_met_in s rows sought)) (kin-found s d (same_kind false) rows next end stop b (and-first kin is e))
+      ∙ kept (number_of_row s rows next) (chosen s (is_kin d false) (between stop end rows)) (met-is next within ∙ and-second kin is e)
+
+  pub trees-on : (d next end stop : ℕ) (b : Bool) → Behind s d (same_kind false) rows next end stop → next < length rows → b ≡ is_kin_sought d sought (node_of s (get_or rows next no_row))
+      → sought_within s rows sought (is_kin d false) next end ≡ alone_where b (number_of_row s rows next) ++ sought_within s rows sought (is_kin d false) stop end
+  trees-on d next end stop true b within e = trees-found d next end stop b within (sym e)
+  trees-on d next end stop false b within e = sym (trees-passed d next end stop b within (sym e))
+
+  pub within-none : (test : Node → Bool) (next end : ℕ) → end ≤ next → sought_within s rows sought test next end ≡ []
+  within-none test next end h = ap (λ l. filter (is_met_in s rows sought) (chosen s test l)) (between-none next end rows h)
+
+  -- ---- among rows
+
+  pub rows-passed : (next end : ℕ) → next < end → end ≤ length rows → next < length rows → is_plain_sought sought (node_of s (get_or rows next no_row)) ≡ false
+      → sought_within s rows sought is_plain (next + 1) end ≡ sought_within s rows sought is_plain next end
+  rows-passed next end l m within e = by (is_plain (node_of s (get_or rows next no_row))) refl e
+    where
+      by : (k : Bool) → is_plain (node_of s (get_or rows next no_row)) ≡ k → (k && is_sought sought (content_in (get s (get_or rows next no_row).key))) ≡ false
+          → sought_within s rows sought is_plain (next + 1) end ≡ sought_within s rows sought is_plain next end
+      by true h other =
+          sym (ap (filter (is_met_in s rows sought)) (ap (chosen s is_plain) (between-first next end rows l m) ∙ chosen-yes s is_plain (get_or rows next no_row) (between (next + 1) end rows) h)
+          ∙ passed (number_of_row s rows next) (chosen s is_plain (between (next + 1) end rows)) (met-is next within ∙ other))
+      by false h other =
+          sym (ap (filter (is_met_in s rows sought)) (ap (chosen s is_plain) (between-first next end rows l m) ∙ chosen-no s is_plain (get_or rows next no_row) (between (next + 1) end rows) h))
+
+  pub rows-found : (next end : ℕ) → next < end → end ≤ length rows → next < length rows → is_plain_sought sought (node_of s (get_or rows next no_row)) ≡ true
+      → sought_within s rows sought is_plain next end ≡ number_of_row s rows next ∷ sought_within s rows sought is_plain (next + 1) end
+  rows-found next end l m within e =
+      let plain = is_plain (node_of s (get_or rows next no_row)) in
+      let is = is_sought sought (content_in (get s (get_or rows next no_row).key)) in
+      ap (filter (is_met_in s rows sought)) (ap (chosen s is_plain) (between-first next end rows l m) ∙ chosen-yes s is_plain (get_or rows next no_row) (between (next + 1) end rows) (and-first plain is e))
+      ∙ kept (number_of_row s rows next) (chosen s is_plain (between (next + 1) end rows)) (met-is next within ∙ and-second plain is e)
+
+  pub rows-on : (next end : ℕ) (b : Bool) → next < end → end ≤ length rows → next < length rows → b ≡ is_plain_sought sought (node_of s (get_or rows next no_row))
+      → sought_within s rows sought is_plain next end ≡ alone_where b (number_of_row s rows next) ++ sought_within s rows sought is_plain (next + 1) end
+  rows-on next end true l m within e = rows-found next end l m within (sym e)
+  rows-on next end false l m within e = sym (rows-passed next end l m within (sym e))
+
+  -- ---- the first node of a walk
+
+  pub first-found : (first : Option ℕ) (at : ℕ) (left : Left) → first ≡ Some at → at < length rows → is_sought sought (content_in (get s (get_or rows at no_row).key)) ≡ true
+      → walk_met s rows sought first left ≡ number_of_row s rows at ∷ left_met s rows sought left
+  first-found first at left is within e =
+      ap (λ f. walk_met s rows sought f left) is ∙ kept (number_of_row s rows at) (left_of s rows left) (met-is at within ∙ e)
+
+  pub first-passed : (first : Option ℕ) (at : ℕ) (left : Left) → first ≡ Some at → at < length rows → is_sought sought (content_in (get s (get_or rows at no_row).key)) ≡ false
+      → walk_met s rows sought first left ≡ left_met s rows sought left
+  first-passed first at left is within e =
+      ap (λ f. walk_met s rows sought f left) is ∙ passed (number_of_row s rows at) (left_of s rows left) (met-is at within ∙ e)
+
+-- behind the first of a list
+pub get-behind : (n at : ℕ) (ns : List ℕ) → (at ≡ 0 → ⊥) → slice_get (n ∷ ns) at ≡ slice_get ns (at - 1)
+get-behind n zero ns h = absurd (h refl)
+get-behind n (suc at) ns h = let e : at ≡ suc at - 1 = omega arith in ap (slice_get ns) e

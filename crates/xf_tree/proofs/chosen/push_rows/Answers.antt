@@ -1,0 +1,26 @@
+use Rattle.std.proofs.Common.{◌++◌, ◌+◌, ◌<◌, ◌≤◌, length, append-nil, append_assoc, sym, ap, ◌∙◌, arith}
+use Rattle.xf_tree.specs.Found.{alone_where, sought_within}
+use Rattle.xf_tree.specs.Walks.{is_plain, number_of_row}
+use Rattle.xf_tree.proofs.SoughtLemmas.{rows-on, within-none}
+use Rattle.xf_tree.proofs.chosen.push_rows.Goals as goal
+
+pub loop-next-preserved : goal.loop-next-preserved
+loop-next-preserved c =
+    let s = c.args.slots.now in
+    let rows = c.args.rows.now in
+    let next = c.loop-next.next in
+    let end = c.args.end in
+    let left = sought_within s rows c.args.sought is_plain (next + 1) end in
+    let is = c.is_plain_sought_at-is_met.result in
+    let within : next < length rows = omega (arith, c.loop-next-test.true, c.requires.within) in
+    ap (λ l. l ++ left) c.in_ok-push_where.ensures ∙ append_assoc c.loop-next.found (alone_where is (number_of_row s rows next)) left
+    ∙ ap (λ l. c.loop-next.found ++ l) (sym (rows-on s rows c.args.sought c.requires.nodes next end is c.loop-next-test.true c.requires.within within c.is_plain_sought_at-is_met.ensures))
+    ∙ c.loop-next.invariant
+
+pub returns : goal.returns
+returns c =
+    let s = c.args.slots.now in
+    let rows = c.args.rows.now in
+    let past : c.args.end ≤ c.loop-next.next = omega (arith, c.loop-next-test.false) in
+    sym (ap (λ l. c.loop-next.found ++ l) (within-none s rows c.args.sought c.requires.nodes is_plain c.loop-next.next c.args.end past) ∙ append-nil c.loop-next.found)
+    ∙ c.loop-next.invariant

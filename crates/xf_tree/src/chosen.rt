@@ -1,0 +1,299 @@
+//! The nodes on an axis that are sought there.
+ghost use Rattle.std.specs.Prelude.{◌≡◌, ◌≤◌, false, [], ◌∷◌, ◌++◌, ◌<◌, length, map, option_map, slice_get, IfSome, OnOk};
+ghost use Rattle.xf_tree.specs.Sought.{met_on};
+ghost use Rattle.xf_tree.specs.Found.{alone_where, left_met, sought_within, walk_met};
+ghost use Rattle.xf_tree.specs.Rows.{AllDeep};
+ghost use Rattle.xf_tree.specs.Tree.{is_kin, node_of};
+ghost use Rattle.xf_tree.specs.Walks.{AreNodes, IsReady, IsWalk, between, is_plain, number_of_row};
+
+use crate::axis::start;
+use crate::forest::Forest;
+use crate::lookup::{Hint, row_of};
+use crate::rows::{Row, end_of};
+use crate::slot::number_of;
+use crate::slots::Slots;
+use crate::sought::{Sought, is_kin_sought_at, is_plain_sought_at, next_found};
+use crate::walk::Left;
+use std::alloc::AllocError;
+use xf_doc::{NodeId, NodeList};
+use xf_name::Axis;
+
+impl Forest {
+    /// Puts behind other nodes those on an axis from a node that are sought, in proximity order (XPath 1.0, sections 2.3 and 2.4). It
+    /// costs what the walk costs and a look at what each node is: no name is fetched where only the kind is asked.
+    pub fn choose(
+        &self,
+        found: &mut NodeList,
+        from: NodeId,
+        axis: Axis,
+        sought: Sought<'_>,
+    ) -> Result<(), AllocError>
+        ensures { OnOk result (found.new ≡ found.old ++ met_on axis sought.entry self.now.forest.nodes from.number) }
+    {
+        push_on_axis(
+            found,
+            &self.rows,
+            &self.slots,
+            &self.hints,
+            from,
+            axis,
+            sought,
+        )
+    }
+
+    /// The node at a place, from 0, among those on an axis from a node that are sought. The walk goes no further.
+    pub fn chosen_at(
+        &self,
+        from: NodeId,
+        axis: Axis,
+        sought: Sought<'_>,
+        place: usize,
+    ) -> Option<NodeId>
+        ensures { option_map (λ n. n.number) result ≡ slice_get (met_on axis sought.entry self.now.forest.nodes from.number) place }
+    {
+        let found = row_on_axis(
+            &self.rows,
+            &self.slots,
+            &self.hints,
+            from,
+            axis,
+            sought,
+            place,
+        )?;
+        let place = self.rows[found].key;
+        Some(NodeId {
+            number: number_of(&self.slots, place),
+            place,
+        })
+    }
+}
+
+fn push_on_axis(
+    found: &mut NodeList,
+    rows: &[Row],
+    slots: &Slots,
+    hints: &[Hint],
+    node: NodeId,
+    axis: Axis,
+    sought: Sought<'_>,
+) -> Result<(), AllocError>
+    requires { AreNodes slots.now rows.now }
+    ensures { OnOk result (found.new ≡ found.old ++ met_on axis sought.entry (map (node_of slots.now) rows.now) node.number) }
+{
+    let Some(at) = row_of(rows, slots, hints, node) else {
+        return Ok(());
+    };
+    let (first, left) = start(rows, slots, hints, at, axis);
+    push_found(found, rows, slots, hints, first, left, sought)
+}
+
+/// Puts behind other nodes those of a walk that are sought.
+fn push_found(
+    found: &mut NodeList,
+    rows: &[Row],
+    slots: &Slots,
+    hints: &[Hint],
+    first: Option<usize>,
+    left: Left,
+    sought: Sought<'_>,
+) -> Result<(), AllocError>
+    requires nodes { AreNodes slots.now rows.now }
+    requires walk { IsWalk rows.now first left }
+    ensures { OnOk result (found.new ≡ found.old ++ walk_met slots.now rows.now sought.entry first left) }
+{
+    let Some(at) = first else {
+        return push_left(found, rows, slots, hints, left, sought);
+    };
+    if !slots.is_sought(rows[at].key, sought) {
+        return push_left(found, rows, slots, hints, left, sought);
+    }
+    push_row(found, rows, slots, at)?;
+    push_left(found, rows, slots, hints, left, sought)
+}
+
+/// The same of what is left of a walk.
+fn push_left(
+    found: &mut NodeList,
+    rows: &[Row],
+    slots: &Slots,
+    hints: &[Hint],
+    left: Left,
+    sought: Sought<'_>,
+) -> Result<(), AllocError>
+    requires nodes { AreNodes slots.now rows.now }
+    requires ready { IsReady rows.now left }
+    ensures { OnOk result (found.new ≡ found.old ++ left_met slots.now rows.now sought.entry left) }
+{
+    match left {
+        Left::Trees { at, end, depth } => push_trees(found, rows, slots, at, end, depth, sought),
+        Left::Rows { at, end } => push_rows(found, rows, slots, at, end, sought),
+        _ => push_by_steps(found, rows, slots, hints, left, sought),
+    }
+}
+
+/// The same, by single steps of the walk.
+fn push_by_steps(
+    found: &mut NodeList,
+    rows: &[Row],
+    slots: &Slots,
+    hints: &[Hint],
+    left: Left,
+    sought: Sought<'_>,
+) -> Result<(), AllocError>
+    requires nodes { AreNodes slots.now rows.now }
+    requires ready { IsReady rows.now left }
+    ensures { OnOk result (found.new ≡ found.old ++ left_met slots.now rows.now sought.entry left) }
+{
+    let mut rest = left;
+    while let Some((at, behind)) = next_found(rows, slots, hints, rest, sought) {
+        push_row(found, rows, slots, at)?;
+        rest = behind;
+    }
+    Ok(())
+}
+
+/// Of trees, the tops that have this depth, are no attributes and are sought.
+fn push_trees(
+    found: &mut NodeList,
+    rows: &[Row],
+    slots: &Slots,
+    at: usize,
+    end: usize,
+    depth: u32,
+    sought: Sought<'_>,
+) -> Result<(), AllocError>
+    requires nodes { AreNodes slots.now rows.now }
+    requires within { end ≤ length rows.now }
+    requires deep { AllDeep depth (between at end rows.now) }
+    ensures { OnOk result (found.new ≡ found.old ++ sought_within slots.now rows.now sought.entry (is_kin depth false) at end) }
+{
+    let mut next = at;
+    while next < end {
+        let is_met = is_kin_sought_at(rows, slots, next, depth, sought);
+        push_where(found, rows, slots, next, is_met)?;
+        next = end_of(rows, next);
+    }
+    Ok(())
+}
+
+/// Of the nodes from one place to before another, those that are no attributes and are sought.
+fn push_rows(
+    found: &mut NodeList,
+    rows: &[Row],
+    slots: &Slots,
+    at: usize,
+    end: usize,
+    sought: Sought<'_>,
+) -> Result<(), AllocError>
+    requires nodes { AreNodes slots.now rows.now }
+    requires within { end ≤ length rows.now }
+    ensures { OnOk result (found.new ≡ found.old ++ sought_within slots.now rows.now sought.entry is_plain at end) }
+{
+    let mut next = at;
+    while next < end {
+        let is_met = is_plain_sought_at(slots, rows[next].key, sought);
+        push_where(found, rows, slots, next, is_met)?;
+        next += 1;
+    }
+    Ok(())
+}
+
+/// Puts the node of a row behind other nodes where it is wanted.
+fn push_where(
+    found: &mut NodeList,
+    rows: &[Row],
+    slots: &Slots,
+    at: usize,
+    is_met: bool,
+) -> Result<(), AllocError>
+    requires { at < length rows.now }
+    ensures { OnOk result (found.new ≡ found.old ++ alone_where is_met (number_of_row slots.now rows.now at)) }
+{
+    if !is_met {
+        return Ok(());
+    }
+    push_row(found, rows, slots, at)
+}
+
+/// Puts the node of a row behind other nodes.
+fn push_row(found: &mut NodeList, rows: &[Row], slots: &Slots, at: usize) -> Result<(), AllocError>
+    requires { at < length rows.now }
+    ensures { OnOk result (found.new ≡ found.old ++ number_of_row slots.now rows.now at ∷ []) }
+{
+    let place = rows[at].key;
+    let number = number_of(slots, place);
+    found.push(NodeId { number, place })
+}
+
+fn row_on_axis(
+    rows: &[Row],
+    slots: &Slots,
+    hints: &[Hint],
+    from: NodeId,
+    axis: Axis,
+    sought: Sought<'_>,
+    place: usize,
+) -> Option<usize>
+    requires { AreNodes slots.now rows.now }
+    ensures answer { option_map (number_of_row slots.now rows.now) result ≡ slice_get (met_on axis sought.entry (map (node_of slots.now) rows.now) from.number) place }
+    ensures within { IfSome result (λ at. at < length rows.now) }
+{
+    let Some(at) = row_of(rows, slots, hints, from) else {
+        return None;
+    };
+    let (first, left) = start(rows, slots, hints, at, axis);
+    row_found(rows, slots, hints, first, left, sought, place)
+}
+
+/// The row at a place, from 0, of those of a walk whose nodes are sought.
+fn row_found(
+    rows: &[Row],
+    slots: &Slots,
+    hints: &[Hint],
+    first: Option<usize>,
+    left: Left,
+    sought: Sought<'_>,
+    place: usize,
+) -> Option<usize>
+    requires nodes { AreNodes slots.now rows.now }
+    requires walk { IsWalk rows.now first left }
+    ensures answer { option_map (number_of_row slots.now rows.now) result ≡ slice_get (walk_met slots.now rows.now sought.entry first left) place }
+    ensures within { IfSome result (λ at. at < length rows.now) }
+{
+    let Some(at) = first else {
+        return row_left(rows, slots, hints, left, sought, place);
+    };
+    if !slots.is_sought(rows[at].key, sought) {
+        return row_left(rows, slots, hints, left, sought, place);
+    }
+    if place == 0 {
+        return Some(at);
+    }
+    row_left(rows, slots, hints, left, sought, place - 1)
+}
+
+/// The same of what is left of a walk.
+fn row_left(
+    rows: &[Row],
+    slots: &Slots,
+    hints: &[Hint],
+    left: Left,
+    sought: Sought<'_>,
+    place: usize,
+) -> Option<usize>
+    requires nodes { AreNodes slots.now rows.now }
+    requires ready { IsReady rows.now left }
+    ensures answer { option_map (number_of_row slots.now rows.now) result ≡ slice_get (left_met slots.now rows.now sought.entry left) place }
+    ensures within { IfSome result (λ at. at < length rows.now) }
+{
+    let mut before = place;
+    let mut rest = left;
+    while let Some((at, behind)) = next_found(rows, slots, hints, rest, sought) {
+        if before == 0 {
+            return Some(at);
+        }
+        before -= 1;
+        rest = behind;
+    }
+    None
+}

@@ -1,0 +1,146 @@
+//! What is sought on the axes of nodes, by kind or by name.
+ghost use Rattle.std.specs.Prelude.{◌≡◌, ◌&&◌, ◌<◌, ◌≤◌, not, [], true, false, length, MatchOption, slice_index_or};
+ghost use Rattle.xf_doc.specs.Forest.{is_attribute};
+ghost use Rattle.xf_tree.specs.Found.{IsFound, is_kin_sought, is_plain_sought, left_met, sought_within};
+ghost use Rattle.xf_tree.specs.Rows.{AllDeep};
+ghost use Rattle.xf_tree.specs.Sought.{is_sought};
+ghost use Rattle.slab.specs.Slab.{get};
+ghost use Rattle.xf_tree.specs.Tree.{content_in, is_kin, node_of, no_row};
+ghost use Rattle.xf_tree.specs.Walks.{AreNodes, IsReady, between, chosen, is_plain};
+
+use crate::lookup::Hint;
+use crate::rows::{Row, end_of};
+use crate::slot::is_attribute_at;
+use crate::slots::Slots;
+use crate::walk::{Left, step};
+use xf_name::QName;
+
+/// The principal node kind of an axis: attributes on the attribute axis, elements on the others (XPath 1.0, section 2.3).
+#[derive(Clone, Copy, Debug, PartialEq, Eq)]
+pub enum Principal {
+    Element,
+    Attribute,
+}
+
+/// Which nodes are sought: by kind, by namespace, or by namespace and local part.
+#[derive(Clone, Copy, Debug)]
+pub enum Sought<'a> {
+    Any,
+    Texts,
+    All(Principal),
+    InSpace(Principal, u16),
+    Named(Principal, &'a QName),
+    Nothing,
+}
+
+/// The next row of a walk whose node is sought, and what is left behind it.
+pub fn next_found(
+    rows: &[Row],
+    slots: &Slots,
+    hints: &[Hint],
+    left: Left,
+    sought: Sought<'_>,
+) -> Option<(usize, Left)>
+    requires nodes { AreNodes slots.now rows.now }
+    requires ready { IsReady rows.now left }
+    ensures { MatchOption result (left_met slots.now rows.now sought.entry left ≡ []) (λ r. IsFound slots.now rows.now sought.entry left r.0 r.1) }
+{
+    match left {
+        Left::Trees { at, end, depth } => {
+            let next = found_in_trees(rows, slots, at, end, depth, sought);
+            if next >= end {
+                return None;
+            }
+            let at = end_of(rows, next);
+            Some((next, Left::Trees { at, end, depth }))
+        }
+        Left::Rows { at, end } => {
+            let next = found_in_rows(rows, slots, at, end, sought);
+            if next >= end {
+                return None;
+            }
+            Some((next, Left::Rows { at: next + 1, end }))
+        }
+        _ => found_by_steps(rows, slots, hints, left, sought),
+    }
+}
+
+/// The same by single steps of the walk.
+fn found_by_steps(
+    rows: &[Row],
+    slots: &Slots,
+    hints: &[Hint],
+    left: Left,
+    sought: Sought<'_>,
+) -> Option<(usize, Left)>
+    requires nodes { AreNodes slots.now rows.now }
+    requires ready { IsReady rows.now left }
+    ensures { MatchOption result (left_met slots.now rows.now sought.entry left ≡ []) (λ r. IsFound slots.now rows.now sought.entry left r.0 r.1) }
+{
+    let mut rest = left;
+    while let Some((at, behind)) = step(rows, slots, hints, rest) {
+        rest = behind;
+        if slots.is_sought(rows[at].key, sought) {
+            return Some((at, rest));
+        }
+    }
+    None
+}
+
+/// The place of the next top of a tree that has this depth, is no attribute and is sought, or the end or past it where there is none.
+fn found_in_trees(
+    rows: &[Row],
+    slots: &Slots,
+    at: usize,
+    end: usize,
+    depth: u32,
+    sought: Sought<'_>,
+) -> usize
+    requires nodes { AreNodes slots.now rows.now }
+    requires within { end ≤ length rows.now }
+    requires deep { AllDeep depth (between at end rows.now) }
+    ensures found { result < end → is_kin_sought depth sought.entry (node_of slots.now (slice_index_or rows.now result no_row)) ≡ true }
+    ensures same { sought_within slots.now rows.now sought.entry (is_kin depth false) result end ≡ sought_within slots.now rows.now sought.entry (is_kin depth false) at end }
+    ensures deep { AllDeep depth (between result end rows.now) }
+{
+    let mut next = at;
+    while next < end && !is_kin_sought_at(rows, slots, next, depth, sought) {
+        next = end_of(rows, next);
+    }
+    next
+}
+
+/// The place of the next node that is no attribute and is sought, or the end or past it where there is none.
+fn found_in_rows(rows: &[Row], slots: &Slots, at: usize, end: usize, sought: Sought<'_>) -> usize
+    requires nodes { AreNodes slots.now rows.now }
+    requires within { end ≤ length rows.now }
+    ensures found { result < end → is_plain_sought sought.entry (node_of slots.now (slice_index_or rows.now result no_row)) ≡ true }
+    ensures same { sought_within slots.now rows.now sought.entry is_plain result end ≡ sought_within slots.now rows.now sought.entry is_plain at end }
+{
+    let mut next = at;
+    while next < end && !is_plain_sought_at(slots, rows[next].key, sought) {
+        next += 1;
+    }
+    next
+}
+
+/// Whether the row at a place has this depth, is of no attribute, and is sought.
+pub fn is_kin_sought_at(
+    rows: &[Row],
+    slots: &Slots,
+    at: usize,
+    depth: u32,
+    sought: Sought<'_>,
+) -> bool
+    requires { at < length rows.now }
+    ensures { result ≡ is_kin_sought depth sought.entry (node_of slots.now (slice_index_or rows.now at no_row)) }
+{
+    rows[at].depth == depth && is_plain_sought_at(slots, rows[at].key, sought)
+}
+
+/// Whether what is under a key is no attribute, and is sought.
+pub fn is_plain_sought_at(slots: &Slots, key: usize, sought: Sought<'_>) -> bool
+    ensures { result ≡ (not (is_attribute (content_in (get slots.now key))) && is_sought sought.entry (content_in (get slots.now key))) }
+{
+    !is_attribute_at(slots, key) && slots.is_sought(key, sought)
+}
