@@ -5,6 +5,7 @@ use Rattle.xf_line.specs.declared.event.Event.TheVariants.{Set}
 use Rattle.xf_doc.specs.StringValue.{string_value}
 use Rattle.xf_doc.specs.Visit.{children_of}
 use Rattle.xf_model.specs.Rules.{Rule}
+use Rattle.xf_model.specs.Examples as bind
 use Rattle.xf_form_machine.specs.State.{State}
 use Rattle.xf_form_machine.specs.Surround.{all_in}
 use Rattle.xf_form_machine.specs.Refusal.{twice, on_parent, circular}
@@ -13,7 +14,7 @@ use Rattle.xf_form_machine.specs.Step.{Outcome}
 use Rattle.xf_form_machine.specs.Start.{start}
 use Rattle.xf_form_machine.specs.Examples.{profile}
 use Rattle.xf_form_machine.specs.ExampleOutcomes.{seen, given_out, why, then}
-use Rattle.xf_form_machine.specs.ExampleBinds.{binding, b_by_a, a_by_b, of_whole}
+use Rattle.xf_form_machine.specs.ExampleBinds.{binding, of_node, b_by_a, a_by_b, of_whole}
 
 abbrev first : List Rule → Outcome
 first rules = start profile (binding rules) []
@@ -49,6 +50,13 @@ the_same_text = refl
 
 one_number_more : seen (λ s. s.forest.next) (then (first (b_by_a ∷ [])) (set_a (codes "1"))) ≡ Some 8
 one_number_more = refl
+
+-- a relevant `../a` gives a truth; what it reads is a text all the same, so that it is evaluated where that changes
+abbrev b_if_a : Rule
+b_if_a = bind.relevant (bind.beside (codes "a")) (of_node (codes "b"))
+
+one_truth : given_out (λ g. g.evaluated) (then (first (b_if_a ∷ [])) (set_a (codes "5"))) ≡ Some 1
+one_truth = refl
 
 -- a calculate makes its node readonly
 b_is_readonly : seen (λ s. readonly_in s 3) (first (b_by_a ∷ [])) ≡ Some true

@@ -1,6 +1,5 @@
 -- Runs of lines with the answers of the store, what is kept of a state, and the cycle that is reported.
 use Rattle.std.proofs.Common.{◌≡◌, ℕ, List, [], ◌∷◌, Option, Some, None, option_map, refl, codes}
-use Rattle.std.specs.Fmt.{digits}
 use Rattle.json.specs.Print.{escape_byte}
 use Rattle.xf_num.specs.Number.{scale}
 use Rattle.xf_ast.specs.declared.form.Method.TheVariants.{Put}

@@ -1,13 +1,16 @@
 -- The refusals of an event from outside, in their order; and states at rest.
-use Rattle.std.proofs.Common.{◌≡◌, ℕ, List, [], ◌∷◌, Option, Some, None, refl, codes}
+use Rattle.std.proofs.Common.{◌≡◌, ℕ, true, List, [], ◌∷◌, Option, Some, None, refl, codes}
 use Rattle.xf_line.specs.declared.event.Event.{Event}
 use Rattle.xf_line.specs.declared.event.Event.TheVariants.{Set, Activate, Index, Send, Dispatch, Reset}
 use Rattle.xf_doc.specs.StringValue.{string_value}
+use Rattle.xf_lang.specs.Examples.{functions}
 use Rattle.xf_model.specs.Rules.{Rule}
 use Rattle.xf_model.specs.Examples as bind
+use Rattle.xf_form_machine.specs.Profile.{Profile, usual}
 use Rattle.xf_form_machine.specs.State.{State}
 use Rattle.xf_form_machine.specs.Refusal.{Refusal, no_target, disabled, readonly, not_an_item}
 use Rattle.xf_form_machine.specs.Surround.{all_in}
+use Rattle.xf_form_machine.specs.Step.{Outcome, accepted, refused, step}
 use Rattle.xf_form_machine.specs.Start.{start}
 use Rattle.xf_form_machine.specs.Examples.{profile}
 use Rattle.xf_form_machine.specs.ExampleOutcomes.{seen, why, then}
@@ -73,3 +76,21 @@ the_text = refl
 -- how many events were accepted
 one_more : seen (λ s. s.accepted) (then (then (start profile (choosing []) []) (set_m [] (codes "x"))) (Activate (codes "t") [])) ≡ Some 2
 one_more = refl
+
+-- ---- with the budgets and limits of every form an event is computed as well
+
+abbrev whole_profile : Profile
+whole_profile = usual functions (λ type text. true)
+
+abbrev next : Outcome → Event → Outcome
+next (accepted s given) event = step whole_profile s event []
+next (refused reason calls) event = refused reason calls
+
+abbrev begun : Outcome
+begun = start whole_profile (choosing []) []
+
+all_turns : seen (λ s. s.turns) (next begun (set_m [] (codes "x"))) ≡ Some 50000
+all_turns = refl
+
+the_same_text : seen text (next begun (set_m [] (codes "x"))) ≡ Some (codes "x")
+the_same_text = refl

@@ -12,4 +12,5 @@ pub mod LabelsGo
 pub mod CopiesGo
 pub mod StateGoes
 pub mod ControlsGo
+pub mod TextsGo
 mod Examples

@@ -1,3 +1,4 @@
 pub mod Going
 pub mod Behaving
 pub mod Controls
+pub mod Texts

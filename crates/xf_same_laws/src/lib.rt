@@ -4,6 +4,7 @@
 ghost use Rattle.xf_same_laws.specs.Behaving.{BehavioursGo};
 ghost use Rattle.xf_same_laws.specs.Controls.{ControlsGo};
 ghost use Rattle.xf_same_laws.specs.Going.{ChangesGo};
+ghost use Rattle.xf_same_laws.specs.Texts.{TextLaws};
 
 /// The changes of a state go with a renumbering of its nodes. This tells contracts so, and does nothing.
 pub fn changes_go_with_renumbering()
@@ -19,4 +20,9 @@ pub fn behaviours_go_with_renumbering()
 /// nothing.
 pub fn controls_go_with_renumbering()
     ensures { ControlsGo }
+{}
+
+/// The text of a state and the data that are kept of it tell no numbers of nodes. This tells contracts so, and does nothing.
+pub fn texts_tell_no_numbers()
+    ensures { TextLaws }
 {}
