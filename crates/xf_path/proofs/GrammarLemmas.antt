@@ -34,16 +34,6 @@ pub side_zero : (d : ℕ) (b : Bindings) (depth rank : ℕ) (ts : List Token) �
 unfolding side
 side_zero d b depth rank ts h = ap (λ n. side d b depth n ts) h
 
-pub side_one : (d : ℕ) (b : Bindings) (depth rank : ℕ) (ts : List Token) → rank ≡ 1 → side d b depth rank ts ≡ unary_by (signed d b depth) ts
-unfolding side ranked
-side_one d b depth rank ts h = ap (λ n. side d b depth n ts) h
-
-pub side_more : (d : ℕ) (b : Bindings) (depth rank : ℕ) (ts : List Token) → 1 < rank → side d b depth rank ts ≡ chain (side d b depth (rank - 1)) (rank - 1) ts
-unfolding side ranked
-side_more d b depth zero ts h = absurd (omega arith)
-side_more d b depth (suc zero) ts h = absurd (omega arith)
-side_more d b depth (suc (suc k)) ts h = let e : suc k ≡ suc (suc k) - 1 = omega arith in ap (λ n. chain (side d b depth n) n ts) e
-
 -- ---- what stands in brackets
 
 pub inside_none : (d : ℕ) (b : Bindings) (depth : ℕ) (ts : List Token) → depth ≡ 0 → inside d b depth ts ≡ Err (fault.Expr (place_of ts) Deep)

@@ -17,7 +17,7 @@ use crate::steps::{abbreviated, axis, close, close_square, node_test, open_brack
 use crate::token::Kind;
 use crate::tokens::{MOST_BYTES, Tokens};
 use crate::words::{
-    begins_primary, begins_step, is_comma, opens_predicate, operator_at, separator,
+    begins_primary, begins_step, is_comma, next_rank, opens_predicate, operator_at, separator,
 };
 use std::alloc::Global;
 use xf_ast::{Axis, Expr, ExprList, Link, LinkList, Start, Step, StepList};
@@ -66,21 +66,18 @@ impl<'a> Grammar<'a> {
         if rank == 0 {
             return self.operand(tokens, depth);
         }
-        if rank == 1 {
-            return self.unary(tokens, depth);
+        let mut tree = self.unary(tokens, depth)?;
+        // The ranks below this one are done. Those that have no operator here are passed over.
+        let mut least = 1;
+        while let Some(next) = next_rank(tokens.kind(), tokens.text()) {
+            if next < least || rank <= next {
+                break;
+            }
+            let found = self.links(tokens, next, depth)?;
+            tree = chain_of(self.alloc, tree, found)?;
+            least = next + 1;
         }
-        self.chain(tokens, rank - 1, depth)
-    }
-
-    /// Operands with operators of a rank between them.
-    #[cycle(rules)]
-    #[tactic(auto, unfolding(crate::specs::Operators::chain))]
-    fn chain(&self, tokens: &mut Tokens<'_>, rank: u32, depth: u32) -> Result<Expr, ParseFault>
-        ensures { Reads (operator.chain (spec.side 6 self.now.prefixes.now depth rank) rank tokens.old) result tokens.new }
-    {
-        let first = self.side(tokens, rank, depth)?;
-        let found = self.links(tokens, rank, depth)?;
-        Ok(chain_of(self.alloc, first, found)?)
+        Ok(tree)
     }
 
     /// The operators of a rank that follow, with their right sides.
@@ -114,9 +111,14 @@ impl<'a> Grammar<'a> {
     fn unary(&self, tokens: &mut Tokens<'_>, depth: u32) -> Result<Expr, ParseFault>
         ensures { Reads (spec.unary_by (spec.signed 6 self.now.prefixes.now depth) tokens.old) result tokens.new }
     {
-        let place = tokens.place();
-        let (signs, inner) = self.signed(tokens, depth)?;
-        Ok(negated(self.alloc, place, signs, inner)?)
+        match tokens.kind() {
+            Kind::Minus => {
+                let place = tokens.place();
+                let (signs, inner) = self.signed(tokens, depth)?;
+                Ok(negated(self.alloc, place, signs, inner)?)
+            }
+            _ => self.union(tokens, depth),
+        }
     }
 
     /// The number of signs, and the union behind them.
@@ -135,10 +137,24 @@ impl<'a> Grammar<'a> {
                 Ok((signs + 1, inner))
             }
             _ => {
-                let inner = self.chain(tokens, 0, depth)?;
+                let inner = self.union(tokens, depth)?;
                 Ok((0, inner))
             }
         }
+    }
+
+    /// Operands with `|` between them.
+    #[cycle(rules)]
+    #[tactic(auto, unfolding(crate::specs::Operators::chain, crate::specs::Grammar::side))]
+    fn union(&self, tokens: &mut Tokens<'_>, depth: u32) -> Result<Expr, ParseFault>
+        ensures { Reads (operator.chain (spec.side 6 self.now.prefixes.now depth 0) 0 tokens.old) result tokens.new }
+    {
+        let first = self.operand(tokens, depth)?;
+        if operator_at(0, tokens.kind(), tokens.text()).is_none() {
+            return Ok(first);
+        }
+        let found = self.links(tokens, 0, depth)?;
+        Ok(chain_of(self.alloc, first, found)?)
     }
 
     // ---- operands
@@ -393,9 +409,20 @@ impl<'a> Grammar<'a> {
         })
     }
 
-    /// The predicates that follow.
+    /// The predicates that follow, if any.
     #[cycle(rules)]
     fn predicates(&self, tokens: &mut Tokens<'_>, depth: u32) -> Result<ExprList, ParseFault>
+        ensures { Reads (step.more_predicates (spec.nested 6 self.now.prefixes.now depth) MOST_BYTES [] tokens.old) result tokens.new }
+    {
+        if !opens_predicate(tokens.kind()) {
+            return Ok(Items::new(self.alloc));
+        }
+        self.some_predicates(tokens, depth)
+    }
+
+    /// The predicates that follow, one after another.
+    #[cycle(rules)]
+    fn some_predicates(&self, tokens: &mut Tokens<'_>, depth: u32) -> Result<ExprList, ParseFault>
         ensures { Reads (step.more_predicates (spec.nested 6 self.now.prefixes.now depth) MOST_BYTES [] tokens.old) result tokens.new }
     {
         let mut found = Items::new(self.alloc);

@@ -1,6 +1,6 @@
 //! The words of the grammar (XPath 1.0, sections 2.2, 2.3 and 3.7).
 
-ghost use Rattle.std.specs.Prelude.{◌≡◌};
+ghost use Rattle.std.specs.Prelude.{◌≡◌, option_map};
 ghost use Rattle.xf_path.specs.Steps as steps;
 ghost use Rattle.xf_path.specs.Paths as paths;
 ghost use Rattle.xf_path.specs.Calls as calls;
@@ -183,6 +183,16 @@ fn rank_of(operator: Operator) -> u32
         Operator::Equal | Operator::NotEqual => 4,
         Operator::And => 5,
         Operator::Or => 6,
+    }
+}
+
+/// The rank of the operator that a token is.
+pub fn next_rank(kind: Kind, text: &str) -> Option<u32>
+    ensures { result ≡ option_map operators.rank_of (operators.operator_of kind text.now) }
+{
+    match operator_of(kind, text) {
+        Some(operator) => Some(rank_of(operator)),
+        None => None,
     }
 }
 

@@ -1,17 +1,20 @@
-use Rattle.std.proofs.Common.{◌≡◌, ◌+◌, ◌-◌, ◌<◌, ◌∙◌, Some, None, Ok, true, false, ap, rules, arith}
+use Rattle.std.proofs.Common.{◌≡◌, ℕ, ◌+◌, ◌-◌, ◌<◌, ◌≤◌, ◌∙◌, [], Some, None, Ok, option_map, true, false, refl, sym, ap, rules, tests, arith}
 use Rattle.std.proofs.lemmas.Grind.{common_steps}
 use Rattle.xf_table.specs.Rows.{code_of}
 use Rattle.xf_table.specs.Contents.{function_entries}
-use Rattle.xf_path.specs.Reading.{kind_of, text_of, and_then}
+use Rattle.xf_path.specs.Reading.{kind_of, place_of, text_of, and_then, pure}
 use Rattle.xf_path.specs.Steps.{opens_predicate, more_predicates}
 use Rattle.xf_path.specs.Paths.{steps, more_steps}
 use Rattle.xf_path.specs.Calls.{is_comma, more_arguments}
 use Rattle.xf_path.specs.Primary.{begins_primary, filtered, onward}
-use Rattle.xf_path.specs.Operators.{operator_at, more_links}
-use Rattle.xf_path.specs.Grammar.{signed, side, inside, nested}
+use Rattle.xf_path.specs.Operators.{operator_of, operator_at, rank_of, more_links, chain, chain_of}
+use Rattle.xf_path.specs.Grammar.{negated, signed, sign_by, unary_by, side, inside, nested}
 use Rattle.xf_path.specs.Grammar as spec
 use Rattle.xf_path.proofs.Turns.{one_turn, no_turn, deeper}
-use Rattle.xf_path.proofs.GrammarLemmas.{behind_sign, signed_is, side_zero, side_one, side_more, inside_none, inside_some, operand_path, operand_primary, call_some, call_none, Reads-same, Reads-fault, links_end, links_go_on, predicates_end, predicates_go_on, arguments_end, arguments_go_on}
+use Rattle.xf_path.proofs.GrammarLemmas.{behind_sign, signed_is, side_zero, inside_none, inside_some, operand_path, operand_primary, call_some, call_none, Reads-same, Reads-fault, links_end, links_go_on, predicates_end, predicates_go_on, arguments_end, arguments_go_on}
+use Rattle.xf_ast.specs.declared.expr.Expr.{Expr}
+use Rattle.xf_path.proofs.Ladder.{climb, side_climbs, climb_none, climb_done, climb_on, chain_alone, no_sign}
+use Rattle.xf_path.proofs.grammar.Grammar.+rules.Goals.{side-in-Some+then-next-least, side-then-next-least-via-then-next-least, side-then-next-least-via-else-next-least+then-rank-next, side-in_default}
 use Rattle.xf_path.proofs.grammar.Grammar.+rules.Goals as goal
 
 -- ---- ranks
@@ -21,15 +24,83 @@ side-returns-then-rank-eq0 t c =
     let none : c.args.rank ≡ 0 = omega arith in
     Reads-same _ _ c.operand.result c.operand.new.tokens (side_zero 6 c.args.self.now.prefixes.now c.args.depth c.args.rank c.args.tokens.now none) c.operand.ensures
 
-pub side-returns-then-rank-eq1 : goal.side-returns-then-rank-eq1
-side-returns-then-rank-eq1 t c =
-    let one : c.args.rank ≡ 1 = omega arith in
-    Reads-same _ _ c.unary.result c.unary.new.tokens (side_one 6 c.args.self.now.prefixes.now c.args.depth c.args.rank c.args.tokens.now one) c.unary.ensures
+pub side-returns-in_err-tree : goal.side-returns-in_err-tree
+side-returns-in_err-tree t c =
+    let some : 0 < c.args.rank = omega arith in
+    let e = side_climbs 6 c.args.self.now.prefixes.now c.args.depth c.args.rank c.args.tokens.now some in
+    first_of (search rules, grind (arith, common_steps))
+
+pub side-loop-next-init : goal.side-loop-next-init
+side-loop-next-init t c =
+    let some : 0 < c.args.rank = omega arith in
+    let read : unary_by (signed 6 c.args.self.now.prefixes.now c.args.depth) c.args.tokens.now ≡ Ok (c.in_ok-tree.tree, c.unary.new.tokens) = search rules in
+    record {
+      least = omega arith;
+      read = side_climbs 6 c.args.self.now.prefixes.now c.args.depth c.args.rank c.args.tokens.now some
+          ∙ ap (λ o. and_then o (climb (side 6 c.args.self.now.prefixes.now c.args.depth) 1 (c.args.rank - 1))) read;
+    }
+
+pub side-returns-in_err-found : goal.side-returns-in_err-found
+side-returns-in_err-found t c =
+    let next : option_map rank_of (operator_of (kind_of c.loop-next.tokens) (text_of c.loop-next.tokens)) ≡ Some c.in-Some.next = search rules in
+    let above : c.loop-next.least ≤ c.in-Some.next = omega arith in
+    let below : c.in-Some.next < c.args.rank = omega arith in
+    let on = c.loop-next.invariant.read ∙ climb_on (side 6 c.args.self.now.prefixes.now c.args.depth) c.loop-next.least c.args.rank c.in-Some.next c.loop-next.tree c.loop-next.tokens next above below in
+    first_of (search rules, grind (arith, common_steps))
+
+pub side-loop-next-preserved : goal.side-loop-next-preserved
+side-loop-next-preserved t c =
+    let rule = side 6 c.args.self.now.prefixes.now c.args.depth in
+    let next : option_map rank_of (operator_of (kind_of c.loop-next.tokens) (text_of c.loop-next.tokens)) ≡ Some c.in-Some.next = search rules in
+    let above : c.loop-next.least ≤ c.in-Some.next = omega arith in
+    let below : c.in-Some.next < c.args.rank = omega arith in
+    let found : more_links (side 6 c.args.self.now.prefixes.now c.args.depth c.in-Some.next) c.in-Some.next 4096 [] c.loop-next.tokens ≡ Ok (c.in_ok-found.found, c.links.new.tokens) = search rules in
+    let tree : c.in_ok-tree-2.tree ≡ chain_of c.loop-next.tree c.in_ok-found.found = search rules in
+    record {
+      least = omega arith;
+      read = c.loop-next.invariant.read
+          ∙ climb_on rule c.loop-next.least c.args.rank c.in-Some.next c.loop-next.tree c.loop-next.tokens next above below
+          ∙ ap (λ o. and_then o (λ links. climb rule (c.in-Some.next + 1) (c.args.rank - (c.in-Some.next + 1)) (chain_of c.loop-next.tree links))) found
+          ∙ ap (λ made. climb rule (c.in-Some.next + 1) (c.args.rank - (c.in-Some.next + 1)) made c.links.new.tokens) (sym tree);
+    }
 
 pub side-returns : goal.side-returns
 side-returns t c =
-    let more : 1 < c.args.rank = omega arith in
-    Reads-same _ _ c.chain.result c.chain.new.tokens (side_more 6 c.args.self.now.prefixes.now c.args.depth c.args.rank c.args.tokens.now more) c.chain.ensures
+    let rule = side 6 c.args.self.now.prefixes.now c.args.depth in
+    elim c.match-next_rank.branch [
+      | side-in-Some+then-next-least w ↦
+          (let next : option_map rank_of (operator_of (kind_of c.loop-next.tokens) (text_of c.loop-next.tokens)) ≡ Some w.in-Some.next = search rules in
+          elim w.then-next-least.branch [
+            | side-then-next-least-via-then-next-least w' ↦
+                c.loop-next.invariant.read ∙ climb_done rule c.loop-next.least c.args.rank w.in-Some.next c.loop-next.tree c.loop-next.tokens next (λ l m. omega (arith, l, w'.if-next-least.true))
+            | side-then-next-least-via-else-next-least+then-rank-next w' ↦
+                c.loop-next.invariant.read ∙ climb_done rule c.loop-next.least c.args.rank w.in-Some.next c.loop-next.tree c.loop-next.tokens next (λ l m. omega (arith, m, w'.if-rank-next.true))
+          ])
+      | side-in_default w ↦
+          (let none : option_map rank_of (operator_of (kind_of c.loop-next.tokens) (text_of c.loop-next.tokens)) ≡ None = search rules in
+          c.loop-next.invariant.read ∙ climb_none rule c.loop-next.least (c.args.rank - c.loop-next.least) c.loop-next.tree c.loop-next.tokens none)
+    ]
+
+-- ---- signs and unions
+
+pub unary-returns-in_default : goal.unary-returns-in_default
+unfolding unary_by
+unary-returns-in_default t c =
+    let b = c.args.self.now.prefixes.now in
+    let ts = c.args.tokens.now in
+    let plain : sign_by (behind_sign 6 c.args.self.now.prefixes.now c.args.depth) (chain (side 6 c.args.self.now.prefixes.now c.args.depth 0) 0) (kind_of c.args.tokens.now) c.args.tokens.now
+    ≡ and_then {A = Expr} {B = ℕ × Expr} (chain (side 6 c.args.self.now.prefixes.now c.args.depth 0) 0 c.args.tokens.now) (λ inner. pure (0, inner)) = search rules in
+    Reads-same _ _ c.union.result c.union.new.tokens
+    (ap (λ o. and_then o (λ found. pure (negated (place_of ts) found.0 found.1))) (signed_is 6 b c.args.depth ts ∙ plain)
+    ∙ no_sign (place_of ts) (chain (side 6 b c.args.depth 0) 0 ts))
+    c.union.ensures
+
+pub union-returns-then-is_none : goal.union-returns-then-is_none
+union-returns-then-is_none t c =
+    let read : spec.operand 6 c.args.self.now.prefixes.now c.args.depth c.args.tokens.now ≡ Ok (c.in_ok-first.first, c.operand.new.tokens) = search rules in
+    let none : operator_at 0 (kind_of c.operand.new.tokens) (text_of c.operand.new.tokens) ≡ None = first_of (search (rules, tests), grind (arith, common_steps)) in
+    chain_alone (side 6 c.args.self.now.prefixes.now c.args.depth 0) 0 c.args.tokens.now c.operand.new.tokens c.in_ok-first.first
+    (side_zero 6 c.args.self.now.prefixes.now c.args.depth 0 c.args.tokens.now refl ∙ read) none
 
 -- ---- brackets
 
@@ -109,28 +180,34 @@ links-returns t c =
 
 pub predicates-returns-then-not-opens_predicate : goal.predicates-returns-then-not-opens_predicate
 predicates-returns-then-not-opens_predicate t c =
+    let test : opens_predicate (kind_of c.args.tokens.now) ≡ false = search rules in
+    let ends = predicates_end (nested 6 c.args.self.now.prefixes.now c.args.depth) 4095 [] c.args.tokens.now test in
+    first_of (search rules, grind (arith, common_steps))
+
+pub some_predicates-returns-then-not-opens_predicate : goal.some_predicates-returns-then-not-opens_predicate
+some_predicates-returns-then-not-opens_predicate t c =
     let e = one_turn (λ n. more_predicates (nested 6 c.args.self.now.prefixes.now c.args.depth) n c.loop-turn.found c.loop-turn.tokens) 4096 c.loop-turn._turn c.loop-turn-test.true c.loop-turn.invariant in
     let test : opens_predicate (kind_of c.loop-turn.tokens) ≡ false = search rules in
     let goes = e ∙ predicates_end (nested 6 c.args.self.now.prefixes.now c.args.depth) (4096 - (c.loop-turn._turn + 1)) c.loop-turn.found c.loop-turn.tokens test in
     first_of (search rules, grind (arith, common_steps))
 
-pub predicates-returns-in_err-next : goal.predicates-returns-in_err-next
-predicates-returns-in_err-next t c =
+pub some_predicates-returns-in_err-next : goal.some_predicates-returns-in_err-next
+some_predicates-returns-in_err-next t c =
     let e = one_turn (λ n. more_predicates (nested 6 c.args.self.now.prefixes.now c.args.depth) n c.loop-turn.found c.loop-turn.tokens) 4096 c.loop-turn._turn c.loop-turn-test.true c.loop-turn.invariant in
     let test : opens_predicate (kind_of c.loop-turn.tokens) ≡ true = search rules in
     let goes = e ∙ predicates_go_on (nested 6 c.args.self.now.prefixes.now c.args.depth) (4096 - (c.loop-turn._turn + 1)) c.loop-turn.found c.loop-turn.tokens test in
     first_of (search rules, grind (arith, common_steps))
 
-pub predicates-loop-turn-preserved : goal.predicates-loop-turn-preserved
-predicates-loop-turn-preserved t c =
+pub some_predicates-loop-turn-preserved : goal.some_predicates-loop-turn-preserved
+some_predicates-loop-turn-preserved t c =
     let e = one_turn (λ n. more_predicates (nested 6 c.args.self.now.prefixes.now c.args.depth) n c.loop-turn.found c.loop-turn.tokens) 4096 c.loop-turn._turn c.loop-turn-test.true c.loop-turn.invariant in
     let test : opens_predicate (kind_of c.loop-turn.tokens) ≡ true = search rules in
     let goes = e ∙ predicates_go_on (nested 6 c.args.self.now.prefixes.now c.args.depth) (4096 - (c.loop-turn._turn + 1)) c.loop-turn.found c.loop-turn.tokens test in
     first_of (search rules, grind (arith, common_steps))
 
-pub predicates-returns : goal.predicates-returns
+pub some_predicates-returns : goal.some_predicates-returns
 unfolding more_predicates
-predicates-returns t c =
+some_predicates-returns t c =
     let e = no_turn (λ n. more_predicates (nested 6 c.args.self.now.prefixes.now c.args.depth) n c.loop-turn.found c.loop-turn.tokens) 4096 c.loop-turn._turn c.loop-turn-test.false c.loop-turn.invariant in
     first_of (search rules, grind (arith, common_steps))
 
