@@ -6,6 +6,8 @@ mod disks;
 #[cfg(test)]
 mod journals;
 #[cfg(test)]
+mod shrinking;
+#[cfg(test)]
 mod steps;
 #[cfg(test)]
 mod stores;
