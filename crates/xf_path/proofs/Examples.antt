@@ -1,6 +1,6 @@
 -- Expressions by the definitions.
-use Rattle.std.proofs.Common.{◌≡◌, ◌*◌, ℕ, zero, suc, List, [], ◌∷◌, ◌++◌, Some, None, Ok, Err, refl, sym, ap, ◌∙◌, ◌&&◌, Bool, true, false, pos, codes}
-use Rattle.std.specs.Prelude.{ℤ, Option, Result}
+use Rattle.std.proofs.Common.{◌≡◌, ◌*◌, ℕ, zero, suc, List, [], ◌∷◌, ◌++◌, Some, Ok, Err, refl, sym, ap, ◌∙◌, ◌&&◌, Bool, true, false, pos, codes}
+use Rattle.std.specs.Prelude.{Result}
 use Rattle.std.specs.Str.{chars}
 use Rattle.unicode_ident.specs.Ident.{is_xid_start, is_xid_continue}
 use Rattle.ucd_table.specs.Rows.{in_ranges}

@@ -1,5 +1,5 @@
 -- Operators by rising rank: what the ranks above an operand read of what follows it.
-use Rattle.std.proofs.Common.{◌≡◌, ◌==◌, ℕ, zero, suc, ◌+◌, ◌-◌, ◌<◌, ◌≤◌, eqb, cond, List, [], ◌∷◌, Some, None, Ok, Err, option_map, inl, inr, refl, sym, ap, ◌∙◌, rules, arith}
+use Rattle.std.proofs.Common.{◌≡◌, ℕ, zero, suc, ◌+◌, ◌-◌, ◌<◌, ◌≤◌, eqb, cond, List, [], Some, None, Ok, Err, option_map, inl, inr, refl, sym, ap, ◌∙◌, rules, arith}
 use Rattle.std.specs.Prelude.{Option}
 use Rattle.std.proofs.lemmas.Bool.Decides.{eqb_tells}
 use Rattle.std.proofs.lemmas.Grind.{common_steps}
@@ -8,7 +8,6 @@ use Rattle.xf_name.specs.Bindings.{Bindings}
 use Rattle.xf_ast.specs.declared.expr.Operator.{Operator}
 use Rattle.xf_ast.specs.declared.expr.Expr.{Expr}
 use Rattle.xf_ast.specs.declared.expr.Link.{Link}
-use Rattle.xf_path.specs.declared.token.Kind.{Kind}
 use Rattle.xf_path.specs.Tokens.{Token}
 use Rattle.xf_path.specs.Reading.{Outcome, Rule, and_then, ◌>>=◌, kind_of, text_of, pure}
 use Rattle.xf_path.specs.Operators.{operator_of, operator_at, of_rank, rank_of, more_links, chain, chain_of}

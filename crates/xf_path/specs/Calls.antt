@@ -14,7 +14,7 @@ use Rattle.xf_ast.specs.declared.expr.Operator.{Operator}
 use Rattle.xf_ast.specs.declared.expr.Operator.TheVariants as o
 use Rattle.xf_ast.specs.declared.expr.Expr.{Expr}
 use Rattle.xf_ast.specs.declared.expr.Expr.TheVariants as e
-use Rattle.xf_ast.specs.declared.expr.Expr.TheOpen.{Expr-F, Link-F, Step-F}
+use Rattle.xf_ast.specs.declared.expr.Expr.TheOpen.{Expr-F, Link-F}
 use Rattle.xf_ast.specs.declared.expr.Expr.TheFolds.{fold-Expr, fold-Link}
 use Rattle.xf_ast.specs.declared.expr.Link.{Link}
 use Rattle.xf_path.specs.declared.fault.ExprKind.{ExprKind}

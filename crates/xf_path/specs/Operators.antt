@@ -1,5 +1,5 @@
 -- Operators (XPath 1.0, sections 3.3 to 3.5).
-use Rattle.std.specs.Prelude.{ℕ, zero, suc, ◌==◌, if◌then◌else◌, List, [], ◌∷◌, ◌++◌, codes, Option, Some, None, Ok}
+use Rattle.std.specs.Prelude.{ℕ, zero, suc, ◌==◌, if◌then◌else◌, List, [], ◌∷◌, ◌++◌, codes, Option, Some, None}
 use Rattle.std.specs.Str.{bytes_eq}
 use Rattle.xf_base.specs.Limits.{expression_limit}
 use Rattle.xf_ast.specs.declared.expr.Operator.{Operator}

@@ -1,6 +1,6 @@
 -- Location paths, step by step (XPath 1.0, sections 2 and 2.5): a rule `nested` reads an expression in brackets from its opening
 -- bracket on; b are the bindings of the form.
-use Rattle.std.specs.Prelude.{ℕ, zero, suc, Bool, true, false, if◌then◌else◌, List, [], ◌∷◌, ◌++◌, Option, Some, None, Ok}
+use Rattle.std.specs.Prelude.{ℕ, zero, suc, Bool, true, false, List, [], ◌∷◌, ◌++◌, Option, Some, None}
 use Rattle.xf_base.specs.Limits.{expression_limit}
 use Rattle.xf_name.specs.Bindings.{Bindings}
 use Rattle.xf_ast.specs.declared.expr.Start.TheVariants as start
@@ -9,7 +9,7 @@ use Rattle.xf_ast.specs.declared.expr.Expr.TheVariants as e
 use Rattle.xf_ast.specs.declared.expr.Step.{Step}
 use Rattle.xf_path.specs.declared.token.Kind.{Kind}
 use Rattle.xf_path.specs.declared.token.Kind.TheVariants as k
-use Rattle.xf_path.specs.Reading.{Rule, kind_of, ◌>>=◌, ◌>>◌, pure, next_kind, next_place, pass_next}
+use Rattle.xf_path.specs.Reading.{Rule, ◌>>=◌, ◌>>◌, pure, next_kind, next_place, pass_next}
 use Rattle.xf_path.specs.Steps.{step}
 
 -- whether a token stands between steps, and if so, whether it is `//`

@@ -1,6 +1,6 @@
 -- Operands of operators (XPath 1.0, sections 3.1 to 3.3): primary expressions with predicates and steps behind them, or location
 -- paths. A rule `nested` reads an expression in brackets from its opening bracket on; d is the number of decimals.
-use Rattle.std.specs.Prelude.{ℕ, ◌==◌, option_map, Bool, true, false, if◌then◌else◌, List, [], ◌∷◌, encode_utf8_all, Option, Some, None, is_none, Ok}
+use Rattle.std.specs.Prelude.{ℕ, ◌==◌, option_map, Bool, true, false, if◌then◌else◌, List, [], ◌∷◌, encode_utf8_all, Option, Some, None, is_none}
 use Rattle.std.specs.Str.{chars}
 use Rattle.xf_num.specs.Written.{read_at}
 use Rattle.xf_name.specs.Bindings.{Bindings}

@@ -1,7 +1,7 @@
 -- Static expressions, a notion of this processor for the computed expressions of binds (XForms 1.1, section 6.1): which nodes such an
 -- expression reads is known from the structure of the data alone, so its predicates hold no path, and it asks neither indexes nor the
 -- event.
-use Rattle.std.specs.Prelude.{ℕ, Bool, true, false, not, List, [], length, Option, Some, None}
+use Rattle.std.specs.Prelude.{ℕ, Bool, true, false, not, List, length, Option, Some, None}
 use Rattle.std.specs.List.{list_any}
 use Rattle.xf_ast.specs.declared.expr.Expr.{Expr}
 use Rattle.xf_ast.specs.declared.expr.Expr.TheOpen.{Expr-F, Link-F, Step-F}

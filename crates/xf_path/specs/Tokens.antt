@@ -1,6 +1,6 @@
 -- The tokens of an expression (XPath 1.0, section 3.7): each is the longest that can be read at its place, and white space may stand
 -- between them. What a name is goes by what stands behind it; whether it, or a `*`, is an operator goes by where it is read.
-use Rattle.std.specs.Prelude.{ℕ, zero, suc, ◌+◌, ◌-◌, ◌&&◌, ◌||◌, ◌==◌, if◌then◌else◌, List, [], ◌∷◌, length, take, Option, Some, None, encode_utf8_all}
+use Rattle.std.specs.Prelude.{ℕ, zero, suc, ◌+◌, ◌-◌, ◌||◌, ◌==◌, if◌then◌else◌, List, [], ◌∷◌, length, take, Option, Some, None, encode_utf8_all}
 use Rattle.std.specs.Char.{len_utf8}
 use Rattle.std.specs.Str.{chars}
 use Rattle.xf_num.specs.Written.{is_space, is_digit, after_digits}

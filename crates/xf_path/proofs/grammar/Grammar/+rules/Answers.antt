@@ -4,7 +4,7 @@ use Rattle.xf_table.specs.Rows.{code_of}
 use Rattle.xf_table.specs.Contents.{function_entries}
 use Rattle.xf_path.specs.Reading.{kind_of, place_of, text_of, and_then, pure}
 use Rattle.xf_path.specs.Steps.{opens_predicate, more_predicates}
-use Rattle.xf_path.specs.Paths.{steps, more_steps}
+use Rattle.xf_path.specs.Paths.{more_steps}
 use Rattle.xf_path.specs.Calls.{is_comma, more_arguments}
 use Rattle.xf_path.specs.Primary.{begins_primary, filtered, onward}
 use Rattle.xf_path.specs.Operators.{operator_of, operator_at, rank_of, more_links, chain, chain_of}

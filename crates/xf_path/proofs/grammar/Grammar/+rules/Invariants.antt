@@ -1,4 +1,4 @@
-use Rattle.std.proofs.Common.{◌≡◌, ◌+◌, ◌-◌, ◌*◌, ◌++◌, ◌≤◌, []}
+use Rattle.std.proofs.Common.{◌≡◌, ◌+◌, ◌-◌, ◌*◌, ◌≤◌, []}
 use Rattle.xf_path.specs.Steps.{more_predicates}
 use Rattle.xf_path.specs.Paths.{steps, more_steps}
 use Rattle.xf_path.specs.Calls.{more_arguments}

@@ -1,4 +1,4 @@
-use Rattle.std.proofs.Common.{◌≤◌, length, sym, rules, arith}
+use Rattle.std.proofs.Common.{sym, rules, arith}
 use Rattle.std.specs.Str.{IsUtf8}
 use Rattle.xf_path.proofs.CharLemmas.{space_passed, end_cut, text_cut}
 use Rattle.xf_path.proofs.tokens.Tokens.at.Goals as goal
