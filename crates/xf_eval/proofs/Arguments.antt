@@ -9,30 +9,30 @@ use Rattle.xf_lang.specs.declared.value.Value.{Value}
 use Rattle.xf_lang.specs.Given.{Given}
 use Rattle.xf_lang.specs.Setting.{Focus, Meaning, Setting, ◌>>=◌, each}
 use Rattle.xf_lang.specs.Conversions.{plain_of, truth_of}
-use Rattle.xf_lang.specs.Functions.{branch, branched, plain_arguments}
+use Rattle.xf_lang.specs.Functions.{argument, branch, branched, plain_arguments}
 use Rattle.xf_lang.specs.Meaning.{focus_of, meaning}
 use Rattle.xf_eval.specs.ByKind.{argument_or}
 use Rattle.xf_eval.specs.First.{counted}
 use Rattle.xf_eval.specs.Worth.{setting_at, setting_in}
 use Rattle.xf_eval.proofs.Called.{argument-none}
-use Rattle.xf_eval.proofs.Firsts.{plain-made, plain-none}
+use Rattle.xf_eval.proofs.Firsts.{branch-made, branch-none, plain-made, plain-none}
 use Rattle.xf_eval.proofs.Lists.{onto, onto-end, onto-more, onto-none}
 use Rattle.xf_eval.proofs.Settings.{plain-same}
 
 -- ---- branches
 
 -- a condition that is too long
-pub branched-long : (ms : List Meaning) (s : Setting) (c : Focus) → argument_or 0 [] ms s c ≡ None → branched ms s c ≡ None
-branched-long ms s c h = ap (λ m. m >>= λ v. branch (truth_of v) ms s c) (argument-none 0 ms s c ∙ h)
+pub branched-long : (ms : List Meaning) (s : Setting) (c : Focus) → option_map (counted true) (argument_or 0 [] ms s c) ≡ None → branched ms s c ≡ None
+branched-long ms s c h = branch-none ms s c (argument 0 ms s c) (ap (option_map (counted true)) (argument-none 0 ms s c) ∙ h)
 
-branch-is : (ms : List Meaning) (s : Setting) (c : Focus) (v : Value) (b : Bool) → argument_or 0 [] ms s c ≡ Some v → truth_of v ≡ b → branched ms s c ≡ branch b ms s c
-branch-is ms s c v b h e = ap (λ m. m >>= λ v. branch (truth_of v) ms s c) (argument-none 0 ms s c ∙ h) ∙ ap (λ t. branch t ms s c) e
+branch-is : (ms : List Meaning) (s : Setting) (c : Focus) (v : Value) (b : Bool) → option_map (counted true) (argument_or 0 [] ms s c) ≡ Some (counted true v) → truth_of v ≡ b → branched ms s c ≡ branch b ms s c
+branch-is ms s c v b h e = branch-made ms s c (argument 0 ms s c) v (ap (option_map (counted true)) (argument-none 0 ms s c) ∙ h) ∙ ap (λ t. branch t ms s c) e
 
 -- the first branch, and the second one
-pub branched-then : (ms : List Meaning) (s : Setting) (c : Focus) (v : Value) → argument_or 0 [] ms s c ≡ Some v → truth_of v ≡ true → branched ms s c ≡ argument_or 1 [] ms s c
+pub branched-then : (ms : List Meaning) (s : Setting) (c : Focus) (v : Value) → option_map (counted true) (argument_or 0 [] ms s c) ≡ Some (counted true v) → truth_of v ≡ true → branched ms s c ≡ argument_or 1 [] ms s c
 branched-then ms s c v h e = branch-is ms s c v true h e ∙ argument-none 1 ms s c
 
-pub branched-else : (ms : List Meaning) (s : Setting) (c : Focus) (v : Value) → argument_or 0 [] ms s c ≡ Some v → truth_of v ≡ false → branched ms s c ≡ argument_or 2 [] ms s c
+pub branched-else : (ms : List Meaning) (s : Setting) (c : Focus) (v : Value) → option_map (counted true) (argument_or 0 [] ms s c) ≡ Some (counted true v) → truth_of v ≡ false → branched ms s c ≡ argument_or 2 [] ms s c
 branched-else ms s c v h e = branch-is ms s c v false h e ∙ argument-none 2 ms s c
 
 -- ---- plain values

@@ -1,37 +1,44 @@
 -- The first node of a set alone: what is converted of it, what operators make of it, and where the walk of a path may stop.
-use Rattle.std.proofs.Common.{◌≡◌, ◌⊎◌, inl, inr, ℕ, zero, suc, ◌-◌, ◌<◌, ◌≤◌, max, Bool, true, false, List, [], ◌∷◌, map, take, length, get_or, Option, Some, None, option_map, Result, Ok, Err, refl, sym, ap, ◌∙◌, subst, arith, slice_get}
+use Rattle.std.proofs.Common.{◌≡◌, ℕ, zero, suc, ◌≤◌, true, false, not, List, [], ◌∷◌, map, take, length, get_or, Option, Some, None, option_map, refl, sym, ap, ◌∙◌, arith, slice_get}
+use Rattle.std.specs.Prelude.{option_and_then, unwrap_or}
 use denote.Param.Weighed.{most}
+use Rattle.xf_base.specs.Limits.{string_limit}
+use Rattle.xf_name.specs.Bindings.{Bindings}
 use Rattle.xf_name.specs.declared.axis.Axis.{Axis}
 use Rattle.xf_ast.specs.declared.expr.Expr.{Expr}
 use Rattle.xf_ast.specs.declared.expr.Expr.TheVariants as expr
 use Rattle.xf_ast.specs.declared.expr.Link.{Link}
 use Rattle.xf_ast.specs.declared.expr.Operator.{Operator}
 use Rattle.xf_ast.specs.declared.expr.Operator.TheVariants.{Or, And, Equal, NotEqual, Less, LessOrEqual, Greater, GreaterOrEqual, Add, Subtract, Multiply, Divide, Modulo, Union}
-use Rattle.xf_ast.specs.declared.expr.Start.{Start}
-use Rattle.xf_ast.specs.declared.expr.Start.TheVariants as start
 use Rattle.xf_ast.specs.declared.expr.Step.{Step}
 use Rattle.xf_ast.specs.declared.expr.Test.{Test}
 use Rattle.xf_doc.specs.declared.content.Node.{Node}
 use Rattle.xf_doc.specs.Axis.{is_reverse}
+use Rattle.xf_doc.specs.Forest.{name_in}
 use Rattle.xf_doc.specs.Texts.{Keeping}
 use Rattle.xf_doc.specs.WellFormed.{AreTrees}
-use Rattle.xf_plain_values.specs.Bounded.{GivesBounded}
-use Rattle.xf_plain_values.specs.Conversions.{Decimal, number_in}
+use Rattle.xf_plain_values.specs.Bounded.{capped}
+use Rattle.xf_plain_values.specs.Conversions.{Decimal, number_in, text_in}
 use Rattle.xf_lang.specs.declared.context.Context.{Context}
 use Rattle.xf_lang.specs.declared.value.Value.{Value}
 use Rattle.xf_lang.specs.declared.value.Value.TheVariants.{Nodes, Text, Number, Truth}
 use Rattle.xf_lang.specs.Binding.{as_list}
-use Rattle.xf_lang.specs.Given.{Given}
-use Rattle.xf_lang.specs.Conversions.{nodes_of, number_of, plain_of, truth_of}
+use Rattle.xf_lang.specs.Given.{Given, beside, document_of, property_of}
+use Rattle.xf_lang.specs.Conversions.{nodes_of, number_of, plain_of, string_of, truth_of}
+use Rattle.xf_lang.specs.Functions.{branch, index_number}
 use Rattle.xf_lang.specs.Meaning.{focus_of, meaning, meaning_of_link, walk_of}
-use Rattle.xf_lang.specs.Operators.{and_then, chained, combined, computed, linked, or_else, signed}
+use Rattle.xf_lang.specs.Operators.{and_then, chained, combined, computed, linked, or_else}
 use Rattle.xf_lang.specs.Setting.{Focus, Meaning, Setting, ◌>>=◌, in_order}
-use Rattle.xf_lang.specs.Steps.{begun, from_one, reached, walked}
-use Rattle.xf_lang.proofs.Equations.{meaning-Chain, meaning-From, meaning-Path}
+use Rattle.xf_lang.specs.Steps.{from_one, reached, walked}
+use Rattle.xf_lang.proofs.Equations.{meaning-Chain}
+use Rattle.xf_eval.specs.declared.kinds.Kind.{Kind}
+use Rattle.xf_eval.specs.declared.kinds.Kind.TheVariants as kind
 use Rattle.xf_eval.specs.Answered.{answered}
-use Rattle.xf_eval.specs.First.{converts, counted, first_alone, first_node, leads}
+use Rattle.xf_eval.specs.OfNodes.{first_content, name_part, name_worth}
+use Rattle.xf_eval.specs.OfOne.{one_worth, own_worth, plain_worth}
+use Rattle.xf_eval.specs.First.{converts, counted, first_alone, first_node, leads, takes_plain}
 use Rattle.xf_eval.specs.Taken.{taken}
-use Rattle.xf_eval.specs.Worth.{negated_worth, number_worth, seen, setting_at, setting_in}
+use Rattle.xf_eval.specs.Worth.{seen, setting_at, setting_in}
 use Rattle.xf_eval.proofs.Ordered.{forward-in_order, taken-one}
 use Rattle.xf_eval.proofs.Runs.{chain-goes}
 
@@ -40,12 +47,6 @@ use Rattle.xf_eval.proofs.Runs.{chain-goes}
 pub map-none : {A B : Type 0} (f : A → B) (m : Option A) → option_map f m ≡ None → m ≡ None
 map-none f None e = refl
 map-none f (Some x) e = cc e
-
--- a call that gives the whole gives it seen so too
-pub gives-seen : {X Y E : Type 0} (memory long : E) (f : X → Y) (r : Result X E) (m : Option X) → GivesBounded memory long (λ x. x) r m → GivesBounded memory long f r (option_map f m)
-gives-seen memory long f (Ok x) m h = ap (option_map f) h
-gives-seen memory long f (Err e) m (inl h) = inl h
-gives-seen memory long f (Err e) m (inr h) = inr (h.0, ap (option_map f) h.1)
 
 -- ---- conversions see no more than the first node
 
@@ -87,12 +88,52 @@ plain-made s = made-first (plain_of s) (plain-alike s)
 pub plain-none : (s : Setting) (m : Option Value) → option_map (counted true) m ≡ None → (m >>= plain_of s) ≡ None
 plain-none s = made-none (plain_of s)
 
-pub negated-first : (signs : ℕ) (nodes : List Node) (m : Option Value) (v : Value) → option_map (counted true) m ≡ Some (counted true v) →
-    negated_worth signs nodes m ≡ option_map (λ k. Number (signed signs k)) (number_worth nodes v)
-negated-first signs nodes m v e = ap (option_map (λ k. Number (signed signs k))) (made-first (number_worth nodes) (number-alike (setting_in nodes)) m v e)
+pub string-alike : (s : Setting) (v w : Value) → first_alone v ≡ first_alone w → string_of s v ≡ string_of s w
+string-alike s v w e = ap (λ m. m >>= λ p. capped s.most (text_in s.given.decimals p)) (plain-alike s v w e)
 
-pub negated-none : (signs : ℕ) (nodes : List Node) (m : Option Value) → option_map (counted true) m ≡ None → negated_worth signs nodes m ≡ None
-negated-none signs nodes m e = ap (option_map (λ k. Number (signed signs k))) (made-none (number_worth nodes) m e)
+-- ---- functions
+
+content-first : (nodes : List Node) (v : Value) → first_content nodes (nodes_of (first_alone v)) ≡ first_content nodes (nodes_of v)
+content-first nodes (Nodes []) = refl
+content-first nodes (Nodes (n ∷ ns)) = refl
+content-first nodes (Text text) = refl
+content-first nodes (Number k) = refl
+content-first nodes (Truth b) = refl
+
+name-alike : (k : Kind) (bindings : Bindings) (nodes : List Node) (v w : Value) → first_alone v ≡ first_alone w → name_worth k bindings nodes (nodes_of v) ≡ name_worth k bindings nodes (nodes_of w)
+name-alike k bindings nodes v w e =
+    ap (λ c. option_map Text (capped (Some string_limit) (name_part k bindings (option_and_then name_in c))))
+    (sym (content-first nodes v) ∙ ap (λ u. first_content nodes (nodes_of u)) e ∙ content-first nodes w)
+
+own-alike : (k : Kind) (code : ℕ) (given : Given) (nodes : List Node) (v w : Value) → first_alone v ≡ first_alone w → own_worth k code given nodes v ≡ own_worth k code given nodes w
+own-alike kind.Number code given nodes v w e = ap (option_map Number) (number-alike (setting_in nodes) v w e)
+own-alike kind.Text code given nodes v w e = ap (option_map Text) (string-alike (setting_in nodes) v w e)
+own-alike kind.Owning code given nodes v w e = ap (λ m. m >>= λ p. plain_worth code (p ∷ [])) (plain-alike (setting_in nodes) v w e)
+own-alike other code given nodes v w e = name-alike other given.bindings nodes v w e
+
+pub own-made : (k : Kind) (code : ℕ) (given : Given) (nodes : List Node) (m : Option Value) (v : Value) → option_map (counted true) m ≡ Some (counted true v) → (m >>= own_worth k code given nodes) ≡ own_worth k code given nodes v
+own-made k code given nodes = made-first (own_worth k code given nodes) (own-alike k code given nodes)
+
+one-alike : (k : Kind) (model : ℕ) (given : Given) (nodes : List Node) (v w : Value) → counted (takes_plain k) v ≡ counted (takes_plain k) w → one_worth k model given nodes v ≡ one_worth k model given nodes w
+one-alike kind.Boolean model given nodes v w e = ap (λ b. Some (Truth b)) (truth-alike v w e)
+one-alike kind.Not model given nodes v w e = ap (λ b. Some (Truth (not b))) (truth-alike v w e)
+one-alike kind.Event model given nodes v w e = ap (option_map (λ name. unwrap_or (property_of name given.event) (Nodes []))) (string-alike (setting_in nodes) v w e)
+one-alike kind.Index model given nodes v w e = ap (option_map (λ id. Number (index_number 6 (beside id given.indexes)))) (string-alike (setting_in nodes) v w e)
+one-alike kind.Instance model given nodes v w e = ap (option_map (λ id. Nodes (as_list (document_of model id given.documents)))) (string-alike (setting_in nodes) v w e)
+one-alike other model given nodes v w e = ap (one_worth other model given nodes) e
+
+pub one-made : (k : Kind) (model : ℕ) (given : Given) (nodes : List Node) (m : Option Value) (v : Value) → option_map (counted (takes_plain k)) m ≡ Some (counted (takes_plain k) v) →
+    (m >>= one_worth k model given nodes) ≡ one_worth k model given nodes v
+one-made k model given nodes None v e = cc e
+one-made k model given nodes (Some w) v e = let i : counted (takes_plain k) w ≡ counted (takes_plain k) v = cc e in one-alike k model given nodes w v i
+
+-- the branch that a condition chooses
+pub branch-made : (ms : List Meaning) (s : Setting) (c : Focus) (m : Option Value) (v : Value) → option_map (counted true) m ≡ Some (counted true v) →
+    (m >>= λ u. branch (truth_of u) ms s c) ≡ branch (truth_of v) ms s c
+branch-made ms s c = made-first (λ u. branch (truth_of u) ms s c) (λ v w e. ap (λ b. branch b ms s c) (truth-alike v w e))
+
+pub branch-none : (ms : List Meaning) (s : Setting) (c : Focus) (m : Option Value) → option_map (counted true) m ≡ None → (m >>= λ u. branch (truth_of u) ms s c) ≡ None
+branch-none ms s c = made-none (λ u. branch (truth_of u) ms s c)
 
 -- ---- operators
 
@@ -158,14 +199,6 @@ chain-made links (Some w) v s c e = let i : counted (leads links) w ≡ counted 
 
 -- ---- paths
 
-pub path-first : (b : Bool) (m : Option (List ℕ)) (ns : List ℕ) → b ≡ true → option_map first_node m ≡ Some (first_node ns) → option_map (counted b) (option_map Nodes m) ≡ Some (counted b (Nodes ns))
-path-first false m ns t e = cc t
-path-first true None ns t e = cc e
-path-first true (Some ms) ns t e = let i : first_node ms ≡ first_node ns = cc e in ap (λ l. Some (Nodes l)) i
-
-pub path-none : (b : Bool) (m : Option (List ℕ)) → option_map first_node m ≡ None → option_map (counted b) (option_map Nodes m) ≡ None
-path-none b m e = ap (λ x. option_map (counted b) (option_map Nodes x)) (map-none first_node m e)
-
 -- a chain of steps is all but its last one, and that one
 walked-one : (m : Option (List ℕ)) (s : Setting) → (m >>= walked s []) ≡ m
 walked-one None s = refl
@@ -220,35 +253,12 @@ taken-first axis t s n found k sound all forward e =
 
 -- ---- whole expressions
 
-begun-same : (at : Start) (given : Given) (nodes : List Node) (context : Context) (c : Focus) → begun at (setting_in nodes) c ≡ begun at (setting_at given nodes context) c
-begun-same start.Root given nodes context c = refl
-begun-same start.Context given nodes context c = refl
-
 module _ (given : Given) (nodes : List Node) (context : Context) where
   abbrev setting : Setting
   setting = setting_at given nodes context
 
   abbrev focus : Focus
   focus = focus_of context
-
-  pub path-meaning : (e : Expr) (place : ℕ) (at : Start) (steps ss : List Step) (from : List ℕ) → e ≡ expr.Path place at steps → ss ≡ steps → from ≡ begun at (setting_in nodes) focus →
-      meaning e setting focus ≡ option_map Nodes (walked setting (map walk_of ss) from)
-  path-meaning e place at steps ss from h i b =
-      ap (λ x. meaning x setting focus) h ∙ ap (λ m. m setting focus) (meaning-Path place at steps)
-      ∙ ap (λ l. option_map Nodes (walked setting (map walk_of l) (begun at setting focus))) (sym i)
-      ∙ ap (λ l. option_map Nodes (walked setting (map walk_of ss) l)) (sym (b ∙ begun-same at given nodes context focus))
-
-  from-each : (e first : Expr) (steps : List Step) → e ≡ expr.From first steps → meaning e setting focus ≡ option_map Nodes (meaning first setting focus >>= λ v. walked setting (map walk_of steps) (nodes_of v))
-  from-each e first steps h = ap (λ x. meaning x setting focus) h ∙ ap (λ m. m setting focus) (meaning-From first steps)
-
-  pub from-meaning : (e first : Expr) (steps ss : List Step) (v : Value) (from : List ℕ) → e ≡ expr.From first steps → ss ≡ steps → meaning first setting focus ≡ Some v → from ≡ nodes_of v →
-      meaning e setting focus ≡ option_map Nodes (walked setting (map walk_of ss) from)
-  from-meaning e first steps ss v from h i g b =
-      from-each e first steps h ∙ ap (λ m. option_map Nodes (m >>= λ v. walked setting (map walk_of steps) (nodes_of v))) g
-      ∙ ap (λ l. option_map Nodes (walked setting (map walk_of l) (nodes_of v))) (sym i) ∙ ap (λ l. option_map Nodes (walked setting (map walk_of ss) l)) (sym b)
-
-  pub from-none : (e first : Expr) (steps : List Step) → e ≡ expr.From first steps → meaning first setting focus ≡ None → meaning e setting focus ≡ None
-  from-none e first steps h g = from-each e first steps h ∙ ap (λ m. option_map Nodes (m >>= λ v. walked setting (map walk_of steps) (nodes_of v))) g
 
   pub chain-meaning : (e first : Expr) (links ls : List Link) → e ≡ expr.Chain first links → ls ≡ links → meaning e setting focus ≡ (meaning first setting focus >>= λ v. chained (map meaning_of_link ls) v setting focus)
   chain-meaning e first links ls h i =

@@ -12,10 +12,10 @@ pub mod Arguments
 pub mod Kept
 pub mod Falls
 pub mod Ordered
-pub mod Walked
 pub mod Positions
 pub mod Numbers
 pub mod Sides
 pub mod Below
+pub mod Sought
 pub mod WayLaws
 pub mod Firsts

@@ -27,7 +27,7 @@ use Rattle.xf_eval.specs.declared.kinds.Kind.{Kind}
 use Rattle.xf_eval.specs.declared.kinds.Kind.TheVariants as kind
 use Rattle.xf_eval.specs.Kinds.{function_in}
 use Rattle.xf_eval.specs.Answered.{answered, decides}
-use Rattle.xf_eval.specs.ByKind.{argument_or, by_kind}
+use Rattle.xf_eval.specs.ByKind.{argument_or, by_kind, of_own_argument}
 use Rattle.xf_eval.specs.First.{converts, counted}
 use Rattle.xf_eval.specs.OfOne.{one_worth}
 use Rattle.xf_eval.specs.Taken.{taken}
@@ -103,6 +103,12 @@ call-worth place code arguments k given nodes context h =
     ap (λ m. m (setting_at given nodes context) (focus_of context)) (meaning-Call place code arguments)
     ∙ ap (λ f. functions.called f code (map meaning arguments) (setting_at given nodes context) (focus_of context)) (sym h)
     ∙ by-kind k code given nodes context (map meaning arguments)
+
+-- a function that stands for the context node where no argument is written
+pub by-own : (k j : Kind) (code : ℕ) (given : Given) (nodes : List Node) (context : Context) (ms : List Meaning) → k ≡ j →
+    by_kind j code given nodes context ms ≡ of_own_argument j code given nodes context ms → by_kind k code given nodes context ms ≡ of_own_argument k code given nodes context ms
+by-own k j code given nodes context ms i h =
+    ap (λ (o : Kind). by_kind o code given nodes context ms) i ∙ h ∙ sym (ap (λ (o : Kind). of_own_argument o code given nodes context ms) i)
 
 -- a function of one argument
 pub by-other : (k : Kind) (code : ℕ) (given : Given) (nodes : List Node) (context : Context) (ms : List Meaning) →

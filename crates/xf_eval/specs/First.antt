@@ -6,6 +6,8 @@ use Rattle.xf_ast.specs.declared.expr.Operator.{Operator}
 use Rattle.xf_ast.specs.declared.expr.Operator.TheVariants.{Or, And, Add, Subtract, Multiply, Divide, Modulo}
 use Rattle.xf_lang.specs.declared.value.Value.{Value}
 use Rattle.xf_lang.specs.declared.value.Value.TheVariants.{Nodes, Text, Number, Truth}
+use Rattle.xf_eval.specs.declared.kinds.Kind.{Kind}
+use Rattle.xf_eval.specs.declared.kinds.Kind.TheVariants as kind
 
 abbrev pub first_node : List ℕ → List ℕ
 first_node [] = []
@@ -37,3 +39,12 @@ converts other = false
 abbrev pub leads : List Link → Bool
 leads [] = false
 leads (link ∷ links) = converts link.operator
+
+-- a function converts its one argument (XPath 1.0, section 4; XForms 1.1, section 7)
+abbrev pub takes_plain : Kind → Bool
+takes_plain kind.Boolean = true
+takes_plain kind.Not = true
+takes_plain kind.Event = true
+takes_plain kind.Index = true
+takes_plain kind.Instance = true
+takes_plain other = false

@@ -4,6 +4,14 @@ use Rattle.xf_name.specs.declared.axis.Axis.{Axis}
 use Rattle.xf_ast.specs.declared.expr.Test.{Test}
 use Rattle.xf_doc.specs.declared.content.Content.{Content}
 use Rattle.xf_lang.specs.Tests.{meets}
+use Rattle.xf_name.specs.declared.axis.Axis.TheVariants as axis
+use Rattle.xf_tree.specs.declared.sought.Principal.{Principal}
+use Rattle.xf_tree.specs.declared.sought.Principal.TheVariants.{Element, Attribute}
+
+-- the principal node kind of an axis
+abbrev pub principal_in : Axis → Principal
+principal_in axis.Attribute = Attribute
+principal_in other = Element
 
 -- one that does not stand in the forest meets none
 abbrev pub is_met : Axis → Test → Option Content → Bool

@@ -10,11 +10,11 @@ ghost use Rattle.xf_eval.specs.Live.{AllLive, AroundStands, IsReady};
 ghost use Rattle.xf_eval.specs.Worth.{setting_at};
 ghost use Rattle.xf_eval.specs.OfOne.{one_worth, own_worth, plain_worth};
 ghost use Rattle.xf_eval.specs.ByKind.{argument_or, by_kind};
+ghost use Rattle.xf_eval.specs.First.{counted};
 
 use crate::around::Around;
 use crate::convert::{number_of, plain_of, text_of, truth_of, whole};
-use crate::expression::value_at;
-use crate::first::asked_at;
+use crate::first::{asked_at, takes_plain};
 use crate::kinds::Kind;
 use crate::of_nodes::{name_of, of_nodes};
 use crate::sets::{copied, listed, nodes_in, single};
@@ -51,30 +51,33 @@ pub(crate) fn call_value<A: Around>(
         Kind::Current => Ok(Value::Nodes(single(alloc, context.current)?)),
         Kind::Last => Ok(Value::Number(whole(context.size as usize))),
         Kind::Position => Ok(Value::Number(whole(context.position as usize))),
-        Kind::Choosing => branched(alloc, forest, around, arguments, context),
+        Kind::Choosing => branched(alloc, forest, around, false, arguments, context),
         Kind::Branching => {
-            let value = branched(alloc, forest, around, arguments, context)?;
+            let value = branched(alloc, forest, around, true, arguments, context)?;
             Ok(Value::Text(text_of(alloc, forest, &value)?))
         }
         Kind::Owning | Kind::Number | Kind::Text | Kind::LocalName | Kind::Name | Kind::Namespace =>
             {
                 let own = Some(context.node);
-                let value = argument(alloc, forest, around, arguments, 0, own, context)?;
+                let value = argument(alloc, forest, around, true, arguments, 0, own, context)?;
                 of_own(alloc, forest, around, kind, code, value)
             }
         _ => {
-            let value = argument(alloc, forest, around, arguments, 0, None, context)?;
+            let plain = takes_plain(kind);
+            let value = argument(alloc, forest, around, plain, arguments, 0, None, context)?;
             of_one(alloc, forest, around, kind, context.model, value)
         }
     }
 }
 
-/// The argument at a place from 0; where none is written, the set of the node that stands for it, or of none.
+/// The argument at a place from 0; where none is written, the set of the node that stands for it, or of none. Where it is to be
+/// converted, its first node counts.
 #[cycle(value)]
 fn argument<A: Around>(
     alloc: Global,
     forest: &Forest,
     around: &A,
+    is_converted: bool,
     arguments: &[Expr],
     at: usize,
     own: Option<NodeId>,
@@ -82,11 +85,11 @@ fn argument<A: Around>(
 ) -> Result<Value, EvalFault>
     requires ready { IsReady (A.given around.now) forest.now.forest.nodes context.now }
     requires own { AllLive (as_list (option_map (λ n. n.number) own)) forest.now.forest.nodes }
-    ensures value { GivesBounded EvalFault.Memory EvalFault.Long (λ value. value) result (argument_or at (as_list (option_map (λ n. n.number) own)) (map meaning arguments.now) (setting_at (A.given around.now) forest.now.forest.nodes context.now) (focus_of context.now)) }
+    ensures value { GivesBounded EvalFault.Memory EvalFault.Long (counted is_converted) result (option_map (counted is_converted) (argument_or at (as_list (option_map (λ n. n.number) own)) (map meaning arguments.now) (setting_at (A.given around.now) forest.now.forest.nodes context.now) (focus_of context.now))) }
     ensures live { IfOk result (λ value. AllLive (nodes_of value) forest.now.forest.nodes) }
 {
     match arguments.get(at) {
-        Some(argument) => value_at(alloc, forest, around, argument, context),
+        Some(argument) => asked_at(alloc, forest, around, is_converted, argument, context),
         None => Ok(Value::Nodes(listed(alloc, own)?)),
     }
 }
@@ -111,22 +114,33 @@ fn plain_arguments<A: Around>(
     Ok(given)
 }
 
-/// The value of the branch that the first argument chooses; the other one is not evaluated.
+/// The value of the branch that the first argument chooses; the other one is not evaluated. Where it is to be converted, its first node
+/// counts.
 #[cycle(value)]
 fn branched<A: Around>(
     alloc: Global,
     forest: &Forest,
     around: &A,
+    is_converted: bool,
     arguments: &[Expr],
     context: &Context,
 ) -> Result<Value, EvalFault>
     requires { IsReady (A.given around.now) forest.now.forest.nodes context.now }
-    ensures value { GivesBounded EvalFault.Memory EvalFault.Long (λ value. value) result (branched (map meaning arguments.now) (setting_at (A.given around.now) forest.now.forest.nodes context.now) (focus_of context.now)) }
+    ensures value { GivesBounded EvalFault.Memory EvalFault.Long (counted is_converted) result (option_map (counted is_converted) (branched (map meaning arguments.now) (setting_at (A.given around.now) forest.now.forest.nodes context.now) (focus_of context.now))) }
     ensures live { IfOk result (λ value. AllLive (nodes_of value) forest.now.forest.nodes) }
 {
-    let condition = argument(alloc, forest, around, arguments, 0, None, context)?;
+    let condition = argument(alloc, forest, around, true, arguments, 0, None, context)?;
     let at = if truth_of(&condition) { 1 } else { 2 };
-    argument(alloc, forest, around, arguments, at, None, context)
+    argument(
+        alloc,
+        forest,
+        around,
+        is_converted,
+        arguments,
+        at,
+        None,
+        context,
+    )
 }
 
 /// What a function that may stand for the context node makes of its argument.

@@ -6,12 +6,13 @@ ghost use Rattle.xf_plain_values.specs.Bounded.{GivesBounded};
 ghost use Rattle.xf_lang.specs.Conversions.{nodes_of};
 ghost use Rattle.xf_lang.specs.Steps.{walked};
 ghost use Rattle.xf_lang.specs.Meaning.{focus_of, meaning, walk_of};
-ghost use Rattle.xf_eval.specs.First.{converts, counted, first_node, leads};
+ghost use Rattle.xf_eval.specs.First.{converts, counted, first_node, leads, takes_plain};
 ghost use Rattle.xf_eval.specs.Live.{AllLive, IsReady};
 ghost use Rattle.xf_eval.specs.Worth.{setting_at};
 
 use crate::around::Around;
 use crate::expression::value_at;
+use crate::kinds::Kind;
 use crate::order::is_reverse;
 use crate::sets::{listed, nodes_in, reached_at, started};
 use crate::steps::{begun, taken, walked};
@@ -129,5 +130,15 @@ pub(crate) fn leads(links: &[Link]) -> bool
     match links.first() {
         Some(link) => converts(link.operator),
         None => false,
+    }
+}
+
+/// Whether a function converts its one argument.
+pub(crate) fn takes_plain(kind: Kind) -> bool
+    ensures { result ≡ takes_plain kind }
+{
+    match kind {
+        Kind::Boolean | Kind::Not | Kind::Event | Kind::Index | Kind::Instance => true,
+        _ => false,
     }
 }

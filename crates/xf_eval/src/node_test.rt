@@ -3,11 +3,38 @@
 ghost use Rattle.std.specs.Prelude.{◌≡◌};
 ghost use Rattle.xf_lang.specs.Tests.{has_name, is_in_space, is_principal, meets};
 ghost use Rattle.xf_doc.specs.Forest.{name_in};
+ghost use Rattle.xf_doc.specs.declared.content.Content.{Content};
 ghost use Rattle.xf_tree.specs.Seen.{seen_content};
+ghost use Rattle.xf_tree.specs.Sought.{is_sought};
+ghost use Rattle.xf_eval.specs.Met.{principal_in};
 
 use xf_ast::Test;
 use xf_name::{Axis, QName};
-use xf_tree::Seen;
+use xf_tree::{Principal, Seen, Sought};
+
+/// What the forest is asked for where a test is made on an axis.
+pub(crate) fn sought_of(axis: Axis, test: &Test) -> Sought<'_>
+    ensures { (content : Content) → is_sought result content ≡ meets axis test.now content }
+{
+    match test {
+        Test::Name(name) => Sought::Named(principal_of(axis), name),
+        Test::InSpace(space) => Sought::InSpace(principal_of(axis), *space),
+        Test::AnyName => Sought::All(principal_of(axis)),
+        Test::Text => Sought::Texts,
+        Test::Node => Sought::Any,
+        Test::Nothing => Sought::Nothing,
+    }
+}
+
+/// The principal node kind of an axis.
+fn principal_of(axis: Axis) -> Principal
+    ensures { result ≡ principal_in axis }
+{
+    match axis {
+        Axis::Attribute => Principal::Attribute,
+        _ => Principal::Element,
+    }
+}
 
 /// Whether what a node is meets the test on an axis.
 pub fn meets(axis: Axis, test: &Test, content: Seen<'_>) -> bool

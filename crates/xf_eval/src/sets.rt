@@ -3,15 +3,14 @@
 ghost use Rattle.std.specs.Prelude.{◌≡◌, [], ◌∷◌, ◌++◌, true, option_map, slice_get, IfOk, OnOk};
 ghost use Rattle.xf_name.specs.declared.axis.Axis.TheVariants.{DescendantOrSelf};
 ghost use Rattle.xf_ast.specs.declared.expr.Test.TheVariants.{Node};
-ghost use Rattle.xf_doc.specs.Forest.{IsLive, content_at};
+ghost use Rattle.xf_doc.specs.Forest.{IsLive};
 ghost use Rattle.xf_lang.specs.Binding.{as_list};
 ghost use Rattle.xf_lang.specs.Conversions.{nodes_of};
 ghost use Rattle.xf_lang.specs.Steps.{reached, begun_at};
 ghost use Rattle.xf_eval.specs.Live.{AllLive};
-ghost use Rattle.xf_eval.specs.Met.{is_met};
 ghost use Rattle.xf_eval.specs.Worth.{seen};
 
-use crate::node_test::meets;
+use crate::node_test::sought_of;
 use std::alloc::{AllocError, Global};
 use xf_ast::Test;
 use xf_doc::{NodeId, NodeList};
@@ -49,12 +48,7 @@ pub(crate) fn reach(
     ensures { OnOk result (found.new ≡ found.old ++ reached axis test.now (seen forest.now.forest.nodes) node.number) }
 {
     forest.are_trees();
-    for other in forest.axis(node, axis) {
-        if is_met(forest, other, axis, test) {
-            found.push(other)?;
-        }
-    }
-    Ok(())
+    forest.choose(found, node, axis, sought_of(axis, test))
 }
 
 /// The node at a place, from 0, of what the axis and the test select from a node. The walk goes no further.
@@ -69,27 +63,7 @@ pub(crate) fn reached_at(
     ensures { option_map (λ n. n.number) result ≡ slice_get (reached axis test.now (seen forest.now.forest.nodes) node.number) at }
 {
     forest.are_trees();
-    let mut left = at;
-    for other in forest.axis(node, axis) {
-        if !is_met(forest, other, axis, test) {
-            continue;
-        }
-        if left == 0 {
-            return Some(other);
-        }
-        left -= 1;
-    }
-    None
-}
-
-/// Whether a node meets the test on an axis.
-fn is_met(forest: &Forest, node: NodeId, axis: Axis, test: &Test) -> bool
-    ensures { result ≡ is_met axis test.now (content_at node.number forest.now.forest.nodes) }
-{
-    match forest.content(node) {
-        Some(content) => meets(axis, test, content),
-        None => false,
-    }
+    forest.chosen_at(node, axis, sought_of(axis, test), at)
 }
 
 /// All nodes from these down, in document order, each once: where a step behind `//` begins (XPath 1.0, section 2.5).

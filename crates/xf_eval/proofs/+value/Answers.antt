@@ -1,4 +1,4 @@
-use Rattle.std.proofs.Common.{◌≡◌, ◌*◌, suc, ◌+◌, ◌-◌, ◌<◌, ◌≤◌, [], drop, take, Some, None, option_map, true, false, length, map, refl, sym, ap, ◌∙◌, subst, arith, rules, tests}
+use Rattle.std.proofs.Common.{◌≡◌, ◌*◌, suc, ◌+◌, ◌-◌, ◌<◌, ◌≤◌, inl, inr, [], ◌∷◌, drop, take, Some, None, option_map, true, false, length, map, refl, sym, ap, ◌∙◌, subst, arith, rules, tests}
 use denote.Param.Weighed.{most}
 use Rattle.std.proofs.lemmas.Result.{err_from_is_err_and}
 use Rattle.xf_ast.specs.declared.expr.Expr.{size-Expr}
@@ -20,8 +20,9 @@ use Rattle.xf_eval.specs.Taken.{taken}
 use Rattle.xf_eval.proofs.Ordered.{alone-is, forward-in_order, taken-none, taken-one}
 use Rattle.xf_eval.proofs.Positions.{first-asked, live-placed}
 use Rattle.xf_eval.specs.Answered.{decides}
-use Rattle.xf_eval.specs.First.{converts, counted, first_node, leads}
-use Rattle.xf_eval.specs.ByKind.{argument_or, by_kind}
+use Rattle.xf_eval.specs.First.{counted, first_node, leads}
+use Rattle.xf_eval.specs.declared.kinds.Kind.TheVariants as kind
+use Rattle.xf_eval.specs.ByKind.{argument_or, by_kind, of_own_argument}
 use Rattle.xf_eval.specs.OfOne.{one_worth}
 use Rattle.xf_eval.specs.Worth.{seen, setting_at}
 use Rattle.xf_eval.proofs.Arguments.{branched-long, branched-then, branched-else, one_plain, plain-long, plain-of-value, plains-done, plains-more, plains-stuck}
@@ -29,11 +30,11 @@ use Rattle.xf_eval.proofs.Falls.{chain-falls, filter-falls, from-falls}
 use Rattle.xf_eval.proofs.Kept.{kept-long, kept-next, live-added, taken-done}
 use Rattle.xf_eval.proofs.Lists.{onto, onto-start}
 use Rattle.xf_eval.proofs.Lives.{live-get, live-in_order, live-is, live-item, reached-live}
-use Rattle.xf_eval.proofs.Parts.{argument-past, argument-within, by-other, call-worth, linked-both, linked-long}
+use Rattle.xf_eval.proofs.Parts.{argument-past, argument-within, by-other, by-own, call-worth, linked-both, linked-long}
 use Rattle.xf_eval.proofs.Runs.{added}
 use Rattle.xf_eval.proofs.WayLaws.{empty-is, way-more, way-stuck, way-walks}
 use Rattle.xf_eval.proofs.Bounded.{gives-same, part-long}
-use Rattle.xf_eval.proofs.Firsts.{chain-made, chain-meaning, most-take, taken-first, walked-last, walked-part}
+use Rattle.xf_eval.proofs.Firsts.{chain-made, chain-meaning, most-take, one-made, own-made, taken-first, walked-last, walked-part}
 use Rattle.xf_eval.proofs.+value.Goals as goal
 use Rattle.xf_eval.proofs.+value.Goals.{calls::branched-then-truth_of, calls::branched-else-truth_of, steps::asked_of_each-then-is_true_at+in_ok-push, steps::asked_of_each-else-is_true_at}
 
@@ -45,15 +46,17 @@ calls::argument-returns-in-Some-clause-value g t c =
     let f = focus_of c.args.context.now in
     let es = c.args.arguments.now in
     let small : c.args.at < length es = search (rules, tests) in
-    gives-same Memory Long (λ v. v) c.value_at.result (meaning c.in-Some.argument.now s f) _
-    (ap (λ e. meaning e s f) c.in-Some.ensures.lookup.1 ∙ sym (argument-within es c.args.at _ c.in-Some.argument.now s f small)) c.value_at.ensures.value
+    let b = c.args.is_converted in
+    gives-same Memory Long (counted b) c.asked_at.result (option_map (counted b) (meaning c.in-Some.argument.now s f)) _
+    (ap (option_map (counted b)) (ap (λ e. meaning e s f) c.in-Some.ensures.lookup.1 ∙ sym (argument-within es c.args.at _ c.in-Some.argument.now s f small))) c.asked_at.ensures.value
 
 pub calls::argument-returns-in_ok-listed-in-None-clause-value : goal.calls::argument-returns-in_ok-listed-in-None-clause-value
 calls::argument-returns-in_ok-listed-in-None-clause-value g t c =
     let s = setting_at (g.A.Around.given c.args.around.now) c.args.forest.now.forest.nodes c.args.context.now in
     let f = focus_of c.args.context.now in
     let large : length c.args.arguments.now ≤ c.args.at = omega (arith, c.in-None.ensures.lookup.3) in
-    argument-past c.args.arguments.now c.args.at _ s f large ∙ ap (λ l. Some (Nodes l)) (sym c.in_ok-listed-in-None.ensures)
+    let b = c.args.is_converted in
+    ap (option_map (counted b)) (argument-past c.args.arguments.now c.args.at _ s f large) ∙ ap (λ l. Some (counted b (Nodes l))) (sym c.in_ok-listed-in-None.ensures)
 
 pub calls::branched-returns-in_err-condition-clause-value : goal.calls::branched-returns-in_err-condition-clause-value
 calls::branched-returns-in_err-condition-clause-value g t c =
@@ -61,7 +64,8 @@ calls::branched-returns-in_err-condition-clause-value g t c =
     let f = focus_of c.args.context.now in
     let ms = map meaning c.args.arguments.now in
     let p = err_from_is_err_and c.from_residual.result c.from_residual.ensures.1 in
-    rw (p.1, p.2) (part-long Memory Long _ (argument_or 0 [] ms s f) (branched ms s f) c.in_err-condition.ensures.value (branched-long ms s f))
+    let b = c.args.is_converted in
+    rw (p.1, p.2) (part-long Memory Long _ _ (option_map (counted b) (branched ms s f)) c.in_err-condition.ensures.value (λ h. ap (option_map (counted b)) (branched-long ms s f h)))
 
 pub calls::branched-returns-clause-value : goal.calls::branched-returns-clause-value
 calls::branched-returns-clause-value g t c =
@@ -75,7 +79,8 @@ calls::branched-returns-clause-value g t c =
       | calls::branched-else-truth_of w ↦
           branched-else ms s f c.in_ok-condition.condition c.in_ok-condition.ensures.value (sym c.truth_of.ensures ∙ w.if-truth_of.false) ∙ ap (λ a. argument_or a [] ms s f) (sym w.at-is)
     ] in
-    gives-same Memory Long (λ v. v) c.argument-2.result _ _ (sym chosen) c.argument-2.ensures.value
+    let b = c.args.is_converted in
+    gives-same Memory Long (counted b) c.argument-2.result _ _ (ap (option_map (counted b)) (sym chosen)) c.argument-2.ensures.value
 
 pub calls::call_value-returns-in_ok-value-in_default-clause-value : goal.calls::call_value-returns-in_ok-value-in_default-clause-value
 calls::call_value-returns-in_ok-value-in_default-clause-value g t c =
@@ -87,8 +92,38 @@ calls::call_value-returns-in_ok-value-in_default-clause-value g t c =
     let worth : by_kind c.args.kind c.args.code given nodes context ms ≡ one_worth c.args.kind context.model given nodes c.in_ok-value-in_default.value =
     by-other c.args.kind c.args.code given nodes context ms
     o.not-Asking o.not-Plainly o.not-Owning o.not-Truth o.not-Choosing o.not-Branching o.not-LocalName o.not-Name o.not-Namespace o.not-Number o.not-Text o.not-Current o.not-Last o.not-Position
-    ∙ ap (λ m. m >>= one_worth c.args.kind context.model given nodes) c.in_ok-value-in_default.ensures.value in
+    ∙ one-made c.args.kind context.model given nodes (argument_or 0 [] ms (setting_at given nodes context) (focus_of context)) c.in_ok-value-in_default.value
+    (subst (λ b. option_map (counted b) (argument_or 0 [] ms (setting_at given nodes context) (focus_of context)) ≡ Some (counted b c.in_ok-value-in_default.value)) c.takes_plain-plain.ensures c.in_ok-value-in_default.ensures.value) in
     gives-same Memory Long (λ v. v) c.of_one.result _ _ (sym worth) c.of_one.ensures.value
+
+pub calls::call_value-returns-in_ok-value-in-Owning-clause-value : goal.calls::call_value-returns-in_ok-value-in-Owning-clause-value
+calls::call_value-returns-in_ok-value-in-Owning-clause-value g t c =
+    let given = g.A.Around.given c.args.around.now in
+    let nodes = c.args.forest.now.forest.nodes in
+    let context = c.args.context.now in
+    let ms = map meaning c.args.arguments.now in
+    let k = c.args.kind in
+    let code = c.args.code in
+    let own : by_kind k code given nodes context ms ≡ of_own_argument k code given nodes context ms =
+    elim c.in-Owning.is [
+      | inl i ↦ by-own k kind.Owning code given nodes context ms i refl
+      | inr r ↦ elim r [
+        | inl i ↦ by-own k kind.Number code given nodes context ms i refl
+        | inr r ↦ elim r [
+          | inl i ↦ by-own k kind.Text code given nodes context ms i refl
+          | inr r ↦ elim r [
+            | inl i ↦ by-own k kind.LocalName code given nodes context ms i refl
+            | inr r ↦ elim r [
+              | inl i ↦ by-own k kind.Name code given nodes context ms i refl
+              | inr i ↦ by-own k kind.Namespace code given nodes context ms i refl
+            ]
+          ]
+        ]
+      ]
+    ] in
+    gives-same Memory Long (λ v. v) c.of_own.result _ _
+    (sym (own ∙ own-made k code given nodes (argument_or 0 (context.node.number ∷ []) ms (setting_at given nodes context) (focus_of context)) c.in_ok-value-in-Owning.value c.in_ok-value-in-Owning.ensures.value))
+    c.of_own.ensures.value
 
 pub calls::plain_arguments-loop-argument-init : goal.calls::plain_arguments-loop-argument-init
 calls::plain_arguments-loop-argument-init g t c =
