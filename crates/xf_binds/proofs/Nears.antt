@@ -1,5 +1,6 @@
 -- Where the entries of the first nodes stand, node by node.
-use Rattle.std.proofs.Common.{◌≡◌, ℕ, zero, suc, ◌+◌, ◌⊎◌, inl, inr, List, [], ◌∷◌, ◌++◌, length, Some, slice_get, nat_eq, refl, sym, ap, ◌∙◌, arith}
+use Rattle.std.proofs.Common.{◌≡◌, ℕ, zero, suc, ◌+◌, ◌==◌, true, ◌⊎◌, inl, inr, List, [], ◌∷◌, ◌++◌, length, Some, slice_get, nat_eq, refl, sym, ap, ◌∙◌, arith}
+use Rattle.std.proofs.lemmas.Bool.{eqb-true}
 use Rattle.indexmap.specs.IndexMap.{IndexMap, get}
 use Rattle.xf_binds.specs.declared.entry.Seats.{Seats}
 use Rattle.xf_binds.specs.Held.{AreNear, seats_or}
@@ -28,3 +29,7 @@ longer (y ∷ ys) x = (let e = longer ys x in omega (arith, e))
 
 pub near-longer : (near new : List Seats) (s : Seats) (number : ℕ) → length near ≡ number → new ≡ near ++ s ∷ [] → length new ≡ number + 1
 near-longer near new s number size more = ap length more ∙ longer near s ∙ ap (λ n. n + 1) size
+
+pub none-there : {X : Type 0} (xs : List X) (count : ℕ) → count ≡ length xs → (count == 0) ≡ true → [] ≡ xs
+none-there [] count e h = refl
+none-there (x ∷ xs) count e h = (let z = eqb-true count 0 h in absurd (omega (arith, e, z)))

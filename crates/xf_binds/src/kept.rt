@@ -63,7 +63,7 @@ impl Model for Kept {
     ghost use Rattle.std.specs.Prelude.{◌≤◌, length};
     ghost use Rattle.xf_binds.specs.Kept as kept;
     ghost use Rattle.xf_binds.specs.Readers.{AreReaders, list_or};
-ghost use Rattle.xf_binds.specs.Since.{kept_of, was_of};
+    ghost use Rattle.xf_binds.specs.Since.{kept_of, was_of};
 
     ghost Value = { kept.Kept };
 

@@ -19,11 +19,7 @@ pub type PlaceList = Items<usize>;
 pub(crate) type Readers = IndexMap<u128, PlaceList>;
 
 /// The readers of all nodes among these entries, which ask this.
-pub(crate) fn readers_of(
-    alloc: Global,
-    applied: &Applied,
-    web: &Web,
-) -> Result<Readers, AllocError>
+pub(crate) fn readers_of(alloc: Global, applied: &Applied, web: &Web) -> Result<Readers, AllocError>
     ensures { IfOk result (TellsReaders (entries_in applied.now) web.now) }
 {
     let mut readers = IndexMap::new(alloc);

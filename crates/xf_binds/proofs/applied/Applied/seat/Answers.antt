@@ -1,13 +1,14 @@
-use Rattle.std.proofs.Common.{◌≡◌, List, nat_eq, slice_get, sym, ap, ◌∙◌}
+use Rattle.std.proofs.Common.{◌≡◌, List, nat_eq, slice_get, sym, ap, vec_len, ◌∙◌}
 use Rattle.indexmap.specs.IndexMap.{get}
 use Rattle.xf_binds.specs.Held.{Held, held_on, holds, is_seat, passes, seat_of}
+use Rattle.xf_binds.proofs.Nears.{none-there}
 use Rattle.xf_binds.proofs.Places.{seat-or}
 use Rattle.xf_binds.proofs.applied.Applied.seat.Goals as goal
 
 pub returns-then-is_empty : goal.returns-then-is_empty
 returns-then-is_empty c = λ i.
     let passed = λ (l : List Held). passes (held_on c.args.node.number c.args.property) (slice_get l i) in
-    ap (λ l. passed (holds l)) (sym (c.is_empty.ensures.0 c.if-is_empty.true)) ∙ ap passed c.self.view_is
+    ap (λ l. passed (holds l)) (none-there c.self.inside.items.items (vec_len c.self.inside.items) c.self.inside.items.ok.0 (sym c.is_empty.ensures ∙ c.if-is_empty.true)) ∙ ap passed c.self.view_is
 
 pub returns-in-Some : goal.returns-in-Some
 returns-in-Some c = λ i.
