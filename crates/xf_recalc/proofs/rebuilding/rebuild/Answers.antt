@@ -19,8 +19,8 @@ pub checked-requires-clause-there : goal.checked-requires-clause-there
 checked-requires-clause-there g c =
     entries-there (scope_of called (g.A.Around.given c.args.around.now) c.args.tables.now c.args.model) c.args.forest.now.forest (entries_in c.in-Ok.applied) c.in-Ok.ensures
 
-pub returns-in-Ok-checked-clause-answer : goal.returns-in-Ok-checked-clause-answer
-returns-in-Ok-checked-clause-answer g c =
+pub returns-in_ok-present-in-Ok-checked-clause-answer : goal.returns-in_ok-present-in-Ok-checked-clause-answer
+returns-in_ok-present-in-Ok-checked-clause-answer g c =
     let scope = scope_of called (g.A.Around.given c.args.around.now) c.args.tables.now c.args.model in
     c.in-Ok-checked.ensures.answer scope refl c.in-Ok.ensures c.in_ok-web.ensures.web c.in_ok-web.ensures.small
     ∙ ap Ok (sym (c.rebuild.ensures ∙ ap (λ (o : Entered). table_with c.args.table.now c.args.model (entries_in o.held) o.asks) c.in_ok-present.ensures))
