@@ -8,3 +8,5 @@ pub mod Counts
 pub mod Tellings
 pub mod Sinces
 pub mod Onlys
+pub mod Readings
+pub mod Nears

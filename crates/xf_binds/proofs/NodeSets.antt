@@ -4,6 +4,7 @@ use Rattle.std.proofs.lemmas.List.{map-append}
 use Rattle.std.proofs.lemmas.List.Folds.{list_any-append}
 use Rattle.std.proofs.lemmas.Bool.Decides.{nat_tests}
 use Rattle.std.specs.HashSet.{contains}
+use Rattle.std.specs.List.{list_any}
 use Rattle.indexmap.specs.IndexSet.{IndexSet}
 use Rattle.xf_doc.specs.declared.node.NodeId.{NodeId}
 use Rattle.xf_doc.specs.Visit.{has}
@@ -32,3 +33,7 @@ has-next ids i d within n =
 pub gathered : {S : Type 0} (ids : List NodeId) (i : ℕ) (d : NodeId) (old new : IndexSet ℕ S) → i < length ids → ((n : ℕ) → contains nat_eq old n ≡ has n (numbers_of (take i ids)))
     → ((n : ℕ) → contains nat_eq new n ≡ cond (nat_eq (get_or ids i d).number n) true (contains nat_eq old n)) → (n : ℕ) → contains nat_eq new n ≡ has n (numbers_of (take (i + 1) ids))
 gathered ids i d old new within so_far updates n = updates n ∙ ap (λ b. cond (nat_eq (get_or ids i d).number n) true b) (so_far n) ∙ sym (has-next ids i d within n)
+
+pub has-turned : (n : ℕ) (ns : List ℕ) → list_any (λ m. m == n) ns ≡ has n ns
+has-turned n [] = refl
+has-turned n (m ∷ ms) = ap (λ b. b || list_any (λ k. k == n) ms) (turned m n) ∙ ap (λ b. (n == m) || b) (has-turned n ms)

@@ -101,6 +101,10 @@ passes test (Some x) = test x
 abbrev pub IsSeated : {S : Type 0} → List Held → IndexMap ℕ Seats S → Type 0
 IsSeated held seats = (n : ℕ) (p : Property) (i : ℕ) → is_seat (seat_in (get nat_eq seats n) p) i ≡ passes (held_on n p) (slice_get held i)
 
+-- those of the first nodes stand in a list besides, by their numbers
+abbrev pub AreNear : {S : Type 0} → IndexMap ℕ Seats S → List Seats → Type 0
+AreNear seats near = (n : ℕ) (s : Seats) → slice_get near n ≡ Some s → s ≡ seats_or (get nat_eq seats n)
+
 -- where one entry at most is the same attribute of the same bind for the same node, this is it
 abbrev pub IsOnly : List applied.Entry → applied.Entry → Option applied.Entry → Type 0
 IsOnly entries e found = (test : applied.Entry → Bool) → list_any (λ old. is_same e old && test old) entries ≡ passes test found

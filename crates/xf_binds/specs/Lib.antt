@@ -5,3 +5,4 @@ pub mod Kept
 pub mod Table
 pub mod Asked
 pub mod Since
+pub mod Readers

@@ -1,12 +1,12 @@
 //! The entries and types of a model, in the order in which its binds set them.
 
-ghost use Rattle.std.specs.Prelude.{◌≡◌, ℕ, nat_eq, ◌∷◌, [], ◌++◌, length, not, option_map, true, slice_get, IfOk, IsTrue, ◌↔◌};
+ghost use Rattle.std.specs.Prelude.{◌≡◌, ℕ, nat_eq, ◌∷◌, [], ◌++◌, length, not, option_map, true, slice_get, Some, IfOk, IfSome, OnOk, IsTrue, ◌↔◌};
 ghost use Rattle.std.specs.Bool.{OnTrue, OnFalse};
 ghost use Rattle.std.specs.List.{list_any};
 ghost use Rattle.xf_model.specs.Applied.{sets_same};
 ghost use Rattle.xf_model.specs.Entries.{is_computed};
 ghost use Rattle.xf_binds.specs.Kept.{truth_from, valued_in};
-ghost use Rattle.xf_binds.specs.Held.{IsOnly, entries_in, entry_of, held_at, held_by, held_of, held_on, held_same, holds, is_seat, newly_held, passes, place_on, seats_or};
+ghost use Rattle.xf_binds.specs.Held.{AreNear, IsOnly, entries_in, entry_of, held_at, held_by, held_of, held_on, held_same, holds, is_seat, newly_held, passes, place_on, seat_in, seats_or};
 ghost use Rattle.indexmap.specs.IndexMap.{get};
 
 use crate::entry::{Entry, Item, Seats};
@@ -17,23 +17,28 @@ use std::marker::Model;
 use xf_doc::NodeId;
 use xf_model::Property;
 
+/// So many numbers of nodes to each entry are found without hashing.
+const NEAR: u128 = 16;
+
 /// The entries and types that the binds of a model set: no property of a node is set twice. Contracts see them with the truths
 /// that their values had, where they had one.
 #[derive(Drop)]
 pub struct Applied {
     items: Vec<Item>,
     seats: IndexMap<u128, Seats>,
+    // The same by the numbers of the first nodes, where no key is hashed; none of them while entries are added.
+    near: Vec<Seats>,
 }
 
 impl Model for Applied {
     ghost use Rattle.std.specs.Prelude.{List};
-    ghost use Rattle.xf_binds.specs.Held.{Held, holds, IsSeated};
+    ghost use Rattle.xf_binds.specs.Held.{AreNear, Held, holds, IsSeated};
 
     ghost Value = { List Held };
 
     ghost view = { λ a. holds a.items.items };
 
-    ghost invariant = { λ a. IsSeated (holds a.items.items) a.seats };
+    ghost invariant = { λ a. (IsSeated (holds a.items.items) a.seats) × (AreNear a.seats a.near.items) };
 }
 
 impl Applied {
@@ -43,7 +48,18 @@ impl Applied {
         Applied {
             items: Vec::new(alloc),
             seats: IndexMap::new(alloc),
+            near: Vec::new(alloc),
         }
+    }
+
+    /// Lets what is set on a node be found at the cost of a look into a list, where its number is not much greater than there are entries.
+    pub(crate) fn bring_near(&mut self, alloc: Global) -> Result<(), AllocError>
+        ensures { OnOk result (self.new ≡ self.old) }
+    {
+        let most = (self.items.len() as u128).saturating_mul(NEAR);
+        let count = most.min(end_of(&self.items).saturating_mul(2));
+        self.near = near_of(alloc, &self.seats, count as usize)?;
+        Ok(())
     }
 
     pub fn len(&self) -> usize
@@ -79,9 +95,12 @@ impl Applied {
     fn seat(&self, node: NodeId, property: Property) -> Option<usize>
         ensures { (i : ℕ) → is_seat result i ≡ passes (held_on node.number property) (slice_get self.now i) }
     {
-        match self.seats.get(&node.number) {
+        if self.items.is_empty() {
+            return None;
+        }
+        match near_at(&self.near, node.number) {
             Some(seats) => seats.at(property),
-            None => None,
+            None => seat_in(&self.seats, node.number, property),
         }
     }
 
@@ -170,6 +189,7 @@ impl Applied {
         ensures added { IfOk result (λ is_new. OnTrue is_new (self.new ≡ self.old ++ newly_held (entry_of entry) ∷ [])) }
         ensures kept { IfOk result (λ is_new. OnFalse is_new (self.new ≡ self.old)) }
     {
+        self.near.clear();
         let mut seats = seats_in(&self.seats, entry.node.number);
         if seats.at(entry.property).is_some() {
             return Ok(false);
@@ -201,6 +221,49 @@ fn item_at(items: &[Item], at: usize) -> Option<&Item>
     ensures { option_map (λ i. i.now) result ≡ slice_get items.now at }
 {
     items.get(at)
+}
+
+/// Past the numbers of the nodes of all items.
+fn end_of(items: &[Item]) -> u128 {
+    let mut end = 0;
+    for item in items {
+        end = item.entry.node.number.saturating_add(1).max(end);
+    }
+    end
+}
+
+/// Where a property of a node is set.
+fn seat_in(seats: &IndexMap<u128, Seats>, number: u128, property: Property) -> Option<usize>
+    ensures { result ≡ seat_in (get nat_eq seats.now number) property }
+{
+    match seats.get(&number) {
+        Some(seats) => seats.at(property),
+        None => None,
+    }
+}
+
+/// Where the entries of so many nodes stand, from the first number.
+fn near_of(
+    alloc: Global,
+    seats: &IndexMap<u128, Seats>,
+    count: usize,
+) -> Result<Vec<Seats>, AllocError>
+    ensures { IfOk result (λ near. AreNear seats.now near.items) }
+{
+    let mut near = Vec::with_capacity(alloc, count)?;
+    for number in 0..count {
+        near.push(seats_in(seats, number as u128))?;
+    }
+    Ok(near)
+}
+
+fn near_at(near: &[Seats], number: u128) -> Option<&Seats>
+    ensures { IfSome result (λ s. slice_get near.now number ≡ Some s.now) }
+{
+    if number >= near.len() as u128 {
+        return None;
+    }
+    near.get(number as usize)
 }
 
 /// Where the entries of a node stand.

@@ -1,12 +1,13 @@
 //! What is kept of one model.
 
-ghost use Rattle.std.specs.Prelude.{◌≡◌, [], ◌∷◌, ◌++◌, false, true, find, length, option_map, unwrap_or, OnOk, OnErr};
+ghost use Rattle.std.specs.Prelude.{◌≡◌, List, [], ◌∷◌, ◌++◌, false, true, find, length, option_map, unwrap_or, OnOk, OnErr};
 ghost use Rattle.xf_doc.specs.Visit.{has};
 ghost use Rattle.xf_model.specs.Applied.{is_property};
 ghost use Rattle.xf_model.specs.Entries.{is_computed};
 ghost use Rattle.xf_model.specs.Properties.{sets_on};
-ghost use Rattle.xf_binds.specs.Held.{IsOnly, entries_in, entry_of};
+ghost use Rattle.xf_binds.specs.Held.{Held, IsOnly, entries_in, entry_of};
 ghost use Rattle.xf_binds.specs.Kept.{committed, entries_of, no_kept, recalculated, rolled_back, stood_of, told_of, truth_from, truth_in};
+ghost use Rattle.xf_binds.specs.Readers.{AreReaders, list_or};
 ghost use Rattle.xf_binds.specs.Since.{built_more, is_told, marks_in, present_in, stood_since, told_more};
 ghost use Rattle.xf_binds.specs.Turns.{AreInTurn};
 
@@ -14,6 +15,7 @@ use crate::applied::Applied;
 use crate::entry::Entry;
 use crate::node_set::NodeSet;
 use crate::ordered::Ordered;
+use crate::readers::PlaceList;
 use crate::truth_list::TruthList;
 use crate::web::Web;
 use std::alloc::{AllocError, Global};
@@ -60,6 +62,7 @@ pub(crate) struct Kept {
 impl Model for Kept {
     ghost use Rattle.std.specs.Prelude.{◌≤◌, length};
     ghost use Rattle.xf_binds.specs.Kept as kept;
+    ghost use Rattle.xf_binds.specs.Readers.{AreReaders, list_or};
     ghost use Rattle.xf_binds.specs.Since.{kept_of, was_of};
 
     ghost Value = { kept.Kept };
@@ -107,6 +110,13 @@ impl Kept {
         ensures { AreInTurn self.now.entries self.now.asks result.now }
     {
         self.ordered().order()
+    }
+
+    /// The places of the present entries that read a node.
+    pub(crate) fn readers(&self, number: u128) -> Option<&PlaceList>
+        ensures { AreReaders self.now.entries self.now.asks number (list_or (option_map (λ p. p.now) result)) }
+    {
+        self.ordered().readers(number)
     }
 
     /// The present entries with what they ask.
@@ -350,9 +360,7 @@ fn settle(present: &mut Ordered, stood: &mut Option<Applied>, since: Since)
         }
         Since::Built(now) => {
             let old = replace(present, now);
-            if stood.is_none() {
-                *stood = Some(old.into_applied());
-            }
+            stand(stood, old);
         }
         Since::ToldBuilt(truths, now) => {
             present.tell(&truths);
@@ -367,6 +375,15 @@ fn settle(present: &mut Ordered, stood: &mut Option<Applied>, since: Since)
             *present = now;
             *stood = Some(old);
         }
+    }
+}
+
+/// Keeps the entries that were present as those that stood, unless others stand.
+fn stand(stood: &mut Option<Applied>, old: Ordered)
+    ensures { (other : List Held) → stood_of other stood.new ≡ stood_of old.held stood.old }
+{
+    if stood.is_none() {
+        *stood = Some(old.into_applied());
     }
 }
 

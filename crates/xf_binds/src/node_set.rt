@@ -8,6 +8,9 @@ use std::alloc::{AllocError, Global};
 use std::marker::Model;
 use xf_doc::{NodeId, NodeList};
 
+/// So many nodes are passed one by one sooner than a number is hashed.
+const FEW: usize = 8;
+
 /// Nodes, which contracts see as the list of their numbers. To look for one costs no more for a long list than for a short one.
 #[derive(Drop)]
 pub struct NodeSet {
@@ -50,6 +53,9 @@ impl NodeSet {
     pub fn has(&self, node: NodeId) -> bool
         ensures { result ≡ has node.number self.now }
     {
+        if self.nodes.len() <= FEW {
+            return self.nodes.has(node);
+        }
         self.numbers.contains(&node.number)
     }
 }

@@ -1,36 +1,41 @@
 //! The entries of a model with what they ask, and an order of their calculates (XForms 1.1, section 4.3.2 and appendix C).
 
-ghost use Rattle.std.specs.Prelude.{◌≡◌, []};
+ghost use Rattle.std.specs.Prelude.{◌≡◌, [], IfOk, option_map};
 ghost use Rattle.xf_binds.specs.Held.{entries_in};
 ghost use Rattle.xf_binds.specs.Turns.{AreInTurn};
 ghost use Rattle.xf_binds.specs.Kept.{Entered, told_of};
+ghost use Rattle.xf_binds.specs.Readers.{AreReaders, list_or};
 
 use crate::applied::Applied;
+use crate::readers::{PlaceList, Readers, readers_of};
 use crate::truth_list::TruthList;
 use crate::web::Web;
-use std::alloc::Global;
+use indexmap::IndexMap;
+use std::alloc::{AllocError, Global};
 use std::marker::Model;
 use xf_doc::NodeList;
 
 /// What a rebuild gave: entries, what each of them asks of the data, and the nodes of the calculates, none before one that its calculate
-/// reads. Contracts see no order, since there may be others.
+/// reads. Contracts see no order, since there may be others. Who reads a node is found by the node: so a change costs what it reaches.
 #[derive(Drop)]
-pub(crate) struct Ordered {
+pub struct Ordered {
     applied: Applied,
     web: Web,
     order: NodeList,
+    readers: Readers,
 }
 
 impl Model for Ordered {
     ghost use Rattle.xf_binds.specs.Held.{entries_in};
     ghost use Rattle.xf_binds.specs.Turns.{AreInTurn};
     ghost use Rattle.xf_binds.specs.Kept.{Entered};
+    ghost use Rattle.xf_binds.specs.Readers.{TellsReaders};
 
     ghost Value = { Entered };
 
     ghost view = { λ o. record { held = o.applied; asks = o.web } };
 
-    ghost invariant = { λ o. AreInTurn (entries_in o.applied) o.web o.order };
+    ghost invariant = { λ o. (AreInTurn (entries_in o.applied) o.web o.order) × (TellsReaders (entries_in o.applied) o.web o.readers) };
 }
 
 impl Ordered {
@@ -42,18 +47,29 @@ impl Ordered {
             applied: Applied::new(alloc),
             web: Web::new(alloc),
             order: NodeList::new(alloc),
+            readers: IndexMap::new(alloc),
         }
     }
 
-    pub(crate) fn of(applied: Applied, web: Web, order: NodeList) -> Self
+    /// These entries, which ask this, with the nodes of the calculates, none before one that its calculate reads.
+    pub fn of(
+        alloc: Global,
+        applied: Applied,
+        web: Web,
+        order: NodeList,
+    ) -> Result<Self, AllocError>
         requires { AreInTurn (entries_in applied) web order }
-        ensures { result ≡ record { held = applied; asks = web } }
+        ensures { IfOk result (λ ordered. ordered ≡ record { held = applied; asks = web }) }
     {
-        Ordered {
+        let mut applied = applied;
+        applied.bring_near(alloc)?;
+        let readers = readers_of(alloc, &applied, &web)?;
+        Ok(Ordered {
             applied,
             web,
             order,
-        }
+            readers,
+        })
     }
 
     pub(crate) fn applied(&self) -> &Applied
@@ -73,6 +89,16 @@ impl Ordered {
         ensures { AreInTurn (entries_in self.now.held) self.now.asks result.now }
     {
         &self.order
+    }
+
+    /// The places of the entries that read a node.
+    pub(crate) fn readers(&self, number: u128) -> Option<&PlaceList>
+        ensures { AreReaders (entries_in self.now.held) self.now.asks number (list_or (option_map (λ p. p.now) result)) }
+    {
+        match self.readers.get(&number) {
+            Some(places) => Some(places),
+            None => None,
+        }
     }
 
     /// Gives the entries these truths, by their places. Takes no memory.

@@ -9,6 +9,7 @@ ghost use Rattle.xf_model.specs.Properties.{sets_on};
 ghost use Rattle.xf_binds.specs.Asked.{asked_by_all, asked_of, asking};
 ghost use Rattle.xf_binds.specs.Held.{IsOnly, entries_in, entry_of};
 ghost use Rattle.xf_binds.specs.Kept.{entries_of, no_kept, recalculated, truth_in};
+ghost use Rattle.xf_binds.specs.Readers.{AreReaders, list_or};
 ghost use Rattle.xf_binds.specs.Turns.{AreInTurn};
 ghost use Rattle.xf_binds.specs.Table.{all_committed, all_rolled_back, held_or, kept_at, nodes_or, truth_among, web_or, with_kept};
 
@@ -17,6 +18,7 @@ use crate::entry::Entry;
 use crate::kept::Kept;
 use crate::node_set::NodeSet;
 use crate::ordered::Ordered;
+use crate::readers::PlaceList;
 use crate::truth_list::TruthList;
 use crate::web::{Asks, Web};
 use std::alloc::{AllocError, Global};
@@ -99,6 +101,16 @@ impl Table {
     {
         match self.models.get(model as usize) {
             Some(kept) => Some(kept.order()),
+            None => None,
+        }
+    }
+
+    /// The places of the entries of a model that read a node. To find them costs the same however many entries there are.
+    pub fn readers(&self, model: u32, number: u128) -> Option<&PlaceList>
+        ensures { AreReaders (kept_at self.now model).entries (kept_at self.now model).asks number (list_or (option_map (λ p. p.now) result)) }
+    {
+        match self.models.get(model as usize) {
+            Some(kept) => kept.readers(number),
             None => None,
         }
     }
@@ -197,13 +209,12 @@ impl Table {
         self.models[model as usize].set_invalid(invalid);
     }
 
-    /// Keeps the entries of a rebuild, with the nodes of the calculates, none before one that its calculate reads. Takes no memory.
-    pub fn rebuild(&mut self, model: u32, present: Applied, web: Web, order: NodeList)
-        requires model { model < length self.old }
-        requires order { AreInTurn (entries_in present) web order }
-        ensures { self.new ≡ with_kept self.old model (record (kept_at self.old model) { entries = entries_in present; asks = web }) }
+    /// Keeps the entries of a rebuild. Takes no memory.
+    pub fn rebuild(&mut self, model: u32, present: Ordered)
+        requires { model < length self.old }
+        ensures { self.new ≡ with_kept self.old model (record (kept_at self.old model) { entries = entries_in present.held; asks = present.asks }) }
     {
-        self.models[model as usize].rebuild(Ordered::of(present, web, order));
+        self.models[model as usize].rebuild(present);
     }
 
     /// Keeps the truths that a recalculation found, by the places of the entries, and forgets the marks. Takes no memory.

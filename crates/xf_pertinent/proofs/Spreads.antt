@@ -64,50 +64,6 @@ module _ (entries : List Entry) (web : List Asks) where
   before-next marks place n b h =
       ap (λ k. gives_before entries web marks k n) (next-is place) ∙ ap (λ c. (c && gives_at entries web place n) || gives_before entries web marks place n) h
 
-  -- ---- the index of readers
-
-  took : (xs : List Entry) (i o : ℕ) → i < length xs → slice_get (take (suc i) xs) o ≡ cond (i == o) (slice_get xs o) (slice_get (take i xs) o)
-  took [] i o l = absurd (omega arith)
-  took (x ∷ xs) zero zero l = refl
-  took (x ∷ xs) zero (suc o) l = ap (λ b. cond b (slice_get xs o) None) (let e : false ≡ (0 == suc o) = grind (arith, nat_tests) in e)
-  took (x ∷ xs) (suc i) zero l = ap (λ b. cond b (Some x) (Some x)) (let e : false ≡ (suc i == 0) = grind (arith, nat_tests) in e)
-  took (x ∷ xs) (suc i) (suc o) l = took xs i o (omega arith) ∙ ap (λ b. cond b (slice_get xs o) (slice_get (take i xs) o)) (sym (one-less i o))
-
-  past-taken : (xs : List Entry) (i : ℕ) → slice_get (take i xs) i ≡ None
-  past-taken [] zero = refl
-  past-taken [] (suc i) = refl
-  past-taken (x ∷ xs) zero = refl
-  past-taken (x ∷ xs) (suc i) = past-taken xs i
-
-  read-some : (xs : List Entry) (i n : ℕ) (asks : Asks) → i < length xs → reads_in (slice_get xs i) asks n ≡ has n asks.reads
-  read-some [] i n asks l = absurd (omega arith)
-  read-some (x ∷ xs) zero n asks l = refl
-  read-some (x ∷ xs) (suc i) n asks l = read-some xs i n asks (omega arith)
-
-  pub reads-next : (i o n : ℕ) → i < length entries → reads_at (take (i + 1) entries) web o n ≡ ((has n (asks_at web i).reads && (i == o)) || reads_at (take i entries) web o n)
-  reads-next i o n l =
-      ap (λ k. reads_at (take k entries) web o n) (next-is i)
-      ∙ ap (λ e. reads_in e (asks_at web o) n) (took entries i o l)
-      ∙ by (i == o) refl
-    where
-      and-true : (a : Bool) → a ≡ ((a && true) || false)
-      and-true true = refl
-      and-true false = refl
-
-      and-false : (a b : Bool) → b ≡ ((a && false) || b)
-      and-false true b = refl
-      and-false false b = refl
-
-      by : (b : Bool) → (i == o) ≡ b → reads_in (cond b (slice_get entries o) (slice_get (take i entries) o)) (asks_at web o) n ≡ ((has n (asks_at web i).reads && b) || reads_at (take i entries) web o n)
-      by true e =
-          let same : i ≡ o = eqb-true i o e in
-          ap (λ k. reads_in (slice_get entries k) (asks_at web k) n) (sym same)
-          ∙ read-some entries i n (asks_at web i) l
-          ∙ and-true (has n (asks_at web i).reads)
-          ∙ ap (λ e. (has n (asks_at web i).reads && true) || reads_in e (asks_at web i) n) (sym (past-taken entries i))
-          ∙ ap (λ k. (has n (asks_at web i).reads && true) || reads_at (take i entries) web k n) same
-      by false e = and-false (has n (asks_at web i).reads) (reads_at (take i entries) web o n)
-
   -- ---- entries that are reached
 
   pub reaches-none : (marks : List Bool) (heard : List ℕ) (test : ℕ → Bool) → ((place : ℕ) → test place ≡ false) → Reaches entries web marks marks heard heard test
@@ -117,6 +73,15 @@ module _ (entries : List Entry) (web : List Asks) where
     grown = grown-none heard;
     given = λ place n t m g. absurd (false≢true (sym (h place) ∙ t));
     only = λ n new old. absurd (false≢true (sym old ∙ new));
+  }
+
+  pub reaches-as : (marks new : List Bool) (heard more : List ℕ) (one other : ℕ → Bool) → Reaches entries web marks new heard more one → ((place : ℕ) → one place ≡ other place) → Reaches entries web marks new heard more other
+  reaches-as marks new heard more one other h same = record {
+    size = h.size;
+    marks = λ place. h.marks place ∙ ap (λ b. b || is_marked marks place) (same place);
+    grown = h.grown;
+    given = λ place n t m g. h.given place n (same place ∙ t) m g;
+    only = λ n there before. let f = h.only n there before in (f.0, sym (same f.0) ∙ f.1, f.2);
   }
 
   pub reaches-same : (marks : List Bool) (heard : List ℕ) (place : ℕ) → is_marked marks place ≡ true → Reaches entries web marks marks heard heard (λ other. other == place)

@@ -32,7 +32,7 @@ pub fn pertinent_marks(
 {
     let begun = begun(alloc, tables, table, model)?;
     let touched = touched(alloc, forest, table, model)?;
-    spread(alloc, table, model, begun, touched)
+    spread(table, model, begun, touched)
 }
 
 /// How many these are.

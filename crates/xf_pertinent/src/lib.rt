@@ -7,7 +7,6 @@ mod counting;
 mod marks;
 mod numbers;
 mod placed;
-mod readers;
 mod spreading;
 mod touched;
 

@@ -4,21 +4,18 @@ ghost use Rattle.std.specs.Prelude.{◌≡◌, ◌==◌, ◌<◌, ◌∷◌, ℕ
 ghost use Rattle.xf_doc.specs.Visit.{has};
 ghost use Rattle.xf_binds.specs.Table.{kept_at};
 ghost use Rattle.xf_recalc.specs.Found.{asks_or};
-ghost use Rattle.xf_pertinent.specs.Places.{AreBelow, gives_at, is_marked, readers_at};
+ghost use Rattle.xf_pertinent.specs.Places.{gives_at, is_marked, reads_at};
 ghost use Rattle.xf_pertinent.specs.Spread.{Hears, IsSpread, Reaches, gives_before};
 
 use crate::marks::{MarkList, is_marked};
 use crate::numbers::Numbers;
-use crate::readers::{Readers, readers_of};
-use std::alloc::{AllocError, Global};
+use std::alloc::AllocError;
 use xf_binds::{Asks, Table};
 use xf_model::Property;
 
 /// Marks what follows from the entries that are marked and from the nodes that are heard: each entry that reads such a node, and what
-/// follows from it where it is a calculate. The index of readers is made anew, but where nothing is heard; from there on the cost follows
-/// what is reached. No memory holds as many nodes as the loop may take.
+/// follows from it where it is a calculate. The cost follows what is reached. No memory holds as many nodes as the loop may take.
 pub(crate) fn spread(
-    alloc: Global,
     table: &Table,
     model: u32,
     begun: MarkList,
@@ -31,13 +28,9 @@ pub(crate) fn spread(
     let mut marks = begun;
     let mut heard = touched;
     hear_marked(table, model, &marks, &mut heard)?;
-    if heard.is_empty() {
-        return Ok(marks);
-    }
-    let readers = readers_of(alloc, table, model)?;
     for at in 0..usize::MAX {
         match heard.get(at) {
-            Some(number) => tell(table, model, &readers, number, &mut marks, &mut heard)?,
+            Some(number) => tell(table, model, number, &mut marks, &mut heard)?,
             None => return Ok(marks),
         }
     }
@@ -65,17 +58,19 @@ fn hear_marked(
 fn tell(
     table: &Table,
     model: u32,
-    readers: &Readers,
     number: u128,
     marks: &mut MarkList,
     heard: &mut Numbers,
 ) -> Result<(), AllocError>
-    requires { AreBelow (length marks.old) readers.now }
+    requires { length marks.old ≡ length (kept_at table.now model).entries }
     ensures { OnOk result (Reaches (kept_at table.now model).entries (kept_at table.now model).asks marks.old marks.new heard.old heard.new
-        (λ place. has place (readers_at readers.now number))) }
+        (λ place. reads_at (kept_at table.now model).entries (kept_at table.now model).asks place number)) }
 {
-    match readers.get(&number) {
-        Some(places) => reach_all(table, model, places.as_slice(), marks, heard),
+    match table.readers(model, number) {
+        Some(places) => {
+            reach_all(table, model, places.as_slice(), marks, heard)?;
+            Ok(())
+        }
         None => Ok(()),
     }
 }

@@ -7,11 +7,8 @@ use Rattle.xf_lang.specs.Agree.{numbers_of}
 use Rattle.xf_model.specs.Rules.{Scope}
 use Rattle.xf_model.specs.Applied.{Entry, is_calculate}
 use Rattle.xf_binds.specs.declared.web.Asks.{Asks}
-use Rattle.xf_recalc.specs.Web.{no_asks, asks_of}
-
-abbrev pub asks_or : Option Asks → Asks
-asks_or None = no_asks
-asks_or (Some asks) = asks
+use Rattle.xf_recalc.specs.Web.{asks_of}
+pub use Rattle.xf_binds.specs.Readers.{asks_or}
 
 abbrev pub node_if : Bool → ℕ → List ℕ
 node_if true n = n ∷ []

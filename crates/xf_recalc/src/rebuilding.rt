@@ -20,7 +20,7 @@ use crate::web::web_of;
 use std::alloc::Global;
 use xf_apply::{BindFault, apply};
 use xf_ast::Tables;
-use xf_binds::{Applied, Table, Web};
+use xf_binds::{Applied, Ordered, Table, Web};
 use xf_doc::NodeList;
 use xf_eval::Around;
 use xf_shape::is_sound;
@@ -51,7 +51,8 @@ pub fn rebuild<A: Around>(
     let web = web_of(alloc, tables, forest, model, &applied, around)?;
     match checked(alloc, forest, model, table, &applied, &web) {
         Ok(order) => {
-            table.rebuild(model, applied, web, order);
+            let present = Ordered::of(alloc, applied, web, order)?;
+            table.rebuild(model, present);
             Ok(())
         }
         Err(fault) => Err(fault),

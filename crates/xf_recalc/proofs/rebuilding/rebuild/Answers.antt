@@ -2,6 +2,8 @@ use Rattle.std.proofs.Common.{Ok, ap, refl, sym, ◌∙◌}
 use Rattle.xf_funcs.specs.Called.{called}
 use Rattle.xf_model.specs.Rules.{scope_of}
 use Rattle.xf_binds.specs.Held.{entries_in}
+use Rattle.xf_binds.specs.Kept.{Entered}
+use Rattle.xf_recalc.specs.Rebuilt.{table_with}
 use Rattle.xf_recalc.proofs.Expressions.{node-sets}
 use Rattle.xf_recalc.proofs.Rebuilds.{entries-there}
 use Rattle.xf_recalc.proofs.rebuilding.rebuild.Goals as goal
@@ -17,10 +19,11 @@ pub checked-requires-clause-there : goal.checked-requires-clause-there
 checked-requires-clause-there g c =
     entries-there (scope_of called (g.A.Around.given c.args.around.now) c.args.tables.now c.args.model) c.args.forest.now.forest (entries_in c.in-Ok.applied) c.in-Ok.ensures
 
-pub returns-in-Ok-checked-clause-answer : goal.returns-in-Ok-checked-clause-answer
-returns-in-Ok-checked-clause-answer g c =
+pub returns-in_ok-present-in-Ok-checked-clause-answer : goal.returns-in_ok-present-in-Ok-checked-clause-answer
+returns-in_ok-present-in-Ok-checked-clause-answer g c =
     let scope = scope_of called (g.A.Around.given c.args.around.now) c.args.tables.now c.args.model in
-    c.in-Ok-checked.ensures.answer scope refl c.in-Ok.ensures c.in_ok-web.ensures.web c.in_ok-web.ensures.small ∙ ap Ok (sym c.rebuild.ensures)
+    c.in-Ok-checked.ensures.answer scope refl c.in-Ok.ensures c.in_ok-web.ensures.web c.in_ok-web.ensures.small
+    ∙ ap Ok (sym (c.rebuild.ensures ∙ ap (λ (o : Entered). table_with c.args.table.now c.args.model (entries_in o.held) o.asks) c.in_ok-present.ensures))
 
 pub returns-in-Err-checked-clause-answer : goal.returns-in-Err-checked-clause-answer
 returns-in-Err-checked-clause-answer g c =

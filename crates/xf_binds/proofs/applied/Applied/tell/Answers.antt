@@ -6,4 +6,4 @@ use Rattle.xf_binds.proofs.applied.Applied.tell.Goals as goal
 pub invariant_of-self : goal.invariant_of-self
 invariant_of-self c =
     let old = holds c.self.inside.items.items in
-    seated-told old (holds c.give.new.items.items) c.self.inside.seats (ap entries_in c.give.ensures ∙ entries-told (entries_in old) c.args.truths.now) c.self.invariant
+    (seated-told old (holds c.give.new.items.items) c.self.inside.seats (ap entries_in c.give.ensures ∙ entries-told (entries_in old) c.args.truths.now) c.self.invariant.0, c.self.invariant.1)

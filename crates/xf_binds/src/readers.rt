@@ -2,28 +2,29 @@
 
 ghost use Rattle.std.specs.Prelude.{◌≡◌, ◌==◌, ℕ, ◌&&◌, ◌||◌, map, IfOk, OnOk};
 ghost use Rattle.xf_doc.specs.Visit.{has};
-ghost use Rattle.xf_binds.specs.Table.{kept_at};
-ghost use Rattle.xf_pertinent.specs.Places.{TellsReaders, readers_at};
+ghost use Rattle.xf_binds.specs.Held.{entries_in};
+ghost use Rattle.xf_binds.specs.Readers.{TellsReaders, readers_at};
 
+use crate::applied::Applied;
+use crate::web::Web;
 use indexmap::IndexMap;
 use std::alloc::{AllocError, Global};
 use xf_base::Items;
-use xf_binds::Table;
 use xf_doc::NodeId;
 
-/// Places of entries.
-pub(crate) type PlaceList = Items<usize>;
+/// Places of entries, each from 0.
+pub type PlaceList = Items<usize>;
 
 /// From the number of a node to the places of the entries that read it.
 pub(crate) type Readers = IndexMap<u128, PlaceList>;
 
-/// The readers of all nodes among the entries of a model.
-pub(crate) fn readers_of(alloc: Global, table: &Table, model: u32) -> Result<Readers, AllocError>
-    ensures { IfOk result (TellsReaders (kept_at table.now model).entries (kept_at table.now model).asks) }
+/// The readers of all nodes among these entries, which ask this.
+pub(crate) fn readers_of(alloc: Global, applied: &Applied, web: &Web) -> Result<Readers, AllocError>
+    ensures { IfOk result (TellsReaders (entries_in applied.now) web.now) }
 {
     let mut readers = IndexMap::new(alloc);
-    for place in 0..table.len(model) {
-        match table.asks(model, place) {
+    for place in 0..applied.len() {
+        match web.get(place) {
             Some(asks) => add_all(alloc, &mut readers, asks.reads.as_slice(), place)?,
             None => {}
         }

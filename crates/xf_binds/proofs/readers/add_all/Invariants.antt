@@ -1,8 +1,8 @@
 use Rattle.std.proofs.Common.{◌≡◌, ℕ, ◌==◌, ◌&&◌, ◌||◌, map, take}
 use Rattle.xf_doc.specs.declared.node.NodeId.{NodeId}
 use Rattle.xf_doc.specs.Visit.{has}
-use Rattle.xf_pertinent.specs.Places.{readers_at}
-use Rattle.xf_pertinent.proofs.readers.add_all.Given as goal
+use Rattle.xf_binds.specs.Readers.{readers_at}
+use Rattle.xf_binds.proofs.readers.add_all.Given as goal
 
 abbrev pub invariant-loop-node : goal.invariant-loop-node
 invariant-loop-node l = (n other : ℕ) → has other (readers_at l.readers n)

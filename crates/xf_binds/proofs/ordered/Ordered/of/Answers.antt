@@ -1,0 +1,11 @@
+use Rattle.std.proofs.Common.{sym, subst, ap, ◌∙◌}
+use Rattle.xf_binds.specs.Held.{entries_in}
+use Rattle.xf_binds.specs.Kept.{Entered}
+use Rattle.xf_binds.specs.Turns.{AreInTurn}
+use Rattle.xf_binds.proofs.ordered.Ordered.of.Goals as goal
+
+pub invariant_of-result : goal.invariant_of-result
+invariant_of-result c = (
+  subst (λ a. AreInTurn (entries_in a) c.args.web c.args.order) (sym c.in_ok-bring_near.ensures) c.requires,
+  c.in_ok-readers.ensures,
+)
