@@ -23,7 +23,7 @@ pub returns-in_ok-present-in-Ok-checked-clause-answer : goal.returns-in_ok-prese
 returns-in_ok-present-in-Ok-checked-clause-answer g c =
     let scope = scope_of called (g.A.Around.given c.args.around.now) c.args.tables.now c.args.model in
     c.in-Ok-checked.ensures.answer scope refl c.in-Ok.ensures c.in_ok-web.ensures.web c.in_ok-web.ensures.small
-    ∙ ap Ok (sym (c.rebuild.ensures ∙ ap (λ (o : Entered). table_with c.args.table.now c.args.model (entries_in o.held) o.asks) c.in_ok-present.ensures))
+    ∙ ap Ok (sym (c.rebuild.ensures ∙ ap (λ (o : Entered). table_with c.args.table.now c.args.model (entries_in o.held) o.asks) c.in_ok-present-in-Ok-checked.ensures))
 
 pub returns-in-Err-checked-clause-answer : goal.returns-in-Err-checked-clause-answer
 returns-in-Err-checked-clause-answer g c =
