@@ -11,10 +11,10 @@ reach_all-requires c = λ place h.
     let read : reads_at k.entries k.asks place c.args.number ≡ true = sym (c.in-Some.ensures.each place) ∙ ap (has place) (sym c.as_slice.ensures) ∙ h in
     subst (λ count. place < count) (sym c.requires) (read-within k.entries k.asks place c.args.number read)
 
-pub returns-in-Some : goal.returns-in-Some
-returns-in-Some c =
+pub returns-in_ok-reach_all-in-Some : goal.returns-in_ok-reach_all-in-Some
+returns-in_ok-reach_all-in-Some c =
     let k = kept_at c.args.table.now c.args.model in
-    reaches-as k.entries k.asks c.args.marks.now c.reach_all.new.marks c.args.heard.now c.reach_all.new.heard _ _ c.in_ok-reach_all.ensures
+    reaches-as k.entries k.asks c.args.marks.now c.reach_all.new.marks c.args.heard.now c.reach_all.new.heard _ _ c.in_ok-reach_all-in-Some.ensures
     (λ place. ap (has place) c.as_slice.ensures ∙ c.in-Some.ensures.each place)
 
 pub returns-in-None : goal.returns-in-None
