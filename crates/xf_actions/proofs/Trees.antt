@@ -17,7 +17,7 @@ use Rattle.xf_form_machine.specs.Primitives.{copy}
 use Rattle.xf_form_machine.specs.Update.{reindex}
 use Rattle.xf_form_machine.specs.Acting.{Acting}
 use Rattle.xf_form_machine.specs.Events.{Fired}
-use Rattle.xf_form_machine.specs.Insert.{moved_focus, set_asked, origin_asked, at_asked, location_of, asked_with, copies_of, put_copy, insert_told}
+use Rattle.xf_form_machine.specs.Insert.{moved_focus, set_asked, origin_asked, place_asked, location_of, asked_with, copies_of, put_copy, insert_told}
 use Rattle.xf_form_machine.specs.Delete as del
 use Rattle.xf_form_machine.specs.Delete.{delete_told}
 use Rattle.xf_actions.specs.Performs.{Refuses}
@@ -108,7 +108,7 @@ inserting_with w c s set origin at = record {
 }
 
 abbrev planned_at : Profile → Acting → InsertBy → Focus → State → List ℕ → List ℕ → Result Inserting Refused
-planned_at p x w c s set origin = at_asked p x w.at set s >>= λ at. Ok (inserting_with w c s set origin at)
+planned_at p x w c s set origin = place_asked p x w.at origin set s >>= λ at. Ok (inserting_with w c s set origin at)
 
 abbrev planned_of : Profile → Acting → InsertBy → Focus → State → List ℕ → Result Inserting Refused
 planned_of p x w c s set = origin_asked p x c w.origin set s >>= planned_at p x w c s set
@@ -125,13 +125,13 @@ planned-no_origin p x w c s set why calls e r =
 
 pub planned-no_place : (p : Profile) (x : Acting) (w : InsertBy) (c : Focus) (s : State) (set origin : List ℕ) (why : Option Refusal) (calls : List StoreCall)
     → set_asked p x c s ≡ Ok set → origin_asked p x c w.origin set s ≡ Ok origin
-    → Refuses why calls (at_asked p x w.at set s) → Refuses why calls (planned p x w c s)
+    → Refuses why calls (place_asked p x w.at origin set s) → Refuses why calls (planned p x w c s)
 planned-no_place p x w c s set origin why calls e h r =
     same-refuses why calls _ _ (ap (λ g. g >>= planned_of p x w c s) e ∙ ap (λ g. g >>= planned_at p x w c s set) h)
-    (refuses-then why calls (at_asked p x w.at set s) (λ at. Ok (inserting_with w c s set origin at)) r)
+    (refuses-then why calls (place_asked p x w.at origin set s) (λ at. Ok (inserting_with w c s set origin at)) r)
 
 pub planned-done : (p : Profile) (x : Acting) (w : InsertBy) (c : Focus) (s : State) (set origin : List ℕ) (at : Option ℤ)
-    → set_asked p x c s ≡ Ok set → origin_asked p x c w.origin set s ≡ Ok origin → at_asked p x w.at set s ≡ Ok at
+    → set_asked p x c s ≡ Ok set → origin_asked p x c w.origin set s ≡ Ok origin → place_asked p x w.at origin set s ≡ Ok at
     → planned p x w c s ≡ fine (inserting_with w c s set origin at)
 planned-done p x w c s set origin at e h k =
     ap (λ g. g >>= planned_of p x w c s) e ∙ ap (λ g. g >>= planned_at p x w c s set) h

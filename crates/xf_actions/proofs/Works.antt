@@ -52,9 +52,9 @@ insert_at-told p tell x w c s =
     let next = λ (i : Inserting). inserted_by p i s >>= told tell in
     then-same (machine.set_asked p x c s) _ _ (λ set.
     then-same (machine.origin_asked p x c w.origin set s) _ _ (λ origin.
-    then-same (machine.at_asked p x w.at set s) _ _ (λ at.
+    then-same (machine.place_asked p x w.at origin set s) _ _ (λ at.
     inserted-told p tell w.is_before (machine.location_of at c set) (planned_insert s.forest.nodes (machine.asked_with w s c set origin at)) s)
-    ∙ sym (bind-assoc (machine.at_asked p x w.at set s) _ next))
+    ∙ sym (bind-assoc (machine.place_asked p x w.at origin set s) _ next))
     ∙ sym (bind-assoc (machine.origin_asked p x c w.origin set s) _ next))
     ∙ sym (bind-assoc (machine.set_asked p x c s) _ next)
     ∙ sym (bind-assoc (planned p x w c s) (λ i. inserted_by p i s) (told tell))

@@ -8,7 +8,7 @@ use Rattle.xf_form_machine.specs.State.{State}
 use Rattle.xf_form_machine.specs.Refusal.{Refused}
 use Rattle.xf_form_machine.specs.Flow.{◌>>=◌}
 use Rattle.xf_form_machine.specs.Acting.{Acting}
-use Rattle.xf_form_machine.specs.Insert.{set_asked, origin_asked, at_asked, asked_with, location_of}
+use Rattle.xf_form_machine.specs.Insert.{set_asked, origin_asked, place_asked, asked_with, location_of}
 
 -- an insert whose expressions are evaluated
 pub record Inserting : Type 0 where
@@ -20,7 +20,7 @@ pub record Inserting : Type 0 where
 -- once its expressions are evaluated
 abbrev pub planned : Profile → Acting → InsertBy → Focus → State → Result Inserting Refused
 planned p x w c s =
-    set_asked p x c s >>= λ set. origin_asked p x c w.origin set s >>= λ origin. at_asked p x w.at set s >>= λ at.
+    set_asked p x c s >>= λ set. origin_asked p x c w.origin set s >>= λ origin. place_asked p x w.at origin set s >>= λ at.
     Ok (record {
       is_before = w.is_before;
       location = location_of at c set;

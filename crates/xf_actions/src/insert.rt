@@ -4,7 +4,7 @@ ghost use Rattle.std.specs.Prelude.{◌≡◌, map, zip, get_or, option_map, Ok}
 ghost use Rattle.xf_form_machine.specs.Flow.{in_turn};
 ghost use Rattle.xf_form_machine.specs.Acting.{act_at};
 ghost use Rattle.xf_form_machine.specs.Tables.{insert_by};
-ghost use Rattle.xf_form_machine.specs.Insert.{moved_focus, copies_of, without_one, put_copy as puts_copy};
+ghost use Rattle.xf_form_machine.specs.Insert.{moved_focus, place_asked, copies_of, without_one, put_copy as puts_copy};
 ghost use Rattle.xf_actions.specs.Performs.{Runs, Makes, Reads};
 ghost use Rattle.xf_actions.specs.Seen.{fired_of, acting_of, focus_of, place_of, inserting_of};
 ghost use Rattle.xf_actions.specs.Parts.{insert_in};
@@ -96,7 +96,7 @@ fn inserting_by<W: World>(
 {
     let set = world.bound_set(fired, acting, focus)?;
     let origin = world.origin(fired, acting, focus, &work.origin, &set)?;
-    let at = world.insert_place(fired, acting, &work.at, &set)?;
+    let at = place(world, fired, acting, work, &origin, &set)?;
     let location = world.insert_location(focus, &set, at)?;
     let places = world.planned_insert(work, focus, &set, &origin, at)?;
     Ok(Inserting {
@@ -104,6 +104,23 @@ fn inserting_by<W: World>(
         location,
         places,
     })
+}
+
+/// The place that `at` names. Where there is no origin node it is not evaluated.
+fn place<W: World>(
+    world: &W,
+    fired: &Fired,
+    acting: &Acting,
+    work: &InsertWork,
+    origin: &NodeList,
+    set: &NodeList,
+) -> Result<Option<i64>, W::Fault>
+    ensures { Reads W.Fault.means (λ k. k) (W.state world.now) result (place_asked W.profile (acting_of fired.now acting.now) (insert_by work.now).at origin.now set.now (W.state world.now)) }
+{
+    match origin.get(0) {
+        None => Ok(None),
+        Some(_) => world.insert_place(fired, acting, &work.at, set),
+    }
 }
 
 /// The copies are made and go to their places, the indexes are brought up to date, and the instance is told.

@@ -1,5 +1,5 @@
 -- The first node of a set alone: what is converted of it, what operators make of it, and where the walk of a path may stop.
-use Rattle.std.proofs.Common.{◌≡◌, ℕ, zero, suc, ◌-◌, ◌≤◌, true, false, not, List, [], ◌∷◌, map, take, length, get_or, Option, Some, None, option_map, refl, sym, ap, ◌∙◌, arith, slice_get}
+use Rattle.std.proofs.Common.{◌≡◌, ℕ, zero, suc, ◌≤◌, true, false, not, List, [], ◌∷◌, map, take, length, get_or, Option, Some, None, option_map, refl, sym, ap, ◌∙◌, arith, slice_get}
 use Rattle.std.specs.Prelude.{option_and_then, unwrap_or}
 use denote.Param.Weighed.{most}
 use Rattle.xf_base.specs.Limits.{string_limit}

@@ -310,3 +310,14 @@ a_bound_node_alone = refl
 a_row_at_its_place : notes (in_the_second_row (on (codes "DOMActivate") 4 (6 ∷ []) role.message)) ≡ Some (Message (codes "2") ∷ [])
 unfolding escape_byte scale digits
 a_row_at_its_place = refl
+
+-- ---- an insert whose `at` makes a string that is too long: without an origin node it is not evaluated
+
+abbrev placed : Meaning → Outcome
+placed origin = after (start narrow (asking [] pair (bound children (doing (inserting None (Some origin) (Some (call 6 (literal (codes "a") ∷ literal (codes "b") ∷ [])).meaning))))) [])
+
+no_place_without_an_origin : why (placed (to (codes "zz"))) ≡ None
+no_place_without_an_origin = refl
+
+a_place_with_one : why (placed (to (codes "a"))) ≡ Some (limit (word.Long ∷ []))
+a_place_with_one = refl

@@ -49,6 +49,11 @@ at_asked p x None set s = Ok None
 at_asked p x (Some m) [] s = Ok None
 at_asked p x (Some m) (n ∷ ns) s = whole_for p x s (record { node = n; position = 1; size = length (n ∷ ns) }) m
 
+-- no place is asked for where there is no origin node, so that `at` is not evaluated then
+abbrev pub place_asked : Profile → Acting → Option Meaning → List ℕ → List ℕ → State → Result (Option ℤ) Refused
+place_asked p x at [] set s = Ok None
+place_asked p x at (n ∷ ns) set s = at_asked p x at set s
+
 -- the attribute is written
 abbrev pub is_written : Option Meaning → Bool
 is_written None = false
@@ -119,7 +124,7 @@ inserted p tell is_before location (place ∷ places) s =
 -- in this context: the set, the origin, `at`, and then the places that are planned
 abbrev pub insert_at : Profile → Tell → Acting → InsertBy → Focus → Run
 insert_at p tell x w c s =
-    set_asked p x c s >>= λ set. origin_asked p x c w.origin set s >>= λ origin. at_asked p x w.at set s >>= λ at.
+    set_asked p x c s >>= λ set. origin_asked p x c w.origin set s >>= λ origin. place_asked p x w.at origin set s >>= λ at.
     inserted p tell w.is_before (location_of at c set) (planned_insert s.forest.nodes (asked_with w s c set origin at)) s
 
 -- no effect where `context` selects nothing

@@ -1,9 +1,9 @@
 -- The characters of texts that end, and the tokens of what stands behind some of them.
-use Rattle.std.proofs.Common.{◌≡◌, ◌||◌, ◌==◌, ℕ, zero, suc, ◌+◌, ◌-◌, ◌<◌, ◌≤◌, Bool, true, false, List, [], ◌∷◌, ◌++◌, length, get_or, take, drop, if◌then◌else◌, Some, None, refl, sym, ap, ◌∙◌, arith, length-append, append_assoc}
+use Rattle.std.proofs.Common.{◌≡◌, ◌||◌, ◌==◌, ℕ, zero, suc, ◌+◌, ◌-◌, ◌≤◌, Bool, true, false, List, [], ◌∷◌, ◌++◌, length, take, drop, if◌then◌else◌, Some, None, refl, sym, ap, ◌∙◌, arith, length-append, append_assoc}
 use Rattle.std.specs.Prelude.{Option, encode_utf8_all}
 use Rattle.std.specs.Char.{len_utf8}
 use Rattle.std.specs.Str.{chars, IsUtf8, IsCharBoundary}
-use Rattle.std.proofs.lemmas.Str.{chars-nil, chars_past_char, encode_ascii, encodes-chars, encodes-append, length-encode, IsCharBoundary-at_seam}
+use Rattle.std.proofs.lemmas.Str.{chars-nil, encodes-chars, encodes-append, length-encode, IsCharBoundary-at_seam}
 use Rattle.std.proofs.Math.Seq.{take-append_seam, drop-append_seam}
 use lib.Utf8.{encode}
 use Rattle.xf_num.specs.Written.{is_space, is_digit, after_digits}
@@ -18,12 +18,6 @@ use Rattle.xf_path.specs.Cursor.{behind}
 pub chars-empty : (bs : List ℕ) → length bs ≡ 0 → chars bs ≡ []
 chars-empty [] none = chars-nil
 chars-empty (b ∷ bs) none = absurd (omega (arith, none))
-
--- a character of one byte comes off
-pub chars-one_byte : (bs rest : List ℕ) (c : ℕ) → IsUtf8 bs → 0 < length bs → get_or bs 0 0 ≡ c → c < 128 → rest ≡ drop 1 bs → chars bs ≡ c ∷ chars rest
-chars-one_byte [] rest c u some same small left = absurd (omega (arith, some))
-chars-one_byte (b ∷ bs) rest c u some same small left =
-    chars_past_char (b ∷ bs) rest c u (ap (λ x. x ∷ bs) same ∙ ap (λ t. c ∷ t) (sym left) ∙ sym (ap (λ x. x ++ rest) (encode_ascii c small)))
 
 -- ---- what a token leaves is an end of what stood there
 

@@ -67,7 +67,7 @@ impl<'a> Grammar<'a> {
             return self.operand(tokens, depth);
         }
         let mut tree = self.unary(tokens, depth)?;
-        // The ranks below this one are done. Those that have no operator here are passed over.
+        // Of the ranks below this one the operators are read. A rank that has none here is passed over.
         let mut least = 1;
         while let Some(next) = next_rank(tokens.kind(), tokens.text()) {
             if next < least || rank <= next {

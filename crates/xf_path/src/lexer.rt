@@ -13,15 +13,6 @@ use xf_name::{begins_part, continues_part};
 pub fn first_char(text: &str) -> Option<(char, &str)>
     ensures { MatchOption result (chars text.now ≡ []) (λ p. chars text.now ≡ p.0 ∷ chars p.1.now) }
 {
-    let bytes = text.as_bytes();
-    if bytes.is_empty() {
-        return None;
-    }
-    // Most characters have one byte, and need no decoding.
-    let first = bytes[0];
-    if first < 128 {
-        return Some((first as char, &text[1..]));
-    }
     let mut chars = text.chars();
     match chars.next() {
         Some(first) => Some((first, chars.as_str())),

@@ -40,7 +40,7 @@ use Rattle.xf_form_machine.specs.Update.{with_brought, reindex, shown, refresh, 
 use Rattle.xf_form_machine.specs.Events.{Fired, Tell, told_by, fired_at, fired, plainly, model_element, submission_element}
 use Rattle.xf_form_machine.specs.Acting.{Acting, surroundings, binding_of, whole_for}
 use Rattle.xf_form_machine.specs.SetValue.{unless_parent, set_node, set_open, set_value, value_asked}
-use Rattle.xf_form_machine.specs.Insert.{insert_told, location_of, asked_with, copies_of, without_one, put_copy, tell_instance, inserted, insert_at, insert, set_asked, origin_asked, at_asked, moved_focus}
+use Rattle.xf_form_machine.specs.Insert.{insert_told, location_of, asked_with, copies_of, without_one, put_copy, tell_instance, inserted, insert_at, insert, set_asked, origin_asked, place_asked, moved_focus}
 use Rattle.xf_form_machine.specs.Delete as delete
 use Rattle.xf_form_machine.specs.Choose.{named_copy, not_below_zero, switch_number, set_index, act_index, toggled, unless_same, toggle_in, toggle, act_dispatch, act_send, act_on_model}
 use Rattle.xf_form_machine.specs.Telling.{message, loaded_text, load, focus}
@@ -216,7 +216,7 @@ module _ (p : Profile) (P : State → Type 0) (k : KeepsEach p P) where
 
   insert-at-keeps : (tell : Tell) → Telling P tell → (x : Acting) (w : InsertBy) (c : setting.Focus) → Keeping P (insert_at p tell x w c)
   insert-at-keeps tell t x w c s h =
-      held-any P (set_asked p x c s) _ (λ set. held-any P (origin_asked p x c w.origin set s) _ (λ origin. held-any P (at_asked p x w.at set s) _
+      held-any P (set_asked p x c s) _ (λ set. held-any P (origin_asked p x c w.origin set s) _ (λ origin. held-any P (place_asked p x w.at origin set s) _
       (λ at. inserted-keeps tell t w.is_before (location_of at c set) (planned_insert s.forest.nodes (asked_with w s c set origin at)) s h)))
 
   pub insert-keeps : (tell : Tell) → Telling P tell → (x : Acting) (w : InsertBy) → Keeping P (insert p tell x w)

@@ -23,7 +23,7 @@ use Rattle.xf_form_machine.specs.Properties.{readonly_in, closed_in}
 use Rattle.xf_form_machine.specs.Events.{Tell, fired_at}
 use Rattle.xf_form_machine.specs.Acting.{Acting, surroundings, binding_of, value_for, whole_for}
 use Rattle.xf_form_machine.specs.SetValue.{unless_parent, set_node, value_asked, set_open, set_value}
-use Rattle.xf_form_machine.specs.Insert.{moved_focus, set_asked, last_one, origin_asked, at_asked, tell_instance}
+use Rattle.xf_form_machine.specs.Insert.{moved_focus, set_asked, last_one, origin_asked, at_asked, place_asked, tell_instance}
 use Rattle.xf_form_machine.specs.Delete as delete
 use Rattle.xf_same_laws.proofs.ForestGoes.{map-length}
 use Rattle.xf_same_laws.proofs.ScopeGoes.{path-goes}
@@ -140,6 +140,11 @@ module _ (e : Two) where
   at-goes x (Some m) r (n ∷ ns) s h =
       ap {A = ℕ} {B = Result (Option ℤ) Refused} (λ k. whole_for e.p (renumbered_acting e x) (other e s) (record { node = e.f n; position = 1; size = suc k }) m) (map-length e.f ns)
       ∙ whole-goes e x s h (record { node = n; position = 1; size = length (n ∷ ns) }) m r
+
+  pub place-goes : (x : Acting) (o : Option Meaning) → MeaningGoes e.f o → (origin set : List ℕ) (s : State) → Fits e s
+      → place_asked e.p (renumbered_acting e x) o (map e.f origin) (map e.f set) (other e s) ≡ place_asked e.p x o origin set s
+  place-goes x o r [] set s h = refl
+  place-goes x o r (n ∷ ns) set s h = at-goes x o r set s h
 
   pub delete-at-goes : (x : Acting) (o : Option Meaning) → MeaningGoes e.f o → (set : List ℕ) (s : State) → Fits e s
       → delete.at_asked e.p (renumbered_acting e x) o (map e.f set) (other e s) ≡ delete.at_asked e.p x o set s

@@ -22,7 +22,7 @@ use Rattle.xf_form_machine.specs.Primitives.{copy, plant, attach}
 use Rattle.xf_form_machine.specs.Update.{reindex}
 use Rattle.xf_form_machine.specs.Events.{Tell}
 use Rattle.xf_form_machine.specs.Acting.{Acting}
-use Rattle.xf_form_machine.specs.Insert.{moved_focus, set_asked, origin_asked, at_asked, asked_with, copies_of, without_one, put_copy, location_of, insert_told, tell_instance, inserted, insert_at, insert}
+use Rattle.xf_form_machine.specs.Insert.{moved_focus, set_asked, origin_asked, place_asked, asked_with, copies_of, without_one, put_copy, location_of, insert_told, tell_instance, inserted, insert_at, insert}
 use Rattle.xf_same_laws.specs.Going.{imaged_top, CountsTop}
 use Rattle.xf_same_laws.proofs.ForestGoes.{map-length, holding-goes}
 use Rattle.xf_same_laws.proofs.GoingLaws.{going_laws}
@@ -33,7 +33,7 @@ use Rattle.xf_step_laws.proofs.Alike.{Two, other, Fits, Alike, Goes, mapped, sam
 use Rattle.xf_step_laws.proofs.ChangesAlike.{Tells, attach-alike, detach-is, detach-fits, reindex-alike}
 use Rattle.xf_step_laws.proofs.EvalAlike.{InsertGoes, renumbered_acting}
 use Rattle.xf_step_laws.proofs.AgainLaws.{AgainIn, planned-again, at-mapped}
-use Rattle.xf_step_laws.proofs.ActionsAlike.{focus-goes, set-goes, origin-goes, at-goes, closed-goes, order-goes, tell-alike}
+use Rattle.xf_step_laws.proofs.ActionsAlike.{focus-goes, set-goes, origin-goes, place-goes, closed-goes, order-goes, tell-alike}
 
 abbrev Formed : State → Type 0
 Formed s = IsOfForm s.form
@@ -193,11 +193,11 @@ module _ (e : Two) where
       let last : State → Focus → List ℕ → List ℕ → Option ℤ → Result State Refused = λ v k set origin at.
       inserted e.p tell w.is_before (location_of at k set) (planned_insert v.forest.nodes (asked_with w v k set origin at)) v in
       eval-alike e (map e.f) (set_asked e.p x c s) (set_asked e.p y d u)
-      (λ set. origin_asked e.p x c w.origin set s >>= λ origin. at_asked e.p x w.at set s >>= last s c set origin)
-      (λ set. origin_asked e.p y d w.origin set u >>= λ origin. at_asked e.p y w.at set u >>= last u d set origin) (set-goes e x c s h)
-      (λ set. eval-alike e (map e.f) (origin_asked e.p x c w.origin set s) (origin_asked e.p y d w.origin (map e.f set) u) (λ origin. at_asked e.p x w.at set s >>= last s c set origin)
-      (λ origin. at_asked e.p y w.at (map e.f set) u >>= last u d (map e.f set) origin) (origin-goes e x c w.origin r.origin set s h)
-      (λ origin. kept-alike e (at_asked e.p x w.at set s) (at_asked e.p y w.at (map e.f set) u) (last s c set origin) (last u d (map e.f set) (map e.f origin)) (at-goes e x w.at r.at set s h)
+      (λ set. origin_asked e.p x c w.origin set s >>= λ origin. place_asked e.p x w.at origin set s >>= last s c set origin)
+      (λ set. origin_asked e.p y d w.origin set u >>= λ origin. place_asked e.p y w.at origin set u >>= last u d set origin) (set-goes e x c s h)
+      (λ set. eval-alike e (map e.f) (origin_asked e.p x c w.origin set s) (origin_asked e.p y d w.origin (map e.f set) u) (λ origin. place_asked e.p x w.at origin set s >>= last s c set origin)
+      (λ origin. place_asked e.p y w.at origin (map e.f set) u >>= last u d (map e.f set) origin) (origin-goes e x c w.origin r.origin set s h)
+      (λ origin. kept-alike e (place_asked e.p x w.at origin set s) (place_asked e.p y w.at (map e.f origin) (map e.f set) u) (last s c set origin) (last u d (map e.f set) (map e.f origin)) (place-goes e x w.at r.at origin set s h)
       (λ at. let asked = asked_with w s c set origin at in
       let ps = planned_insert s.forest.nodes asked in
       same-alike e (last s c set origin at) (inserted e.p tell w.is_before (map e.f (location_of at c set)) (map (renumbered_place e.f) ps) u) (last u d (map e.f set) (map e.f origin) at)

@@ -1,0 +1,24 @@
+use Rattle.std.proofs.Common.{◌≡◌, [], true, not, ◌&&◌, sym, ap, ◌∙◌}
+use Rattle.std.specs.List.{list_any}
+use Rattle.xf_doc.specs.Visit.{has, parent_of, visits}
+use Rattle.xf_tree.proofs.StackLemmas.{absent-parent}
+use Rattle.xf_model.specs.Taken.{is_apart, is_open}
+use Rattle.xf_small_forest.proofs.DeleteLaws.{any-ancestor}
+use Rattle.xf_small_forest.proofs.taking.is_taken.Goals as goal
+
+pub returns-then-not-is_live : goal.returns-then-not-is_live
+returns-then-not-is_live c =
+    let nodes = c.args.forest.now.forest.nodes in
+    let n = c.args.node.number in
+    ap (λ o. is_open (visits nodes) [] o && is_apart (visits nodes) c.args.known.now.keys n) (sym (absent-parent n nodes (sym c.is_live.ensures ∙ c.if-not-is_live.true)))
+
+pub returns : goal.returns
+returns c =
+    let nodes = c.args.forest.now.forest.nodes in
+    let n = c.args.node.number in
+    let keys = c.args.known.now.keys in
+    let opened : is_open (visits nodes) [] (parent_of n (visits nodes)) ≡ true =
+    ap (is_open (visits nodes) []) (sym c.in-Some.ensures) ∙ ap (λ b. not b && true) (sym c.is_root.ensures ∙ c.if-is_root.false) in
+    let known : not c.is_some_known.result ≡ is_apart (visits nodes) keys n =
+    ap not (c.is_some_known.ensures ∙ ap (list_any (λ m. has m keys)) (c.as_slice.ensures ∙ c.in_ok-around.ensures) ∙ any-ancestor (λ m. has m keys) n nodes) in
+    known ∙ ap (λ b. b && is_apart (visits nodes) keys n) (sym opened)
