@@ -14,10 +14,10 @@ use Rattle.xf_model.specs.Properties.{sets_on}
 use Rattle.xf_binds.specs.declared.entry.Entry.{Entry}
 use Rattle.xf_binds.specs.declared.entry.Item.{Item}
 use Rattle.xf_binds.specs.declared.entry.Seats.{Seats}
-use Rattle.xf_binds.specs.Held.{Held, IsSeated, entries_in, entry_of, held_at, held_of, held_on, held_same, holds, is_seat, passes, seat_in, seat_of, seats_or, seats_with}
+use Rattle.xf_binds.specs.Held.{AreSet, Held, IsSeated, entries_in, entry_of, held_at, held_of, held_on, held_same, holds, is_seat, passes, seat_in, seat_of, seats_or, seats_with}
 use Rattle.xf_binds.specs.Kept.{truth_from, valued_in}
 use Rattle.xf_binds.proofs.Finds.{false-true, find-map, find-passes}
-use Rattle.xf_binds.proofs.Places.{held-some, same-some, seat-or, seat-within, seated-more, set-already, set-not}
+use Rattle.xf_binds.proofs.Places.{held-some, same-some, seat-or, seat-within, seated-more, set-already, set-more, set-not}
 use Rattle.xf_binds.proofs.Truths.{computed-on, truth-stood}
 
 -- ---- an item at a place
@@ -79,6 +79,12 @@ added items new_items held e seats new s v at view seated more-is s-is at-is fre
     unset : (o : Option ℕ) → is_some o ≡ false → o ≡ None
     unset None h = refl
     unset (Some j) h = cc h
+
+pub set-added : (items new_items : List Item) (e : Entry) (last new : Seats) (k : ℕ) → new_items ≡ items ++ record { entry = e; truth = None } ∷ [] → new ≡ seats_with last e.property k
+    → AreSet (holds items) last → AreSet (holds new_items) new
+set-added items new_items e last new k more-is new-is h =
+    subst (AreSet (holds new_items)) (sym new-is)
+    (subst (λ l. AreSet l (seats_with last e.property k)) (sym (ap holds more-is ∙ map-append held_of items (record { entry = e; truth = None } ∷ []))) (set-more (holds items) last (entry_of e) k h))
 
 pub added-not : {S : Type 0} (items : List Item) (held : List Held) (e : applied.Entry) (seats : IndexMap ℕ Seats S) (s : Seats) (at : Option ℕ) → holds items ≡ held → IsSeated (holds items) seats
     → s ≡ seats_or (get nat_eq seats e.node) → at ≡ seat_of s e.property → is_some at ≡ true → false ≡ not (list_any (sets_same e) (entries_in held))

@@ -9,7 +9,7 @@ use Rattle.xf_model.specs.declared.property.Property.TheVariants.{Kind, Calculat
 use Rattle.xf_model.specs.Applied as applied
 use Rattle.xf_model.specs.Applied.{is_property, sets_same}
 use Rattle.xf_binds.specs.declared.entry.Seats.{Seats}
-use Rattle.xf_binds.specs.Held.{Held, IsSeated, entries_in, held_as, held_at, held_on, held_same, is_seat, newly_held, no_seats, passes, seat_in, seat_of, seats_or, seats_with}
+use Rattle.xf_binds.specs.Held.{AreSet, Held, IsSeated, entries_in, held_as, held_at, held_on, held_same, is_seat, newly_held, no_seats, passes, seat_in, seat_of, seats_or, seats_with}
 use Rattle.xf_binds.proofs.Finds.{false-true, find-none, find-one, kept_if}
 
 -- ---- the seats of one node
@@ -200,6 +200,19 @@ seated-more held seats new e seated none updates = λ m q i.
     ∙ more (get nat_eq seats e.node) e.node e.property (length held) none m (get nat_eq seats m) (λ h. ap (get nat_eq seats) (sym (eqb-true e.node m h))) q i
     ∙ ap (λ b. b || ((length held == i) && held_on m q (newly_held e))) (seated m q i)
     ∙ sym (passes-last (held_on m q) held (newly_held e) i)
+
+pub set-more : (held : List Held) (last : Seats) (e : applied.Entry) (k : ℕ) → AreSet held last → AreSet (held ++ newly_held e ∷ []) (seats_with last e.property k)
+set-more held last e k h = λ n p i free. by n p i (is_property p e.property) refl (sym (seat-with last p e.property k) ∙ free)
+  where
+    by : (n : ℕ) (p : Property) (i : ℕ) (b : Bool) → is_property p e.property ≡ b → cond b (Some k) (seat_of last p) ≡ None → passes (held_on n p) (slice_get (held ++ newly_held e ∷ []) i) ≡ false
+    by n p i true is free = cc free
+    by n p i false is free =
+        passes-last (held_on n p) held (newly_held e) i
+        ∙ ap (λ b. b || ((length held == i) && held_on n p (newly_held e))) (h n p i free)
+        ∙ and-none (length held == i) (held_on n p (newly_held e)) (and-none (e.node == n) (is_property e.property p) (property-turned e.property p ∙ is))
+
+pub set-none : AreSet [] no_seats
+set-none = λ n p i free. refl
 
 -- ---- whether a property is set already
 

@@ -105,6 +105,10 @@ IsSeated held seats = (n : ℕ) (p : Property) (i : ℕ) → is_seat (seat_in (g
 abbrev pub AreNear : {S : Type 0} → IndexMap ℕ Seats S → List Seats → Type 0
 AreNear seats near = (n : ℕ) (s : Seats) → slice_get near n ≡ Some s → s ≡ seats_or (get nat_eq seats n)
 
+-- a property without a seat is set on no node
+abbrev pub AreSet : List Held → Seats → Type 0
+AreSet held last = (n : ℕ) (p : Property) (i : ℕ) → seat_of last p ≡ None → passes (held_on n p) (slice_get held i) ≡ false
+
 -- where one entry at most is the same attribute of the same bind for the same node, this is it
 abbrev pub IsOnly : List applied.Entry → applied.Entry → Option applied.Entry → Type 0
 IsOnly entries e found = (test : applied.Entry → Bool) → list_any (λ old. is_same e old && test old) entries ≡ passes test found

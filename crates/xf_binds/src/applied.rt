@@ -28,17 +28,19 @@ pub struct Applied {
     seats: IndexMap<u128, Seats>,
     // The same by the numbers of the first nodes, where no key is hashed; none of them while entries are added.
     near: Vec<Seats>,
+    // Where the last entry of each property stands: one that no entry sets is looked for on no node.
+    last: Seats,
 }
 
 impl Model for Applied {
     ghost use Rattle.std.specs.Prelude.{List};
-    ghost use Rattle.xf_binds.specs.Held.{AreNear, Held, holds, IsSeated};
+    ghost use Rattle.xf_binds.specs.Held.{AreNear, AreSet, Held, holds, IsSeated};
 
     ghost Value = { List Held };
 
     ghost view = { λ a. holds a.items.items };
 
-    ghost invariant = { λ a. (IsSeated (holds a.items.items) a.seats) × (AreNear a.seats a.near.items) };
+    ghost invariant = { λ a. (IsSeated (holds a.items.items) a.seats) × (AreNear a.seats a.near.items) × (AreSet (holds a.items.items) a.last) };
 }
 
 impl Applied {
@@ -49,6 +51,7 @@ impl Applied {
             items: Vec::new(alloc),
             seats: IndexMap::new(alloc),
             near: Vec::new(alloc),
+            last: Seats::none(),
         }
     }
 
@@ -95,9 +98,15 @@ impl Applied {
     fn seat(&self, node: NodeId, property: Property) -> Option<usize>
         ensures { (i : ℕ) → is_seat result i ≡ passes (held_on node.number property) (slice_get self.now i) }
     {
-        if self.items.is_empty() {
-            return None;
+        match self.last.at(property) {
+            Some(_) => self.found(node, property),
+            None => None,
         }
+    }
+
+    fn found(&self, node: NodeId, property: Property) -> Option<usize>
+        ensures { (i : ℕ) → is_seat result i ≡ passes (held_on node.number property) (slice_get self.now i) }
+    {
         match near_at(&self.near, node.number) {
             Some(seats) => seats.at(property),
             None => seat_in(&self.seats, node.number, property),
@@ -194,10 +203,14 @@ impl Applied {
         if seats.at(entry.property).is_some() {
             return Ok(false);
         }
-        seats.set(entry.property, self.items.len());
+        let at = self.items.len();
+        seats.set(entry.property, at);
         self.items.push(Item { entry, truth: None })?;
         match self.seats.insert(entry.node.number, seats) {
-            Ok(_) => Ok(true),
+            Ok(_) => {
+                self.last.set(entry.property, at);
+                Ok(true)
+            }
             Err(_) => {
                 let _ = self.items.pop();
                 Err(AllocError)

@@ -1,24 +1,9 @@
-use Rattle.std.proofs.Common.{◌≡◌, List, nat_eq, slice_get, sym, ap, vec_len, ◌∙◌}
-use Rattle.indexmap.specs.IndexMap.{get}
-use Rattle.xf_binds.specs.Held.{Held, held_on, holds, is_seat, passes, seat_of}
-use Rattle.xf_binds.proofs.Nears.{none-there}
-use Rattle.xf_binds.proofs.Places.{seat-or}
+use Rattle.std.proofs.Common.{slice_get, sym, ap, ◌∙◌}
+use Rattle.xf_binds.specs.Held.{held_on, passes}
 use Rattle.xf_binds.proofs.applied.Applied.seat.Goals as goal
-
-pub returns-then-is_empty : goal.returns-then-is_empty
-returns-then-is_empty c = λ i.
-    let passed = λ (l : List Held). passes (held_on c.args.node.number c.args.property) (slice_get l i) in
-    ap (λ l. passed (holds l)) (none-there c.self.inside.items.items (vec_len c.self.inside.items) c.self.inside.items.ok.0 (sym c.is_empty.ensures ∙ c.if-is_empty.true)) ∙ ap passed c.self.view_is
-
-pub returns-in-Some : goal.returns-in-Some
-returns-in-Some c = λ i.
-    let n = c.args.node.number in
-    let p = c.args.property in
-    ap (λ o. is_seat o i) (c.at.ensures ∙ ap (λ t. seat_of t p) (c.self.invariant.1 n c.in-Some.seats.now (sym (ap (λ l. slice_get l n) c.deref.ensures.value) ∙ c.in-Some.ensures)) ∙ seat-or (get nat_eq c.self.inside.seats n) p)
-    ∙ c.self.invariant.0 n p i ∙ ap (λ l. passes (held_on n p) (slice_get l i)) c.self.view_is
 
 pub returns-in-None : goal.returns-in-None
 returns-in-None c = λ i.
     let n = c.args.node.number in
     let p = c.args.property in
-    ap (λ o. is_seat o i) c.seat_in.ensures ∙ c.self.invariant.0 n p i ∙ ap (λ l. passes (held_on n p) (slice_get l i)) c.self.view_is
+    sym (c.self.invariant.2 n p i (sym c.at.ensures ∙ c.in-None.is)) ∙ ap (λ l. passes (held_on n p) (slice_get l i)) c.self.view_is

@@ -1,6 +1,5 @@
-use Rattle.std.proofs.Common.{sym, subst, ap, ◌∙◌}
+use Rattle.std.proofs.Common.{sym, subst}
 use Rattle.xf_binds.specs.Held.{entries_in}
-use Rattle.xf_binds.specs.Kept.{Entered}
 use Rattle.xf_binds.specs.Turns.{AreInTurn}
 use Rattle.xf_binds.proofs.ordered.Ordered.of.Goals as goal
 
