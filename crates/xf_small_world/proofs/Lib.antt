@@ -16,3 +16,12 @@ pub mod BeginLaws
 pub mod ToldLaws
 pub mod IndexLaws
 pub mod InnerLaws
+pub mod PutLaws
+pub mod MessageLaws
+pub mod PlantLaws
+pub mod BuildLaws
+pub mod ResetLaws
+pub mod PlannedLaws
+pub mod RowLaws
+pub mod HoldLaws
+pub mod MessageReads

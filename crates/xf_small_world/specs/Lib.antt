@@ -3,6 +3,7 @@ pub mod Small
 pub mod Models
 pub mod Notes
 pub mod Places
+pub mod Formed
 pub mod State
 pub mod Around
 pub mod Over
@@ -14,3 +15,5 @@ pub mod Handlers
 pub mod Telling
 pub mod Beginning
 pub mod Inner
+pub mod Planting
+pub mod Messages

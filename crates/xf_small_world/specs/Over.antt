@@ -1,8 +1,7 @@
 -- What expressions are evaluated over, as the definitions of bindings and contexts see it (XForms 1.1, section 7).
-use Rattle.std.specs.Prelude.{ℕ, ℤ, List, map, Option, Some, None, option_map, option_and_then}
+use Rattle.std.specs.Prelude.{ℕ, ℤ, List, Option, Some, None, option_map, option_and_then}
 use Rattle.xf_base.specs.Limits.{string_limit}
 use Rattle.xf_doc.specs.declared.content.Node.{Node}
-use Rattle.xf_doc.specs.declared.node.NodeId.{NodeId}
 use Rattle.xf_doc.specs.Forest.{Forest}
 use Rattle.xf_doc.specs.StringValue.{string_value}
 use Rattle.xf_doc.specs.Visit.{visits}
@@ -17,12 +16,6 @@ use Rattle.xf_form_machine.specs.Surround.{Told}
 use Rattle.xf_loader.specs.declared.loaded.Loaded.{Loaded}
 use Rattle.xf_small_world.specs.declared.over.Over.{Over}
 use Rattle.xf_small_world.specs.Around.{event_of, given_in}
-
-abbrev pub number : NodeId → ℕ
-number n = n.number
-
-abbrev pub numbers : List NodeId → List ℕ
-numbers ns = map number ns
 
 abbrev pub around_of : Loaded → Forest → Option Told → Around
 around_of l forest event = record {

@@ -3,16 +3,15 @@
 ghost use Rattle.std.specs.Prelude.{◌≡◌, ◌-◌, [], ◌∷◌, Ok, Some, option_map, slice_get};
 ghost use Rattle.xf_lang.specs.Binding.{as_list};
 ghost use Rattle.xf_lang.specs.Meaning.{meaning};
-ghost use Rattle.xf_model.specs.Places.{held};
 ghost use Rattle.xf_form_machine.specs.Delete as del;
 ghost use Rattle.xf_form_machine.specs.Insert as ins;
 ghost use Rattle.xf_actions.specs.Performs.{Reads};
 ghost use Rattle.xf_actions.specs.Seen.{acting_of, focus_of};
 ghost use Rattle.xf_small_world.specs.Fault.{means};
-ghost use Rattle.xf_small_world.specs.State.{profile, state_of};
+ghost use Rattle.xf_small_world.specs.Formed.{profile};
+ghost use Rattle.xf_small_world.specs.State.{state_of};
 
 use crate::binding::over_event;
-use crate::changed::held;
 use crate::fault::SmallFault;
 use crate::over::value;
 use crate::reading::whole;
@@ -21,6 +20,7 @@ use xf_actions::{Acting, Fired, Focus};
 use xf_ast::Expr;
 use xf_doc::{NodeId, NodeList};
 use xf_eval::{nodes_in, single};
+use xf_small_forest::held_at;
 
 /// The nodes to copy: those of `origin`, else the last one of the set.
 pub(crate) fn origin(
@@ -188,14 +188,5 @@ fn one(world: &SmallWorld, node: NodeId) -> Result<NodeList, SmallFault>
     match single(world.alloc, node) {
         Ok(nodes) => Ok(nodes),
         Err(_) => Err(SmallFault::Memory),
-    }
-}
-
-fn held_at(size: usize, at: Option<i64>) -> usize
-    ensures { result ≡ held size at }
-{
-    match at {
-        Some(at) => held(size, at),
-        None => size,
     }
 }

@@ -3,15 +3,15 @@
 ghost use Rattle.std.specs.Prelude.{◌≡◌, ◌++◌, ◌∷◌, [], Ok, Some, IfOk, OnOk, codes, get_or, map};
 ghost use Rattle.xf_doc.specs.Visit.{visits};
 ghost use Rattle.xf_plain_values.specs.Conversions.{whole};
-ghost use Rattle.xf_model.specs.Places.{held};
 ghost use Rattle.xf_form_machine.specs.Delete.{delete_told, location_of};
 ghost use Rattle.xf_form_machine.specs.Insert.{insert_told};
 ghost use Rattle.xf_actions.specs.TreeChanges.{instance_event};
 ghost use Rattle.xf_actions.specs.Performs.{Reads};
 ghost use Rattle.xf_actions.specs.Seen.{fired_of, place_of, told_of};
 ghost use Rattle.xf_small_world.specs.Fault.{means};
-ghost use Rattle.xf_small_world.specs.Over.{number};
-ghost use Rattle.xf_small_world.specs.State.{profile, state_of};
+ghost use Rattle.xf_small_forest.specs.Numbers.{number};
+ghost use Rattle.xf_small_world.specs.Formed.{profile};
+ghost use Rattle.xf_small_world.specs.State.{state_of};
 ghost use Rattle.xf_small_world.specs.Telling.{deleted_told, inserted_told, location_in};
 
 use crate::fault::SmallFault;
@@ -26,6 +26,7 @@ use xf_eval::append;
 use xf_lang::Value;
 use xf_name::Word;
 use xf_num::Num;
+use xf_small_forest::held;
 use xf_tree::Forest;
 
 /// The event that an insert tells an instance.
@@ -82,19 +83,6 @@ fn delete_location(size: usize, at: Option<i64>) -> Num
         Some(at) => whole(held(size, at)),
         None => Num::nan(),
     }
-}
-
-/// A place held between 1 and the size.
-pub(crate) fn held(size: usize, at: i64) -> usize
-    ensures { result ≡ held size (Some at) }
-{
-    if at < 1 {
-        return 1;
-    }
-    if at as u64 > size as u64 {
-        return size;
-    }
-    at as usize
 }
 
 /// A whole number.

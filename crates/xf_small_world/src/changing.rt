@@ -5,13 +5,15 @@ ghost use Rattle.xf_form_machine.specs.Primitives.{attach as attached, copy as c
 ghost use Rattle.xf_actions.specs.Performs.{Makes, Reads, Runs};
 ghost use Rattle.xf_actions.specs.Texts.{settable};
 ghost use Rattle.xf_small_world.specs.Fault.{means};
-ghost use Rattle.xf_small_world.specs.State.{profile, state_of};
+ghost use Rattle.xf_small_world.specs.Formed.{profile};
+ghost use Rattle.xf_small_world.specs.State.{state_of};
 
 use crate::fault::SmallFault;
 use crate::growing::{NUMBERS, fault_of_tree, grown};
 use crate::setting::{holder, is_other, mark_list, mark_text, may_be_set, set_draft};
 use crate::world::SmallWorld;
 use xf_doc::NodeId;
+use xf_small_forest::{attach_in, copy_in, detach_in};
 
 /// Refuses where the node has element children.
 pub(crate) fn may_set(world: &SmallWorld, node: NodeId) -> Result<(), SmallFault>
@@ -54,7 +56,7 @@ pub(crate) fn copy(world: &mut SmallWorld, node: NodeId) -> Result<NodeId, Small
         // No root is copied, and what is copied stands in the forest.
         return Err(SmallFault::Memory);
     }
-    match world.draft.copy(node) {
+    match copy_in(&mut world.draft, node) {
         Ok(top) => {
             let made = world.draft.forest().next_number() - before;
             world.tally = grown(world.tally, made)?;
@@ -88,7 +90,7 @@ pub(crate) fn attach(
         return Err(SmallFault::Memory);
     }
     let holder = holder(instances, forest, parent)?;
-    match world.draft.attach(node, parent, place) {
+    match attach_in(&mut world.draft, node, parent, place) {
         Ok(()) => {
             world.tally = grown(world.tally, 0)?;
             mark_list(&mut world.models, holder, parent)?;
@@ -116,7 +118,7 @@ pub(crate) fn detach(world: &mut SmallWorld, node: NodeId) -> Result<(), SmallFa
     }
     let instances = world.loaded.form.tables.instances.as_slice();
     let holder = holder(instances, forest, parent)?;
-    world.draft.detach(node)?;
+    detach_in(&mut world.draft, node)?;
     mark_list(&mut world.models, holder, parent)?;
     Ok(())
 }

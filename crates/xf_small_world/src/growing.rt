@@ -9,7 +9,7 @@ use xf_doc::TreeFault;
 use xf_form_machine::LimitWord;
 
 /// The nodes that one event may make.
-const MADE: u64 = 4_294_967_296;
+pub(crate) const MADE: u64 = 4_294_967_296;
 
 /// Beyond all numbers of nodes that a form can take.
 pub(crate) const NUMBERS: u128 = 1 << 120;

@@ -98,7 +98,7 @@ fn push_some(all: &mut ElementList, number: Option<u32>) -> Result<(), AllocErro
     }
 }
 
-fn parts_at(form: &Form, element: u32) -> &[Part]
+pub(crate) fn parts_at(form: &Form, element: u32) -> &[Part]
     ensures { result.now ≡ (element_at (interface_of form.now) element).parts }
 {
     match element_in(form, element) {
@@ -107,7 +107,7 @@ fn parts_at(form: &Form, element: u32) -> &[Part]
     }
 }
 
-fn own_text(part: &Part) -> &str
+pub(crate) fn own_text(part: &Part) -> &str
     ensures { result.now ≡ inner.own_text part.now }
 {
     match part {
@@ -131,7 +131,7 @@ fn own_action(form: &Form, part: &Part) -> Option<u32>
     }
 }
 
-fn host_parts<'a>(form: &'a Form, part: &Part) -> &'a [Part]
+pub(crate) fn host_parts<'a>(form: &'a Form, part: &Part) -> &'a [Part]
     ensures { result.now ≡ inner.host_parts (interface_of form.now) part.now }
 {
     match part {

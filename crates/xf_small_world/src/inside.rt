@@ -8,7 +8,8 @@ ghost use Rattle.xf_ui.specs.Interface.{element_of, interface_of, sort_of};
 ghost use Rattle.xf_elements.specs.Bound.{seen_bound};
 ghost use Rattle.xf_actions.specs.Seen.{focus_of};
 ghost use Rattle.xf_small_world.specs.Inside.{entered_bound, first_inside, place_for, seen_context, seen_inside, seen_place};
-ghost use Rattle.xf_small_world.specs.Over.{around_over, number};
+ghost use Rattle.xf_small_forest.specs.Numbers.{number};
+ghost use Rattle.xf_small_world.specs.Over.{around_over};
 
 use crate::around::{document_of, documents};
 use crate::over::{Over, alone, first_bound};

@@ -1,5 +1,5 @@
-//! The form machine in memory, for forms without binds, controls, repeats, switches and submissions: what dispatch, actions and default actions ask
-//! of a world, call by call. It is no `World` yet: messages, what a reset puts back, and the places of inserts and deletes are not written.
+//! The form machine in memory, for forms without binds, controls, repeats, switches and submissions: a `World`, over which dispatch, actions and
+//! default actions run.
 #![tactic(auto, unfolding(xf_actions::specs::Performs::Refuses))]
 
 mod around;
@@ -15,14 +15,20 @@ mod fault;
 mod flagging;
 mod growing;
 mod handlers;
+mod holding;
 mod indexing;
 mod inner;
 mod inside;
+mod messages;
 mod model;
 mod models;
 mod notes;
 mod noting;
 mod over;
+mod performing;
+mod planning;
+mod planting;
+mod putting;
 mod reading;
 mod recalculating;
 mod setting;

@@ -4,7 +4,8 @@ ghost use Rattle.std.specs.Prelude.{◌≡◌};
 ghost use Rattle.xf_form_machine.specs.Primitives.{add_note as noted};
 ghost use Rattle.xf_actions.specs.Performs.{Runs};
 ghost use Rattle.xf_small_world.specs.Fault.{means};
-ghost use Rattle.xf_small_world.specs.State.{profile, state_of};
+ghost use Rattle.xf_small_world.specs.Formed.{profile};
+ghost use Rattle.xf_small_world.specs.State.{state_of};
 
 use crate::fault::SmallFault;
 use crate::world::SmallWorld;
@@ -16,4 +17,13 @@ pub(crate) fn add_note(world: &mut SmallWorld, note: Note) -> Result<(), SmallFa
 {
     let alloc = world.alloc;
     world.notes.add(alloc, note)
+}
+
+impl SmallWorld {
+    /// The notes of the events so far.
+    pub fn notes(&self) -> &[Note]
+        ensures { result.now ≡ (state_of self.now).notes }
+    {
+        self.notes.as_slice()
+    }
 }

@@ -2,7 +2,7 @@
 
 ghost use Rattle.std.specs.Prelude.{◌≡◌, IfOk, Some, option_map};
 ghost use Rattle.xf_plain_values.specs.Bounded.{GivesBounded};
-ghost use Rattle.xf_doc.specs.Forest.{IsLive, has_number};
+ghost use Rattle.xf_doc.specs.Forest.{IsLive};
 ghost use Rattle.xf_doc.specs.Visit.{first_of, visits};
 ghost use Rattle.xf_lang.specs.Conversions.{nodes_of};
 ghost use Rattle.xf_lang.specs.Meaning.{meaning, text_worth};
@@ -13,7 +13,8 @@ ghost use Rattle.xf_elements.specs.Bound.{seen_bound};
 ghost use Rattle.xf_form_machine.specs.Acting.{whole_of};
 ghost use Rattle.xf_actions.specs.Seen.{focus_of};
 ghost use Rattle.xf_small_world.specs.Around.{are_live, are_told_live, is_event_live};
-ghost use Rattle.xf_small_world.specs.Over.{around_over, number, numbers, whole_worth};
+ghost use Rattle.xf_small_forest.specs.Numbers.{number, numbers};
+ghost use Rattle.xf_small_world.specs.Over.{around_over, whole_worth};
 
 use crate::around::{Surroundings, documents, first_child};
 use std::alloc::Global;
@@ -26,6 +27,7 @@ use xf_loader::Loaded;
 use xf_name::Word;
 use xf_nested::bound_nodes;
 use xf_num::Num;
+use xf_small_forest::is_live;
 use xf_tree::Forest;
 
 /// What expressions are evaluated over: the form, its data, and the properties of the event that is handled, if one is.
@@ -113,12 +115,6 @@ pub(crate) fn are_live(forest: &Forest, nodes: &[NodeId]) -> bool
         return false;
     }
     are_live(forest, &nodes[1..])
-}
-
-pub(crate) fn is_live(forest: &Forest, node: NodeId) -> bool
-    ensures { result ≡ has_number node.number forest.now.forest.nodes }
-{
-    forest.is_live(node)
 }
 
 /// The value of an expression as a text.

@@ -4,6 +4,7 @@ ghost use Rattle.std.specs.Prelude.{◌≡◌, length, nat_lt, IfOk, OnOk, OnErr
 ghost use Rattle.xf_doc.specs.Forest.{IsLive};
 ghost use Rattle.xf_doc.specs.Needs.{IsSettable};
 ghost use Rattle.xf_doc.specs.Visit.{children_of, visits};
+ghost use Rattle.xf_root_laws.specs.Roots.{roots_in};
 ghost use Rattle.xf_small_world.specs.Models.{models_of};
 ghost use Rattle.xf_small_world.specs.Setting.{IsSet, MayBeSet, changed_in, holder_of, is_other, list_change, text_change};
 
@@ -99,7 +100,9 @@ pub(crate) fn set_draft(draft: &mut Draft, node: NodeId, text: &str) -> Result<u
     requires { IsSettable node.number draft.old.now }
     ensures done { IsSet result node.number text.now draft.old draft.new }
     ensures err { OnErr result (draft.new ≡ draft.old) }
+    ensures roots { roots_in draft.new.now.nodes ≡ roots_in draft.old.now.nodes }
 {
+    draft.forest().are_trees();
     let before = draft.forest().next_number();
     if before > NUMBERS {
         return Err(SmallFault::Memory);

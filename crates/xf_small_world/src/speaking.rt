@@ -9,18 +9,21 @@ ghost use Rattle.xf_form_machine.specs.Telling.{loaded_text};
 ghost use Rattle.xf_actions.specs.Performs.{Reads};
 ghost use Rattle.xf_actions.specs.Seen.{acting_of, focus_of};
 ghost use Rattle.xf_small_world.specs.Fault.{means};
-ghost use Rattle.xf_small_world.specs.Over.{around_over, number, string_in};
-ghost use Rattle.xf_small_world.specs.State.{profile, state_of};
+ghost use Rattle.xf_small_forest.specs.Numbers.{number};
+ghost use Rattle.xf_small_world.specs.Over.{around_over, string_in};
+ghost use Rattle.xf_small_world.specs.Formed.{profile};
+ghost use Rattle.xf_small_world.specs.State.{state_of};
 
 use crate::binding::{binding_at, over_event};
 use crate::fault::SmallFault;
-use crate::over::{Over, first_bound, is_live};
+use crate::over::{Over, first_bound};
 use crate::world::SmallWorld;
 use xf_actions::{Acting, Fired, Focus};
 use xf_doc::NodeId;
 use xf_elements::Bound;
 use xf_eval::EvalFault;
 use xf_name::Word;
+use xf_small_forest::is_live;
 
 /// No string of an evaluation has more bytes.
 const STRING_LIMIT: u32 = 4_194_304;
@@ -51,7 +54,7 @@ pub(crate) fn loaded(
 }
 
 /// The text of the node that a binding selects, empty where it selects none.
-fn bound_text(
+pub(crate) fn bound_text(
     over: &Over<'_>,
     model: u32,
     binding: Bound<'_>,
