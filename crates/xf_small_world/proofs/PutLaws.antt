@@ -1,14 +1,13 @@
 -- Where the first child of a node stands.
-use Rattle.std.proofs.Common.{◌≡◌, ℕ, ◌+◌, ◌==◌, Bool, true, false, not, cond, ◌&&◌, ◌||◌, List, [], ◌∷◌, map, Option, Some, None, refl, sym, ap, ◌∙◌, subst, arith}
-use Rattle.std.specs.Prelude.{filter, find}
+use Rattle.std.proofs.Common.{◌≡◌, ℕ, ◌+◌, ◌==◌, Bool, true, false, not, cond, ◌&&◌, ◌||◌, List, [], ◌∷◌, map, Some, refl, sym, ap, ◌∙◌, arith}
+use Rattle.std.specs.Prelude.{filter}
 use Rattle.std.specs.List.{prefix_len}
 use Rattle.std.proofs.lemmas.Bool.Decides.{nat_tests}
-use Rattle.xf_doc.specs.declared.content.Node.{Node}
-use Rattle.xf_doc.specs.Changes.{place_among, place_in, standing, with_place}
+use Rattle.xf_doc.specs.Changes.{place_among, standing, with_place}
 use Rattle.xf_doc.specs.Forest.{Forest, is_attribute}
 use Rattle.xf_doc.specs.Visit.{Visit, above_in, attributes_of, children_of, first_of, has, is_first, parent_of, visits}
 use Rattle.xf_doc.specs.WellFormed.{HasTrees}
-use Rattle.xf_doc.proofs.BackLaws.{and-true, not-true}
+use Rattle.xf_doc.proofs.BackLaws.{and-true}
 use Rattle.xf_doc.proofs.OrderLaws.{visits-different}
 use Rattle.xf_lang.specs.Asked.{found}
 use Rattle.xf_lang.proofs.ForestVisits.{Each, self-found}

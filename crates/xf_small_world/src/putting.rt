@@ -25,6 +25,7 @@ pub(crate) fn put_back(world: &mut SmallWorld, instance: u32) -> Result<(), Smal
     ensures form { (state_of world.new).form ≡ (state_of world.old).form }
 {
     let forest = world.draft.forest();
+    forest.are_trees();
     let Some(node) = document(forest, instance) else {
         return Ok(());
     };
