@@ -1,6 +1,6 @@
 -- A form that a small world takes is constructed as soon as its data are planted: nothing is computed, there are no indexes and cases, and no
 -- control is shown.
-use Rattle.std.proofs.Common.{◌≡◌, ℕ, zero, suc, ◌+◌, true, false, List, [], ◌∷◌, ◌++◌, map, length, nat_lt, Option, Some, None, option_map, Result, Ok, Err, refl, sym, ap, ◌∙◌}
+use Rattle.std.proofs.Common.{◌≡◌, ℕ, zero, suc, ◌+◌, true, false, List, [], ◌∷◌, ◌++◌, map, length, nat_lt, Option, Some, None, option_map, Result, Ok, Err, refl, sym, ap, ◌∙◌, arith}
 use Rattle.std.specs.Prelude.{◌^◌, slice_get}
 use Rattle.xf_ast.specs.declared.form.Instance.{Instance}
 use Rattle.xf_doc.specs.declared.node.NodeId.{NodeId}

@@ -1,11 +1,13 @@
 -- The text that is joined in the parts of an element is what the first gives, and then what the others give.
-use Rattle.std.proofs.Common.{◌≡◌, ℕ, zero, suc, ◌+◌, ◌<◌, Bool, List, [], ◌∷◌, ◌++◌, length, drop, get_or, Option, Some, None, option_map, refl, sym, ap, ◌∙◌, append_assoc}
+use Rattle.std.proofs.Common.{◌≡◌, ℕ, zero, suc, ◌+◌, ◌<◌, Bool, List, [], ◌∷◌, ◌++◌, length, drop, get_or, Option, Some, None, option_map, Err, refl, sym, ap, ◌∙◌, append_assoc}
 use Rattle.std.specs.Prelude.{if◌then◌else◌}
 use Rattle.std.specs.List.{flat_map}
 use Rattle.std.proofs.lemmas.Grind.{flat_map-append}
 use Rattle.std.proofs.lemmas.List.{append-nil, drop_more}
 use Rattle.xf_ast.specs.declared.element.Part.{Part}
 use Rattle.xf_ast.specs.declared.element.Part.TheVariants as part
+use Rattle.xf_lang.specs.declared.fault.EvalFault.{EvalFault}
+use Rattle.xf_lang.specs.declared.fault.EvalFault.TheVariants as fault
 use Rattle.xf_lang.specs.Setting.{Meaning, each}
 use Rattle.xf_lang.specs.Setting as option
 use Rattle.xf_ui.specs.Around.{Around}
@@ -14,7 +16,7 @@ use Rattle.xf_ui.specs.Elements.{element_at}
 use Rattle.xf_ui.specs.Interface.{Element, Interface, Sort, unbound, host, other, group, switch, one_case, repeated, field, output, select, item, itemset, choices, label, item_value, inline, action}
 use Rattle.xf_ui.specs.Labels.{Piece, joined_text, piece_of, piece_text, pieces, pieces_in, printed, printed_by, text_by, value_text, words}
 use Rattle.xf_small_world.specs.Inner.{host_parts, is_host, own_text}
-use Rattle.xf_small_world.specs.Messages.{behind, joined, own_printed, printed_in, value_in}
+use Rattle.xf_small_world.specs.Messages.{Joins, behind, joined, own_printed, printed_in, value_in}
 
 abbrev flat : List (List ℕ) → List ℕ
 flat texts = flat_map (λ text. text) texts
@@ -187,3 +189,9 @@ unbound-text f a s e (item_value None) = refl
 unbound-text f a s e (item_value (Some m)) = refl
 unbound-text f a s e (inline x) = refl
 unbound-text f a s e (action h) = refl
+
+-- where what a part gives is too long, so is the whole
+pub joins-whole : (e : EvalFault) (before after first new : List ℕ) (given whole : Option (List ℕ)) → (given ≡ None → whole ≡ None) → Joins {X = Unit {0}} (Err e) before after given
+    → Joins {X = Unit {0}} (Err e) first new whole
+joins-whole fault.Memory before after first new given whole h j = tt
+joins-whole fault.Long before after first new given whole h j = h j

@@ -24,7 +24,7 @@ module _ (w : SmallWorld) (x : Acting) where
   abbrev s : State
   s = state_of w
 
-  abbrev told_in : Inside → Result (List ℕ) Refused
+  abbrev pub told_in : Inside → Result (List ℕ) Refused
   told_in within = or_long s (text_in f (surroundings profile x s) within (element_at f x.element))
 
   pub message-is : message_text profile x s ≡ (or_long s (inside f (quiet profile s) [] x.element) >>= told_in)

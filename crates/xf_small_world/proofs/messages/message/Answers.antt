@@ -39,7 +39,7 @@ returns-in_err-text c =
     let n = c.args.acting.now.element in
     let within = seen_inside c.in_ok-within.within in
     let e = c.in_err-text.field-0.0 in
-    reads-stopped _ _ s _ _ _ c.from_residual.ensures.1
+    reads-stopped _ _ s _ _ _ c.from_residual-in_err-text.ensures.1
     (same-refuses _ _ _ _
     (message-is w x
     ∙ ap (λ r. r >>= told_in w x)
