@@ -1,7 +1,6 @@
 //! What a reset puts back (XForms 1.1, section 4.3.7): the data of an instance as construction left them.
 
 ghost use Rattle.std.specs.Prelude.{◌≡◌, [], Some};
-ghost use Rattle.xf_doc.specs.Visit.{parent_of, visits};
 ghost use Rattle.xf_form_machine.specs.Construct.{construct, put_back as instance_put_back};
 ghost use Rattle.xf_form_machine.specs.Primitives.{plant as planted};
 ghost use Rattle.xf_actions.specs.Performs.{Makes, Runs};
