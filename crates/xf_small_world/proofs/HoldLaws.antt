@@ -1,11 +1,11 @@
 -- A root has its place among the roots.
-use Rattle.std.proofs.Common.{◌≡◌, ℕ, zero, suc, ◌<◌, ◌≤◌, ◌==◌, Bool, true, false, cond, List, [], ◌∷◌, map, length, Option, Some, None, option_map, refl, sym, ap, ◌∙◌, subst, arith}
-use Rattle.std.specs.Prelude.{filter, find}
+use Rattle.std.proofs.Common.{◌≡◌, ℕ, suc, ◌<◌, ◌==◌, Bool, true, false, cond, List, [], ◌∷◌, map, length, Option, Some, None, option_map, refl, sym, ap, ◌∙◌, arith}
+use Rattle.std.specs.Prelude.{filter}
 use Rattle.std.proofs.lemmas.Bool.Decides.{nat_tests}
 use Rattle.xf_doc.specs.declared.content.Node.{Node}
 use Rattle.xf_doc.specs.Forest.{has_number, is_root}
 use Rattle.xf_doc.specs.Order.{instance_of}
-use Rattle.xf_doc.specs.Visit.{Visit, above_in, ancestors_of, last_of, top_of, visits}
+use Rattle.xf_doc.specs.Visit.{Visit, above_in, last_of, top_of, visits}
 use Rattle.xf_doc.proofs.BackLaws.{or-false}
 use Rattle.xf_doc.proofs.OrderLaws.{seen-has}
 use Rattle.xf_lang.proofs.VisitFacts.{absent}

@@ -1,16 +1,13 @@
 -- What is planned over a small world is planned over the machine's state: no node of it is readonly.
-use Rattle.std.proofs.Common.{◌≡◌, ℕ, ℤ, true, false, not, List, [], ◌∷◌, map, Option, Some, None, Ok, refl, sym, ap, ◌∙◌}
+use Rattle.std.proofs.Common.{◌≡◌, ℕ, ℤ, not, List, [], ◌∷◌, map, Option, Some, None, refl, ap, ◌∙◌}
 use Rattle.std.specs.Prelude.{filter}
-use Rattle.xf_doc.specs.Forest.{Forest}
 use Rattle.xf_doc.specs.Visit.{Visit, has, visits}
 use Rattle.xf_lang.specs.Setting.{Focus}
 use Rattle.xf_lang.proofs.VisitFacts.{filter-none}
-use Rattle.xf_loader.specs.declared.loaded.Loaded.{Loaded}
 use Rattle.xf_model.specs.declared.asked.InsertAsked.{InsertAsked}
 use Rattle.xf_model.specs.Places as model
 use Rattle.xf_model.specs.Places.{Place, named_by}
 use Rattle.xf_model.specs.Taken.{asked_of, planned_delete, taken_from}
-use Rattle.xf_form_machine.specs.declared.note.Note.{Note}
 use Rattle.xf_form_machine.specs.Delete as del
 use Rattle.xf_form_machine.specs.Insert as ins
 use Rattle.xf_form_machine.specs.Program.{InsertBy}

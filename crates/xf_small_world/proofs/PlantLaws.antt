@@ -1,12 +1,11 @@
 -- The data of a form as they are planted, one after the other, are what the form machine plants.
-use Rattle.std.proofs.Common.{◌≡◌, ℕ, suc, ◌+◌, Bool, true, false, List, [], ◌∷◌, ◌++◌, map, length, nat_lt, Option, Some, None, Result, Ok, Err, refl, sym, ap, ◌∙◌, subst, arith, append-nil, append_assoc}
+use Rattle.std.proofs.Common.{◌≡◌, ℕ, ◌+◌, true, false, List, [], ◌∷◌, ◌++◌, length, nat_lt, Some, Ok, refl, sym, ap, ◌∙◌, subst, arith, append-nil, append_assoc}
 use Rattle.std.specs.Prelude.{◌^◌}
 use Rattle.xf_name.specs.declared.lit.Lit.{Lit}
 use Rattle.xf_ast.specs.declared.form.Instance.{Instance}
-use Rattle.xf_doc.specs.declared.fault.TreeFault.{TreeFault}
 use Rattle.xf_doc.specs.Changes.{in_detached, with_root}
-use Rattle.xf_doc.specs.Forest.{Forest, has_number}
-use Rattle.xf_doc.specs.Limits.{limits, passed_by_all}
+use Rattle.xf_doc.specs.Forest.{Forest}
+use Rattle.xf_doc.specs.Limits.{limits}
 use Rattle.xf_doc.specs.Plant.{contents_of}
 use Rattle.xf_doc.specs.Planted.{lit_fault, planted, with_tree}
 use Rattle.xf_doc.specs.WellFormed.{are_below}
@@ -16,11 +15,11 @@ use Rattle.xf_form_machine.specs.Construct as construct
 use Rattle.xf_form_machine.specs.Construct.{plant_document}
 use Rattle.xf_form_machine.specs.Flow.{◌>>=◌, in_turn}
 use Rattle.xf_form_machine.specs.Primitives.{grown}
-use Rattle.xf_form_machine.specs.Refusal.{Refused, if_over, unless_passed}
+use Rattle.xf_form_machine.specs.Refusal.{if_over, unless_passed}
 use Rattle.xf_form_machine.specs.State.{State}
 use Rattle.xf_loader.specs.Data.{lit_at}
 use Rattle.xf_loader.specs.declared.loaded.Loaded.{Loaded}
-use Rattle.xf_small_forest.specs.Documents.{AreDocuments, Document, all_rooted, rooted}
+use Rattle.xf_small_forest.specs.Documents.{Document, all_rooted, rooted}
 use Rattle.xf_small_world.specs.Planting.{ArePlanted, IsPlanted, growing}
 use Rattle.xf_small_world.specs.Formed.{contents_in, document_of, profile}
 use Rattle.xf_small_forest.proofs.GrowLaws.{IsGrown, grown-tree, rooted-tree, without-fault}
