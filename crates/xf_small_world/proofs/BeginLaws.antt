@@ -1,5 +1,5 @@
 -- How a small world begins: its data are planted in an empty forest, and nothing was computed of its models.
-use Rattle.std.proofs.Common.{◌≡◌, ℕ, List, [], ◌∷◌, map, length, replicate, refl, sym, ap, ◌∙◌, subst}
+use Rattle.std.proofs.Common.{◌≡◌, ℕ, List, [], ◌∷◌, map, length, replicate, refl, ap, subst}
 use Rattle.xf_ast.specs.declared.form.Instance.{Instance}
 use Rattle.xf_doc.specs.Forest.{Forest, empty}
 use Rattle.xf_doc.specs.Texts.{Keeping}

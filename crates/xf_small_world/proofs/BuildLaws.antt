@@ -1,9 +1,7 @@
 -- A form that a small world takes is constructed as soon as its data are planted: nothing is computed, there are no indexes and cases, and no
 -- control is shown.
-use Rattle.std.proofs.Common.{◌≡◌, ℕ, zero, suc, ◌+◌, true, false, List, [], ◌∷◌, ◌++◌, map, length, nat_lt, Option, Some, None, option_map, Result, Ok, Err, refl, sym, ap, ◌∙◌, arith}
+use Rattle.std.proofs.Common.{◌≡◌, ℕ, zero, suc, ◌+◌, true, false, List, [], ◌∷◌, map, length, nat_lt, Option, Some, None, Result, Ok, refl, sym, ap, ◌∙◌, arith}
 use Rattle.std.specs.Prelude.{◌^◌, slice_get}
-use Rattle.xf_ast.specs.declared.form.Instance.{Instance}
-use Rattle.xf_doc.specs.declared.node.NodeId.{NodeId}
 use Rattle.xf_doc.specs.Changes.{in_instances, root_of}
 use Rattle.xf_doc.specs.Forest.{Forest, empty}
 use Rattle.xf_doc.specs.Limits.{limits, passed_by_all}
@@ -13,23 +11,22 @@ use Rattle.xf_ui.specs.Index.{unset}
 use Rattle.xf_ui.specs.Rows.{held}
 use Rattle.xf_ui.specs.Started.{each_takes}
 use Rattle.xf_form_machine.specs.declared.note.Note.{Note}
-use Rattle.xf_form_machine.specs.Behave.{no_model, rebuild, rebuilt_with, recalculate, recalculated_with, revalidate, revalidated_with}
+use Rattle.xf_form_machine.specs.Behave.{no_model, rebuilt_with, recalculate, recalculated_with, revalidate, revalidated_with}
 use Rattle.xf_form_machine.specs.Construct as construct
 use Rattle.xf_form_machine.specs.Construct.{build_model, first_contents, first_shown, plant_document, start_indexes, unbuilt}
 use Rattle.xf_form_machine.specs.Cycles.{counted_from}
 use Rattle.xf_form_machine.specs.Flow.{◌>>=◌, in_turn}
-use Rattle.xf_form_machine.specs.Primitives.{changed_at, in_model, with_indexes}
+use Rattle.xf_form_machine.specs.Primitives.{changed_at, with_indexes}
 use Rattle.xf_form_machine.specs.Refusal.{Refused, or_long}
 use Rattle.xf_form_machine.specs.State as machine
 use Rattle.xf_form_machine.specs.State.{State}
 use Rattle.xf_form_machine.specs.Surround as surround
 use Rattle.xf_form_machine.specs.Surround.{interface, quiet}
-use Rattle.xf_form_machine.specs.Update.{reindex, shown}
+use Rattle.xf_form_machine.specs.Update.{reindex}
 use Rattle.xf_loader.specs.declared.loaded.Loaded.{Loaded}
 use Rattle.xf_small_world.specs.declared.model.ModelState.{ModelState}
 use Rattle.xf_small_world.specs.declared.tally.Tally.{Tally}
 use Rattle.xf_small_world.specs.Models.{models_of}
-use Rattle.xf_small_forest.specs.Documents.{Document, all_rooted}
 use Rattle.xf_small_world.specs.Planting.{ArePlanted, IsFirst, growing}
 use Rattle.xf_small_world.specs.Small.{is_small}
 use Rattle.xf_small_world.specs.Formed.{document_of, profile, program_in}

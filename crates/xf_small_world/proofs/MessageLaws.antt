@@ -1,8 +1,7 @@
 -- The text that is joined in the parts of an element is what the first gives, and then what the others give.
-use Rattle.std.proofs.Common.{◌≡◌, ℕ, zero, suc, ◌+◌, ◌<◌, Bool, List, [], ◌∷◌, ◌++◌, length, drop, get_or, Option, Some, None, option_map, Err, refl, sym, ap, ◌∙◌, append_assoc}
+use Rattle.std.proofs.Common.{◌≡◌, ℕ, zero, suc, ◌+◌, ◌<◌, List, [], ◌∷◌, ◌++◌, length, drop, get_or, Option, Some, None, option_map, Err, refl, sym, ap, ◌∙◌, append_assoc}
 use Rattle.std.specs.Prelude.{if◌then◌else◌}
 use Rattle.std.specs.List.{flat_map}
-use Rattle.std.proofs.lemmas.Grind.{flat_map-append}
 use Rattle.std.proofs.lemmas.List.{append-nil, drop_more}
 use Rattle.xf_ast.specs.declared.element.Part.{Part}
 use Rattle.xf_ast.specs.declared.element.Part.TheVariants as part
@@ -13,10 +12,10 @@ use Rattle.xf_lang.specs.Setting as option
 use Rattle.xf_ui.specs.Around.{Around}
 use Rattle.xf_ui.specs.Context.{Inside, context_in}
 use Rattle.xf_ui.specs.Elements.{element_at}
-use Rattle.xf_ui.specs.Interface.{Element, Interface, Sort, unbound, host, other, group, switch, one_case, repeated, field, output, select, item, itemset, choices, label, item_value, inline, action}
-use Rattle.xf_ui.specs.Labels.{Piece, joined_text, piece_of, piece_text, pieces, pieces_in, printed, printed_by, text_by, value_text, words}
+use Rattle.xf_ui.specs.Interface.{Interface, Sort, host, other, group, switch, one_case, repeated, field, output, select, item, itemset, choices, label, item_value, inline, action}
+use Rattle.xf_ui.specs.Labels.{Piece, piece_of, piece_text, pieces, pieces_in, printed, printed_by}
 use Rattle.xf_small_world.specs.Inner.{host_parts, is_host, own_text}
-use Rattle.xf_small_world.specs.Messages.{Joins, behind, joined, own_printed, printed_in, value_in}
+use Rattle.xf_small_world.specs.Messages.{Joins, behind, joined, own_printed, printed_in}
 
 abbrev flat : List (List ℕ) → List ℕ
 flat texts = flat_map (λ text. text) texts
@@ -164,31 +163,6 @@ behind-none-is before (Some t) e = cc e
 
 pub behind-end : (before : List ℕ) → behind before (Some []) ≡ Some before
 behind-end before = ap Some (append-nil before)
-
--- ---- an element without a binding
-
-abbrev pub by_value : Interface → Around → Inside → Element → Option Meaning → Option (List ℕ)
-by_value f a s e None = joined_text f a s e
-by_value f a s e (Some m) = value_text a (context_in f a s e) (Some m)
-
-pub unbound-text : (f : Interface) (a : Around) (s : Inside) (e : Element) (sort : Sort) → text_by f a s e unbound sort ≡ by_value f a s e (value_in sort)
-unbound-text f a s e host = refl
-unbound-text f a s e other = refl
-unbound-text f a s e group = refl
-unbound-text f a s e (switch k) = refl
-unbound-text f a s e (one_case b) = refl
-unbound-text f a s e (repeated k i) = refl
-unbound-text f a s e field = refl
-unbound-text f a s e (output x) = refl
-unbound-text f a s e (select x y) = refl
-unbound-text f a s e item = refl
-unbound-text f a s e itemset = refl
-unbound-text f a s e choices = refl
-unbound-text f a s e label = refl
-unbound-text f a s e (item_value None) = refl
-unbound-text f a s e (item_value (Some m)) = refl
-unbound-text f a s e (inline x) = refl
-unbound-text f a s e (action h) = refl
 
 -- where what a part gives is too long, so is the whole
 pub joins-whole : (e : EvalFault) (before after first new : List ℕ) (given whole : Option (List ℕ)) → (given ≡ None → whole ≡ None) → Joins {X = Unit {0}} (Err e) before after given

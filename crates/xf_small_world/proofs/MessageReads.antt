@@ -1,6 +1,5 @@
 -- A message is read over a small world as the machine reads it in its state, whatever rows are given.
-use Rattle.std.proofs.Common.{◌≡◌, ℕ, List, [], Option, Some, None, option_map, Result, Ok, refl, sym, ap, ◌∙◌}
-use Rattle.xf_ui.specs.Around.{Around}
+use Rattle.std.proofs.Common.{◌≡◌, ℕ, List, [], Option, Some, None, option_map, Result, refl, ap, ◌∙◌}
 use Rattle.xf_ui.specs.Context.{Inside, inside}
 use Rattle.xf_ui.specs.Elements.{element_at}
 use Rattle.xf_ui.specs.Interface.{Interface, interface_of}

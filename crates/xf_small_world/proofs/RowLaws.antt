@@ -1,5 +1,5 @@
 -- Where no element is a repeat, rows that are given go through to what stands inside, and no text depends on them.
-use Rattle.std.proofs.Common.{◌≡◌, ℕ, Bool, true, false, List, [], ◌∷◌, map, Option, Some, None, option_map, refl, sym, ap, ◌∙◌}
+use Rattle.std.proofs.Common.{◌≡◌, ℕ, false, List, [], ◌∷◌, Option, Some, None, option_map, refl, ap, ◌∙◌}
 use Rattle.std.specs.List.{flat_map}
 use Rattle.xf_lang.specs.Setting.{Meaning, each}
 use Rattle.xf_lang.specs.Setting as option

@@ -1,8 +1,7 @@
-use Rattle.std.proofs.Common.{◌≡◌, ◌++◌, ◌+◌, ◌-◌, suc, drop, None, sym, ap, ◌∙◌, arith}
+use Rattle.std.proofs.Common.{◌≡◌, ◌++◌, ◌-◌, suc, sym, ap, ◌∙◌, arith}
 use Rattle.std.proofs.lemmas.List.{drop_all}
 use Rattle.std.proofs.lemmas.Result.{err_from_is_err_and}
 use Rattle.xf_ui.specs.Interface.{interface_of}
-use Rattle.xf_small_world.specs.Inner.{host_parts, own_text}
 use Rattle.xf_small_world.specs.Inside.{seen_inside}
 use Rattle.xf_small_world.specs.Messages.{behind, joined}
 use Rattle.xf_small_world.specs.Over.{around_over}

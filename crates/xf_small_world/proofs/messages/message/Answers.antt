@@ -1,4 +1,4 @@
-use Rattle.std.proofs.Common.{[], ◌≡◌, None, Ok, Some, sym, ap, ◌∙◌, subst, ◌⊎◌}
+use Rattle.std.proofs.Common.{[], ◌≡◌, None, Some, sym, ap, ◌∙◌, subst, ◌⊎◌}
 use Rattle.xf_lang.specs.declared.fault.EvalFault.TheVariants.{Long, Memory}
 use Rattle.xf_loader.specs.declared.loaded.Loaded.{Loaded}
 use Rattle.xf_ui.specs.Context.{inside}
