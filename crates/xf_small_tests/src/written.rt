@@ -20,93 +20,80 @@ const DATA: &str = r#"["f",{"xmlns:xf":"http://www.w3.org/2002/xforms"},
 const MODEL: u32 = 1;
 
 /// What an element is, each expression as its text.
-enum Row<'a> {
+#[derive(Clone, Copy)]
+enum Row {
     /// An action with its `while` and its `if`, and the event that calls it.
-    Block(&'a str, &'a str, &'a str),
+    Block(&'static str, &'static str, &'static str),
     /// The `value`.
-    Sets(&'a str),
+    Sets(&'static str),
     /// The event that calls it.
-    Says(&'a str),
+    Says(&'static str),
     /// The `value`.
-    Prints(&'a str),
+    Prints(&'static str),
     /// The `context`, the `origin` and the `at`.
-    Inserts(&'a str, &'a str, &'a str),
+    Inserts(&'static str, &'static str, &'static str),
     /// The `at`.
-    Deletes(&'a str),
+    Deletes(&'static str),
     /// The event.
-    Tells(&'a str),
+    Tells(&'static str),
 }
 
-/// On `go` a handler adds to `n` as long as that is less than 2, and says so. The second time it inserts a row, which it tells, gives the last row
-/// the attribute of the first, deletes the first, and tells it again.
-pub fn world_of<R: AllocGlobal + Abort>(rt: &R) -> Result<SmallWorld, Fail> {
-    let alloc = rt.alloc();
-    let mut loaded = match load(alloc, DATA.as_bytes()) {
-        Ok(loaded) => loaded,
-        Err(fault) => panic!(rt; "the data are refused: {fault:?}"),
-    };
-    add(
-        rt,
-        &mut loaded,
-        1,
-        "",
-        "",
-        &[4, 5, 7],
-        Row::Block("n < 2", "", "go"),
-    )?;
-    add(rt, &mut loaded, 3, "n", "", &[], Row::Sets(". + 1"))?;
-    add(rt, &mut loaded, 3, "", "n is ", &[6], Row::Says(""))?;
-    add(rt, &mut loaded, 5, "n", "", &[], Row::Prints(""))?;
-    add(
-        rt,
-        &mut loaded,
-        3,
-        "",
-        "",
-        &[8, 9, 10, 11, 12],
-        Row::Block("", "n = 2", ""),
-    )?;
-    add(
-        rt,
-        &mut loaded,
-        7,
-        "row",
-        "",
-        &[],
-        Row::Inserts("", "", "1"),
-    )?;
-    add(rt, &mut loaded, 7, "", "", &[], Row::Tells("told"))?;
-    add(
-        rt,
-        &mut loaded,
+/// Where an element stands, what it binds, its text, the elements in it, and what it is.
+#[derive(Clone, Copy)]
+struct Entry(u32, &'static str, &'static str, &'static [u32], Row);
+
+/// The elements from number 3 on. On `go` a handler adds to `n` as long as that is less than 2, and says so. The second time it inserts a row, which
+/// it tells, gives the last row the attribute of the first, deletes the first, and tells it again.
+static ENTRIES: [Entry; 12] = [
+    Entry(1, "", "", &[4, 5, 7], Row::Block("n < 2", "", "go")),
+    Entry(3, "n", "", &[], Row::Sets(". + 1")),
+    Entry(3, "", "n is ", &[6], Row::Says("")),
+    Entry(5, "n", "", &[], Row::Prints("")),
+    Entry(3, "", "", &[8, 9, 10, 11, 12], Row::Block("", "n = 2", "")),
+    Entry(7, "row", "", &[], Row::Inserts("", "", "1")),
+    Entry(7, "", "", &[], Row::Tells("told")),
+    Entry(
         7,
         "@at",
         "",
         &[],
         Row::Inserts("row[3]", "../row[1]/@at", ""),
-    )?;
-    add(rt, &mut loaded, 7, "row", "", &[], Row::Deletes("1"))?;
-    add(rt, &mut loaded, 7, "", "", &[], Row::Tells("told"))?;
-    add(rt, &mut loaded, 1, "", "", &[14], Row::Says("told"))?;
-    let all = "concat(n, ': ', count(row), row[1], row[2], row[3], count(row/@at))";
-    add(rt, &mut loaded, 13, "", "", &[], Row::Prints(all))?;
-    match begun(alloc, loaded) {
+    ),
+    Entry(7, "row", "", &[], Row::Deletes("1")),
+    Entry(7, "", "", &[], Row::Tells("told")),
+    Entry(1, "", "", &[14], Row::Says("told")),
+    Entry(
+        13,
+        "",
+        "",
+        &[],
+        Row::Prints("concat(n, ': ', count(row), row[1], row[2], row[3], count(row/@at))"),
+    ),
+];
+
+/// The world of a form with these elements.
+pub fn world_of<R: AllocGlobal + Abort>(rt: &R) -> Result<SmallWorld, Fail> {
+    match begun(rt.alloc(), loaded_of(rt)?) {
         Ok(Some(world)) => Ok(world),
         Ok(None) => panic!(rt; "the form is no small one"),
         Err(_) => panic!(rt; "the form does not begin"),
     }
 }
 
-/// An element behind the others: where it stands, what it binds, its text, and the elements in it.
-fn add<R: AllocGlobal + Abort>(
-    rt: &R,
-    loaded: &mut Loaded,
-    parent: u32,
-    binding: &str,
-    text: &str,
-    children: &[u32],
-    row: Row<'_>,
-) -> Result<(), Fail> {
+fn loaded_of<R: AllocGlobal + Abort>(rt: &R) -> Result<Loaded, Fail> {
+    let mut loaded = match load(rt.alloc(), DATA.as_bytes()) {
+        Ok(loaded) => loaded,
+        Err(fault) => panic!(rt; "the data are refused: {fault:?}"),
+    };
+    for entry in ENTRIES.iter() {
+        add(rt, &mut loaded, *entry)?;
+    }
+    Ok(loaded)
+}
+
+/// An element behind the others.
+fn add<R: AllocGlobal + Abort>(rt: &R, loaded: &mut Loaded, entry: Entry) -> Result<(), Fail> {
+    let Entry(parent, binding, text, children, row) = entry;
     let alloc = rt.alloc();
     let bound = match expr(rt, &loaded.prefixes, binding) {
         Some(expr) => Binding::Nodes(expr),
@@ -135,11 +122,7 @@ fn parts_of(alloc: Global, text: &str, children: &[u32]) -> Result<PartList, Fai
     Ok(parts)
 }
 
-fn kind_of<R: AllocGlobal + Abort>(
-    rt: &R,
-    prefixes: &Prefixes,
-    row: Row<'_>,
-) -> Result<Kind, Fail> {
+fn kind_of<R: AllocGlobal + Abort>(rt: &R, prefixes: &Prefixes, row: Row) -> Result<Kind, Fail> {
     let alloc = rt.alloc();
     let (event, repetition, condition, work) = match row {
         Row::Block(repetition, condition, event) => (event, repetition, condition, Work::Action),
