@@ -1,5 +1,5 @@
 -- The parts of an expression are less deep than the whole.
-use Rattle.std.proofs.Common.{◌≡◌, ◌<◌, List, rules}
+use Rattle.std.proofs.Common.{◌≡◌, ◌<◌, List, [], ◌∷◌, rules}
 use denote.Param.Weighed.{most}
 use Rattle.xf_ast.specs.declared.expr.Expr.{Expr, size-Expr, the_lemmas}
 use Rattle.xf_ast.specs.declared.expr.Expr.TheVariants.{Chain, Filter, From}
@@ -14,3 +14,6 @@ filter-falls e first predicates ps h i = search (rules, the_lemmas)
 
 pub from-falls : (e first : Expr) (steps ss : List Step) → e ≡ From first steps → ss ≡ steps → most size-Step ss < size-Expr e
 from-falls e first steps ss h i = search (rules, the_lemmas)
+
+pub only-falls : (e first : Expr) (links ls : List Link) (l : Link) → e ≡ Chain first links → ls ≡ links → ls ≡ l ∷ [] → size-Link l < size-Expr e
+only-falls e first links ls l h i j = search (rules, the_lemmas)

@@ -6,8 +6,10 @@ use Rattle.xf_doc.specs.declared.node.NodeId.{NodeId}
 use Rattle.xf_doc.specs.Forest.{has_number}
 use Rattle.xf_doc.specs.Visit.{visits}
 use Rattle.xf_lang.specs.declared.value.Value.{Value}
+use Rattle.xf_lang.specs.declared.value.Value.TheVariants.{Nodes, Text, Number, Truth}
+use Rattle.xf_eval.specs.First.{counted, first_alone}
 use Rattle.xf_lang.specs.Setting.{Meaning, Setting, each, in_order, joined}
-use Rattle.xf_lang.specs.Steps.{is_true_at, kept_from}
+use Rattle.xf_lang.specs.Steps.{is_true_at, kept_by_all, kept_from}
 use Rattle.xf_eval.specs.Live.{AllLive}
 use Rattle.xf_eval.specs.Worth.{seen}
 use Rattle.xf_eval.proofs.Erased.{in_order-erased}
@@ -22,10 +24,26 @@ get-is [] at n e = cc
 get-is (m ∷ ns) zero n e = cc e
 get-is (m ∷ ns) (suc at) n e = get-is ns at n e
 
+-- whether a predicate keeps a node depends on the first node alone
+true-first : (d p : ℕ) (v : Value) → is_true_at d p (first_alone v) ≡ is_true_at d p v
+true-first d p (Nodes []) = refl
+true-first d p (Nodes (n ∷ ns)) = refl
+true-first d p (Text text) = refl
+true-first d p (Number k) = refl
+true-first d p (Truth b) = refl
+
+true-alike : (d p : ℕ) (v w : Value) → first_alone v ≡ first_alone w → is_true_at d p v ≡ is_true_at d p w
+true-alike d p v w e = sym (true-first d p v) ∙ ap (is_true_at d p) e ∙ true-first d p w
+
 -- ---- predicates
 
 abbrev left : Setting → Meaning → ℕ → ℕ → List ℕ → List ℕ → Option (List ℕ)
 left s m size position kept ns = onto kept (kept_from s m size position ns)
+
+-- of no nodes none is kept
+pub none-kept : (s : Setting) (ms : List Meaning) → kept_by_all s ms [] ≡ Some []
+none-kept s [] = refl
+none-kept s (m ∷ ms) = none-kept s ms
 
 -- at a node where the predicate is too long
 pub kept-long : (s : Setting) (m : Meaning) (size at n : ℕ) (kept ns : List ℕ) → left s m size (suc at) kept (drop at ns) ≡ kept_from s m size 1 ns → at < length ns → slice_get ns at ≡ Some n →
@@ -48,6 +66,18 @@ kept-next s m size at n kept ns v b inv l g h t =
     ∙ ap (λ t'. left s m size (suc (suc at)) (added kept n t') (drop (at + 1) ns)) (sym truth)
     ∙ ap (λ k. left s m size (suc (suc at)) (added kept k (is_true_at s.given.decimals (suc at) v)) (drop (at + 1) ns)) (sym (get-is ns at n g))
     ∙ sym step ∙ inv
+
+-- at a node where it has a value of which the first node counts
+pub kept-counted : (s : Setting) (m : Meaning) (size at n : ℕ) (kept ns : List ℕ) (v : Value) (b : Bool) → left s m size (suc at) kept (drop at ns) ≡ kept_from s m size 1 ns → at < length ns →
+    slice_get ns at ≡ Some n → option_map (counted true) (m s (record { node = n; position = at + 1; size = size })) ≡ Some (counted true v) → is_true_at s.given.decimals (at + 1) v ≡ b →
+    left s m size (suc (at + 1)) (added kept n b) (drop (at + 1) ns) ≡ kept_from s m size 1 ns
+kept-counted s m size at n kept ns v b inv l g h t = by (m s (record { node = n; position = at + 1; size = size })) refl h
+  where
+    by : (x : Option Value) → m s (record { node = n; position = at + 1; size = size }) ≡ x → option_map (counted true) x ≡ Some (counted true v) → left s m size (suc (at + 1)) (added kept n b) (drop (at + 1) ns) ≡ kept_from s m size 1 ns
+    by None e i = cc i
+    by (Some w) e i =
+        let alike : first_alone w ≡ first_alone v = cc i in
+        kept-next s m size at n kept ns w b inv l g e (true-alike s.given.decimals (at + 1) w v alike ∙ t)
 
 pub live-added : (kept : List ℕ) (n : ℕ) (b : Bool) (nodes : List Node) → AllLive kept nodes → has_number n nodes ≡ true → AllLive (added kept n b) nodes
 live-added kept n true nodes h k = live-append kept (n ∷ []) nodes h (live-one n nodes k)

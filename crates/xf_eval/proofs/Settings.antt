@@ -43,7 +43,7 @@ pairs-same given nodes context o a b =
     ap (λ m. m >>= λ lefts. plains_of (setting_at given nodes context) b >>= λ rights. Some (some_pair (holds 6 o) lefts rights)) (plains-same given nodes context a)
     ∙ ap (λ m. plains_of (setting_in nodes) a >>= λ lefts. m >>= λ rights. Some (some_pair (holds 6 o) lefts rights)) (plains-same given nodes context b)
 
-compared-same : (given : Given) (nodes : List Node) (context : Context) (o : Operator) (a b : Value) → compared (setting_at given nodes context) o a b ≡ compared (setting_in nodes) o a b
+pub compared-same : (given : Given) (nodes : List Node) (context : Context) (o : Operator) (a b : Value) → compared (setting_at given nodes context) o a b ≡ compared (setting_in nodes) o a b
 compared-same given nodes context o (Nodes ns) (Nodes ms) = pairs-same given nodes context o (Nodes ns) (Nodes ms)
 compared-same given nodes context o (Nodes ns) (Text text) = pairs-same given nodes context o (Nodes ns) (Text text)
 compared-same given nodes context o (Nodes ns) (Number k) = pairs-same given nodes context o (Nodes ns) (Number k)

@@ -8,10 +8,11 @@ use Rattle.xf_plain_values.specs.declared.plain.Plain.TheVariants as plain
 use Rattle.xf_lang.specs.declared.value.Value.{Value}
 use Rattle.xf_lang.specs.declared.value.Value.TheVariants.{Nodes, Text, Number, Truth}
 use Rattle.xf_lang.specs.Setting.{◌>>=◌}
-use Rattle.xf_lang.specs.Conversions.{strings_of}
+use Rattle.xf_lang.specs.Conversions.{strings_of, value_of_plain}
 use Rattle.xf_lang.specs.Comparisons.{compared, holds, pairs_hold, plains_of, some_pair}
 use Rattle.xf_eval.specs.declared.compare.Side.{Side}
-use Rattle.xf_eval.specs.Sides.{holds_for_some, pairs_beside, plain_on, plain_or_truth, some_beside}
+use Rattle.xf_eval.specs.declared.compare.Side.TheVariants as side
+use Rattle.xf_eval.specs.Sides.{holds_for_some, plain_on, some_beside}
 use Rattle.xf_eval.specs.Worth.{setting_in}
 
 any-map : {X Y : Type 0} (p : Y → Bool) (f : X → Y) (xs : List X) → list_any p (map f xs) ≡ list_any (λ x. p (f x)) xs
@@ -81,22 +82,41 @@ pairs-right o lefts (t ∷ ts) =
     ∙ ap (λ b. b || some_pair (holds 6 o) (map plain_on lefts) (map plain.Text ts)) (one-right o lefts (plain.Text t))
     ∙ ap (λ b. holds_for_some o false lefts (plain.Text t) || b) (pairs-right o lefts ts)
 
-pub set-right : (nodes : List Node) (o : Operator) (lefts : List Side) (right : Value) (ns : List ℕ) → right ≡ Nodes ns →
-    option_map (some_beside o false lefts) (strings_of (setting_in nodes) ns) ≡ pairs_beside o (setting_in nodes) (map plain_on lefts) right
-set-right nodes o lefts right ns e = by (strings_of (setting_in nodes) ns) ∙ ap (pairs_beside o (setting_in nodes) (map plain_on lefts)) (sym e)
+pub set-right : (nodes : List Node) (o : Operator) (lefts : List Side) (left : Value) (ns : List ℕ) → plains_of (setting_in nodes) left ≡ Some (map plain_on lefts) →
+    option_map (some_beside o false lefts) (strings_of (setting_in nodes) ns) ≡ pairs_hold (setting_in nodes) o left (Nodes ns)
+set-right nodes o lefts left ns h =
+    by (strings_of (setting_in nodes) ns) ∙ sym (ap (λ m. m >>= λ ls. plains_of (setting_in nodes) (Nodes ns) >>= λ rights. Some (some_pair (holds 6 o) ls rights)) h)
   where
     by : (m : Option (List (List ℕ))) → option_map (some_beside o false lefts) m ≡ (option_map (map plain.Text) m >>= λ rights. Some (some_pair (holds 6 o) (map plain_on lefts) rights))
     by None = refl
     by (Some texts) = ap Some (sym (pairs-right o lefts texts))
 
--- plain values on both sides
-pub plain-right : (nodes : List Node) (o : Operator) (lefts : List Side) (right : Value) (p : Plain) → plains_of (setting_in nodes) right ≡ Some (p ∷ []) →
-    pairs_beside o (setting_in nodes) (map plain_on lefts) right ≡ Some (holds_for_some o false lefts p)
-plain-right nodes o lefts right p h = ap (λ m. m >>= λ rights. Some (some_pair (holds 6 o) (map plain_on lefts) rights)) h ∙ ap Some (one-right o lefts p)
+-- ---- plain values on both sides
 
--- a truth on the left
-pub truth-left : (nodes : List Node) (o : Operator) (b : Bool) (right : Value) → compared (setting_in nodes) o (Truth b) right ≡ Some (holds 6 o (plain.Truth b) (plain_or_truth right))
-truth-left nodes o b (Nodes ns) = refl
-truth-left nodes o b (Text text) = ap Some (or-none (holds 6 o (plain.Truth b) (plain.Text text) || false) ∙ or-none (holds 6 o (plain.Truth b) (plain.Text text)))
-truth-left nodes o b (Number k) = ap Some (or-none (holds 6 o (plain.Truth b) (plain.Number k) || false) ∙ or-none (holds 6 o (plain.Truth b) (plain.Number k)))
-truth-left nodes o b (Truth c) = ap Some (or-none (holds 6 o (plain.Truth b) (plain.Truth c) || false) ∙ or-none (holds 6 o (plain.Truth b) (plain.Truth c)))
+one-one : (o : Operator) (left right : Plain) → Some (some_pair (holds 6 o) (left ∷ []) (right ∷ [])) ≡ Some (holds 6 o left right)
+one-one o left right = ap Some (or-none (holds 6 o left right || false) ∙ or-none (holds 6 o left right))
+
+pub plain-plain : (nodes : List Node) (o : Operator) (left right : Plain) → compared (setting_in nodes) o (value_of_plain left) (value_of_plain right) ≡ Some (holds 6 o left right)
+plain-plain nodes o (plain.Text t) (plain.Text u) = one-one o (plain.Text t) (plain.Text u)
+plain-plain nodes o (plain.Text t) (plain.Number k) = one-one o (plain.Text t) (plain.Number k)
+plain-plain nodes o (plain.Text t) (plain.Truth b) = one-one o (plain.Text t) (plain.Truth b)
+plain-plain nodes o (plain.Number j) (plain.Text u) = one-one o (plain.Number j) (plain.Text u)
+plain-plain nodes o (plain.Number j) (plain.Number k) = one-one o (plain.Number j) (plain.Number k)
+plain-plain nodes o (plain.Number j) (plain.Truth b) = one-one o (plain.Number j) (plain.Truth b)
+plain-plain nodes o (plain.Truth a) (plain.Text u) = one-one o (plain.Truth a) (plain.Text u)
+plain-plain nodes o (plain.Truth a) (plain.Number k) = one-one o (plain.Truth a) (plain.Number k)
+plain-plain nodes o (plain.Truth a) (plain.Truth b) = one-one o (plain.Truth a) (plain.Truth b)
+
+-- ---- a set beside a side that is no truth
+
+pub side-right : (nodes : List Node) (o : Operator) (ns : List ℕ) (right : Side) → ((b : Bool) → right ≡ side.Truth b → ⊥) →
+    option_map (some_beside o true (right ∷ [])) (strings_of (setting_in nodes) ns) ≡ compared (setting_in nodes) o (Nodes ns) (value_of_plain (plain_on right))
+side-right nodes o ns (side.Text text) h = set-left nodes o ns (value_of_plain (plain_on (side.Text text))) (side.Text text ∷ []) refl
+side-right nodes o ns (side.Number k) h = set-left nodes o ns (Number k) (side.Number k ∷ []) refl
+side-right nodes o ns (side.Truth b) h = absurd (h b refl)
+
+pub side-left : (nodes : List Node) (o : Operator) (ns : List ℕ) (left : Side) → ((b : Bool) → left ≡ side.Truth b → ⊥) →
+    option_map (some_beside o false (left ∷ [])) (strings_of (setting_in nodes) ns) ≡ compared (setting_in nodes) o (value_of_plain (plain_on left)) (Nodes ns)
+side-left nodes o ns (side.Text text) h = set-right nodes o (side.Text text ∷ []) (value_of_plain (plain_on (side.Text text))) ns refl
+side-left nodes o ns (side.Number k) h = set-right nodes o (side.Number k ∷ []) (Number k) ns refl
+side-left nodes o ns (side.Truth b) h = absurd (h b refl)

@@ -1,8 +1,8 @@
 -- An operator whose sides are both evaluated, `or` and `and` among them where the left side did not decide (XPath 1.0, sections 3.3 to 3.5).
-use Rattle.std.specs.Prelude.{Bool, false, not, Option, Some}
+use Rattle.std.specs.Prelude.{Bool, true, false, not, Option, Some}
 use Rattle.xf_num.specs.Number.{sum, difference, product, quotient, remainder}
 use Rattle.xf_ast.specs.declared.expr.Operator.{Operator}
-use Rattle.xf_ast.specs.declared.expr.Operator.TheVariants.{Or, And, Add, Subtract, Multiply, Divide}
+use Rattle.xf_ast.specs.declared.expr.Operator.TheVariants.{Or, And, Add, Subtract, Multiply, Divide, Equal, NotEqual, Less, LessOrEqual, Greater, GreaterOrEqual}
 use Rattle.xf_lang.specs.declared.value.Value.{Value}
 use Rattle.xf_lang.specs.declared.value.Value.TheVariants.{Truth}
 use Rattle.xf_lang.specs.Setting.{Setting}
@@ -20,6 +20,16 @@ abbrev pub answered : Operator → Setting → Value → Value → Option Value
 answered Or s left right = Some (Truth (truth_of right))
 answered And s left right = Some (Truth (truth_of right))
 answered operator s left right = combined operator s left right
+
+-- the operator compares (section 3.4)
+abbrev pub compares : Operator → Bool
+compares Equal = true
+compares NotEqual = true
+compares Less = true
+compares LessOrEqual = true
+compares Greater = true
+compares GreaterOrEqual = true
+compares other = false
 
 -- of six decimals
 abbrev pub arithmetic : Operator → Decimal → Decimal → Decimal

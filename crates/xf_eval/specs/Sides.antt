@@ -9,6 +9,9 @@ use Rattle.xf_lang.specs.declared.value.Value.TheVariants as value
 use Rattle.xf_lang.specs.Setting.{Setting, ◌>>=◌}
 use Rattle.xf_lang.specs.Conversions.{is_filled}
 use Rattle.xf_lang.specs.Comparisons.{holds, plains_of, some_pair}
+use Rattle.xf_lang.specs.Conversions.{value_of_plain}
+use Rattle.xf_eval.specs.declared.compare.Operand.{Operand}
+use Rattle.xf_eval.specs.declared.compare.Operand.TheVariants as operand
 use Rattle.xf_eval.specs.declared.compare.Side.{Side}
 use Rattle.xf_eval.specs.declared.compare.Side.TheVariants.{Text, Number, Truth}
 use Rattle.xf_eval.specs.Texts.{characters}
@@ -28,13 +31,7 @@ holds_for_some operator false others one = list_any (λ other. holds 6 operator 
 abbrev pub some_beside : Operator → Bool → List Side → List (List ℕ) → Bool
 some_beside operator is_left others texts = list_any (λ text. holds_for_some operator is_left others (plain.Text text)) texts
 
--- it does for some of these on the left, and a value on the right
-abbrev pub pairs_beside : Operator → Setting → List Plain → Value → Option Bool
-pairs_beside operator s lefts right = plains_of s right >>= λ rights. Some (some_pair (holds 6 operator) lefts rights)
-
--- beside a truth a set counts as a truth
-abbrev pub plain_or_truth : Value → Plain
-plain_or_truth (value.Nodes ns) = plain.Truth (is_filled ns)
-plain_or_truth (value.Text text) = plain.Text text
-plain_or_truth (value.Number k) = plain.Number k
-plain_or_truth (value.Truth b) = plain.Truth b
+-- the value on one side
+abbrev pub value_in : Operand → Value
+value_in (operand.Nodes ns) = value.Nodes ns
+value_in (operand.Plain side) = value_of_plain (plain_on side)

@@ -6,16 +6,17 @@ ghost use Rattle.xf_plain_values.specs.Bounded.{GivesBounded};
 ghost use Rattle.xf_plain_values.specs.Conversions.{number_in, truth_in};
 ghost use Rattle.xf_plain_values.specs.declared.plain.Plain.TheVariants as plain;
 ghost use Rattle.xf_lang.specs.declared.value.Value.TheVariants.{Nodes};
-ghost use Rattle.xf_lang.specs.Conversions.{nodes_of, strings_of};
+ghost use Rattle.xf_lang.specs.Conversions.{nodes_of, strings_of, value_of_plain};
 ghost use Rattle.xf_lang.specs.Comparisons.{are_equal, compared, holds, order_in};
 ghost use Rattle.xf_eval.specs.Live.{AllLive};
-ghost use Rattle.xf_eval.specs.Sides.{holds_for_some, pairs_beside, plain_on, plain_or_truth, some_beside};
+ghost use Rattle.xf_eval.specs.Sides.{holds_for_some, plain_on, some_beside, value_in};
 ghost use Rattle.xf_eval.specs.Worth.{setting_in};
 
 use crate::convert::{is_not_zero, number_of_truth};
 use crate::texts::{StringValue, value_of_node};
 use std::alloc::Global;
 use std::cmp::Ordering;
+use std::slice;
 use xf_ast::Operator;
 use xf_doc::NodeList;
 use xf_lang::{EvalFault, Value};
@@ -30,30 +31,58 @@ pub(crate) enum Side<'a> {
     Truth(bool),
 }
 
+/// One side of a comparison as it was evaluated: nodes, or a plain value.
+#[derive(Drop)]
+pub(crate) enum Operand<'a> {
+    Nodes(NodeList),
+    Plain(Side<'a>),
+}
+
+/// A value as one side of a comparison.
+pub(crate) fn operand_of<'a>(value: Value) -> Operand<'a>
+    ensures { value_in result ≡ value }
+{
+    match value {
+        Value::Nodes(nodes) => Operand::Nodes(nodes),
+        Value::Text(text) => Operand::Plain(Side::Text(StringValue::Made(text))),
+        Value::Number(number) => Operand::Plain(Side::Number(number)),
+        Value::Truth(truth) => Operand::Plain(Side::Truth(truth)),
+    }
+}
+
 /// Whether some pair is as the operator says; beside a truth a set counts as a truth.
 pub(crate) fn compared(
     alloc: Global,
     forest: &Forest,
     operator: Operator,
-    left: &Value,
-    right: &Value,
+    left: &Operand<'_>,
+    right: &Operand<'_>,
 ) -> Result<bool, EvalFault>
-    requires left { AllLive (nodes_of left.now) forest.now.forest.nodes }
-    requires right { AllLive (nodes_of right.now) forest.now.forest.nodes }
-    ensures { GivesBounded EvalFault.Memory EvalFault.Long (λ truth. truth) result (compared (setting_in forest.now.forest.nodes) operator left.now right.now) }
+    requires left { AllLive (nodes_of (value_in left.now)) forest.now.forest.nodes }
+    requires right { AllLive (nodes_of (value_in right.now)) forest.now.forest.nodes }
+    ensures { GivesBounded EvalFault.Memory EvalFault.Long (λ truth. truth) result (compared (setting_in forest.now.forest.nodes) operator (value_in left.now) (value_in right.now)) }
 {
     match left {
-        Value::Nodes(nodes) => set_beside(alloc, forest, operator, nodes, right),
-        Value::Text(text) => {
-            let sides = [Side::Text(StringValue::Lent(text.as_str()))];
-            plain_beside(alloc, forest, operator, &sides, right)
-        }
-        Value::Number(number) => {
-            let sides = [Side::Number(*number)];
-            plain_beside(alloc, forest, operator, &sides, right)
-        }
-        Value::Truth(truth) => Ok(truth_beside(operator, *truth, right)),
+        Operand::Nodes(nodes) => set_beside(alloc, forest, operator, nodes, right),
+        Operand::Plain(side) => plain_beside(alloc, forest, operator, side, right),
     }
+}
+
+/// The same of two values.
+pub(crate) fn compared_values(
+    alloc: Global,
+    forest: &Forest,
+    operator: Operator,
+    left: Value,
+    right: Value,
+) -> Result<bool, EvalFault>
+    requires left { AllLive (nodes_of left) forest.now.forest.nodes }
+    requires right { AllLive (nodes_of right) forest.now.forest.nodes }
+    ensures { GivesBounded EvalFault.Memory EvalFault.Long (λ truth. truth) result (compared (setting_in forest.now.forest.nodes) operator left right) }
+{
+    let one = operand_of(left);
+    let other = operand_of(right);
+    compared(alloc, forest, operator, &one, &other)
 }
 
 /// A set on the left.
@@ -62,73 +91,41 @@ fn set_beside(
     forest: &Forest,
     operator: Operator,
     nodes: &NodeList,
-    right: &Value,
+    right: &Operand<'_>,
 ) -> Result<bool, EvalFault>
     requires left { AllLive nodes.now forest.now.forest.nodes }
-    requires right { AllLive (nodes_of right.now) forest.now.forest.nodes }
-    ensures { GivesBounded EvalFault.Memory EvalFault.Long (λ truth. truth) result (compared (setting_in forest.now.forest.nodes) operator (Nodes nodes.now) right.now) }
+    requires right { AllLive (nodes_of (value_in right.now)) forest.now.forest.nodes }
+    ensures { GivesBounded EvalFault.Memory EvalFault.Long (λ truth. truth) result (compared (setting_in forest.now.forest.nodes) operator (Nodes nodes.now) (value_in right.now)) }
 {
     match right {
-        Value::Nodes(others) => {
+        Operand::Nodes(others) => {
             let sides = sides_of(alloc, forest, others)?;
             some_beside(alloc, forest, operator, true, nodes, sides.as_slice())
         }
-        Value::Text(text) => {
-            let sides = [Side::Text(StringValue::Lent(text.as_str()))];
-            some_beside(alloc, forest, operator, true, nodes, &sides)
-        }
-        Value::Number(number) => {
-            let sides = [Side::Number(*number)];
-            some_beside(alloc, forest, operator, true, nodes, &sides)
-        }
-        Value::Truth(truth) => Ok(holds(
-            operator,
-            &Side::Truth(!nodes.is_empty()),
-            &Side::Truth(*truth),
-        )),
+        Operand::Plain(side) => match side {
+            Side::Truth(_) => Ok(holds(operator, &Side::Truth(!nodes.is_empty()), side)),
+            _ => some_beside(alloc, forest, operator, true, nodes, slice::from_ref(side)),
+        },
     }
 }
 
-/// A text or a number on the left, which stands alone among the sides.
+/// A plain value on the left.
 fn plain_beside(
     alloc: Global,
     forest: &Forest,
     operator: Operator,
-    lefts: &[Side<'_>],
-    right: &Value,
+    left: &Side<'_>,
+    right: &Operand<'_>,
 ) -> Result<bool, EvalFault>
-    requires { AllLive (nodes_of right.now) forest.now.forest.nodes }
-    ensures { GivesBounded EvalFault.Memory EvalFault.Long (λ truth. truth) result (pairs_beside operator (setting_in forest.now.forest.nodes) (map plain_on lefts.now) right.now) }
+    requires { AllLive (nodes_of (value_in right.now)) forest.now.forest.nodes }
+    ensures { GivesBounded EvalFault.Memory EvalFault.Long (λ truth. truth) result (compared (setting_in forest.now.forest.nodes) operator (value_of_plain (plain_on left.now)) (value_in right.now)) }
 {
     match right {
-        Value::Nodes(nodes) => some_beside(alloc, forest, operator, false, nodes, lefts),
-        Value::Text(text) => {
-            let side = Side::Text(StringValue::Lent(text.as_str()));
-            Ok(holds_for_some(operator, false, &side, lefts))
-        }
-        Value::Number(number) => {
-            Ok(holds_for_some(operator, false, &Side::Number(*number), lefts))
-        }
-        Value::Truth(truth) => Ok(holds_for_some(operator, false, &Side::Truth(*truth), lefts)),
-    }
-}
-
-/// A truth on the left.
-fn truth_beside(operator: Operator, left: bool, right: &Value) -> bool
-    ensures { result ≡ holds 6 operator (plain.Truth left) (plain_or_truth right.now) }
-{
-    let side = Side::Truth(left);
-    match right {
-        Value::Nodes(nodes) => holds(operator, &side, &Side::Truth(!nodes.is_empty())),
-        Value::Text(text) => {
-            holds(
-                operator,
-                &side,
-                &Side::Text(StringValue::Lent(text.as_str())),
-            )
-        }
-        Value::Number(number) => holds(operator, &side, &Side::Number(*number)),
-        Value::Truth(truth) => holds(operator, &side, &Side::Truth(*truth)),
+        Operand::Plain(side) => Ok(holds(operator, left, side)),
+        Operand::Nodes(nodes) => match left {
+            Side::Truth(_) => Ok(holds(operator, left, &Side::Truth(!nodes.is_empty()))),
+            _ => some_beside(alloc, forest, operator, false, nodes, slice::from_ref(left)),
+        },
     }
 }
 

@@ -15,9 +15,10 @@ use crate::calls::call_value;
 use crate::convert::{kept_text, number_of};
 use crate::first::{asked_at, leads};
 use crate::kinds::kind_of;
+use crate::operand::{compared_with, comparison, operand_at};
 use crate::operators::chained;
 use crate::sets::nodes_in;
-use crate::steps::{begun, kept_by_all, walked};
+use crate::steps::{begun, kept_by_all, walked, walked_from};
 use std::alloc::Global;
 use std::sync::ledger::Ledger;
 use xf_ast::Expr;
@@ -70,6 +71,10 @@ pub fn value_at<A: Around>(
         }
         Expr::Chain(first, links) => {
             let behind = links.as_slice();
+            if let Some(link) = comparison(behind) {
+                let left = operand_at(alloc, forest, around, first.get(), context)?;
+                return compared_with(alloc, forest, around, &left, link, context);
+            }
             let is_converted = leads(behind);
             let start = first.get();
             let left = asked_at(alloc, forest, around, is_converted, start, context)?;
@@ -83,8 +88,8 @@ pub fn value_at<A: Around>(
             Ok(Value::Nodes(kept))
         }
         Expr::Path(_, start, steps) => {
-            let from = begun(alloc, forest, *start, context)?;
-            let nodes = walked(alloc, forest, around, steps.as_slice(), from, context)?;
+            let from = begun(forest, *start, context);
+            let nodes = walked_from(alloc, forest, around, steps.as_slice(), from, context)?;
             Ok(Value::Nodes(nodes))
         }
         Expr::From(first, steps) => {

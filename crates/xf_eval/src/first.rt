@@ -1,7 +1,8 @@
 //! Values of which only the first node counts, since they are converted to a text, a number or a truth (XPath 1.0, sections 3.2 and
 //! 4.2 to 4.4).
 
-ghost use Rattle.std.specs.Prelude.{◌≡◌, IfOk, map, option_map};
+ghost use Rattle.std.specs.Prelude.{◌≡◌, ◌∷◌, [], IfOk, map, option_map};
+ghost use Rattle.xf_doc.specs.Forest.{IsLive};
 ghost use Rattle.xf_plain_values.specs.Bounded.{GivesBounded};
 ghost use Rattle.xf_lang.specs.Conversions.{nodes_of};
 ghost use Rattle.xf_lang.specs.Steps.{walked};
@@ -14,12 +15,12 @@ use crate::around::Around;
 use crate::expression::value_at;
 use crate::kinds::Kind;
 use crate::order::is_reverse;
-use crate::sets::{listed, nodes_in, reached_at, started};
-use crate::steps::{begun, taken, walked};
-use crate::ways::way_of;
+use crate::sets::{listed, nodes_in, reached_at, single, started};
+use crate::steps::{begun, stepped, taken, walked, walked_from};
+use crate::ways::{way_of, way_of_one};
 use std::alloc::Global;
 use xf_ast::{Expr, Link, Operator, Step};
-use xf_doc::NodeList;
+use xf_doc::{NodeId, NodeList};
 use xf_lang::{Context, EvalFault, Value};
 use xf_tree::Forest;
 
@@ -42,8 +43,8 @@ pub(crate) fn asked_at<A: Around>(
     }
     match expr {
         Expr::Path(_, start, steps) => {
-            let from = begun(alloc, forest, *start, context)?;
-            let nodes = first_walked(alloc, forest, around, steps.as_slice(), from, context)?;
+            let from = begun(forest, *start, context);
+            let nodes = first_from(alloc, forest, around, steps.as_slice(), from, context)?;
             Ok(Value::Nodes(nodes))
         }
         Expr::From(first, steps) => {
@@ -55,6 +56,57 @@ pub(crate) fn asked_at<A: Around>(
         }
         _ => value_at(alloc, forest, around, expr, context),
     }
+}
+
+/// The nodes that a chain of steps reaches from one, or the first of them alone.
+#[cycle(value)]
+fn first_from<A: Around>(
+    alloc: Global,
+    forest: &Forest,
+    around: &A,
+    steps: &[Step],
+    node: NodeId,
+    context: &Context,
+) -> Result<NodeList, EvalFault>
+    requires ready { IsReady (A.given around.now) forest.now.forest.nodes context.now }
+    requires node { IsLive node.number forest.now.forest }
+    ensures value { GivesBounded EvalFault.Memory EvalFault.Long first_node result (option_map first_node (walked (setting_at (A.given around.now) forest.now.forest.nodes context.now) (map walk_of steps.now) (node.number ∷ []))) }
+    ensures live { IfOk result (λ found. AllLive found forest.now.forest.nodes) }
+{
+    let count = steps.len();
+    if count == 0 {
+        return Ok(single(alloc, node)?);
+    }
+    if count == 1 {
+        return first_stepped(alloc, forest, around, &steps[0], node, context);
+    }
+    let nodes = walked_from(alloc, forest, around, &steps[..count - 1], node, context)?;
+    first_taken(alloc, forest, around, &steps[count - 1], nodes, context)
+}
+
+/// The nodes that a step reaches from one, or the first of them alone: on a forward axis the walk stops there.
+#[cycle(value)]
+fn first_stepped<A: Around>(
+    alloc: Global,
+    forest: &Forest,
+    around: &A,
+    step: &Step,
+    node: NodeId,
+    context: &Context,
+) -> Result<NodeList, EvalFault>
+    requires ready { IsReady (A.given around.now) forest.now.forest.nodes context.now }
+    requires node { IsLive node.number forest.now.forest }
+    ensures value { GivesBounded EvalFault.Memory EvalFault.Long first_node result (option_map first_node (walk_of step.now (setting_at (A.given around.now) forest.now.forest.nodes context.now) (node.number ∷ []))) }
+    ensures live { IfOk result (λ found. AllLive found forest.now.forest.nodes) }
+{
+    forest.are_trees();
+    let way = way_of_one(forest, step, node);
+    let asked = step.predicates.len();
+    if !is_reverse(way.axis) && asked == 0 && !way.is_below {
+        let first = reached_at(forest, node, way.axis, &step.test, 0);
+        return Ok(listed(alloc, first)?);
+    }
+    stepped(alloc, forest, around, step, node, context)
 }
 
 /// The nodes that a chain of steps reaches from these, or the first of them alone.

@@ -10,6 +10,7 @@ mod first;
 mod kinds;
 mod node_test;
 mod of_nodes;
+mod operand;
 mod operators;
 mod order;
 mod places;

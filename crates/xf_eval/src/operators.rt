@@ -11,7 +11,7 @@ ghost use Rattle.xf_eval.specs.Worth.{seen, setting_at, setting_in};
 ghost use Rattle.xf_eval.specs.Answered.{answered, arithmetic, decides};
 
 use crate::around::Around;
-use crate::compare::compared;
+use crate::compare::compared_values;
 use crate::convert::{number_of, truth_of};
 use crate::first::{asked_at, converts};
 use crate::sets::{append, nodes_in};
@@ -102,7 +102,7 @@ fn combined(
             let other = number_of(alloc, forest, &right)?;
             Ok(Value::Number(computed(operator, one, other)))
         }
-        _ => Ok(Value::Truth(compared(alloc, forest, operator, &left, &right)?)),
+        _ => Ok(Value::Truth(compared_values(alloc, forest, operator, left, right)?)),
     }
 }
 

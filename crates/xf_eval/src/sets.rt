@@ -86,7 +86,11 @@ fn all_below(alloc: Global, forest: &Forest, nodes: &NodeList) -> Result<NodeLis
 }
 
 /// All nodes from one down: they are reached in document order.
-fn down_from(alloc: Global, forest: &Forest, node: NodeId) -> Result<NodeList, AllocError>
+pub(crate) fn down_from(
+    alloc: Global,
+    forest: &Forest,
+    node: NodeId,
+) -> Result<NodeList, AllocError>
     requires { IsLive node.number forest.now.forest }
     ensures value { IfOk result (λ found. found ≡ begun_at true (seen forest.now.forest.nodes) (node.number ∷ [])) }
     ensures live { IfOk result (λ found. AllLive found forest.now.forest.nodes) }

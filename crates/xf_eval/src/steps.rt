@@ -1,6 +1,6 @@
 //! Location paths: steps and predicates (XPath 1.0, sections 2 to 2.5).
 
-ghost use Rattle.std.specs.Prelude.{◌≡◌, ◌++◌, IfOk, drop, length, map, option_map};
+ghost use Rattle.std.specs.Prelude.{◌≡◌, ◌∷◌, [], ◌++◌, IfOk, drop, length, map, option_map};
 ghost use Rattle.xf_doc.specs.Forest.{IsLive};
 ghost use Rattle.xf_plain_values.specs.Bounded.{GivesBounded};
 ghost use Rattle.xf_plain_values.specs.Conversions.{whole};
@@ -12,12 +12,12 @@ ghost use Rattle.xf_eval.specs.Taken.{taken};
 
 use crate::around::Around;
 use crate::convert::{truth_of, whole};
-use crate::expression::value_at;
+use crate::first::asked_at;
 use crate::order::ordered;
 use crate::places::{number_first, placed, reached_placed};
-use crate::sets::{append, reach, reached, single, started};
-use crate::ways::way_of;
-use std::alloc::{AllocError, Global};
+use crate::sets::{append, down_from, reach, reached, single, started};
+use crate::ways::{way_of, way_of_one};
+use std::alloc::Global;
 use std::cmp::Ordering;
 use xf_ast::{Expr, Start, Step};
 use xf_doc::{NodeId, NodeList};
@@ -49,6 +49,77 @@ pub(crate) fn walked<A: Around>(
     Ok(nodes)
 }
 
+/// The nodes that a chain of steps reaches from one.
+#[cycle(value)]
+pub(crate) fn walked_from<A: Around>(
+    alloc: Global,
+    forest: &Forest,
+    around: &A,
+    steps: &[Step],
+    node: NodeId,
+    context: &Context,
+) -> Result<NodeList, EvalFault>
+    requires ready { IsReady (A.given around.now) forest.now.forest.nodes context.now }
+    requires node { IsLive node.number forest.now.forest }
+    ensures value { GivesBounded EvalFault.Memory EvalFault.Long (λ found. found) result (walked (setting_at (A.given around.now) forest.now.forest.nodes context.now) (map walk_of steps.now) (node.number ∷ [])) }
+    ensures live { IfOk result (λ found. AllLive found forest.now.forest.nodes) }
+{
+    let Some((first, behind)) = steps.split_first() else {
+        return Ok(single(alloc, node)?);
+    };
+    let nodes = stepped(alloc, forest, around, first, node, context)?;
+    walked(alloc, forest, around, behind, nodes, context)
+}
+
+/// What a step selects from one node, in document order, each once.
+#[cycle(value)]
+pub(crate) fn stepped<A: Around>(
+    alloc: Global,
+    forest: &Forest,
+    around: &A,
+    step: &Step,
+    node: NodeId,
+    context: &Context,
+) -> Result<NodeList, EvalFault>
+    requires ready { IsReady (A.given around.now) forest.now.forest.nodes context.now }
+    requires node { IsLive node.number forest.now.forest }
+    ensures value { GivesBounded EvalFault.Memory EvalFault.Long (λ found. found) result (walk_of step.now (setting_at (A.given around.now) forest.now.forest.nodes context.now) (node.number ∷ [])) }
+    ensures live { IfOk result (λ found. AllLive found forest.now.forest.nodes) }
+{
+    let way = way_of_one(forest, step, node);
+    if way.is_below {
+        let start = down_from(alloc, forest, node)?;
+        return taken(alloc, forest, around, way.axis, step, &start, context);
+    }
+    taken_from(alloc, forest, around, way.axis, step, node, context)
+}
+
+/// What a step selects on an axis from one node, in document order, each once.
+#[cycle(value)]
+fn taken_from<A: Around>(
+    alloc: Global,
+    forest: &Forest,
+    around: &A,
+    axis: Axis,
+    step: &Step,
+    node: NodeId,
+    context: &Context,
+) -> Result<NodeList, EvalFault>
+    requires ready { IsReady (A.given around.now) forest.now.forest.nodes context.now }
+    requires node { IsLive node.number forest.now.forest }
+    ensures value { GivesBounded EvalFault.Memory EvalFault.Long (λ found. found) result (taken axis step.now.test (map meaning step.now.predicates) (setting_at (A.given around.now) forest.now.forest.nodes context.now) (node.number ∷ [])) }
+    ensures live { IfOk result (λ found. AllLive found forest.now.forest.nodes) }
+{
+    forest.are_trees();
+    let predicates = step.predicates.as_slice();
+    if predicates.is_empty() {
+        let found = reached(alloc, forest, node, axis, &step.test)?;
+        return Ok(ordered(forest, axis, found)?);
+    }
+    let kept = from_one(alloc, forest, around, axis, step, node, context)?;
+    Ok(ordered(forest, axis, kept)?)
+}
+
 /// What a step selects on an axis from each of these nodes, in document order, each once.
 #[cycle(value)]
 pub(crate) fn taken<A: Around>(
@@ -66,9 +137,7 @@ pub(crate) fn taken<A: Around>(
     ensures live { IfOk result (λ found. AllLive found forest.now.forest.nodes) }
 {
     if from.len() == 1 {
-        forest.are_trees();
-        let kept = from_one(alloc, forest, around, axis, step, from.at(0), context)?;
-        return Ok(ordered(forest, axis, kept)?);
+        return taken_from(alloc, forest, around, axis, step, from.at(0), context);
     }
     let mut found = NodeList::new(alloc);
     for node in from.as_slice() {
@@ -128,6 +197,9 @@ fn from_one<A: Around>(
         }
         None => {
             let nodes = reached(alloc, forest, node, axis, &step.test)?;
+            if nodes.is_empty() {
+                return Ok(nodes);
+            }
             kept_by_all(alloc, forest, around, predicates, 0, nodes, context)
         }
     }
@@ -206,7 +278,7 @@ fn asked_of_each<A: Around>(
             size,
             current: context.current,
         };
-        let value = value_at(alloc, forest, around, predicate, &place)?;
+        let value = asked_at(alloc, forest, around, true, predicate, &place)?;
         if is_true_at(&value, at + 1) {
             kept.push(node)?;
         }
@@ -225,18 +297,13 @@ pub fn is_true_at(value: &Value, position: u32) -> bool
 }
 
 /// Where a path begins: at the top of the context node's tree, or at the context node.
-pub(crate) fn begun(
-    alloc: Global,
-    forest: &Forest,
-    start: Start,
-    context: &Context,
-) -> Result<NodeList, AllocError>
+pub(crate) fn begun(forest: &Forest, start: Start, context: &Context) -> NodeId
     requires node { IsLive context.now.node.number forest.now.forest }
-    ensures value { IfOk result (λ found. found ≡ begun start (setting_in forest.now.forest.nodes) (focus_of context.now)) }
-    ensures live { IfOk result (λ found. AllLive found forest.now.forest.nodes) }
+    ensures value { result.number ∷ [] ≡ begun start (setting_in forest.now.forest.nodes) (focus_of context.now) }
+    ensures live { IsLive result.number forest.now.forest }
 {
     match start {
-        Start::Root => single(alloc, forest.top(context.node)),
-        Start::Context => single(alloc, context.node),
+        Start::Root => forest.top(context.node),
+        Start::Context => context.node,
     }
 }

@@ -57,7 +57,7 @@ pub(crate) fn value_of_node<'a>(
 }
 
 /// A text of the forest that keeps the limit.
-fn lent(text: &str) -> Result<StringValue<'_>, EvalFault>
+pub(crate) fn lent(text: &str) -> Result<StringValue<'_>, EvalFault>
     ensures { GivesBounded EvalFault.Memory EvalFault.Long characters result (capped (Some string_limit) text.now) }
 {
     if text.len() > STRING_LIMIT as usize {

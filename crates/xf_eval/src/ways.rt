@@ -1,10 +1,10 @@
 //! How a step is walked (XPath 1.0, sections 2.1 and 2.5).
 
-ghost use Rattle.std.specs.Prelude.{◌≡◌};
+ghost use Rattle.std.specs.Prelude.{◌≡◌, ◌∷◌, []};
 ghost use Rattle.xf_eval.specs.Ways.{IsWay, is_child};
 
 use xf_ast::Step;
-use xf_doc::NodeList;
+use xf_doc::{NodeId, NodeList};
 use xf_name::Axis;
 use xf_tree::Forest;
 
@@ -23,6 +23,24 @@ pub(crate) fn way_of(forest: &Forest, step: &Step, from: &NodeList) -> Way
     let asked = step.predicates.len();
     let count = from.len();
     if step.is_below && is_child(step.axis) && asked == 0 && count == 1 {
+        return Way {
+            is_below: false,
+            axis: Axis::Descendant,
+        };
+    }
+    Way {
+        is_below: step.is_below,
+        axis: step.axis,
+    }
+}
+
+/// The same from one node.
+pub(crate) fn way_of_one(forest: &Forest, step: &Step, node: NodeId) -> Way
+    ensures { IsWay step.now forest.now.forest.nodes (node.number ∷ []) result }
+{
+    forest.are_trees();
+    let asked = step.predicates.len();
+    if step.is_below && is_child(step.axis) && asked == 0 {
         return Way {
             is_below: false,
             axis: Axis::Descendant,

@@ -5,7 +5,7 @@ use Rattle.xf_ast.specs.declared.expr.Expr.{size-Expr}
 use Rattle.xf_ast.specs.declared.expr.Link.{size-Link}
 use Rattle.xf_ast.specs.declared.expr.Step.{size-Step}
 use Rattle.xf_lang.specs.declared.fault.EvalFault.TheVariants.{Long, Memory}
-use Rattle.xf_lang.specs.declared.value.Value.TheVariants.{Nodes}
+use Rattle.xf_lang.specs.declared.value.Value.TheVariants.{Nodes, Truth}
 use Rattle.xf_lang.specs.Conversions.{truth_of}
 use Rattle.xf_lang.specs.Functions.{branched, plain_arguments}
 use Rattle.xf_lang.specs.Binding.{as_list}
@@ -14,7 +14,7 @@ use Rattle.xf_lang.specs.Operators.{chained, linked}
 use Rattle.xf_doc.specs.Axis.{is_reverse}
 use Rattle.xf_doc.specs.Forest.{has_number}
 use Rattle.xf_plain_values.specs.Bounded.{◌>>=◌}
-use Rattle.xf_lang.specs.Steps.{from_one, kept_by_all, kept_from, reached, walked}
+use Rattle.xf_lang.specs.Steps.{begun_at, from_one, kept_by_all, kept_from, reached, walked}
 use Rattle.xf_lang.proofs.Equations.{meaning-Number}
 use Rattle.xf_eval.specs.Taken.{taken}
 use Rattle.xf_eval.proofs.Ordered.{alone-is, forward-in_order, taken-none, taken-one}
@@ -24,17 +24,19 @@ use Rattle.xf_eval.specs.First.{counted, first_node, leads}
 use Rattle.xf_eval.specs.declared.kinds.Kind.TheVariants as kind
 use Rattle.xf_eval.specs.ByKind.{argument_or, by_kind, of_own_argument}
 use Rattle.xf_eval.specs.OfOne.{one_worth}
+use Rattle.xf_eval.specs.Sides.{value_in}
 use Rattle.xf_eval.specs.Worth.{seen, setting_at}
 use Rattle.xf_eval.proofs.Arguments.{branched-long, branched-then, branched-else, one_plain, plain-long, plain-of-value, plains-done, plains-more, plains-stuck}
 use Rattle.xf_eval.proofs.Falls.{chain-falls, filter-falls, from-falls}
-use Rattle.xf_eval.proofs.Kept.{kept-long, kept-next, live-added, taken-done}
+use Rattle.xf_eval.proofs.Kept.{kept-counted, kept-long, live-added, none-kept, taken-done}
+use Rattle.xf_eval.proofs.Links.{link-compared, link-long}
 use Rattle.xf_eval.proofs.Lists.{onto, onto-start}
 use Rattle.xf_eval.proofs.Lives.{live-get, live-in_order, live-is, live-item, reached-live}
 use Rattle.xf_eval.proofs.Parts.{argument-past, argument-within, by-other, by-own, call-worth, linked-both, linked-long}
 use Rattle.xf_eval.proofs.Runs.{added}
 use Rattle.xf_eval.proofs.WayLaws.{empty-is, way-more, way-stuck, way-walks}
 use Rattle.xf_eval.proofs.Bounded.{gives-same, part-long}
-use Rattle.xf_eval.proofs.Firsts.{chain-made, chain-meaning, most-take, one-made, own-made, taken-first, walked-last, walked-part}
+use Rattle.xf_eval.proofs.Firsts.{chain-made, chain-meaning, map-none, most-take, one-made, own-made, taken-first, walked-last, walked-part}
 use Rattle.xf_eval.proofs.+value.Goals as goal
 use Rattle.xf_eval.proofs.+value.Goals.{calls::branched-then-truth_of, calls::branched-else-truth_of, steps::asked_of_each-then-is_true_at+in_ok-push, steps::asked_of_each-else-is_true_at}
 
@@ -178,20 +180,20 @@ pub expression::value_at-chained-requires : goal.expression::value_at-chained-re
 expression::value_at-chained-requires g t c =
     let ls = c.as_slice-behind.result.now in
     let less : most size-Link ls < size-Expr c.args.expr.now = chain-falls c.args.expr.now c.in-Chain.first c.in-Chain.links ls c.in-Chain.is c.as_slice-behind.ensures in
-    let falls : 5 * most size-Link ls + 1 < t = omega (arith, c.decreases, less) in
-    λ κs h. (falls, (search rules, (c.requires, c.in_ok-left-in-Chain.ensures.live)))
+    let falls : 6 * most size-Link ls + 1 < t = omega (arith, c.decreases, less) in
+    λ κs h. (falls, (search rules, (c.requires, c.in_ok-left-in-Chain-2.ensures.live)))
 
-pub expression::value_at-returns-in_ok-left-in-Chain-clause-value : goal.expression::value_at-returns-in_ok-left-in-Chain-clause-value
-expression::value_at-returns-in_ok-left-in-Chain-clause-value g t c =
+pub expression::value_at-returns-in_ok-left-in-Chain-2-clause-value : goal.expression::value_at-returns-in_ok-left-in-Chain-2-clause-value
+expression::value_at-returns-in_ok-left-in-Chain-2-clause-value g t c =
     let given = g.A.Around.given c.args.around.now in
     let nodes = c.args.forest.now.forest.nodes in
     let context = c.args.context.now in
     let s = setting_at given nodes context in
     let f = focus_of context in
     let ls = c.as_slice-behind.result.now in
-    let left = c.in_ok-left-in-Chain.left in
+    let left = c.in_ok-left-in-Chain-2.left in
     let led : option_map (counted (leads ls)) (meaning c.get-start.result.now s f) ≡ Some (counted (leads ls) left) =
-    subst (λ b. option_map (counted b) (meaning c.get-start.result.now s f) ≡ Some (counted b left)) c.leads-is_converted.ensures c.in_ok-left-in-Chain.ensures.value in
+    subst (λ b. option_map (counted b) (meaning c.get-start.result.now s f) ≡ Some (counted b left)) c.leads-is_converted.ensures c.in_ok-left-in-Chain-2.ensures.value in
     gives-same Memory Long (λ v. v) c.chained.result _ (meaning c.args.expr.now s f)
     (sym (chain-meaning given nodes context c.args.expr.now c.in-Chain.first c.in-Chain.links ls c.in-Chain.is c.as_slice-behind.ensures
     ∙ ap (λ e. meaning e s f >>= λ v. chained (map meaning_of_link ls) v s f) (sym c.get-start.ensures)
@@ -202,14 +204,14 @@ pub expression::value_at-kept_by_all-requires : goal.expression::value_at-kept_b
 expression::value_at-kept_by_all-requires g t c =
     let ps = c.as_slice-asked.result.now in
     let less : most size-Expr ps < size-Expr c.args.expr.now = filter-falls c.args.expr.now c.in-Filter.first c.in-Filter.predicates ps c.in-Filter.is c.as_slice-asked.ensures in
-    let falls : 5 * most size-Expr ps + 3 < t = omega (arith, c.decreases, less) in
+    let falls : 6 * most size-Expr ps + 4 < t = omega (arith, c.decreases, less) in
     λ κs h. (falls, (search rules, (c.requires, live-is c.args.forest.now.forest.nodes c.nodes_in-nodes.ensures c.in_ok-value-in-Filter.ensures.live)))
 
-pub expression::value_at-walked-requires-in-From : goal.expression::value_at-walked-requires-in-From
-expression::value_at-walked-requires-in-From g t c =
+pub expression::value_at-walked-requires : goal.expression::value_at-walked-requires
+expression::value_at-walked-requires g t c =
     let ss = c.as_slice-in-From.result.now in
     let less : most size-Step ss < size-Expr c.args.expr.now = from-falls c.args.expr.now c.in-From.first c.in-From.steps ss c.in-From.is c.as_slice-in-From.ensures in
-    let falls : 5 * most size-Step ss + 3 < t = omega (arith, c.decreases, less) in
+    let falls : 6 * most size-Step ss + 3 < t = omega (arith, c.decreases, less) in
     λ κs h. (falls, (search rules, (c.requires, live-is c.args.forest.now.forest.nodes c.nodes_in-from.ensures c.in_ok-value-in-From.ensures.live)))
 
 pub expression::value_at-returns-in-Call-clause-value : goal.expression::value_at-returns-in-Call-clause-value
@@ -252,11 +254,11 @@ operators::linked-returns-in_err-right-clause-value g t c =
 
 -- ---- first nodes
 
-pub first::asked_at-first_walked-requires-in-From : goal.first::asked_at-first_walked-requires-in-From
-first::asked_at-first_walked-requires-in-From g t c =
+pub first::asked_at-first_walked-requires : goal.first::asked_at-first_walked-requires
+first::asked_at-first_walked-requires g t c =
     let ss = c.as_slice-behind.result.now in
     let less : most size-Step ss < size-Expr c.args.expr.now = from-falls c.args.expr.now c.in-From.first c.in-From.steps ss c.in-From.is c.as_slice-behind.ensures in
-    let falls : 5 * most size-Step ss + 4 < t = omega (arith, c.decreases, less) in
+    let falls : 6 * most size-Step ss + 4 < t = omega (arith, c.decreases, less) in
     λ κs h. (falls, (search rules, (c.requires, live-is c.args.forest.now.forest.nodes c.nodes_in-from.ensures c.in_ok-value-in-From.ensures.live)))
 
 pub first::first_walked-walked-requires : goal.first::first_walked-walked-requires
@@ -264,7 +266,7 @@ first::first_walked-walked-requires g t c =
     let ss = c.args.steps.now in
     let k = length ss - 1 in
     let less : most size-Step (take k ss) ≤ most size-Step ss = most-take size-Step k ss in
-    let falls : 5 * most size-Step (take k ss) + 3 < t = omega (arith, c.decreases, less) in
+    let falls : 6 * most size-Step (take k ss) + 3 < t = omega (arith, c.decreases, less) in
     λ κs h. (falls, (search rules, (c.requires.ready, c.requires.from)))
 
 pub first::first_walked-returns-in_err-nodes-clause-value : goal.first::first_walked-returns-in_err-nodes-clause-value
@@ -317,10 +319,99 @@ first::first_taken-returns-then-count-eq1-clause-live g t c =
     let n = c.at.result.number in
     live-placed (reached axis test (seen nodes) n) c.in_ok-listed.field-0 1 nodes (reached-live axis test n c.args.forest.now c.are_trees.ensures) (c.in_ok-listed.ensures ∙ ap as_list c.reached_at-first.ensures)
 
+pub first::first_from-walked_from-requires : goal.first::first_from-walked_from-requires
+first::first_from-walked_from-requires g t c =
+    let ss = c.args.steps.now in
+    let k = length ss - 1 in
+    let less : most size-Step (take k ss) ≤ most size-Step ss = most-take size-Step k ss in
+    let falls : 6 * most size-Step (take k ss) + 4 < t = omega (arith, c.decreases, less) in
+    λ κs h. (falls, (search rules, (c.requires.ready, c.requires.node)))
+
+pub first::first_from-returns-in_err-nodes-clause-value : goal.first::first_from-returns-in_err-nodes-clause-value
+first::first_from-returns-in_err-nodes-clause-value g t c =
+    let s = setting_at (g.A.Around.given c.args.around.now) c.args.forest.now.forest.nodes c.args.context.now in
+    let ss = c.args.steps.now in
+    let from = c.args.node.number ∷ [] in
+    let p = err_from_is_err_and c.from_residual-in_err-nodes.result c.from_residual-in_err-nodes.ensures.1 in
+    rw (p.1, p.2) (part-long Memory Long _ _ (option_map first_node (walked s (map walk_of ss) from)) c.in_err-nodes.ensures.value
+    (λ h. ap (option_map first_node) (walked-part s ss (length ss - 1) from h)))
+
+pub first::first_from-returns-clause-value : goal.first::first_from-returns-clause-value
+first::first_from-returns-clause-value g t c =
+    let s = setting_at (g.A.Around.given c.args.around.now) c.args.forest.now.forest.nodes c.args.context.now in
+    let ss = c.args.steps.now in
+    let k = length ss - 1 in
+    let some : 0 < length ss = omega (arith, c.if-count-eq0.false) in
+    let whole : length ss ≡ suc k = omega (arith, some) in
+    gives-same Memory Long first_node c.first_taken.result _ _
+    (ap (option_map first_node)
+    (ap (λ x. walk_of x s c.in_ok-nodes.nodes) c.index-steps-count.is
+    ∙ sym (walked-last s ss c.index-steps-count.result k (c.args.node.number ∷ []) c.in_ok-nodes.nodes whole c.in_ok-nodes.ensures.value)))
+    c.first_taken.ensures.value
+
+pub first::first_stepped-returns-then-not-way-clause-value : goal.first::first_stepped-returns-then-not-way-clause-value
+first::first_stepped-returns-then-not-way-clause-value g t c =
+    let given = g.A.Around.given c.args.around.now in
+    let nodes = c.args.forest.now.forest.nodes in
+    let context = c.args.context.now in
+    let s = setting_at given nodes context in
+    let step = c.args.step.now in
+    let way = c.way_of_one-way.result in
+    let n = c.args.node.number in
+    let above : way.is_below ≡ false = c.if-not-way.true in
+    let none : step.predicates ≡ [] = empty-is step.predicates (sym c.len-asked.ensures ∙ c.if-asked-eq0.true) in
+    let forward : is_reverse way.axis ≡ false = sym c.is_reverse.ensures ∙ c.if-not-is_reverse.true in
+    ap (option_map first_node)
+    (way-walks given nodes context step (n ∷ []) (n ∷ []) way c.way_of_one-way.ensures (ap (λ b. begun_at b (seen nodes) (n ∷ [])) (sym above))
+    ∙ ap (λ es. taken way.axis step.test (map meaning es) s (n ∷ [])) none)
+    ∙ taken-first way.axis step.test s n c.in_ok-listed.field-0 c.args.forest.now c.are_trees.ensures refl forward (c.in_ok-listed.ensures ∙ ap as_list c.reached_at-first.ensures)
+
+pub first::first_stepped-returns-then-not-way-clause-live : goal.first::first_stepped-returns-then-not-way-clause-live
+first::first_stepped-returns-then-not-way-clause-live g t c =
+    let nodes = c.args.forest.now.forest.nodes in
+    let axis = c.way_of_one-way.result.axis in
+    let test = c.args.step.now.test in
+    let n = c.args.node.number in
+    live-placed (reached axis test (seen nodes) n) c.in_ok-listed.field-0 1 nodes (reached-live axis test n c.args.forest.now c.are_trees.ensures) (c.in_ok-listed.ensures ∙ ap as_list c.reached_at-first.ensures)
+
+-- ---- operands
+
+pub operand::compared_with-returns-in_err-right-clause-value : goal.operand::compared_with-returns-in_err-right-clause-value
+operand::compared_with-returns-in_err-right-clause-value g t c =
+    let s = setting_at (g.A.Around.given c.args.around.now) c.args.forest.now.forest.nodes c.args.context.now in
+    let f = focus_of c.args.context.now in
+    let link = c.args.link.now in
+    let left = value_in c.args.left.now in
+    let p = err_from_is_err_and c.from_residual.result c.from_residual.ensures.1 in
+    rw (p.1, p.2) (part-long Memory Long _ _ (chained (meaning_of_link link ∷ []) left s f) c.in_err-right.ensures.value
+    (λ h. link-long link left s f c.requires.compares h))
+
+pub operand::compared_with-returns-in_err-truth-clause-value : goal.operand::compared_with-returns-in_err-truth-clause-value
+operand::compared_with-returns-in_err-truth-clause-value g t c =
+    let given = g.A.Around.given c.args.around.now in
+    let nodes = c.args.forest.now.forest.nodes in
+    let context = c.args.context.now in
+    let link = c.args.link.now in
+    let left = value_in c.args.left.now in
+    let right = value_in c.in_ok-right.right in
+    let p = err_from_is_err_and c.from_residual-in_err-truth.result c.from_residual-in_err-truth.ensures.1 in
+    rw (p.1, p.2) (part-long Memory Long _ _ (chained (meaning_of_link link ∷ []) left (setting_at given nodes context) (focus_of context)) c.in_err-truth.ensures
+    (λ h. link-compared link left right given nodes context (focus_of context) c.requires.compares c.in_ok-right.ensures.value ∙ ap (option_map Truth) h))
+
+pub operand::compared_with-returns-clause-value : goal.operand::compared_with-returns-clause-value
+operand::compared_with-returns-clause-value g t c =
+    let given = g.A.Around.given c.args.around.now in
+    let nodes = c.args.forest.now.forest.nodes in
+    let context = c.args.context.now in
+    let link = c.args.link.now in
+    let left = value_in c.args.left.now in
+    let right = value_in c.in_ok-right.right in
+    link-compared link left right given nodes context (focus_of context) c.requires.compares c.in_ok-right.ensures.value ∙ ap (option_map Truth) c.in_ok-truth.ensures
+
 -- ---- steps
 
-pub steps::asked_of_each-value_at-requires : goal.steps::asked_of_each-value_at-requires
-steps::asked_of_each-value_at-requires g t c = λ κs h. (
+pub steps::asked_of_each-asked_at-requires : goal.steps::asked_of_each-asked_at-requires
+steps::asked_of_each-asked_at-requires g t c = λ κs h. (
   search rules,
   (
     search rules,
@@ -341,7 +432,7 @@ steps::asked_of_each-returns-in_err-value-clause-value g t c =
     let within : c.loop-at.at < length ns = omega arith in
     let p = err_from_is_err_and c.from_residual.result c.from_residual.ensures.1 in
     rw (p.1, p.2) (part-long Memory Long _ _ (kept_from s m (length ns) 1 ns) c.in_err-value.ensures.value
-    (λ h. ap (λ k. kept_from s m k 1 ns) (sym all) ∙ kept-long s m c.in-Ok.size c.loop-at.at c.at-node.result.number c.loop-at.kept ns c.loop-at.invariant.left within c.at-node.ensures h))
+    (λ h. ap (λ k. kept_from s m k 1 ns) (sym all) ∙ kept-long s m c.in-Ok.size c.loop-at.at c.at-node.result.number c.loop-at.kept ns c.loop-at.invariant.left within c.at-node.ensures (map-none (counted true) _ h)))
 
 pub steps::asked_of_each-loop-at-preserved : goal.steps::asked_of_each-loop-at-preserved
 steps::asked_of_each-loop-at-preserved g t c =
@@ -362,7 +453,7 @@ steps::asked_of_each-loop-at-preserved g t c =
       all = all;
       live = live-is nodes kept (live-added c.loop-at.kept n c.is_true_at.result nodes c.loop-at.invariant.live live);
       left = ap (λ l. onto l (kept_from s m c.in-Ok.size (suc (c.loop-at.at + 1)) (drop (c.loop-at.at + 1) ns))) kept
-          ∙ kept-next s m c.in-Ok.size c.loop-at.at n c.loop-at.kept ns c.in_ok-value.value c.is_true_at.result c.loop-at.invariant.left within c.at-node.ensures c.in_ok-value.ensures.value (sym c.is_true_at.ensures);
+          ∙ kept-counted s m c.in-Ok.size c.loop-at.at n c.loop-at.kept ns c.in_ok-value.value c.is_true_at.result c.loop-at.invariant.left within c.at-node.ensures c.in_ok-value.ensures.value (sym c.is_true_at.ensures);
     }
 
 pub steps::kept_by-returns-in-Number-clause-value : goal.steps::kept_by-returns-in-Number-clause-value
@@ -404,8 +495,8 @@ steps::walked-loop-step-preserved g t c =
           c.loop-step.invariant.left c.loop-step-test.true c.step-item.is c.way_of-way.ensures c.in_ok-start.ensures.value c.in_ok-nodes.ensures.value;
     }
 
-pub steps::taken-from_one-requires : goal.steps::taken-from_one-requires
-steps::taken-from_one-requires g t c = λ κs h.
+pub steps::taken-taken_from-requires : goal.steps::taken-taken_from-requires
+steps::taken-taken_from-requires g t c = λ κs h.
     (search rules, (search rules, (c.requires.ready, live-get c.args.from.now 0 c.at.result.number c.args.forest.now.forest.nodes c.requires.from c.at.ensures)))
 
 pub steps::taken-take-requires : goal.steps::taken-take-requires
@@ -413,22 +504,39 @@ steps::taken-take-requires g t c = λ κs h.
     let nodes = c.args.forest.now.forest.nodes in
     (search rules, (search rules, (c.requires.ready, live-item c.as_slice-node-items.result.now c.loop-node.node-index _ nodes (live-is nodes c.as_slice-node-items.ensures c.requires.from) c.loop-node-test.true)))
 
-pub steps::taken-ordered-requires-clause-forward : goal.steps::taken-ordered-requires-clause-forward
-steps::taken-ordered-requires-clause-forward g t c =
+pub steps::taken_from-ordered-requires-clause-forward : goal.steps::taken_from-ordered-requires-clause-forward
+steps::taken_from-ordered-requires-clause-forward g t c =
+    let s = setting_at (g.A.Around.given c.args.around.now) c.args.forest.now.forest.nodes c.args.context.now in
+    forward-in_order c.args.axis c.args.step.now.test [] s c.args.node.number c.in_ok-found.found c.args.forest.now c.are_trees.ensures refl (ap Some (sym c.in_ok-found.ensures.value))
+
+pub steps::taken_from-ordered-requires-2-clause-forward : goal.steps::taken_from-ordered-requires-2-clause-forward
+steps::taken_from-ordered-requires-2-clause-forward g t c =
     let s = setting_at (g.A.Around.given c.args.around.now) c.args.forest.now.forest.nodes c.args.context.now in
     let step = c.args.step.now in
-    forward-in_order c.args.axis step.test (map meaning step.predicates) s c.at.result.number c.in_ok-kept.kept c.args.forest.now c.are_trees.ensures refl c.in_ok-kept.ensures.value
+    forward-in_order c.args.axis step.test (map meaning step.predicates) s c.args.node.number c.in_ok-kept.kept c.args.forest.now c.are_trees.ensures refl c.in_ok-kept.ensures.value
 
-pub steps::taken-returns-in_err-kept-clause-value : goal.steps::taken-returns-in_err-kept-clause-value
-steps::taken-returns-in_err-kept-clause-value g t c =
+pub steps::from_one-returns-then-is_empty-clause-value : goal.steps::from_one-returns-then-is_empty-clause-value
+steps::from_one-returns-then-is_empty-clause-value g t c =
+    let s = setting_at (g.A.Around.given c.args.around.now) c.args.forest.now.forest.nodes c.args.context.now in
+    let ms = map meaning c.args.step.now.predicates in
+    let none : c.in_ok-nodes-in-None.nodes ≡ [] = c.if-is_empty.ensures.0 refl in
+    ap (kept_by_all s ms) (sym c.in_ok-nodes-in-None.ensures.value ∙ none) ∙ none-kept s ms ∙ ap Some (sym none)
+
+pub steps::taken_from-returns-in_err-kept-clause-value : goal.steps::taken_from-returns-in_err-kept-clause-value
+steps::taken_from-returns-in_err-kept-clause-value g t c =
     let s = setting_at (g.A.Around.given c.args.around.now) c.args.forest.now.forest.nodes c.args.context.now in
     let step = c.args.step.now in
     let ms = map meaning step.predicates in
-    let one : length c.args.from.now ≡ 1 = sym c.len.ensures ∙ c.if-len-eq1.true in
-    let alone = alone-is c.args.from.now c.at.result.number one c.at.ensures in
-    let p = err_from_is_err_and c.from_residual.result c.from_residual.ensures.1 in
-    rw (p.1, p.2) (part-long Memory Long _ _ (taken c.args.axis step.test ms s c.args.from.now) c.in_err-kept.ensures.value
-    (λ h. ap (taken c.args.axis step.test ms s) alone ∙ taken-none c.args.axis step.test ms s c.at.result.number h))
+    let p = err_from_is_err_and c.from_residual-in_err-kept.result c.from_residual-in_err-kept.ensures.1 in
+    rw (p.1, p.2) (part-long Memory Long _ _ (taken c.args.axis step.test ms s (c.args.node.number ∷ [])) c.in_err-kept.ensures.value
+    (λ h. taken-none c.args.axis step.test ms s c.args.node.number h))
+
+pub steps::taken_from-returns-clause-value : goal.steps::taken_from-returns-clause-value
+steps::taken_from-returns-clause-value g t c =
+    let s = setting_at (g.A.Around.given c.args.around.now) c.args.forest.now.forest.nodes c.args.context.now in
+    let step = c.args.step.now in
+    let ms = map meaning step.predicates in
+    taken-one c.args.axis step.test ms s c.args.node.number c.in_ok-kept.kept c.in_ok-kept.ensures.value ∙ ap Some (sym c.in_ok-ordered-2.ensures.value)
 
 pub steps::taken-returns-then-len-eq1-clause-value : goal.steps::taken-returns-then-len-eq1-clause-value
 steps::taken-returns-then-len-eq1-clause-value g t c =
@@ -437,7 +545,7 @@ steps::taken-returns-then-len-eq1-clause-value g t c =
     let ms = map meaning step.predicates in
     let one : length c.args.from.now ≡ 1 = sym c.len.ensures ∙ c.if-len-eq1.true in
     let alone = alone-is c.args.from.now c.at.result.number one c.at.ensures in
-    ap (taken c.args.axis step.test ms s) alone ∙ taken-one c.args.axis step.test ms s c.at.result.number c.in_ok-kept.kept c.in_ok-kept.ensures.value ∙ ap Some (sym c.in_ok-ordered.ensures.value)
+    gives-same Memory Long (λ found. found) c.taken_from.result _ _ (ap (taken c.args.axis step.test ms s) (sym alone)) c.taken_from.ensures.value
 
 pub steps::taken-returns-clause-value : goal.steps::taken-returns-clause-value
 steps::taken-returns-clause-value g t c =

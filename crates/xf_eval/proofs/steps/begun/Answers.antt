@@ -1,5 +1,4 @@
 use Rattle.std.proofs.Common.{◌∷◌, [], ap, ◌∙◌, sym}
-use Rattle.std.proofs.lemmas.Result.{IfOk-weaker}
 use Rattle.xf_doc.specs.Forest.{has_number}
 use Rattle.xf_doc.specs.Visit.{visits}
 use Rattle.xf_doc.proofs.LiveLaws.{top-live}
@@ -7,19 +6,16 @@ use Rattle.xf_lang.specs.Meaning.{focus_of}
 use Rattle.xf_lang.specs.Steps.{begun}
 use Rattle.xf_eval.specs.Worth.{setting_in}
 use Rattle.xf_eval.proofs.Erased.{top-erased}
-use Rattle.xf_eval.proofs.Lives.{live-is, live-one}
 use Rattle.xf_eval.proofs.steps.begun.Goals as goal
 
 pub returns-in-Root-clause-value : goal.returns-in-Root-clause-value
 returns-in-Root-clause-value c =
     let n = c.args.context.now.node.number in
     let nodes = c.args.forest.now.forest.nodes in
-    IfOk-weaker c.single.result _ _ (λ found h.
-    h ∙ ap (λ k. k ∷ []) (c.top.ensures ∙ sym (top-erased n (visits nodes))) ∙ ap (λ start. begun start (setting_in nodes) (focus_of c.args.context.now)) (sym c.in-Root.is))
-    c.single.ensures
+    ap (λ k. k ∷ []) (c.top.ensures ∙ sym (top-erased n (visits nodes))) ∙ ap (λ start. begun start (setting_in nodes) (focus_of c.args.context.now)) (sym c.in-Root.is)
 
 pub returns-in-Root-clause-live : goal.returns-in-Root-clause-live
 returns-in-Root-clause-live c =
     let n = c.args.context.now.node.number in
     let nodes = c.args.forest.now.forest.nodes in
-    IfOk-weaker c.single.result _ _ (λ found h. live-is nodes h (live-one c.top.result.number nodes (ap (λ k. has_number k nodes) c.top.ensures ∙ top-live n nodes c.requires.node))) c.single.ensures
+    ap (λ k. has_number k nodes) c.top.ensures ∙ top-live n nodes c.requires.node
