@@ -1,5 +1,5 @@
 -- Lists that may be too long, item by item: what is done, and what is left.
-use Rattle.std.proofs.Common.{◌≡◌, ◌⊎◌, inl, inr, ℕ, ◌+◌, List, [], ◌∷◌, ◌++◌, map, length, Option, Some, None, option_map, refl, sym, ap, ◌∙◌, append_assoc}
+use Rattle.std.proofs.Common.{◌≡◌, ◌⊎◌, inl, inr, ℕ, ◌+◌, List, [], ◌∷◌, ◌++◌, map, length, Option, Some, None, option_map, Bool, false, is_some, slice_get, refl, sym, ap, ◌∙◌, append_assoc}
 use Rattle.std.specs.Prelude.{filter}
 use Rattle.xf_lang.specs.Setting.{◌>>=◌, each}
 use Rattle.xf_lang.specs.Conversions.{is_filled}
@@ -58,3 +58,9 @@ each-mapped {B = B} {C = C} made f (n ∷ ns) = by (made n) (each made ns) (each
 
 abbrev pub counted : ℕ → Option (List (List ℕ)) → Option ℕ
 counted count left = option_map (λ texts. count + length (filter is_filled texts)) left
+
+-- a list without a first item is empty
+pub none-first : {X : Type 0} (ns : List ℕ) (found : Option X) (number : X → ℕ) → is_some found ≡ false → option_map number found ≡ slice_get ns 0 → ns ≡ []
+none-first [] found number h e = refl
+none-first (n ∷ ns) None number h e = cc e
+none-first (n ∷ ns) (Some x) number h e = cc h

@@ -1,6 +1,6 @@
 //! Sets of nodes.
 
-ghost use Rattle.std.specs.Prelude.{◌≡◌, [], ◌∷◌, ◌++◌, true, option_map, slice_get, IfOk, OnOk};
+ghost use Rattle.std.specs.Prelude.{◌≡◌, [], ◌∷◌, ◌++◌, true, false, option_map, slice_get, IfOk, OnOk};
 ghost use Rattle.xf_name.specs.declared.axis.Axis.TheVariants.{DescendantOrSelf};
 ghost use Rattle.xf_ast.specs.declared.expr.Test.TheVariants.{Node};
 ghost use Rattle.xf_doc.specs.Forest.{IsLive};
@@ -64,6 +64,14 @@ pub(crate) fn reached_at(
 {
     forest.are_trees();
     forest.chosen_at(node, axis, sought_of(axis, test), at)
+}
+
+/// Whether the axis and the test select something from a node. The walk stops at the first.
+pub(crate) fn reaches_any(forest: &Forest, node: NodeId, axis: Axis, test: &Test) -> bool
+    requires { IsLive node.number forest.now.forest }
+    ensures { result ≡ false → reached axis test.now (seen forest.now.forest.nodes) node.number ≡ [] }
+{
+    reached_at(forest, node, axis, test, 0).is_some()
 }
 
 /// All nodes from these down, in document order, each once: where a step behind `//` begins (XPath 1.0, section 2.5).

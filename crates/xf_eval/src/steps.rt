@@ -15,7 +15,7 @@ use crate::convert::{truth_of, whole};
 use crate::first::asked_at;
 use crate::order::ordered;
 use crate::places::{number_first, placed, reached_placed};
-use crate::sets::{append, down_from, reach, reached, single, started};
+use crate::sets::{append, down_from, reach, reached, reaches_any, single, started};
 use crate::ways::{way_of, way_of_one};
 use std::alloc::Global;
 use std::cmp::Ordering;
@@ -168,6 +168,10 @@ fn take<A: Around>(
         reach(found, forest, node, axis, &step.test)?;
         return Ok(());
     }
+    // Most nodes below which `//` begins have nothing to ask.
+    if !reaches_any(forest, node, axis, &step.test) {
+        return Ok(());
+    }
     let kept = from_one(alloc, forest, around, axis, step, node, context)?;
     append(found, &kept)?;
     Ok(())
@@ -197,9 +201,6 @@ fn from_one<A: Around>(
         }
         None => {
             let nodes = reached(alloc, forest, node, axis, &step.test)?;
-            if nodes.is_empty() {
-                return Ok(nodes);
-            }
             kept_by_all(alloc, forest, around, predicates, 0, nodes, context)
         }
     }

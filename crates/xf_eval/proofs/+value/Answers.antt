@@ -1,4 +1,4 @@
-use Rattle.std.proofs.Common.{◌≡◌, ◌*◌, suc, ◌+◌, ◌-◌, ◌<◌, ◌≤◌, inl, inr, [], ◌∷◌, drop, take, Some, None, option_map, true, false, length, map, refl, sym, ap, ◌∙◌, subst, arith, rules, tests}
+use Rattle.std.proofs.Common.{◌≡◌, ◌++◌, ◌*◌, suc, ◌+◌, ◌-◌, ◌<◌, ◌≤◌, inl, inr, [], ◌∷◌, drop, take, Some, None, option_map, true, false, length, map, refl, sym, ap, ◌∙◌, subst, arith, rules, tests}
 use denote.Param.Weighed.{most}
 use Rattle.std.proofs.lemmas.Result.{err_from_is_err_and}
 use Rattle.xf_ast.specs.declared.expr.Expr.{size-Expr}
@@ -30,7 +30,7 @@ use Rattle.xf_eval.proofs.Arguments.{branched-long, branched-then, branched-else
 use Rattle.xf_eval.proofs.Falls.{chain-falls, filter-falls, from-falls}
 use Rattle.xf_eval.proofs.Kept.{kept-counted, kept-long, live-added, none-kept, taken-done}
 use Rattle.xf_eval.proofs.Links.{link-compared, link-long}
-use Rattle.xf_eval.proofs.Lists.{onto, onto-start}
+use Rattle.xf_eval.proofs.Lists.{append-none, onto, onto-start}
 use Rattle.xf_eval.proofs.Lives.{live-get, live-in_order, live-is, live-item, reached-live}
 use Rattle.xf_eval.proofs.Parts.{argument-past, argument-within, by-other, by-own, call-worth, linked-both, linked-long}
 use Rattle.xf_eval.proofs.Runs.{added}
@@ -515,12 +515,15 @@ steps::taken_from-ordered-requires-2-clause-forward g t c =
     let step = c.args.step.now in
     forward-in_order c.args.axis step.test (map meaning step.predicates) s c.args.node.number c.in_ok-kept.kept c.args.forest.now c.are_trees.ensures refl c.in_ok-kept.ensures.value
 
-pub steps::from_one-returns-then-is_empty-clause-value : goal.steps::from_one-returns-then-is_empty-clause-value
-steps::from_one-returns-then-is_empty-clause-value g t c =
+pub steps::take-returns-then-not-reaches_any : goal.steps::take-returns-then-not-reaches_any
+steps::take-returns-then-not-reaches_any g t c =
     let s = setting_at (g.A.Around.given c.args.around.now) c.args.forest.now.forest.nodes c.args.context.now in
     let ms = map meaning c.args.step.now.predicates in
-    let none : c.in_ok-nodes-in-None.nodes ≡ [] = c.if-is_empty.ensures.0 refl in
-    ap (kept_by_all s ms) (sym c.in_ok-nodes-in-None.ensures.value ∙ none) ∙ none-kept s ms ∙ ap Some (sym none)
+    let found = c.args.found.now in
+    record {
+      value = ap (λ ns. option_map (λ kept. found ++ kept) (kept_by_all s ms ns)) (c.reaches_any.ensures (c.if-not-reaches_any.true))
+          ∙ ap (option_map (λ kept. found ++ kept)) (none-kept s ms) ∙ ap Some (append-none found);
+    }
 
 pub steps::taken_from-returns-in_err-kept-clause-value : goal.steps::taken_from-returns-in_err-kept-clause-value
 steps::taken_from-returns-in_err-kept-clause-value g t c =
