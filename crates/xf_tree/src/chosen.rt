@@ -12,7 +12,7 @@ use crate::lookup::{Hint, is_kin_at, parent_row, row_of};
 use crate::rows::{Row, end_of};
 use crate::slot::number_of;
 use crate::slots::Slots;
-use crate::sought::{Sought, next_found};
+use crate::sought::{Principal, Sought, next_found};
 use crate::walk::Left;
 use std::alloc::AllocError;
 use xf_doc::{NodeId, NodeList};
@@ -191,7 +191,38 @@ fn push_by_steps(
 }
 
 /// Of trees, the tops that have this depth, are no attributes and are sought.
+#[inline(always)]
 fn push_trees(
+    found: &mut NodeList,
+    rows: &[Row],
+    slots: &Slots,
+    at: usize,
+    end: usize,
+    depth: u32,
+    sought: Sought<'_>,
+) -> Result<(), AllocError>
+    requires nodes { AreNodes slots.now rows.now }
+    requires within { end ≤ length rows.now }
+    requires deep { AllDeep depth (between at end rows.now) }
+    ensures { OnOk result (found.new ≡ found.old ++ sought_within slots.now rows.now sought.entry (is_kin depth false) at end) }
+{
+    match sought {
+        Sought::Named(Principal::Element, asked) => push_tops(
+            found,
+            rows,
+            slots,
+            at,
+            end,
+            depth,
+            Sought::Named(Principal::Element, asked),
+        ),
+        _ => push_tops(found, rows, slots, at, end, depth, sought),
+    }
+}
+
+/// The same. Where it is called with a name, no other kind of search is thought of in the loop.
+#[inline(always)]
+fn push_tops(
     found: &mut NodeList,
     rows: &[Row],
     slots: &Slots,
@@ -234,7 +265,35 @@ fn push_attributes(
 }
 
 /// Of the nodes from one place to before another, those that are no attributes and are sought.
+#[inline(always)]
 fn push_rows(
+    found: &mut NodeList,
+    rows: &[Row],
+    slots: &Slots,
+    at: usize,
+    end: usize,
+    sought: Sought<'_>,
+) -> Result<(), AllocError>
+    requires nodes { AreNodes slots.now rows.now }
+    requires within { end ≤ length rows.now }
+    ensures { OnOk result (found.new ≡ found.old ++ sought_within slots.now rows.now sought.entry is_plain at end) }
+{
+    match sought {
+        Sought::Named(Principal::Element, asked) => push_between(
+            found,
+            rows,
+            slots,
+            at,
+            end,
+            Sought::Named(Principal::Element, asked),
+        ),
+        _ => push_between(found, rows, slots, at, end, sought),
+    }
+}
+
+/// The same. Where it is called with a name, no other kind of search is thought of in the loop.
+#[inline(always)]
+fn push_between(
     found: &mut NodeList,
     rows: &[Row],
     slots: &Slots,

@@ -128,7 +128,9 @@ impl Names {
     {
         match self.get(number) {
             Some(name) => {
-                asked.space == name.meaning.space && asked.local.is(name.meaning.local.as_str())
+                asked.space == name.meaning.space
+                    && asked.local.len() == name.meaning.local.len()
+                    && asked.local.is(name.meaning.local.as_str())
             }
             None => false,
         }

@@ -3,7 +3,7 @@ use Rattle.xf_tree.specs.Found.{alone_where, is_plain_sought, sought_within}
 use Rattle.xf_tree.specs.Tree.{no_row, node_of}
 use Rattle.xf_tree.specs.Walks.{is_plain, number_of_row}
 use Rattle.xf_tree.proofs.SoughtLemmas.{rows-on, within-none}
-use Rattle.xf_tree.proofs.chosen.push_rows.Goals as goal
+use Rattle.xf_tree.proofs.chosen.push_between.Goals as goal
 
 pub loop-next-preserved : goal.loop-next-preserved
 loop-next-preserved c =

@@ -4,7 +4,7 @@ use Rattle.xf_tree.specs.Tree.{is_kin, no_row, node_of, same_kind}
 use Rattle.xf_tree.specs.Walks.{number_of_row}
 use Rattle.xf_tree.proofs.WalkLemmas.{behind}
 use Rattle.xf_tree.proofs.SoughtLemmas.{trees-on, within-none}
-use Rattle.xf_tree.proofs.chosen.push_trees.Goals as goal
+use Rattle.xf_tree.proofs.chosen.push_tops.Goals as goal
 
 pub loop-next-preserved : goal.loop-next-preserved
 loop-next-preserved c =
