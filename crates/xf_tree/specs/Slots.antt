@@ -1,5 +1,5 @@
 -- What the entries of the slab stand for, by the table of names.
-use Rattle.std.specs.Prelude.{ℕ, Bool, true, false, if◌then◌else◌, ◌+◌, List, map, min, Option, Some, None, IsSome, option_map, slice_get}
+use Rattle.std.specs.Prelude.{ℕ, Bool, true, false, ◌+◌, List, map, min, Option, Some, None, IsSome, option_map, slice_get}
 use Rattle.slab.specs.Slab.{Slab, get, slab_len}
 use Rattle.xf_doc.specs.declared.content.Content.{Content}
 use Rattle.xf_doc.specs.declared.content.Content.TheVariants.{Root, Element, Attribute, Text}

@@ -1,4 +1,4 @@
-use Rattle.std.proofs.Common.{◌++◌, ◌+◌, length, get_or, append-nil, append_assoc, sym, ap, ◌∙◌, arith}
+use Rattle.std.proofs.Common.{◌++◌, ◌+◌, get_or, append-nil, append_assoc, sym, ap, ◌∙◌, arith}
 use Rattle.slab.specs.Slab.{get}
 use Rattle.xf_tree.specs.declared.walk.Left.TheVariants.{Attributes}
 use Rattle.xf_tree.specs.Found.{alone_where, left_met}
