@@ -1,12 +1,14 @@
 -- Places that go up, each once, are those of a set in document order.
-use Rattle.std.proofs.Common.{◌≡◌, ℕ, zero, suc, ◌+◌, ◌<◌, ◌≤◌, ◌==◌, ◌&&◌, ◌||◌, Bool, true, false, List, [], ◌∷◌, ◌++◌, map, length, drop, get_or, nat_lt, refl, sym, ap, ◌∙◌, subst, inl, inr, arith, length-drop}
+use Rattle.std.proofs.Common.{◌≡◌, ℕ, zero, suc, ◌+◌, ◌<◌, ◌≤◌, ◌==◌, ◌&&◌, ◌||◌, Bool, true, false, List, [], ◌∷◌, ◌++◌, map, length, take, drop, get_or, nat_lt, refl, sym, ap, ◌∙◌, subst, inl, inr, arith, length-drop}
 use Rattle.std.specs.Prelude.{filter, IsSorted}
 use Rattle.std.specs.List.{list_any, All}
 use Rattle.std.specs.Ordering.{is_lt, is_le, nat_cmp}
 use Rattle.std.proofs.lemmas.Bool.{cases_Bool, true≢false, cases_lt, cases_eq}
 use Rattle.std.proofs.Math.Seq.{drop-cons}
+use Rattle.std.proofs.lemmas.List.{map-append, take_more}
 use Rattle.slab.specs.Slab.{Slab}
 use Rattle.xf_doc.specs.declared.content.Node.{Node}
+use Rattle.xf_doc.specs.declared.node.NodeId.{NodeId}
 use Rattle.xf_doc.specs.Forest.{has_number}
 use Rattle.xf_doc.specs.Order.{in_order}
 use Rattle.xf_doc.specs.Visit.{Visit, still_above, numbers, visits_from, visits, has}
@@ -211,3 +213,64 @@ all-within end (p ∷ ps) h = by (all-within end ps h.1)
     by : ((k d : ℕ) → k < length ps → get_or ps k d < end) → (k d : ℕ) → k < length (p ∷ ps) → get_or (p ∷ ps) k d < end
     by later zero d l = h.0
     by later (suc k) d l = later k d (omega (arith, l))
+
+-- ---- places that rise
+
+-- each is greater than the one before it, from the least on, and all are less than an end
+abbrev pub AreRising : ℕ → List ℕ → ℕ → Type 0
+AreRising least [] end = least ≤ end
+AreRising least (p ∷ ps) end = (least ≤ p) × AreRising (suc p) ps end
+
+rising-more : (least : ℕ) (ps : List ℕ) (end at : ℕ) → AreRising least ps end → end ≤ at → AreRising least (ps ++ at ∷ []) (suc at)
+rising-more least [] end at r h = (omega (arith, r, h), omega arith)
+rising-more least (p ∷ ps) end at r h = (r.0, rising-more (suc p) ps end at r.1 h)
+
+rising-up : (low least : ℕ) (ps : List ℕ) (end : ℕ) → low ≤ least → AreRising least ps end → AreUp low ps
+rising-up low least [] end h r = tt
+rising-up low least (p ∷ ps) end h r = (omega (arith, h, r.0), rising-up p (suc p) ps end (omega arith) r.1)
+
+rising-once : (least : ℕ) (ps : List ℕ) (end : ℕ) → AreRising least ps end → each_once least ps ≡ ps
+rising-once least [] end r = refl
+rising-once least (p ∷ ps) end r = rw (lt-false p least r.0) (ap (λ l. p ∷ l) (rising-once (suc p) ps end r.1))
+
+-- nodes that stand at places that rise, all before this one
+pub record StandUp (s : Slab Slot) (rows : List Row) (ns : List ℕ) (next : ℕ) : Type 0 where
+  pub places : List ℕ
+  pub rising : AreRising 0 places next
+  pub nodes : map (number_of_row s rows) places ≡ ns
+  pub same : (at : ℕ) → is_among at places ≡ stands_one s rows ns at
+
+pub up-none : (s : Slab Slot) (rows : List Row) → StandUp s rows [] 0
+up-none s rows = record { places = []; rising = omega arith; nodes = refl; same = λ at. none (nat_lt at (length rows)) }
+  where
+    none : (b : Bool) → false ≡ (b && false)
+    none true = refl
+    none false = refl
+
+pub up-more : (s : Slab Slot) (rows : List Row) (ns : List ℕ) (next n at : ℕ) → times n (map (node_of s) rows) ≤ 1 → StandUp s rows ns next → StandsAt s rows n at → next ≤ at
+    → StandUp s rows (ns ++ n ∷ []) (at + 1)
+up-more s rows ns next n at few up there h =
+    let e : suc at ≡ at + 1 = omega arith in
+    record {
+      places = up.places ++ at ∷ [];
+      rising = subst (AreRising 0 (up.places ++ at ∷ [])) e (rising-more 0 up.places next at up.rising h);
+      nodes = map-append (number_of_row s rows) up.places (at ∷ []) ∙ ap (λ l. l ++ number_of_row s rows at ∷ []) up.nodes ∙ ap (λ m. ns ++ m ∷ []) there.number;
+      same = λ k. rank-more s rows ns up.places n at k few there (up.same k);
+    }
+
+-- such nodes are in document order, each once
+pub up-means : (s : Slab Slot) (rows : List Row) (ns : List ℕ) (next : ℕ) → StandUp s rows ns next → in_order (visits (map (node_of s) rows)) ns ≡ ns
+up-means s rows ns next up =
+    sym (order-means s rows ns up.places (rising-up 0 0 up.places next (omega arith) up.rising) up.same)
+    ∙ ap (map (number_of_row s rows)) (rising-once 0 up.places next up.rising) ∙ up.nodes
+
+-- the numbers of one node more
+pub numbers-more : (i : ℕ) (nodes : List NodeId) (d : NodeId) → i < length nodes
+    → map (λ (n : NodeId). n.number) (take (i + 1) nodes) ≡ map (λ (n : NodeId). n.number) (take i nodes) ++ (get_or nodes i d).number ∷ []
+numbers-more i nodes d h = ap (map (λ (n : NodeId). n.number)) (take_more nodes i d h) ∙ map-append (λ (n : NodeId). n.number) (take i nodes) (get_or nodes i d ∷ [])
+
+pub take-past : {X : Type 0} (i : ℕ) (xs : List X) → length xs ≤ i → take i xs ≡ xs
+take-past zero [] h = refl
+take-past zero (x ∷ xs) h = absurd (omega arith)
+take-past (suc i) [] h = refl
+take-past (suc i) (x ∷ xs) h = ap (λ l. x ∷ l) (take-past i xs (omega (arith, h)))

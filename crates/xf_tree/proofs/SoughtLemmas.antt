@@ -1,21 +1,26 @@
 -- What is sought among the nodes of a walk.
-use Rattle.std.proofs.Common.{◌≡◌, ℕ, zero, suc, ◌+◌, ◌-◌, ◌<◌, ◌≤◌, ◌&&◌, Bool, true, false, List, [], ◌∷◌, ◌++◌, map, length, slice_get, Option, Some, option_map, refl, sym, ap, ◌∙◌, arith, get_or}
+use Rattle.std.proofs.Common.{◌≡◌, ℕ, zero, suc, ◌+◌, ◌-◌, ◌<◌, ◌≤◌, ◌&&◌, Bool, true, false, List, [], ◌∷◌, ◌++◌, map, length, drop, slice_get, Option, Some, None, option_map, append-nil, refl, sym, ap, ◌∙◌, arith, get_or}
 use Rattle.std.specs.Prelude.{filter}
+use Rattle.std.proofs.Math.ListN.{drop_of_length-le}
 use Rattle.slab.specs.Slab.{Slab, get}
 use Rattle.xf_name.specs.declared.axis.Axis.{Axis}
+use Rattle.xf_name.specs.declared.axis.Axis.TheVariants as axis
 use Rattle.xf_doc.specs.declared.content.Node.{Node}
-use Rattle.xf_doc.specs.Axis.{axis_from}
+use Rattle.xf_doc.specs.Axis.{axis_of, axis_from}
 use Rattle.xf_doc.specs.Forest.{content_at, has_number}
-use Rattle.xf_doc.specs.Visit.{Visit, visits}
+use Rattle.xf_doc.specs.Visit.{Visit, numbers, visits}
 use Rattle.xf_tree.specs.declared.rows.Row.{Row}
 use Rattle.xf_tree.specs.declared.sought.Sought.{Sought}
 use Rattle.xf_tree.specs.declared.walk.Left.{Left}
+use Rattle.xf_tree.specs.declared.walk.Left.TheVariants.{Attributes}
+use Rattle.xf_tree.specs.Rows.{parent_row_of, tree_of}
 use Rattle.xf_tree.specs.Slot.{Slot}
 use Rattle.xf_tree.specs.Sought.{is_met, is_sought, met_on}
 use Rattle.xf_tree.specs.Found.{alone_where, is_met_in, left_met, walk_met, sought_within, is_kin_sought, is_plain_sought, IsFound}
 use Rattle.xf_tree.specs.Tree.{node_of, content_in, is_kin, no_row, same_kind}
-use Rattle.xf_tree.specs.Walks.{between, chosen, is_plain, left_of, number_of_row, IsStep, AreNodes}
-use Rattle.xf_tree.proofs.PlaceLemmas.{stands}
+use Rattle.xf_tree.specs.Walks.{attributes_ahead, between, chosen, is_plain, left_of, number_of_row, walk_of, IsStep, AreNodes}
+use Rattle.xf_tree.proofs.AxisLemmas.{self-axis, child-axis, attribute-axis, parent-axis}
+use Rattle.xf_tree.proofs.PlaceLemmas.{split-at, stands}
 use Rattle.xf_tree.proofs.NodeLemmas.{parted-node}
 use Rattle.xf_tree.proofs.ReadLemmas.{find-none}
 use Rattle.xf_tree.proofs.WalkLemmas.{Behind, kin-found, kin-passed, between-first, between-none, chosen-yes, chosen-no}
@@ -23,6 +28,12 @@ use Rattle.xf_tree.proofs.WalkLemmas.{Behind, kin-found, kin-passed, between-fir
 -- on no axis from a node that is not there
 pub met-absent : (axis : Axis) (sought : Sought) (nodes : List Node) (n : ℕ) → has_number n nodes ≡ false → met_on axis sought nodes n ≡ []
 met-absent axis sought nodes n h = ap (λ m. filter (λ k. is_met sought (content_at k nodes)) (map (λ (x : Visit). x.number) (axis_from axis (visits nodes) m))) (find-none n [] nodes h)
+
+first-ahead : (d : ℕ) (y : Node) (ys : List Node) → is_kin d true y ≡ true → numbers (attributes_ahead d (y ∷ ys)) ≡ y.number ∷ numbers (attributes_ahead d ys)
+first-ahead d y ys e = rw e refl
+
+none-ahead : (d : ℕ) (y : Node) (ys : List Node) → is_kin d true y ≡ false → numbers (attributes_ahead d (y ∷ ys)) ≡ []
+none-ahead d y ys e = rw e refl
 
 module _ (s : Slab Slot) (rows : List Row) (sought : Sought) (nodes : AreNodes s rows) where
   -- a node is sought by what it is
@@ -111,6 +122,61 @@ module _ (s : Slab Slot) (rows : List Row) (sought : Sought) (nodes : AreNodes s
       → sought_within s rows sought is_plain next end ≡ alone_where b (number_of_row s rows next) ++ sought_within s rows sought is_plain (next + 1) end
   rows-on next end true l m within e = rows-found next end l m within (sym e)
   rows-on next end false l m within e = sym (rows-passed next end l m within (sym e))
+
+  -- ---- a node that comes first
+
+  one-by : (at : ℕ) (ns : List ℕ) (b : Bool) → at < length rows → is_sought sought (content_in (get s (get_or rows at no_row).key)) ≡ b
+      → filter (is_met_in s rows sought) (number_of_row s rows at ∷ ns) ≡ alone_where b (number_of_row s rows at) ++ filter (is_met_in s rows sought) ns
+  one-by at ns true within e = kept (number_of_row s rows at) ns (met-is at within ∙ e)
+  one-by at ns false within e = passed (number_of_row s rows at) ns (met-is at within ∙ e)
+
+  pub one-on : (at : ℕ) (ns : List ℕ) → at < length rows
+      → filter (is_met_in s rows sought) (number_of_row s rows at ∷ ns) ≡ alone_where (is_sought sought (content_in (get s (get_or rows at no_row).key))) (number_of_row s rows at) ++ filter (is_met_in s rows sought) ns
+  one-on at ns within = one-by at ns (is_sought sought (content_in (get s (get_or rows at no_row).key))) within refl
+
+  -- ---- among attributes
+
+  pub attributes-on : (d at : ℕ) → at < length rows → is_kin d true (node_of s (get_or rows at no_row)) ≡ true
+      → left_met s rows sought (Attributes at d) ≡ alone_where (is_sought sought (content_in (get s (get_or rows at no_row).key))) (number_of_row s rows at) ++ left_met s rows sought (Attributes (at + 1) d)
+  attributes-on d at within e =
+      ap (filter (is_met_in s rows sought)) (ap (λ l. numbers (attributes_ahead d (map (node_of s) l))) (split-at at rows no_row within) ∙ first-ahead d (node_of s (get_or rows at no_row)) (map (node_of s) (drop (at + 1) rows)) e)
+      ∙ one-on at (numbers (attributes_ahead d (map (node_of s) (drop (at + 1) rows)))) within
+
+  pub attributes-stop : (d at : ℕ) → at < length rows → is_kin d true (node_of s (get_or rows at no_row)) ≡ false → left_met s rows sought (Attributes at d) ≡ []
+  attributes-stop d at within e =
+      ap (filter (is_met_in s rows sought)) (ap (λ l. numbers (attributes_ahead d (map (node_of s) l))) (split-at at rows no_row within) ∙ none-ahead d (node_of s (get_or rows at no_row)) (map (node_of s) (drop (at + 1) rows)) e)
+
+  pub attributes-end : (d at : ℕ) → length rows ≤ at → left_met s rows sought (Attributes at d) ≡ []
+  attributes-end d at h = ap (λ l. filter (is_met_in s rows sought) (numbers (attributes_ahead d (map (node_of s) l)))) (drop_of_length-le rows h)
+
+  -- ---- on each axis
+
+  pub child-met : (a : Axis) (at end d : ℕ) → at < length rows → a ≡ axis.Child → end ≡ at + length (tree_of (drop at rows)) → d ≡ (get_or rows at no_row).depth + 1
+      → sought_within s rows sought (is_kin d false) (at + 1) end ≡ met_on a sought (map (node_of s) rows) (number_of_row s rows at)
+  child-met a at end d within is ends deep = rw (is, ends, deep) (ap (filter (is_met_in s rows sought)) (child-axis s rows at nodes within))
+
+  pub attribute-met : (a : Axis) (at d : ℕ) → at < length rows → a ≡ axis.Attribute → d ≡ (get_or rows at no_row).depth + 1
+      → left_met s rows sought (Attributes (at + 1) d) ≡ met_on a sought (map (node_of s) rows) (number_of_row s rows at)
+  attribute-met a at d within is deep = rw (is, deep) (ap (filter (is_met_in s rows sought)) (attribute-axis s rows at nodes within))
+
+  alone : (at : ℕ) → at < length rows
+      → alone_where (is_sought sought (content_in (get s (get_or rows at no_row).key))) (number_of_row s rows at) ≡ filter (is_met_in s rows sought) (number_of_row s rows at ∷ [])
+  alone at within = sym (one-on at [] within ∙ append-nil (alone_where (is_sought sought (content_in (get s (get_or rows at no_row).key))) (number_of_row s rows at)))
+
+  pub self-met : (a : Axis) (at : ℕ) → at < length rows → a ≡ axis.Self_
+      → alone_where (is_sought sought (content_in (get s (get_or rows at no_row).key))) (number_of_row s rows at) ≡ met_on a sought (map (node_of s) rows) (number_of_row s rows at)
+  self-met a at within is = rw is (alone at within ∙ ap (filter (is_met_in s rows sought)) (self-axis s rows at nodes within))
+
+  pub parent-met : (a : Axis) (at above : ℕ) → at < length rows → above < length rows → a ≡ axis.Parent → Some above ≡ parent_row_of rows at
+      → alone_where (is_sought sought (content_in (get s (get_or rows above no_row).key))) (number_of_row s rows above) ≡ met_on a sought (map (node_of s) rows) (number_of_row s rows at)
+  parent-met a at above within inside is e = rw is (alone above inside ∙ ap (filter (is_met_in s rows sought)) (parent-axis s rows at (Some above) nodes within e))
+
+  pub no_parent-met : (a : Axis) (at : ℕ) → at < length rows → a ≡ axis.Parent → None ≡ parent_row_of rows at → [] ≡ met_on a sought (map (node_of s) rows) (number_of_row s rows at)
+  no_parent-met a at within is e = rw is (ap (filter (is_met_in s rows sought)) (parent-axis s rows at None nodes within e))
+
+  pub axis-met : (a : Axis) (at : ℕ) (first : Option ℕ) (left : Left) → walk_of s rows first left ≡ axis_of a (number_of_row s rows at) (visits (map (node_of s) rows))
+      → walk_met s rows sought first left ≡ met_on a sought (map (node_of s) rows) (number_of_row s rows at)
+  axis-met a at first left e = ap (filter (is_met_in s rows sought)) e
 
   -- ---- the first node of a walk
 

@@ -1,5 +1,5 @@
 -- What the entries of the slab stand for, by the table of names.
-use Rattle.std.specs.Prelude.{ℕ, Bool, true, false, if◌then◌else◌, ◌+◌, List, map, min, Option, Some, None, IsSome, option_map, slice_get}
+use Rattle.std.specs.Prelude.{ℕ, Bool, true, false, ◌+◌, List, map, min, Option, Some, None, IsSome, option_map, slice_get}
 use Rattle.slab.specs.Slab.{Slab, get, slab_len}
 use Rattle.xf_doc.specs.declared.content.Content.{Content}
 use Rattle.xf_doc.specs.declared.content.Content.TheVariants.{Root, Element, Attribute, Text}
@@ -61,7 +61,7 @@ is_of_kind principal.Element other = false
 is_of_kind principal.Attribute kind.Attribute = true
 is_of_kind principal.Attribute other = false
 
--- the number of the name of an element, or of an attribute
-abbrev pub principal_number : Principal → Option Entry → Option ℕ
-principal_number p None = None
-principal_number p (Some e) = if is_of_kind p e.kind then Some e.name else None
+-- a number, or none
+abbrev pub number_where : Bool → ℕ → Option ℕ
+number_where true n = Some n
+number_where false n = None

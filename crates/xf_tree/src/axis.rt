@@ -83,6 +83,17 @@ pub fn start(
     }
 }
 
+/// The depth of the children and attributes.
+#[inline(always)]
+pub fn child_depth(rows: &[Row], at: usize) -> u32
+    requires within { at < length rows.now }
+    requires steps { AreSteps 0 (depths rows.now) }
+    requires few { length rows.now < 2 ^ 31 }
+    ensures { result ≡ (slice_index_or rows.now at no_row).depth + 1 }
+{
+    rows[at].depth + 1
+}
+
 /// The children.
 fn right_below(rows: &[Row], at: usize) -> Left
     requires within { at < length rows.now }
@@ -94,7 +105,7 @@ fn right_below(rows: &[Row], at: usize) -> Left
     Left::Trees {
         at: at + 1,
         end: end_of(rows, at),
-        depth: rows[at].depth + 1,
+        depth: child_depth(rows, at),
     }
 }
 
@@ -107,7 +118,7 @@ fn own_attributes(rows: &[Row], at: usize) -> Left
 {
     Left::Attributes {
         at: at + 1,
-        depth: rows[at].depth + 1,
+        depth: child_depth(rows, at),
     }
 }
 

@@ -1,18 +1,18 @@
 //! The nodes on an axis that are sought there.
-ghost use Rattle.std.specs.Prelude.{◌≡◌, ◌≤◌, false, [], ◌∷◌, ◌++◌, ◌<◌, length, map, option_map, slice_get, IfSome, OnOk};
-ghost use Rattle.xf_tree.specs.Sought.{met_on};
-ghost use Rattle.xf_tree.specs.Found.{alone_where, left_met, sought_within, walk_met};
+ghost use Rattle.std.specs.Prelude.{◌≡◌, ◌≤◌, false, [], ◌∷◌, ◌++◌, ◌<◌, length, map, option_map, slice_get, slice_index_or, IfSome, OnOk};
+ghost use Rattle.xf_tree.specs.Sought.{is_sought, met_on};
+ghost use Rattle.xf_tree.specs.Found.{alone_where, is_kin_sought, is_plain_sought, left_met, sought_within, walk_met};
 ghost use Rattle.xf_tree.specs.Rows.{AllDeep};
-ghost use Rattle.xf_tree.specs.Tree.{is_kin, node_of};
+ghost use Rattle.xf_tree.specs.Tree.{is_kin, no_row, node_of};
 ghost use Rattle.xf_tree.specs.Walks.{AreNodes, IsReady, IsWalk, between, is_plain, number_of_row};
 
-use crate::axis::start;
+use crate::axis::{child_depth, start};
 use crate::forest::Forest;
-use crate::lookup::{Hint, row_of};
+use crate::lookup::{Hint, is_kin_at, parent_row, row_of};
 use crate::rows::{Row, end_of};
 use crate::slot::number_of;
 use crate::slots::Slots;
-use crate::sought::{Sought, is_kin_sought_at, is_plain_sought_at, next_found};
+use crate::sought::{Principal, Sought, next_found};
 use crate::walk::Left;
 use std::alloc::AllocError;
 use xf_doc::{NodeId, NodeList};
@@ -83,8 +83,49 @@ fn push_on_axis(
     let Some(at) = row_of(rows, slots, hints, node) else {
         return Ok(());
     };
-    let (first, left) = start(rows, slots, hints, at, axis);
-    push_found(found, rows, slots, hints, first, left, sought)
+    push_from(found, rows, slots, hints, at, axis, sought)
+}
+
+/// Puts behind other nodes those on an axis from the node at a place that are sought. The axes that are walked most go straight.
+fn push_from(
+    found: &mut NodeList,
+    rows: &[Row],
+    slots: &Slots,
+    hints: &[Hint],
+    at: usize,
+    axis: Axis,
+    sought: Sought<'_>,
+) -> Result<(), AllocError>
+    requires nodes { AreNodes slots.now rows.now }
+    requires within { at < length rows.now }
+    ensures { OnOk result (found.new ≡ found.old ++ met_on axis sought.entry (map (node_of slots.now) rows.now) (number_of_row slots.now rows.now at)) }
+{
+    match axis {
+        Axis::Child => {
+            let end = end_of(rows, at);
+            push_trees(
+                found,
+                rows,
+                slots,
+                at + 1,
+                end,
+                child_depth(rows, at),
+                sought,
+            )
+        }
+        Axis::Attribute => {
+            push_attributes(found, rows, slots, at + 1, child_depth(rows, at), sought)
+        }
+        Axis::Self_ => push_sought(found, rows, slots, at, sought),
+        Axis::Parent => match parent_row(rows, hints, at) {
+            Some(above) => push_sought(found, rows, slots, above, sought),
+            None => Ok(()),
+        },
+        _ => {
+            let (first, left) = start(rows, slots, hints, at, axis);
+            push_found(found, rows, slots, hints, first, left, sought)
+        }
+    }
 }
 
 /// Puts behind other nodes those of a walk that are sought.
@@ -104,10 +145,7 @@ fn push_found(
     let Some(at) = first else {
         return push_left(found, rows, slots, hints, left, sought);
     };
-    if !slots.is_sought(rows[at].key, sought) {
-        return push_left(found, rows, slots, hints, left, sought);
-    }
-    push_row(found, rows, slots, at)?;
+    push_sought(found, rows, slots, at, sought)?;
     push_left(found, rows, slots, hints, left, sought)
 }
 
@@ -153,7 +191,38 @@ fn push_by_steps(
 }
 
 /// Of trees, the tops that have this depth, are no attributes and are sought.
+#[inline(always)]
 fn push_trees(
+    found: &mut NodeList,
+    rows: &[Row],
+    slots: &Slots,
+    at: usize,
+    end: usize,
+    depth: u32,
+    sought: Sought<'_>,
+) -> Result<(), AllocError>
+    requires nodes { AreNodes slots.now rows.now }
+    requires within { end ≤ length rows.now }
+    requires deep { AllDeep depth (between at end rows.now) }
+    ensures { OnOk result (found.new ≡ found.old ++ sought_within slots.now rows.now sought.entry (is_kin depth false) at end) }
+{
+    match sought {
+        Sought::Named(Principal::Element, asked) => push_tops(
+            found,
+            rows,
+            slots,
+            at,
+            end,
+            depth,
+            Sought::Named(Principal::Element, asked),
+        ),
+        _ => push_tops(found, rows, slots, at, end, depth, sought),
+    }
+}
+
+/// The same. Where it is called with a name, no other kind of search is thought of in the loop.
+#[inline(always)]
+fn push_tops(
     found: &mut NodeList,
     rows: &[Row],
     slots: &Slots,
@@ -169,15 +238,62 @@ fn push_trees(
 {
     let mut next = at;
     while next < end {
-        let is_met = is_kin_sought_at(rows, slots, next, depth, sought);
-        push_where(found, rows, slots, next, is_met)?;
+        push_kin(found, rows, slots, next, depth, sought)?;
         next = end_of(rows, next);
     }
     Ok(())
 }
 
+/// Of the attributes of this depth from a place on, to before the first node that is none, those that are sought.
+fn push_attributes(
+    found: &mut NodeList,
+    rows: &[Row],
+    slots: &Slots,
+    at: usize,
+    depth: u32,
+    sought: Sought<'_>,
+) -> Result<(), AllocError>
+    requires { AreNodes slots.now rows.now }
+    ensures { OnOk result (found.new ≡ found.old ++ left_met slots.now rows.now sought.entry (Left.Attributes at depth)) }
+{
+    let mut next = at;
+    while next < rows.len() && is_kin_at(rows, slots, next, depth, true) {
+        push_sought(found, rows, slots, next, sought)?;
+        next += 1;
+    }
+    Ok(())
+}
+
 /// Of the nodes from one place to before another, those that are no attributes and are sought.
+#[inline(always)]
 fn push_rows(
+    found: &mut NodeList,
+    rows: &[Row],
+    slots: &Slots,
+    at: usize,
+    end: usize,
+    sought: Sought<'_>,
+) -> Result<(), AllocError>
+    requires nodes { AreNodes slots.now rows.now }
+    requires within { end ≤ length rows.now }
+    ensures { OnOk result (found.new ≡ found.old ++ sought_within slots.now rows.now sought.entry is_plain at end) }
+{
+    match sought {
+        Sought::Named(Principal::Element, asked) => push_between(
+            found,
+            rows,
+            slots,
+            at,
+            end,
+            Sought::Named(Principal::Element, asked),
+        ),
+        _ => push_between(found, rows, slots, at, end, sought),
+    }
+}
+
+/// The same. Where it is called with a name, no other kind of search is thought of in the loop.
+#[inline(always)]
+fn push_between(
     found: &mut NodeList,
     rows: &[Row],
     slots: &Slots,
@@ -191,28 +307,67 @@ fn push_rows(
 {
     let mut next = at;
     while next < end {
-        let is_met = is_plain_sought_at(slots, rows[next].key, sought);
-        push_where(found, rows, slots, next, is_met)?;
+        push_plain(found, rows, slots, next, sought)?;
         next += 1;
     }
     Ok(())
 }
 
-/// Puts the node of a row behind other nodes where it is wanted.
-fn push_where(
+/// Puts the node of a row behind other nodes where it has this depth, is no attribute and is sought.
+#[inline(always)]
+fn push_kin(
     found: &mut NodeList,
     rows: &[Row],
     slots: &Slots,
     at: usize,
-    is_met: bool,
+    depth: u32,
+    sought: Sought<'_>,
 ) -> Result<(), AllocError>
     requires { at < length rows.now }
-    ensures { OnOk result (found.new ≡ found.old ++ alone_where is_met (number_of_row slots.now rows.now at)) }
+    ensures { OnOk result (found.new ≡ found.old ++ alone_where (is_kin_sought depth sought.entry (node_of slots.now (slice_index_or rows.now at no_row))) (number_of_row slots.now rows.now at)) }
 {
-    if !is_met {
+    if rows[at].depth != depth {
         return Ok(());
     }
-    push_row(found, rows, slots, at)
+    push_plain(found, rows, slots, at, sought)
+}
+
+/// Puts the node of a row behind other nodes where it is no attribute and is sought.
+#[inline(always)]
+fn push_plain(
+    found: &mut NodeList,
+    rows: &[Row],
+    slots: &Slots,
+    at: usize,
+    sought: Sought<'_>,
+) -> Result<(), AllocError>
+    requires { at < length rows.now }
+    ensures { OnOk result (found.new ≡ found.old ++ alone_where (is_plain_sought sought.entry (node_of slots.now (slice_index_or rows.now at no_row))) (number_of_row slots.now rows.now at)) }
+{
+    let place = rows[at].key;
+    match slots.plain_sought_number(place, sought) {
+        Some(number) => found.push(NodeId { number, place }),
+        None => Ok(()),
+    }
+}
+
+/// Puts the node of a row behind other nodes where it is sought.
+#[inline(always)]
+fn push_sought(
+    found: &mut NodeList,
+    rows: &[Row],
+    slots: &Slots,
+    at: usize,
+    sought: Sought<'_>,
+) -> Result<(), AllocError>
+    requires { at < length rows.now }
+    ensures { OnOk result (found.new ≡ found.old ++ alone_where (is_sought sought.entry (node_of slots.now (slice_index_or rows.now at no_row)).content) (number_of_row slots.now rows.now at)) }
+{
+    let place = rows[at].key;
+    match slots.sought_number(place, sought) {
+        Some(number) => found.push(NodeId { number, place }),
+        None => Ok(()),
+    }
 }
 
 /// Puts the node of a row behind other nodes.

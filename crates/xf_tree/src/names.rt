@@ -122,18 +122,22 @@ impl Names {
     }
 
     /// Whether a number is of a name with this namespace and local part.
+    #[inline(always)]
     pub fn has_name(&self, number: u32, asked: &QName) -> bool
         ensures { result ≡ has_name asked.now (named self.now.names (Some number)) }
     {
         match self.get(number) {
             Some(name) => {
-                asked.space == name.meaning.space && asked.local.is(name.meaning.local.as_str())
+                asked.space == name.meaning.space
+                    && asked.local.len() == name.meaning.local.len()
+                    && asked.local.is(name.meaning.local.as_str())
             }
             None => false,
         }
     }
 
     /// Whether a number is of a name in a namespace.
+    #[inline(always)]
     pub fn is_in_space(&self, number: u32, space: u16) -> bool
         ensures { result ≡ is_in_space space (named self.now.names (Some number)) }
     {

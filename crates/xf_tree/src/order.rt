@@ -1,5 +1,5 @@
 //! Sets of nodes in document order.
-ghost use Rattle.std.specs.Prelude.{◌≡◌, ◌<◌, ◌≤◌, ℕ, length, map, IfOk};
+ghost use Rattle.std.specs.Prelude.{◌≡◌, ◌<◌, ◌≤◌, ℕ, true, length, map, IfOk};
 ghost use Rattle.std.specs.List.{All};
 ghost use Rattle.xf_doc.specs.Order.{in_order};
 ghost use Rattle.xf_doc.specs.Visit.{visits};
@@ -21,16 +21,78 @@ impl Forest {
     pub fn in_order(&self, nodes: &NodeList) -> Result<NodeList, AllocError>
         ensures { IfOk result (λ list. list ≡ in_order (visits self.now.forest.nodes) nodes.now) }
     {
-        let mut ranks = ranks_of(
+        if goes_up(&self.rows, &self.slots, &self.hints, nodes.as_slice()) {
+            return copied(self.alloc, nodes.as_slice());
+        }
+        sorted(
             self.alloc,
             &self.rows,
             &self.slots,
             &self.hints,
             nodes.as_slice(),
-        )?;
-        put_up(&mut ranks);
-        nodes_at(self.alloc, &self.rows, &self.slots, &ranks)
+        )
     }
+
+    /// The same of a list that is given away: where it is in document order already, each node once, it comes back itself, and no
+    /// memory is taken.
+    pub fn put_in_order(&self, nodes: NodeList) -> Result<NodeList, AllocError>
+        ensures { IfOk result (λ list. list ≡ in_order (visits self.now.forest.nodes) nodes) }
+    {
+        if goes_up(&self.rows, &self.slots, &self.hints, nodes.as_slice()) {
+            return Ok(nodes);
+        }
+        sorted(
+            self.alloc,
+            &self.rows,
+            &self.slots,
+            &self.hints,
+            nodes.as_slice(),
+        )
+    }
+}
+
+/// Whether these nodes are live, and each stands after the one before it: they are in document order then, each once.
+fn goes_up(rows: &[Row], slots: &Slots, hints: &[Hint], nodes: &[NodeId]) -> bool
+    requires { (n : ℕ) → times n (map (node_of slots.now) rows.now) ≤ 1 }
+    ensures { result ≡ true → in_order (visits (map (node_of slots.now) rows.now)) (map (λ n. n.number) nodes.now) ≡ map (λ n. n.number) nodes.now }
+{
+    let mut next = 0;
+    for node in nodes {
+        let Some(at) = row_of(rows, slots, hints, *node) else {
+            return false;
+        };
+        if at < next {
+            return false;
+        }
+        next = at + 1;
+    }
+    true
+}
+
+fn copied(alloc: Global, nodes: &[NodeId]) -> Result<NodeList, AllocError>
+    ensures { IfOk result (λ list. list ≡ map (λ n. n.number) nodes.now) }
+{
+    let mut list = NodeList::with_capacity(alloc, nodes.len())?;
+    for node in nodes {
+        list.push(*node)?;
+    }
+    Ok(list)
+}
+
+/// A set of nodes in document order, each once, by a sort.
+fn sorted(
+    alloc: Global,
+    rows: &[Row],
+    slots: &Slots,
+    hints: &[Hint],
+    nodes: &[NodeId],
+) -> Result<NodeList, AllocError>
+    requires { (n : ℕ) → times n (map (node_of slots.now) rows.now) ≤ 1 }
+    ensures { IfOk result (λ list. list ≡ in_order (visits (map (node_of slots.now) rows.now)) (map (λ n. n.number) nodes.now)) }
+{
+    let mut ranks = ranks_of(alloc, rows, slots, hints, nodes)?;
+    put_up(&mut ranks);
+    nodes_at(alloc, rows, slots, &ranks)
 }
 
 /// The places of the rows of these nodes, in their order.

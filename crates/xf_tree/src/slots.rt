@@ -1,11 +1,12 @@
 //! What each node is, under a key that it keeps for life.
-ghost use Rattle.std.specs.Prelude.{◌≡◌, ℕ, ◌≤◌, ◌+◌, true, [], None, Some, option_map, OnOk};
+ghost use Rattle.std.specs.Prelude.{◌≡◌, ℕ, ◌≤◌, ◌+◌, ◌&&◌, not, true, [], None, Some, option_map, OnOk};
 ghost use Rattle.slab.specs.Slab.{get, slab_len, Updates, HasRoomFor};
+ghost use Rattle.xf_doc.specs.declared.content.Content.TheVariants.{Root};
 ghost use Rattle.xf_doc.specs.Forest.{is_attribute, is_text, kind_of, name_in, own_text};
 ghost use Rattle.xf_doc.specs.StringValue.{characters};
 ghost use Rattle.xf_doc.specs.WellFormed.{have_same_name};
 ghost use Rattle.xf_tree.specs.Seen.{seen_content};
-ghost use Rattle.xf_tree.specs.Slots.{name_number, is_of_kind, principal_number};
+ghost use Rattle.xf_tree.specs.Slots.{name_number, number_where, is_of_kind, slot_of, IsNamed};
 ghost use Rattle.xf_tree.specs.Sought.{is_sought};
 ghost use Rattle.xf_tree.specs.Texts.{valued_slot, owned_slot};
 ghost use Rattle.xf_tree.specs.Tree.{number_in, content_in};
@@ -64,6 +65,7 @@ impl Slots {
         }
     }
 
+    #[inline(always)]
     pub fn number(&self, key: usize) -> u128
         ensures { result ≡ number_in (get self.now key) }
     {
@@ -74,6 +76,7 @@ impl Slots {
     }
 
     /// The kind of what is under a key: a root where nothing is.
+    #[inline(always)]
     pub fn kind(&self, key: usize) -> Kind
         ensures { result ≡ kind_of (content_in (get self.now key)) }
     {
@@ -159,29 +162,49 @@ impl Slots {
     }
 
     /// Whether what is under a key is sought. No name is fetched where only the kind is asked.
+    #[inline(always)]
     pub fn is_sought(&self, key: usize, sought: Sought<'_>) -> bool
         ensures { result ≡ is_sought sought.entry (content_in (get self.now key)) }
     {
-        match sought {
-            Sought::Any => true,
-            Sought::Texts => match self.kind(key) {
-                Kind::Text => true,
-                _ => false,
-            },
-            Sought::All(principal) => is_of(principal, self.kind(key)),
-            Sought::InSpace(principal, space) => {
-                match principal_number(&self.slab, key, principal) {
-                    Some(number) => self.names.is_in_space(number, space),
-                    None => false,
-                }
-            }
-            Sought::Named(principal, asked) => {
-                match principal_number(&self.slab, key, principal) {
-                    Some(number) => self.names.has_name(number, asked),
-                    None => false,
-                }
-            }
-            Sought::Nothing => false,
+        match self.slab.get(key) {
+            Some(entry) => is_entry_sought(&self.names, entry, sought),
+            None => is_root_sought(sought),
+        }
+    }
+
+    /// Whether what is under a key is no attribute, and is sought. It is looked up once.
+    #[inline(always)]
+    pub fn is_plain_sought(&self, key: usize, sought: Sought<'_>) -> bool
+        ensures { result ≡ (not (is_attribute (content_in (get self.now key))) && is_sought sought.entry (content_in (get self.now key))) }
+    {
+        match self.slab.get(key) {
+            Some(entry) => is_plain_entry_sought(&self.names, entry, sought),
+            None => is_root_sought(sought),
+        }
+    }
+
+    /// The number of what is under a key, where that is sought. It is looked up once.
+    #[inline(always)]
+    pub fn sought_number(&self, key: usize, sought: Sought<'_>) -> Option<u128>
+        ensures { result ≡ number_where (is_sought sought.entry (content_in (get self.now key))) (number_in (get self.now key)) }
+    {
+        match self.slab.get(key) {
+            Some(entry) => number_where(is_entry_sought(&self.names, entry, sought), entry.number),
+            None => number_where(is_root_sought(sought), 0),
+        }
+    }
+
+    /// The same, where it is no attribute either.
+    #[inline(always)]
+    pub fn plain_sought_number(&self, key: usize, sought: Sought<'_>) -> Option<u128>
+        ensures { result ≡ number_where (not (is_attribute (content_in (get self.now key))) && is_sought sought.entry (content_in (get self.now key))) (number_in (get self.now key)) }
+    {
+        match self.slab.get(key) {
+            Some(entry) => number_where(
+                is_plain_entry_sought(&self.names, entry, sought),
+                entry.number,
+            ),
+            None => number_where(is_root_sought(sought), 0),
         }
     }
 
@@ -299,23 +322,61 @@ fn name_number(slab: &Slab<Entry>, key: usize) -> Option<u32>
     }
 }
 
-/// The number of the name of an element, or of an attribute.
-fn principal_number(slab: &Slab<Entry>, key: usize, principal: Principal) -> Option<u32>
-    ensures { result ≡ principal_number principal (get slab.now key) }
+/// Whether the node of an entry is sought. No name is fetched where only the kind is asked.
+#[inline(always)]
+fn is_entry_sought(names: &Names, entry: &Entry, sought: Sought<'_>) -> bool
+    requires { IsNamed names.now.names (Some entry.now) }
+    ensures { result ≡ is_sought sought.entry (slot_of names.now.names entry.now).content }
 {
-    match slab.get(key) {
-        Some(entry) => {
-            if is_of(principal, entry.kind) {
-                Some(entry.name)
-            } else {
-                None
-            }
+    match sought {
+        Sought::Any => true,
+        Sought::Texts => match entry.kind {
+            Kind::Text => true,
+            _ => false,
+        },
+        Sought::All(principal) => is_of(principal, entry.kind),
+        Sought::InSpace(principal, space) => {
+            is_of(principal, entry.kind) && names.is_in_space(entry.name, space)
         }
-        None => None,
+        Sought::Named(principal, asked) => {
+            is_of(principal, entry.kind) && names.has_name(entry.name, asked)
+        }
+        Sought::Nothing => false,
     }
 }
 
+/// Whether the node of an entry is no attribute, and is sought.
+#[inline(always)]
+fn is_plain_entry_sought(names: &Names, entry: &Entry, sought: Sought<'_>) -> bool
+    requires { IsNamed names.now.names (Some entry.now) }
+    ensures { result ≡ (not (is_attribute (slot_of names.now.names entry.now).content) && is_sought sought.entry (slot_of names.now.names entry.now).content) }
+{
+    match entry.kind {
+        Kind::Attribute => false,
+        _ => is_entry_sought(names, entry, sought),
+    }
+}
+
+/// Whether a root is sought, for which an empty key stands.
+#[inline(always)]
+fn is_root_sought(sought: Sought<'_>) -> bool
+    ensures { result ≡ is_sought sought.entry Root }
+{
+    match sought {
+        Sought::Any => true,
+        _ => false,
+    }
+}
+
+#[inline(always)]
+fn number_where(is: bool, number: u128) -> Option<u128>
+    ensures { result ≡ number_where is number }
+{
+    if is { Some(number) } else { None }
+}
+
 /// Whether a kind is the principal one of an axis.
+#[inline(always)]
 fn is_of(principal: Principal, kind: Kind) -> bool
     ensures { result ≡ is_of_kind principal kind }
 {

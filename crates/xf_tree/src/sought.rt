@@ -1,16 +1,12 @@
 //! What is sought on the axes of nodes, by kind or by name.
-ghost use Rattle.std.specs.Prelude.{◌≡◌, ◌&&◌, ◌<◌, ◌≤◌, not, [], true, false, length, MatchOption, slice_index_or};
-ghost use Rattle.xf_doc.specs.Forest.{is_attribute};
+ghost use Rattle.std.specs.Prelude.{◌≡◌, ◌<◌, ◌≤◌, [], true, false, length, MatchOption, slice_index_or};
 ghost use Rattle.xf_tree.specs.Found.{IsFound, is_kin_sought, is_plain_sought, left_met, sought_within};
 ghost use Rattle.xf_tree.specs.Rows.{AllDeep};
-ghost use Rattle.xf_tree.specs.Sought.{is_sought};
-ghost use Rattle.slab.specs.Slab.{get};
-ghost use Rattle.xf_tree.specs.Tree.{content_in, is_kin, node_of, no_row};
+ghost use Rattle.xf_tree.specs.Tree.{is_kin, node_of, no_row};
 ghost use Rattle.xf_tree.specs.Walks.{AreNodes, IsReady, between, chosen, is_plain};
 
 use crate::lookup::Hint;
 use crate::rows::{Row, end_of};
-use crate::slot::is_attribute_at;
 use crate::slots::Slots;
 use crate::walk::{Left, step};
 use xf_name::QName;
@@ -118,29 +114,17 @@ fn found_in_rows(rows: &[Row], slots: &Slots, at: usize, end: usize, sought: Sou
     ensures same { sought_within slots.now rows.now sought.entry is_plain result end ≡ sought_within slots.now rows.now sought.entry is_plain at end }
 {
     let mut next = at;
-    while next < end && !is_plain_sought_at(slots, rows[next].key, sought) {
+    while next < end && !slots.is_plain_sought(rows[next].key, sought) {
         next += 1;
     }
     next
 }
 
 /// Whether the row at a place has this depth, is of no attribute, and is sought.
-pub fn is_kin_sought_at(
-    rows: &[Row],
-    slots: &Slots,
-    at: usize,
-    depth: u32,
-    sought: Sought<'_>,
-) -> bool
+#[inline(always)]
+fn is_kin_sought_at(rows: &[Row], slots: &Slots, at: usize, depth: u32, sought: Sought<'_>) -> bool
     requires { at < length rows.now }
     ensures { result ≡ is_kin_sought depth sought.entry (node_of slots.now (slice_index_or rows.now at no_row)) }
 {
-    rows[at].depth == depth && is_plain_sought_at(slots, rows[at].key, sought)
-}
-
-/// Whether what is under a key is no attribute, and is sought.
-pub fn is_plain_sought_at(slots: &Slots, key: usize, sought: Sought<'_>) -> bool
-    ensures { result ≡ (not (is_attribute (content_in (get slots.now key))) && is_sought sought.entry (content_in (get slots.now key))) }
-{
-    !is_attribute_at(slots, key) && slots.is_sought(key, sought)
+    rows[at].depth == depth && slots.is_plain_sought(rows[at].key, sought)
 }

@@ -1,10 +1,10 @@
-use Rattle.std.proofs.Common.{◌++◌, ◌<◌, ◌≤◌, length, append-nil, append_assoc, false, sym, ap, ◌∙◌, arith}
-use Rattle.xf_tree.specs.Found.{alone_where, sought_within}
-use Rattle.xf_tree.specs.Tree.{is_kin, same_kind}
+use Rattle.std.proofs.Common.{◌++◌, ◌<◌, ◌≤◌, length, get_or, refl, append-nil, append_assoc, false, sym, ap, ◌∙◌, arith}
+use Rattle.xf_tree.specs.Found.{alone_where, is_kin_sought, sought_within}
+use Rattle.xf_tree.specs.Tree.{is_kin, no_row, node_of, same_kind}
 use Rattle.xf_tree.specs.Walks.{number_of_row}
 use Rattle.xf_tree.proofs.WalkLemmas.{behind}
 use Rattle.xf_tree.proofs.SoughtLemmas.{trees-on, within-none}
-use Rattle.xf_tree.proofs.chosen.push_trees.Goals as goal
+use Rattle.xf_tree.proofs.chosen.push_tops.Goals as goal
 
 pub loop-next-preserved : goal.loop-next-preserved
 loop-next-preserved c =
@@ -15,12 +15,12 @@ loop-next-preserved c =
     let end = c.args.end in
     let stop = c.end_of-next.result in
     let left = sought_within s rows c.args.sought (is_kin c.args.depth false) stop end in
-    let is = c.is_kin_sought_at-is_met.result in
+    let is = is_kin_sought c.args.depth c.args.sought (node_of s (get_or rows next no_row)) in
     let b = behind s c.args.depth (same_kind false) rows next end stop c.loop-next-test.true c.requires.within i.deep c.end_of-next.ensures.answer in
     let within : next < length rows = omega (arith, c.loop-next-test.true, c.requires.within) in
     record {
-      same = ap (λ l. l ++ left) c.in_ok-push_where.ensures ∙ append_assoc c.loop-next.found (alone_where is (number_of_row s rows next)) left
-          ∙ ap (λ l. c.loop-next.found ++ l) (sym (trees-on s rows c.args.sought c.requires.nodes c.args.depth next end stop is b within c.is_kin_sought_at-is_met.ensures)) ∙ i.same;
+      same = ap (λ l. l ++ left) c.in_ok-push_kin.ensures ∙ append_assoc c.loop-next.found (alone_where is (number_of_row s rows next)) left
+          ∙ ap (λ l. c.loop-next.found ++ l) (sym (trees-on s rows c.args.sought c.requires.nodes c.args.depth next end stop is b within refl)) ∙ i.same;
       deep = b.deep;
     }
 

@@ -3,7 +3,7 @@ use Rattle.xf_tree.specs.Rows.{AllDeep}
 use Rattle.xf_tree.specs.Tree.{is_kin}
 use Rattle.xf_tree.specs.Found.{sought_within}
 use Rattle.xf_tree.specs.Walks.{between}
-use Rattle.xf_tree.proofs.chosen.push_trees.Given as goal
+use Rattle.xf_tree.proofs.chosen.push_tops.Given as goal
 
 abbrev pub invariant-loop-next : goal.invariant-loop-next
 invariant-loop-next l = record {

@@ -1,7 +1,7 @@
 use Rattle.std.proofs.Common.{◌≡◌, ◌++◌, ◌-◌}
 use Rattle.xf_tree.specs.Found.{sought_within}
 use Rattle.xf_tree.specs.Walks.{is_plain}
-use Rattle.xf_tree.proofs.chosen.push_rows.Given as goal
+use Rattle.xf_tree.proofs.chosen.push_between.Given as goal
 
 abbrev pub invariant-loop-next : goal.invariant-loop-next
 invariant-loop-next l = l.found ++ sought_within l.slots l.rows l.sought is_plain l.next l.end ≡ l.initial.found ++ sought_within l.slots l.rows l.sought is_plain l.fn.at l.end
