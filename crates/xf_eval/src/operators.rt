@@ -128,5 +128,5 @@ fn united(alloc: Global, forest: &Forest, left: Value, right: Value) -> Result<N
     let mut nodes = nodes_in(alloc, left);
     let more = nodes_in(alloc, right);
     append(&mut nodes, &more)?;
-    forest.in_order(&nodes)
+    forest.put_in_order(nodes)
 }

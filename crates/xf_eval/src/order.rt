@@ -25,7 +25,7 @@ pub(crate) fn ordered(forest: &Forest, axis: Axis, nodes: NodeList) -> Result<No
     if !is_reverse(axis) {
         return Ok(nodes);
     }
-    forest.in_order(&nodes)
+    forest.put_in_order(nodes)
 }
 
 /// Whether an axis has the nearest node first where that comes last in document order.

@@ -90,7 +90,7 @@ fn all_below(alloc: Global, forest: &Forest, nodes: &NodeList) -> Result<NodeLis
             &Test::Node,
         )?;
     }
-    forest.in_order(&found)
+    forest.put_in_order(found)
 }
 
 /// All nodes from one down: they are reached in document order.

@@ -145,7 +145,7 @@ pub(crate) fn taken<A: Around>(
             &mut found, alloc, forest, around, axis, step, *node, context,
         )?;
     }
-    Ok(forest.in_order(&found)?)
+    Ok(forest.put_in_order(found)?)
 }
 
 /// Puts behind other nodes what a step selects on an axis from a node.

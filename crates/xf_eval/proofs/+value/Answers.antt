@@ -555,10 +555,10 @@ steps::taken-returns-clause-value g t c =
     let nodes = c.args.forest.now.forest.nodes in
     let s = setting_at (g.A.Around.given c.args.around.now) nodes c.args.context.now in
     let step = c.args.step.now in
-    taken-done nodes (from_one c.args.axis step.test (map meaning step.predicates) s) c.loop-node.found c.in_ok-in_order.field-0 c.args.from.now c.as_slice-node-items.result.now c.loop-node.node-index
-    c.as_slice-node-items.ensures c.loop-node.invariant c.loop-node-test.false c.in_ok-in_order.ensures
+    taken-done nodes (from_one c.args.axis step.test (map meaning step.predicates) s) c.loop-node.found c.in_ok-put_in_order.field-0 c.args.from.now c.as_slice-node-items.result.now c.loop-node.node-index
+    c.as_slice-node-items.ensures c.loop-node.invariant c.loop-node-test.false c.in_ok-put_in_order.ensures
 
 pub steps::taken-returns-clause-live : goal.steps::taken-returns-clause-live
 steps::taken-returns-clause-live g t c =
     let nodes = c.args.forest.now.forest.nodes in
-    live-is nodes c.in_ok-in_order.ensures (live-in_order _ nodes)
+    live-is nodes c.in_ok-put_in_order.ensures (live-in_order _ nodes)

@@ -12,9 +12,9 @@ returns-clause-value c =
     let all = visits c.args.forest.now.forest.nodes in
     let both : c.append.new.nodes ≡ nodes_of c.args.left ++ nodes_of c.args.right =
     c.in_ok-append.ensures ∙ ap (λ l. l ++ c.nodes_in-more.result) c.nodes_in-nodes.ensures ∙ ap (λ l. nodes_of c.args.left ++ l) c.nodes_in-more.ensures in
-    IfOk-weaker c.in_order.result _ _ (λ nodes h. h ∙ ap (in_order all) both ∙ sym (in_order-erased all (nodes_of c.args.left ++ nodes_of c.args.right))) c.in_order.ensures
+    IfOk-weaker c.put_in_order.result _ _ (λ nodes h. h ∙ ap (in_order all) both ∙ sym (in_order-erased all (nodes_of c.args.left ++ nodes_of c.args.right))) c.put_in_order.ensures
 
 pub returns-clause-live : goal.returns-clause-live
 returns-clause-live c =
     let nodes = c.args.forest.now.forest.nodes in
-    IfOk-weaker c.in_order.result _ _ (λ found h. live-is nodes h (live-in_order c.append.new.nodes nodes)) c.in_order.ensures
+    IfOk-weaker c.put_in_order.result _ _ (λ found h. live-is nodes h (live-in_order c.append.new.nodes nodes)) c.put_in_order.ensures

@@ -13,9 +13,9 @@ returns-then-len-lt2-clause-value c =
 
 pub returns-clause-value : goal.returns-clause-value
 returns-clause-value c =
-    IfOk-weaker c.in_order.result _ _ (λ found h. h ∙ sym (in_order-erased (visits c.args.forest.now.forest.nodes) c.args.nodes)) c.in_order.ensures
+    IfOk-weaker c.put_in_order.result _ _ (λ found h. h ∙ sym (in_order-erased (visits c.args.forest.now.forest.nodes) c.args.nodes)) c.put_in_order.ensures
 
 pub returns-clause-live : goal.returns-clause-live
 returns-clause-live c =
     let nodes = c.args.forest.now.forest.nodes in
-    IfOk-weaker c.in_order.result _ _ (λ found h. live-is nodes h (live-in_order c.args.nodes nodes)) c.in_order.ensures
+    IfOk-weaker c.put_in_order.result _ _ (λ found h. live-is nodes h (live-in_order c.args.nodes nodes)) c.put_in_order.ensures

@@ -25,9 +25,9 @@ returns-clause-value c =
     let below : List ℕ → List ℕ = flat_map (reached DescendantOrSelf Node (seen nodes)) in
     let all : c.loop-node.found ≡ below c.args.nodes.now =
     c.loop-node.invariant ∙ ap (λ l. below (map (λ (n : NodeId). n.number) l)) (take_all c.loop-node.node-index ids c.loop-node-test.false) ∙ ap below c.as_slice-node-items.ensures in
-    IfOk-weaker c.in_order.result _ _ (λ found h. h ∙ ap (in_order (visits nodes)) all ∙ sym (in_order-erased (visits nodes) (below c.args.nodes.now))) c.in_order.ensures
+    IfOk-weaker c.put_in_order.result _ _ (λ found h. h ∙ ap (in_order (visits nodes)) all ∙ sym (in_order-erased (visits nodes) (below c.args.nodes.now))) c.put_in_order.ensures
 
 pub returns-clause-live : goal.returns-clause-live
 returns-clause-live c =
     let nodes = c.args.forest.now.forest.nodes in
-    IfOk-weaker c.in_order.result _ _ (λ found h. live-is nodes h (live-in_order c.loop-node.found nodes)) c.in_order.ensures
+    IfOk-weaker c.put_in_order.result _ _ (λ found h. live-is nodes h (live-in_order c.loop-node.found nodes)) c.put_in_order.ensures
