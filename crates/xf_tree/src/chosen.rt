@@ -12,7 +12,7 @@ use crate::lookup::{Hint, is_kin_at, parent_row, row_of};
 use crate::rows::{Row, end_of};
 use crate::slot::number_of;
 use crate::slots::Slots;
-use crate::sought::{Principal, Sought, next_found};
+use crate::sought::{Principal, Sought, found_in_trees, next_found};
 use crate::walk::Left;
 use std::alloc::AllocError;
 use xf_doc::{NodeId, NodeList};
@@ -396,8 +396,74 @@ fn row_on_axis(
     let Some(at) = row_of(rows, slots, hints, from) else {
         return None;
     };
-    let (first, left) = start(rows, slots, hints, at, axis);
-    row_found(rows, slots, hints, first, left, sought, place)
+    row_from(rows, slots, hints, at, axis, sought, place)
+}
+
+/// The same from the node at a place. To the children it goes straight.
+fn row_from(
+    rows: &[Row],
+    slots: &Slots,
+    hints: &[Hint],
+    at: usize,
+    axis: Axis,
+    sought: Sought<'_>,
+    place: usize,
+) -> Option<usize>
+    requires nodes { AreNodes slots.now rows.now }
+    requires within { at < length rows.now }
+    ensures answer { option_map (number_of_row slots.now rows.now) result ≡ slice_get (met_on axis sought.entry (map (node_of slots.now) rows.now) (number_of_row slots.now rows.now at)) place }
+    ensures within { IfSome result (λ found. found < length rows.now) }
+{
+    match axis {
+        Axis::Child => {
+            let end = end_of(rows, at);
+            row_in_trees(
+                rows,
+                slots,
+                at + 1,
+                end,
+                child_depth(rows, at),
+                sought,
+                place,
+            )
+        }
+        _ => {
+            let (first, left) = start(rows, slots, hints, at, axis);
+            row_found(rows, slots, hints, first, left, sought, place)
+        }
+    }
+}
+
+/// The row at a place, from 0, of the tops of trees that have this depth, are no attributes and are sought.
+fn row_in_trees(
+    rows: &[Row],
+    slots: &Slots,
+    at: usize,
+    end: usize,
+    depth: u32,
+    sought: Sought<'_>,
+    place: usize,
+) -> Option<usize>
+    requires nodes { AreNodes slots.now rows.now }
+    requires within { end ≤ length rows.now }
+    requires deep { AllDeep depth (between at end rows.now) }
+    ensures answer { option_map (number_of_row slots.now rows.now) result ≡ slice_get (sought_within slots.now rows.now sought.entry (is_kin depth false) at end) place }
+    ensures within { IfSome result (λ found. found < length rows.now) }
+{
+    let mut before = place;
+    let mut next = at;
+    while next < end {
+        let here = found_in_trees(rows, slots, next, end, depth, sought);
+        if here >= end {
+            return None;
+        }
+        if before == 0 {
+            return Some(here);
+        }
+        before -= 1;
+        next = end_of(rows, here);
+    }
+    None
 }
 
 /// The row at a place, from 0, of those of a walk whose nodes are sought.
