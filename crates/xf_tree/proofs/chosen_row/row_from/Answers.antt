@@ -1,10 +1,10 @@
-use Rattle.std.proofs.Common.{◌+◌, length, get_or, slice_get, sym, ap, ◌∙◌, subst}
+use Rattle.std.proofs.Common.{◌+◌, get_or, slice_get, sym, ap, ◌∙◌, subst}
 use Rattle.xf_tree.specs.Rows.{AllDeep}
 use Rattle.xf_tree.specs.Tree.{no_row}
 use Rattle.xf_tree.specs.Walks.{between}
 use Rattle.xf_tree.proofs.AxisLemmas.{tree-deep}
 use Rattle.xf_tree.proofs.SoughtLemmas.{child-met, axis-met}
-use Rattle.xf_tree.proofs.chosen.row_from.Goals as goal
+use Rattle.xf_tree.proofs.chosen_row.row_from.Goals as goal
 
 pub row_in_trees-requires-clause-deep : goal.row_in_trees-requires-clause-deep
 row_in_trees-requires-clause-deep c =
