@@ -86,6 +86,7 @@ fn found_by_steps(
 }
 
 /// The place of the next top of a tree that has this depth, is no attribute and is sought, or the end or past it where there is none.
+#[inline(always)]
 pub fn found_in_trees(
     rows: &[Row],
     slots: &Slots,
