@@ -13,7 +13,7 @@ use Rattle.xf_tree.specs.declared.rows.Row.{Row}
 use Rattle.xf_tree.specs.declared.sought.Sought.{Sought}
 use Rattle.xf_tree.specs.declared.walk.Left.{Left}
 use Rattle.xf_tree.specs.declared.walk.Left.TheVariants.{Attributes}
-use Rattle.xf_tree.specs.Rows.{parent_row_of, tree_of}
+use Rattle.xf_tree.specs.Rows.{AllDeep, parent_row_of, tree_of}
 use Rattle.xf_tree.specs.Slot.{Slot}
 use Rattle.xf_tree.specs.Sought.{is_met, is_sought, met_on}
 use Rattle.xf_tree.specs.Found.{alone_where, is_met_in, left_met, walk_met, sought_within, is_kin_sought, is_plain_sought, IsFound}
@@ -23,7 +23,7 @@ use Rattle.xf_tree.proofs.AxisLemmas.{self-axis, child-axis, attribute-axis, par
 use Rattle.xf_tree.proofs.PlaceLemmas.{split-at, stands}
 use Rattle.xf_tree.proofs.NodeLemmas.{parted-node}
 use Rattle.xf_tree.proofs.ReadLemmas.{find-none}
-use Rattle.xf_tree.proofs.WalkLemmas.{Behind, kin-found, kin-passed, between-first, between-none, chosen-yes, chosen-no}
+use Rattle.xf_tree.proofs.WalkLemmas.{Behind, behind, kin-found, kin-passed, between-first, between-none, chosen-yes, chosen-no}
 
 -- on no axis from a node that is not there
 pub met-absent : (axis : Axis) (sought : Sought) (nodes : List Node) (n : ℕ) → has_number n nodes ≡ false → met_on axis sought nodes n ≡ []
@@ -87,6 +87,14 @@ module _ (s : Slab Slot) (rows : List Row) (sought : Sought) (nodes : AreNodes s
       let is = is_sought sought (content_in (get s (get_or rows next no_row).key)) in
       ap (filter (is_met_in s rows sought)) (kin-found s d (same_kind false) rows next end stop b (and-first kin is e))
       ∙ kept (number_of_row s rows next) (chosen s (is_kin d false) (between stop end rows)) (met-is next within ∙ and-second kin is e)
+
+  -- where the next that is found stands
+  pub trees-next : (d next here end : ℕ) → here < end → end ≤ length rows → AllDeep d (between here end rows)
+      → sought_within s rows sought (is_kin d false) here end ≡ sought_within s rows sought (is_kin d false) next end → is_kin_sought d sought (node_of s (get_or rows here no_row)) ≡ true
+      → sought_within s rows sought (is_kin d false) next end ≡ number_of_row s rows here ∷ sought_within s rows sought (is_kin d false) (here + length (tree_of (drop here rows))) end
+  trees-next d next here end l m deep same e =
+      let stop = here + length (tree_of (drop here rows)) in
+      sym same ∙ trees-found d here end stop (behind s d (same_kind false) rows here end stop l m deep refl) (omega (arith, l, m)) e
 
   pub trees-on : (d next end stop : ℕ) (b : Bool) → Behind s d (same_kind false) rows next end stop → next < length rows → b ≡ is_kin_sought d sought (node_of s (get_or rows next no_row))
       → sought_within s rows sought (is_kin d false) next end ≡ alone_where b (number_of_row s rows next) ++ sought_within s rows sought (is_kin d false) stop end

@@ -57,6 +57,7 @@ fn walk_from<'a>(
 }
 
 /// The first node of a walk and what it has left then.
+#[inline(always)]
 pub fn start(
     rows: &[Row],
     slots: &Slots,

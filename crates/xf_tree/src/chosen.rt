@@ -1,5 +1,5 @@
 //! The nodes on an axis that are sought there.
-ghost use Rattle.std.specs.Prelude.{◌≡◌, ◌≤◌, false, [], ◌∷◌, ◌++◌, ◌<◌, length, map, option_map, slice_get, slice_index_or, IfSome, OnOk};
+ghost use Rattle.std.specs.Prelude.{◌≡◌, ◌≤◌, false, [], ◌∷◌, ◌++◌, ◌<◌, length, map, slice_index_or, OnOk};
 ghost use Rattle.xf_tree.specs.Sought.{is_sought, met_on};
 ghost use Rattle.xf_tree.specs.Found.{alone_where, is_kin_sought, is_plain_sought, left_met, sought_within, walk_met};
 ghost use Rattle.xf_tree.specs.Rows.{AllDeep};
@@ -39,32 +39,6 @@ impl Forest {
             axis,
             sought,
         )
-    }
-
-    /// The node at a place, from 0, among those on an axis from a node that are sought. The walk goes no further.
-    pub fn chosen_at(
-        &self,
-        from: NodeId,
-        axis: Axis,
-        sought: Sought<'_>,
-        place: usize,
-    ) -> Option<NodeId>
-        ensures { option_map (λ n. n.number) result ≡ slice_get (met_on axis sought.entry self.now.forest.nodes from.number) place }
-    {
-        let found = row_on_axis(
-            &self.rows,
-            &self.slots,
-            &self.hints,
-            from,
-            axis,
-            sought,
-            place,
-        )?;
-        let place = self.rows[found].key;
-        Some(NodeId {
-            number: number_of(&self.slots, place),
-            place,
-        })
     }
 }
 
@@ -378,77 +352,4 @@ fn push_row(found: &mut NodeList, rows: &[Row], slots: &Slots, at: usize) -> Res
     let place = rows[at].key;
     let number = number_of(slots, place);
     found.push(NodeId { number, place })
-}
-
-fn row_on_axis(
-    rows: &[Row],
-    slots: &Slots,
-    hints: &[Hint],
-    from: NodeId,
-    axis: Axis,
-    sought: Sought<'_>,
-    place: usize,
-) -> Option<usize>
-    requires { AreNodes slots.now rows.now }
-    ensures answer { option_map (number_of_row slots.now rows.now) result ≡ slice_get (met_on axis sought.entry (map (node_of slots.now) rows.now) from.number) place }
-    ensures within { IfSome result (λ at. at < length rows.now) }
-{
-    let Some(at) = row_of(rows, slots, hints, from) else {
-        return None;
-    };
-    let (first, left) = start(rows, slots, hints, at, axis);
-    row_found(rows, slots, hints, first, left, sought, place)
-}
-
-/// The row at a place, from 0, of those of a walk whose nodes are sought.
-fn row_found(
-    rows: &[Row],
-    slots: &Slots,
-    hints: &[Hint],
-    first: Option<usize>,
-    left: Left,
-    sought: Sought<'_>,
-    place: usize,
-) -> Option<usize>
-    requires nodes { AreNodes slots.now rows.now }
-    requires walk { IsWalk rows.now first left }
-    ensures answer { option_map (number_of_row slots.now rows.now) result ≡ slice_get (walk_met slots.now rows.now sought.entry first left) place }
-    ensures within { IfSome result (λ at. at < length rows.now) }
-{
-    let Some(at) = first else {
-        return row_left(rows, slots, hints, left, sought, place);
-    };
-    if !slots.is_sought(rows[at].key, sought) {
-        return row_left(rows, slots, hints, left, sought, place);
-    }
-    if place == 0 {
-        return Some(at);
-    }
-    row_left(rows, slots, hints, left, sought, place - 1)
-}
-
-/// The same of what is left of a walk.
-fn row_left(
-    rows: &[Row],
-    slots: &Slots,
-    hints: &[Hint],
-    left: Left,
-    sought: Sought<'_>,
-    place: usize,
-) -> Option<usize>
-    requires nodes { AreNodes slots.now rows.now }
-    requires ready { IsReady rows.now left }
-    ensures answer { option_map (number_of_row slots.now rows.now) result ≡ slice_get (left_met slots.now rows.now sought.entry left) place }
-    ensures within { IfSome result (λ at. at < length rows.now) }
-{
-    let mut before = place;
-    let mut rest = left;
-    while let Some((at, behind)) = next_found(rows, slots, hints, rest, sought) {
-        if before == 0 {
-            return Some(at);
-        }
-        before -= 1;
-        rest = behind;
-    }
-    None
 }

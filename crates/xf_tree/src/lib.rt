@@ -9,6 +9,7 @@ mod before;
 mod change;
 mod child;
 mod chosen;
+mod chosen_row;
 mod declare;
 mod drop;
 mod fault;

@@ -30,6 +30,7 @@ pub enum Sought<'a> {
 }
 
 /// The next row of a walk whose node is sought, and what is left behind it.
+#[inline(always)]
 pub fn next_found(
     rows: &[Row],
     slots: &Slots,
@@ -62,6 +63,7 @@ pub fn next_found(
 }
 
 /// The same by single steps of the walk.
+#[inline(always)]
 fn found_by_steps(
     rows: &[Row],
     slots: &Slots,
@@ -84,7 +86,8 @@ fn found_by_steps(
 }
 
 /// The place of the next top of a tree that has this depth, is no attribute and is sought, or the end or past it where there is none.
-fn found_in_trees(
+#[inline(always)]
+pub fn found_in_trees(
     rows: &[Row],
     slots: &Slots,
     at: usize,

@@ -76,6 +76,7 @@ impl<'a> Iterator for Walk<'a> {
 }
 
 /// The row that comes next, and what is left behind it.
+#[inline(always)]
 pub fn step(rows: &[Row], slots: &Slots, hints: &[Hint], left: Left) -> Option<(usize, Left)>
     requires sized { Sized rows.now }
     requires ready { IsReady rows.now left }

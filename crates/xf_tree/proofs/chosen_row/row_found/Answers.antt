@@ -2,7 +2,7 @@ use Rattle.std.proofs.Common.{◌<◌, ◌∷◌, length, slice_get, IfSome, sym
 use Rattle.xf_tree.specs.Found.{left_met}
 use Rattle.xf_tree.specs.Walks.{number_of_row}
 use Rattle.xf_tree.proofs.SoughtLemmas.{first-found, first-passed, get-behind}
-use Rattle.xf_tree.proofs.chosen.row_found.Goals as goal
+use Rattle.xf_tree.proofs.chosen_row.row_found.Goals as goal
 
 pub returns-then-not-is_sought-clause-answer : goal.returns-then-not-is_sought-clause-answer
 returns-then-not-is_sought-clause-answer c =

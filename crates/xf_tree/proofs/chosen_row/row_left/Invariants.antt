@@ -1,7 +1,7 @@
 use Rattle.std.proofs.Common.{◌≡◌, length, slice_get}
 use Rattle.xf_tree.specs.Found.{left_met}
 use Rattle.xf_tree.specs.Walks.{IsReady}
-use Rattle.xf_tree.proofs.chosen.row_left.Given as goal
+use Rattle.xf_tree.proofs.chosen_row.row_left.Given as goal
 
 abbrev pub invariant-loop-at : goal.invariant-loop-at
 invariant-loop-at l = record {

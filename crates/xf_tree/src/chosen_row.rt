@@ -1,0 +1,185 @@
+//! The node at a place among those on an axis that are sought.
+ghost use Rattle.std.specs.Prelude.{◌≡◌, ◌≤◌, false, ◌<◌, length, map, option_map, slice_get, IfSome};
+ghost use Rattle.xf_tree.specs.Sought.{met_on};
+ghost use Rattle.xf_tree.specs.Found.{left_met, sought_within, walk_met};
+ghost use Rattle.xf_tree.specs.Rows.{AllDeep};
+ghost use Rattle.xf_tree.specs.Tree.{is_kin, node_of};
+ghost use Rattle.xf_tree.specs.Walks.{AreNodes, IsReady, IsWalk, between, number_of_row};
+
+use crate::axis::{child_depth, start};
+use crate::forest::Forest;
+use crate::lookup::{Hint, row_of};
+use crate::rows::{Row, end_of};
+use crate::slot::number_of;
+use crate::slots::Slots;
+use crate::sought::{Sought, found_in_trees, next_found};
+use crate::walk::Left;
+use xf_doc::NodeId;
+use xf_name::Axis;
+
+impl Forest {
+    /// The node at a place, from 0, among those on an axis from a node that are sought. The walk goes no further.
+    pub fn chosen_at(
+        &self,
+        from: NodeId,
+        axis: Axis,
+        sought: Sought<'_>,
+        place: usize,
+    ) -> Option<NodeId>
+        ensures { option_map (λ n. n.number) result ≡ slice_get (met_on axis sought.entry self.now.forest.nodes from.number) place }
+    {
+        let found = row_on_axis(
+            &self.rows,
+            &self.slots,
+            &self.hints,
+            from,
+            axis,
+            sought,
+            place,
+        )?;
+        let place = self.rows[found].key;
+        Some(NodeId {
+            number: number_of(&self.slots, place),
+            place,
+        })
+    }
+}
+
+fn row_on_axis(
+    rows: &[Row],
+    slots: &Slots,
+    hints: &[Hint],
+    from: NodeId,
+    axis: Axis,
+    sought: Sought<'_>,
+    place: usize,
+) -> Option<usize>
+    requires { AreNodes slots.now rows.now }
+    ensures answer { option_map (number_of_row slots.now rows.now) result ≡ slice_get (met_on axis sought.entry (map (node_of slots.now) rows.now) from.number) place }
+    ensures within { IfSome result (λ at. at < length rows.now) }
+{
+    let Some(at) = row_of(rows, slots, hints, from) else {
+        return None;
+    };
+    row_from(rows, slots, hints, at, axis, sought, place)
+}
+
+/// The same from the node at a place. To the children it goes straight.
+fn row_from(
+    rows: &[Row],
+    slots: &Slots,
+    hints: &[Hint],
+    at: usize,
+    axis: Axis,
+    sought: Sought<'_>,
+    place: usize,
+) -> Option<usize>
+    requires nodes { AreNodes slots.now rows.now }
+    requires within { at < length rows.now }
+    ensures answer { option_map (number_of_row slots.now rows.now) result ≡ slice_get (met_on axis sought.entry (map (node_of slots.now) rows.now) (number_of_row slots.now rows.now at)) place }
+    ensures within { IfSome result (λ found. found < length rows.now) }
+{
+    match axis {
+        Axis::Child => {
+            let end = end_of(rows, at);
+            row_in_trees(
+                rows,
+                slots,
+                at + 1,
+                end,
+                child_depth(rows, at),
+                sought,
+                place,
+            )
+        }
+        _ => {
+            let (first, left) = start(rows, slots, hints, at, axis);
+            row_found(rows, slots, hints, first, left, sought, place)
+        }
+    }
+}
+
+/// The row at a place, from 0, of the tops of trees that have this depth, are no attributes and are sought.
+fn row_in_trees(
+    rows: &[Row],
+    slots: &Slots,
+    at: usize,
+    end: usize,
+    depth: u32,
+    sought: Sought<'_>,
+    place: usize,
+) -> Option<usize>
+    requires nodes { AreNodes slots.now rows.now }
+    requires within { end ≤ length rows.now }
+    requires deep { AllDeep depth (between at end rows.now) }
+    ensures answer { option_map (number_of_row slots.now rows.now) result ≡ slice_get (sought_within slots.now rows.now sought.entry (is_kin depth false) at end) place }
+    ensures within { IfSome result (λ found. found < length rows.now) }
+{
+    let mut ahead = place;
+    let mut next = at;
+    while next < end {
+        let here = found_in_trees(rows, slots, next, end, depth, sought);
+        if here >= end {
+            return None;
+        }
+        if ahead == 0 {
+            return Some(here);
+        }
+        ahead -= 1;
+        next = end_of(rows, here);
+    }
+    None
+}
+
+/// The row at a place, from 0, of those of a walk whose nodes are sought.
+fn row_found(
+    rows: &[Row],
+    slots: &Slots,
+    hints: &[Hint],
+    first: Option<usize>,
+    left: Left,
+    sought: Sought<'_>,
+    place: usize,
+) -> Option<usize>
+    requires nodes { AreNodes slots.now rows.now }
+    requires walk { IsWalk rows.now first left }
+    ensures answer { option_map (number_of_row slots.now rows.now) result ≡ slice_get (walk_met slots.now rows.now sought.entry first left) place }
+    ensures within { IfSome result (λ at. at < length rows.now) }
+{
+    let Some(at) = first else {
+        return row_left(rows, slots, hints, left, sought, place);
+    };
+    if !slots.is_sought(rows[at].key, sought) {
+        return row_left(rows, slots, hints, left, sought, place);
+    }
+    if place == 0 {
+        return Some(at);
+    }
+    row_left(rows, slots, hints, left, sought, place - 1)
+}
+
+/// The same of what is left of a walk.
+fn row_left(
+    rows: &[Row],
+    slots: &Slots,
+    hints: &[Hint],
+    left: Left,
+    sought: Sought<'_>,
+    place: usize,
+) -> Option<usize>
+    requires nodes { AreNodes slots.now rows.now }
+    requires ready { IsReady rows.now left }
+    ensures answer { option_map (number_of_row slots.now rows.now) result ≡ slice_get (left_met slots.now rows.now sought.entry left) place }
+    ensures within { IfSome result (λ at. at < length rows.now) }
+{
+    let mut before = place;
+    let mut rest = left;
+    while let Some((at, behind)) = next_found(rows, slots, hints, rest, sought) {
+        if before == 0 {
+            return Some(at);
+        }
+        before -= 1;
+        rest = behind;
+    }
+    None
+}
