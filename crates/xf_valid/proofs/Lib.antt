@@ -4,3 +4,4 @@ pub mod InvalidLemmas
 pub mod Told
 pub mod Pieces
 pub mod Dead
+pub mod Unset
