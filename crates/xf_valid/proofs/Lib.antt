@@ -5,3 +5,4 @@ pub mod Told
 pub mod Pieces
 pub mod Dead
 pub mod Unset
+pub mod AskedLemmas

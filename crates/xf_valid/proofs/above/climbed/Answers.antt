@@ -1,4 +1,4 @@
-use Rattle.std.proofs.Common.{◌≡◌, true, ◌&&◌, ◌||◌, Some, None, sym, ap, ◌∙◌}
+use Rattle.std.proofs.Common.{◌≡◌, true, ◌&&◌, ◌||◌, Some, sym, ap, ◌∙◌}
 use Rattle.std.specs.List.{list_all, list_any}
 use Rattle.xf_doc.specs.Visit.{visits, ancestors_of, parent_of}
 use Rattle.xf_doc.proofs.LiveLaws.{parent-live}

@@ -1,6 +1,5 @@
-use Rattle.std.proofs.Common.{◌≡◌, false, sym, ◌∙◌}
+use Rattle.std.proofs.Common.{sym, ◌∙◌}
 use Rattle.xf_doc.specs.Forest.{has_number}
-use Rattle.xf_doc.specs.Visit.{visits, ancestors_of}
 use Rattle.xf_valid.proofs.Dead.{not-live, relevant-dead, readonly-dead}
 use Rattle.xf_valid.proofs.Unset.{closed-above-relevant, closed-above-readonly}
 use Rattle.xf_valid.proofs.above.inherited_by.Goals as goal
