@@ -115,7 +115,13 @@ fn is_open(looks: Looks, found: Inherited) -> bool
 }
 
 /// The truth that the node's own entry has, looked for where one may set it.
-fn own_where(table: &Table, is_set: bool, node: NodeId, property: Property, default: bool) -> bool
+pub(crate) fn own_where(
+    table: &Table,
+    is_set: bool,
+    node: NodeId,
+    property: Property,
+    default: bool,
+) -> bool
     requires computed { is_property property Property.Kind ≡ false }
     requires looks { OnFalse is_set (IsUnset table.now property) }
     ensures { result ≡ own (values_in table.now) property default node.number }

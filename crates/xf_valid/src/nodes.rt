@@ -8,7 +8,7 @@ ghost use Rattle.xf_binds.specs.Kept.{values_in};
 ghost use Rattle.xf_binds.specs.Table.{truth_told};
 ghost use Rattle.xf_valid.specs.Nodes.{marks_in, readonly_in, relevant_in, required_in, valid_in};
 
-use crate::above::inherited_by;
+use crate::above::{inherited_by, own_where};
 use xf_binds::Table;
 use xf_doc::NodeId;
 use xf_model::Property;
@@ -61,7 +61,8 @@ pub fn is_readonly(forest: &Forest, table: &Table, node: NodeId) -> bool
 pub fn is_required(table: &Table, node: NodeId) -> bool
     ensures { result ≡ required_in table.now node.number }
 {
-    own(table, node, Property::Required, false)
+    let is_set = table.sets(Property::Required);
+    own_where(table, is_set, node, Property::Required, false)
 }
 
 /// Whether the last revalidation found it valid, or it came since.
