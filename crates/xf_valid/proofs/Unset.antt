@@ -1,10 +1,11 @@
 -- Where no entry sets a property, those above a node change nothing.
-use Rattle.std.proofs.Common.{◌≡◌, ℕ, Bool, true, false, not, ◌&&◌, ◌||◌, List, [], ◌∷◌, Some, None, is_some, refl, sym, ap, ◌∙◌}
+use Rattle.std.proofs.Common.{◌≡◌, ℕ, ◌<◌, length, Bool, true, false, not, ◌&&◌, ◌||◌, List, [], ◌∷◌, Option, Some, None, option_map, is_some, refl, sym, ap, ◌∙◌, arith}
 use Rattle.std.specs.Bool.{OnFalse}
 use Rattle.std.specs.List.{list_all, list_any}
 use Rattle.xf_doc.specs.declared.content.Node.{Node}
+use Rattle.xf_doc.specs.declared.node.NodeId.{NodeId}
 use Rattle.xf_doc.specs.Forest.{has_number}
-use Rattle.xf_doc.specs.Visit.{visits, ancestors_of, parent_of}
+use Rattle.xf_doc.specs.Visit.{Visit, visits, ancestors_of, parent_of}
 use Rattle.xf_doc.specs.WellFormed.{are_apart}
 use Rattle.xf_model.specs.declared.property.Property.{Property}
 use Rattle.xf_model.specs.declared.property.Property.TheVariants.{Kind, Calculate, Relevant, Readonly}
@@ -16,7 +17,6 @@ use Rattle.xf_binds.proofs.Truths.{has-among, own-among}
 use Rattle.xf_valid.specs.declared.above.Looks.{Looks}
 use Rattle.xf_valid.specs.declared.above.Inherited.{Inherited}
 use Rattle.xf_valid.specs.Looks.{AreLooks, IsUnset, is_open}
-use Rattle.xf_valid.specs.Nodes.{relevant_in, readonly_in}
 use Rattle.xf_valid.proofs.Chains.{no-parent, parent-chain}
 
 pub own-unset : (table : List Kept) (p : Property) (d : Bool) (n : ℕ) → is_property p Kind ≡ false → IsUnset table p → own (values_in table) p d n ≡ d
@@ -74,48 +74,47 @@ or-group : (a b c : Bool) → ((a || b) || c) ≡ (a || (b || c))
 or-group true b c = refl
 or-group false b c = refl
 
-pub relevant-step : (table : List Kept) (nodes : List Node) (at p : ℕ) (was now all : Bool) → are_apart nodes ≡ true → has_number at nodes ≡ true → parent_of at (visits nodes) ≡ Some p
-    → now ≡ (was && own (values_in table) Relevant true p) → (was && list_all (own (values_in table) Relevant true) (ancestors_of at (visits nodes))) ≡ all
-    → (now && list_all (own (values_in table) Relevant true) (ancestors_of p (visits nodes))) ≡ all
-relevant-step table nodes at p was now all a live up is so_far =
-    ap (λ b. b && list_all (own (values_in table) Relevant true) (ancestors_of p (visits nodes))) is
-    ∙ and-group was (own (values_in table) Relevant true p) (list_all (own (values_in table) Relevant true) (ancestors_of p (visits nodes)))
-    ∙ ap (λ ns. was && list_all (own (values_in table) Relevant true) ns) (sym (parent-chain nodes at p a live up)) ∙ so_far
+pub relevant-here : (table : List Kept) (at : ℕ) (above : List ℕ) (was now all : Bool) → now ≡ (was && own (values_in table) Relevant true at)
+    → (was && list_all (own (values_in table) Relevant true) (at ∷ above)) ≡ all → (now && list_all (own (values_in table) Relevant true) above) ≡ all
+relevant-here table at above was now all is so_far =
+    ap (λ b. b && list_all (own (values_in table) Relevant true) above) is ∙ and-group was (own (values_in table) Relevant true at) (list_all (own (values_in table) Relevant true) above) ∙ so_far
 
-pub readonly-step : (table : List Kept) (nodes : List Node) (at p : ℕ) (was now any : Bool) → are_apart nodes ≡ true → has_number at nodes ≡ true → parent_of at (visits nodes) ≡ Some p
-    → now ≡ (was || own_readonly (values_in table) p) → (was || list_any (own_readonly (values_in table)) (ancestors_of at (visits nodes))) ≡ any
-    → (now || list_any (own_readonly (values_in table)) (ancestors_of p (visits nodes))) ≡ any
-readonly-step table nodes at p was now any a live up is so_far =
-    ap (λ b. b || list_any (own_readonly (values_in table)) (ancestors_of p (visits nodes))) is
-    ∙ or-group was (own_readonly (values_in table) p) (list_any (own_readonly (values_in table)) (ancestors_of p (visits nodes)))
-    ∙ ap (λ ns. was || list_any (own_readonly (values_in table)) ns) (sym (parent-chain nodes at p a live up)) ∙ so_far
+pub readonly-here : (table : List Kept) (at : ℕ) (above : List ℕ) (was now any : Bool) → now ≡ (was || own_readonly (values_in table) at)
+    → (was || list_any (own_readonly (values_in table)) (at ∷ above)) ≡ any → (now || list_any (own_readonly (values_in table)) above) ≡ any
+readonly-here table at above was now any is so_far =
+    ap (λ b. b || list_any (own_readonly (values_in table)) above) is ∙ or-group was (own_readonly (values_in table) at) (list_any (own_readonly (values_in table)) above) ∙ so_far
 
--- ---- at the top
+-- a node and those above it
+abbrev pub path : Option ℕ → List Visit → List ℕ
+path None all = []
+path (Some n) all = n ∷ ancestors_of n all
 
-pub relevant-end : (table : List Kept) (nodes : List Node) (at : ℕ) (was all : Bool) → parent_of at (visits nodes) ≡ None
-    → (was && list_all (own (values_in table) Relevant true) (ancestors_of at (visits nodes))) ≡ all → was ≡ all
-relevant-end table nodes at was all top so_far =
-    sym (ap (λ ns. was && list_all (own (values_in table) Relevant true) ns) (no-parent (visits nodes) at top) ∙ and-true was) ∙ so_far
-  where
-    and-true : (b : Bool) → (b && true) ≡ b
-    and-true true = refl
-    and-true false = refl
+pub path-up : (nodes : List Node) (at : ℕ) (next : Option ℕ) → are_apart nodes ≡ true → has_number at nodes ≡ true → next ≡ parent_of at (visits nodes) → path next (visits nodes) ≡ ancestors_of at (visits nodes)
+path-up nodes at None a live e = sym (no-parent (visits nodes) at (sym e))
+path-up nodes at (Some p) a live e = sym (parent-chain nodes at p a live (sym e))
 
-pub readonly-end : (table : List Kept) (nodes : List Node) (at : ℕ) (was any : Bool) → parent_of at (visits nodes) ≡ None
-    → (was || list_any (own_readonly (values_in table)) (ancestors_of at (visits nodes))) ≡ any → was ≡ any
-readonly-end table nodes at was any top so_far =
-    sym (ap (λ ns. was || list_any (own_readonly (values_in table)) ns) (no-parent (visits nodes) at top) ∙ or-false was) ∙ so_far
-  where
-    or-false : (b : Bool) → (b || false) ≡ b
-    or-false true = refl
-    or-false false = refl
+pub path-shorter : (nodes : List Node) (at : ℕ) (next : Option ℕ) → are_apart nodes ≡ true → has_number at nodes ≡ true → next ≡ parent_of at (visits nodes) → length (path next (visits nodes)) < length (path (Some at) (visits nodes))
+path-shorter nodes at next a live e =
+    let same : length (path next (visits nodes)) ≡ length (ancestors_of at (visits nodes)) = ap length (path-up nodes at next a live e) in
+    omega (arith, same)
 
--- ---- at the node itself
+-- ---- what holds of the next node, where it is known which it is
 
-pub closed-above-relevant : (table : List Kept) (nodes : List Node) (n : ℕ) (l : Looks) (i : Inherited) → AreLooks table l → is_open l i ≡ false → i.relevant ≡ own (values_in table) Relevant true n → i.relevant ≡ relevant_in table nodes n
-closed-above-relevant table nodes n l i looks closed is =
-    sym (closed-relevant table l i (ancestors_of n (visits nodes)) looks closed) ∙ ap (λ b. b && list_all (own (values_in table) Relevant true) (ancestors_of n (visits nodes))) is
+abbrev pub number_of : Option NodeId → Option ℕ
+number_of next = option_map (λ (i : NodeId). i.number) next
 
-pub closed-above-readonly : (table : List Kept) (nodes : List Node) (n : ℕ) (l : Looks) (i : Inherited) → AreLooks table l → is_open l i ≡ false → i.readonly ≡ own_readonly (values_in table) n → i.readonly ≡ readonly_in table nodes n
-closed-above-readonly table nodes n l i looks closed is =
-    sym (closed-readonly table l i (ancestors_of n (visits nodes)) looks closed) ∙ ap (λ b. b || list_any (own_readonly (values_in table)) (ancestors_of n (visits nodes))) is
+pub relevant-at : (table : List Kept) (all : List Visit) (next is : Option NodeId) (was told : Bool) → next ≡ is
+    → (was && list_all (own (values_in table) Relevant true) (path (number_of next) all)) ≡ told → (was && list_all (own (values_in table) Relevant true) (path (number_of is) all)) ≡ told
+relevant-at table all next is was told e so_far = sym (ap (λ o. was && list_all (own (values_in table) Relevant true) (path (number_of o) all)) e) ∙ so_far
+
+pub readonly-at : (table : List Kept) (all : List Visit) (next is : Option NodeId) (was told : Bool) → next ≡ is
+    → (was || list_any (own_readonly (values_in table)) (path (number_of next) all)) ≡ told → (was || list_any (own_readonly (values_in table)) (path (number_of is) all)) ≡ told
+readonly-at table all next is was told e so_far = sym (ap (λ o. was || list_any (own_readonly (values_in table)) (path (number_of o) all)) e) ∙ so_far
+
+pub and-true : (b : Bool) → (b && true) ≡ b
+and-true true = refl
+and-true false = refl
+
+pub or-false : (b : Bool) → (b || false) ≡ b
+or-false true = refl
+or-false false = refl

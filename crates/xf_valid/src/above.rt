@@ -10,7 +10,7 @@ ghost use Rattle.xf_binds.specs.Kept.{values_in};
 ghost use Rattle.xf_valid.specs.Looks.{AreLooks, IsUnset, is_open};
 ghost use Rattle.xf_valid.specs.Nodes.{readonly_in, relevant_in};
 
-use crate::nodes::own;
+use crate::nodes::{own, own_readonly};
 use xf_binds::Table;
 use xf_doc::NodeId;
 use xf_model::Property;
@@ -43,15 +43,17 @@ pub(crate) fn inherited_by(forest: &Forest, table: &Table, node: NodeId) -> Inhe
         relevant: true,
         readonly: false,
     };
-    let found = joined(table, looks, none, node);
-    let is_open = is_open(looks, found);
+    let is_open = is_open(looks, none);
     if !is_open {
-        return found;
+        return none;
     }
     if !forest.is_live(node) {
-        return found;
+        return Inherited {
+            relevant: own(table, node, Property::Relevant, true),
+            readonly: own_readonly(table, node),
+        };
     }
-    climbed(forest, table, looks, node, found)
+    climbed(forest, table, looks, node)
 }
 
 fn looks_of(table: &Table) -> Looks
@@ -64,32 +66,25 @@ fn looks_of(table: &Table) -> Looks
     }
 }
 
-/// From a node with these properties of its own up.
-fn climbed(
-    forest: &Forest,
-    table: &Table,
-    looks: Looks,
-    node: NodeId,
-    first: Inherited,
-) -> Inherited
+fn climbed(forest: &Forest, table: &Table, looks: Looks, node: NodeId) -> Inherited
     requires live { IsLive node.number forest.now.forest }
     requires looks { AreLooks table.now looks }
-    requires relevant { first.relevant ≡ own (values_in table.now) Relevant true node.number }
-    requires readonly { first.readonly ≡ own_readonly (values_in table.now) node.number }
     ensures relevant { result.relevant ≡ relevant_in table.now forest.now.forest.nodes node.number }
     ensures readonly { result.readonly ≡ readonly_in table.now forest.now.forest.nodes node.number }
 {
     forest.are_trees();
-    let mut at = node;
-    let mut found = first;
-    while let Some(parent) = forest.parent(at) {
-        let next = joined(table, looks, found, parent);
-        let is_open = is_open(looks, next);
+    let mut found = Inherited {
+        relevant: true,
+        readonly: false,
+    };
+    let mut next = Some(node);
+    while let Some(at) = next {
+        found = joined(table, looks, found, at);
+        let is_open = is_open(looks, found);
         if !is_open {
-            return next;
+            return found;
         }
-        found = next;
-        at = parent;
+        next = forest.parent(at);
     }
     found
 }

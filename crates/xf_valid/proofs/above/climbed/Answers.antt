@@ -1,63 +1,77 @@
-use Rattle.std.proofs.Common.{◌≡◌, true, ◌&&◌, ◌||◌, Some, sym, ap, ◌∙◌}
+use Rattle.std.proofs.Common.{◌≡◌, ◌<◌, ◌&&◌, ◌||◌, true, length, Some, None, sym, ap, ◌∙◌, refl, arith}
 use Rattle.std.specs.List.{list_all, list_any}
-use Rattle.xf_doc.specs.Visit.{visits, ancestors_of, parent_of}
+use Rattle.xf_doc.specs.Forest.{has_number}
+use Rattle.xf_doc.specs.Visit.{visits, ancestors_of}
 use Rattle.xf_doc.proofs.LiveLaws.{parent-live}
 use Rattle.xf_model.specs.declared.property.Property.TheVariants.{Relevant}
 use Rattle.xf_model.specs.Properties.{own, own_readonly}
 use Rattle.xf_binds.specs.Kept.{values_in}
 use Rattle.xf_valid.specs.Nodes.{readonly_in, relevant_in}
-use Rattle.xf_valid.proofs.Chains.{fewer}
-use Rattle.xf_valid.proofs.Unset.{closed-readonly, closed-relevant, readonly-end, readonly-step, relevant-end, relevant-step}
+use Rattle.xf_valid.proofs.Unset.{and-true, closed-readonly, closed-relevant, number_of, or-false, path, path-shorter, path-up, readonly-at, readonly-here, relevant-at, relevant-here}
 use Rattle.xf_valid.proofs.above.climbed.Goals as goal
 
-pub loop-parent-init : goal.loop-parent-init
-loop-parent-init c =
-    let above = ancestors_of c.args.node.number (visits c.args.forest.now.forest.nodes) in
-    record {
-      live = c.requires.live;
-      relevant = ap (λ b. b && list_all (own (values_in c.args.table.now) Relevant true) above) c.requires.relevant;
-      readonly = ap (λ b. b || list_any (own_readonly (values_in c.args.table.now)) above) c.requires.readonly;
-    }
+pub loop-next-init : goal.loop-next-init
+loop-next-init c = record {
+  live = λ m e. let is : c.args.node.number ≡ m = cc e in ap (λ k. has_number k c.args.forest.now.forest.nodes) (sym is) ∙ c.requires.live;
+  relevant = refl;
+  readonly = refl;
+}
 
-pub loop-parent-preserved : goal.loop-parent-preserved
-loop-parent-preserved c =
+pub loop-next-preserved : goal.loop-next-preserved
+loop-next-preserved c =
+    let table = c.args.table.now in
     let nodes = c.args.forest.now.forest.nodes in
-    let up : parent_of c.loop-parent.at.number (visits nodes) ≡ Some c.in-Some.parent.number = sym c.in-Some.ensures in
+    let at = c.in-Some.at.number in
+    let live : has_number at nodes ≡ true = c.loop-next.invariant.live at (ap number_of c.in-Some.is) in
+    let up = path-up nodes at (number_of c.parent-next.result) c.are_trees.ensures.apart live c.parent-next.ensures in
     record {
-      live = parent-live c.loop-parent.at.number c.in-Some.parent.number nodes up;
+      live = λ m e. parent-live at m nodes (sym c.parent-next.ensures ∙ e);
       relevant =
-          relevant-step c.args.table.now nodes c.loop-parent.at.number c.in-Some.parent.number c.loop-parent.found.relevant c.joined-next.result.relevant (relevant_in c.args.table.now nodes c.args.node.number)
-          c.are_trees.ensures.apart c.loop-parent.invariant.live up c.joined-next.ensures.relevant c.loop-parent.invariant.relevant;
+          ap (λ ns. c.joined-found.result.relevant && list_all (own (values_in table) Relevant true) ns) up
+          ∙ relevant-here table at (ancestors_of at (visits nodes)) c.loop-next.found.relevant c.joined-found.result.relevant (relevant_in table nodes c.args.node.number) c.joined-found.ensures.relevant
+          (relevant-at table (visits nodes) c.loop-next.next (Some c.in-Some.at) c.loop-next.found.relevant (relevant_in table nodes c.args.node.number) c.in-Some.is c.loop-next.invariant.relevant);
       readonly =
-          readonly-step c.args.table.now nodes c.loop-parent.at.number c.in-Some.parent.number c.loop-parent.found.readonly c.joined-next.result.readonly (readonly_in c.args.table.now nodes c.args.node.number)
-          c.are_trees.ensures.apart c.loop-parent.invariant.live up c.joined-next.ensures.readonly c.loop-parent.invariant.readonly;
+          ap (λ ns. c.joined-found.result.readonly || list_any (own_readonly (values_in table)) ns) up
+          ∙ readonly-here table at (ancestors_of at (visits nodes)) c.loop-next.found.readonly c.joined-found.result.readonly (readonly_in table nodes c.args.node.number) c.joined-found.ensures.readonly
+          (readonly-at table (visits nodes) c.loop-next.next (Some c.in-Some.at) c.loop-next.found.readonly (readonly_in table nodes c.args.node.number) c.in-Some.is c.loop-next.invariant.readonly);
     }
 
-pub loop-parent-smaller : goal.loop-parent-smaller
-loop-parent-smaller c =
+pub loop-next-smaller : goal.loop-next-smaller
+loop-next-smaller c =
     let nodes = c.args.forest.now.forest.nodes in
-    fewer nodes c.loop-parent.at.number c.in-Some.parent.number c.are_trees.ensures.apart c.loop-parent.invariant.live (sym c.in-Some.ensures)
+    let at = c.in-Some.at.number in
+    let live : has_number at nodes ≡ true = c.loop-next.invariant.live at (ap number_of c.in-Some.is) in
+    let less : length (path (number_of c.parent-next.result) (visits nodes)) < length (path (Some at) (visits nodes)) =
+    path-shorter nodes at (number_of c.parent-next.result) c.are_trees.ensures.apart live c.parent-next.ensures in
+    let same : length (path (number_of c.loop-next.next) (visits nodes)) ≡ length (path (Some at) (visits nodes)) = ap (λ o. length (path (number_of o) (visits nodes))) c.in-Some.is in
+    omega (arith, less, same)
 
 pub returns-then-not-is_open-clause-relevant : goal.returns-then-not-is_open-clause-relevant
 returns-then-not-is_open-clause-relevant c =
+    let table = c.args.table.now in
     let nodes = c.args.forest.now.forest.nodes in
-    sym (closed-relevant c.args.table.now c.args.looks c.joined-next.result (ancestors_of c.in-Some.parent.number (visits nodes)) c.requires.looks (sym c.is_open-is_open.ensures ∙ c.if-not-is_open.true))
-    ∙ relevant-step c.args.table.now nodes c.loop-parent.at.number c.in-Some.parent.number c.loop-parent.found.relevant c.joined-next.result.relevant (relevant_in c.args.table.now nodes c.args.node.number)
-    c.are_trees.ensures.apart c.loop-parent.invariant.live (sym c.in-Some.ensures) c.joined-next.ensures.relevant c.loop-parent.invariant.relevant
+    let at = c.in-Some.at.number in
+    sym (closed-relevant table c.args.looks c.joined-found.result (ancestors_of at (visits nodes)) c.requires.looks (sym c.is_open-is_open.ensures ∙ c.if-not-is_open.true))
+    ∙ relevant-here table at (ancestors_of at (visits nodes)) c.loop-next.found.relevant c.joined-found.result.relevant (relevant_in table nodes c.args.node.number) c.joined-found.ensures.relevant
+    (relevant-at table (visits nodes) c.loop-next.next (Some c.in-Some.at) c.loop-next.found.relevant (relevant_in table nodes c.args.node.number) c.in-Some.is c.loop-next.invariant.relevant)
 
 pub returns-then-not-is_open-clause-readonly : goal.returns-then-not-is_open-clause-readonly
 returns-then-not-is_open-clause-readonly c =
+    let table = c.args.table.now in
     let nodes = c.args.forest.now.forest.nodes in
-    sym (closed-readonly c.args.table.now c.args.looks c.joined-next.result (ancestors_of c.in-Some.parent.number (visits nodes)) c.requires.looks (sym c.is_open-is_open.ensures ∙ c.if-not-is_open.true))
-    ∙ readonly-step c.args.table.now nodes c.loop-parent.at.number c.in-Some.parent.number c.loop-parent.found.readonly c.joined-next.result.readonly (readonly_in c.args.table.now nodes c.args.node.number)
-    c.are_trees.ensures.apart c.loop-parent.invariant.live (sym c.in-Some.ensures) c.joined-next.ensures.readonly c.loop-parent.invariant.readonly
+    let at = c.in-Some.at.number in
+    sym (closed-readonly table c.args.looks c.joined-found.result (ancestors_of at (visits nodes)) c.requires.looks (sym c.is_open-is_open.ensures ∙ c.if-not-is_open.true))
+    ∙ readonly-here table at (ancestors_of at (visits nodes)) c.loop-next.found.readonly c.joined-found.result.readonly (readonly_in table nodes c.args.node.number) c.joined-found.ensures.readonly
+    (readonly-at table (visits nodes) c.loop-next.next (Some c.in-Some.at) c.loop-next.found.readonly (readonly_in table nodes c.args.node.number) c.in-Some.is c.loop-next.invariant.readonly)
 
 pub returns-clause-relevant : goal.returns-clause-relevant
 returns-clause-relevant c =
     let nodes = c.args.forest.now.forest.nodes in
-    relevant-end c.args.table.now nodes c.loop-parent.at.number c.loop-parent.found.relevant (relevant_in c.args.table.now nodes c.args.node.number) (sym c.in_default.ensures) c.loop-parent.invariant.relevant
+    sym (and-true c.loop-next.found.relevant)
+    ∙ relevant-at c.args.table.now (visits nodes) c.loop-next.next None c.loop-next.found.relevant (relevant_in c.args.table.now nodes c.args.node.number) c.in_default.is c.loop-next.invariant.relevant
 
 pub returns-clause-readonly : goal.returns-clause-readonly
 returns-clause-readonly c =
     let nodes = c.args.forest.now.forest.nodes in
-    readonly-end c.args.table.now nodes c.loop-parent.at.number c.loop-parent.found.readonly (readonly_in c.args.table.now nodes c.args.node.number) (sym c.in_default.ensures) c.loop-parent.invariant.readonly
+    sym (or-false c.loop-next.found.readonly)
+    ∙ readonly-at c.args.table.now (visits nodes) c.loop-next.next None c.loop-next.found.readonly (readonly_in c.args.table.now nodes c.args.node.number) c.in_default.is c.loop-next.invariant.readonly
