@@ -66,6 +66,7 @@ fn looks_of(table: &Table) -> Looks
     }
 }
 
+/// The same of a node that stands in the forest: from it up, each parent found once.
 fn climbed(forest: &Forest, table: &Table, looks: Looks, node: NodeId) -> Inherited
     requires live { IsLive node.number forest.now.forest }
     requires looks { AreLooks table.now looks }
