@@ -10,3 +10,4 @@ pub mod Sinces
 pub mod Onlys
 pub mod Readings
 pub mod Nears
+pub mod Unset

@@ -1,10 +1,11 @@
 //! The entries and types of a model, in the order in which its binds set them.
 
-ghost use Rattle.std.specs.Prelude.{◌≡◌, ℕ, nat_eq, ◌∷◌, [], ◌++◌, length, not, option_map, true, slice_get, Some, IfOk, IfSome, OnOk, IsTrue, ◌↔◌};
+ghost use Rattle.std.specs.Prelude.{◌≡◌, ℕ, nat_eq, ◌∷◌, [], ◌++◌, find, is_some, length, not, option_map, true, slice_get, Some, None, IfOk, IfSome, OnOk, IsTrue, ◌↔◌};
 ghost use Rattle.std.specs.Bool.{OnTrue, OnFalse};
 ghost use Rattle.std.specs.List.{list_any};
 ghost use Rattle.xf_model.specs.Applied.{sets_same};
 ghost use Rattle.xf_model.specs.Entries.{is_computed};
+ghost use Rattle.xf_model.specs.Properties.{sets_on};
 ghost use Rattle.xf_binds.specs.Kept.{truth_from, valued_in};
 ghost use Rattle.xf_binds.specs.Held.{AreNear, IsOnly, entries_in, entry_of, held_at, held_by, held_of, held_on, held_same, holds, is_seat, newly_held, passes, place_on, seat_in, seats_or};
 ghost use Rattle.indexmap.specs.IndexMap.{get};
@@ -92,6 +93,21 @@ impl Applied {
         ensures { result ≡ place_on (entries_in self.now) node.number property }
     {
         self.seat(node, property)
+    }
+
+    /// Whether an entry may set the property: where not, it is set on no node. That one may promises nothing. It costs one look,
+    /// however many entries there are.
+    pub fn sets(&self, property: Property) -> bool
+        ensures { OnFalse result ((n : ℕ) → find (sets_on n property) (entries_in self.now) ≡ None) }
+    {
+        self.last.at(property).is_some()
+    }
+
+    /// Whether an entry sets the property of the node.
+    pub(crate) fn has(&self, node: NodeId, property: Property) -> bool
+        ensures { result ≡ is_some (find (sets_on node.number property) (entries_in self.now)) }
+    {
+        self.place(node, property).is_some()
     }
 
     /// Where the property of the node is set.

@@ -1,6 +1,7 @@
 //! What is kept of one model.
 
-ghost use Rattle.std.specs.Prelude.{◌≡◌, List, [], ◌∷◌, ◌++◌, false, true, find, length, option_map, unwrap_or, OnOk, OnErr};
+ghost use Rattle.std.specs.Prelude.{◌≡◌, ℕ, List, [], ◌∷◌, ◌++◌, None, false, true, find, is_some, length, option_map, unwrap_or, OnOk, OnErr};
+ghost use Rattle.std.specs.Bool.{OnFalse};
 ghost use Rattle.xf_doc.specs.Visit.{has};
 ghost use Rattle.xf_model.specs.Applied.{is_property};
 ghost use Rattle.xf_model.specs.Entries.{is_computed};
@@ -203,6 +204,20 @@ impl Kept {
             Some(item) => Some(item.entry),
             None => None,
         }
+    }
+
+    /// Whether a present entry may set this property: where not, it is set on no node.
+    pub(crate) fn sets(&self, property: Property) -> bool
+        ensures { OnFalse result ((n : ℕ) → find (sets_on n property) self.now.entries ≡ None) }
+    {
+        self.present().sets(property)
+    }
+
+    /// Whether the node has an entry of this property.
+    pub(crate) fn has(&self, node: NodeId, property: Property) -> bool
+        ensures { result ≡ is_some (truth_in self.now property node.number) }
+    {
+        self.present().has(node, property)
     }
 
     /// Whether the last revalidation found the node not valid.

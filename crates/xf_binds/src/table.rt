@@ -1,6 +1,7 @@
 //! What is kept of all models.
 
-ghost use Rattle.std.specs.Prelude.{◌≡◌, ◌<◌, ◌-◌, ◌^◌, [], ◌∷◌, ◌++◌, false, true, find, length, min, replicate, option_map, slice_get, slice_index_or, IfOk, OnOk, OnErr};
+ghost use Rattle.std.specs.Prelude.{◌≡◌, ◌<◌, ◌-◌, ◌^◌, ℕ, [], ◌∷◌, ◌++◌, None, false, true, find, is_some, length, min, replicate, option_map, slice_get, slice_index_or, IfOk, OnOk, OnErr};
+ghost use Rattle.std.specs.Bool.{OnFalse};
 ghost use Rattle.std.specs.List.{list_any};
 ghost use Rattle.xf_doc.specs.Visit.{has};
 ghost use Rattle.xf_model.specs.Applied.{is_property};
@@ -150,6 +151,31 @@ impl Table {
         match self.models.get(model as usize) {
             Some(kept) => kept.truth(node, property),
             None => None,
+        }
+    }
+
+    /// Whether the node has an entry of this property in some model: it costs less than to ask for the truth.
+    pub fn has(&self, node: NodeId, property: Property) -> bool
+        ensures { result ≡ is_some (truth_among self.now property node.number) }
+    {
+        has_among(&self.models, node, property)
+    }
+
+    /// Whether an entry of some model may set this property: where not, no model's entry sets it on any node. That one may promises
+    /// nothing. It costs one look for each model, however many entries there are.
+    pub fn sets(&self, property: Property) -> bool
+        ensures { OnFalse result ((n : ℕ) → truth_among self.now property n ≡ None) }
+    {
+        sets_among(&self.models, property)
+    }
+
+    /// The same of one model alone.
+    pub fn sets_in(&self, model: u32, property: Property) -> bool
+        ensures { OnFalse result ((n : ℕ) → find (sets_on n property) (kept_at self.now model).entries ≡ None) }
+    {
+        match self.models.get(model as usize) {
+            Some(kept) => kept.sets(property),
+            None => false,
         }
     }
 
@@ -309,4 +335,28 @@ fn truth_among(models: &[Kept], node: NodeId, property: Property) -> Option<Opti
         }
     }
     None
+}
+
+/// Whether the node has such an entry in one of these models.
+fn has_among(models: &[Kept], node: NodeId, property: Property) -> bool
+    ensures { result ≡ is_some (truth_among models.now property node.number) }
+{
+    for kept in models {
+        if kept.has(node, property) {
+            return true;
+        }
+    }
+    false
+}
+
+/// Whether an entry of one of these models may set this property.
+fn sets_among(models: &[Kept], property: Property) -> bool
+    ensures { OnFalse result ((n : ℕ) → truth_among models.now property n ≡ None) }
+{
+    for kept in models {
+        if kept.sets(property) {
+            return true;
+        }
+    }
+    false
 }

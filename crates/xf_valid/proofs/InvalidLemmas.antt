@@ -47,7 +47,7 @@ or-none : (b : Bool) → (b || false) ≡ b
 or-none true = refl
 or-none false = refl
 
-and-none : (b : Bool) → (b && false) ≡ false
+pub and-none : (b : Bool) → (b && false) ≡ false
 and-none true = refl
 and-none false = refl
 
@@ -226,17 +226,20 @@ unset : (n : ℕ) (p : Property) (es : List Entry) → list_any (λ e. n == e.no
 unset n p [] h = refl
 unset n p (x ∷ xs) h = let q = or-parts (n == x.node) (list_any (λ e. n == e.node) xs) h in let is : (x.node == n) ≡ false = turned x.node n ∙ q.0 in rw is (unset n p xs q.1)
 
-own-none : (k : Kept) (n : ℕ) (p : Property) (d : Bool) → is_property p Kind ≡ false → list_any (λ e. n == e.node) k.entries ≡ false → own (values_of k) p d n ≡ d
-own-none k n p d c h = own-in k n p d c ∙ ap (λ o. truth_told d (option_map (truth_from k.stood) o)) (unset n p k.entries h)
+own-not : (k : Kept) (n : ℕ) (p : Property) (d : Bool) → is_property p Kind ≡ false → find (sets_on n p) k.entries ≡ None → own (values_of k) p d n ≡ d
+own-not k n p d c h = own-in k n p d c ∙ ap (λ o. truth_told d (option_map (truth_from k.stood) o)) h
 
-valid-none : (scope : Scope) (nodes : List Node) (k : Kept) (n : ℕ) → list_any (λ e. n == e.node) k.entries ≡ false → fails scope nodes k n ≡ false
-valid-none scope nodes k n h =
-    ap not (ap (λ a. (a && not (own (values_of k) Required false n && is_empty s)) && meets_kind meets_type (kind_of scope k.entries n) s) (own-none k n Constraint true refl h)
-    ∙ ap (λ r. not (r && is_empty s) && meets_kind meets_type (kind_of scope k.entries n) s) (own-none k n Required false refl h)
-    ∙ ap (λ o. meets_kind meets_type (option_and_then (λ e. option_and_then (λ r. r.kind) (slice_get scope.rules e.bind)) o) s) (unset n Kind k.entries h))
+pub valid-unset : (scope : Scope) (nodes : List Node) (k : Kept) (n : ℕ) → find (sets_on n Constraint) k.entries ≡ None → find (sets_on n Required) k.entries ≡ None → find (sets_on n Kind) k.entries ≡ None → fails scope nodes k n ≡ false
+valid-unset scope nodes k n c r t =
+    ap not (ap (λ a. (a && not (own (values_of k) Required false n && is_empty s)) && meets_kind meets_type (kind_of scope k.entries n) s) (own-not k n Constraint true refl c)
+    ∙ ap (λ r. not (r && is_empty s) && meets_kind meets_type (kind_of scope k.entries n) s) (own-not k n Required false refl r)
+    ∙ ap (λ o. meets_kind meets_type (option_and_then (λ e. option_and_then (λ r. r.kind) (slice_get scope.rules e.bind)) o) s) t)
   where
     s : List ℕ
     s = string_value n (visits nodes)
+
+valid-none : (scope : Scope) (nodes : List Node) (k : Kept) (n : ℕ) → list_any (λ e. n == e.node) k.entries ≡ false → fails scope nodes k n ≡ false
+valid-none scope nodes k n h = valid-unset scope nodes k n (unset n Constraint k.entries h) (unset n Required k.entries h) (unset n Kind k.entries h)
 
 -- ---- in document order
 
@@ -274,26 +277,6 @@ invalid-found scope instances nodes k a =
             ∙ sym (and-none (is_held instances scope.model nodes n)) ∙ ap (λ b. is_held instances scope.model nodes n && b) (sym (valid-none scope nodes k n e))
 
 -- ---- what makes a node fail
-
-pub fails-by : (scope : Scope) (nodes : List Node) (k : Kept) (n : ℕ) (met missing fits : Bool) → own (values_of k) Constraint true n ≡ met
-    → (own (values_of k) Required false n && is_empty (string_value n (visits nodes))) ≡ missing → meets_kind meets_type (kind_of scope k.entries n) (string_value n (visits nodes)) ≡ fits
-    → fails scope nodes k n ≡ not ((met && not missing) && fits)
-fails-by scope nodes k n met missing fits a b d =
-    ap (λ m. not ((m && not (own (values_of k) Required false n && is_empty (string_value n (visits nodes)))) && meets_kind meets_type (kind_of scope k.entries n) (string_value n (visits nodes)))) a
-    ∙ ap (λ m. not ((met && not m) && meets_kind meets_type (kind_of scope k.entries n) (string_value n (visits nodes)))) b
-    ∙ ap (λ m. not ((met && not missing) && m)) d
-
-pub fails-unmet : (scope : Scope) (nodes : List Node) (k : Kept) (n : ℕ) → own (values_of k) Constraint true n ≡ false → true ≡ fails scope nodes k n
-fails-unmet scope nodes k n a =
-    sym (fails-by scope nodes k n false (own (values_of k) Required false n && is_empty (string_value n (visits nodes))) (meets_kind meets_type (kind_of scope k.entries n) (string_value n (visits nodes))) a refl refl)
-
-pub fails-missing : (scope : Scope) (nodes : List Node) (k : Kept) (n : ℕ) → own (values_of k) Constraint true n ≡ true → (own (values_of k) Required false n && is_empty (string_value n (visits nodes))) ≡ true → true ≡ fails scope nodes k n
-fails-missing scope nodes k n a b =
-    sym (fails-by scope nodes k n true true (meets_kind meets_type (kind_of scope k.entries n) (string_value n (visits nodes))) a b refl)
-
-pub fails-else : (scope : Scope) (nodes : List Node) (k : Kept) (n : ℕ) (fits : Bool) → own (values_of k) Constraint true n ≡ true → (own (values_of k) Required false n && is_empty (string_value n (visits nodes))) ≡ false
-    → fits ≡ meets_kind meets_type (kind_of scope k.entries n) (string_value n (visits nodes)) → not fits ≡ fails scope nodes k n
-fails-else scope nodes k n fits a b d = sym (fails-by scope nodes k n true false fits a b (sym d))
 
 pub failed-not : (scope : Scope) (nodes : List Node) (roots : List ℕ) (k : Kept) (n : ℕ) → has_number n nodes ≡ false → false ≡ is_failed scope nodes roots k n
 failed-not scope nodes roots k n h = sym (ap (λ b. (b && has (top_of n (visits nodes)) roots) && fails scope nodes k n) h)

@@ -4,3 +4,5 @@ pub mod InvalidLemmas
 pub mod Told
 pub mod Pieces
 pub mod Dead
+pub mod Unset
+pub mod AskedLemmas

@@ -1,6 +1,7 @@
 -- How the nodes that are not valid are found: among those of entries, by the roots of their trees.
-use Rattle.std.specs.Prelude.{ℕ, suc, Bool, not, ◌&&◌, List, [], ◌∷◌, ◌++◌, Option, Some, None, option_and_then, slice_get, ◌==◌, if◌then◌else◌}
+use Rattle.std.specs.Prelude.{ℕ, suc, ◌≡◌, Bool, true, false, not, ◌&&◌, ◌||◌, List, [], ◌∷◌, ◌++◌, Option, Some, None, find, is_some, option_map, option_and_then, slice_get, ◌==◌, if◌then◌else◌}
 use Rattle.std.specs.List.{flat_map}
+use Rattle.xf_num.specs.Written.{is_empty}
 use Rattle.xf_types.specs.declared.kind.SimpleType.{SimpleType}
 use Rattle.xf_types.specs.Meets.{meets_type}
 use Rattle.xf_ast.specs.declared.form.Bind.{Bind}
@@ -12,8 +13,11 @@ use Rattle.xf_doc.specs.Visit.{visits, has, top_of}
 use Rattle.xf_lang.specs.Binding.{as_list}
 use Rattle.xf_model.specs.Applied.{Entry}
 use Rattle.xf_model.specs.Rules.{Scope}
-use Rattle.xf_model.specs.Properties.{is_valid}
+use Rattle.xf_model.specs.declared.property.Property.TheVariants.{Kind, Required, Constraint}
+use Rattle.xf_model.specs.Properties.{is_valid, meets_kind, own, sets_on}
+use Rattle.xf_binds.specs.Held.{entry_of}
 use Rattle.xf_binds.specs.Kept.{Kept, values_of}
+use Rattle.xf_valid.specs.declared.invalid.Asked.{Asked}
 
 -- the roots of the model's instances, where the first of these has this place among all
 abbrev pub roots_from : ℕ → List Node → ℕ → List Instance → List ℕ
@@ -43,3 +47,22 @@ failed_among scope nodes roots k es = flat_map (failed_by scope nodes roots k) e
 -- the type that an entry gives
 abbrev pub kind_in : List Bind → Option Entry → Option SimpleType
 kind_in binds e = option_and_then (λ e. option_and_then (λ b. b.properties.kind) (slice_get binds e.bind)) e
+
+-- ---- what the entries of a node ask of it
+
+abbrev pub IsAsked : Kept → ℕ → Asked → Type 0
+IsAsked k n a =
+    (a.is_met ≡ own (values_of k) Constraint true n) × (a.is_required ≡ own (values_of k) Required false n) × (option_map entry_of a.kind ≡ find (sets_on n Kind) k.entries)
+
+-- there may be a text with which it is not met
+abbrev pub can_fail : Asked → Bool
+can_fail a = not a.is_met || a.is_required || is_some a.kind
+
+-- it is not met with this text
+abbrev pub fails_asked : List Bind → Asked → List ℕ → Bool
+fails_asked binds a text = not (a.is_met && not (a.is_required && is_empty text) && meets_kind meets_type (kind_in binds (option_map entry_of a.kind)) text)
+
+-- no entry asks anything of any node
+abbrev pub AskNothing : Kept → Type 0
+AskNothing k =
+    ((n : ℕ) → find (sets_on n Constraint) k.entries ≡ None) × ((n : ℕ) → find (sets_on n Required) k.entries ≡ None) × ((n : ℕ) → find (sets_on n Kind) k.entries ≡ None)

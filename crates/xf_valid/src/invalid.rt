@@ -1,6 +1,7 @@
 //! The nodes that are not valid (XForms 1.1, section 4.3.3).
 
-ghost use Rattle.std.specs.Prelude.{◌≡◌, ◌<◌, ◌==◌, ◌&&◌, ◌++◌, ◌∷◌, [], if◌then◌else◌, length, false, find, IfOk, OnOk, OnErr, option_map, slice_get};
+ghost use Rattle.std.specs.Prelude.{◌≡◌, ◌<◌, ◌==◌, ◌&&◌, ◌++◌, ◌∷◌, [], if◌then◌else◌, length, false, IfOk, OnOk, OnErr, option_map, slice_get};
+ghost use Rattle.std.specs.Bool.{OnFalse};
 ghost use Rattle.xf_num.specs.Written.{is_empty};
 ghost use Rattle.xf_types.specs.Meets.{meets_type};
 ghost use Rattle.xf_plain_values.specs.Functions.{Functions};
@@ -11,12 +12,12 @@ ghost use Rattle.xf_doc.specs.Visit.{visits};
 ghost use Rattle.xf_lang.specs.Binding.{as_list};
 ghost use Rattle.xf_lang.specs.Given.{Given};
 ghost use Rattle.xf_model.specs.Applied.{is_property};
-ghost use Rattle.xf_model.specs.Properties.{meets_kind, own, sets_on};
+ghost use Rattle.xf_model.specs.Properties.{meets_kind, own};
 ghost use Rattle.xf_model.specs.Rules.{scope_of};
 ghost use Rattle.xf_binds.specs.Held.{entry_of};
 ghost use Rattle.xf_binds.specs.Kept.{values_of};
 ghost use Rattle.xf_binds.specs.Table.{kept_at, with_kept};
-ghost use Rattle.xf_valid.specs.Failed.{failed_among, failed_at, fails, is_failed, kind_in, roots_from};
+ghost use Rattle.xf_valid.specs.Failed.{AskNothing, IsAsked, can_fail, failed_among, failed_at, fails_asked, is_failed, kind_in, roots_from};
 ghost use Rattle.xf_valid.specs.Invalid.{revalidated};
 
 use crate::nodes::truth_or;
@@ -27,6 +28,14 @@ use xf_doc::{NodeId, NodeList};
 use xf_model::Property;
 use xf_tree::Forest;
 use xf_types::{SimpleType, meets};
+
+/// What the entries of a node ask of it.
+#[derive(Clone, Copy, Debug)]
+pub(crate) struct Asked {
+    pub is_met: bool,
+    pub is_required: bool,
+    pub kind: Option<Entry>,
+}
 
 /// Finds the nodes of the model's instances that are not valid, and keeps them in the table.
 pub fn revalidate(
@@ -63,11 +72,28 @@ fn all_failed(
         → found ≡ failed_among (scope_of functions given tables.now model) forest.now.forest.nodes roots.now (kept_at table.now model) (kept_at table.now model).entries) }
 {
     let mut found = NodeList::new(alloc);
+    let is_asked = may_ask(table, model);
+    if !is_asked {
+        return Ok(found);
+    }
     let count = table.len(model);
     for at in 0..count {
         push_failed(&mut found, tables, forest, model, table, roots, at)?;
     }
     Ok(found)
+}
+
+/// Whether an entry of the model may ask something that a node can fail.
+fn may_ask(table: &Table, model: u32) -> bool
+    ensures { OnFalse result (AskNothing (kept_at table.now model)) }
+{
+    if table.sets_in(model, Property::Constraint) {
+        return true;
+    }
+    if table.sets_in(model, Property::Required) {
+        return true;
+    }
+    table.sets_in(model, Property::Kind)
 }
 
 /// Adds the node of an entry, where it stands in an instance with one of these roots and is not valid.
@@ -111,6 +137,11 @@ fn is_failed(
     ensures { IfOk result (λ failed. (functions : Functions) (given : Given)
         → failed ≡ is_failed (scope_of functions given tables.now model) forest.now.forest.nodes roots.now (kept_at table.now model) node.number) }
 {
+    let asked = asked_of(table, model, node);
+    let can_fail = can_fail(&asked);
+    if !can_fail {
+        return Ok(false);
+    }
     let stands = forest.is_live(node);
     if !stands {
         return Ok(false);
@@ -119,56 +150,61 @@ fn is_failed(
     if !is_under {
         return Ok(false);
     }
-    fails(tables, forest, model, table, node)
+    fails(tables, forest, &asked, node)
 }
 
-/// Whether a node is not valid.
-fn fails(
-    tables: &Tables,
-    forest: &Forest,
-    model: u32,
-    table: &Table,
-    node: NodeId,
-) -> Result<bool, AllocError>
-    requires { IsLive node.number forest.now.forest }
-    ensures { IfOk result (λ failed. (functions : Functions) (given : Given)
-        → failed ≡ fails (scope_of functions given tables.now model) forest.now.forest.nodes (kept_at table.now model) node.number) }
+fn asked_of(table: &Table, model: u32, node: NodeId) -> Asked
+    ensures { IsAsked (kept_at table.now model) node.number result }
 {
-    let is_met = own(table, model, node, Property::Constraint, true);
-    if !is_met {
+    Asked {
+        is_met: own(table, model, node, Property::Constraint, true),
+        is_required: own(table, model, node, Property::Required, false),
+        kind: table.entry_on(model, node, Property::Kind),
+    }
+}
+
+/// Whether there is a string value with which a node that is asked this may fail.
+fn can_fail(asked: &Asked) -> bool
+    ensures { result ≡ can_fail asked.now }
+{
+    !asked.is_met || asked.is_required || asked.kind.is_some()
+}
+
+/// Whether a node that is asked this is not valid.
+fn fails(tables: &Tables, forest: &Forest, asked: &Asked, node: NodeId) -> Result<bool, AllocError>
+    requires { IsLive node.number forest.now.forest }
+    ensures { IfOk result (λ failed. failed ≡ fails_asked tables.now.binds asked.now (string_value node.number (visits forest.now.forest.nodes))) }
+{
+    if !asked.is_met {
         return Ok(true);
     }
-    let is_missing = is_missing(table, model, forest, node);
+    let is_missing = is_missing(asked.is_required, forest, node);
     if is_missing {
         return Ok(true);
     }
-    let fits = is_of_kind(tables, forest, model, table, node)?;
+    let fits = is_of_kind(tables, forest, asked.kind, node)?;
     Ok(!fits)
 }
 
 /// Whether a node is required and empty.
-fn is_missing(table: &Table, model: u32, forest: &Forest, node: NodeId) -> bool
+fn is_missing(is_required: bool, forest: &Forest, node: NodeId) -> bool
     requires { IsLive node.number forest.now.forest }
-    ensures { result ≡ (own (values_of (kept_at table.now model)) Property.Required false node.number && is_empty (string_value node.number (visits forest.now.forest.nodes))) }
+    ensures { result ≡ (is_required && is_empty (string_value node.number (visits forest.now.forest.nodes))) }
 {
-    own(table, model, node, Property::Required, false) && is_empty(forest, node)
+    is_required && is_empty(forest, node)
 }
 
-/// Whether the string value of a node meets its type.
+/// Whether the string value of a node meets the type that an entry gives.
 fn is_of_kind(
     tables: &Tables,
     forest: &Forest,
-    model: u32,
-    table: &Table,
+    entry: Option<Entry>,
     node: NodeId,
 ) -> Result<bool, AllocError>
     requires { IsLive node.number forest.now.forest }
-    ensures { IfOk result (λ met. met ≡ meets_kind meets_type (kind_in tables.now.binds (find (sets_on node.number Property.Kind) (kept_at table.now model).entries)) (string_value node.number (visits forest.now.forest.nodes))) }
+    ensures { IfOk result (λ met. met ≡ meets_kind meets_type (kind_in tables.now.binds (option_map entry_of entry)) (string_value node.number (visits forest.now.forest.nodes))) }
 {
-    match kind_in(
-        tables.binds.as_slice(),
-        table.entry_on(model, node, Property::Kind),
-    ) {
+    match kind_in(tables.binds.as_slice(), entry) {
         Some(kind) => meets_at(forest, kind, node),
         None => Ok(true),
     }

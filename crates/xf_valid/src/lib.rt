@@ -1,6 +1,7 @@
 //! The properties of nodes: relevant, readonly, required, valid.
 #![tactic(auto)]
 
+mod above;
 mod invalid;
 mod marks;
 mod nodes;

@@ -6,7 +6,8 @@ ghost use Rattle.xf_doc.specs.Forest.{IsLive, has_number};
 ghost use Rattle.xf_valid.specs.Chain.{AreTold};
 ghost use Rattle.xf_valid.specs.Nodes.{marks_in, readonly_in, relevant_in};
 
-use crate::nodes::{is_readonly, is_relevant, is_required, is_valid, own, own_readonly};
+use crate::above::inherited_by;
+use crate::nodes::{is_required, is_valid, own, own_readonly};
 use std::alloc::{AllocError, Global};
 use xf_binds::Table;
 use xf_doc::{NodeId, NodeList};
@@ -106,9 +107,10 @@ fn passed_at(forest: &Forest, table: &Table, node: NodeId, chain: &mut Vec<Passe
         }
     }
     chain.clear();
+    let inherited = inherited_by(forest, table, node);
     Passed {
         node,
-        relevant: is_relevant(forest, table, node),
-        readonly: is_readonly(forest, table, node),
+        relevant: inherited.relevant,
+        readonly: inherited.readonly,
     }
 }

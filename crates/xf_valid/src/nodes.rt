@@ -8,6 +8,7 @@ ghost use Rattle.xf_binds.specs.Kept.{values_in};
 ghost use Rattle.xf_binds.specs.Table.{truth_told};
 ghost use Rattle.xf_valid.specs.Nodes.{marks_in, readonly_in, relevant_in, required_in, valid_in};
 
+use crate::above::{inherited_by, own_where};
 use xf_binds::Table;
 use xf_doc::NodeId;
 use xf_model::Property;
@@ -60,7 +61,8 @@ pub fn is_readonly(forest: &Forest, table: &Table, node: NodeId) -> bool
 pub fn is_required(table: &Table, node: NodeId) -> bool
     ensures { result ≡ required_in table.now node.number }
 {
-    own(table, node, Property::Required, false)
+    let is_set = table.sets(Property::Required);
+    own_where(table, is_set, node, Property::Required, false)
 }
 
 /// Whether the last revalidation found it valid, or it came since.
@@ -74,17 +76,10 @@ pub fn is_valid(table: &Table, node: NodeId) -> bool
 pub fn marks_at(forest: &Forest, table: &Table, node: NodeId) -> Marks
     ensures { result ≡ marks_in table.now forest.now.forest.nodes node.number }
 {
-    if !forest.is_live(node) {
-        return Marks {
-            relevant: own(table, node, Property::Relevant, true),
-            readonly: own_readonly(table, node),
-            required: is_required(table, node),
-            valid: is_valid(table, node),
-        };
-    }
+    let inherited = inherited_by(forest, table, node);
     Marks {
-        relevant: is_relevant(forest, table, node),
-        readonly: is_readonly(forest, table, node),
+        relevant: inherited.relevant,
+        readonly: inherited.readonly,
         required: is_required(table, node),
         valid: is_valid(table, node),
     }
@@ -115,6 +110,6 @@ pub(crate) fn truth_or(truth: Option<bool>, default: bool) -> bool
 pub(crate) fn own_readonly(table: &Table, node: NodeId) -> bool
     ensures { result ≡ own_readonly (values_in table.now) node.number }
 {
-    let is_calculated = table.truth(node, Property::Calculate).is_some();
+    let is_calculated = table.has(node, Property::Calculate);
     own(table, node, Property::Readonly, is_calculated)
 }

@@ -1,4 +1,4 @@
-use Rattle.std.proofs.Common.{refl, sym, ap, ◌∙◌, is_some}
+use Rattle.std.proofs.Common.{refl, sym, ap, ◌∙◌}
 use Rattle.xf_model.specs.declared.property.Property.TheVariants.{Calculate, Readonly}
 use Rattle.xf_model.specs.Properties.{own}
 use Rattle.xf_binds.specs.Kept.{values_in}
@@ -8,5 +8,4 @@ use Rattle.xf_valid.proofs.nodes.own_readonly.Goals as goal
 pub returns : goal.returns
 returns c =
     c.own.ensures
-    ∙ ap (λ d. own (values_in c.args.table.now) Readonly d c.args.node.number)
-    (c.is_some-is_calculated.ensures ∙ ap is_some c.truth.ensures ∙ sym (has-among c.args.table.now c.args.node.number Calculate refl))
+    ∙ ap (λ d. own (values_in c.args.table.now) Readonly d c.args.node.number) (c.has-is_calculated.ensures ∙ sym (has-among c.args.table.now c.args.node.number Calculate refl))

@@ -1,0 +1,71 @@
+-- What the entries of a node ask of it decides whether it is valid.
+use Rattle.std.proofs.Common.{◌≡◌, ℕ, Bool, true, false, cond, not, ◌&&◌, ◌||◌, List, [], ◌∷◌, ◌++◌, map, Result, Ok, Err, IfOk, Option, Some, None, option_map, is_some, refl, sym, ap, ◌∙◌}
+use Rattle.xf_num.specs.Written.{is_empty}
+use Rattle.xf_types.specs.Meets.{meets_type}
+use Rattle.xf_ast.specs.declared.form.Bind.{Bind}
+use Rattle.xf_doc.specs.declared.content.Node.{Node}
+use Rattle.xf_doc.specs.StringValue.{string_value}
+use Rattle.xf_doc.specs.Visit.{visits}
+use Rattle.xf_model.specs.declared.property.Property.TheVariants.{Required, Constraint}
+use Rattle.xf_model.specs.Applied as applied
+use Rattle.xf_model.specs.Rules.{Scope, rule_of}
+use Rattle.xf_model.specs.Properties.{meets_kind, own}
+use Rattle.xf_binds.specs.declared.entry.Entry.{Entry}
+use Rattle.xf_binds.specs.Held.{entry_of}
+use Rattle.xf_binds.specs.Kept.{Kept, values_of}
+use Rattle.xf_valid.specs.declared.invalid.Asked.{Asked}
+use Rattle.xf_valid.specs.Failed.{AskNothing, IsAsked, can_fail, failed_among, fails, fails_asked, is_failed, is_under, kind_in}
+use Rattle.xf_valid.proofs.InvalidLemmas.{and-none, kind-in, valid-unset}
+
+pub fails-asked : (scope : Scope) (nodes : List Node) (k : Kept) (n : ℕ) (binds : List Bind) (a : Asked) → scope.rules ≡ map rule_of binds → IsAsked k n a → fails_asked binds a (string_value n (visits nodes)) ≡ fails scope nodes k n
+fails-asked scope nodes k n binds a rules is =
+    ap (λ m. not ((m && not (a.is_required && is_empty s)) && meets_kind meets_type (kind_in binds (option_map entry_of a.kind)) s)) is.0
+    ∙ ap (λ r. not ((own (values_of k) Constraint true n && not (r && is_empty s)) && meets_kind meets_type (kind_in binds (option_map entry_of a.kind)) s)) is.1
+    ∙ ap (λ o. not ((own (values_of k) Constraint true n && not (own (values_of k) Required false n && is_empty s)) && meets_kind meets_type (kind_in binds o) s)) is.2
+    ∙ ap (λ t. not ((own (values_of k) Constraint true n && not (own (values_of k) Required false n && is_empty s)) && meets_kind meets_type t s)) (sym (kind-in scope binds k.entries n rules))
+  where
+    s : List ℕ
+    s = string_value n (visits nodes)
+
+asked-not : (binds : List Bind) (a : Asked) (text : List ℕ) → can_fail a ≡ false → fails_asked binds a text ≡ false
+asked-not binds a text h = by a.is_met a.is_required a.kind h
+  where
+    by : (m r : Bool) (o : Option Entry) → ((not m || r) || is_some o) ≡ false → not ((m && not (r && is_empty text)) && meets_kind meets_type (kind_in binds (option_map entry_of o)) text) ≡ false
+    by true false None h = refl
+    by true false (Some e) h = cc h
+    by true true o h = cc h
+    by false r o h = cc h
+
+pub failed-unasked : (scope : Scope) (nodes : List Node) (roots : List ℕ) (k : Kept) (n : ℕ) (binds : List Bind) (a : Asked) → scope.rules ≡ map rule_of binds → IsAsked k n a → can_fail a ≡ false → false ≡ is_failed scope nodes roots k n
+failed-unasked scope nodes roots k n binds a rules is h =
+    sym (ap (λ b. is_under nodes roots n && b) (sym (fails-asked scope nodes k n binds a rules is) ∙ asked-not binds a (string_value n (visits nodes)) h) ∙ and-none (is_under nodes roots n))
+
+-- ---- where it is asked nothing
+
+pub failed-nothing : (scope : Scope) (nodes : List Node) (roots : List ℕ) (k : Kept) (es : List applied.Entry) → AskNothing k → failed_among scope nodes roots k es ≡ []
+failed-nothing scope nodes roots k [] h = refl
+failed-nothing scope nodes roots k (x ∷ xs) h =
+    ap (λ b. cond b (x.node ∷ []) [] ++ failed_among scope nodes roots k xs)
+    (ap (λ b. is_under nodes roots x.node && b) (valid-unset scope nodes k x.node (h.0 x.node) (h.1 x.node) (h.2 x.node)) ∙ and-none (is_under nodes roots x.node))
+    ∙ failed-nothing scope nodes roots k xs h
+
+-- ---- what a node fails
+
+pub fails-unmet : (binds : List Bind) (a : Asked) (text : List ℕ) → a.is_met ≡ false → true ≡ fails_asked binds a text
+fails-unmet binds a text h = sym (ap (λ m. not ((m && not (a.is_required && is_empty text)) && meets_kind meets_type (kind_in binds (option_map entry_of a.kind)) text)) h)
+
+pub fails-missing : (binds : List Bind) (a : Asked) (text : List ℕ) → a.is_met ≡ true → (a.is_required && is_empty text) ≡ true → true ≡ fails_asked binds a text
+fails-missing binds a text h m =
+    sym (ap (λ m. not ((m && not (a.is_required && is_empty text)) && meets_kind meets_type (kind_in binds (option_map entry_of a.kind)) text)) h
+    ∙ ap (λ m. not (not m && meets_kind meets_type (kind_in binds (option_map entry_of a.kind)) text)) m)
+
+pub fails-else : (binds : List Bind) (a : Asked) (text : List ℕ) (fits : Bool) → a.is_met ≡ true → (a.is_required && is_empty text) ≡ false → fits ≡ meets_kind meets_type (kind_in binds (option_map entry_of a.kind)) text → not fits ≡ fails_asked binds a text
+fails-else binds a text fits h m is =
+    ap not is
+    ∙ sym (ap (λ m. not ((m && not (a.is_required && is_empty text)) && meets_kind meets_type (kind_in binds (option_map entry_of a.kind)) text)) h
+    ∙ ap (λ m. not (not m && meets_kind meets_type (kind_in binds (option_map entry_of a.kind)) text)) m)
+
+-- what follows from a value
+pub if-ok : {A E : Type 0} (r : Result A E) (P Q : A → Type 0) → ((x : A) → P x → Q x) → IfOk r P → IfOk r Q
+if-ok (Ok x) P Q f h = f x h
+if-ok (Err e) P Q f h = h
