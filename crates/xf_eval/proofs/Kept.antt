@@ -8,9 +8,13 @@ use Rattle.xf_doc.specs.Visit.{visits}
 use Rattle.xf_lang.specs.declared.value.Value.{Value}
 use Rattle.xf_lang.specs.declared.value.Value.TheVariants.{Nodes, Text, Number, Truth}
 use Rattle.xf_eval.specs.First.{counted, first_alone}
-use Rattle.xf_lang.specs.Setting.{Meaning, Setting, each, in_order, joined}
-use Rattle.xf_lang.specs.Steps.{is_true_at, kept_by_all, kept_from}
+use Rattle.xf_lang.specs.Setting.{Meaning, Setting, ◌>>=◌, each, in_order, joined}
+use Rattle.xf_lang.specs.Steps.{is_true_at, kept_by_all, kept_from, reached}
+use Rattle.std.specs.List.{flat_map}
+use Rattle.xf_name.specs.declared.axis.Axis.{Axis}
+use Rattle.xf_ast.specs.declared.expr.Test.{Test}
 use Rattle.xf_eval.specs.Live.{AllLive}
+use Rattle.xf_eval.specs.Taken.{taken}
 use Rattle.xf_eval.specs.Worth.{seen}
 use Rattle.xf_eval.proofs.Erased.{in_order-erased}
 use Rattle.xf_eval.proofs.Lists.{append-none, onto}
@@ -96,3 +100,23 @@ taken-done nodes one found result from ids i e inv l h =
     let all : option_map joined (each one from) ≡ Some found =
     ap (λ ns. option_map joined (each one ns)) (sym e) ∙ sym inv ∙ at_drop_all (λ js. option_map (λ sets. found ++ joined sets) (each one (map (λ (i : NodeId). i.number) js))) ids i l ∙ ap Some (append-none found) in
     through (in_order (seen nodes)) (each one from) ∙ ap (option_map (in_order (seen nodes))) all ∙ ap Some (in_order-erased (visits nodes) found ∙ sym h)
+
+-- ---- what a step without predicates takes
+
+each-some : (f : ℕ → List ℕ) (ns : List ℕ) → each (λ n. Some (f n)) ns ≡ Some (map f ns)
+each-some f [] = refl
+each-some f (n ∷ ns) = ap (λ m. m >>= λ ys. Some (f n ∷ ys)) (each-some f ns)
+
+joined-map : (f : ℕ → List ℕ) (ns : List ℕ) → joined (map f ns) ≡ flat_map f ns
+joined-map f [] = refl
+joined-map f (n ∷ ns) = ap (λ l. f n ++ l) (joined-map f ns)
+
+pub plain-taken : (nodes : List Node) (axis : Axis) (t : Test) (ms : List Meaning) (s : Setting) (ns found result : List ℕ) → s.all ≡ seen nodes → ms ≡ [] →
+    found ≡ flat_map (reached axis t (seen nodes)) ns → result ≡ in_order (visits nodes) found → taken axis t ms s ns ≡ Some result
+plain-taken nodes axis t ms s ns found result all none e h =
+    ap (λ l. taken axis t l s ns) none
+    ∙ ap (option_map (λ sets. in_order s.all (joined sets))) (each-some (reached axis t s.all) ns)
+    ∙ ap (λ l. Some (in_order s.all l)) (joined-map (reached axis t s.all) ns)
+    ∙ ap (λ a. Some (in_order a (flat_map (reached axis t a) ns))) all
+    ∙ ap (λ l. Some (in_order (seen nodes) l)) (sym e)
+    ∙ ap Some (in_order-erased (visits nodes) found ∙ sym h)

@@ -3,6 +3,7 @@
 ghost use Rattle.std.specs.Prelude.{◌≡◌, [], ◌∷◌, ◌++◌, true, false, option_map, slice_get, IfOk, OnOk};
 ghost use Rattle.xf_name.specs.declared.axis.Axis.TheVariants.{DescendantOrSelf};
 ghost use Rattle.xf_ast.specs.declared.expr.Test.TheVariants.{Node};
+ghost use Rattle.std.specs.List.{flat_map};
 ghost use Rattle.xf_doc.specs.Forest.{IsLive};
 ghost use Rattle.xf_lang.specs.Binding.{as_list};
 ghost use Rattle.xf_lang.specs.Conversions.{nodes_of};
@@ -74,22 +75,32 @@ pub(crate) fn reaches_any(forest: &Forest, node: NodeId, axis: Axis, test: &Test
     reached_at(forest, node, axis, test, 0).is_some()
 }
 
+/// What the axis and the test select from each of these nodes, one after the other.
+pub(crate) fn reach_all(
+    alloc: Global,
+    forest: &Forest,
+    from: &NodeList,
+    axis: Axis,
+    test: &Test,
+) -> Result<NodeList, AllocError>
+    requires { AllLive from.now forest.now.forest.nodes }
+    ensures { IfOk result (λ found. found ≡ flat_map (reached axis test.now (seen forest.now.forest.nodes)) from.now) }
+{
+    // Most steps reach one node from each.
+    let mut found = NodeList::with_capacity(alloc, from.len())?;
+    for node in from.as_slice() {
+        reach(&mut found, forest, *node, axis, test)?;
+    }
+    Ok(found)
+}
+
 /// All nodes from these down, in document order, each once: where a step behind `//` begins (XPath 1.0, section 2.5).
 fn all_below(alloc: Global, forest: &Forest, nodes: &NodeList) -> Result<NodeList, AllocError>
     requires { AllLive nodes.now forest.now.forest.nodes }
     ensures value { IfOk result (λ found. found ≡ begun_at true (seen forest.now.forest.nodes) nodes.now) }
     ensures live { IfOk result (λ found. AllLive found forest.now.forest.nodes) }
 {
-    let mut found = NodeList::new(alloc);
-    for node in nodes.as_slice() {
-        reach(
-            &mut found,
-            forest,
-            *node,
-            Axis::DescendantOrSelf,
-            &Test::Node,
-        )?;
-    }
+    let found = reach_all(alloc, forest, nodes, Axis::DescendantOrSelf, &Test::Node)?;
     forest.put_in_order(found)
 }
 

@@ -15,7 +15,7 @@ use crate::convert::{truth_of, whole};
 use crate::first::asked_at;
 use crate::order::ordered;
 use crate::places::{number_first, placed, reached_placed};
-use crate::sets::{append, down_from, reach, reached, reaches_any, single, started};
+use crate::sets::{append, down_from, reach_all, reached, reaches_any, single, started};
 use crate::ways::{way_of, way_of_one};
 use std::alloc::Global;
 use std::cmp::Ordering;
@@ -139,6 +139,10 @@ pub(crate) fn taken<A: Around>(
     if from.len() == 1 {
         return taken_from(alloc, forest, around, axis, step, from.at(0), context);
     }
+    if step.predicates.as_slice().is_empty() {
+        let found = reach_all(alloc, forest, from, axis, &step.test)?;
+        return Ok(forest.put_in_order(found)?);
+    }
     let mut found = NodeList::new(alloc);
     for node in from.as_slice() {
         take(
@@ -164,10 +168,6 @@ fn take<A: Around>(
     requires node { IsLive node.number forest.now.forest }
     ensures value { GivesBounded EvalFault.Memory EvalFault.Long (λ _. found.new) result (option_map (λ kept. found.old ++ kept) (from_one axis step.now.test (map meaning step.now.predicates) (setting_at (A.given around.now) forest.now.forest.nodes context.now) node.number)) }
 {
-    if step.predicates.is_empty() {
-        reach(found, forest, node, axis, &step.test)?;
-        return Ok(());
-    }
     // Most nodes below which `//` begins have nothing to ask.
     if !reaches_any(forest, node, axis, &step.test) {
         return Ok(());

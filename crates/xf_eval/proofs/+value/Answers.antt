@@ -28,7 +28,7 @@ use Rattle.xf_eval.specs.Sides.{value_in}
 use Rattle.xf_eval.specs.Worth.{seen, setting_at}
 use Rattle.xf_eval.proofs.Arguments.{branched-long, branched-then, branched-else, one_plain, plain-long, plain-of-value, plains-done, plains-more, plains-stuck}
 use Rattle.xf_eval.proofs.Falls.{chain-falls, filter-falls, from-falls}
-use Rattle.xf_eval.proofs.Kept.{kept-counted, kept-long, live-added, none-kept, taken-done}
+use Rattle.xf_eval.proofs.Kept.{kept-counted, kept-long, live-added, none-kept, plain-taken, taken-done}
 use Rattle.xf_eval.proofs.Links.{link-compared, link-long}
 use Rattle.xf_eval.proofs.Lists.{append-none, onto, onto-start}
 use Rattle.xf_eval.proofs.Lives.{live-get, live-in_order, live-is, live-item, reached-live}
@@ -550,15 +550,26 @@ steps::taken-returns-then-len-eq1-clause-value g t c =
     let alone = alone-is c.args.from.now c.at.result.number one c.at.ensures in
     gives-same Memory Long (λ found. found) c.taken_from.result _ _ (ap (taken c.args.axis step.test ms s) (sym alone)) c.taken_from.ensures.value
 
+pub steps::taken-returns-then-is_empty-clause-value : goal.steps::taken-returns-then-is_empty-clause-value
+steps::taken-returns-then-is_empty-clause-value g t c =
+    let nodes = c.args.forest.now.forest.nodes in
+    let s = setting_at (g.A.Around.given c.args.around.now) nodes c.args.context.now in
+    let step = c.args.step.now in
+    let none : map meaning step.predicates ≡ [] = ap (map meaning) (empty-is step.predicates (search (rules, tests, c.is_empty.ensures, c.if-is_empty.true, c.as_slice.ensures))) in
+    plain-taken nodes c.args.axis step.test (map meaning step.predicates) s c.args.from.now c.in_ok-found.found c.in_ok-put_in_order.field-0 refl none c.in_ok-found.ensures c.in_ok-put_in_order.ensures
+
+pub steps::taken-returns-then-is_empty-clause-live : goal.steps::taken-returns-then-is_empty-clause-live
+steps::taken-returns-then-is_empty-clause-live g t c = live-is c.args.forest.now.forest.nodes c.in_ok-put_in_order.ensures (live-in_order _ c.args.forest.now.forest.nodes)
+
 pub steps::taken-returns-clause-value : goal.steps::taken-returns-clause-value
 steps::taken-returns-clause-value g t c =
     let nodes = c.args.forest.now.forest.nodes in
     let s = setting_at (g.A.Around.given c.args.around.now) nodes c.args.context.now in
     let step = c.args.step.now in
-    taken-done nodes (from_one c.args.axis step.test (map meaning step.predicates) s) c.loop-node.found c.in_ok-put_in_order.field-0 c.args.from.now c.as_slice-node-items.result.now c.loop-node.node-index
-    c.as_slice-node-items.ensures c.loop-node.invariant c.loop-node-test.false c.in_ok-put_in_order.ensures
+    taken-done nodes (from_one c.args.axis step.test (map meaning step.predicates) s) c.loop-node.found c.in_ok-put_in_order-2.field-0 c.args.from.now c.as_slice-node-items.result.now c.loop-node.node-index
+    c.as_slice-node-items.ensures c.loop-node.invariant c.loop-node-test.false c.in_ok-put_in_order-2.ensures
 
 pub steps::taken-returns-clause-live : goal.steps::taken-returns-clause-live
 steps::taken-returns-clause-live g t c =
     let nodes = c.args.forest.now.forest.nodes in
-    live-is nodes c.in_ok-put_in_order.ensures (live-in_order _ nodes)
+    live-is nodes c.in_ok-put_in_order-2.ensures (live-in_order _ nodes)

@@ -1,33 +1,23 @@
-use Rattle.std.proofs.Common.{◌≡◌, ℕ, List, ap, ◌∙◌, sym, map}
+use Rattle.std.proofs.Common.{◌≡◌, ℕ, List, ap, ◌∙◌, sym}
 use Rattle.std.specs.List.{flat_map}
-use Rattle.std.proofs.lemmas.List.{take_all}
 use Rattle.std.proofs.lemmas.Result.{IfOk-weaker}
 use Rattle.xf_name.specs.declared.axis.Axis.TheVariants.{DescendantOrSelf}
 use Rattle.xf_ast.specs.declared.expr.Test.TheVariants.{Node}
-use Rattle.xf_doc.specs.declared.node.NodeId.{NodeId}
 use Rattle.xf_doc.specs.Visit.{visits}
 use Rattle.xf_lang.specs.Setting.{in_order}
 use Rattle.xf_lang.specs.Steps.{reached}
 use Rattle.xf_eval.specs.Worth.{seen}
 use Rattle.xf_eval.proofs.Erased.{in_order-erased}
-use Rattle.xf_eval.proofs.Lives.{live-item, live-is, live-in_order}
+use Rattle.xf_eval.proofs.Lives.{live-is, live-in_order}
 use Rattle.xf_eval.proofs.sets.all_below.Goals as goal
-
-pub reach-requires : goal.reach-requires
-reach-requires c =
-    let nodes = c.args.forest.now.forest.nodes in
-    live-item c.as_slice-node-items.result.now c.loop-node.node-index _ nodes (live-is nodes c.as_slice-node-items.ensures c.requires) c.loop-node-test.true
 
 pub returns-clause-value : goal.returns-clause-value
 returns-clause-value c =
     let nodes = c.args.forest.now.forest.nodes in
-    let ids = c.as_slice-node-items.result.now in
     let below : List ℕ → List ℕ = flat_map (reached DescendantOrSelf Node (seen nodes)) in
-    let all : c.loop-node.found ≡ below c.args.nodes.now =
-    c.loop-node.invariant ∙ ap (λ l. below (map (λ (n : NodeId). n.number) l)) (take_all c.loop-node.node-index ids c.loop-node-test.false) ∙ ap below c.as_slice-node-items.ensures in
-    IfOk-weaker c.put_in_order.result _ _ (λ found h. h ∙ ap (in_order (visits nodes)) all ∙ sym (in_order-erased (visits nodes) (below c.args.nodes.now))) c.put_in_order.ensures
+    IfOk-weaker c.put_in_order.result _ _ (λ found h. h ∙ ap (in_order (visits nodes)) c.in_ok-found.ensures ∙ sym (in_order-erased (visits nodes) (below c.args.nodes.now))) c.put_in_order.ensures
 
 pub returns-clause-live : goal.returns-clause-live
 returns-clause-live c =
     let nodes = c.args.forest.now.forest.nodes in
-    IfOk-weaker c.put_in_order.result _ _ (λ found h. live-is nodes h (live-in_order c.loop-node.found nodes)) c.put_in_order.ensures
+    IfOk-weaker c.put_in_order.result _ _ (λ found h. live-is nodes h (live-in_order c.in_ok-found.found nodes)) c.put_in_order.ensures
