@@ -11,3 +11,4 @@ pub mod Onlys
 pub mod Readings
 pub mod Nears
 pub mod Unset
+pub mod Singles

@@ -1,14 +1,15 @@
 -- What is kept after a rebuild, a recalculation and a commit, by what came before.
-use Rattle.std.proofs.Common.{◌≡◌, ℕ, List, [], ◌∷◌, Option, None, take, length, refl, ap, ◌∙◌}
+use Rattle.std.proofs.Common.{◌≡◌, ℕ, true, false, cond, List, [], ◌∷◌, map, filter, Option, None, take, length, refl, sym, ap, ◌∙◌}
 use Rattle.std.specs.Prelude.{Bool, unwrap_or}
 use Rattle.xf_model.specs.Applied as applied
+use Rattle.xf_model.specs.Entries.{is_computed}
 use Rattle.xf_model.specs.Settled.{Valued}
 use Rattle.xf_binds.specs.declared.web.Asks.{Asks}
 use Rattle.xf_binds.specs.declared.kept.Since.{Since}
 use Rattle.xf_binds.specs.declared.kept.Since.TheVariants.{Nothing, Told, Built, ToldBuilt, BuiltTold, Past}
 use Rattle.xf_binds.specs.Held.{Held, entries_in, held_by}
-use Rattle.xf_binds.specs.Kept.{Entered, Kept, Was, committed, recalculated, stood_of, told_of, valued_in}
-use Rattle.xf_binds.specs.Since.{built_more, kept_of, told_more, was_of}
+use Rattle.xf_binds.specs.Kept.{Entered, Kept, Was, committed, entries_of, recalculated, stood_of, told_of, valued_in, valued_of}
+use Rattle.xf_binds.specs.Since.{built_more, kept_of, present_in, stood_since, told_more, was_of}
 use Rattle.xf_binds.proofs.Tellings.{entries-told}
 
 module _ (present : Entered) (stood : Option (List Held)) (invalid : List ℕ) (checked : Option (List ℕ)) (texts lists late_texts late_lists : List ℕ) (w : Was) where
@@ -34,6 +35,22 @@ module _ (present : Entered) (stood : Option (List Held)) (invalid : List ℕ) (
   told-is truths (ToldBuilt old now) = told-entries now truths
   told-is truths (BuiltTold now) = told-entries now truths
   told-is truths (Past now past) = told-entries now truths
+
+-- ---- the present entries stand
+
+entries-computed : (held : List Held) → entries_of (valued_in held) ≡ filter is_computed (entries_in held)
+entries-computed [] = refl
+entries-computed (h ∷ hs) = by (is_computed h.entry) (entries-computed hs)
+  where
+    by : (b : Bool) → entries_of (valued_in hs) ≡ filter is_computed (entries_in hs)
+        → entries_of (map valued_of (cond b (h ∷ filter (λ x. is_computed x.entry) hs) (filter (λ x. is_computed x.entry) hs))) ≡ cond b (h.entry ∷ filter is_computed (entries_in hs)) (filter is_computed (entries_in hs))
+    by true rest = ap (λ l. h.entry ∷ l) rest
+    by false rest = rest
+
+pub settled-since : (k : Kept) (present : Entered) (stood : Option (List Held)) (since : Since) → valued_in (stood_since present.held stood since) ≡ k.stood → entries_in (present_in present since).held ≡ k.entries
+    → entries_in (stood_since present.held stood since) ≡ entries_in (present_in present since).held → entries_of k.stood ≡ filter is_computed k.entries
+settled-since k present stood since view entries same =
+    ap entries_of (sym view) ∙ entries-computed (stood_since present.held stood since) ∙ ap (filter is_computed) (same ∙ entries)
 
 -- ---- a commit
 

@@ -8,7 +8,6 @@ use Rattle.xf_model.specs.Properties.{sets_on}
 use Rattle.xf_binds.specs.declared.entry.Seats.{Seats}
 use Rattle.xf_binds.specs.Held.{AreSet, Held, entries_in, held_on, place_on, seat_of}
 use Rattle.xf_binds.specs.Kept.{Kept, truth_from, truth_in}
-use Rattle.xf_binds.specs.Table.{truth_among, unless_told}
 use Rattle.xf_binds.proofs.Finds.{find-map, find-none}
 
 no-seat : (o : Option ℕ) (b : Bool) → b ≡ is_some o → b ≡ false → o ≡ None

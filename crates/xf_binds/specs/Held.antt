@@ -112,3 +112,7 @@ AreSet held last = (n : ℕ) (p : Property) (i : ℕ) → seat_of last p ≡ Non
 -- where one entry at most is the same attribute of the same bind for the same node, this is it
 abbrev pub IsOnly : List applied.Entry → applied.Entry → Option applied.Entry → Type 0
 IsOnly entries e found = (test : applied.Entry → Bool) → list_any (λ old. is_same e old && test old) entries ≡ passes test found
+
+-- no property of a node is set twice: each entry is found at its place
+abbrev pub AreSingle : List applied.Entry → Type 0
+AreSingle entries = (place : ℕ) (e : applied.Entry) → slice_get entries place ≡ Some e → place_on entries e.node e.property ≡ Some place

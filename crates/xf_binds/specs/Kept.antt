@@ -1,5 +1,5 @@
 -- What is kept of the binds of each model from one recalculation to the next (XForms 1.1, sections 4.3.1 to 4.3.3).
-use Rattle.std.specs.Prelude.{ℕ, Bool, List, [], map, filter, find, Option, Some, None, option_map, option_and_then}
+use Rattle.std.specs.Prelude.{ℕ, ◌≡◌, Bool, List, [], map, filter, find, Option, Some, None, option_map, option_and_then, slice_get, if◌then◌else◌}
 use Rattle.std.specs.List.{flat_map}
 use Rattle.xf_lang.specs.declared.value.Value.TheVariants.{Truth}
 use Rattle.xf_lang.specs.Conversions.{truth_of}
@@ -10,7 +10,7 @@ use Rattle.xf_model.specs.Settled.{Valued}
 use Rattle.xf_model.specs.Pertinent.{is_same}
 use Rattle.xf_model.specs.Properties.{sets_on}
 use Rattle.xf_binds.specs.declared.web.Asks.{Asks}
-use Rattle.xf_binds.specs.Held.{Held, entries_in, held_by}
+use Rattle.xf_binds.specs.Held.{Held, IsOnly, entries_in, held_by}
 
 -- entries with the truths that they had, and what each of them asks of the data
 pub record Entered : Type 0 where
@@ -111,3 +111,16 @@ truth_from stood e = option_map truth_of (value_from stood e).value
 
 abbrev pub truth_in : Kept → Property → ℕ → Option (Option Bool)
 truth_in k p n = option_map (truth_from k.stood) (find (sets_on n p) k.entries)
+
+-- ---- the truth of the entry at a place: a type has none
+
+abbrev pub truth_if : List Valued → Entry → Option Bool
+truth_if stood e = if is_computed e then truth_from stood e else None
+
+abbrev pub truth_at : Kept → ℕ → Option Bool
+truth_at k place = option_and_then (truth_if k.stood) (slice_get k.entries place)
+
+-- no entry before it sets the same property of the same node, and one at most of those that stood is the same
+pub record IsAlone (k : Kept) (e : Entry) : Type 0 where
+  pub first : find (sets_on e.node e.property) k.entries ≡ Some e
+  pub only : (found : Option Entry) × IsOnly (entries_of k.stood) e found

@@ -1,13 +1,14 @@
 //! The entries and types of a model, in the order in which its binds set them.
 
-ghost use Rattle.std.specs.Prelude.{◌≡◌, ℕ, nat_eq, ◌∷◌, [], ◌++◌, find, is_some, length, not, option_map, true, slice_get, Some, None, IfOk, IfSome, OnOk, IsTrue, ◌↔◌};
+ghost use Rattle.std.specs.Prelude.{◌≡◌, ℕ, nat_eq, ◌∷◌, [], ◌++◌, find, is_some, length, not, option_map, true, slice_get, Option, Some, None, IfOk, IfSome, OnOk, IsTrue, ◌↔◌};
 ghost use Rattle.std.specs.Bool.{OnTrue, OnFalse};
 ghost use Rattle.std.specs.List.{list_any};
 ghost use Rattle.xf_model.specs.Applied.{sets_same};
 ghost use Rattle.xf_model.specs.Entries.{is_computed};
 ghost use Rattle.xf_model.specs.Properties.{sets_on};
 ghost use Rattle.xf_binds.specs.Kept.{truth_from, valued_in};
-ghost use Rattle.xf_binds.specs.Held.{AreNear, IsOnly, entries_in, entry_of, held_at, held_by, held_of, held_on, held_same, holds, is_seat, newly_held, passes, place_on, seat_in, seats_or};
+ghost use Rattle.xf_model.specs.Applied as applied;
+ghost use Rattle.xf_binds.specs.Held.{AreNear, AreSingle, IsOnly, entries_in, entry_of, held_at, held_by, held_of, held_on, held_same, holds, is_seat, newly_held, passes, place_on, seat_in, seats_or};
 ghost use Rattle.indexmap.specs.IndexMap.{get};
 
 use crate::entry::{Entry, Item, Seats};
@@ -129,6 +130,24 @@ impl Applied {
         }
     }
 
+    /// The same, where this place is looked at first.
+    fn seat_by(&self, node: NodeId, property: Property, likely: usize) -> Option<usize>
+        ensures { (i : ℕ) → is_seat result i ≡ passes (held_on node.number property) (slice_get self.now i) }
+    {
+        if is_on(item_at(&self.items, likely), node, property) {
+            return Some(likely);
+        }
+        self.seat(node, property)
+    }
+
+    /// No property of a node is set twice. This tells contracts so, and does nothing.
+    pub(crate) fn is_single(&self)
+        ensures single { AreSingle (entries_in self.now) }
+        ensures only { (e : applied.Entry) → (found : Option applied.Entry) × IsOnly (entries_in self.now) e found }
+    {
+        let _ = &self.items;
+    }
+
     /// The entry at the node that sets the property.
     pub(crate) fn at(&self, node: NodeId, property: Property) -> Option<Item>
         ensures { option_map held_of result ≡ held_at self.now node.number property }
@@ -139,11 +158,11 @@ impl Applied {
         }
     }
 
-    /// The entry that the same attribute of the same bind gives to the same node.
-    pub(crate) fn same(&self, entry: &Entry) -> Option<Item>
+    /// The entry that the same attribute of the same bind gives to the same node. A likely place is looked at first.
+    pub(crate) fn same(&self, entry: &Entry, likely: usize) -> Option<Item>
         ensures { option_map held_of result ≡ held_same self.now (entry_of entry.now) }
     {
-        match self.seat(entry.node, entry.property) {
+        match self.seat_by(entry.node, entry.property, likely) {
             Some(seat) => {
                 let item = self.items[seat];
                 if item.entry.bind == entry.bind {
@@ -173,23 +192,24 @@ impl Applied {
         }
     }
 
-    /// The truth that the same attribute of the same bind has for the same node, where the entry is here.
-    pub(crate) fn truth(&self, entry: &Entry) -> Option<bool>
+    /// The truth that the same attribute of the same bind has for the same node, where the entry is here. A likely place is looked
+    /// at first.
+    pub(crate) fn truth(&self, entry: &Entry, likely: usize) -> Option<bool>
         requires { is_computed (entry_of entry.now) ≡ true }
         ensures { result ≡ truth_from (valued_in self.now) (entry_of entry.now) }
     {
-        match self.same(entry) {
+        match self.same(entry, likely) {
             Some(item) => item.truth,
             None => None,
         }
     }
 
     /// The same, where the entries have these truths.
-    pub(crate) fn told(&self, entry: &Entry, truths: &TruthList) -> Option<bool>
+    pub(crate) fn told(&self, entry: &Entry, truths: &TruthList, likely: usize) -> Option<bool>
         requires { is_computed (entry_of entry.now) ≡ true }
         ensures { result ≡ truth_from (valued_in (held_by (entries_in self.now) truths.now)) (entry_of entry.now) }
     {
-        match self.seat(entry.node, entry.property) {
+        match self.seat_by(entry.node, entry.property, likely) {
             Some(seat) => {
                 if self.items[seat].entry.bind == entry.bind {
                     truths.at(seat)
@@ -250,6 +270,16 @@ fn item_at(items: &[Item], at: usize) -> Option<&Item>
     ensures { option_map (λ i. i.now) result ≡ slice_get items.now at }
 {
     items.get(at)
+}
+
+/// Whether there is an item, and it sets the property of the node.
+fn is_on(item: Option<&Item>, node: NodeId, property: Property) -> bool
+    ensures { result ≡ passes (held_on node.number property) (option_map (λ i. held_of i.now) item.entry) }
+{
+    match item {
+        Some(item) => item.entry.node.number == node.number && item.entry.property == property,
+        None => false,
+    }
 }
 
 /// Past the numbers of the nodes of all items.

@@ -1,13 +1,14 @@
 //! What is kept of one model.
 
-ghost use Rattle.std.specs.Prelude.{◌≡◌, ℕ, List, [], ◌∷◌, ◌++◌, None, false, true, find, is_some, length, option_map, unwrap_or, OnOk, OnErr};
-ghost use Rattle.std.specs.Bool.{OnFalse};
+ghost use Rattle.std.specs.Prelude.{◌≡◌, ℕ, List, [], ◌∷◌, ◌++◌, None, Option, Some, false, true, filter, find, is_some, length, option_map, slice_get, unwrap_or, OnOk, OnErr};
+ghost use Rattle.std.specs.Bool.{OnFalse, OnTrue};
 ghost use Rattle.xf_doc.specs.Visit.{has};
 ghost use Rattle.xf_model.specs.Applied.{is_property};
 ghost use Rattle.xf_model.specs.Entries.{is_computed};
 ghost use Rattle.xf_model.specs.Properties.{sets_on};
-ghost use Rattle.xf_binds.specs.Held.{Held, IsOnly, entries_in, entry_of};
-ghost use Rattle.xf_binds.specs.Kept.{committed, entries_of, no_kept, recalculated, rolled_back, stood_of, told_of, truth_from, truth_in};
+ghost use Rattle.xf_model.specs.Applied as applied;
+ghost use Rattle.xf_binds.specs.Held.{AreSingle, Held, IsOnly, entries_in, entry_of};
+ghost use Rattle.xf_binds.specs.Kept.{IsAlone, committed, entries_of, no_kept, recalculated, rolled_back, stood_of, told_of, truth_at, truth_from, truth_in};
 ghost use Rattle.xf_binds.specs.Readers.{AreReaders, list_or};
 ghost use Rattle.xf_binds.specs.Since.{built_more, is_told, marks_in, present_in, stood_since, told_more};
 ghost use Rattle.xf_binds.specs.Turns.{AreInTurn};
@@ -140,24 +141,82 @@ impl Kept {
         requires { is_property property Property.Kind ≡ false }
         ensures { result ≡ truth_in self.now property node.number }
     {
-        match self.present().at(node, property) {
-            Some(item) => Some(self.truth_of(&item.entry)),
+        match self.present().place(node, property) {
+            Some(at) => match self.present().entry(at) {
+                Some(entry) => Some(self.truth_of(&entry, at)),
+                None => None,
+            },
             None => None,
         }
     }
 
-    /// The truth that an entry had at the last recalculation, where it stood then.
-    fn truth_of(&self, entry: &Entry) -> Option<bool>
+    /// The truth that the entry at a place had at the last recalculation, where it stood then; a type has none. It costs one look where
+    /// the entry stood at the same place.
+    pub(crate) fn truth_at(&self, at: usize) -> Option<bool>
+        ensures truth { result ≡ truth_at self.now at }
+        ensures alone { (e : applied.Entry) → slice_get self.now.entries at ≡ Some e → is_computed e ≡ true → IsAlone self.now e }
+    {
+        self.is_single();
+        self.has_only();
+        match self.present().entry(at) {
+            Some(entry) => {
+                if is_type(entry.property) {
+                    return None;
+                }
+                self.truth_of(&entry, at)
+            }
+            None => None,
+        }
+    }
+
+    /// No property of a node is set twice by the present entries. This tells contracts so, and does nothing.
+    pub(crate) fn is_single(&self)
+        ensures { AreSingle self.now.entries }
+    {
+        self.present().is_single();
+    }
+
+    /// One at most of the entries that stood is the same as another. This tells contracts so, and does nothing.
+    fn has_only(&self)
+        ensures { (e : applied.Entry) → is_computed e ≡ true → (found : Option applied.Entry) × IsOnly (entries_of self.now.stood) e found }
+    {
+        match &self.since {
+            Since::Nothing => stood_in(&self.stood, &self.present).is_single(),
+            Since::Told(_) => self.present.applied().is_single(),
+            Since::Built(_) => stood_in(&self.stood, &self.present).is_single(),
+            Since::ToldBuilt(_, _) => self.present.applied().is_single(),
+            Since::BuiltTold(now) => now.applied().is_single(),
+            Since::Past(_, stood) => stood.is_single(),
+        }
+    }
+
+    /// Whether the entries that stood at the last recalculation are the present ones, at the same places. That they may not be
+    /// promises nothing.
+    pub(crate) fn is_settled(&self) -> bool
+        ensures { OnTrue result (entries_of self.now.stood ≡ filter is_computed self.now.entries) }
+    {
+        match &self.since {
+            Since::Nothing => self.stood.is_none(),
+            Since::Told(_) => true,
+            Since::Built(_) => false,
+            Since::ToldBuilt(_, _) => false,
+            Since::BuiltTold(_) => true,
+            Since::Past(_, _) => false,
+        }
+    }
+
+    /// The truth that an entry had at the last recalculation, where it stood then. A likely place is looked at first.
+    fn truth_of(&self, entry: &Entry, likely: usize) -> Option<bool>
         requires { is_computed (entry_of entry.now) ≡ true }
         ensures { result ≡ truth_from self.now.stood (entry_of entry.now) }
     {
         match &self.since {
-            Since::Nothing => stood_in(&self.stood, &self.present).truth(entry),
-            Since::Told(truths) => self.present.applied().told(entry, truths),
-            Since::Built(_) => stood_in(&self.stood, &self.present).truth(entry),
-            Since::ToldBuilt(truths, _) => self.present.applied().told(entry, truths),
-            Since::BuiltTold(now) => now.applied().truth(entry),
-            Since::Past(_, stood) => stood.truth(entry),
+            Since::Nothing => stood_in(&self.stood, &self.present).truth(entry, likely),
+            Since::Told(truths) => self.present.applied().told(entry, truths, likely),
+            Since::Built(_) => stood_in(&self.stood, &self.present).truth(entry, likely),
+            Since::ToldBuilt(truths, _) => self.present.applied().told(entry, truths, likely),
+            Since::BuiltTold(now) => now.applied().truth(entry, likely),
+            Since::Past(_, stood) => stood.truth(entry, likely),
         }
     }
 
@@ -299,6 +358,12 @@ impl Kept {
         self.texts.truncate(self.texts_kept);
         self.lists.truncate(self.lists_kept);
     }
+}
+
+fn is_type(property: Property) -> bool
+    ensures { result ≡ is_property property Property.Kind }
+{
+    property == Property::Kind
 }
 
 /// The entries that stood, where the present ones may be the same.

@@ -1,15 +1,16 @@
 //! What is kept of all models.
 
-ghost use Rattle.std.specs.Prelude.{◌≡◌, ◌<◌, ◌-◌, ◌^◌, ℕ, [], ◌∷◌, ◌++◌, None, false, true, find, is_some, length, min, replicate, option_map, slice_get, slice_index_or, IfOk, OnOk, OnErr};
-ghost use Rattle.std.specs.Bool.{OnFalse};
+ghost use Rattle.std.specs.Prelude.{◌≡◌, ◌<◌, ◌-◌, ◌^◌, ℕ, [], ◌∷◌, ◌++◌, Some, None, false, true, filter, find, is_some, length, min, replicate, option_map, slice_get, slice_index_or, IfOk, OnOk, OnErr};
+ghost use Rattle.std.specs.Bool.{OnFalse, OnTrue};
 ghost use Rattle.std.specs.List.{list_any};
 ghost use Rattle.xf_doc.specs.Visit.{has};
+ghost use Rattle.xf_model.specs.Applied as applied;
 ghost use Rattle.xf_model.specs.Applied.{is_property};
 ghost use Rattle.xf_model.specs.Entries.{is_computed};
 ghost use Rattle.xf_model.specs.Properties.{sets_on};
 ghost use Rattle.xf_binds.specs.Asked.{asked_by_all, asked_of, asking};
-ghost use Rattle.xf_binds.specs.Held.{IsOnly, entries_in, entry_of};
-ghost use Rattle.xf_binds.specs.Kept.{entries_of, no_kept, recalculated, truth_in};
+ghost use Rattle.xf_binds.specs.Held.{AreSingle, IsOnly, entries_in, entry_of};
+ghost use Rattle.xf_binds.specs.Kept.{IsAlone, entries_of, no_kept, recalculated, truth_at, truth_in};
 ghost use Rattle.xf_binds.specs.Readers.{AreReaders, list_or};
 ghost use Rattle.xf_binds.specs.Turns.{AreInTurn};
 ghost use Rattle.xf_binds.specs.Table.{all_committed, all_rolled_back, held_or, kept_at, nodes_or, truth_among, web_or, with_kept};
@@ -196,6 +197,33 @@ impl Table {
     {
         match self.models.get(model as usize) {
             Some(kept) => kept.stood(entry),
+            None => None,
+        }
+    }
+
+    /// Whether the entries of a model that stood at its last recalculation are the present ones, in the same order. That they may not be
+    /// promises nothing. It costs one look, however many entries there are. No property of a node is set twice, be it so or not.
+    pub fn is_settled(&self, model: u32) -> bool
+        ensures settled { OnTrue result (entries_of (kept_at self.now model).stood ≡ filter is_computed (kept_at self.now model).entries) }
+        ensures single { AreSingle (kept_at self.now model).entries }
+    {
+        match self.models.get(model as usize) {
+            Some(kept) => {
+                kept.is_single();
+                kept.is_settled()
+            }
+            None => false,
+        }
+    }
+
+    /// The truth that the entry at a place of a model had at the last recalculation, where it stood then; a type has none. It costs one
+    /// look where the entry stood at the same place. An entry stands alone, be there a truth or not.
+    pub fn truth_at(&self, model: u32, at: usize) -> Option<bool>
+        ensures truth { result ≡ truth_at (kept_at self.now model) at }
+        ensures alone { (e : applied.Entry) → slice_get (kept_at self.now model).entries at ≡ Some e → is_computed e ≡ true → IsAlone (kept_at self.now model) e }
+    {
+        match self.models.get(model as usize) {
+            Some(kept) => kept.truth_at(at),
             None => None,
         }
     }

@@ -4,4 +4,5 @@ pub mod Spreads
 pub mod Begins
 pub mod Ups
 pub mod Counted
+pub mod Calculated
 mod Examples

@@ -3,11 +3,14 @@
 use Rattle.std.specs.Prelude.{ℕ, ◌≡◌, Bool, false, not, ◌&&◌, ◌||◌, List, length, Option, Some, None, option_and_then, slice_get}
 use Rattle.std.specs.List.{list_any}
 use Rattle.xf_doc.specs.Visit.{has}
+use Rattle.xf_model.specs.declared.property.Property.TheVariants.{Calculate}
 use Rattle.xf_model.specs.Rules.{Rule}
 use Rattle.xf_model.specs.Applied.{Entry, is_calculate}
 use Rattle.xf_model.specs.Entries.{expression_in, is_computed}
 use Rattle.xf_model.specs.Pertinent.{Asking, Changes, placed_in, stands_as}
 use Rattle.xf_binds.specs.declared.web.Asks.{Asks}
+use Rattle.xf_model.specs.Properties.{sets_on}
+use Rattle.xf_binds.specs.Held.{passes}
 use Rattle.xf_binds.specs.Kept.{Kept}
 use Rattle.xf_pertinent.specs.OfTable.{changes_in}
 use Rattle.xf_pertinent.specs.Places.{asks_at, is_marked}
@@ -37,3 +40,10 @@ is_begun_at rules k place = is_begun_in rules (changes_in k) (slice_get k.entrie
 pub record AreBegun (rules : List Rule) (kept : Kept) (marks : List Bool) : Type 0 where
   pub size : length marks ≡ length kept.entries
   pub each : (place : ℕ) → is_marked marks place ≡ is_begun_at rules kept place
+
+-- ---- where texts alone changed
+
+-- these are marked besides: the calculates of nodes
+pub record AreCalculated (entries : List Entry) (nodes : List ℕ) (old new : List Bool) : Type 0 where
+  pub size : length new ≡ length old
+  pub each : (place : ℕ) → is_marked new place ≡ (list_any (λ n. passes (sets_on n Calculate) (slice_get entries place)) nodes || is_marked old place)

@@ -1,20 +1,21 @@
 //! The entries that a change concerns by itself.
 
-ghost use Rattle.std.specs.Prelude.{◌≡◌, ◌==◌, ◌&&◌, ℕ, true, map, option_map, IfOk};
+ghost use Rattle.std.specs.Bool.{OnFalse};
+ghost use Rattle.std.specs.Prelude.{◌≡◌, ◌==◌, ◌&&◌, ◌∷◌, ℕ, [], List, true, filter, length, map, option_map, IfOk};
 ghost use Rattle.std.specs.List.{list_any};
 ghost use Rattle.xf_doc.specs.Visit.{has};
-ghost use Rattle.xf_model.specs.Rules.{rule_of};
+ghost use Rattle.xf_model.specs.Rules.{Rule, rule_of};
 ghost use Rattle.xf_model.specs.Applied.{is_property};
 ghost use Rattle.xf_model.specs.Entries.{is_computed};
 ghost use Rattle.xf_model.specs.Pertinent.{stands_as};
 ghost use Rattle.xf_binds.specs.declared.web.Asks as web;
-ghost use Rattle.xf_binds.specs.Held.{entry_of};
+ghost use Rattle.xf_binds.specs.Held.{AreSingle, entry_of, place_on};
 ghost use Rattle.xf_binds.specs.Kept.{entries_of};
 ghost use Rattle.xf_binds.specs.Table.{kept_at, nodes_or};
 ghost use Rattle.xf_recalc.specs.Found.{asks_or};
-ghost use Rattle.xf_pertinent.specs.Begun.{AreBegun, asking_with, is_begun_at};
+ghost use Rattle.xf_pertinent.specs.Begun.{AreBegun, AreCalculated, asking_with, is_begun_at};
 
-use crate::marks::MarkList;
+use crate::marks::{MarkList, none_marked};
 use crate::numbers::Numbers;
 use crate::placed::is_placed;
 use std::alloc::{AllocError, Global};
@@ -30,8 +31,83 @@ struct Marked {
     lists: Numbers,
 }
 
-/// Marks the entries that a change concerns by itself.
+/// Marks the entries that a change concerns by itself. The cost follows the change where it is one of texts alone.
 pub(crate) fn begun(
+    alloc: Global,
+    tables: &Tables,
+    table: &Table,
+    model: u32,
+) -> Result<MarkList, AllocError>
+    ensures { IfOk result (AreBegun (map rule_of tables.now.binds) (kept_at table.now model)) }
+{
+    if table.is_settled(model) && !has_lists(table, model) {
+        return begun_by_texts(alloc, table, model);
+    }
+    begun_by_each(alloc, tables, table, model)
+}
+
+/// Whether one came or went in a list.
+fn has_lists(table: &Table, model: u32) -> bool
+    ensures { OnFalse result ((kept_at table.now model).lists ≡ []) }
+{
+    match table.lists(model) {
+        Some(lists) => !lists.is_empty(),
+        None => false,
+    }
+}
+
+/// The same, where texts alone changed: those entries begin that are the calculates of the nodes.
+fn begun_by_texts(alloc: Global, table: &Table, model: u32) -> Result<MarkList, AllocError>
+    requires settled { entries_of (kept_at table.now model).stood ≡ filter is_computed (kept_at table.now model).entries }
+    requires single { AreSingle (kept_at table.now model).entries }
+    requires lists { (kept_at table.now model).lists ≡ [] }
+    ensures { (rules : List Rule) → IfOk result (AreBegun rules (kept_at table.now model)) }
+{
+    let mut marks = none_marked(alloc, table.len(model))?;
+    match table.texts(model) {
+        Some(texts) => {
+            mark_calculates(table, model, texts.as_slice(), &mut marks);
+            Ok(marks)
+        }
+        None => Ok(marks),
+    }
+}
+
+/// Marks the calculates of these nodes.
+fn mark_calculates(table: &Table, model: u32, nodes: &[NodeId], marks: &mut MarkList)
+    requires size { length marks.old ≡ length (kept_at table.now model).entries }
+    requires single { AreSingle (kept_at table.now model).entries }
+    ensures { AreCalculated (kept_at table.now model).entries (map (λ i. i.number) nodes.now) marks.old marks.new }
+{
+    for node in nodes {
+        mark_calculate(table, model, *node, marks);
+    }
+}
+
+/// Marks the calculate of a node, where it has one.
+fn mark_calculate(table: &Table, model: u32, node: NodeId, marks: &mut MarkList)
+    requires size { length marks.old ≡ length (kept_at table.now model).entries }
+    requires single { AreSingle (kept_at table.now model).entries }
+    ensures { AreCalculated (kept_at table.now model).entries (node.number ∷ []) marks.old marks.new }
+{
+    match calculate_on(table, model, node) {
+        Some(place) => marks.set(place, true),
+        None => {}
+    }
+}
+
+/// The place of the calculate of a node.
+fn calculate_on(table: &Table, model: u32, node: NodeId) -> Option<usize>
+    ensures { result ≡ place_on (kept_at table.now model).entries node.number Property.Calculate }
+{
+    match table.present(model) {
+        Some(applied) => applied.place(node, Property::Calculate),
+        None => None,
+    }
+}
+
+/// The same, where each entry is looked at.
+fn begun_by_each(
     alloc: Global,
     tables: &Tables,
     table: &Table,

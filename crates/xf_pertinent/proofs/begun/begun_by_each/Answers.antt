@@ -2,7 +2,7 @@ use Rattle.std.proofs.Common.{◌≡◌, map, length, arith}
 use Rattle.xf_model.specs.Rules.{rule_of}
 use Rattle.xf_binds.specs.Table.{kept_at}
 use Rattle.xf_pertinent.proofs.Begins.{begun-all, begun-next}
-use Rattle.xf_pertinent.proofs.begun.begun.Goals as goal
+use Rattle.xf_pertinent.proofs.begun.begun_by_each.Goals as goal
 
 pub loop-place-preserved : goal.loop-place-preserved
 loop-place-preserved c =
