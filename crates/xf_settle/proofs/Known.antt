@@ -1,6 +1,6 @@
 -- What is known of calculates, by their places: nothing before the first turn, and in each turn one truth more.
 use Rattle.std.proofs.Common.{◌≡◌, ℕ, zero, suc, Bool, true, false, cond, List, [], ◌∷◌, length, take, Option, Some, None, option_map, get_or, slice_get, slice_set, refl, sym, ap, ◌∙◌, subst, inl, inr}
-use Rattle.std.specs.Prelude.{◌⊎◌, not, replicate}
+use Rattle.std.specs.Prelude.{◌⊎◌, not, option_and_then, replicate}
 use Rattle.xf_base.specs.Limits.{string_limit}
 use Rattle.xf_doc.specs.Visit.{Visit}
 use Rattle.xf_lang.specs.declared.value.Value.{Value}
@@ -12,8 +12,7 @@ use Rattle.xf_model.specs.Rules.{Scope}
 use Rattle.xf_model.specs.Applied.{Entry, is_calculate, is_property}
 use Rattle.xf_model.specs.Entries.{is_computed, value_of}
 use Rattle.xf_model.specs.Settled.{calculates}
-use Rattle.xf_binds.specs.Held.{IsOnly}
-use Rattle.xf_binds.specs.Kept.{Kept, entries_of, truth_in}
+use Rattle.xf_binds.specs.Kept.{IsAlone, Kept, truth_at, truth_from, truth_if as kept_if}
 use Rattle.xf_settle.specs.Known.{AreKnown, IsKnown, known_at}
 use Rattle.xf_settle.specs.Passes.{AreTrue, IsKept, IsKnownBy, is_passed}
 use Rattle.xf_settle.specs.Turns.{truth_if}
@@ -105,6 +104,15 @@ known-by scope all kept marks known are so at t h = by (is_passed marks at) refl
     by false i k = subst (IsKnown scope all (slice_get kept.entries at)) (sym k) (is-known scope all kept.entries known are at)
     by true i k = of i (slice_get kept.entries at) refl t k
 
-pub kept-by : (k : Kept) (e : Entry) → is_computed e ≡ true → (found : Option Entry) → IsOnly (entries_of k.stood) e found → (t : Option Bool) → truth_in k e.property e.node ≡ Some t → IsKept k (Some e) t
-kept-by k e c found only None h = tt
-kept-by k e c found only (Some b) h = (c, (found, only), h)
+-- the truth that is kept at a place is that of an entry that stands alone
+pub kept-at : (k : Kept) (at : ℕ) (t : Option Bool) → t ≡ truth_at k at → ((e : Entry) → slice_get k.entries at ≡ Some e → is_computed e ≡ true → IsAlone k e) → IsKept k (slice_get k.entries at) t
+kept-at k at t is alone = by (slice_get k.entries at) refl t is
+  where
+    of : (e : Entry) → slice_get k.entries at ≡ Some e → (c : Bool) → is_computed e ≡ c → (u : Option Bool) → u ≡ cond c (truth_from k.stood e) None → IsKept k (Some e) u
+    of e h c g None j = tt
+    of e h false g (Some b) j = none-some (sym j)
+    of e h true g (Some b) j = (g, (alone e h g).only, ap (option_map (truth_from k.stood)) (alone e h g).first ∙ ap Some (sym j))
+
+    by : (o : Option Entry) → slice_get k.entries at ≡ o → (u : Option Bool) → u ≡ option_and_then (kept_if k.stood) o → IsKept k o u
+    by None h u j = tt
+    by (Some e) h u j = of e h (is_computed e) refl u j

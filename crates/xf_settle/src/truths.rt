@@ -1,12 +1,11 @@
 //! The truths of the values of a model's entries over the settled data.
 
-ghost use Rattle.std.specs.Prelude.{◌≡◌, [], Some, true, option_map};
+ghost use Rattle.std.specs.Prelude.{◌≡◌, [], Some, true, option_map, slice_get};
 ghost use Rattle.std.specs.List.{list_all};
 ghost use Rattle.xf_doc.specs.Forest.{has_number};
 ghost use Rattle.xf_doc.specs.Visit.{visits};
 ghost use Rattle.xf_plain_values.specs.Bounded.{GivesBounded};
 ghost use Rattle.xf_model.specs.Applied.{is_property};
-ghost use Rattle.xf_model.specs.Entries.{is_computed};
 ghost use Rattle.xf_eval.specs.Live.{AroundStands};
 ghost use Rattle.xf_binds.specs.Held.{entry_of};
 ghost use Rattle.xf_binds.specs.Table.{kept_at};
@@ -47,7 +46,7 @@ pub(crate) fn truths_of<A: Around>(
     for at in 0..table.len(model) {
         let entry = table.entry(model, at);
         let passed = is_passed(marks, at);
-        let truth = known_of(table, model, entry, passed, known, place);
+        let truth = known_of(table, model, at, entry, passed, known, place);
         push_truth(
             alloc, tables, forest, model, entry, truth, around, &mut found,
         )?;
@@ -62,46 +61,26 @@ pub(crate) fn truths_of<A: Around>(
 fn known_of(
     table: &Table,
     model: u32,
+    at: usize,
     entry: Option<Entry>,
     is_passed: bool,
     known: &[Option<bool>],
     place: usize,
 ) -> Option<bool>
+    requires { option_map entry_of entry ≡ slice_get (kept_at table.now model).entries at }
     ensures { IsKnownBy is_passed (kept_at table.now model) known.now place (option_map entry_of entry) result }
 {
     if is_passed {
-        return kept_truth(table, model, entry);
+        return kept_truth(table, model, at);
     }
     known_at(entry, known, place)
 }
 
-/// The truth that is kept of an entry from the last recalculation, where it stood then; a type has none.
-fn kept_truth(table: &Table, model: u32, entry: Option<Entry>) -> Option<bool>
-    ensures { IsKept (kept_at table.now model) (option_map entry_of entry) result }
+/// The truth that is kept of the entry at a place from the last recalculation, where it stood then; a type has none.
+fn kept_truth(table: &Table, model: u32, at: usize) -> Option<bool>
+    ensures { IsKept (kept_at table.now model) (slice_get (kept_at table.now model).entries at) result }
 {
-    match entry {
-        Some(entry) => {
-            if is_type(entry.property) {
-                return None;
-            }
-            stood_truth(table, model, &entry)
-        }
-        None => None,
-    }
-}
-
-/// The same of an entry that is no type.
-fn stood_truth(table: &Table, model: u32, entry: &Entry) -> Option<bool>
-    requires { is_computed (entry_of entry.now) ≡ true }
-    ensures { IsKept (kept_at table.now model) (Some (entry_of entry.now)) result }
-{
-    match table.stood(model, entry) {
-        Some(_) => match table.truth_in(model, entry.node, entry.property) {
-            Some(truth) => truth,
-            None => None,
-        },
-        None => None,
-    }
+    table.truth_at(model, at)
 }
 
 /// What is known of an entry, where so many calculates stand before it.
