@@ -12,3 +12,4 @@ pub mod Readings
 pub mod Nears
 pub mod Unset
 pub mod Singles
+pub mod Placings

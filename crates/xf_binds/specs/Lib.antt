@@ -6,3 +6,4 @@ pub mod Table
 pub mod Asked
 pub mod Since
 pub mod Readers
+pub mod Placed

@@ -9,6 +9,7 @@ ghost use Rattle.xf_model.specs.Properties.{sets_on};
 ghost use Rattle.xf_model.specs.Applied as applied;
 ghost use Rattle.xf_binds.specs.Held.{AreSingle, Held, IsOnly, entries_in, entry_of};
 ghost use Rattle.xf_binds.specs.Kept.{IsAlone, committed, entries_of, no_kept, recalculated, rolled_back, stood_of, told_of, truth_at, truth_from, truth_in};
+ghost use Rattle.xf_binds.specs.Placed.{AreInOrder};
 ghost use Rattle.xf_binds.specs.Readers.{AreReaders, list_or};
 ghost use Rattle.xf_binds.specs.Since.{built_more, is_told, marks_in, present_in, stood_since, told_more};
 ghost use Rattle.xf_binds.specs.Turns.{AreInTurn};
@@ -19,6 +20,7 @@ use crate::node_set::NodeSet;
 use crate::ordered::Ordered;
 use crate::readers::PlaceList;
 use crate::truth_list::TruthList;
+use crate::turns::Turn;
 use crate::web::Web;
 use std::alloc::{AllocError, Global};
 use std::marker::Model;
@@ -112,6 +114,13 @@ impl Kept {
         ensures { AreInTurn self.now.entries self.now.asks result.now }
     {
         self.ordered().order()
+    }
+
+    /// The present calculates, none before one that it reads.
+    pub(crate) fn turns(&self) -> &[Turn]
+        ensures { AreInOrder self.now.entries self.now.asks result.now }
+    {
+        self.ordered().turns()
     }
 
     /// The places of the present entries that read a node.

@@ -9,6 +9,7 @@ mod ordered;
 mod readers;
 mod table;
 mod truth_list;
+mod turns;
 mod web;
 
 pub use applied::Applied;
@@ -18,4 +19,5 @@ pub use ordered::Ordered;
 pub use readers::PlaceList;
 pub use table::Table;
 pub use truth_list::TruthList;
+pub use turns::Turn;
 pub use web::{Asks, Web};

@@ -4,11 +4,13 @@ ghost use Rattle.std.specs.Prelude.{◌≡◌, [], IfOk, option_map};
 ghost use Rattle.xf_binds.specs.Held.{entries_in};
 ghost use Rattle.xf_binds.specs.Turns.{AreInTurn};
 ghost use Rattle.xf_binds.specs.Kept.{Entered, told_of};
+ghost use Rattle.xf_binds.specs.Placed.{AreInOrder};
 ghost use Rattle.xf_binds.specs.Readers.{AreReaders, list_or};
 
 use crate::applied::Applied;
 use crate::readers::{PlaceList, Readers, readers_of};
 use crate::truth_list::TruthList;
+use crate::turns::{Turn, turns_on};
 use crate::web::Web;
 use indexmap::IndexMap;
 use std::alloc::{AllocError, Global};
@@ -22,6 +24,8 @@ pub struct Ordered {
     applied: Applied,
     web: Web,
     order: NodeList,
+    // The calculates of these nodes.
+    turns: Vec<Turn>,
     readers: Readers,
 }
 
@@ -29,13 +33,14 @@ impl Model for Ordered {
     ghost use Rattle.xf_binds.specs.Held.{entries_in};
     ghost use Rattle.xf_binds.specs.Turns.{AreInTurn};
     ghost use Rattle.xf_binds.specs.Kept.{Entered};
+    ghost use Rattle.xf_binds.specs.Placed.{TellsTurns};
     ghost use Rattle.xf_binds.specs.Readers.{TellsReaders};
 
     ghost Value = { Entered };
 
     ghost view = { λ o. record { held = o.applied; asks = o.web } };
 
-    ghost invariant = { λ o. (AreInTurn (entries_in o.applied) o.web o.order) × (TellsReaders (entries_in o.applied) o.web o.readers) };
+    ghost invariant = { λ o. (AreInTurn (entries_in o.applied) o.web o.order) × (TellsReaders (entries_in o.applied) o.web o.readers) × (TellsTurns (entries_in o.applied) o.order o.turns.items) };
 }
 
 impl Ordered {
@@ -47,6 +52,7 @@ impl Ordered {
             applied: Applied::new(alloc),
             web: Web::new(alloc),
             order: NodeList::new(alloc),
+            turns: Vec::new(alloc),
             readers: IndexMap::new(alloc),
         }
     }
@@ -63,11 +69,13 @@ impl Ordered {
     {
         let mut applied = applied;
         applied.bring_near(alloc)?;
+        let turns = turns_on(alloc, &applied, &order)?;
         let readers = readers_of(alloc, &applied, &web)?;
         Ok(Ordered {
             applied,
             web,
             order,
+            turns,
             readers,
         })
     }
@@ -89,6 +97,13 @@ impl Ordered {
         ensures { AreInTurn (entries_in self.now.held) self.now.asks result.now }
     {
         &self.order
+    }
+
+    /// The calculates, none before one that it reads.
+    pub(crate) fn turns(&self) -> &[Turn]
+        ensures { AreInOrder (entries_in self.now.held) self.now.asks result.now }
+    {
+        self.turns.as_slice()
     }
 
     /// The places of the entries that read a node.

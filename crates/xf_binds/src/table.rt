@@ -11,6 +11,7 @@ ghost use Rattle.xf_model.specs.Properties.{sets_on};
 ghost use Rattle.xf_binds.specs.Asked.{asked_by_all, asked_of, asking};
 ghost use Rattle.xf_binds.specs.Held.{AreSingle, IsOnly, entries_in, entry_of};
 ghost use Rattle.xf_binds.specs.Kept.{IsAlone, entries_of, no_kept, recalculated, truth_at, truth_in};
+ghost use Rattle.xf_binds.specs.Placed.{AreInOrder, turns_or};
 ghost use Rattle.xf_binds.specs.Readers.{AreReaders, list_or};
 ghost use Rattle.xf_binds.specs.Turns.{AreInTurn};
 ghost use Rattle.xf_binds.specs.Table.{all_committed, all_rolled_back, held_or, kept_at, nodes_or, truth_among, web_or, with_kept};
@@ -22,6 +23,7 @@ use crate::node_set::NodeSet;
 use crate::ordered::Ordered;
 use crate::readers::PlaceList;
 use crate::truth_list::TruthList;
+use crate::turns::Turn;
 use crate::web::{Asks, Web};
 use std::alloc::{AllocError, Global};
 use std::marker::Model;
@@ -103,6 +105,17 @@ impl Table {
     {
         match self.models.get(model as usize) {
             Some(kept) => Some(kept.order()),
+            None => None,
+        }
+    }
+
+    /// The calculates of a model, none before one that it reads, each with how many others stand before it among the entries and with
+    /// its own place among these. A rebuild found them, so that they are not looked up.
+    pub fn turns(&self, model: u32) -> Option<&[Turn]>
+        ensures { AreInOrder (kept_at self.now model).entries (kept_at self.now model).asks (turns_or (option_map (λ t. t.now) result)) }
+    {
+        match self.models.get(model as usize) {
+            Some(kept) => Some(kept.turns()),
             None => None,
         }
     }

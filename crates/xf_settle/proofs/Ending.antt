@@ -34,7 +34,7 @@ use Rattle.xf_written_laws.proofs.TurnLaws.{all-kept, same-text, turn_passed}
 use Rattle.xf_eval.specs.Live.{AroundStands}
 use Rattle.xf_binds.specs.Held.{held_by}
 use Rattle.xf_binds.specs.Kept.{valued_in}
-use Rattle.xf_settle.specs.declared.turn.Turn.{Turn}
+use Rattle.xf_binds.specs.declared.turns.Turn.{Turn}
 use Rattle.xf_settle.specs.declared.fault.SettleFault.{SettleFault}
 use Rattle.xf_settle.specs.Settles.{IsSettled, IsTold, MaySettle, contents_in, fault_of, scope_in, tells_all, tells_nodes, word_of, words_of}
 use Rattle.xf_settle.specs.Turns.{AreTurns, entry_in, found_over, is_there}

@@ -18,7 +18,7 @@ use Rattle.xf_model.specs.Applied.{Entry, is_calculate}
 use Rattle.xf_model.specs.Settled.{Valued, bounds, calculates, is_long, values_over}
 use Rattle.xf_binds.specs.Held.{Held, held_by}
 use Rattle.xf_binds.specs.Kept.{valued_in, valued_of}
-use Rattle.xf_settle.specs.Turns.{found_if, found_over, found_step, is_calculate_at, is_there, is_there_at, truth_if}
+use Rattle.xf_settle.specs.Turns.{found_if, found_over, found_step, is_there, is_there_at, truth_if}
 
 plus-one : (k : ℕ) → k + 1 ≡ suc k
 plus-one k = omega arith
@@ -54,36 +54,6 @@ module _ (scope : Scope) (all : List Visit) where
   pub step-some : (found more : List (Option Bool)) (es : List Entry) (k : ℕ) (whole : Option (List (Option Bool))) → found_over found scope all (drop k es) ≡ whole → found_step found scope all (slice_get es k) ≡ Some more →
       found_over more scope all (drop (k + 1) es) ≡ whole
   step-some found more es k whole h e = sym (ap (λ o. o >>= λ next. found_over next scope all (drop (k + 1) es)) e) ∙ sym (step-is found es k) ∙ h
-
--- ---- how many calculates there are
-
-abbrev pub one_if : Bool → ℕ
-one_if true = 1
-one_if false = 0
-
-pub plus-none : (n : ℕ) → n + 0 ≡ n
-plus-none n = omega arith
-
-more-if : (b : Bool) (n : ℕ) → suc n + one_if b ≡ suc (n + one_if b)
-more-if b n = let m = one_if b in omega arith
-
-counted-suc : (es : List Entry) (k : ℕ) → length (calculates (take (suc k) es)) ≡ length (calculates (take k es)) + one_if (is_calculate_at (slice_get es k))
-counted-suc [] zero = refl
-counted-suc [] (suc k) = refl
-counted-suc (e ∷ es) zero = by (is_calculate e)
-  where
-    by : (b : Bool) → length (cond b (e ∷ []) []) ≡ 0 + one_if b
-    by true = refl
-    by false = refl
-counted-suc (e ∷ es) (suc k) = by (is_calculate e) (counted-suc es k)
-  where
-    by : (b : Bool) → length (calculates (take (suc k) es)) ≡ length (calculates (take k es)) + one_if (is_calculate_at (slice_get es k))
-        → length (cond b (e ∷ calculates (take (suc k) es)) (calculates (take (suc k) es))) ≡ length (cond b (e ∷ calculates (take k es)) (calculates (take k es))) + one_if (is_calculate_at (slice_get es k))
-    by true h = ap suc h ∙ sym (more-if (is_calculate_at (slice_get es k)) (length (calculates (take k es))))
-    by false h = h
-
-pub counted : (es : List Entry) (k : ℕ) → length (calculates (take (k + 1) es)) ≡ length (calculates (take k es)) + one_if (is_calculate_at (slice_get es k))
-counted es k = ap (λ j. length (calculates (take j es))) (plus-one k) ∙ counted-suc es k
 
 -- ---- all entries
 

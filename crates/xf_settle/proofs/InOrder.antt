@@ -39,9 +39,10 @@ use Rattle.xf_recalc.specs.Web.{asks_of}
 use Rattle.xf_recalc.proofs.Rebuilds.{entries-there}
 use Rattle.xf_recalc.proofs.Told.{links_defined}
 use Rattle.xf_recalc.proofs.Turns.{order-found}
-use Rattle.xf_settle.specs.declared.turn.Turn.{Turn}
+use Rattle.xf_binds.specs.declared.turns.Turn.{Turn}
 use Rattle.xf_settle.specs.Settles.{MaySettle, scope_in}
-use Rattle.xf_settle.specs.Turns.{AreInOrder, AreTurns, Placed, entry_in, placed_of, placed_on}
+use Rattle.xf_binds.specs.Placed.{AreInOrder, Placed, placed_of, placed_on}
+use Rattle.xf_settle.specs.Turns.{AreTurns, entry_in}
 use Rattle.xf_settle.proofs.PlacedLists.{IsFound, IsGot, found-on, of-places, single-at}
 
 -- ---- numbers that differ
@@ -159,7 +160,7 @@ module _ (given : Given) (tables : Tables) (model : ℕ) (forest : Forest) (entr
       (any-stands (λ (f : Entry). f.node == e.node) (calculates entries) s.0 e s.1 (self-same e.node)))
       (calculates entries) (each-stands (calculates entries)))
 
-  pub are-turns : (web : List Asks) → web ≡ map (asks_of scope shaped) entries → (turns : List Turn) → AreInOrder entries web entries turns →
+  pub are-turns : (web : List Asks) → web ≡ map (asks_of scope shaped) entries → (turns : List Turn) → AreInOrder entries web turns →
       AreTurns scope entries (visits forest.nodes) turns
   are-turns web asked turns given_order = record {
     ordered = record { places = o.0; order = order; at_places = at };
@@ -167,15 +168,15 @@ module _ (given : Given) (tables : Tables) (model : ℕ) (forest : Forest) (entr
     placed = of-map (λ (t : Placed). IsGot entries t) placed_of turns (subst (AllOf (λ (t : Placed). IsGot entries t)) (sym is) both.1);
   }
     where
-      o : IsInOrder kept (Some given_order.0)
-      o = subst (λ w. IsInOrder (sources_in (visits forest.nodes) entries w) (Some given_order.0)) asked
-          (order-found forest (record { trees = may.around.trees; below = may.around.below }) entries (entries-there scope forest entries may.applies) small web given_order.0 given_order.1)
+      o : IsInOrder kept (Some given_order.nodes)
+      o = subst (λ w. IsInOrder (sources_in (visits forest.nodes) entries w) (Some given_order.nodes)) asked
+          (order-found forest (record { trees = may.around.trees; below = may.around.below }) entries (entries-there scope forest entries may.applies) small web given_order.nodes given_order.in_turn)
 
       order : IsOrder (graph_over scope shaped entries) o.0
       order = subst (λ g. IsOrder g o.0) linked.graph o.1
 
       is : map placed_of turns ≡ placed_on entries (nodes_in (map (λ (e : Entry). e.node) calcs) o.0)
-      is = given_order.2 ∙ ap (placed_on entries) (o.2 ∙ ap (λ ns. nodes_in ns o.0) linked.nodes_in_order)
+      is = given_order.told.placed ∙ ap (placed_on entries) (o.2 ∙ ap (λ ns. nodes_in ns o.0) linked.nodes_in_order)
 
       size : length (graph_over scope shaped entries) ≡ length calcs
       size = size-of_graph shaped (calculated scope shaped entries) ∙ length-mapped (λ (e : Entry). record { node = e.node; reads = reads_of scope shaped e }) calcs

@@ -1,5 +1,5 @@
 -- Lists and their elements by place.
-use Rattle.std.proofs.Common.{◌≡◌, ℕ, zero, suc, ◌+◌, ◌<◌, ◌==◌, Bool, true, false, ◌||◌, List, [], ◌∷◌, ◌++◌, map, length, Some, option_map, slice_get, take, drop, get_or, refl, sym, ap, ◌∙◌}
+use Rattle.std.proofs.Common.{◌≡◌, ℕ, zero, suc, ◌+◌, ◌<◌, ◌==◌, Bool, true, false, ◌||◌, List, [], ◌∷◌, ◌++◌, map, length, Some, option_map, slice_get, take, drop, get_or, refl, sym, ap, ◌∙◌, arith}
 use Rattle.std.specs.List.{list_any}
 use Rattle.std.proofs.lemmas.Bool.{or_left, or_right, eq-eqb}
 use Rattle.std.proofs.lemmas.List.{take-append-drop, drop_more}
@@ -35,6 +35,11 @@ all-map P f (x ∷ xs) h = (h.0, all-map P f xs h.1)
 pub all-first : {X : Type 0} (P : X → Type 0) (xs ys : List X) → AllOf P (xs ++ ys) → AllOf P xs
 all-first P [] ys h = tt
 all-first P (x ∷ xs) ys h = (h.0, all-first P xs ys h.1)
+
+pub all-got : {X : Type 0} (P : X → Type 0) (xs : List X) (k : ℕ) (d : X) → AllOf P xs → k < length xs → P (get_or xs k d)
+all-got P [] k d h less = absurd (omega (arith, less))
+all-got P (x ∷ xs) zero d h less = h.0
+all-got P (x ∷ xs) (suc k) d h less = all-got P xs k d h.1 (omega (arith, less))
 
 pub any-append : {X : Type 0} (p : X → Bool) (xs ys : List X) → list_any p (xs ++ ys) ≡ (list_any p xs || list_any p ys)
 any-append p [] ys = refl

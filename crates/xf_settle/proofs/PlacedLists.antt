@@ -18,57 +18,8 @@ use Rattle.xf_agree.specs.InTurn.{AreSingle, AtPlaces}
 use Rattle.xf_agree.proofs.TurnLists.{at-stands, each-at_place, each-none, got-stands, none-any}
 use Rattle.xf_binds.specs.Held.{place_on}
 use Rattle.xf_recalc.specs.Links.{nodes_in}
-use Rattle.xf_settle.specs.Turns.{Placed, place_after, placed_at, placed_from, placed_on, places_from}
+use Rattle.xf_binds.specs.Placed.{Placed, place_after, placed_from, placed_on}
 use Rattle.xf_settle.proofs.ListLemmas.{got-map}
-
--- ---- by the place of its entry
-
-placed-later : (e : Entry) (k j : ℕ) (es : List Entry) (places : List ℕ) (o : Option ℕ) (found : List Placed) → option_map suc o ≡ Some j →
-    ((i : ℕ) → o ≡ Some i → placed_at (slice_get es i) (slice_get places i) ≡ found) → placed_at (slice_get (e ∷ es) j) (slice_get (k ∷ places) j) ≡ found
-placed-later e k j es places None found h later = none-some h
-placed-later e k j es places (Some i) found h later = ap (λ m. placed_at (slice_get (e ∷ es) m) (slice_get (k ∷ places) m)) (sym (some-same h)) ∙ later i refl
-
-pub placed-some : (k : ℕ) (es : List Entry) (n j : ℕ) → place_on es n Calculate ≡ Some j → placed_at (slice_get es j) (slice_get (places_from k es) j) ≡ placed_from k es n
-placed-some k [] n j h = none-some h
-placed-some k (e ∷ es) n j h = by (sets_on n Calculate e) h (placed-some (place_after k e) es n)
-  where
-    by : (b : Bool) → cond b (Some 0) (option_map suc (place_on es n Calculate)) ≡ Some j →
-        ((i : ℕ) → place_on es n Calculate ≡ Some i → placed_at (slice_get es i) (slice_get (places_from (place_after k e) es) i) ≡ placed_from (place_after k e) es n) →
-        placed_at (slice_get (e ∷ es) j) (slice_get (places_from k (e ∷ es)) j) ≡ cond b (record { entry = e; place = k } ∷ []) (placed_from (place_after k e) es n)
-    by true i later = ap (λ m. placed_at (slice_get (e ∷ es) m) (slice_get (places_from k (e ∷ es)) m)) (sym (some-same i))
-    by false i later = placed-later e k j es (places_from (place_after k e) es) (place_on es n Calculate) (placed_from (place_after k e) es n) i later
-
-pub placed-none : (k : ℕ) (es : List Entry) (n : ℕ) → place_on es n Calculate ≡ None → placed_from k es n ≡ []
-placed-none k [] n h = refl
-placed-none k (e ∷ es) n h = by (sets_on n Calculate e) h (placed-none (place_after k e) es n)
-  where
-    none : (o : Option ℕ) → option_map suc o ≡ None → o ≡ None
-    none None i = refl
-    none (Some j) i = none-some (sym i)
-
-    by : (b : Bool) → cond b (Some 0) (option_map suc (place_on es n Calculate)) ≡ None → (place_on es n Calculate ≡ None → placed_from (place_after k e) es n ≡ []) →
-        cond b (record { entry = e; place = k } ∷ []) (placed_from (place_after k e) es n) ≡ []
-    by true i later = none-some (sym i)
-    by false i later = later (none (place_on es n Calculate) i)
-
--- ---- entry by entry
-
-places-suc : (k i : ℕ) (es : List Entry) → i < length es → places_from k (take (suc i) es) ≡ places_from k (take i es) ++ (k + length (calculates (take i es))) ∷ []
-places-suc k i [] less = absurd (omega (arith, less))
-places-suc k zero (e ∷ es) less = ap (λ n. n ∷ []) (let same : k ≡ k + 0 = omega arith in same)
-places-suc k (suc i) (e ∷ es) less =
-    ap (λ l. k ∷ l) (places-suc (place_after k e) i es (omega (arith, less)))
-    ∙ ap (λ n. k ∷ places_from (place_after k e) (take i es) ++ n ∷ []) (by (is_calculate e))
-  where
-    by : (b : Bool) → cond b (suc k) k + length (calculates (take i es)) ≡ k + length (cond b (e ∷ calculates (take i es)) (calculates (take i es)))
-    by true = (let n = length (calculates (take i es)) in omega arith)
-    by false = refl
-
-pub places-next : (i : ℕ) (es : List Entry) → i < length es → places_from 0 (take (i + 1) es) ≡ places_from 0 (take i es) ++ length (calculates (take i es)) ∷ []
-places-next i es less =
-    ap (λ j. places_from 0 (take j es)) (let same : i + 1 ≡ suc i = omega arith in same)
-    ∙ places-suc 0 i es less
-    ∙ ap (λ n. places_from 0 (take i es) ++ n ∷ []) (let same : 0 + length (calculates (take i es)) ≡ length (calculates (take i es)) = omega arith in same)
 
 -- ---- the one calculate of a node
 
@@ -186,23 +137,3 @@ module _ (entries all : List Entry) (found : AllOf (λ e. IsFound 0 entries e.no
       ap (λ o. placed_on entries (as_list o ++ nodes_in (map (λ (x : Entry). x.node) all) ps)) (got-map (λ (x : Entry). x.node) all p e here)
       ∙ ap (λ l. l ++ of_places ps) f.found ∙ ap (λ m. record { entry = e; place = m } ∷ of_places ps) none in
       subst (λ ts. AtPlaces all (p ∷ ps) (map (λ (t : Placed). t.entry) ts) × AllOf (IsGot entries) ts) (sym is) ((here, rest.0), (f.got, rest.1))
-
--- ---- node by node
-
-on-suc : (entries : List Entry) (i : ℕ) (ns : List ℕ) (n : ℕ) → slice_get ns i ≡ Some n → placed_on entries (take (suc i) ns) ≡ placed_on entries (take i ns) ++ placed_from 0 entries n
-on-suc entries i [] n h = none-some h
-on-suc entries zero (m ∷ ms) n h = append-nil (placed_from 0 entries m) ∙ ap (placed_from 0 entries) (some-same h)
-on-suc entries (suc i) (m ∷ ms) n h =
-    ap (λ l. placed_from 0 entries m ++ l) (on-suc entries i ms n h) ∙ sym (append_assoc (placed_from 0 entries m) (placed_on entries (take i ms)) (placed_from 0 entries n))
-
-pub on-next : (entries : List Entry) (i : ℕ) (ns : List ℕ) (n : ℕ) → slice_get ns i ≡ Some n → placed_on entries (take (i + 1) ns) ≡ placed_on entries (take i ns) ++ placed_from 0 entries n
-on-next entries i ns n h = ap (λ j. placed_on entries (take j ns)) (let same : i + 1 ≡ suc i = omega arith in same) ∙ on-suc entries i ns n h
-
-pub placed-nowhere : (o : Option Entry) → placed_at o None ≡ []
-placed-nowhere None = refl
-placed-nowhere (Some e) = refl
-
-pub got-past : {X : Type 0} (xs : List X) (k : ℕ) → length xs ≤ k → slice_get xs k ≡ None
-got-past [] k h = refl
-got-past (x ∷ xs) zero h = absurd (omega (arith, h))
-got-past (x ∷ xs) (suc k) h = got-past xs k (omega (arith, h))

@@ -42,7 +42,7 @@ use Rattle.xf_since_laws.specs.Since.{Before, HoldsText, Since, changes_since}
 use Rattle.xf_since_laws.proofs.PassedWritten.{passed_turn}
 use Rattle.xf_form_machine.specs.Behave.{with_contents}
 use Rattle.xf_undo.specs.Draft.{Draft, IsUnused, with_reserved, with_settled}
-use Rattle.xf_settle.specs.declared.turn.Turn.{Turn}
+use Rattle.xf_binds.specs.declared.turns.Turn.{Turn}
 use Rattle.xf_settle.specs.declared.fault.SettleFault.{SettleFault}
 use Rattle.xf_settle.specs.declared.fault.SettleFault.TheVariants.{Long, Text}
 use Rattle.xf_settle.specs.Known.{AreKnown}
@@ -67,7 +67,7 @@ pub record Going (scope : Scope) (entries : List Entry) (forest : Forest) (turns
   pub fit : AllOf (Fits scope entries forest) (map entry_in turns)
 
 abbrev pub no_turn : Turn
-no_turn = record { entry = record { node = record { number = 0; place = 0 }; property = Kind; bind = 0; position = 0; size = 0 }; place = 0 }
+no_turn = record { entry = record { node = record { number = 0; place = 0 }; property = Kind; bind = 0; position = 0; size = 0 }; place = 0; seat = 0 }
 
 -- a turn keeps what was kept
 pub turned-kept : (number n : ℕ) (d new : Draft) (o : Option (List ℕ)) → turned number n d o ≡ Ok new → new.kept ≡ d.kept

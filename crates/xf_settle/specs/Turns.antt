@@ -1,6 +1,5 @@
 -- One calculate after the other: what is done in a turn, and what each entry is found to be over the data that stand then.
-use Rattle.std.specs.Prelude.{ℕ, suc, ◌≡◌, Bool, true, false, List, [], ◌∷◌, ◌++◌, map, length, nat_lt, Option, Some, None, option_map, Result, Ok, Err, slice_get, if◌then◌else◌}
-use Rattle.std.specs.List.{flat_map}
+use Rattle.std.specs.Prelude.{ℕ, ◌≡◌, Bool, true, false, List, [], ◌∷◌, ◌++◌, map, length, nat_lt, Option, Some, None, option_map, Result, Ok, Err, slice_get, if◌then◌else◌}
 use Rattle.xf_ast.specs.declared.expr.Expr.{Expr}
 use Rattle.xf_ast.specs.declared.form.Properties.{Properties}
 use Rattle.xf_base.specs.Limits.{string_limit}
@@ -14,17 +13,14 @@ use Rattle.xf_lang.specs.Conversions.{truth_of}
 use Rattle.xf_model.specs.declared.property.Property.{Property}
 use Rattle.xf_model.specs.declared.property.Property.TheVariants.{Kind, Calculate, Relevant, Readonly, Required, Constraint}
 use Rattle.xf_model.specs.Rules.{Scope}
-use Rattle.xf_model.specs.Applied.{Entry, is_calculate}
+use Rattle.xf_model.specs.Applied.{Entry}
 use Rattle.xf_model.specs.Entries.{is_computed, value_of}
 use Rattle.xf_model.specs.Settled.{calculates}
 use Rattle.xf_model.specs.Pertinent.{AllOf}
-use Rattle.xf_model.specs.Properties.{sets_on}
 use Rattle.xf_agree.specs.InTurn.{AreSingle, IsOrdered}
 use Rattle.xf_undo.specs.Draft.{Draft, with_settled}
-use Rattle.xf_binds.specs.declared.web.Asks.{Asks}
 use Rattle.xf_binds.specs.Held.{entry_of}
-use Rattle.xf_binds.specs.Turns.{AreInTurn}
-use Rattle.xf_settle.specs.declared.turn.Turn.{Turn}
+use Rattle.xf_binds.specs.declared.turns.Turn.{Turn}
 use Rattle.xf_settle.specs.declared.fault.SettleFault.{SettleFault}
 use Rattle.xf_settle.specs.declared.fault.SettleFault.TheVariants.{Long, Text}
 
@@ -36,43 +32,6 @@ pub record AreTurns (scope : Scope) (entries : List Entry) (all : List Visit) (t
   pub ordered : IsOrdered scope entries all (map entry_in turns)
   pub single : AreSingle (map entry_in turns)
   pub placed : AllOf (λ t. slice_get (calculates entries) t.place ≡ Some (entry_in t)) turns
-
--- ---- how the turns are found
-
--- a calculate with its place among them
-pub record Placed : Type 0 where
-  pub entry : Entry
-  pub place : ℕ
-
-abbrev pub placed_of : Turn → Placed
-placed_of t = record { entry = entry_in t; place = t.place }
-
--- the place of the next calculate, where this entry may be one
-abbrev pub place_after : ℕ → Entry → ℕ
-place_after k e = if is_calculate e then suc k else k
-
--- with each entry how many calculates stand before it, counted from this number on
-abbrev pub places_from : ℕ → List Entry → List ℕ
-places_from k [] = []
-places_from k (e ∷ es) = k ∷ places_from (place_after k e) es
-
--- the calculate of a node, where it has one: the first
-abbrev pub placed_from : ℕ → List Entry → ℕ → List Placed
-placed_from k [] n = []
-placed_from k (e ∷ es) n = if sets_on n Calculate e then record { entry = e; place = k } ∷ [] else placed_from (place_after k e) es n
-
-abbrev pub placed_at : Option Entry → Option ℕ → List Placed
-placed_at None place = []
-placed_at (Some e) None = []
-placed_at (Some e) (Some k) = record { entry = e; place = k } ∷ []
-
--- those of nodes, one after the other
-abbrev pub placed_on : List Entry → List ℕ → List Placed
-placed_on entries ns = flat_map (λ n. placed_from 0 entries n) ns
-
--- those of all calculates that are kept, none before one that it reads
-abbrev pub AreInOrder : List Entry → List Asks → List Entry → List Turn → Type 0
-AreInOrder kept asks entries turns = (nodes : List ℕ) × AreInTurn kept asks nodes × (map placed_of turns ≡ placed_on entries nodes)
 
 -- ---- a turn
 
@@ -115,10 +74,6 @@ is_there nodes e = has_number e.node nodes
 abbrev pub is_there_at : List Node → Option Entry → Bool
 is_there_at nodes None = true
 is_there_at nodes (Some e) = is_there nodes e
-
-abbrev pub is_calculate_at : Option Entry → Bool
-is_calculate_at None = false
-is_calculate_at (Some e) = is_calculate e
 
 -- ---- expressions
 

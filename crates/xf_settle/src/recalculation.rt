@@ -5,6 +5,8 @@ ghost use Rattle.xf_doc.specs.Limits.{limits, passed_by_all};
 ghost use Rattle.xf_doc.specs.Shape.{shape_of};
 ghost use Rattle.xf_doc.specs.Visit.{visits};
 ghost use Rattle.xf_model.specs.Settled.{calculates};
+ghost use Rattle.xf_model.specs.Pertinent.{AllOf};
+ghost use Rattle.xf_binds.specs.Placed.{IsSeatedIn};
 ghost use Rattle.xf_binds.specs.Table.{kept_at};
 ghost use Rattle.xf_recalc.specs.Web.{asks_of};
 ghost use Rattle.xf_settle.specs.Passes.{ArePassed};
@@ -14,10 +16,10 @@ ghost use Rattle.xf_settle.specs.Turns.{AreTurns};
 use crate::fault::SettleFault;
 use crate::order::{is_calculate, turns_of};
 use crate::truths::truths_of;
-use crate::turn::{Turn, settle_turns};
+use crate::turn::settle_turns;
 use std::alloc::Global;
 use xf_ast::Tables;
-use xf_binds::{Table, TruthList};
+use xf_binds::{Table, TruthList, Turn};
 use xf_doc::TreeFault;
 use xf_eval::Around;
 use xf_tree::Forest;
@@ -43,16 +45,9 @@ pub fn settle<A: Around>(
     ensures left { OnErr result (IsLeft (scope_in (A.given around.now) tables.now model) (kept_at table.now model).entries draft.old.now draft.new.now) }
     ensures kept { draft.new.kept ≡ draft.old.kept }
 {
-    let turns = turns_of(alloc, model, table)?;
+    let turns = turns_of(model, table);
     settle_in_turn(
-        alloc,
-        tables,
-        draft,
-        model,
-        table,
-        marks,
-        turns.as_slice(),
-        around,
+        alloc, tables, draft, model, table, marks, turns, around,
     )
 }
 
@@ -69,6 +64,7 @@ fn settle_in_turn<A: Around>(
 ) -> Result<TruthList, SettleFault>
     requires may { MaySettle (A.given around.now) tables.now model draft.old.now (kept_at table.now model).entries }
     requires turns { AreTurns (scope_in (A.given around.now) tables.now model) (kept_at table.now model).entries (visits draft.old.now.nodes) turns.now }
+    requires seated { AllOf (IsSeatedIn (kept_at table.now model).entries) turns.now }
     requires passes { ArePassed (A.given around.now) tables.now model draft.old.now (kept_at table.now model) marks.now }
     ensures ok { IfOk result (λ truths. IsSettled (scope_in (A.given around.now) tables.now model) (kept_at table.now model).entries draft.old.now draft.new.now truths) }
     ensures err { IfErr result (λ fault. IsTold fault (words_of (scope_in (A.given around.now) tables.now model) (kept_at table.now model).entries draft.old.now)) }

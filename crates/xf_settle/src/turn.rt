@@ -11,6 +11,8 @@ ghost use Rattle.xf_model.specs.Settled.{calculates};
 ghost use Rattle.xf_eval.specs.Live.{AroundStands};
 ghost use Rattle.xf_undo.specs.Draft.{IsUnused};
 ghost use Rattle.xf_binds.specs.Held.{entry_of};
+ghost use Rattle.xf_model.specs.Pertinent.{AllOf};
+ghost use Rattle.xf_binds.specs.Placed.{IsSeatedIn};
 ghost use Rattle.xf_binds.specs.Table.{kept_at};
 ghost use Rattle.xf_settle.specs.Settles.{IsLeft, IsTold, MaySettle, scope_in, words_of};
 ghost use Rattle.xf_settle.specs.Known.{AreKnown};
@@ -20,22 +22,15 @@ ghost use Rattle.xf_settle.specs.Whole.{IsWritten};
 
 use crate::evaluate::evaluated_entry;
 use crate::fault::SettleFault;
-use crate::order::is_passed_on;
+use crate::order::is_passed;
 use std::alloc::{AllocError, Global};
 use xf_ast::Tables;
-use xf_binds::{Entry, Table};
+use xf_binds::{Entry, Table, Turn};
 use xf_eval::Around;
 use xf_undo::Draft;
 
 /// No text of a node has more bytes.
 const TEXT_LIMIT: u32 = 65_536;
-
-/// A calculate, with its place among those of the model in the order in which binds set them.
-#[derive(Clone, Copy, Debug)]
-pub(crate) struct Turn {
-    pub entry: Entry,
-    pub place: u32,
-}
 
 /// Reserves a number for each of the calculates, evaluates each in its turn, but for those that are passed over, and writes its text. The answer is
 /// the truths of the values that were evaluated, by the places of the calculates: each is evaluated once. What was reserved or written before an
@@ -53,6 +48,7 @@ pub(crate) fn settle_turns<A: Around>(
 ) -> Result<Vec<Option<bool>>, SettleFault>
     requires may { MaySettle (A.given around.now) tables.now model draft.old.now (kept_at table.now model).entries }
     requires turns { AreTurns (scope_in (A.given around.now) tables.now model) (kept_at table.now model).entries (visits draft.old.now.nodes) turns.now }
+    requires seated { AllOf (IsSeatedIn (kept_at table.now model).entries) turns.now }
     requires passes { ArePassed (A.given around.now) tables.now model draft.old.now (kept_at table.now model) marks.now }
     requires count { count ≡ length (calculates (kept_at table.now model).entries) }
     ensures ok { OnOk result (IsWritten (scope_in (A.given around.now) tables.now model) (kept_at table.now model).entries draft.old.now draft.new.now) }
@@ -65,7 +61,7 @@ pub(crate) fn settle_turns<A: Around>(
     let first = draft.forest().next_number();
     draft.reserve_numbers(count);
     for turn in turns {
-        if is_passed_on(table, model, marks, turn.entry.node) {
+        if is_passed(marks, turn.seat) {
             continue;
         }
         let number = first + turn.place as u128;

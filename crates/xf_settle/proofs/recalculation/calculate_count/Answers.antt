@@ -2,8 +2,8 @@ use Rattle.std.proofs.Common.{◌≡◌, ◌+◌, length, take, sym, ap, ◌∙�
 use Rattle.std.specs.Prelude.{slice_get}
 use Rattle.xf_model.specs.Settled.{calculates}
 use Rattle.xf_binds.specs.Table.{kept_at}
-use Rattle.xf_settle.specs.Turns.{is_calculate_at}
-use Rattle.xf_settle.proofs.HeldSteps.{counted, one_if, plus-none}
+use Rattle.xf_binds.specs.Placed.{is_calculate_at}
+use Rattle.xf_binds.proofs.Placings.{counted, one_if, plus-none}
 use Rattle.xf_settle.proofs.recalculation.calculate_count.Goals as goal
 use Rattle.xf_settle.proofs.recalculation.calculate_count.Goals.{then-is_calculate, else-is_calculate}
 

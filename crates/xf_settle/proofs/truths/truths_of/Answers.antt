@@ -10,8 +10,10 @@ use Rattle.xf_binds.specs.Held.{entry_of}
 use Rattle.xf_settle.specs.Known.{IsKnown}
 use Rattle.xf_settle.specs.Passes.{IsKnownBy, is_passed}
 use Rattle.xf_settle.specs.Settles.{scope_in}
-use Rattle.xf_settle.specs.Turns.{found_step, is_calculate_at, is_there_at}
-use Rattle.xf_settle.proofs.HeldSteps.{counted, one_if, plus-none, there-at, step-none, step-some}
+use Rattle.xf_binds.specs.Placed.{is_calculate_at}
+use Rattle.xf_binds.proofs.Placings.{counted, one_if, plus-none}
+use Rattle.xf_settle.specs.Turns.{found_step, is_there_at}
+use Rattle.xf_settle.proofs.HeldSteps.{there-at, step-none, step-some}
 use Rattle.xf_settle.proofs.Known.{known-by}
 use Rattle.xf_settle.proofs.truths.truths_of.Goals as goal
 use Rattle.xf_settle.proofs.truths.truths_of.Goals.{then-is_calculate, else-is_calculate}

@@ -3,17 +3,21 @@ use Rattle.std.proofs.lemmas.List.{take_more}
 use Rattle.std.proofs.lemmas.Result.{err_from_is_err_and}
 use Rattle.xf_base.specs.Limits.{string_limit}
 use Rattle.xf_doc.specs.Visit.{visits}
+use Rattle.xf_model.specs.declared.property.Property.TheVariants.{Calculate}
 use Rattle.xf_model.specs.Entries.{text_of}
 use Rattle.xf_model.specs.Settled.{calculates}
 use Rattle.xf_eval.specs.Live.{AroundStands}
 use Rattle.xf_undo.specs.Draft.{IsUnused}
+use Rattle.xf_binds.specs.Held.{place_on}
+use Rattle.xf_binds.specs.Placed.{IsSeatedIn}
 use Rattle.xf_binds.specs.Table.{kept_at}
 use Rattle.xf_settle.specs.Known.{AreKnown}
+use Rattle.xf_settle.specs.Passes.{passed_at}
 use Rattle.xf_settle.specs.Settles.{IsLeft, IsTold, contents_in, scope_in, settled_forest, words_of}
 use Rattle.xf_settle.specs.Turns.{entry_in, turned}
 use Rattle.xf_settle.proofs.Known.{none-known}
 use Rattle.xf_settle.proofs.Left.{left-none}
-use Rattle.xf_settle.proofs.ListLemmas.{done_by, split-at}
+use Rattle.xf_settle.proofs.ListLemmas.{all-got, done_by, split-at}
 use Rattle.xf_settle.proofs.Passing.{passed-place}
 use Rattle.xf_settle.proofs.Surroundings.{stands-now}
 use Rattle.xf_settle.proofs.Turning.{Going, ended, in-turn, may-write, no_turn, one-told, pass, placed, refused, settable, start, step, turned-kept, unused}
@@ -113,8 +117,8 @@ loop-turn-preserved g c =
           (split-at turns k no_turn c.loop-turn-test.true) c.loop-turn.draft c.loop-turn.truths.items c.in_ok-truth.truth c.loop-turn.invariant.going c.loop-turn.invariant.known c.in_ok-truth.ensures.truth);
     }
 
-pub loop-turn-preserved-then-is_passed_on : goal.loop-turn-preserved-then-is_passed_on
-loop-turn-preserved-then-is_passed_on g c =
+pub loop-turn-preserved-then-is_passed : goal.loop-turn-preserved-then-is_passed
+loop-turn-preserved-then-is_passed g c =
     let given = g.A.Around.given c.args.around.now in
     let kept = kept_at c.args.table.now c.args.model in
     let scope = scope_in given c.args.tables.now c.args.model in
@@ -124,8 +128,9 @@ loop-turn-preserved-then-is_passed_on g c =
     let x = get_or turns k no_turn in
     let few : length (calculates kept.entries) < 2 ^ 32 = let fits = c.ranges.count.fits in let is = c.requires.count in omega (arith, fits, is) in
     let split = split-at turns k no_turn c.loop-turn-test.true in
+    let seat : place_on kept.entries x.entry.node.number Calculate ≡ Some x.seat = all-got (IsSeatedIn kept.entries) turns k no_turn c.requires.seated c.loop-turn-test.true in
     let p = passed-place kept.entries c.args.marks.now x.place (entry_in x) (in-turn given c.args.tables.now c.args.model d.now kept.entries c.requires.may turns c.requires.turns few).single
-    (placed given c.args.tables.now c.args.model d.now kept.entries c.requires.may turns c.requires.turns few (take k turns) (drop (k + 1) turns) x split) (sym c.is_passed_on.ensures ∙ c.if-is_passed_on.true) in
+    (placed given c.args.tables.now c.args.model d.now kept.entries c.requires.may turns c.requires.turns few (take k turns) (drop (k + 1) turns) x split) (ap (passed_at c.args.marks.now) seat ∙ sym c.is_passed.ensures ∙ c.if-is_passed.true) in
     let m = c.requires.passes p.place (entry_in x) p.got p.passed p.computed in
     record {
       going = subst (λ l. Going scope kept.entries d.now l c.loop-turn.draft) (sym (take_more turns k no_turn c.loop-turn-test.true))

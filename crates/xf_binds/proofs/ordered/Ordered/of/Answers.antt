@@ -7,4 +7,5 @@ pub invariant_of-result : goal.invariant_of-result
 invariant_of-result c = (
   subst (λ a. AreInTurn (entries_in a) c.args.web c.args.order) (sym c.in_ok-bring_near.ensures) c.requires,
   c.in_ok-readers.ensures,
+  record { placed = c.in_ok-turns.ensures.placed; seated = c.in_ok-turns.ensures.seated },
 )

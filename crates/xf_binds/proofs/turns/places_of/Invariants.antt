@@ -1,8 +1,8 @@
 use Rattle.std.proofs.Common.{◌≡◌, ◌≤◌, length, take}
 use Rattle.xf_model.specs.Settled.{calculates}
 use Rattle.xf_binds.specs.Held.{entries_in}
-use Rattle.xf_settle.specs.Turns.{places_from}
-use Rattle.xf_settle.proofs.order.places_of.Given as goal
+use Rattle.xf_binds.specs.Placed.{places_from}
+use Rattle.xf_binds.proofs.turns.places_of.Given as goal
 
 abbrev pub invariant-loop-at : goal.invariant-loop-at
 invariant-loop-at l = record {

@@ -3,11 +3,10 @@ use Rattle.std.proofs.lemmas.List.{length-map}
 use Rattle.std.specs.Prelude.{slice_get}
 use Rattle.xf_model.specs.Settled.{calculates}
 use Rattle.xf_binds.specs.Held.{Held, entries_in}
-use Rattle.xf_settle.specs.Turns.{is_calculate_at, places_from}
-use Rattle.xf_settle.proofs.HeldSteps.{counted, one_if, plus-none}
-use Rattle.xf_settle.proofs.PlacedLists.{places-next}
-use Rattle.xf_settle.proofs.order.places_of.Goals as goal
-use Rattle.xf_settle.proofs.order.places_of.Goals.{then-is_calculate, else-is_calculate}
+use Rattle.xf_binds.specs.Placed.{is_calculate_at, places_from}
+use Rattle.xf_binds.proofs.Placings.{counted, one_if, places-next, plus-none}
+use Rattle.xf_binds.proofs.turns.places_of.Goals as goal
+use Rattle.xf_binds.proofs.turns.places_of.Goals.{then-is_calculate, else-is_calculate}
 
 pub loop-at-preserved : goal.loop-at-preserved
 loop-at-preserved c =
