@@ -12,4 +12,5 @@ pub mod Readings
 pub mod Nears
 pub mod Unset
 pub mod Singles
+pub mod Alikes
 pub mod Placings

@@ -91,7 +91,7 @@ told-among (k ∷ ks) n p c =
 
 -- ---- the truth of a property
 
-own-told : (values : List Valued) (n : ℕ) (p : Property) (d : Bool) → own values p d n ≡ truth_told d (told_truth (find (λ v. sets_on n p v.entry) values))
+pub own-told : (values : List Valued) (n : ℕ) (p : Property) (d : Bool) → own values p d n ≡ truth_told d (told_truth (find (λ v. sets_on n p v.entry) values))
 own-told values n p d = by (find (λ v. sets_on n p v.entry) values)
   where
     given : (o : Option Value) → truth_or d o ≡ truth_told d (Some (option_map truth_of o))

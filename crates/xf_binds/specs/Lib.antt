@@ -6,4 +6,5 @@ pub mod Table
 pub mod Asked
 pub mod Since
 pub mod Readers
+pub mod Alike
 pub mod Placed

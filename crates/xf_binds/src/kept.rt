@@ -1,6 +1,6 @@
 //! What is kept of one model.
 
-ghost use Rattle.std.specs.Prelude.{◌≡◌, ℕ, List, [], ◌∷◌, ◌++◌, None, Option, Some, false, true, filter, find, is_some, length, option_map, slice_get, unwrap_or, OnOk, OnErr};
+ghost use Rattle.std.specs.Prelude.{◌≡◌, ℕ, List, [], ◌∷◌, ◌++◌, None, Option, Some, false, true, filter, find, is_some, length, option_map, get_or, slice_get, unwrap_or, OnOk, OnErr};
 ghost use Rattle.std.specs.Bool.{OnFalse, OnTrue};
 ghost use Rattle.xf_doc.specs.Visit.{has};
 ghost use Rattle.xf_model.specs.Applied.{is_property};
@@ -8,7 +8,8 @@ ghost use Rattle.xf_model.specs.Entries.{is_computed};
 ghost use Rattle.xf_model.specs.Properties.{sets_on};
 ghost use Rattle.xf_model.specs.Applied as applied;
 ghost use Rattle.xf_binds.specs.Held.{AreSingle, Held, IsOnly, entries_in, entry_of};
-ghost use Rattle.xf_binds.specs.Kept.{IsAlone, committed, entries_of, no_kept, recalculated, rolled_back, stood_of, told_of, truth_at, truth_from, truth_in};
+ghost use Rattle.xf_binds.specs.Alike.{AreAlike, is_shown};
+ghost use Rattle.xf_binds.specs.Kept.{IsAlone, committed, entries_of, no_kept, recalculated, rolled_back, stood_of, told_of, truth_at, truth_from, truth_in, values_of};
 ghost use Rattle.xf_binds.specs.Placed.{AreInOrder};
 ghost use Rattle.xf_binds.specs.Readers.{AreReaders, list_or};
 ghost use Rattle.xf_binds.specs.Since.{built_more, is_told, marks_in, present_in, stood_since, told_more};
@@ -298,11 +299,47 @@ impl Kept {
         }
     }
 
-    /// Keeps the nodes that were found not valid in place of those before.
-    pub(crate) fn set_invalid(&mut self, invalid: NodeSet)
-        ensures { self.new ≡ record self.old { invalid = invalid } }
+    /// Keeps the nodes that were found not valid in place of those before. Whether they are the same.
+    pub(crate) fn set_invalid(&mut self, invalid: NodeSet) -> bool
+        ensures done { self.new ≡ record self.old { invalid = invalid } }
+        ensures same { OnTrue result (invalid ≡ self.old.invalid) }
     {
+        let is_same = self.is_so(&invalid);
         self.checked = Some(invalid);
+        is_same
+    }
+
+    /// Whether these are the nodes that are not valid, in the same order.
+    fn is_so(&self, invalid: &NodeSet) -> bool
+        ensures { OnTrue result (invalid.now ≡ self.now.invalid) }
+    {
+        match &self.checked {
+            Some(checked) => checked.is_same(invalid),
+            None => self.invalid.is_same(invalid),
+        }
+    }
+
+    /// Whether no entry of the properties relevant, readonly and required has another truth, by its place, than at the last recalculation.
+    pub(crate) fn keeps_properties(&self, truths: &TruthList) -> bool
+        ensures { OnTrue result (AreAlike (values_of self.now) (values_of (recalculated truths.now self.now))) }
+    {
+        self.is_single();
+        for at in 0..self.present().len() {
+            if !self.keeps_property(truths, at) {
+                return false;
+            }
+        }
+        true
+    }
+
+    /// The same of the entry at a place.
+    fn keeps_property(&self, truths: &TruthList, at: usize) -> bool
+        ensures { OnTrue result ((e : applied.Entry) → slice_get self.now.entries at ≡ Some e → is_shown e.property ≡ true → get_or truths.now at None ≡ truth_at self.now at) }
+    {
+        match self.present().entry(at) {
+            Some(entry) => !is_shown(entry.property) || self.truth_at(at) == truths.at(at),
+            None => true,
+        }
     }
 
     /// Keeps the entries of a rebuild. Those of the last recalculation are kept beside them.
@@ -366,6 +403,16 @@ impl Kept {
         self.checked = None;
         self.texts.truncate(self.texts_kept);
         self.lists.truncate(self.lists_kept);
+    }
+}
+
+/// Whether it is one of those that are shown beside validity.
+fn is_shown(property: Property) -> bool
+    ensures { result ≡ is_shown property }
+{
+    match property {
+        Property::Relevant | Property::Readonly | Property::Required => true,
+        _ => false,
     }
 }
 

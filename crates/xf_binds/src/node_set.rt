@@ -1,6 +1,7 @@
 //! Lists of nodes in which each is found at once.
 
-ghost use Rattle.std.specs.Prelude.{◌≡◌, [], IfOk};
+ghost use Rattle.std.specs.Prelude.{◌≡◌, [], map, IfOk};
+ghost use Rattle.std.specs.Bool.{OnTrue};
 ghost use Rattle.xf_doc.specs.Visit.{has};
 
 use indexmap::IndexSet;
@@ -50,6 +51,13 @@ impl NodeSet {
         Ok(NodeSet { nodes, numbers })
     }
 
+    /// Whether both hold the same nodes in the same order.
+    pub(crate) fn is_same(&self, other: &NodeSet) -> bool
+        ensures { OnTrue result (other.now ≡ self.now) }
+    {
+        are_same(self.nodes.as_slice(), other.nodes.as_slice())
+    }
+
     pub fn has(&self, node: NodeId) -> bool
         ensures { result ≡ has node.number self.now }
     {
@@ -58,4 +66,18 @@ impl NodeSet {
         }
         self.numbers.contains(&node.number)
     }
+}
+
+fn are_same(some: &[NodeId], others: &[NodeId]) -> bool
+    ensures { OnTrue result (map (λ n. n.number) others.now ≡ map (λ n. n.number) some.now) }
+{
+    if some.len() != others.len() {
+        return false;
+    }
+    for (at, node) in some.iter().enumerate() {
+        if others[at].number != node.number {
+            return false;
+        }
+    }
+    true
 }

@@ -10,7 +10,8 @@ ghost use Rattle.xf_model.specs.Entries.{is_computed};
 ghost use Rattle.xf_model.specs.Properties.{sets_on};
 ghost use Rattle.xf_binds.specs.Asked.{asked_by_all, asked_of, asking};
 ghost use Rattle.xf_binds.specs.Held.{AreSingle, IsOnly, entries_in, entry_of};
-ghost use Rattle.xf_binds.specs.Kept.{IsAlone, entries_of, no_kept, recalculated, truth_at, truth_in};
+ghost use Rattle.xf_binds.specs.Alike.{AreAlike};
+ghost use Rattle.xf_binds.specs.Kept.{IsAlone, entries_of, no_kept, recalculated, truth_at, truth_in, values_of};
 ghost use Rattle.xf_binds.specs.Placed.{AreInOrder, turns_or};
 ghost use Rattle.xf_binds.specs.Readers.{AreReaders, list_or};
 ghost use Rattle.xf_binds.specs.Turns.{AreInTurn};
@@ -268,12 +269,14 @@ impl Table {
         self.models.iter().any(|kept| kept.is_invalid(node))
     }
 
-    /// Keeps the nodes that were found not valid in place of those before. Takes no memory.
-    pub fn set_invalid(&mut self, model: u32, invalid: NodeSet)
+    /// Keeps the nodes that were found not valid in place of those before. Takes no memory. Whether they are the same; that they may not be
+    /// promises nothing.
+    pub fn set_invalid(&mut self, model: u32, invalid: NodeSet) -> bool
         requires { model < length self.old }
-        ensures { self.new ≡ with_kept self.old model (record (kept_at self.old model) { invalid = invalid }) }
+        ensures done { self.new ≡ with_kept self.old model (record (kept_at self.old model) { invalid = invalid }) }
+        ensures same { OnTrue result (invalid ≡ (kept_at self.old model).invalid) }
     {
-        self.models[model as usize].set_invalid(invalid);
+        self.models[model as usize].set_invalid(invalid)
     }
 
     /// Keeps the entries of a rebuild. Takes no memory.
@@ -282,6 +285,17 @@ impl Table {
         ensures { self.new ≡ with_kept self.old model (record (kept_at self.old model) { entries = entries_in present.held; asks = present.asks }) }
     {
         self.models[model as usize].rebuild(present);
+    }
+
+    /// Whether the properties relevant, readonly and required are by these truths of the entries of a model, told by their places, what they are
+    /// by those of its last recalculation. That they may not be promises nothing.
+    pub fn keeps_properties(&self, model: u32, truths: &TruthList) -> bool
+        ensures { OnTrue result (AreAlike (values_of (kept_at self.now model)) (values_of (recalculated truths.now (kept_at self.now model)))) }
+    {
+        match self.models.get(model as usize) {
+            Some(kept) => kept.keeps_properties(truths),
+            None => false,
+        }
     }
 
     /// Keeps the truths that a recalculation found, by the places of the entries, and forgets the marks. Takes no memory.

@@ -29,7 +29,7 @@ use Rattle.xf_report.specs.Answers.{IsAnswer}
 use Rattle.xf_work.specs.declared.fault.WorkFault.{WorkFault}
 use Rattle.xf_work.specs.declared.fault.WorkFault.TheVariants.{Refused}
 use Rattle.xf_work.specs.Does.{profile, IsRefused}
-use Rattle.xf_engine.specs.Stepped.{is_of_form, IsConstructed, IsStepped, IsAccepted, as_result}
+use Rattle.xf_engine.specs.Stepped.{is_of_form, IsConstructed, IsStarted, IsStepped, IsAccepted, as_result}
 use Rattle.xf_cli.specs.Written.{IsStartRefused}
 use Rattle.xf_cli.specs.Replies.{built_read, built_asked, event_reply, built_reply, Gives, IsReply}
 
@@ -146,6 +146,10 @@ refused_if s after refusal id rows text (Ok t) h same k =
 pub constructed_refused : (fault : WorkFault) (r : Refusal) (given : Result State machine.Refused) (line : List ℕ) → fault ≡ Refused r → IsConstructed (Err fault) given → line ≡ construct_text r
     → Contains (construct_texts given) line
 constructed_refused fault r given line e h k = let g = subst (λ f. IsConstructed (Err f) given) e h in construct_refused r given line g.0 g.1 k
+
+pub started_refused : (fault : WorkFault) (r : Refusal) (given : Outcome) (line : List ℕ) → fault ≡ Refused r → IsStarted (Err fault) given → line ≡ line_of (ready_text (meaning.told r))
+    → IsStartRefused given line
+started_refused fault r given line e h k = start_refused r given line (subst (λ f. IsStarted (Err f) given) e h) k
 
 pub stepped_refused : (s after : Standing) (fault : WorkFault) (refusal : Refusal) (id rows text : List ℕ) (r : Result (String Global) AllocError) → fault ≡ Refused refusal
     → IsStepped s (Err fault) after (step profile (state_of s) (Set id rows text) []) → IfOk r (λ t. string_bytes t ≡ line_of (refusal_text refusal))

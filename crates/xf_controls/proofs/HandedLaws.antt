@@ -52,7 +52,7 @@ enter-is f a marks h e plain = enter-by a h.model (scope_of f h.model e) h.place
 
 -- ---- what it binds
 
-own-plain : (e : Element) (sort : Sort) → is_plain_sort sort ≡ true → own_binding e sort ≡ e.binding
+pub own-plain : (e : Element) (sort : Sort) → is_plain_sort sort ≡ true → own_binding e sort ≡ e.binding
 own-plain e (repeated k start) h = cc h
 own-plain e sort h = refl
 
@@ -60,7 +60,7 @@ control-place : (sort : Sort) (place : Place) → is_control sort ≡ true → p
 control-place other place h = cc h
 control-place sort place h = refl
 
-container-control : (sort : Sort) → is_container sort ≡ true → is_control sort ≡ true
+pub container-control : (sort : Sort) → is_container sort ≡ true → is_control sort ≡ true
 container-control field h = refl
 container-control (output expr) h = refl
 container-control (select many is_free) h = refl
@@ -95,7 +95,7 @@ all-selected f cases plain [] = refl
 all-selected f cases plain (n ∷ ns) =
     ap (λ b. b && list_all (λ m. if_case f cases m (element_at f m).sort) ns) (case-plain f cases n (element_at f n).sort (plain-at f n plain)) ∙ all-selected f cases plain ns
 
-selected-plain : (f : Interface) (cases : List ℕ) (n : ℕ) → is_plain f ≡ true → is_in_selected f cases n ≡ true
+pub selected-plain : (f : Interface) (cases : List ℕ) (n : ℕ) → is_plain f ≡ true → is_in_selected f cases n ≡ true
 selected-plain f cases n plain = all-selected f cases plain (ancestors f n)
 
 -- the containers among these, each of which binds nothing or a relevant selected
@@ -141,7 +141,7 @@ open-below f a marks n h selected plain stands bound around = by (is_container (
 
 -- ---- its copy
 
-items-plain : (f : Interface) (a : Around) (n : ℕ) (sort : Sort) → is_plain_sort sort ≡ true → items_if f a [] n sort ≡ Some []
+pub items-plain : (f : Interface) (a : Around) (n : ℕ) (sort : Sort) → is_plain_sort sort ≡ true → items_if f a [] n sort ≡ Some []
 items-plain f a n (select many is_free) h = cc h
 items-plain f a n sort h = refl
 

@@ -12,3 +12,6 @@ pub mod ToldLaws
 pub mod FixedLaws
 pub mod KnownLaws
 pub mod NotedLaws
+pub mod RenewedLaws
+pub mod ShownLaws
+pub mod BoundLaws

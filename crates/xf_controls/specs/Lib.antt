@@ -7,3 +7,6 @@ pub mod Below
 pub mod Rising
 pub mod Fixed
 pub mod Known
+pub mod Renewed
+pub mod Former
+pub mod Bound

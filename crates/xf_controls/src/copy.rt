@@ -1,9 +1,12 @@
 //! Copies of controls.
 
-ghost use Rattle.std.specs.Prelude.{◌≡◌, [], map, find, option_map};
+ghost use Rattle.std.specs.Prelude.{◌≡◌, ◌↔◌, ◌<◌, ◌++◌, [], ◌∷◌, Some, map, find, length, option_map, slice_get, IsTrue, OnOk, OnErr};
+ghost use Rattle.xf_controls.specs.Former.{with_value_at};
 ghost use Rattle.xf_controls.specs.Seen.{is_copy_at, seen_copy};
 
-use xf_base::Items;
+use std::alloc::{AllocError, Global};
+use std::marker::Model;
+use std::mem::replace;
 use xf_doc::{NodeId, NodeList};
 use xf_name::Word;
 use xf_ui::ItemList;
@@ -27,7 +30,64 @@ pub struct ControlCopy {
 }
 
 /// The copies of the controls and containers of a form, in document order.
-pub type ControlList = Items<ControlCopy>;
+#[derive(Drop)]
+pub struct ControlList {
+    copies: Vec<ControlCopy>,
+}
+
+impl Model for ControlList {
+    ghost use Rattle.std.specs.Prelude.{List};
+    ghost use Rattle.xf_controls.specs.declared.copy.ControlCopy.{ControlCopy};
+
+    ghost Value = { List ControlCopy };
+
+    ghost view = { λ l. l.copies.items };
+}
+
+impl ControlList {
+    pub fn new(alloc: Global) -> Self
+        ensures { result ≡ [] }
+    {
+        ControlList {
+            copies: Vec::new(alloc),
+        }
+    }
+
+    pub fn as_slice(&self) -> &[ControlCopy]
+        ensures { result.now ≡ self.now }
+    {
+        self.copies.as_slice()
+    }
+
+    pub fn len(&self) -> usize
+        ensures { result ≡ length self.now }
+    {
+        self.copies.len()
+    }
+
+    pub fn is_empty(&self) -> bool
+        ensures { IsTrue result ↔ (self.now ≡ []) }
+    {
+        self.copies.is_empty()
+    }
+
+    /// Puts a copy behind the others.
+    pub(crate) fn push(&mut self, copy: ControlCopy) -> Result<(), AllocError>
+        ensures ok { OnOk result (self.new ≡ self.old ++ copy ∷ []) }
+        ensures err { OnErr result (self.new ≡ self.old) }
+    {
+        Ok(self.copies.push(copy)?)
+    }
+
+    /// Gives a copy another value. The answer is the one that it had.
+    pub(crate) fn swap_value(&mut self, place: usize, value: Option<Word>) -> Option<Word>
+        requires { place < length self.old }
+        ensures old { option_map (λ c. c.value) (slice_get self.old place) ≡ Some result }
+        ensures new { self.new ≡ with_value_at place value self.old }
+    {
+        replace(&mut self.copies[place].value, value)
+    }
+}
 
 /// The copy of an element that stands in no row.
 pub fn control_of(controls: &ControlList, element: u32) -> Option<&ControlCopy>

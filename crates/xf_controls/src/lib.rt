@@ -2,6 +2,7 @@
 #![tactic(auto)]
 
 mod binding;
+mod bound;
 mod copy;
 mod element;
 mod finding;
@@ -10,12 +11,15 @@ mod handed;
 mod known;
 mod over;
 mod refresh;
+mod shown;
 mod value;
 mod walk;
 
+pub use bound::are_bound;
 pub use copy::{ControlCopy, ControlList, control_of};
 pub use element::is_plain;
 pub use finding::known_nodes;
 pub use known::{Known, KnownList};
 pub use refresh::{Notification, NotificationList, notifications};
+pub use shown::Shown;
 pub use walk::controls;

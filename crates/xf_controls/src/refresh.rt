@@ -46,7 +46,7 @@ pub fn notifications(
 }
 
 /// Whether each element has one copy at most, in document order.
-fn is_rising(copies: &[ControlCopy]) -> bool
+pub(crate) fn is_rising(copies: &[ControlCopy]) -> bool
     ensures { result ≡ is_rising copies.now }
 {
     let mut least = 0;
@@ -194,7 +194,7 @@ fn push_value(
     push_told(alloc, "xforms-value-changed", new, all)
 }
 
-fn same_value(old: &Option<Word>, new: &Option<Word>) -> bool
+pub(crate) fn same_value(old: &Option<Word>, new: &Option<Word>) -> bool
     ensures { result ≡ told.same_value old.now new.now }
 {
     match old {

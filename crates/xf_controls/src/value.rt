@@ -1,6 +1,8 @@
 //! The values of copies (XForms 1.1, section 8.1.1): that of the bound node, or of an output's expression where there is a context node.
 
-ghost use Rattle.std.specs.Prelude.{◌≡◌, None, option_map};
+ghost use Rattle.std.specs.Prelude.{◌≡◌, ◌≤◌, None, Some, length, option_map};
+ghost use Rattle.std.specs.Bool.{OnTrue};
+ghost use Rattle.xf_base.specs.Limits.{string_limit};
 ghost use Rattle.xf_plain_values.specs.Bounded.{GivesBounded};
 ghost use Rattle.xf_doc.specs.Forest.{IsLive};
 ghost use Rattle.xf_doc.specs.Visit.{visits};
@@ -11,6 +13,7 @@ ghost use Rattle.xf_ui.specs.Copies as copies;
 ghost use Rattle.xf_ui.specs.Interface.{sort_of};
 ghost use Rattle.xf_elements.specs.Bound.{seen_bound};
 ghost use Rattle.xf_controls.specs.Seen.{IsThere, number};
+ghost use Rattle.xf_controls.specs.Renewed.{value_over};
 ghost use Rattle.xf_controls.specs.Surrounded.{around_in, printed_from, string_in};
 
 use crate::binding::context_at;
@@ -50,6 +53,49 @@ pub(crate) fn value_of<A: Around>(
             _ => Ok(None),
         },
     }
+}
+
+/// The value of a copy that binds this node: without a node it has none.
+pub(crate) fn value_over(forest: &Forest, node: Option<NodeId>) -> Result<Option<Word>, EvalFault>
+    requires { IsThere node forest.now.forest.nodes }
+    ensures { GivesBounded EvalFault.Memory EvalFault.Long (λ value. value) result (value_over forest.now.forest.nodes (option_map number node)) }
+{
+    match node {
+        Some(node) => Ok(Some(string_of(forest, node)?)),
+        None => Ok(None),
+    }
+}
+
+/// Whether this is the value of a copy that binds this node, told without memory. That it may not be promises nothing.
+pub(crate) fn has_value(forest: &Forest, node: Option<NodeId>, value: &Option<Word>) -> bool
+    requires { IsThere node forest.now.forest.nodes }
+    ensures { OnTrue result (value_over forest.now.forest.nodes (option_map number node) ≡ Some value.now) }
+{
+    match node {
+        Some(node) => match value {
+            Some(text) => has_text(forest, node, text),
+            None => false,
+        },
+        None => value.is_none(),
+    }
+}
+
+/// Whether the string value of a node is this one, and stands in one piece.
+fn has_text(forest: &Forest, node: NodeId, text: &Word) -> bool
+    requires { IsLive node.number forest.now.forest }
+    ensures { OnTrue result (string_in forest.now.forest.nodes node.number ≡ Some text.now) }
+{
+    match forest.whole_value(node) {
+        Some(whole) => is_short(whole) && text.is(whole),
+        None => false,
+    }
+}
+
+/// Whether a string is not too long.
+fn is_short(text: &str) -> bool
+    ensures { OnTrue result (length text.now ≤ string_limit) }
+{
+    text.len() <= STRING_LIMIT as usize
 }
 
 /// The string value of a node.

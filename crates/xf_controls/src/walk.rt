@@ -49,7 +49,7 @@ pub fn controls<A: Around, M: NodeMarks>(
     requires known { AreKnown (interface_of form.now) (around_in (A.given around.now) form.now.tables forest.now.forest.nodes) forest.now.forest.nodes known.now }
     ensures { (cases : List ℕ) (indexes : List Index) → GivesBounded EvalFault.Memory EvalFault.Long (map seen_copy) result (copies.copies (interface_of form.now) (around_in (A.given around.now) form.now.tables forest.now.forest.nodes) (M.marks_of marks.now) cases indexes) }
 {
-    let mut copies = Items::new(alloc);
+    let mut copies = ControlList::new(alloc);
     let over = Over {
         form,
         forest,

@@ -1,22 +1,22 @@
 -- Rounds of an update, step by step.
-use Rattle.std.proofs.Common.{ℕ, zero, suc, ◌≡◌, ◌+◌, ◌-◌, ◌<◌, Bool, true, false, List, [], ◌∷◌, length, map, Ok, refl, ap, sym, ◌∙◌, arith}
-use Rattle.std.proofs.lemmas.List.{length-map}
-use Rattle.xf_controls.specs.declared.refresh.Notification.{Notification}
-use Rattle.xf_controls.specs.Seen.{seen_notification}
+use Rattle.std.proofs.Common.{ℕ, zero, suc, ◌≡◌, ◌+◌, ◌-◌, ◌<◌, Bool, true, false, List, [], ◌∷◌, length, Result, Ok, Err, refl, ap, sym, ◌∙◌, arith}
 use Rattle.xf_ui.specs.Copies.{Copy}
 use Rattle.xf_ui.specs.Notifications.{notifications}
 use Rattle.xf_form_machine.specs.Profile.{Profile}
+use Rattle.xf_form_machine.specs.Refusal.{Refused}
 use Rattle.xf_form_machine.specs.State.{State}
 use Rattle.xf_form_machine.specs.Flow.{Run, ◌>>=◌, when}
 use Rattle.xf_form_machine.specs.Primitives.{spend}
 use Rattle.xf_form_machine.specs.Cycles.{counted_from}
-use Rattle.xf_form_machine.specs.Update.{shown, all_cleared, is_due, is_refresh_due, no_refresh, rounds}
+use Rattle.xf_form_machine.specs.Update.{shown, all_cleared, is_due, is_refresh_due, rounds}
 use Rattle.xf_machine_laws.specs.Quiet.{spend_for, refresh_quietly, round_quietly, update_quietly}
 use Rattle.xf_machine_laws.proofs.QuietLaws.{then-same}
 use Rattle.xf_report.specs.declared.refusal.Refusal.TheVariants.{Budget}
 use Rattle.xf_work.specs.declared.fault.WorkFault.{WorkFault}
+use Rattle.xf_work.specs.declared.fault.WorkFault.TheVariants as fault
+use Rattle.xf_work.specs.Calls.{AreRefreshed, Refreshes}
 use Rattle.xf_work.specs.Standing.{Standing, state_of}
-use Rattle.xf_work.specs.Does.{IsRefused, profile}
+use Rattle.xf_work.specs.Does.{Does, IsRefused, profile}
 use Rattle.xf_engine.specs.Rounds.{all_behaved, spend_times}
 use Rattle.xf_engine.proofs.Flow.{Means, means-then, same-means, then-next}
 
@@ -86,19 +86,19 @@ refreshed-by p s list n e h =
     ∙ each-spends (notifications s.controls list) 0 (all_cleared (record s { controls = list }))
     ∙ ap (λ k. spend_times k (all_cleared (record s { controls = list }))) h
 
-pub refresh-stopped : (p : Profile) (s : State) (e : WorkFault) → Means e (shown p s) → Means e (refresh_quietly p s)
+refresh-stopped : (p : Profile) (s : State) (e : WorkFault) → Means e (shown p s) → Means e (refresh_quietly p s)
 refresh-stopped p s e m = means-then e (shown p s) (λ list. spend_for (notifications s.controls list) (all_cleared (record s { controls = list }))) m
 
--- how many turns what is told spends
-pub told-length : (told : List Notification) (a b : List Copy) (list : List Copy) (n : ℕ)
-    → map seen_notification told ≡ notifications a list → a ≡ b → n ≡ length told → length (notifications b list) ≡ n
-told-length told a b list n e q h =
-    ap (λ x. length (notifications x list)) (sym q) ∙ ap length (sym e) ∙ length-map told seen_notification ∙ sym h
+pub refreshed-as : (s t : Standing) (n : ℕ) → AreRefreshed n s t → refresh_quietly profile (state_of s) ≡ spend_times n (state_of t)
+refreshed-as s t n h = refreshed-by profile (state_of s) h.list n h.shown (sym h.told) ∙ ap (λ (x : Standing). spend_times n (state_of x)) (sym h.now)
 
-pub refreshed-as : (s t u : Standing) (list : List Copy) (n : ℕ)
-    → shown profile (state_of s) ≡ Ok list → length (notifications s.controls list) ≡ n
-    → t ≡ record s { controls = list } → u ≡ record t { models = map no_refresh t.models }
-    → refresh_quietly profile (state_of s) ≡ spend_times n (state_of u)
-refreshed-as s t u list n e h k q =
-    refreshed-by profile (state_of s) list n e h
-    ∙ ap (λ (x : Standing). spend_times n (state_of x)) (ap (λ (y : Standing). record y { models = map no_refresh y.models }) (sym k) ∙ sym q)
+refresh-means : (e : WorkFault) (s t : Standing) → Refreshes (Err e) s t → Means e (shown profile (state_of s))
+refresh-means (fault.Refused refusal) s t h = h
+refresh-means fault.Memory s t h = tt
+
+does-means : (e : WorkFault) (t : Standing) (g : Result State Refused) → Means e g → Does {X = Unit {0}} (Err e) t g
+does-means (fault.Refused refusal) t g h = h
+does-means fault.Memory t g h = tt
+
+pub refresh-fails : (e : WorkFault) (s t : Standing) → Refreshes (Err e) s t → Does {X = Unit {0}} (Err e) t (refresh_quietly profile (state_of s))
+refresh-fails e s t h = does-means e t (refresh_quietly profile (state_of s)) (refresh-stopped profile (state_of s) e (refresh-means e s t h))

@@ -1,7 +1,6 @@
 -- The construction and the start of a form, step by step.
-use Rattle.std.proofs.Common.{◌≡◌, ◌≤◌, List, [], map, length, codes, Some, Result, Ok, Err, ap, sym, ◌∙◌, subst}
-use Rattle.xf_controls.specs.declared.copy.ControlCopy.{ControlCopy}
-use Rattle.xf_controls.specs.Seen.{seen_copy}
+use Rattle.std.proofs.Common.{◌≡◌, ◌≤◌, ℕ, List, [], length, codes, Some, Result, Ok, Err, ap, sym, ◌∙◌, subst}
+use Rattle.std.specs.Prelude.{OnOk}
 use Rattle.xf_ui.specs.Copies.{Copy}
 use Rattle.xf_form_machine.specs.State.{State}
 use Rattle.xf_form_machine.specs.Refusal.{Refused}
@@ -20,14 +19,16 @@ use Rattle.xf_machine_laws.proofs.QuietLaws.{Rests, constructed-rests, construct
 use Rattle.xf_work.specs.declared.fault.WorkFault.{WorkFault}
 use Rattle.xf_work.specs.declared.fault.WorkFault.TheVariants as fault
 use Rattle.xf_work.specs.Documents.{program_in}
-use Rattle.xf_work.specs.Does.{Does, Finds, Twin, profile}
+use Rattle.xf_work.specs.Calls.{now_shown}
+use Rattle.xf_work.specs.Does.{Does, Twin, profile}
 use Rattle.xf_work.specs.Parts.{IsLoaded}
 use Rattle.xf_work.specs.Planting.{IsPlanted, planted_by}
 use Rattle.xf_work.specs.Standing.{Standing, state_of}
 use Rattle.xf_engine.specs.Stepped.{IsFromBytes, begun}
 use Rattle.xf_engine.specs.Started.{Builds, all_built, built_and_shown, told_quietly}
-use Rattle.xf_engine.proofs.Flow.{Means, means-then, same-means, then-next}
+use Rattle.xf_engine.proofs.Flow.{Means, means-then, same-does, same-means, then-next}
 use Rattle.xf_engine.proofs.FormFaults.{construct-fault}
+use Rattle.xf_engine.proofs.Keeps.{within-same}
 use Rattle.xf_engine.proofs.SetLaws.{steps}
 
 -- ---- what the models are told
@@ -83,20 +84,18 @@ pub build-stops : (e : WorkFault) (s mid after : Standing) → Does {X = Unit {0
 build-stops (fault.Refused refusal) s mid after d = unbuilt (fault.Refused refusal) (state_of s) d
 build-stops fault.Memory s mid after d = tt
 
-unshown : (e : WorkFault) (s t : State) → all_built profile s ≡ Ok t → Means e (shown profile t) → Means e (built_and_shown profile s)
-unshown e s t q m = same-means e _ _ (then-next (all_built profile s) (first_shown profile) t q) (means-then e (shown profile t) (λ list. Ok (record t { controls = list })) m)
+-- the controls are shown once all are built
+pub begins : (r : Result (Unit {0}) WorkFault) (s mid after : Standing) → all_built profile (state_of s) ≡ Ok (state_of mid) → Does r after (now_shown profile (state_of mid)) → Does r after (built_and_shown profile (state_of s))
+begins r s mid after q d = same-does r after _ _ (then-next (all_built profile (state_of s)) (first_shown profile) (state_of mid) q) d
 
-pub show-stops : (e : WorkFault) (s mid after : Standing) → all_built profile (state_of s) ≡ Ok (state_of mid)
-    → Finds {X = List ControlCopy} (map seen_copy) (Err e) (shown profile (state_of mid)) → Does {X = Unit {0}} (Err e) after (built_and_shown profile (state_of s))
-show-stops (fault.Refused refusal) s mid after q d = unshown (fault.Refused refusal) (state_of s) (state_of mid) q d
-show-stops fault.Memory s mid after q d = tt
+shown-count : (s t : State) (r : Result (List Copy) Refused) → (r >>= λ list. Ok (record s { controls = list })) ≡ Ok t → length t.models ≡ length s.models
+shown-count s t (Err refusal) e = cc e
+shown-count s t (Ok list) e = let same : record s { controls = list } ≡ t = cc e in ap (λ (x : State). length x.models) (sym same)
 
-pub begins : (s mid after : Standing) (list : List Copy) → all_built profile (state_of s) ≡ Ok (state_of mid) → shown profile (state_of mid) ≡ Ok list → after ≡ record mid { controls = list }
-    → built_and_shown profile (state_of s) ≡ Ok (state_of after)
-begins s mid after list q r e =
-    then-next (all_built profile (state_of s)) (first_shown profile) (state_of mid) q
-    ∙ then-next (shown profile (state_of mid)) (λ list. Ok (record (state_of mid) { controls = list })) list r
-    ∙ ap (λ (x : Standing). fine (state_of x)) (sym e)
+-- it has as many models as before
+pub begins-built : (r : Result (Unit {0}) WorkFault) (mid after : Standing) (built room : ℕ) → Does r after (now_shown profile (state_of mid)) → built ≡ room → length mid.models ≤ room → OnOk r (length after.models ≤ built)
+begins-built (Ok x) mid after built room d same h = within-same _ _ _ _ (shown-count (state_of mid) (state_of after) (shown profile (state_of mid)) d) same h
+begins-built (Err e) mid after built room d same h = tt
 
 -- ---- the whole
 

@@ -21,14 +21,12 @@ use xf_work::{Work, WorkFault};
 /// A form that is constructed. Contracts see the state of the form machine.
 #[derive(Drop)]
 pub struct Constructed {
-    alloc: Global,
     work: Work,
 }
 
 /// A form at work. Contracts see the state of the form machine.
 #[derive(Drop)]
 pub struct Engine {
-    alloc: Global,
     work: Work,
 }
 
@@ -68,7 +66,7 @@ pub fn construct(alloc: Global, loaded: Loaded) -> Result<Constructed, WorkFault
     ensures { IsConstructed result (construct profile (program_in loaded) (Some [])) }
 {
     let work = constructed(alloc, loaded)?;
-    Ok(Constructed { alloc, work })
+    Ok(Constructed { work })
 }
 
 impl Constructed {
@@ -76,13 +74,12 @@ impl Constructed {
     pub fn start(self) -> Result<Engine, WorkFault>
         ensures { IsStarted result (started (state_of self)) }
     {
-        let alloc = self.alloc;
         let mut work = self.work;
         work.quiet();
         match tell_models(&mut work) {
             Ok(()) => {
                 work.commit();
-                Ok(Engine { alloc, work })
+                Ok(Engine { work })
             }
             Err(fault) => {
                 work.discard();
@@ -98,7 +95,7 @@ impl Engine {
     pub fn set(&mut self, id: &str, rows: &[u64], text: &str) -> Result<u64, WorkFault>
         ensures { IsStepped self.old result self.new (step profile (state_of self.old) (Set id.now rows.now text.now) []) }
     {
-        match handle(self.alloc, &mut self.work, id, rows, text) {
+        match handle(&mut self.work, id, rows, text) {
             Ok(count) => {
                 self.work.commit();
                 Ok(count)
@@ -126,20 +123,14 @@ impl Engine {
 }
 
 /// Sets a text and counts the event. The answer is how many evaluations it made.
-fn handle(
-    alloc: Global,
-    work: &mut Work,
-    id: &str,
-    rows: &[u64],
-    text: &str,
-) -> Result<u64, WorkFault>
+fn handle(work: &mut Work, id: &str, rows: &[u64], text: &str) -> Result<u64, WorkFault>
     requires built { length work.old.now.models ≤ work.old.built }
     ensures done { Handles work.old.now result work.new.now (changed_by profile (Set id.now rows.now text.now) (state_of work.old.now)) }
     ensures kept { work.new.kept ≡ work.old.kept }
     ensures built { work.new.built ≡ work.old.built }
 {
     work.quiet();
-    set(alloc, work, id, rows, text)?;
+    set(work, id, rows, text)?;
     let count = work.evaluated();
     let Ok(()) = work.count_event() else {
         return Err(WorkFault::Memory);

@@ -11,20 +11,14 @@ ghost use Rattle.xf_engine.specs.Entries.{entry_from, is_entry_named};
 ghost use Rattle.xf_engine.specs.Tried.{node_tried, set_plainly};
 
 use crate::updates::update;
-use std::alloc::{AllocError, Global};
+use std::alloc::AllocError;
 use xf_ast::{Control, Element, Kind};
 use xf_doc::NodeId;
 use xf_report::Refusal;
 use xf_work::{Work, WorkFault};
 
 /// Sets the text of the control that has this id, and does what is due.
-pub(crate) fn set(
-    alloc: Global,
-    work: &mut Work,
-    id: &str,
-    rows: &[u64],
-    text: &str,
-) -> Result<(), WorkFault>
+pub(crate) fn set(work: &mut Work, id: &str, rows: &[u64], text: &str) -> Result<(), WorkFault>
     requires built { length work.old.now.models ≤ work.old.built }
     ensures done { Does result work.new.now (changed_by profile (Set id.now rows.now text.now) (state_of work.old.now)) }
     ensures kept { work.new.kept ≡ work.old.kept }
@@ -33,19 +27,13 @@ pub(crate) fn set(
     work.quiet();
     work.plain();
     match entry_named(work.form().elements.as_slice(), id)? {
-        Some(element) => set_element(alloc, work, element, rows, text),
+        Some(element) => set_element(work, element, rows, text),
         None => Err(WorkFault::Refused(Refusal::NoTarget)),
     }
 }
 
 /// Sets the text of the control that is this element, and does what is due.
-fn set_element(
-    alloc: Global,
-    work: &mut Work,
-    element: u32,
-    rows: &[u64],
-    text: &str,
-) -> Result<(), WorkFault>
+fn set_element(work: &mut Work, element: u32, rows: &[u64], text: &str) -> Result<(), WorkFault>
     requires built { length work.old.now.models ≤ work.old.built }
     ensures done { Does result work.new.now (set_plainly profile element rows.now text.now (state_of work.old.now)) }
     ensures kept { work.new.kept ≡ work.old.kept }
@@ -53,7 +41,7 @@ fn set_element(
 {
     let node = node_to_set(work, element, rows)?;
     work.set_bound(text, node)?;
-    update(alloc, work)
+    update(work)
 }
 
 /// The node that the control binds, where its text may be set from outside.

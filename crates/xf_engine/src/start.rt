@@ -37,9 +37,7 @@ fn begin(work: &mut Work) -> Result<(), WorkFault>
     ensures built { OnOk result (length work.new.now.models ≤ work.new.built) }
 {
     build(work)?;
-    let list = work.shown()?;
-    work.take_controls(list);
-    Ok(())
+    work.show()
 }
 
 /// The models one after the other.

@@ -7,13 +7,11 @@ ghost use Rattle.xf_work.specs.Does.{Does, profile};
 ghost use Rattle.xf_work.specs.Standing.{state_of};
 ghost use Rattle.xf_engine.specs.Rounds.{all_behaved, spend_times};
 
-use std::alloc::Global;
-use xf_controls::notifications;
 use xf_report::Refusal;
 use xf_work::{Flag, Work, WorkFault};
 
 /// Does what is due: each round spends a turn.
-pub(crate) fn update(alloc: Global, work: &mut Work) -> Result<(), WorkFault>
+pub(crate) fn update(work: &mut Work) -> Result<(), WorkFault>
     requires built { length work.old.now.models ≤ work.old.built }
     ensures done { Does result work.new.now (update_quietly profile (state_of work.old.now)) }
     ensures kept { work.new.kept ≡ work.old.kept }
@@ -25,13 +23,13 @@ pub(crate) fn update(alloc: Global, work: &mut Work) -> Result<(), WorkFault>
             return Ok(());
         }
         work.spend()?;
-        round(alloc, work)?;
+        round(work)?;
     }
     Err(WorkFault::Refused(Refusal::Budget))
 }
 
 /// The models one after the other, then the refresh of the whole form.
-fn round(alloc: Global, work: &mut Work) -> Result<(), WorkFault>
+fn round(work: &mut Work) -> Result<(), WorkFault>
     requires built { length work.old.now.models ≤ work.old.built }
     ensures done { Does result work.new.now (round_quietly profile (state_of work.old.now)) }
     ensures kept { work.new.kept ≡ work.old.kept }
@@ -39,7 +37,7 @@ fn round(alloc: Global, work: &mut Work) -> Result<(), WorkFault>
 {
     behave_all(work)?;
     if work.is_refresh_due() {
-        refresh(alloc, work)
+        refresh(work)
     } else {
         Ok(())
     }
@@ -105,16 +103,13 @@ fn rebuild_due(work: &mut Work, model: u32) -> Result<(), WorkFault>
 }
 
 /// Makes the controls afresh and tells what differs: each event spends a turn, and nobody hears it.
-fn refresh(alloc: Global, work: &mut Work) -> Result<(), WorkFault>
+fn refresh(work: &mut Work) -> Result<(), WorkFault>
     ensures done { Does result work.new.now (refresh_quietly profile (state_of work.old.now)) }
     ensures kept { work.new.kept ≡ work.old.kept }
     ensures built { work.new.built ≡ work.old.built }
 {
-    let list = work.shown()?;
-    let told = notifications(alloc, work.controls(), &list)?;
-    work.take_controls(list);
-    work.clear_refresh();
-    spend_times(work, told.len())
+    let count = work.refresh()?;
+    spend_times(work, count)
 }
 
 /// Spends so many turns.

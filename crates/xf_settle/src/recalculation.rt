@@ -46,9 +46,7 @@ pub fn settle<A: Around>(
     ensures kept { draft.new.kept ≡ draft.old.kept }
 {
     let turns = turns_of(model, table);
-    settle_in_turn(
-        alloc, tables, draft, model, table, marks, turns, around,
-    )
+    settle_in_turn(alloc, tables, draft, model, table, marks, turns, around)
 }
 
 /// The same, where the turns are given.

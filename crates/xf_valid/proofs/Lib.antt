@@ -6,3 +6,5 @@ pub mod Pieces
 pub mod Dead
 pub mod Unset
 pub mod AskedLemmas
+pub mod AlikeLaws
+pub mod ShapeLaws

@@ -1,7 +1,7 @@
 //! The nodes that are not valid (XForms 1.1, section 4.3.3).
 
 ghost use Rattle.std.specs.Prelude.{◌≡◌, ◌<◌, ◌==◌, ◌&&◌, ◌++◌, ◌∷◌, [], if◌then◌else◌, length, false, IfOk, OnOk, OnErr, option_map, slice_get};
-ghost use Rattle.std.specs.Bool.{OnFalse};
+ghost use Rattle.std.specs.Bool.{OnFalse, OnTrue};
 ghost use Rattle.xf_num.specs.Written.{is_empty};
 ghost use Rattle.xf_types.specs.Meets.{meets_type};
 ghost use Rattle.xf_plain_values.specs.Functions.{Functions};
@@ -37,15 +37,17 @@ pub(crate) struct Asked {
     pub kind: Option<Entry>,
 }
 
-/// Finds the nodes of the model's instances that are not valid, and keeps them in the table.
+/// Finds the nodes of the model's instances that are not valid, and keeps them in the table. Whether they are those that were found before; that
+/// they may not be promises nothing.
 pub fn revalidate(
     alloc: Global,
     tables: &Tables,
     forest: &Forest,
     model: u32,
     table: &mut Table,
-) -> Result<(), AllocError>
+) -> Result<bool, AllocError>
     requires { model < length table.old }
+    ensures same { IfOk result (λ same. OnTrue same ((kept_at table.new model).invalid ≡ (kept_at table.old model).invalid)) }
     ensures ok { OnOk result ((functions : Functions) (given : Given)
         → table.new ≡ with_kept table.old model (revalidated (scope_of functions given tables.now model) tables.now.instances forest.now.forest.nodes (kept_at table.old model))) }
     ensures err { OnErr result (table.new ≡ table.old) }
@@ -55,8 +57,7 @@ pub fn revalidate(
     let found = all_failed(alloc, tables, forest, model, table, &roots)?;
     let ordered = forest.in_order(&found)?;
     let invalid = NodeSet::of(alloc, ordered)?;
-    table.set_invalid(model, invalid);
-    Ok(())
+    Ok(table.set_invalid(model, invalid))
 }
 
 /// The nodes of entries that stand in an instance with one of these roots and are not valid.

@@ -13,7 +13,7 @@ use Rattle.xf_lang.specs.Agree.{numbers_of}
 use Rattle.xf_lang.specs.Given.{Given}
 use Rattle.xf_lang.proofs.ForestVisits.{forest-visits}
 use Rattle.xf_lang.proofs.UntextedLaws.{solid-found}
-use Rattle.xf_lang.proofs.VisitFacts.{present}
+use Rattle.xf_lang.proofs.VisitFacts.{none-some, present}
 use Rattle.xf_model.specs.Nested.{nested}
 use Rattle.xf_model.specs.Rules.{scope_of}
 use Rattle.xf_agree.specs.Hung.{are_hung}
@@ -32,7 +32,7 @@ use Rattle.xf_controls.specs.Surrounded.{around_in}
 use Rattle.xf_controls.proofs.KnownLaws.{nothing-known}
 use Rattle.xf_loader.specs.declared.loaded.Loaded.{Loaded}
 use Rattle.xf_work.specs.Around.{given_by, given_in}
-use Rattle.xf_work.specs.Held.{IsHeld, around_over, planted_shape}
+use Rattle.xf_work.specs.Held.{AreSolid, IsHeld, around_over, planted_shape}
 use Rattle.xf_work.proofs.Documents.{documents-same}
 use Rattle.xf_work.proofs.SolidLaws.{document-solid}
 use Rattle.xf_work.proofs.SurroundLaws.{truthful}
@@ -76,22 +76,30 @@ module _ (l : Loaded) (before after : Forest) (b : HasTrees before) (a : HasTree
   around-same =
       ap (λ ds. around_in (given_by l.form.tables.instances l.prefixes ds) l.form.tables after.nodes) (documents-same l.form.tables.instances before after b a hung hung_too same)
 
+  solid-after : (known : List Known) → AreHeld (interface_of l.form) (around_over l before) known → AreSolid (visits after.nodes) known
+  solid-after known h n k e = node_stands called (Some string_limit) given before after first (interface_of l.form) n k.number one (h.fixed n (Some k) e) (h.node n (Some k) e)
+
   known-after : (known : List Known) → AreHeld (interface_of l.form) (around_over l before) known → AreKnown (interface_of l.form) (around_over l after) after.nodes known
   known-after known h = record {
     node = λ n k e.
         ap (λ x. node_of (interface_of l.form) x [] n) around-same
         ∙ sym (node_stays called (Some string_limit) given before after first second (interface_of l.form) n one (h.fixed n k e)) ∙ h.node n k e;
-    live = λ n k e. stands n k e (h.node n k e);
+    live = λ n k e. stands n k e;
   }
     where
-      stands : (n : ℕ) (k : Option NodeId) → known_at known n ≡ Some k → node_of (interface_of l.form) (around_over l before) [] n ≡ Some (option_map number k) → IsThere k after.nodes
-      stands n None e at = refl
-      stands n (Some k) e at =
-          ap (λ c. c && true) (solid-live after k.number a (node_stands called (Some string_limit) given before after first (interface_of l.form) n k.number one (h.fixed n (Some k) e) at))
+      stands : (n : ℕ) (k : Option NodeId) → known_at known n ≡ Some k → IsThere k after.nodes
+      stands n None e = refl
+      stands n (Some k) e = ap (λ c. c && true) (solid-live after k.number a (solid-after known h n k e))
 
 pub held-over : (l : Loaded) (before : Forest) (known : List Known) → HasTrees before → are_hung before.nodes ≡ true → shape_of before.nodes ≡ planted_shape l → AreHeld (interface_of l.form) (around_over l before) known → IsHeld l known
-held-over l before known trees hung planted h = record { over = λ after a hung_too shaped. known-after l before after trees a hung hung_too (shaped ∙ sym planted) known h }
+held-over l before known trees hung planted h = record {
+  over = λ after a hung_too shaped. known-after l before after trees a hung hung_too (shaped ∙ sym planted) known h;
+  solid = λ after a hung_too shaped. solid-after l before after trees a hung hung_too (shaped ∙ sym planted) known h;
+}
 
 -- nothing is known
 pub held-nothing : (l : Loaded) (known : List Known) → known ≡ [] → IsHeld l known
-held-nothing l known e = record { over = λ forest trees hung shaped. nothing-known (interface_of l.form) (around_over l forest) forest.nodes known e }
+held-nothing l known e = record {
+  over = λ forest trees hung shaped. nothing-known (interface_of l.form) (around_over l forest) forest.nodes known e;
+  solid = λ forest trees hung shaped n k at. none-some (ap (λ ks. known_at ks n) (sym e) ∙ at);
+}

@@ -34,3 +34,5 @@ pub mod HeldLaws
 pub mod KnownLaws
 pub mod KnownEnds
 pub mod SetKnown
+pub mod SteadyLaws
+pub mod RefreshLaws

@@ -33,17 +33,12 @@ use Rattle.xf_report.specs.declared.refusal.Refusal.TheVariants.{Limit}
 use Rattle.xf_work.specs.declared.fault.WorkFault.{WorkFault}
 use Rattle.xf_work.specs.declared.fault.WorkFault.TheVariants as fault
 use Rattle.xf_work.specs.Around.{given_in}
-use Rattle.xf_work.specs.Calls.{IsWithin}
+use Rattle.xf_work.specs.Calls.{IsWithin, long_or_memory}
 use Rattle.xf_work.specs.Does.{Finds, IsRefused, profile}
 use Rattle.xf_work.specs.Parts.{IsLoaded, standing_of}
 use Rattle.xf_work.specs.Standing.{state_of}
 use Rattle.xf_work.proofs.AroundLaws.{given-same}
 use Rattle.xf_work.proofs.MarkLaws.{marks-same}
-
--- a string was too long
-pub none-long : {X : Type 0} (e : EvalFault) (given : Option X) → e ≡ eval.Long → (e ≡ eval.Memory) ⊎ ((e ≡ eval.Long) × (given ≡ None)) → given ≡ None
-none-long e given is (inl h) = cc (h, is)
-none-long e given is (inr h) = h.1
 
 module _ (loaded : Loaded) (is : IsLoaded loaded) (forest : Forest) (table : List Kept) (flags : List Flags) (controls : List ControlCopy) (tally : Tally)
     (many : length table ≡ length flags) where
@@ -77,6 +72,18 @@ module _ (loaded : Loaded) (is : IsLoaded loaded) (forest : Forest) (table : Lis
   pub shown-listed : (list : List copies.Copy) (b : Bool) → listed ≡ Some list → nat_lt 65536 (copies.copy_count list) ≡ b → update.shown profile here ≡ unless_passed here (if_over b Controls) list
   shown-listed list b e h = shown-told ∙ ap (λ o. or_long here o >>= λ list. within_controls profile list here) e ∙ ap (λ c. unless_passed here (if_over c Controls) list) h
 
+  told-listed : (o : Option (List copies.Copy)) (list : List copies.Copy) → (or_long here o >>= λ cs. within_controls profile cs here) ≡ Ok list → (o ≡ Some list) × (nat_lt 65536 (copies.copy_count list) ≡ false)
+  told-listed None list h = cc h
+  told-listed (Some cs) list h = by (nat_lt 65536 (copies.copy_count cs)) refl h
+    where
+      by : (b : Bool) → nat_lt 65536 (copies.copy_count cs) ≡ b → unless_passed here (if_over b Controls) cs ≡ Ok list → (Some cs ≡ Some list) × (nat_lt 65536 (copies.copy_count list) ≡ false)
+      by true e i = cc i
+      by false e i = let same : cs ≡ list = cc i in (ap Some same, ap (λ xs. nat_lt 65536 (copies.copy_count xs)) (sym same) ∙ e)
+
+  -- a list that is shown is not too long
+  pub shown-given : (list : List copies.Copy) → update.shown profile here ≡ Ok list → (listed ≡ Some list) × (nat_lt 65536 (copies.copy_count list) ≡ false)
+  shown-given list h = told-listed listed list (sym shown-told ∙ h)
+
   -- over surroundings that are the same
   pub listed-same : (g : Given) → g ≡ given_in loaded.form.tables.instances loaded.prefixes forest
       → copies.copies (interface_of loaded.form) (around_in g loaded.form.tables forest.nodes) (table_marks.marks_in table forest.nodes) [] [] ≡ listed
@@ -84,6 +91,11 @@ module _ (loaded : Loaded) (is : IsLoaded loaded) (forest : Forest) (table : Lis
 
   pub long-found : listed ≡ None → IsRefused (Limit Long) (update.shown profile here)
   long-found e = subst (λ given. IsRefused (Limit Long) given) (sym (shown-long e)) ((Long ∷ [], refl, (0, omega arith, refl)), refl)
+
+  pub told-found : (e : EvalFault) → (e ≡ eval.Memory) ⊎ ((e ≡ eval.Long) × (listed ≡ None)) → Finds {X = List ControlCopy} (map seen_copy) (Err (long_or_memory e)) (update.shown profile here)
+  told-found eval.Long (inl h) = cc h
+  told-found eval.Long (inr h) = long-found h.1
+  told-found eval.Memory h = tt
 
   over-found : (list : List copies.Copy) → listed ≡ Some list → nat_lt 65536 (copies.copy_count list) ≡ true → IsRefused (Limit Controls) (update.shown profile here)
   over-found list e h = subst (λ given. IsRefused (Limit Controls) given) (sym (shown-listed list true e h)) ((Controls ∷ [], refl, (0, omega arith, refl)), refl)

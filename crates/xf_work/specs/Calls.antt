@@ -1,14 +1,21 @@
 -- What the calls on the parts of a state do and give.
-use Rattle.std.specs.Prelude.{ℕ, ◌≡◌, ◌++◌, List, map, length, get_or, slice_set, nat_lt, Result, Ok, Err, false, true}
+use Rattle.std.specs.Prelude.{ℕ, ◌≡◌, ◌++◌, List, map, length, get_or, slice_set, nat_lt, Option, Some, None, Result, Ok, Err, false, true}
 use Rattle.xf_doc.specs.Forest.{Forest}
 use Rattle.xf_binds.specs.Kept.{Kept}
 use Rattle.xf_controls.specs.declared.copy.ControlCopy.{ControlCopy}
 use Rattle.xf_controls.specs.Seen.{seen_copy}
 use Rattle.xf_form_machine.specs.declared.limit.LimitWord.TheVariants.{Controls}
-use Rattle.xf_ui.specs.Copies.{copy_count}
+use Rattle.xf_form_machine.specs.declared.limit.LimitWord.TheVariants as word
+use Rattle.xf_lang.specs.declared.fault.EvalFault.{EvalFault}
+use Rattle.xf_lang.specs.declared.fault.EvalFault.TheVariants as eval
+use Rattle.xf_ui.specs.Copies.{Copy, copy_count}
+use Rattle.xf_ui.specs.Notifications.{notifications}
 use Rattle.xf_form_machine.specs.Behave as machine
 use Rattle.xf_form_machine.specs.ControlText.{state_text}
 use Rattle.xf_form_machine.specs.Update as update
+use Rattle.xf_form_machine.specs.Update.{no_refresh}
+use Rattle.xf_form_machine.specs.Flow.{Run, ◌>>=◌}
+use Rattle.xf_form_machine.specs.Profile.{Profile}
 use Rattle.xf_report.specs.declared.refusal.Refusal.TheVariants.{Limit}
 use Rattle.xf_loader.specs.declared.loaded.Loaded.{Loaded}
 use Rattle.xf_work.specs.declared.fault.WorkFault.{WorkFault}
@@ -16,10 +23,10 @@ use Rattle.xf_work.specs.declared.fault.WorkFault.TheVariants.{Refused, Memory}
 use Rattle.xf_work.specs.declared.flags.Flag.TheVariants.{Rebuild}
 use Rattle.xf_work.specs.declared.flags.Flags.{Flags}
 use Rattle.xf_work.specs.declared.tally.Tally.{Tally}
-use Rattle.xf_work.specs.Does.{Does, Finds, profile}
+use Rattle.xf_work.specs.Does.{Does, Finds, IsRefused, profile}
 use Rattle.xf_work.specs.Flags.{none_due, without}
 use Rattle.xf_work.specs.Parts.{standing_of}
-use Rattle.xf_work.specs.Standing.{state_of}
+use Rattle.xf_work.specs.Standing.{Standing, state_of}
 
 -- one thing is due no more of a model
 abbrev pub rebuilt_flags : List Flags → ℕ → List Flags
@@ -43,3 +50,41 @@ IsWithin (Err Memory) list = ⊥
 abbrev pub Writes : Loaded → Forest → List Kept → List ControlCopy → List ℕ → List ℕ → Type 0
 Writes loaded forest table controls before after = (flags : List Flags) (tally : Tally) → length table ≡ length flags →
     after ≡ before ++ state_text profile (state_of (standing_of loaded forest table flags controls tally))
+
+abbrev pub long_or_memory : EvalFault → WorkFault
+long_or_memory eval.Long = Refused (Limit word.Long)
+long_or_memory eval.Memory = Memory
+
+-- the controls are those made afresh
+abbrev pub now_shown : Profile → Run
+now_shown p s = update.shown p s >>= λ list. Ok (record s { controls = list })
+
+-- a refresh of all, of which the answer counts what is told, while what is due stays so
+pub record AreShown (count : ℕ) (before after : Standing) : Type 0 where
+  pub list : List Copy
+  pub shown : update.shown profile (state_of before) ≡ Ok list
+  pub told : count ≡ length (notifications before.controls list)
+  pub now : after ≡ record before { controls = list }
+
+abbrev pub ShowsOthers : Result ℕ WorkFault → Standing → Standing → Type 0
+ShowsOthers (Ok count) before after = AreShown count before after
+ShowsOthers (Err (Refused refusal)) before after = IsRefused refusal (update.shown profile (state_of before))
+ShowsOthers (Err Memory) before after = Unit {0}
+
+-- the controls are those made afresh, no refresh is due, and the answer counts what is told of the differences
+pub record AreRefreshed (count : ℕ) (before after : Standing) : Type 0 where
+  pub list : List Copy
+  pub shown : update.shown profile (state_of before) ≡ Ok list
+  pub told : count ≡ length (notifications before.controls list)
+  pub now : after ≡ record before { controls = list; models = map no_refresh before.models }
+
+abbrev pub Refreshes : Result ℕ WorkFault → Standing → Standing → Type 0
+Refreshes (Ok count) before after = AreRefreshed count before after
+Refreshes (Err (Refused refusal)) before after = IsRefused refusal (update.shown profile (state_of before))
+Refreshes (Err Memory) before after = Unit {0}
+
+-- copies have the values of their nodes, unless a string is too long
+abbrev pub Renews : {X : Type 0} → Result X WorkFault → Option (List ControlCopy) → List ControlCopy → Type 0
+Renews (Ok x) given list = given ≡ Some list
+Renews (Err (Refused refusal)) given list = (refusal ≡ Limit word.Long) × (given ≡ None)
+Renews (Err Memory) given list = Unit {0}

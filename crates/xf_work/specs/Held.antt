@@ -1,14 +1,16 @@
 -- What is known of the nodes that controls bind: it is so over all data of the shape that was planted, which changes of texts leave as it is.
-use Rattle.std.specs.Prelude.{ℕ, ◌≡◌, true, List, [], Result, Ok, Err}
+use Rattle.std.specs.Prelude.{ℕ, ◌≡◌, true, List, [], Some, Result, Ok, Err}
 use Rattle.xf_doc.specs.Forest.{Forest}
 use Rattle.xf_doc.specs.Shape.{shape_of}
-use Rattle.xf_doc.specs.Visit.{Visit}
+use Rattle.xf_doc.specs.declared.node.NodeId.{NodeId}
+use Rattle.xf_doc.specs.Visit.{Visit, visits}
+use Rattle.xf_agree.specs.Settles.{IsSolid}
 use Rattle.xf_doc.specs.WellFormed.{HasTrees}
 use Rattle.xf_ui.specs.Around.{Around}
 use Rattle.xf_ui.specs.Interface.{interface_of}
 use Rattle.xf_agree.specs.Hung.{are_hung}
 use Rattle.xf_controls.specs.declared.known.Known.{Known}
-use Rattle.xf_controls.specs.Known.{AreKnown}
+use Rattle.xf_controls.specs.Known.{AreKnown, known_at}
 use Rattle.xf_controls.specs.Surrounded.{around_in}
 use Rattle.xf_form_machine.specs.Refusal.{Refused}
 use Rattle.xf_form_machine.specs.State.{State}
@@ -28,5 +30,10 @@ planted_shape l = shape_by (planted_by l)
 abbrev pub around_over : Loaded → Forest → Around
 around_over l forest = around_in (given_in l.form.tables.instances l.prefixes forest) l.form.tables forest.nodes
 
+-- none of them is a text, so that changes of texts leave it where it stands
+abbrev pub AreSolid : List Visit → List Known → Type 0
+AreSolid all known = (n : ℕ) (k : NodeId) → known_at known n ≡ Some (Some k) → IsSolid all k.number
+
 pub record IsHeld (l : Loaded) (known : List Known) : Type 0 where
   pub over : (forest : Forest) → HasTrees forest → are_hung forest.nodes ≡ true → shape_of forest.nodes ≡ planted_shape l → AreKnown (interface_of l.form) (around_over l forest) forest.nodes known
+  pub solid : (forest : Forest) → HasTrees forest → are_hung forest.nodes ≡ true → shape_of forest.nodes ≡ planted_shape l → AreSolid (visits forest.nodes) known

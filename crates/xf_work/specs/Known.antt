@@ -22,7 +22,12 @@ use Rattle.xf_work.specs.declared.flags.Flags.{Flags}
 use Rattle.xf_work.specs.Built.{scope_at}
 use Rattle.xf_controls.specs.declared.known.Known as bound
 use Rattle.xf_work.specs.Held.{IsHeld}
+use Rattle.xf_controls.specs.Bound.{AllBound}
+use Rattle.xf_controls.specs.Former.{Standing}
+use Rattle.xf_ui.specs.Interface.{interface_of}
 use Rattle.xf_work.specs.Parts.{IsSound}
+use Rattle.xf_work.specs.Steady.{AreSteady}
+use Rattle.std.specs.Bool.{OnTrue}
 
 -- the data as they were then, and what of them stands now
 pub record IsRemembered (scope : Scope) (forest : Forest) (k : Kept) : Type 0 where
@@ -42,12 +47,16 @@ Knows l forest table None = Unit {0}
 Knows l forest table (Some model) = (model < length table) × IsRemembered (scope_at l forest model) forest (kept_at table model)
 
 -- all that is known of what an engine works on, as it stands and as it was kept
-pub record IsFit (l : Loaded) (draft : Draft) (table : List Kept) (flags old_flags : List Flags) (built old_built : ℕ) (known old_known : Option ℕ) (bound_nodes : List bound.Known) : Type 0 where
+pub record IsFit (l : Loaded) (draft : Draft) (table : List Kept) (flags old_flags : List Flags) (built old_built : ℕ) (known old_known : Option ℕ) (bound_nodes : List bound.Known) (is_bound : Bool) (shown : Standing) (is_steady was_steady : Bool) : Type 0 where
   pub sound : IsSound l draft table flags old_flags built old_built
   pub now : Knows l draft.now table known
   pub before : Knows l draft.kept (all_rolled_back table) old_known
   -- what is known of the nodes of controls is so
   pub held : IsHeld l bound_nodes
+  pub bound : OnTrue is_bound (AllBound (interface_of l.form) bound_nodes)
+  -- what is known of the controls is so
+  pub steady : OnTrue is_steady (AreSteady l table shown.now)
+  pub steady_before : OnTrue was_steady (AreSteady l (all_rolled_back table) shown.kept)
 
 -- ---- marks that stay
 

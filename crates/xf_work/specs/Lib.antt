@@ -14,3 +14,4 @@ pub mod Grown
 pub mod Settling
 pub mod Setting
 pub mod Known
+pub mod Steady

@@ -1,5 +1,5 @@
 -- How the state of a form is made of what an engine keeps of it.
-use Rattle.std.specs.Prelude.{ℕ, ◌≡◌, ◌<◌, ◌^◌, true, List, [], ◌∷◌, map, length, Option, Some, None, Ok}
+use Rattle.std.specs.Prelude.{ℕ, ◌≡◌, ◌<◌, ◌^◌, true, List, [], ◌∷◌, map, length, Ok}
 use Rattle.xf_doc.specs.Forest.{Forest}
 use Rattle.xf_ui.specs.Interface.{interface_of}
 use Rattle.xf_binds.specs.Kept.{Kept}
@@ -52,11 +52,6 @@ standing_of loaded forest table flags controls tally = record {
   made = tally.made;
   evaluated = tally.evaluated;
 }
-
--- what was kept aside, or what stands where nothing was
-abbrev pub kept_or : {X : Type 0} → X → Option X → X
-kept_or now None = now
-kept_or now (Some old) = old
 
 -- ---- what is known of a form that is loaded and of what is kept of it
 

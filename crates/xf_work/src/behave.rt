@@ -1,11 +1,9 @@
 //! The behaviours of models (XForms 1.1, sections 4.3.1 to 4.3.4).
 
-ghost use Rattle.std.specs.Prelude.{◌≡◌, ◌≤◌, ◌<◌, length, map, option_map, Ok};
-ghost use Rattle.xf_controls.specs.Seen.{seen_copy};
+ghost use Rattle.std.specs.Prelude.{◌≡◌, ◌≤◌, ◌<◌, length, option_map, Ok};
 ghost use Rattle.xf_form_machine.specs.Behave as machine;
 ghost use Rattle.xf_form_machine.specs.Step.{set_bound as bound_set};
-ghost use Rattle.xf_form_machine.specs.Update as update;
-ghost use Rattle.xf_work.specs.Does.{Does, Finds, built_after, profile};
+ghost use Rattle.xf_work.specs.Does.{Does, built_after, profile};
 ghost use Rattle.xf_work.specs.Standing.{state_of};
 
 use crate::fault::WorkFault;
@@ -15,9 +13,7 @@ use crate::knowing::{known_still, marks_for};
 use crate::rebuilding::rebuild;
 use crate::recalculating::settle_texts;
 use crate::setting::{holder, is_other, mark, may_set, set_text};
-use crate::showing::shown;
 use crate::work::Work;
-use xf_controls::ControlList;
 use xf_doc::NodeId;
 use xf_pertinent::{pertinent_count, pertinent_marks};
 use xf_valid::revalidate;
@@ -35,6 +31,7 @@ impl Work {
         let forest = self.draft.forest();
         match rebuild(self.alloc, &self.loaded, forest, model, &mut self.table) {
             Ok(()) => {
+                self.is_steady = false;
                 clear(self.flags.as_mut_slice(), model, Flag::Rebuild);
                 self.built = self.built.max(model as u64 + 1);
                 Ok(())
@@ -70,6 +67,7 @@ impl Work {
         )?;
         let made = self.draft.forest().next_number() - before;
         self.tally = grown(self.tally, made, count)?;
+        self.is_steady = self.is_steady && self.table.keeps_properties(model, &truths);
         self.table.recalculated(model, truths);
         self.known = Some(model);
         clear(self.flags.as_mut_slice(), model, Flag::Recalculate);
@@ -85,13 +83,14 @@ impl Work {
         ensures models { length self.new.now.models ≡ length self.old.now.models }
     {
         let forest = self.draft.forest();
-        revalidate(
+        let is_same = revalidate(
             self.alloc,
             &self.loaded.form.tables,
             forest,
             model,
             &mut self.table,
         )?;
+        self.is_steady = self.is_steady && is_same;
         clear(self.flags.as_mut_slice(), model, Flag::Revalidate);
         Ok(())
     }
@@ -127,18 +126,5 @@ impl Work {
         )?;
         self.known = known;
         Ok(())
-    }
-
-    /// The controls made afresh.
-    pub fn shown(&self) -> Result<ControlList, WorkFault>
-        ensures { Finds (map seen_copy) result (update.shown profile (state_of self.now.now)) }
-    {
-        shown(
-            self.alloc,
-            &self.loaded,
-            self.draft.forest(),
-            &self.table,
-            &self.bound_nodes,
-        )
     }
 }

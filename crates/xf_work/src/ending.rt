@@ -1,8 +1,7 @@
 //! The end of an event: what stands is kept, or what was kept stands again.
 
-ghost use Rattle.std.specs.Prelude.{◌≡◌, ◌+◌, None, length, OnOk, IfErr};
+ghost use Rattle.std.specs.Prelude.{◌≡◌, ◌+◌, length, OnOk, IfErr};
 ghost use Rattle.xf_work.specs.Does.{IsKept};
-ghost use Rattle.xf_work.specs.Parts.{kept_or};
 
 use crate::fault::WorkFault;
 use crate::flags::Flags;
@@ -34,7 +33,8 @@ impl Work {
     {
         self.draft.commit();
         self.table.commit();
-        self.old_controls = None;
+        self.shown.commit();
+        self.was_steady = self.is_steady;
         copy(self.flags.as_slice(), self.old_flags.as_mut_slice());
         self.tally = self.tally.begun();
         self.old_tally = self.tally;
@@ -50,21 +50,12 @@ impl Work {
     {
         self.draft.roll_back();
         self.table.roll_back();
-        put_back(&mut self.controls, &mut self.old_controls);
+        self.shown.roll_back();
+        self.is_steady = self.was_steady;
         copy(self.old_flags.as_slice(), self.flags.as_mut_slice());
         self.tally = self.old_tally;
         self.built = self.old_built;
         self.known = self.old_known;
-    }
-}
-
-/// What was kept aside stands again.
-fn put_back<T: Drop>(now: &mut T, old: &mut Option<T>)
-    ensures now { now.new ≡ kept_or now.old old.old }
-    ensures old { old.new ≡ None }
-{
-    if let Some(kept) = old.take() {
-        *now = kept;
     }
 }
 

@@ -14,6 +14,7 @@ mod marks;
 mod planting;
 mod rebuilding;
 mod recalculating;
+mod refreshing;
 mod setting;
 mod showing;
 mod tally;

@@ -14,8 +14,8 @@ use crate::tally::{TURNS, Tally};
 use crate::work::Work;
 use std::alloc::Global;
 use xf_ast::Instance;
-use xf_base::Items;
 use xf_binds::Table;
+use xf_controls::{Shown, are_bound};
 use xf_doc::TreeFault;
 use xf_form_machine::LimitWord;
 use xf_loader::{Loaded, lit_at};
@@ -36,6 +36,7 @@ pub fn planted(alloc: Global, loaded: Loaded) -> Result<Work, WorkFault>
     let mut forest = Forest::new(alloc);
     let made = plant_all(&mut forest, &loaded)?;
     let bound_nodes = held(alloc, &loaded, &forest)?;
+    let is_bound = are_bound(&loaded.form, &bound_nodes);
     let table = Table::new(alloc, count as u32)?;
     let flags = vec![in alloc; Flags::none(); count]?;
     let old_flags = vec![in alloc; Flags::none(); count]?;
@@ -52,8 +53,7 @@ pub fn planted(alloc: Global, loaded: Loaded) -> Result<Work, WorkFault>
         table,
         flags,
         old_flags,
-        controls: Items::new(alloc),
-        old_controls: None,
+        shown: Shown::new(alloc),
         tally,
         old_tally: tally,
         built: 0,
@@ -61,6 +61,9 @@ pub fn planted(alloc: Global, loaded: Loaded) -> Result<Work, WorkFault>
         known: None,
         old_known: None,
         bound_nodes,
+        is_bound,
+        is_steady: false,
+        was_steady: false,
     })
 }
 

@@ -5,7 +5,7 @@ ghost use Rattle.xf_agree.specs.Hung.{are_hung};
 ghost use Rattle.xf_controls.specs.Seen.{seen_copy};
 ghost use Rattle.xf_doc.specs.Shape.{shape_of};
 ghost use Rattle.xf_ui.specs.Copies.{copy_count};
-ghost use Rattle.xf_work.specs.Calls.{IsWithin, Shows};
+ghost use Rattle.xf_work.specs.Calls.{IsWithin, Shows, long_or_memory};
 ghost use Rattle.xf_work.specs.Held.{IsHeld, planted_shape};
 ghost use Rattle.xf_work.specs.Parts.{IsLoaded};
 
@@ -49,8 +49,17 @@ pub(crate) fn shown(
     forest.are_trees();
     match controls(alloc, &loaded.form, forest, &around, &marks, known) {
         Ok(list) => within(list),
-        Err(EvalFault::Long) => Err(WorkFault::Refused(Refusal::Limit(LimitWord::Long))),
-        Err(EvalFault::Memory) => Err(WorkFault::Memory),
+        Err(fault) => Err(told(fault)),
+    }
+}
+
+/// The limit that is passed.
+pub(crate) fn told(fault: EvalFault) -> WorkFault
+    ensures { result ≡ long_or_memory fault }
+{
+    match fault {
+        EvalFault::Long => WorkFault::Refused(Refusal::Limit(LimitWord::Long)),
+        EvalFault::Memory => WorkFault::Memory,
     }
 }
 

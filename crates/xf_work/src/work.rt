@@ -15,15 +15,14 @@ ghost use Rattle.xf_work.specs.Flags.{flag_of};
 ghost use Rattle.xf_work.specs.Standing.{state_of};
 
 use crate::fault::WorkFault;
-use crate::flags::{Flag, Flags, clear_refresh, is_due, is_refresh_due};
+use crate::flags::{Flag, Flags, is_due, is_refresh_due};
 use crate::tally::Tally;
 use crate::telling::push_text;
 use std::alloc::{AllocError, Global};
 use std::marker::Model;
-use std::mem::replace;
 use xf_ast::Form;
 use xf_binds::Table;
-use xf_controls::{ControlCopy, ControlList, KnownList, control_of};
+use xf_controls::{ControlCopy, KnownList, Shown, control_of};
 use xf_loader::Loaded;
 use xf_report::Refusal;
 use xf_undo::Draft;
@@ -37,9 +36,7 @@ pub struct Work {
     pub(crate) table: Table,
     pub(crate) flags: Vec<Flags>,
     pub(crate) old_flags: Vec<Flags>,
-    pub(crate) controls: ControlList,
-    // Those at the end of the last event, where they are others now.
-    pub(crate) old_controls: Option<ControlList>,
+    pub(crate) shown: Shown,
     pub(crate) tally: Tally,
     pub(crate) old_tally: Tally,
     pub(crate) built: u64,
@@ -49,6 +46,11 @@ pub struct Work {
     pub(crate) old_known: Option<u32>,
     // The nodes that controls bind whatever texts the data have.
     pub(crate) bound_nodes: KnownList,
+    // Whether these are all that is shown.
+    pub(crate) is_bound: bool,
+    // Whether the controls differ from those made afresh in the values of their nodes alone: texts alone have changed since the last refresh.
+    pub(crate) is_steady: bool,
+    pub(crate) was_steady: bool,
 }
 
 impl Model for Work {
@@ -57,7 +59,7 @@ impl Model for Work {
     ghost use Rattle.xf_binds.specs.Table.{all_rolled_back};
     ghost use Rattle.xf_work.specs.Does.{Twin};
     ghost use Rattle.xf_work.specs.Known.{IsFit};
-    ghost use Rattle.xf_work.specs.Parts.{kept_or, standing_of};
+    ghost use Rattle.xf_work.specs.Parts.{standing_of};
 
     ghost Value = { Twin };
 
@@ -65,14 +67,14 @@ impl Model for Work {
 
     ghost view = { λ w. record {
       kept = record {
-        standing = standing_of w.loaded w.draft.kept (all_rolled_back w.table) w.old_flags.items (kept_or w.controls w.old_controls) w.old_tally;
+        standing = standing_of w.loaded w.draft.kept (all_rolled_back w.table) w.old_flags.items w.shown.kept w.old_tally;
         built = w.old_built;
       };
-      now = standing_of w.loaded w.draft.now w.table w.flags.items w.controls w.tally;
+      now = standing_of w.loaded w.draft.now w.table w.flags.items w.shown.now w.tally;
       built = w.built;
     } };
 
-    ghost invariant = { λ w. IsFit w.loaded w.draft w.table w.flags.items w.old_flags.items w.built w.old_built w.known w.old_known w.bound_nodes };
+    ghost invariant = { λ w. IsFit w.loaded w.draft w.table w.flags.items w.old_flags.items w.built w.old_built w.known w.old_known w.bound_nodes w.is_bound w.shown w.is_steady w.was_steady };
 }
 
 impl Work {
@@ -148,39 +150,11 @@ impl Work {
         self.flags[model as usize].has(flag)
     }
 
-    /// The controls of the last refresh.
-    pub fn controls(&self) -> &ControlList
-        ensures { map seen_copy result.now ≡ self.now.now.controls }
-    {
-        &self.controls
-    }
-
     /// The copy of an element that stands in no row.
     pub fn control(&self, element: u32) -> Option<&ControlCopy>
         ensures { option_map (λ c. seen_copy c.now) result ≡ find (is_copy_at element []) self.now.now.controls }
     {
-        control_of(&self.controls, element)
-    }
-
-    /// Keeps the controls that are shown now.
-    pub fn take_controls(&mut self, list: ControlList)
-        ensures now { self.new.now ≡ record self.old.now { controls = map seen_copy list } }
-        ensures kept { self.new.kept ≡ self.old.kept }
-        ensures built { self.new.built ≡ self.old.built }
-    {
-        let old = replace(&mut self.controls, list);
-        if self.old_controls.is_none() {
-            self.old_controls = Some(old);
-        }
-    }
-
-    /// No refresh is due any more.
-    pub fn clear_refresh(&mut self)
-        ensures now { self.new.now ≡ record self.old.now { models = map no_refresh self.old.now.models } }
-        ensures kept { self.new.kept ≡ self.old.kept }
-        ensures built { self.new.built ≡ self.old.built }
-    {
-        clear_refresh(self.flags.as_mut_slice());
+        control_of(self.shown.list(), element)
     }
 
     /// How many events were accepted.
@@ -207,7 +181,7 @@ impl Work {
             &self.loaded,
             forest,
             &self.table,
-            &self.controls,
+            self.shown.list(),
             text,
         )
     }

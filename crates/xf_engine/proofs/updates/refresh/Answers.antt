@@ -1,13 +1,12 @@
-use Rattle.std.proofs.Common.{map}
-use Rattle.xf_controls.specs.Seen.{seen_copy}
+use Rattle.std.proofs.lemmas.Result.{err_from_is_err_and}
 use Rattle.xf_engine.proofs.Flow.{same-does}
-use Rattle.xf_engine.proofs.Rounds.{told-length, refreshed-as}
+use Rattle.xf_engine.proofs.Rounds.{refresh-fails, refreshed-as}
 use Rattle.xf_engine.proofs.updates.refresh.Goals as goal
 
+pub returns-in_err-count-clause-done : goal.returns-in_err-count-clause-done
+returns-in_err-count-clause-done c =
+    let p = err_from_is_err_and c.from_residual.result c.from_residual.ensures.1 in
+    rw (p.1, p.2) (refresh-fails c.in_err-count.field-0.0 c.args.work.now.now c.refresh.new.self.now c.in_err-count.ensures.done)
+
 pub returns-clause-done : goal.returns-clause-done
-returns-clause-done c =
-    same-does _ _ _ _
-    (refreshed-as c.args.work.now.now c.take_controls.new.self.now c.clear_refresh.new.self.now (map seen_copy c.in_ok-list.list) c.len.result
-    c.in_ok-list.ensures (told-length c.in_ok-told.told _ _ _ _ c.in_ok-told.ensures c.controls.ensures c.len.ensures)
-    c.take_controls.ensures.now c.clear_refresh.ensures.now)
-    c.spend_times.ensures.done
+returns-clause-done c = same-does _ _ _ _ (refreshed-as c.args.work.now.now c.refresh.new.self.now c.in_ok-count.count c.in_ok-count.ensures.done) c.spend_times.ensures.done

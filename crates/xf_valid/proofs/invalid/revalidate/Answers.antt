@@ -4,6 +4,7 @@ use Rattle.xf_doc.specs.Visit.{visits}
 use Rattle.xf_model.specs.Rules.{scope_of}
 use Rattle.xf_binds.specs.Table.{kept_at, with_kept}
 use Rattle.xf_valid.specs.Failed.{failed_among, roots_from}
+use Rattle.xf_valid.proofs.AlikeLaws.{same-invalid}
 use Rattle.xf_valid.proofs.InvalidLemmas.{invalid-found}
 use Rattle.xf_valid.proofs.invalid.revalidate.Goals as goal
 
@@ -12,9 +13,12 @@ returns-clause-ok c = λ functions given.
     let scope = scope_of functions given c.args.tables.now c.args.model in
     let nodes = c.args.forest.now.forest.nodes in
     let k = kept_at c.args.table.now c.args.model in
-    c.set_invalid.ensures
+    c.set_invalid.ensures.done
     ∙ ap (λ ns. with_kept c.args.table.now c.args.model (record k { invalid = ns }))
     (c.in_ok-invalid.ensures ∙ c.in_ok-ordered.ensures
     ∙ ap (in_order (visits nodes))
     (c.in_ok-found.ensures functions given ∙ ap (λ rs. failed_among scope nodes rs k k.entries) (c.in_ok-roots.ensures ∙ ap (roots_from c.args.model nodes 0) c.as_slice.ensures))
     ∙ invalid-found scope c.args.tables.now.instances nodes k c.are_trees.ensures.apart)
+
+pub returns-clause-same : goal.returns-clause-same
+returns-clause-same c = same-invalid c.args.table.now c.set_invalid.new.self c.args.model c.in_ok-invalid.invalid c.set_invalid.result c.requires c.set_invalid.ensures.done c.set_invalid.ensures.same

@@ -1,9 +1,12 @@
-use Rattle.std.proofs.Common.{ap, ◌∙◌, sym, ◌≡◌}
+use Rattle.std.proofs.Common.{[], ap, ◌∙◌, sym, ◌≡◌, refl, subst}
 use Rattle.xf_doc.specs.Shape.{shape_of}
 use Rattle.xf_work.specs.Held.{planted_shape}
 use Rattle.std.specs.Prelude.{replicate}
-use Rattle.xf_work.specs.Planting.{documents_grown, planted_by}
-use Rattle.xf_work.proofs.BegunLaws.{begun-is, begun-sound, shape-planted}
+use Rattle.xf_binds.specs.Table.{all_rolled_back}
+use Rattle.xf_controls.specs.Former.{Standing}
+use Rattle.xf_work.specs.Parts.{standing_of}
+use Rattle.xf_work.specs.Planting.{IsBegun, documents_grown, planted_by}
+use Rattle.xf_work.proofs.BegunLaws.{begun-is, begun-sound, first_tally, shape-planted}
 use Rattle.std.proofs.lemmas.Result.{err_from_is_err_and}
 use Rattle.xf_work.proofs.planting.planted.Goals as goal
 
@@ -16,8 +19,11 @@ pub invariant_of-result : goal.invariant_of-result
 invariant_of-result c =
     record {
       held = c.in_ok-bound_nodes.ensures;
+      bound = c.are_bound-is_bound.ensures;
+      steady = tt;
+      steady_before = tt;
       sound = begun-sound c.args.loaded c.plant_all.new.forest.forest c.in_ok-made.made c.len-count.result c.new-2.result c.in_ok-table.table c.in_ok-flags.flags.items
-          c.in_ok-old_flags.old_flags.items c.new-3.result c.in_ok-made.ensures.alone c.new-2.ensures c.in_ok-table.ensures
+          c.in_ok-old_flags.old_flags.items [] c.in_ok-made.ensures.alone c.new-2.ensures c.in_ok-table.ensures
           (c.in_ok-flags.ensures.items_if_clones_equal (λ y e. e) ∙ ap (replicate c.len-count.result) c.none.ensures)
           (c.in_ok-old_flags.ensures.items_if_clones_equal (λ y e. e) ∙ ap (replicate c.len-count.result) c.none-2.ensures)
           c.requires c.in_ok-made.ensures.hung (shape-planted c.args.loaded c.plant_all.new.forest.forest c.in_ok-made.made
@@ -30,11 +36,17 @@ pub returns : goal.returns
 returns c =
     let start : planted_by c.args.loaded ≡ documents_grown c.args.loaded c.args.loaded.form.tables.instances c.new-forest.result.forest 0 =
     ap (λ k. documents_grown c.args.loaded c.args.loaded.form.tables.instances k.forest 0) (sym c.new-forest.ensures) in
-    begun-is c.args.loaded c.plant_all.new.forest.forest c.in_ok-made.made c.len-count.result c.new-2.result c.in_ok-table.table c.in_ok-flags.flags.items
-    c.in_ok-old_flags.old_flags.items c.new-3.result c.in_ok-made.ensures.alone c.new-2.ensures c.in_ok-table.ensures
+    let made = first_tally c.in_ok-made.made in
+    subst (λ (s : Standing). IsBegun (record {
+      kept = record { standing = standing_of c.args.loaded c.new-2.result.kept (all_rolled_back c.in_ok-table.table) c.in_ok-old_flags.old_flags.items s.kept made; built = 0 };
+      now = standing_of c.args.loaded c.new-2.result.now c.in_ok-table.table c.in_ok-flags.flags.items s.now made;
+      built = 0;
+    }) (planted_by c.args.loaded)) (sym c.new-3.ensures)
+    (begun-is c.args.loaded c.plant_all.new.forest.forest c.in_ok-made.made c.len-count.result c.new-2.result c.in_ok-table.table c.in_ok-flags.flags.items
+    c.in_ok-old_flags.old_flags.items [] c.in_ok-made.ensures.alone c.new-2.ensures c.in_ok-table.ensures
     (c.in_ok-flags.ensures.items_if_clones_equal (λ y e. e) ∙ ap (replicate c.len-count.result) c.none.ensures)
     (c.in_ok-old_flags.ensures.items_if_clones_equal (λ y e. e) ∙ ap (replicate c.len-count.result) c.none-2.ensures)
-    c.len-count.ensures c.new-3.ensures (start ∙ c.in_ok-made.ensures.done)
+    c.len-count.ensures refl (start ∙ c.in_ok-made.ensures.done))
 
 pub returns-in_err-bound_nodes : goal.returns-in_err-bound_nodes
 returns-in_err-bound_nodes c =

@@ -1,12 +1,19 @@
-use Rattle.std.proofs.Common.{◌≡◌, [], sym, ap, ◌∙◌, subst}
+use Rattle.std.proofs.Common.{◌≡◌, List, [], map, None, Err, sym, ap, ◌∙◌, subst, ◌⊎◌}
 use Rattle.xf_doc.proofs.TextLaws.{in_forest}
+use Rattle.xf_lang.specs.declared.fault.EvalFault.TheVariants as eval
 use Rattle.xf_ui.specs.Interface.{interface_of}
+use Rattle.xf_form_machine.specs.Update as update
+use Rattle.xf_controls.specs.declared.copy.ControlCopy.{ControlCopy}
 use Rattle.xf_controls.specs.Known.{AreKnown}
+use Rattle.xf_controls.specs.Seen.{seen_copy}
 use Rattle.xf_controls.specs.Surrounded.{around_in}
 use Rattle.xf_work.specs.Around.{given_by, given_in, numbers_of}
+use Rattle.xf_work.specs.Does.{Finds, profile}
+use Rattle.xf_work.specs.Parts.{standing_of}
+use Rattle.xf_work.specs.Standing.{state_of}
 use Rattle.xf_work.proofs.AroundLaws.{around-stands}
 use Rattle.xf_work.proofs.FoundLaws.{given-found}
-use Rattle.xf_work.proofs.ShownLaws.{listed-same, list-found, long-found, none-long}
+use Rattle.xf_work.proofs.ShownLaws.{listed-same, list-found, told-found}
 use Rattle.xf_work.proofs.showing.shown.Goals.{After-controls}
 use Rattle.xf_work.proofs.showing.shown.Goals as goal
 
@@ -36,9 +43,12 @@ returns-in-Ok c = λ flags controls tally many.
     list-found l c.requires.loaded forest c.args.table.now flags controls tally many c.in-Ok.list c.within.result
     (sym (listed-same l c.requires.loaded forest c.args.table.now flags controls tally many _ (given-is (goal.at.returns-in-Ok c).After-controls)) ∙ c.in-Ok.ensures [] []) c.within.ensures
 
-pub returns-in-Err-Long : goal.returns-in-Err-Long
-returns-in-Err-Long c = λ flags controls tally many.
+pub returns : goal.returns
+returns c = λ flags controls tally many.
     let l = c.args.loaded.now in
     let forest = c.args.forest.now.forest in
-    long-found l c.requires.loaded forest c.args.table.now flags controls tally many
-    (sym (listed-same l c.requires.loaded forest c.args.table.now flags controls tally many _ (given-is (goal.at.returns-in-Err-Long c).After-controls)) ∙ none-long c.in-Err-Long.field-0 _ c.in-Err-Long.field-0-is (c.in-Err-Long.ensures [] []))
+    let fault = c.in-Err.fault in
+    subst (λ e. Finds {X = List ControlCopy} (map seen_copy) (Err e) (update.shown profile (state_of (standing_of l forest c.args.table.now flags controls tally)))) (sym c.told.ensures)
+    (told-found l c.requires.loaded forest c.args.table.now flags controls tally many fault
+    (subst (λ given. (fault ≡ eval.Memory) ⊎ ((fault ≡ eval.Long) × (given ≡ None))) (listed-same l c.requires.loaded forest c.args.table.now flags controls tally many _ (given-is (goal.at.returns c).After-controls))
+    (c.in-Err.ensures [] [])))

@@ -12,7 +12,8 @@ returns c =
     let before = string_bytes c.args.text.now in
     let after = string_bytes c.push_text.new.text in
     on_ok_weaker c.push_text.result
-    (λ (h : Writes w.loaded c.forest-forest.result.now.forest w.table w.controls before after).
-    subst (λ f. Writes w.loaded f w.table w.controls before after) c.forest-forest.ensures h w.flags.items w.tally c.self.invariant.sound.many
+    (λ (h : Writes w.loaded c.forest-forest.result.now.forest w.table c.list.result.now before after).
+    subst (λ f. Writes w.loaded f w.table w.shown.now before after) c.forest-forest.ensures
+    (subst (λ cs. Writes w.loaded c.forest-forest.result.now.forest w.table cs before after) c.list.ensures h) w.flags.items w.tally c.self.invariant.sound.many
     ∙ ap (λ (t : Twin). before ++ state_text profile (state_of t.now)) c.self.view_is)
     c.push_text.ensures

@@ -2,6 +2,7 @@ use Rattle.std.proofs.Common.{◌≡◌, ◌<◌, ◌≤◌, ◌+◌, suc, max, 
 use Rattle.std.proofs.lemmas.List.{with_items_is}
 use Rattle.std.specs.Prelude.{slice_set}
 use Rattle.std.specs.Vec.{with_items}
+use Rattle.std.specs.Bool.{OnTrue}
 use Rattle.xf_form_machine.specs.Behave as machine
 use Rattle.xf_work.specs.declared.flags.Flag.TheVariants.{Rebuild}
 use Rattle.xf_work.specs.Built.{IsRenewed, scope_at}
@@ -11,6 +12,7 @@ use Rattle.xf_work.specs.Flags.{none_due, without}
 use Rattle.xf_work.specs.Known.{Knows}
 use Rattle.xf_work.specs.Parts.{IsSound, standing_of}
 use Rattle.xf_work.specs.Standing.{state_of}
+use Rattle.xf_work.specs.Steady.{AreSteady}
 use Rattle.xf_work.proofs.DoesLaws.{does-any}
 use Rattle.xf_work.proofs.KnownLaws.{knows-marks}
 use Rattle.xf_work.proofs.Models.{flags-length, models-length}
@@ -46,6 +48,9 @@ invariant_of-self c =
           (sound-flags w.loaded w.draft c.rebuild.new.table w.flags.items w.old_flags.items (max w.built (suc c.args.model)) w.old_built s (with_items w.flags c.clear.new.flags).items (ap length (items ∙ cleared) ∙ many));
       now = knows-marks w.loaded w.draft.now w.table c.rebuild.new.table w.known c.in-Ok.ensures.models c.in-Ok.ensures.marks c.self.invariant.now;
       before = subst (λ t. Knows w.loaded w.draft.kept t w.old_known) (sym c.in-Ok.ensures.kept) c.self.invariant.before;
+      bound = c.self.invariant.bound;
+      steady = tt;
+      steady_before = subst (λ t. OnTrue w.was_steady (AreSteady w.loaded t w.shown.kept)) (sym c.in-Ok.ensures.kept) c.self.invariant.steady_before;
     }
 
 pub returns-in-Ok-clause-done : goal.returns-in-Ok-clause-done
@@ -57,8 +62,8 @@ returns-in-Ok-clause-done c =
     let items = with_items_is w.flags c.clear.new.flags (ap length cleared ∙ many ∙ sym w.flags.ok.0) in
     let done = subst (λ f. Rebuilds {X = Unit {0}} w.loaded f c.args.model w.table c.rebuild.new.table (Ok tt)) c.forest-forest.ensures c.in-Ok.ensures.done in
     ap (λ (t : Twin). machine.rebuild profile c.args.model (state_of t.now)) (sym c.self.view_is)
-    ∙ done w.flags.items w.controls w.tally c.self.invariant.sound.many
-    ∙ ap (λ fs. Ok (state_of (standing_of w.loaded w.draft.now c.rebuild.new.table fs w.controls w.tally))) (sym (items ∙ cleared))
+    ∙ done w.flags.items w.shown.now w.tally c.self.invariant.sound.many
+    ∙ ap (λ fs. Ok (state_of (standing_of w.loaded w.draft.now c.rebuild.new.table fs w.shown.now w.tally))) (sym (items ∙ cleared))
 
 pub returns-in-Ok-clause-models : goal.returns-in-Ok-clause-models
 returns-in-Ok-clause-models c =
@@ -75,6 +80,6 @@ pub returns-in-Err-clause-done : goal.returns-in-Err-clause-done
 returns-in-Err-clause-done c =
     let w = c.self.inside in
     let done = subst (λ f. Rebuilds {X = Unit {0}} w.loaded f c.args.model w.table c.rebuild.new.table (Err c.in-Err.fault)) c.forest-forest.ensures c.in-Err.ensures.done in
-    let after = standing_of w.loaded w.draft.now c.rebuild.new.table w.flags.items w.controls w.tally in
+    let after = standing_of w.loaded w.draft.now c.rebuild.new.table w.flags.items w.shown.now w.tally in
     subst (λ (t : Twin). Does {X = Unit {0}} (Err c.in-Err.fault) after (machine.rebuild profile c.args.model (state_of t.now))) c.self.view_is
-    (does-any c.in-Err.fault _ after (machine.rebuild profile c.args.model (state_of (standing_of w.loaded w.draft.now w.table w.flags.items w.controls w.tally))) (done w.flags.items w.controls w.tally c.self.invariant.sound.many))
+    (does-any c.in-Err.fault _ after (machine.rebuild profile c.args.model (state_of (standing_of w.loaded w.draft.now w.table w.flags.items w.shown.now w.tally))) (done w.flags.items w.shown.now w.tally c.self.invariant.sound.many))

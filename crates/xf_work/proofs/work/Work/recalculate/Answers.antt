@@ -3,6 +3,8 @@ use Rattle.std.proofs.lemmas.List.{with_items_is}
 use Rattle.std.proofs.lemmas.Result.{err_from_is_err_and}
 use Rattle.std.specs.Prelude.{slice_set}
 use Rattle.std.specs.Vec.{with_items}
+use Rattle.std.proofs.lemmas.Bool.{OnTrue_at}
+use Rattle.std.specs.Bool.{OnTrue}
 use Rattle.xf_doc.specs.Shape.{shape_of}
 use Rattle.xf_model.specs.Pertinent.{pertinent_count}
 use Rattle.xf_model.specs.Settled.{calculates}
@@ -18,13 +20,16 @@ use Rattle.xf_work.specs.Grown.{with_more}
 use Rattle.xf_pertinent.specs.Marked.{pertinent_marks}
 use Rattle.xf_pertinent.specs.OfTable.{changes_in}
 use Rattle.xf_work.specs.Known.{IsRemembered, Knows, MayBePassed}
-use Rattle.xf_work.specs.Parts.{IsSound, kept_or, standing_of}
+use Rattle.xf_work.specs.Parts.{IsSound, standing_of}
 use Rattle.xf_work.specs.Standing.{state_of}
+use Rattle.xf_work.specs.Steady.{AreSteady}
 use Rattle.xf_work.proofs.KnownLaws.{may-be_passed}
 use Rattle.xf_work.proofs.WholeLaws.{kept-set}
 use Rattle.xf_work.proofs.Models.{back-same, flags-length, models-length, set-length}
 use Rattle.xf_work.proofs.RecalculateLaws.{grown-refused, made-is, recalculate-done, recalculate-passed}
 use Rattle.xf_work.proofs.SoundLaws.{sound-draft, sound-flags, sound-kept, within-table}
+use Rattle.xf_work.proofs.SteadyLaws.{settled-steady}
+use Rattle.xf_work.proofs.work.Work.recalculate.Goals.{then-self, else-self}
 use Rattle.xf_work.proofs.work.Work.recalculate.Goals as goal
 
 pub settle_texts-requires-clause-passes : goal.settle_texts-requires-clause-passes
@@ -47,6 +52,9 @@ invariant_of-self c =
       sound = sound-draft w.loaded w.draft w.table w.flags.items w.old_flags.items w.built w.old_built c.self.invariant.sound c.settle_texts.new.draft c.in_err-truths.ensures.whole c.in_err-truths.ensures.kept;
       now = tt;
       before = subst (λ f. Knows w.loaded f (all_rolled_back w.table) w.old_known) (sym c.in_err-truths.ensures.kept) c.self.invariant.before;
+      bound = c.self.invariant.bound;
+      steady = c.self.invariant.steady;
+      steady_before = c.self.invariant.steady_before;
     }
 
 pub returns-in_err-truths-clause-done : goal.returns-in_err-truths-clause-done
@@ -54,10 +62,10 @@ returns-in_err-truths-clause-done c =
     let w = c.self.inside in
     let i = c.self.invariant.sound in
     let h = within-table w.table w.flags.items c.args.model i.many (subst (λ (t : Twin). c.args.model < length t.now.models) (sym c.self.view_is) c.requires.model) in
-    let after = standing_of w.loaded c.settle_texts.new.draft.now w.table w.flags.items w.controls w.tally in
+    let after = standing_of w.loaded c.settle_texts.new.draft.now w.table w.flags.items w.shown.now w.tally in
     let p = err_from_is_err_and c.from_residual-in_err-truths.result c.from_residual-in_err-truths.ensures.1 in
     rw (p.1, p.2) (subst (λ (t : Twin). Does {X = Unit {0}} (Err c.in_err-truths.field-0.0) after (machine.recalculate profile c.args.model (state_of t.now))) c.self.view_is
-    (recalculate-passed w.loaded i.loaded w.draft.now c.args.model w.table w.flags.items w.controls w.tally i.many h c.in_err-truths.field-0.0 c.in_err-truths.ensures.err after))
+    (recalculate-passed w.loaded i.loaded w.draft.now c.args.model w.table w.flags.items w.shown.now w.tally i.many h c.in_err-truths.field-0.0 c.in_err-truths.ensures.err after))
 
 pub invariant_of-self-in_err-self-inside : goal.invariant_of-self-in_err-self-inside
 invariant_of-self-in_err-self-inside c =
@@ -67,6 +75,9 @@ invariant_of-self-in_err-self-inside c =
       sound = sound-draft w.loaded w.draft w.table w.flags.items w.old_flags.items w.built w.old_built c.self.invariant.sound c.settle_texts.new.draft c.in_ok-truths.ensures.whole c.in_ok-truths.ensures.kept;
       now = tt;
       before = subst (λ f. Knows w.loaded f (all_rolled_back w.table) w.old_known) (sym c.in_ok-truths.ensures.kept) c.self.invariant.before;
+      bound = c.self.invariant.bound;
+      steady = c.self.invariant.steady;
+      steady_before = c.self.invariant.steady_before;
     }
 
 pub returns-in_err-self-inside-clause-done : goal.returns-in_err-self-inside-clause-done
@@ -74,13 +85,13 @@ returns-in_err-self-inside-clause-done c =
     let w = c.self.inside in
     let i = c.self.invariant.sound in
     let h = within-table w.table w.flags.items c.args.model i.many (subst (λ (t : Twin). c.args.model < length t.now.models) (sym c.self.view_is) c.requires.model) in
-    let after = standing_of w.loaded c.settle_texts.new.draft.now w.table w.flags.items w.controls w.tally in
+    let after = standing_of w.loaded c.settle_texts.new.draft.now w.table w.flags.items w.shown.now w.tally in
     let k = kept_at w.table c.args.model in
     let x = scope_at w.loaded w.draft.now c.args.model in
     let settled = c.in_ok-truths.ensures.ok in
     let p = err_from_is_err_and c.from_residual-in_err-self-inside.result c.from_residual-in_err-self-inside.ensures.1 in
     rw (p.1, p.2) (subst (λ (t : Twin). Does {X = Unit {0}} (Err c.in_err-self-inside.field-0.0) after (machine.recalculate profile c.args.model (state_of t.now))) c.self.view_is
-    (grown-refused w.loaded i.loaded w.draft.now c.args.model w.table w.flags.items w.controls w.tally i.many h c.in_err-self-inside.field-0.0 (c.next_number.result - c.next_number-before.result) c.pertinent_count-count.result
+    (grown-refused w.loaded i.loaded w.draft.now c.args.model w.table w.flags.items w.shown.now w.tally i.many h c.in_err-self-inside.field-0.0 (c.next_number.result - c.next_number-before.result) c.pertinent_count-count.result
     (ap (λ n. n - c.next_number-before.result) (c.next_number.ensures ∙ ap (λ f. f.next) c.forest-2.ensures) ∙ ap (λ n. c.settle_texts.new.draft.now.next - n) (c.next_number-before.ensures ∙ ap (λ f. f.next) c.forest.ensures)
     ∙ made-is x k.entries w.draft.now c.settle_texts.new.draft.now c.in_ok-truths.truths settled)
     settled.within c.in_err-self-inside.ensures after))
@@ -119,6 +130,13 @@ invariant_of-self-2 c =
       before = subst (λ x. Knows w.loaded d.kept (all_rolled_back x) w.old_known) (sym c.recalculated.ensures)
           (subst (λ x. Knows w.loaded d.kept x w.old_known) (sym (back-same w.table c.args.model k h refl))
           (subst (λ f. Knows w.loaded f (all_rolled_back w.table) w.old_known) (sym c.in_ok-truths.ensures.kept) c.self.invariant.before));
+      bound = c.self.invariant.bound;
+      steady = elim c.if-self.branch [
+        | then-self t ↦ subst (λ b. OnTrue b (AreSteady w.loaded c.recalculated.new.self w.shown.now)) (sym t.self-is) (settled-steady w.loaded w.table w.shown.now (OnTrue_at t.if-self.true c.self.invariant.steady) t.keeps_properties-self-inside.result c.args.model c.in_ok-truths.truths c.recalculated.new.self c.recalculated.ensures t.keeps_properties-self-inside.ensures)
+        | else-self e ↦ subst (λ b. OnTrue b (AreSteady w.loaded c.recalculated.new.self w.shown.now)) (sym (e.self-is ∙ e.if-self.false)) tt
+      ];
+      steady_before = subst (λ x. OnTrue w.was_steady (AreSteady w.loaded (all_rolled_back x) w.shown.kept)) (sym c.recalculated.ensures)
+          (subst (λ x. OnTrue w.was_steady (AreSteady w.loaded x w.shown.kept)) (sym (back-same w.table c.args.model k h refl)) c.self.invariant.steady_before);
     }
 
 pub returns-clause-done : goal.returns-clause-done
@@ -141,12 +159,12 @@ returns-clause-done c =
     ap (λ n. n - c.next_number-before.result) (c.next_number.ensures ∙ ap (λ f. f.next) c.forest-2.ensures) ∙ ap (λ n. d.next - n) (c.next_number-before.ensures ∙ ap (λ f. f.next) c.forest.ensures)
     ∙ made-is x k.entries w.draft.now d c.in_ok-truths.truths settled in
     ap (λ (t : Twin). machine.recalculate profile c.args.model (state_of t.now)) (sym c.self.view_is)
-    ∙ recalculate-done w.loaded i.loaded w.draft.now c.args.model w.table w.flags.items w.controls w.tally i.many h d c.in_ok-truths.truths settled c.pertinent_count-count.result
+    ∙ recalculate-done w.loaded i.loaded w.draft.now c.args.model w.table w.flags.items w.shown.now w.tally i.many h d c.in_ok-truths.truths settled c.pertinent_count-count.result
     (counted ∙ ap (λ f. pertinent_count x (shape_of f.nodes) k.entries (changes_in k)) c.forest-forest.ensures)
     (ap (λ n. nat_lt (2 ^ 32) (w.tally.made + n)) (sym made) ∙ c.in_ok-self-inside.ensures.1)
-    ∙ ap (λ t. Ok (state_of (standing_of w.loaded d t gs w.controls (with_more (length (calculates k.entries)) c.pertinent_count-count.result w.tally)))) (sym c.recalculated.ensures)
-    ∙ ap (λ fs. Ok (state_of (standing_of w.loaded d c.recalculated.new.self fs w.controls (with_more (length (calculates k.entries)) c.pertinent_count-count.result w.tally)))) (sym (items ∙ cleared))
-    ∙ ap (λ u. Ok (state_of (standing_of w.loaded d c.recalculated.new.self (with_items w.flags c.clear.new.flags).items w.controls u))) (ap (λ n. with_more n c.pertinent_count-count.result w.tally) (sym made) ∙ sym c.in_ok-self-inside.ensures.0)
+    ∙ ap (λ t. Ok (state_of (standing_of w.loaded d t gs w.shown.now (with_more (length (calculates k.entries)) c.pertinent_count-count.result w.tally)))) (sym c.recalculated.ensures)
+    ∙ ap (λ fs. Ok (state_of (standing_of w.loaded d c.recalculated.new.self fs w.shown.now (with_more (length (calculates k.entries)) c.pertinent_count-count.result w.tally)))) (sym (items ∙ cleared))
+    ∙ ap (λ u. Ok (state_of (standing_of w.loaded d c.recalculated.new.self (with_items w.flags c.clear.new.flags).items w.shown.now u))) (ap (λ n. with_more n c.pertinent_count-count.result w.tally) (sym made) ∙ sym c.in_ok-self-inside.ensures.0)
 
 pub returns-clause-kept : goal.returns-clause-kept
 returns-clause-kept c =
@@ -154,8 +172,8 @@ returns-clause-kept c =
     let h = within-table w.table w.flags.items c.args.model c.self.invariant.sound.many (subst (λ (t : Twin). c.args.model < length t.now.models) (sym c.self.view_is) c.requires.model) in
     let k = recalculated c.in_ok-truths.truths (kept_at w.table c.args.model) in
     let table : all_rolled_back c.recalculated.new.self ≡ all_rolled_back w.table = ap all_rolled_back c.recalculated.ensures ∙ back-same w.table c.args.model k h refl in
-    ap (λ f. record { standing = standing_of w.loaded f (all_rolled_back c.recalculated.new.self) w.old_flags.items (kept_or w.controls w.old_controls) w.old_tally; built = w.old_built }) c.in_ok-truths.ensures.kept
-    ∙ ap (λ t. record { standing = standing_of w.loaded w.draft.kept t w.old_flags.items (kept_or w.controls w.old_controls) w.old_tally; built = w.old_built }) table
+    ap (λ f. record { standing = standing_of w.loaded f (all_rolled_back c.recalculated.new.self) w.old_flags.items w.shown.kept w.old_tally; built = w.old_built }) c.in_ok-truths.ensures.kept
+    ∙ ap (λ t. record { standing = standing_of w.loaded w.draft.kept t w.old_flags.items w.shown.kept w.old_tally; built = w.old_built }) table
     ∙ ap (λ (x : Twin). x.kept) c.self.view_is
 
 pub returns-clause-models : goal.returns-clause-models

@@ -1,10 +1,12 @@
 use Rattle.std.proofs.Common.{◌≡◌, length, sym, ap, ◌∙◌}
 use Rattle.std.proofs.lemmas.List.{with_items_is}
 use Rattle.xf_binds.specs.Table.{all_rolled_back}
+use Rattle.xf_controls.specs.Former.{Standing}
 use Rattle.xf_work.specs.Does.{Twin}
-use Rattle.xf_work.specs.Parts.{kept_or, standing_of}
+use Rattle.xf_work.specs.Parts.{standing_of}
 use Rattle.xf_work.proofs.KnownEnds.{back-known}
 use Rattle.xf_work.proofs.EndLaws.{back-sound, back-kept}
+use Rattle.xf_work.proofs.SteadyLaws.{back-steady}
 use Rattle.xf_work.proofs.work.Work.roll_back.Goals as goal
 
 pub invariant_of-self : goal.invariant_of-self
@@ -14,8 +16,12 @@ invariant_of-self c =
     let flags : c.copy.new.to ≡ w.old_flags.items = c.copy.ensures ∙ c.as_slice.ensures.value in
     let items = with_items_is w.flags c.copy.new.to (ap length flags ∙ i.kept ∙ sym w.flags.ok.0) in
     let known = back-known w.loaded w.draft w.table w.old_known c.self.invariant.before c.roll_back.new.self c.roll_back-2.new.self c.roll_back.ensures c.roll_back-2.ensures in
+    let steady = back-steady w.loaded w.table w.shown w.was_steady c.self.invariant.steady_before c.roll_back-2.new.self c.roll_back-3.new.self c.roll_back-2.ensures c.roll_back-3.ensures in
     record {
       held = c.self.invariant.held;
+      bound = c.self.invariant.bound;
+      steady = steady.0;
+      steady_before = steady.1;
       sound = back-sound w.loaded w.draft w.table w.flags.items w.old_flags.items w.built w.old_built i c.roll_back.new.self c.roll_back-2.new.self _ c.roll_back.ensures c.roll_back-2.ensures (items ∙ flags);
       now = known.0;
       before = known.1;
@@ -26,7 +32,6 @@ returns-clause-kept c =
     let w = c.self.inside in
     let d = c.roll_back.new.self in
     let t = c.roll_back-2.new.self in
-    ap (λ o. record { standing = standing_of w.loaded d.kept (all_rolled_back t) w.old_flags.items (kept_or c.put_back.new.now o) w.old_tally; built = w.old_built }) c.put_back.ensures.old
-    ∙ ap (λ cs. record { standing = standing_of w.loaded d.kept (all_rolled_back t) w.old_flags.items cs w.old_tally; built = w.old_built }) c.put_back.ensures.now
-    ∙ ap (λ s. record { standing = s; built = w.old_built }) (back-kept w.loaded w.table w.old_flags.items (kept_or w.controls w.old_controls) w.old_tally d w.draft t c.roll_back.ensures c.roll_back-2.ensures)
+    ap (λ (s : Standing). record { standing = standing_of w.loaded d.kept (all_rolled_back t) w.old_flags.items s.kept w.old_tally; built = w.old_built }) c.roll_back-3.ensures
+    ∙ ap (λ s. record { standing = s; built = w.old_built }) (back-kept w.loaded w.table w.old_flags.items w.shown.kept w.old_tally d w.draft t c.roll_back.ensures c.roll_back-2.ensures)
     ∙ ap (λ (x : Twin). x.kept) c.self.view_is

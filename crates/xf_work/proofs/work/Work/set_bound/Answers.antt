@@ -3,6 +3,7 @@ use Rattle.std.proofs.lemmas.List.{with_items_is}
 use Rattle.std.proofs.lemmas.Result.{err_from_is_err_and}
 use Rattle.std.specs.Prelude.{option_map}
 use Rattle.std.specs.Vec.{with_items}
+use Rattle.std.specs.Bool.{OnTrue}
 use Rattle.xf_doc.specs.declared.content.Kind.TheVariants.{Attribute, Element}
 use Rattle.xf_doc.specs.declared.node.NodeId.{NodeId}
 use Rattle.xf_doc.specs.Forest.{Forest}
@@ -19,14 +20,16 @@ use Rattle.xf_undo.specs.Draft.{Draft}
 use Rattle.xf_work.specs.Does.{Does, Twin, profile}
 use Rattle.xf_work.specs.Grown.{with_more}
 use Rattle.xf_work.specs.Known.{Knows}
-use Rattle.xf_work.specs.Parts.{IsSound, kept_or, standing_of}
+use Rattle.xf_work.specs.Parts.{IsSound, standing_of}
 use Rattle.xf_work.specs.Setting.{MayBeSet, due, holder_of, is_other, marked}
 use Rattle.xf_work.specs.Standing.{state_of}
+use Rattle.xf_work.specs.Steady.{AreSteady}
 use Rattle.xf_work.proofs.SetKnown.{knows-text}
 use Rattle.xf_work.proofs.MarkedLaws.{due-length, marked-back, marked-length, sound-marked, text-whole}
 use Rattle.xf_work.proofs.Models.{models-length}
 use Rattle.xf_work.proofs.SetLaws.{grown-refused, limit-refused, may-refused, set-done}
 use Rattle.xf_work.proofs.SoundLaws.{sound-draft}
+use Rattle.xf_work.proofs.SteadyLaws.{marked-steady}
 use Rattle.xf_work.proofs.work.Work.set_bound.Goals.{After-are_trees-2, In_ok-may_set}
 use Rattle.xf_work.proofs.work.Work.set_bound.Goals as goal
 
@@ -56,7 +59,7 @@ returns-in_err-may_set-clause-done c =
     let p = err_from_is_err_and c.from_residual.result c.from_residual.ensures.1 in
     rw (p.1, p.2) (subst (λ o. Does {X = Unit {0}} (Err told) c.args.self.now.now (bound_set profile c.args.text.now (option_map (λ (m : NodeId). m.number) o) (state_of c.args.self.now.now))) (sym c.in-Some.is)
     (subst (λ (t : Twin). Does {X = Unit {0}} (Err told) c.args.self.now.now (bound_set profile c.args.text.now (Some n) (state_of t.now))) c.self.view_is
-    (may-refused w.loaded w.draft.now w.table w.flags.items w.controls w.tally c.self.invariant.sound.many c.args.text.now n told here c.args.self.now.now)))
+    (may-refused w.loaded w.draft.now w.table w.flags.items w.shown.now w.tally c.self.invariant.sound.many c.args.text.now n told here c.args.self.now.now)))
 
 pub holder-requires : goal.holder-requires
 holder-requires c =
@@ -75,12 +78,12 @@ returns-in_err-made-clause-done c =
     let w = c.self.inside in
     let n = c.in-Some.node.number in
     let told = c.in_err-made.field-0.0 in
-    let after = standing_of w.loaded c.set_text.new.draft.now w.table w.flags.items w.controls w.tally in
+    let after = standing_of w.loaded c.set_text.new.draft.now w.table w.flags.items w.shown.now w.tally in
     let able = settable (goal.at.returns-in_err-made-clause-done c).In_ok-may_set in
     let p = err_from_is_err_and c.from_residual-in_err-made.result c.from_residual-in_err-made.ensures.1 in
     rw (p.1, p.2) (subst (λ o. Does {X = Unit {0}} (Err told) after (bound_set profile c.args.text.now (option_map (λ (m : NodeId). m.number) o) (state_of c.args.self.now.now))) (sym c.in-Some.is)
     (subst (λ (t : Twin). Does {X = Unit {0}} (Err told) after (bound_set profile c.args.text.now (Some n) (state_of t.now))) c.self.view_is
-    (limit-refused w.loaded w.draft.now w.table w.flags.items w.controls w.tally c.self.invariant.sound.many c.args.text.now n able.childless told c.in_err-made.ensures.done after)))
+    (limit-refused w.loaded w.draft.now w.table w.flags.items w.shown.now w.tally c.self.invariant.sound.many c.args.text.now n able.childless told c.in_err-made.ensures.done after)))
 
 pub invariant_of-self : goal.invariant_of-self
 invariant_of-self c =
@@ -90,6 +93,9 @@ invariant_of-self c =
       sound = subst (λ d. IsSound w.loaded d w.table w.flags.items w.old_flags.items w.built w.old_built) (sym c.in_err-made.ensures.err) c.self.invariant.sound;
       now = tt;
       before = subst (λ (d : Draft). Knows w.loaded d.kept (all_rolled_back w.table) w.old_known) (sym c.in_err-made.ensures.err) c.self.invariant.before;
+      bound = c.self.invariant.bound;
+      steady = c.self.invariant.steady;
+      steady_before = c.self.invariant.steady_before;
     }
 
 pub invariant_of-self-in_err-self-inside : goal.invariant_of-self-in_err-self-inside
@@ -100,6 +106,9 @@ invariant_of-self-in_err-self-inside c =
       sound = sound (goal.at.invariant_of-self-in_err-self-inside c).After-are_trees-2;
       now = tt;
       before = subst (λ f. Knows w.loaded f (all_rolled_back w.table) w.old_known) (sym (ap (λ (x : Draft). x.kept) c.in_ok-made.ensures.done.0)) c.self.invariant.before;
+      bound = c.self.invariant.bound;
+      steady = c.self.invariant.steady;
+      steady_before = c.self.invariant.steady_before;
     }
 
 pub returns-in_err-self-inside-clause-done : goal.returns-in_err-self-inside-clause-done
@@ -107,13 +116,13 @@ returns-in_err-self-inside-clause-done c =
     let w = c.self.inside in
     let n = c.in-Some.node.number in
     let told = c.in_err-self-inside.field-0.0 in
-    let after = standing_of w.loaded c.set_text.new.draft.now w.table w.flags.items w.controls w.tally in
+    let after = standing_of w.loaded c.set_text.new.draft.now w.table w.flags.items w.shown.now w.tally in
     let able = settable (goal.at.returns-in_err-self-inside-clause-done c).In_ok-may_set in
     let set = c.in_ok-made.ensures.done in
     let p = err_from_is_err_and c.from_residual-in_err-self-inside.result c.from_residual-in_err-self-inside.ensures.1 in
     rw (p.1, p.2) (subst (λ o. Does {X = Unit {0}} (Err told) after (bound_set profile c.args.text.now (option_map (λ (m : NodeId). m.number) o) (state_of c.args.self.now.now))) (sym c.in-Some.is)
     (subst (λ (t : Twin). Does {X = Unit {0}} (Err told) after (bound_set profile c.args.text.now (Some n) (state_of t.now))) c.self.view_is
-    (grown-refused w.loaded w.draft.now w.table w.flags.items w.controls w.tally c.self.invariant.sound.many c.args.text.now n able.childless set.2 told c.in_ok-made.made set.1 c.in_err-self-inside.ensures after)))
+    (grown-refused w.loaded w.draft.now w.table w.flags.items w.shown.now w.tally c.self.invariant.sound.many c.args.text.now n able.childless set.2 told c.in_ok-made.made set.1 c.in_err-self-inside.ensures after)))
 
 pub invariant_of-self-in_err-mark : goal.invariant_of-self-in_err-mark
 invariant_of-self-in_err-mark c =
@@ -127,6 +136,9 @@ invariant_of-self-in_err-mark c =
       now = tt;
       before = subst (λ t. Knows w.loaded c.set_text.new.draft.kept (all_rolled_back t) w.old_known) (sym c.in_err-mark.ensures.table)
           (subst (λ f. Knows w.loaded f (all_rolled_back w.table) w.old_known) (sym (ap (λ (x : Draft). x.kept) c.in_ok-made.ensures.done.0)) c.self.invariant.before);
+      bound = c.self.invariant.bound;
+      steady = subst (λ t. OnTrue w.is_steady (AreSteady w.loaded t w.shown.now)) (sym c.in_err-mark.ensures.table) c.self.invariant.steady;
+      steady_before = subst (λ t. OnTrue w.was_steady (AreSteady w.loaded (all_rolled_back t) w.shown.kept)) (sym c.in_err-mark.ensures.table) c.self.invariant.steady_before;
     }
 
 pub invariant_of-self-2 : goal.invariant_of-self-2
@@ -155,6 +167,10 @@ invariant_of-self-2 c =
       before = subst (λ t. Knows w.loaded c.set_text.new.draft.kept (all_rolled_back t) w.old_known) (sym marks.marks)
           (subst (λ t. Knows w.loaded c.set_text.new.draft.kept t w.old_known) (sym (marked-back holder other n w.table))
           (subst (λ f. Knows w.loaded f (all_rolled_back w.table) w.old_known) (sym (ap (λ (x : Draft). x.kept) is)) c.self.invariant.before));
+      bound = c.self.invariant.bound;
+      steady = subst (λ t. OnTrue w.is_steady (AreSteady w.loaded t w.shown.now)) (sym marks.marks) (marked-steady w.loaded w.table w.shown.now w.is_steady c.self.invariant.steady holder other n);
+      steady_before = subst (λ t. OnTrue w.was_steady (AreSteady w.loaded (all_rolled_back t) w.shown.kept)) (sym marks.marks)
+          (subst (λ t. OnTrue w.was_steady (AreSteady w.loaded t w.shown.kept)) (sym (marked-back holder other n w.table)) c.self.invariant.steady_before);
     }
 
 pub returns-clause-done : goal.returns-clause-done
@@ -177,13 +193,13 @@ returns-clause-done c =
     let told : other ≡ is_other (visits w.draft.now.nodes) n text = c.in_ok-is_other.ensures ∙ ap (λ (f : Forest). is_other (visits f.nodes) n text) c.forest-forest.ensures in
     ap (λ o. bound_set profile text (option_map (λ (m : NodeId). m.number) o) (state_of c.args.self.now.now)) c.in-Some.is
     ∙ ap (λ (t : Twin). bound_set profile text (Some n) (state_of t.now)) (sym c.self.view_is)
-    ∙ set-done w.loaded w.draft.now w.table w.flags.items w.controls w.tally c.self.invariant.sound.many text n able.childless set.2 (ap (λ m. nat_lt (2 ^ 32) (w.tally.made + m)) (sym set.1) ∙ c.in_ok-self-inside.ensures.1)
-    ∙ ap (λ h. Ok (state_of (standing_of w.loaded after (marked h (is_other (visits w.draft.now.nodes) n text) n w.table) (due h w.flags.items) w.controls (with_more made 0 w.tally)))) (sym held)
-    ∙ ap (λ o. Ok (state_of (standing_of w.loaded after (marked holder o n w.table) (due holder w.flags.items) w.controls (with_more made 0 w.tally)))) (sym told)
-    ∙ ap (λ (x : Draft). Ok (state_of (standing_of w.loaded x.now (marked holder other n w.table) (due holder w.flags.items) w.controls (with_more made 0 w.tally)))) (sym set.0)
-    ∙ ap (λ t. Ok (state_of (standing_of w.loaded d.now t (due holder w.flags.items) w.controls (with_more made 0 w.tally)))) (sym marks.marks)
-    ∙ ap (λ fs. Ok (state_of (standing_of w.loaded d.now c.mark.new.table fs w.controls (with_more made 0 w.tally)))) (sym (items ∙ flags))
-    ∙ ap (λ u. Ok (state_of (standing_of w.loaded d.now c.mark.new.table (with_items w.flags c.mark.new.flags).items w.controls u))) (ap (λ m. with_more m 0 w.tally) (sym set.1) ∙ sym c.in_ok-self-inside.ensures.0)
+    ∙ set-done w.loaded w.draft.now w.table w.flags.items w.shown.now w.tally c.self.invariant.sound.many text n able.childless set.2 (ap (λ m. nat_lt (2 ^ 32) (w.tally.made + m)) (sym set.1) ∙ c.in_ok-self-inside.ensures.1)
+    ∙ ap (λ h. Ok (state_of (standing_of w.loaded after (marked h (is_other (visits w.draft.now.nodes) n text) n w.table) (due h w.flags.items) w.shown.now (with_more made 0 w.tally)))) (sym held)
+    ∙ ap (λ o. Ok (state_of (standing_of w.loaded after (marked holder o n w.table) (due holder w.flags.items) w.shown.now (with_more made 0 w.tally)))) (sym told)
+    ∙ ap (λ (x : Draft). Ok (state_of (standing_of w.loaded x.now (marked holder other n w.table) (due holder w.flags.items) w.shown.now (with_more made 0 w.tally)))) (sym set.0)
+    ∙ ap (λ t. Ok (state_of (standing_of w.loaded d.now t (due holder w.flags.items) w.shown.now (with_more made 0 w.tally)))) (sym marks.marks)
+    ∙ ap (λ fs. Ok (state_of (standing_of w.loaded d.now c.mark.new.table fs w.shown.now (with_more made 0 w.tally)))) (sym (items ∙ flags))
+    ∙ ap (λ u. Ok (state_of (standing_of w.loaded d.now c.mark.new.table (with_items w.flags c.mark.new.flags).items w.shown.now u))) (ap (λ m. with_more m 0 w.tally) (sym set.1) ∙ sym c.in_ok-self-inside.ensures.0)
 
 pub returns-clause-kept : goal.returns-clause-kept
 returns-clause-kept c =
@@ -192,8 +208,8 @@ returns-clause-kept c =
     let holder = c.in_ok-holder.holder in
     let other = c.in_ok-is_other.is_other in
     let table : all_rolled_back c.mark.new.table ≡ all_rolled_back w.table = ap all_rolled_back c.in_ok-mark.ensures.ok.marks ∙ marked-back holder other n w.table in
-    ap (λ (x : Draft). record { standing = standing_of w.loaded x.kept (all_rolled_back c.mark.new.table) w.old_flags.items (kept_or w.controls w.old_controls) w.old_tally; built = w.old_built }) c.in_ok-made.ensures.done.0
-    ∙ ap (λ t. record { standing = standing_of w.loaded w.draft.kept t w.old_flags.items (kept_or w.controls w.old_controls) w.old_tally; built = w.old_built }) table
+    ap (λ (x : Draft). record { standing = standing_of w.loaded x.kept (all_rolled_back c.mark.new.table) w.old_flags.items w.shown.kept w.old_tally; built = w.old_built }) c.in_ok-made.ensures.done.0
+    ∙ ap (λ t. record { standing = standing_of w.loaded w.draft.kept t w.old_flags.items w.shown.kept w.old_tally; built = w.old_built }) table
     ∙ ap (λ (x : Twin). x.kept) c.self.view_is
 
 pub returns-clause-models : goal.returns-clause-models

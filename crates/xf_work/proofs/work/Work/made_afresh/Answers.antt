@@ -7,7 +7,7 @@ use Rattle.xf_work.specs.Calls.{Shows}
 use Rattle.xf_work.specs.Does.{Finds, Twin, profile}
 use Rattle.xf_work.specs.Held.{planted_shape}
 use Rattle.xf_work.specs.Standing.{state_of}
-use Rattle.xf_work.proofs.work.Work.shown.Goals as goal
+use Rattle.xf_work.proofs.work.Work.made_afresh.Goals as goal
 
 pub shown-requires-clause-hung : goal.shown-requires-clause-hung
 shown-requires-clause-hung c = subst (λ f. are_hung f.nodes ≡ true) (sym c.forest.ensures) c.self.invariant.sound.now.hung
@@ -22,4 +22,4 @@ pub returns : goal.returns
 returns c =
     let w = c.self.inside in
     subst (λ (t : Twin). Finds (map seen_copy) c.shown.result (update.shown profile (state_of t.now))) c.self.view_is
-    (subst (λ f. Shows w.loaded f w.table c.shown.result) c.forest.ensures c.shown.ensures w.flags.items w.controls w.tally c.self.invariant.sound.many)
+    (subst (λ f. Shows w.loaded f w.table c.shown.result) c.forest.ensures c.shown.ensures w.flags.items w.shown.now w.tally c.self.invariant.sound.many)

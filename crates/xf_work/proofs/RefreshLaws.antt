@@ -1,0 +1,150 @@
+-- Controls that are made afresh, or of which the values of their nodes alone are looked at.
+use Rattle.std.proofs.Common.{◌≡◌, ℕ, Bool, true, false, ◌&&◌, List, [], ◌∷◌, map, length, nat_lt, Option, Some, None, Result, Ok, Err, refl, sym, ap, ◌∙◌, subst, ◌⊎◌, inl, inr}
+use Rattle.std.specs.Bool.{OnTrue}
+use Rattle.std.specs.Prelude.{option_map}
+use Rattle.xf_doc.specs.declared.node.NodeId.{NodeId}
+use Rattle.xf_doc.specs.Forest.{Forest}
+use Rattle.xf_doc.specs.WellFormed.{HasTrees}
+use Rattle.xf_lang.specs.declared.fault.EvalFault.{EvalFault}
+use Rattle.xf_lang.specs.declared.fault.EvalFault.TheVariants as eval
+use Rattle.xf_ui.specs.Copies as copies
+use Rattle.xf_ui.specs.Interface.{interface_of}
+use Rattle.xf_ui.specs.Notifications.{notifications}
+use Rattle.xf_form_machine.specs.declared.limit.LimitWord.TheVariants.{Long}
+use Rattle.xf_form_machine.specs.Flow.{◌>>=◌}
+use Rattle.xf_form_machine.specs.Refusal.{Refused}
+use Rattle.xf_form_machine.specs.State.{State}
+use Rattle.xf_form_machine.specs.Update as update
+use Rattle.xf_form_machine.specs.Update.{no_refresh}
+use Rattle.xf_binds.specs.Kept.{Kept}
+use Rattle.xf_controls.specs.declared.copy.ControlCopy.{ControlCopy}
+use Rattle.xf_controls.specs.declared.known.Known.{Known}
+use Rattle.xf_controls.specs.Bound.{AllBound}
+use Rattle.xf_controls.specs.Known.{known_at}
+use Rattle.xf_controls.specs.Renewed.{renewed}
+use Rattle.xf_controls.specs.Rising.{is_rising}
+use Rattle.xf_controls.specs.Seen.{seen_copy}
+use Rattle.xf_controls.proofs.RenewedLaws.{copies-renewed, copies-there, renewed-again, renewed-count, renewed-rising, renewed-there}
+use Rattle.xf_valid.specs.Nodes.{marks_in}
+use Rattle.xf_valid.proofs.ShapeLaws.{marks-shaped}
+use Rattle.xf_report.specs.declared.refusal.Refusal.{Refusal}
+use Rattle.xf_report.specs.declared.refusal.Refusal.TheVariants.{Limit}
+use Rattle.xf_loader.specs.declared.loaded.Loaded.{Loaded}
+use Rattle.xf_work.specs.declared.fault.WorkFault.{WorkFault}
+use Rattle.xf_work.specs.declared.fault.WorkFault.TheVariants as fault
+use Rattle.xf_work.specs.declared.flags.Flags.{Flags}
+use Rattle.xf_work.specs.declared.tally.Tally.{Tally}
+use Rattle.xf_work.specs.Around.{given_in}
+use Rattle.xf_work.specs.Built.{IsWhole}
+use Rattle.xf_work.specs.Calls.{AreRefreshed, AreShown, Refreshes, Renews, ShowsOthers, now_shown, long_or_memory}
+use Rattle.xf_work.specs.Does.{Does, Finds, IsRefused, profile}
+use Rattle.xf_work.specs.Flags.{without_refresh}
+use Rattle.xf_work.specs.Held.{IsHeld, around_over}
+use Rattle.xf_work.specs.Parts.{IsLoaded, standing_of}
+use Rattle.xf_work.specs.Standing.{Standing, state_of}
+use Rattle.xf_work.specs.Steady.{AreSteady, IsShaped}
+use Rattle.xf_work.proofs.Models.{none-refreshed}
+use Rattle.xf_work.proofs.ShownLaws.{long-found, shown-given, shown-listed}
+
+pub whole-shaped : (l : Loaded) (forest : Forest) (table : List Kept) (built : ℕ) → IsWhole l forest table built → HasTrees forest → IsShaped l forest
+whole-shaped l forest table built w trees = record { trees = trees; hung = w.hung; shape = w.shape }
+
+-- ---- copies that got the values of their nodes
+
+pub again-steady : (l : Loaded) (table : List Kept) (forest : Forest) (list after : List ControlCopy) → renewed forest.nodes list ≡ Some after → AreSteady l table list → AreSteady l table after
+again-steady l table forest list after e s = record {
+  over = λ other shaped marks is cases indexes. s.over other shaped marks is cases indexes ∙ ap (option_map (map seen_copy)) (sym (renewed-again forest.nodes other.nodes list after e));
+  there = λ other shaped. renewed-there forest.nodes other.nodes list after e (s.there other shaped);
+  rising = renewed-rising forest.nodes list after e ∙ s.rising;
+  few = ap (nat_lt 65536) (renewed-count forest.nodes list after e) ∙ s.few;
+}
+
+module _ (l : Loaded) (is : IsLoaded l) (forest : Forest) (table : List Kept) (flags : List Flags) (controls : List ControlCopy) (tally : Tally) (many : length table ≡ length flags)
+    (shaped : IsShaped l forest) where
+  abbrev here : State
+  here = state_of (standing_of l forest table flags controls tally)
+
+  -- ---- made afresh
+
+  made-steady : (known : List Known) (list : List ControlCopy) → IsHeld l known → AllBound (interface_of l.form) known → is_rising list ≡ true → update.shown profile here ≡ Ok (map seen_copy list) → AreSteady l table list
+  made-steady known list held bound rising e = record {
+    over = λ other s marks same cases indexes.
+        copies-renewed l.form (given_in l.form.tables.instances l.prefixes forest) (given_in l.form.tables.instances l.prefixes other) forest.nodes other.nodes (marks_in table forest.nodes) marks known list [] cases [] indexes
+        is.plain (record { indexes = refl; event = refl }) (record { indexes = refl; event = refl }) bound
+        (held.over forest shaped.trees shaped.hung shaped.shape) (held.over other s.trees s.hung s.shape) (λ n k at. same k.number ∙ alike other s n k at) given.0;
+    there = λ other s.
+        copies-there l.form (given_in l.form.tables.instances l.prefixes forest) (given_in l.form.tables.instances l.prefixes other) forest.nodes other.nodes (marks_in table forest.nodes) (marks_in table other.nodes) known list [] [] [] []
+        is.plain (record { indexes = refl; event = refl }) (record { indexes = refl; event = refl }) bound
+        (held.over forest shaped.trees shaped.hung shaped.shape) (held.over other s.trees s.hung s.shape) (alike other s) given.0;
+    rising = rising;
+    few = given.1;
+  }
+    where
+      given : (copies.copies (interface_of l.form) (around_over l forest) (marks_in table forest.nodes) [] [] ≡ Some (map seen_copy list)) × (nat_lt 65536 (copies.copy_count (map seen_copy list)) ≡ false)
+      given = shown-given l is forest table flags controls tally many (map seen_copy list) e
+
+      alike : (other : Forest) → IsShaped l other → (n : ℕ) (k : NodeId) → known_at known n ≡ Some (Some k) → marks_in table other.nodes k.number ≡ marks_in table forest.nodes k.number
+      alike other s n k at = marks-shaped table forest other k.number shaped.trees s.trees (s.shape ∙ sym shaped.shape) (held.solid forest shaped.trees shaped.hung shaped.shape n k at)
+
+  pub taken-steady : (known : List Known) (list : List ControlCopy) (rising : Bool) → IsHeld l known → AllBound (interface_of l.form) known → rising ≡ is_rising list → update.shown profile here ≡ Ok (map seen_copy list)
+      → OnTrue rising (AreSteady l table list)
+  taken-steady known list false held bound h e = tt
+  taken-steady known list true held bound h e = made-steady known list held bound (sym h) e
+
+  -- ---- by the values of nodes
+
+  module _ (list : List ControlCopy) (s : AreSteady l table list) where
+    given-now : copies.copies (interface_of l.form) (around_over l forest) (marks_in table forest.nodes) [] [] ≡ option_map (map seen_copy) (renewed forest.nodes list)
+    given-now = s.over forest shaped (marks_in table forest.nodes) (λ n. refl) [] []
+
+    pub renewed-shown : (after : List ControlCopy) → renewed forest.nodes list ≡ Some after → update.shown profile here ≡ Ok (map seen_copy after)
+    renewed-shown after e =
+        shown-listed l is forest table flags controls tally many (map seen_copy after) false (given-now ∙ ap (option_map (map seen_copy)) e) (ap (nat_lt 65536) (renewed-count forest.nodes list after e) ∙ s.few)
+
+    pub renewed-long : renewed forest.nodes list ≡ None → IsRefused (Limit Long) (update.shown profile here)
+    renewed-long e = long-found l is forest table flags controls tally many (given-now ∙ ap (option_map (map seen_copy)) e)
+
+  -- the flags of a refresh are cleared besides
+  module _ (steady : AreSteady l table controls) where
+    pub renewed-done : (after : List ControlCopy) (fs : List Flags) (count : ℕ) → renewed forest.nodes controls ≡ Some after → count ≡ length (notifications (map seen_copy controls) (map seen_copy after)) → fs ≡ map without_refresh flags
+        → AreRefreshed count (standing_of l forest table flags controls tally) (standing_of l forest table fs after tally)
+    renewed-done after fs count e told cleared = record {
+      list = map seen_copy after;
+      shown = renewed-shown controls steady after e;
+      told = told;
+      now = ap (λ gs. standing_of l forest table gs after tally) cleared ∙ ap (λ ms. record (standing_of l forest table flags after tally) { models = ms }) (sym (none-refreshed table flags many));
+    }
+
+    pub renewed-fails : (e : WorkFault) (list : List ControlCopy) (after : Standing) → Renews {X = ℕ} (Err e) (renewed forest.nodes controls) list → Refreshes (Err e) (standing_of l forest table flags controls tally) after
+    renewed-fails (fault.Refused refusal) list after h = subst (λ r. IsRefused r (update.shown profile here)) (sym h.0) (renewed-long controls steady h.1)
+    renewed-fails fault.Memory list after h = tt
+
+pub cleared-done : (count : ℕ) (before mid after : Standing) → AreShown count before mid → after ≡ record mid { models = map no_refresh mid.models } → AreRefreshed count before after
+cleared-done count before mid after h e = record {
+  list = h.list;
+  shown = h.shown;
+  told = h.told;
+  now = e ∙ ap (λ (x : Standing). record x { models = map no_refresh x.models }) h.now;
+}
+
+pub others-fail : (e : WorkFault) (before mid after : Standing) → ShowsOthers (Err e) before mid → Refreshes (Err e) before after
+others-fail (fault.Refused refusal) before mid after h = h
+others-fail fault.Memory before mid after h = tt
+
+-- ---- what is refused
+
+refused-then : {A B : Type 0} (refusal : Refusal) (g : Result A Refused) (next : A → Result B Refused) → IsRefused refusal g → IsRefused refusal (g >>= next)
+refused-then refusal (Err r) next h = h
+refused-then refusal (Ok x) next h = absurd h
+
+pub show-stops : (e : WorkFault) (s after : Standing) → Finds {X = List ControlCopy} (map seen_copy) (Err e) (update.shown profile (state_of s)) → Does {X = Unit {0}} (Err e) after (now_shown profile (state_of s))
+show-stops (fault.Refused refusal) s after h = refused-then refusal (update.shown profile (state_of s)) (λ list. Ok (record (state_of s) { controls = list })) h
+show-stops fault.Memory s after h = tt
+
+pub shows : (s after : Standing) (list : List copies.Copy) → update.shown profile (state_of s) ≡ Ok list → after ≡ record s { controls = list } → now_shown profile (state_of s) ≡ Ok (state_of after)
+shows s after list e h = ap (λ r. r >>= λ cs. Ok (record (state_of s) { controls = cs })) e ∙ ap (λ (x : Standing). Ok (state_of x)) (sym h)
+
+pub told-renews : (e : EvalFault) (given : Option (List ControlCopy)) (list : List ControlCopy) → (e ≡ eval.Memory) ⊎ ((e ≡ eval.Long) × (given ≡ None)) → Renews {X = ℕ} (Err (long_or_memory e)) given list
+told-renews eval.Long given list (inl h) = cc h
+told-renews eval.Long given list (inr h) = (refl, h.1)
+told-renews eval.Memory given list h = tt
