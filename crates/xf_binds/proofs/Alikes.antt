@@ -1,6 +1,8 @@
 -- Entries that keep their truths by their places have alike values.
 use Rattle.std.proofs.Common.{◌≡◌, ◌<◌, ◌≤◌, ◌+◌, ℕ, zero, suc, Bool, true, false, cond, ◌&&◌, List, [], ◌∷◌, map, filter, find, get_or, Option, Some, None, option_map, slice_get, length, ◌==◌, refl, sym, ap, ◌∙◌, subst, arith}
 use Rattle.std.specs.Prelude.{option_and_then}
+use Rattle.std.specs.Option.{option_eq}
+use Rattle.std.proofs.Math.Bool.{beq}
 use Rattle.std.proofs.lemmas.Bool.{eqb-true}
 use Rattle.std.proofs.lemmas.Bool.Decides.{nat_tests}
 use Rattle.std.proofs.lemmas.Option.{slice_get_within}
@@ -111,3 +113,33 @@ keeps-alike k truths single keeps =
           ∙ keeps i e h shown
           ∙ sym (truth-there k i e (truth_from k.stood e) (sym h) c refl);
     })
+
+-- ---- and alike values are of entries that keep them
+
+alike-at : (f g : Entry → Valued) (es : List Entry) → AreAlike (map f (filter is_computed es)) (map g (filter is_computed es)) → (i : ℕ) (e : Entry) → slice_get es i ≡ Some e → is_computed e ≡ true → IsAlike (f e) (g e)
+alike-at f g [] a i e h c = cc h
+alike-at f g (x ∷ es) a i e h c = by (λ b j k. alike-at f g es b j e k c) (is_computed x) refl i a h
+  where
+    by : (AreAlike (map f (filter is_computed es)) (map g (filter is_computed es)) → (j : ℕ) → slice_get es j ≡ Some e → IsAlike (f e) (g e)) → (b : Bool) → is_computed x ≡ b → (i : ℕ)
+        → AreAlike (map f (cond b (x ∷ filter is_computed es) (filter is_computed es))) (map g (cond b (x ∷ filter is_computed es) (filter is_computed es))) → slice_get (x ∷ es) i ≡ Some e → IsAlike (f e) (g e)
+    by later true k zero a h = let same : x ≡ e = cc h in subst (λ y. IsAlike (f y) (g y)) same a.0
+    by later true k (suc j) a h = later a.1 j h
+    by later false k zero a h = let same : x ≡ e = cc h in let not : is_computed e ≡ false = subst (λ y. is_computed y ≡ false) same k in cc (c, not)
+    by later false k (suc j) a h = later a j h
+
+pub alike-keeps : (k : Kept) (truths : List (Option Bool)) → AreSingle k.entries → AreAlike (values_of k) (values_of (recalculated truths k)) → (place : ℕ) → KeepsAt k truths place
+alike-keeps k truths single alike i = λ e h shown.
+    let c = shown-computed e shown in
+    let same = alike-at (value_from k.stood) (value_from (valued_in (held_by k.entries truths))) k.entries alike i e h c in
+    sym (ap (option_and_then (λ (x : Held). x.truth)) (told-there k.entries truths e i (single i e h) h))
+    ∙ sym (truth-stood (held_by k.entries truths) e c)
+    ∙ same.truth shown
+    ∙ truth-there k i e (truth_from k.stood e) (sym h) c refl
+
+pub truths-apart : (a b : Option Bool) → option_eq beq a b ≡ false → a ≡ b → ⊥
+truths-apart a b other same = cc (other, itself b, ap (λ t. option_eq beq t b) same)
+  where
+    itself : (t : Option Bool) → option_eq beq t t ≡ true
+    itself None = refl
+    itself (Some true) = refl
+    itself (Some false) = refl

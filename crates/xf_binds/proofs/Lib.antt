@@ -14,3 +14,5 @@ pub mod Unset
 pub mod Singles
 pub mod Alikes
 pub mod Placings
+pub mod AlikeExamples
+pub mod PlacedExamples

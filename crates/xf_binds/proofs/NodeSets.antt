@@ -1,6 +1,6 @@
 -- The numbers of a list of nodes, gathered one by one.
 use Rattle.std.proofs.Common.{◌≡◌, ℕ, suc, ◌+◌, ◌<◌, ◌==◌, nat_eq, Bool, true, false, cond, ◌||◌, List, [], ◌∷◌, map, take, length, get_or, refl, sym, ap, ◌∙◌, arith, take-suc}
-use Rattle.std.proofs.lemmas.List.{map-append}
+use Rattle.std.proofs.lemmas.List.{get_or-map, map-append}
 use Rattle.std.proofs.lemmas.List.Folds.{list_any-append}
 use Rattle.std.proofs.lemmas.Bool.Decides.{nat_tests}
 use Rattle.std.specs.HashSet.{contains}
@@ -37,3 +37,8 @@ gathered ids i d old new within so_far updates n = updates n ∙ ap (λ b. cond 
 pub has-turned : (n : ℕ) (ns : List ℕ) → list_any (λ m. m == n) ns ≡ has n ns
 has-turned n [] = refl
 has-turned n (m ∷ ms) = ap (λ b. b || list_any (λ k. k == n) ms) (turned m n) ∙ ap (λ b. (n == m) || b) (has-turned n ms)
+
+-- where the lists are the same, so are the numbers at a place
+pub same-at : (some others : List NodeId) (i : ℕ) (d e : NodeId) → i < length some → i < length others → numbers_of others ≡ numbers_of some → (get_or others i e).number ≡ (get_or some i d).number
+same-at some others i d e here there same =
+    sym (get_or-map (λ (n : NodeId). n.number) others i e 0 there) ∙ ap (λ l. get_or l i 0) same ∙ get_or-map (λ (n : NodeId). n.number) some i d 0 here

@@ -1,19 +1,16 @@
 //! What is kept of one model.
 
-ghost use Rattle.std.specs.Prelude.{◌≡◌, ℕ, List, [], ◌∷◌, ◌++◌, None, Option, Some, false, true, filter, find, is_some, length, option_map, get_or, slice_get, unwrap_or, OnOk, OnErr};
+ghost use Rattle.std.specs.Prelude.{◌≡◌, ℕ, List, [], ◌∷◌, ◌++◌, None, Option, Some, false, true, filter, find, is_some, length, option_map, slice_get, unwrap_or, OnOk, OnErr};
 ghost use Rattle.std.specs.Bool.{OnFalse, OnTrue};
-ghost use Rattle.xf_doc.specs.Visit.{has};
 ghost use Rattle.xf_model.specs.Applied.{is_property};
 ghost use Rattle.xf_model.specs.Entries.{is_computed};
 ghost use Rattle.xf_model.specs.Properties.{sets_on};
 ghost use Rattle.xf_model.specs.Applied as applied;
 ghost use Rattle.xf_binds.specs.Held.{AreSingle, Held, IsOnly, entries_in, entry_of};
-ghost use Rattle.xf_binds.specs.Alike.{AreAlike, is_shown};
-ghost use Rattle.xf_binds.specs.Kept.{IsAlone, committed, entries_of, no_kept, recalculated, rolled_back, stood_of, told_of, truth_at, truth_from, truth_in, values_of};
+ghost use Rattle.xf_binds.specs.Kept.{IsAlone, committed, entries_of, no_kept, recalculated, rolled_back, stood_of, told_of, truth_at, truth_from, truth_in};
 ghost use Rattle.xf_binds.specs.Placed.{AreInOrder};
 ghost use Rattle.xf_binds.specs.Readers.{AreReaders, list_or};
 ghost use Rattle.xf_binds.specs.Since.{built_more, is_told, marks_in, present_in, stood_since, told_more};
-ghost use Rattle.xf_binds.specs.Turns.{AreInTurn};
 
 use crate::applied::Applied;
 use crate::entry::Entry;
@@ -51,14 +48,14 @@ pub(crate) struct Kept {
     present: Ordered,
     // The entries that stood at the last recalculation, where they are not the present ones.
     stood: Option<Applied>,
-    invalid: NodeSet,
+    pub(crate) invalid: NodeSet,
     // As many as are kept, and those that came since, unless a recalculation came.
     texts: NodeList,
     lists: NodeList,
     texts_kept: usize,
     lists_kept: usize,
     since: Since,
-    checked: Option<NodeSet>,
+    pub(crate) checked: Option<NodeSet>,
     // Those that came since a recalculation.
     late_texts: NodeList,
     late_lists: NodeList,
@@ -108,13 +105,6 @@ impl Kept {
         ensures { result.now ≡ self.now.asks }
     {
         self.ordered().web()
-    }
-
-    /// The nodes of the present calculates, none before one that its calculate reads.
-    pub(crate) fn order(&self) -> &NodeList
-        ensures { AreInTurn self.now.entries self.now.asks result.now }
-    {
-        self.ordered().order()
     }
 
     /// The present calculates, none before one that it reads.
@@ -289,59 +279,6 @@ impl Kept {
         self.present().has(node, property)
     }
 
-    /// Whether the last revalidation found the node not valid.
-    pub(crate) fn is_invalid(&self, node: NodeId) -> bool
-        ensures { result ≡ has node.number self.now.invalid }
-    {
-        match &self.checked {
-            Some(checked) => checked.has(node),
-            None => self.invalid.has(node),
-        }
-    }
-
-    /// Keeps the nodes that were found not valid in place of those before. Whether they are the same.
-    pub(crate) fn set_invalid(&mut self, invalid: NodeSet) -> bool
-        ensures done { self.new ≡ record self.old { invalid = invalid } }
-        ensures same { OnTrue result (invalid ≡ self.old.invalid) }
-    {
-        let is_same = self.is_so(&invalid);
-        self.checked = Some(invalid);
-        is_same
-    }
-
-    /// Whether these are the nodes that are not valid, in the same order.
-    fn is_so(&self, invalid: &NodeSet) -> bool
-        ensures { OnTrue result (invalid.now ≡ self.now.invalid) }
-    {
-        match &self.checked {
-            Some(checked) => checked.is_same(invalid),
-            None => self.invalid.is_same(invalid),
-        }
-    }
-
-    /// Whether no entry of the properties relevant, readonly and required has another truth, by its place, than at the last recalculation.
-    pub(crate) fn keeps_properties(&self, truths: &TruthList) -> bool
-        ensures { OnTrue result (AreAlike (values_of self.now) (values_of (recalculated truths.now self.now))) }
-    {
-        self.is_single();
-        for at in 0..self.present().len() {
-            if !self.keeps_property(truths, at) {
-                return false;
-            }
-        }
-        true
-    }
-
-    /// The same of the entry at a place.
-    fn keeps_property(&self, truths: &TruthList, at: usize) -> bool
-        ensures { OnTrue result ((e : applied.Entry) → slice_get self.now.entries at ≡ Some e → is_shown e.property ≡ true → get_or truths.now at None ≡ truth_at self.now at) }
-    {
-        match self.present().entry(at) {
-            Some(entry) => !is_shown(entry.property) || self.truth_at(at) == truths.at(at),
-            None => true,
-        }
-    }
-
     /// Keeps the entries of a rebuild. Those of the last recalculation are kept beside them.
     pub(crate) fn rebuild(&mut self, present: Ordered)
         ensures { self.new ≡ record self.old { entries = entries_in present.held; asks = present.asks } }
@@ -403,16 +340,6 @@ impl Kept {
         self.checked = None;
         self.texts.truncate(self.texts_kept);
         self.lists.truncate(self.lists_kept);
-    }
-}
-
-/// Whether it is one of those that are shown beside validity.
-fn is_shown(property: Property) -> bool
-    ensures { result ≡ is_shown property }
-{
-    match property {
-        Property::Relevant | Property::Readonly | Property::Required => true,
-        _ => false,
     }
 }
 

@@ -3,6 +3,7 @@
 
 mod applied;
 mod entry;
+mod found;
 mod kept;
 mod node_set;
 mod ordered;

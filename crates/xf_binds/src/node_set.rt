@@ -1,7 +1,7 @@
 //! Lists of nodes in which each is found at once.
 
 ghost use Rattle.std.specs.Prelude.{◌≡◌, [], map, IfOk};
-ghost use Rattle.std.specs.Bool.{OnTrue};
+ghost use Rattle.std.specs.Bool.{OnFalse, OnTrue};
 ghost use Rattle.xf_doc.specs.Visit.{has};
 
 use indexmap::IndexSet;
@@ -53,7 +53,8 @@ impl NodeSet {
 
     /// Whether both hold the same nodes in the same order.
     pub(crate) fn is_same(&self, other: &NodeSet) -> bool
-        ensures { OnTrue result (other.now ≡ self.now) }
+        ensures same { OnTrue result (other.now ≡ self.now) }
+        ensures differs { OnFalse result (other.now ≡ self.now → ⊥) }
     {
         are_same(self.nodes.as_slice(), other.nodes.as_slice())
     }
@@ -69,7 +70,8 @@ impl NodeSet {
 }
 
 fn are_same(some: &[NodeId], others: &[NodeId]) -> bool
-    ensures { OnTrue result (map (λ n. n.number) others.now ≡ map (λ n. n.number) some.now) }
+    ensures same { OnTrue result (map (λ n. n.number) others.now ≡ map (λ n. n.number) some.now) }
+    ensures differs { OnFalse result (map (λ n. n.number) others.now ≡ map (λ n. n.number) some.now → ⊥) }
 {
     if some.len() != others.len() {
         return false;

@@ -92,13 +92,6 @@ impl Ordered {
         &self.web
     }
 
-    /// The nodes of the calculates, none before one that its calculate reads.
-    pub(crate) fn order(&self) -> &NodeList
-        ensures { AreInTurn (entries_in self.now.held) self.now.asks result.now }
-    {
-        &self.order
-    }
-
     /// The calculates, none before one that it reads.
     pub(crate) fn turns(&self) -> &[Turn]
         ensures { AreInOrder (entries_in self.now.held) self.now.asks result.now }

@@ -14,7 +14,6 @@ ghost use Rattle.xf_binds.specs.Alike.{AreAlike};
 ghost use Rattle.xf_binds.specs.Kept.{IsAlone, entries_of, no_kept, recalculated, truth_at, truth_in, values_of};
 ghost use Rattle.xf_binds.specs.Placed.{AreInOrder, turns_or};
 ghost use Rattle.xf_binds.specs.Readers.{AreReaders, list_or};
-ghost use Rattle.xf_binds.specs.Turns.{AreInTurn};
 ghost use Rattle.xf_binds.specs.Table.{all_committed, all_rolled_back, held_or, kept_at, nodes_or, truth_among, web_or, with_kept};
 
 use crate::applied::Applied;
@@ -96,16 +95,6 @@ impl Table {
     {
         match self.models.get(model as usize) {
             Some(kept) => Some(kept.web()),
-            None => None,
-        }
-    }
-
-    /// The nodes of the calculates of a model, none before one that its calculate reads.
-    pub fn order(&self, model: u32) -> Option<&NodeList>
-        ensures { AreInTurn (kept_at self.now model).entries (kept_at self.now model).asks (nodes_or (option_map (λ n. n.now) result)) }
-    {
-        match self.models.get(model as usize) {
-            Some(kept) => Some(kept.order()),
             None => None,
         }
     }
@@ -269,12 +258,12 @@ impl Table {
         self.models.iter().any(|kept| kept.is_invalid(node))
     }
 
-    /// Keeps the nodes that were found not valid in place of those before. Takes no memory. Whether they are the same; that they may not be
-    /// promises nothing.
+    /// Keeps the nodes that were found not valid in place of those before. Takes no memory. Whether they are the same, in the same order.
     pub fn set_invalid(&mut self, model: u32, invalid: NodeSet) -> bool
         requires { model < length self.old }
         ensures done { self.new ≡ with_kept self.old model (record (kept_at self.old model) { invalid = invalid }) }
         ensures same { OnTrue result (invalid ≡ (kept_at self.old model).invalid) }
+        ensures differs { OnFalse result (invalid ≡ (kept_at self.old model).invalid → ⊥) }
     {
         self.models[model as usize].set_invalid(invalid)
     }
@@ -288,13 +277,14 @@ impl Table {
     }
 
     /// Whether the properties relevant, readonly and required are by these truths of the entries of a model, told by their places, what they are
-    /// by those of its last recalculation. That they may not be promises nothing.
+    /// by those of its last recalculation. A model that is not there keeps all.
     pub fn keeps_properties(&self, model: u32, truths: &TruthList) -> bool
-        ensures { OnTrue result (AreAlike (values_of (kept_at self.now model)) (values_of (recalculated truths.now (kept_at self.now model)))) }
+        ensures alike { OnTrue result (AreAlike (values_of (kept_at self.now model)) (values_of (recalculated truths.now (kept_at self.now model)))) }
+        ensures differs { OnFalse result (AreAlike (values_of (kept_at self.now model)) (values_of (recalculated truths.now (kept_at self.now model))) → ⊥) }
     {
         match self.models.get(model as usize) {
             Some(kept) => kept.keeps_properties(truths),
-            None => false,
+            None => true,
         }
     }
 

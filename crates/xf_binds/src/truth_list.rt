@@ -1,6 +1,6 @@
 //! What a recalculation found.
 
-ghost use Rattle.std.specs.Prelude.{◌≡◌, ◌∷◌, ◌++◌, [], None, get_or, OnOk, OnErr};
+ghost use Rattle.std.specs.Prelude.{◌≡◌, ◌∷◌, ◌++◌, [], None, get_or, IfOk, OnOk, OnErr};
 
 use std::alloc::{AllocError, Global};
 use std::marker::Model;
@@ -20,12 +20,13 @@ impl Model for TruthList {
 }
 
 impl TruthList {
-    pub fn new(alloc: Global) -> Self
-        ensures { result ≡ [] }
+    /// None yet, with room for those of so many entries.
+    pub fn with_capacity(alloc: Global, count: usize) -> Result<Self, AllocError>
+        ensures { IfOk result (λ truths. truths ≡ []) }
     {
-        TruthList {
-            truths: Vec::new(alloc),
-        }
+        Ok(TruthList {
+            truths: Vec::with_capacity(alloc, count)?,
+        })
     }
 
     /// Adds that of the next entry.

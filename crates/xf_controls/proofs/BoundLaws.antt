@@ -54,3 +54,14 @@ bound-all form known at es all long below n control = let l : length form.elemen
 
 pub bound-first : (form : Form) (known : List Known) (at : ℕ) → at ≡ 0 → BoundBelow form known at
 bound-first form known at e n less control = absurd (omega (arith, less, e))
+
+-- one element at which it is not so is enough
+pub bound-other : (form : Form) (known : List Known) (at : ℕ) (es : List written.Element) (e : written.Element) (k : Option Known) → es ≡ form.elements → k ≡ slice_get known at → at < length es → e ≡ get_or es at e
+    → ((is_control (sort_of e.kind) ≡ true → IsShownBy (sort_of e.kind) k) → ⊥) → AllBound (interface_of form) known → ⊥
+bound-other form known at es e k all asked l is other bound = other (λ control. here (bound at (ap (λ (x : Element). is_control x.sort) stands ∙ control)))
+  where
+    stands : element_at (interface_of form) at ≡ element_of form.tables e
+    stands = this-element form at e (get-this es at e l is ∙ ap (λ l. slice_get l at) all)
+
+    here : IsBoundAt (interface_of form) known at → IsShownBy (sort_of e.kind) k
+    here b = record { node = b.node; known_so = ap known_if asked ∙ b.known_so; unprinted = λ none. sym (ap (λ (x : Element). printed_in x.sort) stands) ∙ b.unprinted none }

@@ -52,7 +52,7 @@ enter-is f a marks h e plain = enter-by a h.model (scope_of f h.model e) h.place
 
 -- ---- what it binds
 
-pub own-plain : (e : Element) (sort : Sort) → is_plain_sort sort ≡ true → own_binding e sort ≡ e.binding
+own-plain : (e : Element) (sort : Sort) → is_plain_sort sort ≡ true → own_binding e sort ≡ e.binding
 own-plain e (repeated k start) h = cc h
 own-plain e sort h = refl
 

@@ -15,3 +15,6 @@ pub mod NotedLaws
 pub mod RenewedLaws
 pub mod ShownLaws
 pub mod BoundLaws
+mod RenewedExamples
+mod FormerExamples
+mod BoundExamples

@@ -77,7 +77,7 @@ module _ {A B : Type 0} (made : A → Option B) where
       by (Some b) None g h j further = cc j
       by (Some b) (Some zs) g h j further = let same : b ∷ zs ≡ ys = cc j in at b zs i g h further (ap (λ l. slice_get l i) same ∙ f)
 
-pub bind-parts : {A B : Type 0} (m : Option A) (k : A → Option B) (y : B) → (m >>= k) ≡ Some y → (x : A) × (k x ≡ Some y)
+bind-parts : {A B : Type 0} (m : Option A) (k : A → Option B) (y : B) → (m >>= k) ≡ Some y → (x : A) × (k x ≡ Some y)
 bind-parts None k y e = cc e
 bind-parts (Some x) k y e = (x, e)
 

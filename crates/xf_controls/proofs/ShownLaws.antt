@@ -2,7 +2,7 @@
 use Rattle.std.proofs.Common.{◌≡◌, ℕ, zero, suc, ◌+◌, ◌<◌, ◌≤◌, Bool, true, false, cond, not, ◌&&◌, List, [], ◌∷◌, ◌++◌, map, length, get_or, drop, Option, Some, None, option_map, refl, sym, ap, ◌∙◌, subst, arith}
 use Rattle.std.specs.Prelude.{slice_get, slice_set, find, bytes_eq, codes, nat_lt}
 use Rattle.std.specs.List.{flat_map}
-use Rattle.std.specs.Bool.{OnTrue}
+use Rattle.std.specs.Bool.{OnFalse, OnTrue}
 use Rattle.std.proofs.lemmas.Slice.Eq.{bytes_eq-Decides}
 use Rattle.std.proofs.lemmas.Bool.Decides.{nat_tests}
 use Rattle.xf_base.specs.Limits.{string_limit}
@@ -32,6 +32,10 @@ on-true false h = tt
 pub from-true : {P : Type 0} (b : Bool) → b ≡ true → OnTrue b P → P
 from-true true e h = h
 from-true false e h = cc e
+
+pub from-false : {P : Type 0} (b : Bool) → b ≡ false → OnFalse b P → P
+from-false true e h = cc e
+from-false false e h = h
 
 -- ---- a value in one piece
 

@@ -1,7 +1,7 @@
 //! Whether it is known of a form what all of its controls and containers bind.
 
 ghost use Rattle.std.specs.Prelude.{◌≡◌, true, slice_get};
-ghost use Rattle.std.specs.Bool.{OnTrue};
+ghost use Rattle.std.specs.Bool.{OnFalse, OnTrue};
 ghost use Rattle.xf_ui.specs.Interface.{interface_of, sort_of};
 ghost use Rattle.xf_ui.specs.Elements.{is_control};
 ghost use Rattle.xf_controls.specs.Bound.{AllBound, IsShownBy};
@@ -11,10 +11,10 @@ use crate::known::{Known, KnownList};
 use xf_ast::{Element, Form};
 use xf_doc::NodeId;
 
-/// Whether what is known tells of each control and container of the form what it binds, and each shows nothing but the value of its node. That
-/// it may not be so promises nothing.
+/// Whether what is known tells of each control and container of the form what it binds, and each shows nothing but the value of its node.
 pub fn are_bound(form: &Form, known: &KnownList) -> bool
-    ensures { OnTrue result (AllBound (interface_of form.now) known.now) }
+    ensures bound { OnTrue result (AllBound (interface_of form.now) known.now) }
+    ensures other { OnFalse result (AllBound (interface_of form.now) known.now → ⊥) }
 {
     let known = known.as_slice();
     for (at, element) in form.elements.as_slice().iter().enumerate() {
@@ -27,7 +27,8 @@ pub fn are_bound(form: &Form, known: &KnownList) -> bool
 
 /// Whether an element is no control or container, or it is known what it binds: it has an expression to show only beside a node.
 fn is_shown_by(element: &Element, known: &[Known], at: usize) -> bool
-    ensures { OnTrue result (is_control (sort_of element.now.kind) ≡ true → IsShownBy (sort_of element.now.kind) (slice_get known.now at)) }
+    ensures shown { OnTrue result (is_control (sort_of element.now.kind) ≡ true → IsShownBy (sort_of element.now.kind) (slice_get known.now at)) }
+    ensures other { OnFalse result ((is_control (sort_of element.now.kind) ≡ true → IsShownBy (sort_of element.now.kind) (slice_get known.now at)) → ⊥) }
 {
     if !is_control(&element.kind) {
         return true;

@@ -19,7 +19,6 @@ use Rattle.xf_machine_laws.proofs.QuietLaws.{Rests, constructed-rests, construct
 use Rattle.xf_work.specs.declared.fault.WorkFault.{WorkFault}
 use Rattle.xf_work.specs.declared.fault.WorkFault.TheVariants as fault
 use Rattle.xf_work.specs.Documents.{program_in}
-use Rattle.xf_work.specs.Calls.{now_shown}
 use Rattle.xf_work.specs.Does.{Does, Twin, profile}
 use Rattle.xf_work.specs.Parts.{IsLoaded}
 use Rattle.xf_work.specs.Planting.{IsPlanted, planted_by}
@@ -85,7 +84,7 @@ build-stops (fault.Refused refusal) s mid after d = unbuilt (fault.Refused refus
 build-stops fault.Memory s mid after d = tt
 
 -- the controls are shown once all are built
-pub begins : (r : Result (Unit {0}) WorkFault) (s mid after : Standing) → all_built profile (state_of s) ≡ Ok (state_of mid) → Does r after (now_shown profile (state_of mid)) → Does r after (built_and_shown profile (state_of s))
+pub begins : (r : Result (Unit {0}) WorkFault) (s mid after : Standing) → all_built profile (state_of s) ≡ Ok (state_of mid) → Does r after (first_shown profile (state_of mid)) → Does r after (built_and_shown profile (state_of s))
 begins r s mid after q d = same-does r after _ _ (then-next (all_built profile (state_of s)) (first_shown profile) (state_of mid) q) d
 
 shown-count : (s t : State) (r : Result (List Copy) Refused) → (r >>= λ list. Ok (record s { controls = list })) ≡ Ok t → length t.models ≡ length s.models
@@ -93,7 +92,7 @@ shown-count s t (Err refusal) e = cc e
 shown-count s t (Ok list) e = let same : record s { controls = list } ≡ t = cc e in ap (λ (x : State). length x.models) (sym same)
 
 -- it has as many models as before
-pub begins-built : (r : Result (Unit {0}) WorkFault) (mid after : Standing) (built room : ℕ) → Does r after (now_shown profile (state_of mid)) → built ≡ room → length mid.models ≤ room → OnOk r (length after.models ≤ built)
+pub begins-built : (r : Result (Unit {0}) WorkFault) (mid after : Standing) (built room : ℕ) → Does r after (first_shown profile (state_of mid)) → built ≡ room → length mid.models ≤ room → OnOk r (length after.models ≤ built)
 begins-built (Ok x) mid after built room d same h = within-same _ _ _ _ (shown-count (state_of mid) (state_of after) (shown profile (state_of mid)) d) same h
 begins-built (Err e) mid after built room d same h = tt
 

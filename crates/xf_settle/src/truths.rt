@@ -41,9 +41,10 @@ pub(crate) fn truths_of<A: Around>(
     requires passed { AreTrue (scope_in (A.given around.now) tables.now model) (visits forest.now.forest.nodes) (kept_at table.now model) marks.now }
     ensures { GivesBounded EvalFault.Memory EvalFault.Long (λ truths. truths) result (found_over [] (scope_in (A.given around.now) tables.now model) (visits forest.now.forest.nodes) (kept_at table.now model).entries) }
 {
-    let mut found = TruthList::new(alloc);
+    let count = table.len(model);
+    let mut found = TruthList::with_capacity(alloc, count)?;
     let mut place = 0;
-    for at in 0..table.len(model) {
+    for at in 0..count {
         let entry = table.entry(model, at);
         let passed = is_passed(marks, at);
         let truth = known_of(table, model, at, entry, passed, known, place);

@@ -14,8 +14,9 @@ ghost use Rattle.xf_tree.specs.Below.{attribute_at, child_at, row_below, element
 
 use crate::child::count_lesser;
 use crate::forest::Forest;
+use crate::hints::Hints;
 use crate::limits::DEPTH_LIMIT;
-use crate::lookup::{Hint, is_kin_at, note_parent, note_rows, parent_row, row_of};
+use crate::lookup::{is_kin_at, parent_row, row_of};
 use crate::rows::{Row, end_of, paste_in, put_last};
 use crate::slot::{is_attribute_at, is_element_at};
 use crate::slots::Slots;
@@ -103,7 +104,7 @@ impl Forest {
 }
 
 /// How many elements a child of the node at a place is below.
-fn elements_over(rows: &[Row], slots: &Slots, hints: &[Hint], above: usize) -> u32
+fn elements_over(rows: &[Row], slots: &Slots, hints: &Hints, above: usize) -> u32
     requires within { above < length rows.now }
     requires sized { Sized rows.now }
     requires few { length rows.now < 2 ^ 31 }
@@ -139,7 +140,7 @@ fn has_deep(tree: &[Row], slots: &Slots, elements: u32) -> bool
 fn place_tree(
     rows: &mut Vec<Row>,
     slots: &Slots,
-    hints: &mut [Hint],
+    hints: &mut Hints,
     at: usize,
     above: usize,
     place: u32,
@@ -163,8 +164,8 @@ fn place_tree(
     let end = end_of(rows, from);
     let to = place_below(&rows[..from], slots, over, top, place);
     paste_in(rows, hints, from, to, depth);
-    note_parent(hints, top, parent);
-    note_rows(hints, rows, at.min(to), end);
+    hints.note_parent(top, parent);
+    hints.note_rows(rows, at.min(to), end);
 }
 
 /// Makes the tree at a place stand behind a row outside it. The answer is where the tree and the row stand then.

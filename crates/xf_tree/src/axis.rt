@@ -8,7 +8,8 @@ ghost use Rattle.xf_tree.specs.Tree.{AreSteps, depths, node_of, no_row};
 ghost use Rattle.xf_tree.specs.Walks.{AreNodes, IsReady, IsWalk, left_of, number_of_row, walk_of};
 
 use crate::forest::Forest;
-use crate::lookup::{Hint, parent_row, row_of};
+use crate::hints::Hints;
+use crate::lookup::{parent_row, row_of};
 use crate::rows::{Row, end_of};
 use crate::slot::is_attribute_at;
 use crate::slots::Slots;
@@ -38,7 +39,7 @@ impl Forest {
 fn walk_from<'a>(
     rows: &'a [Row],
     slots: &'a Slots,
-    hints: &'a [Hint],
+    hints: &'a Hints,
     at: usize,
     axis: Axis,
 ) -> Walk<'a>
@@ -61,7 +62,7 @@ fn walk_from<'a>(
 pub fn start(
     rows: &[Row],
     slots: &Slots,
-    hints: &[Hint],
+    hints: &Hints,
     at: usize,
     axis: Axis,
 ) -> (Option<usize>, Left)
@@ -132,7 +133,7 @@ fn all_below(rows: &[Row], at: usize) -> Left
     Left::Rows { at: at + 1, end }
 }
 
-fn later_siblings(rows: &[Row], slots: &Slots, hints: &[Hint], at: usize) -> Left
+fn later_siblings(rows: &[Row], slots: &Slots, hints: &Hints, at: usize) -> Left
     requires nodes { AreNodes slots.now rows.now }
     requires within { at < length rows.now }
     ensures ready { IsReady rows.now result }
@@ -151,7 +152,7 @@ fn later_siblings(rows: &[Row], slots: &Slots, hints: &[Hint], at: usize) -> Lef
     }
 }
 
-fn earlier_siblings(rows: &[Row], slots: &Slots, hints: &[Hint], at: usize) -> Left
+fn earlier_siblings(rows: &[Row], slots: &Slots, hints: &Hints, at: usize) -> Left
     requires nodes { AreNodes slots.now rows.now }
     requires within { at < length rows.now }
     ensures ready { IsReady rows.now result }

@@ -11,7 +11,7 @@ ghost use Rattle.xf_doc.specs.Planted.{planted};
 use crate::fault::{has_deep, has_long, lit_fault};
 use crate::forest::Forest;
 use crate::limits::{ALL_LIMIT, NODE_LIMIT, ROW_LIMIT};
-use crate::lookup::{note_rows, parent_row, place_of, row_of};
+use crate::lookup::{parent_row, place_of, row_of};
 use crate::plant::contents_of_lit;
 use crate::root::root_over;
 use crate::rows::{cut_in, end_of};
@@ -43,7 +43,7 @@ impl Forest {
         let place = place_of(&self.rows, &self.slots, above, at);
         cut_in(&mut self.rows, &self.hints, at);
         // It went to the end, so all rows from its old place on have moved.
-        note_rows(&mut self.hints, &self.rows, at, self.rows.len());
+        self.hints.note_rows(&self.rows, at, self.rows.len());
         (NodeId { number, place: key }, place)
     }
 

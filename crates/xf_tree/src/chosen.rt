@@ -8,7 +8,8 @@ ghost use Rattle.xf_tree.specs.Walks.{AreNodes, IsReady, IsWalk, between, is_pla
 
 use crate::axis::{child_depth, start};
 use crate::forest::Forest;
-use crate::lookup::{Hint, is_kin_at, parent_row, row_of};
+use crate::hints::Hints;
+use crate::lookup::{is_kin_at, parent_row, row_of};
 use crate::rows::{Row, end_of};
 use crate::slot::number_of;
 use crate::slots::Slots;
@@ -46,7 +47,7 @@ fn push_on_axis(
     found: &mut NodeList,
     rows: &[Row],
     slots: &Slots,
-    hints: &[Hint],
+    hints: &Hints,
     node: NodeId,
     axis: Axis,
     sought: Sought<'_>,
@@ -65,7 +66,7 @@ fn push_from(
     found: &mut NodeList,
     rows: &[Row],
     slots: &Slots,
-    hints: &[Hint],
+    hints: &Hints,
     at: usize,
     axis: Axis,
     sought: Sought<'_>,
@@ -107,7 +108,7 @@ fn push_found(
     found: &mut NodeList,
     rows: &[Row],
     slots: &Slots,
-    hints: &[Hint],
+    hints: &Hints,
     first: Option<usize>,
     left: Left,
     sought: Sought<'_>,
@@ -128,7 +129,7 @@ fn push_left(
     found: &mut NodeList,
     rows: &[Row],
     slots: &Slots,
-    hints: &[Hint],
+    hints: &Hints,
     left: Left,
     sought: Sought<'_>,
 ) -> Result<(), AllocError>
@@ -148,7 +149,7 @@ fn push_by_steps(
     found: &mut NodeList,
     rows: &[Row],
     slots: &Slots,
-    hints: &[Hint],
+    hints: &Hints,
     left: Left,
     sought: Sought<'_>,
 ) -> Result<(), AllocError>

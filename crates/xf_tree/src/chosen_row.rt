@@ -8,7 +8,8 @@ ghost use Rattle.xf_tree.specs.Walks.{AreNodes, IsReady, IsWalk, between, number
 
 use crate::axis::{child_depth, start};
 use crate::forest::Forest;
-use crate::lookup::{Hint, row_of};
+use crate::hints::Hints;
+use crate::lookup::row_of;
 use crate::rows::{Row, end_of};
 use crate::slot::number_of;
 use crate::slots::Slots;
@@ -48,7 +49,7 @@ impl Forest {
 fn row_on_axis(
     rows: &[Row],
     slots: &Slots,
-    hints: &[Hint],
+    hints: &Hints,
     from: NodeId,
     axis: Axis,
     sought: Sought<'_>,
@@ -68,7 +69,7 @@ fn row_on_axis(
 fn row_from(
     rows: &[Row],
     slots: &Slots,
-    hints: &[Hint],
+    hints: &Hints,
     at: usize,
     axis: Axis,
     sought: Sought<'_>,
@@ -135,7 +136,7 @@ fn row_in_trees(
 fn row_found(
     rows: &[Row],
     slots: &Slots,
-    hints: &[Hint],
+    hints: &Hints,
     first: Option<usize>,
     left: Left,
     sought: Sought<'_>,
@@ -162,7 +163,7 @@ fn row_found(
 fn row_left(
     rows: &[Row],
     slots: &Slots,
-    hints: &[Hint],
+    hints: &Hints,
     left: Left,
     sought: Sought<'_>,
     place: usize,

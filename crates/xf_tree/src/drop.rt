@@ -11,7 +11,8 @@ ghost use Rattle.xf_tree.specs.Tree.{node_of, kept_of, content_in, times, KeepsB
 ghost use Rattle.xf_tree.specs.Older.{is_older, is_newer, AreWhole};
 
 use crate::forest::Forest;
-use crate::lookup::{Hint, note_rows, tops_end};
+use crate::hints::Hints;
+use crate::lookup::tops_end;
 use crate::rows::Row;
 use crate::slot::{free_kept, free_rows, number_of};
 use crate::slots::Slots;
@@ -68,7 +69,7 @@ fn drop_kept(slots: &mut Slots, kept: &mut Vec<usize>)
 fn drop_newer(
     rows: &mut Vec<Row>,
     slots: &mut Slots,
-    hints: &mut Vec<Hint>,
+    hints: &mut Hints,
     from: usize,
     number: u128,
     total: &mut usize,
@@ -96,7 +97,7 @@ fn drop_newer(
 fn move_older(
     rows: &mut [Row],
     slots: &mut Slots,
-    hints: &mut [Hint],
+    hints: &mut Hints,
     from: usize,
     number: u128,
     total: &mut usize,
@@ -130,7 +131,7 @@ fn move_older(
 }
 
 /// Moves the rows from one place to before another forward, and notes where they stand then.
-fn move_rows(rows: &mut [Row], hints: &mut [Hint], at: usize, end: usize, to: usize)
+fn move_rows(rows: &mut [Row], hints: &mut Hints, at: usize, end: usize, to: usize)
     requires order { to ≤ at }
     requires first { at ≤ end }
     requires second { end ≤ length rows.old }
@@ -138,6 +139,6 @@ fn move_rows(rows: &mut [Row], hints: &mut [Hint], at: usize, end: usize, to: us
 {
     if to < at {
         rows.copy_within(at..end, to);
-        note_rows(hints, rows, to, to + (end - at));
+        hints.note_rows(rows, to, to + (end - at));
     }
 }

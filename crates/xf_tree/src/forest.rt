@@ -6,7 +6,8 @@ ghost use Rattle.xf_doc.specs.Order.{is_before};
 ghost use Rattle.xf_doc.specs.StringValue.{string_value_within};
 ghost use Rattle.xf_doc.specs.Visit.{visits, parent_of};
 
-use crate::lookup::{Hint, parent_row, root_row, row_of};
+use crate::hints::Hints;
+use crate::lookup::{parent_row, root_row, row_of};
 use crate::rows::Row;
 use crate::slot;
 use crate::slot::number_of;
@@ -25,7 +26,7 @@ pub struct Forest {
     pub(crate) rows: Vec<Row>,
     pub(crate) slots: Slots,
     // By key. What they say is tested where it is used, and owes nothing.
-    pub(crate) hints: Vec<Hint>,
+    pub(crate) hints: Hints,
     // The keys of kept texts.
     pub(crate) kept: Vec<usize>,
     pub(crate) next: u128,
@@ -58,7 +59,7 @@ impl Forest {
             alloc,
             rows: Vec::new(alloc),
             slots: Slots::new(alloc),
-            hints: Vec::new(alloc),
+            hints: Hints::new(alloc),
             kept: Vec::new(alloc),
             next: 0,
             count: 0,

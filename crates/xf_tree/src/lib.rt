@@ -15,6 +15,7 @@ mod drop;
 mod fault;
 mod forest;
 mod gather;
+mod hints;
 mod kept;
 mod law;
 mod limits;

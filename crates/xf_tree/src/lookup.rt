@@ -1,32 +1,37 @@
 //! Where a node's row stands, and rows beside it.
-ghost use Rattle.std.specs.Prelude.{◌≡◌, ◌+◌, ◌<◌, ◌≤◌, ◌^◌, length, map, take, drop, reverse, false, IfSome, MatchOption, slice_index_or};
+ghost use Rattle.std.specs.Prelude.{◌≡◌, ◌+◌, ◌<◌, ◌≤◌, ◌^◌, length, map, take, drop, reverse, true, false, Some, IfSome, MatchOption, slice_index_or};
 ghost use Rattle.xf_doc.specs.Forest.{has_number};
 ghost use Rattle.xf_doc.specs.Changes.{root_of, in_instances, is_detached_top};
 ghost use Rattle.xf_tree.specs.Rows.{Sized, SizedBefore, deeper, parent_row_of, past_row, tree_of};
 ghost use Rattle.xf_tree.specs.Tree.{node_of, StandsAt, AllTops, number_at, no_row, is_kin, kin_before};
 
+use crate::hints::Hints;
 use crate::rows::{Row, end_of};
 use crate::slot::{is_attribute_at, is_of_kind, is_root_at, number_of};
 use crate::slots::Slots;
 use xf_doc::NodeId;
 
-/// What is thought of the node under a key: where its row stands, and the parent's key. It is tested where it is used.
-#[derive(Clone, Copy, Debug)]
-pub struct Hint {
-    pub row: usize,
-    pub parent: usize,
-}
-
 /// Where the node's row stands: where the hint says so, else found by looking.
-pub fn row_of(rows: &[Row], slots: &Slots, hints: &[Hint], node: NodeId) -> Option<usize>
+#[inline(always)]
+pub fn row_of(rows: &[Row], slots: &Slots, hints: &Hints, node: NodeId) -> Option<usize>
     ensures { MatchOption result (has_number node.number (map (node_of slots.now) rows.now) ≡ false) (λ at. StandsAt slots.now rows.now node.number at) }
 {
-    if let Some(hint) = hints.get(node.place) {
-        let at = hint.row;
-        if at < rows.len() && number_of(slots, rows[at].key) == node.number {
+    if let Some(at) = hints.noted(node.place) {
+        if is_at(rows, slots, node, at) {
+            return Some(at);
+        }
+        let at = hints.moved(at);
+        if is_at(rows, slots, node, at) {
             return Some(at);
         }
     }
+    looked_for(rows, slots, node)
+}
+
+/// Where the node's row stands, by a look through all.
+fn looked_for(rows: &[Row], slots: &Slots, node: NodeId) -> Option<usize>
+    ensures { MatchOption result (has_number node.number (map (node_of slots.now) rows.now) ≡ false) (λ at. StandsAt slots.now rows.now node.number at) }
+{
     for at in 0..rows.len() {
         if number_of(slots, rows[at].key) == node.number {
             return Some(at);
@@ -35,8 +40,16 @@ pub fn row_of(rows: &[Row], slots: &Slots, hints: &[Hint], node: NodeId) -> Opti
     None
 }
 
+/// Whether the node's row stands at a place.
+#[inline(always)]
+fn is_at(rows: &[Row], slots: &Slots, node: NodeId, at: usize) -> bool
+    ensures { result ≡ true → StandsAt slots.now rows.now node.number at }
+{
+    at < rows.len() && number_of(slots, rows[at].key) == node.number
+}
+
 /// The row of the parent: where the hints say so and the sizes show it, else found by going back.
-pub fn parent_row(rows: &[Row], hints: &[Hint], at: usize) -> Option<usize>
+pub fn parent_row(rows: &[Row], hints: &Hints, at: usize) -> Option<usize>
     requires within { at < length rows.now }
     requires sized { Sized rows.now }
     ensures answer { result ≡ parent_row_of rows.now at }
@@ -46,7 +59,7 @@ pub fn parent_row(rows: &[Row], hints: &[Hint], at: usize) -> Option<usize>
 }
 
 /// How many rows there are up to the parent's, it included: none where there is no parent.
-pub fn above_end(rows: &[Row], hints: &[Hint], at: usize) -> usize
+pub fn above_end(rows: &[Row], hints: &Hints, at: usize) -> usize
     requires within { at < length rows.now }
     requires sized { SizedBefore (reverse (take at rows.now)) (drop at rows.now) }
     ensures answer { result ≡ past_row (parent_row_of rows.now at) }
@@ -59,7 +72,7 @@ pub fn above_end(rows: &[Row], hints: &[Hint], at: usize) -> usize
 }
 
 /// The row of the parent, as by `parent_row`, where only the sizes before the place need be right.
-fn above_row(rows: &[Row], hints: &[Hint], at: usize) -> Option<usize>
+fn above_row(rows: &[Row], hints: &Hints, at: usize) -> Option<usize>
     requires within { at < length rows.now }
     requires sized { SizedBefore (reverse (take at rows.now)) (drop at rows.now) }
     ensures answer { result ≡ parent_row_of rows.now at }
@@ -70,16 +83,12 @@ fn above_row(rows: &[Row], hints: &[Hint], at: usize) -> Option<usize>
     if row.depth == 0 {
         return None;
     }
-    if let Some(hint) = hints.get(row.key) {
-        if let Some(beyond) = hints.get(hint.parent) {
-            let above = beyond.row;
-            if above < at
-                && rows[above].depth < row.depth
-                && row.depth - rows[above].depth == 1
-                && at - above < rows[above].size
-            {
-                return Some(above);
-            }
+    if let Some(noted) = noted_parent(hints, row.key) {
+        if let Some(above) = parent_at(rows, at, noted) {
+            return Some(above);
+        }
+        if let Some(above) = parent_at(rows, at, hints.moved(noted)) {
+            return Some(above);
         }
     }
     let mut left = at;
@@ -168,19 +177,26 @@ pub fn is_kin_at(rows: &[Row], slots: &Slots, at: usize, depth: u32, wanted: boo
     rows[at].depth == depth && is_of_kind(slots, rows[at].key, wanted)
 }
 
-/// Notes anew where the rows from one place to before another stand. What is noted is only a hint, so nothing is promised of it.
-pub fn note_rows(hints: &mut [Hint], rows: &[Row], from: usize, end: usize) {
-    for at in from..end.min(rows.len()) {
-        let key = rows[at].key;
-        if key < hints.len() {
-            hints[key].row = at;
-        }
-    }
+/// Where the row of the parent of the node under a key was noted.
+fn noted_parent(hints: &Hints, key: usize) -> Option<usize> {
+    let parent = hints.parent(key)?;
+    hints.noted(parent)
 }
 
-/// Notes whose child the node under a key is.
-pub fn note_parent(hints: &mut [Hint], key: usize, parent: usize) {
-    if key < hints.len() {
-        hints[key].parent = parent;
+/// The row at a place where it is that of the parent of the row at another, as the sizes and depths show.
+#[inline(always)]
+fn parent_at(rows: &[Row], at: usize, above: usize) -> Option<usize>
+    requires within { at < length rows.now }
+    requires sized { SizedBefore (reverse (take at rows.now)) (drop at rows.now) }
+    ensures parent { IfSome result (λ found. Some found ≡ parent_row_of rows.now at) }
+    ensures within { IfSome result (λ found. found < at) }
+{
+    if above < at
+        && rows[above].depth < rows[at].depth
+        && rows[at].depth - rows[above].depth == 1
+        && at - above < rows[above].size
+    {
+        return Some(above);
     }
+    None
 }

@@ -8,7 +8,8 @@ ghost use Rattle.xf_tree.specs.Tree.{node_of, times};
 ghost use Rattle.xf_tree.specs.Walks.{number_of_row};
 
 use crate::forest::Forest;
-use crate::lookup::{Hint, row_of};
+use crate::hints::Hints;
+use crate::lookup::row_of;
 use crate::rows::Row;
 use crate::slot::number_of;
 use crate::slots::Slots;
@@ -52,7 +53,7 @@ impl Forest {
 }
 
 /// Whether these nodes are live, and each stands after the one before it: they are in document order then, each once.
-fn goes_up(rows: &[Row], slots: &Slots, hints: &[Hint], nodes: &[NodeId]) -> bool
+fn goes_up(rows: &[Row], slots: &Slots, hints: &Hints, nodes: &[NodeId]) -> bool
     requires { (n : ℕ) → times n (map (node_of slots.now) rows.now) ≤ 1 }
     ensures { result ≡ true → in_order (visits (map (node_of slots.now) rows.now)) (map (λ n. n.number) nodes.now) ≡ map (λ n. n.number) nodes.now }
 {
@@ -84,7 +85,7 @@ fn sorted(
     alloc: Global,
     rows: &[Row],
     slots: &Slots,
-    hints: &[Hint],
+    hints: &Hints,
     nodes: &[NodeId],
 ) -> Result<NodeList, AllocError>
     requires { (n : ℕ) → times n (map (node_of slots.now) rows.now) ≤ 1 }
@@ -100,7 +101,7 @@ fn ranks_of(
     alloc: Global,
     rows: &[Row],
     slots: &Slots,
-    hints: &[Hint],
+    hints: &Hints,
     nodes: &[NodeId],
 ) -> Result<Vec<usize>, AllocError>
     requires { (n : ℕ) → times n (map (node_of slots.now) rows.now) ≤ 1 }

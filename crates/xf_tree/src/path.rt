@@ -12,7 +12,8 @@ ghost use Rattle.xf_tree.specs.Tree.{content_in, node_of, no_row};
 ghost use Rattle.xf_tree.specs.Walks.{AreNodes, number_of_row};
 
 use crate::forest::Forest;
-use crate::lookup::{Hint, parent_row, row_of};
+use crate::hints::Hints;
+use crate::lookup::{parent_row, row_of};
 use crate::rows::{Row, end_of};
 use crate::seen::Seen;
 use crate::siblings::{count_like, has_like};
@@ -40,7 +41,7 @@ fn path_at(
     alloc: Global,
     rows: &[Row],
     slots: &Slots,
-    hints: &[Hint],
+    hints: &Hints,
     at: usize,
 ) -> Result<Word, AllocError>
     requires nodes { AreNodes slots.now rows.now }
@@ -60,7 +61,7 @@ fn path_at(
 fn places_up(
     alloc: Global,
     rows: &[Row],
-    hints: &[Hint],
+    hints: &Hints,
     at: usize,
 ) -> Result<Vec<usize>, AllocError>
     requires sized { Sized rows.now }
@@ -82,7 +83,7 @@ fn push_steps(
     text: &mut String,
     rows: &[Row],
     slots: &Slots,
-    hints: &[Hint],
+    hints: &Hints,
     places: Vec<usize>,
 ) -> Result<(), AllocError>
     requires nodes { AreNodes slots.now rows.now }
@@ -101,7 +102,7 @@ fn push_step(
     text: &mut String,
     rows: &[Row],
     slots: &Slots,
-    hints: &[Hint],
+    hints: &Hints,
     at: usize,
 ) -> Result<(), AllocError>
     requires nodes { AreNodes slots.now rows.now }
@@ -157,7 +158,7 @@ fn push_index(text: &mut String, index: Option<usize>) -> Result<(), AllocError>
 }
 
 /// The place of the node at a place of the rows among the siblings that are counted with it, from 1, where there are any.
-fn index_of(rows: &[Row], slots: &Slots, hints: &[Hint], at: usize, like: Seen<'_>) -> Option<usize>
+fn index_of(rows: &[Row], slots: &Slots, hints: &Hints, at: usize, like: Seen<'_>) -> Option<usize>
     requires nodes { AreNodes slots.now rows.now }
     requires within { at < length rows.now }
     ensures { result ≡ index_among (like_before slots.now rows.now (seen_content like.entry) at (parent_row_of rows.now at)) (like_after slots.now rows.now (seen_content like.entry) at (parent_row_of rows.now at)) }
@@ -180,7 +181,7 @@ fn index_of(rows: &[Row], slots: &Slots, hints: &[Hint], at: usize, like: Seen<'
 }
 
 /// How many siblings before the node at a place are counted with it.
-fn count_before(rows: &[Row], slots: &Slots, hints: &[Hint], at: usize, like: Seen<'_>) -> usize
+fn count_before(rows: &[Row], slots: &Slots, hints: &Hints, at: usize, like: Seen<'_>) -> usize
     requires nodes { AreNodes slots.now rows.now }
     requires within { at < length rows.now }
     ensures answer { result ≡ length (like_before slots.now rows.now (seen_content like.entry) at (parent_row_of rows.now at)) }

@@ -1,8 +1,8 @@
 //! The texts that make a string value up, one by one.
-ghost use Rattle.std.specs.Prelude.{◌≡◌, ◌<◌, ◌≤◌, [], length, drop, true, slice_index_or};
+ghost use Rattle.std.specs.Prelude.{◌≡◌, ◌<◌, ◌≤◌, [], length, drop, true, option_map, slice_index_or};
 ghost use Rattle.std.specs.Iterator.{YieldsFirstBy, item_count};
 ghost use Rattle.slab.specs.Slab.{get};
-ghost use Rattle.xf_doc.specs.StringValue.{characters, has_character};
+ghost use Rattle.xf_doc.specs.StringValue.{characters, has_character, whole};
 ghost use Rattle.xf_tree.specs.Reads.{pieces_left, pieces_at};
 ghost use Rattle.xf_tree.specs.Rows.{Sized};
 ghost use Rattle.xf_tree.specs.Tree.{content_in, no_row};
@@ -64,6 +64,33 @@ pub fn pieces_at<'a>(rows: &'a [Row], slots: &'a Slots, at: usize) -> Pieces<'a>
         slots,
         first: own(slots, rows[at].key),
         rows: &rows[at + 1..end_of(rows, at)],
+    }
+}
+
+/// The string value of the node whose row stands at a place, where it is one text of the forest, or empty. A leaf's one text is told at a look.
+#[inline(always)]
+pub fn whole_at<'a>(rows: &'a [Row], slots: &'a Slots, at: usize) -> Option<&'a str>
+    requires within { at < length rows.now }
+    requires sized { Sized rows.now }
+    ensures { option_map (λ text. text.now) result ≡ whole (pieces_at slots.now rows.now at) }
+{
+    if end_of(rows, at) == at + 2 && own(slots, rows[at].key).is_empty() {
+        return Some(below(slots, rows[at + 1].key));
+    }
+    one_of(pieces_at(rows, slots, at))
+}
+
+/// The one text that is left, or an empty one where there is none.
+fn one_of<'a>(pieces: Pieces<'a>) -> Option<&'a str>
+    ensures { option_map (λ text. text.now) result ≡ whole pieces.entry }
+{
+    let mut left = pieces;
+    let Some(piece) = left.next() else {
+        return Some("");
+    };
+    match left.next() {
+        Some(_) => None,
+        None => Some(piece),
     }
 }
 

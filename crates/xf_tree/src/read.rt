@@ -9,7 +9,7 @@ ghost use Rattle.xf_tree.specs.Seen.{seen_content};
 
 use crate::forest::Forest;
 use crate::lookup::{parent_row, place_of, row_of};
-use crate::pieces::{Pieces, pieces_at};
+use crate::pieces::{Pieces, pieces_at, whole_at};
 use crate::seen::Seen;
 use crate::slot::{content_of, number_of};
 use xf_doc::NodeId;
@@ -43,13 +43,9 @@ impl Forest {
     pub fn whole_value(&self, node: NodeId) -> Option<&str>
         ensures { option_map (λ text. text.now) result ≡ whole (pieces node.number (visits self.now.forest.nodes)) }
     {
-        let mut pieces = self.pieces(node);
-        let Some(piece) = pieces.next() else {
-            return Some("");
-        };
-        match pieces.next() {
-            Some(_) => None,
-            None => Some(piece),
+        match row_of(&self.rows, &self.slots, &self.hints, node) {
+            Some(at) => whole_at(&self.rows, &self.slots, at),
+            None => Some(""),
         }
     }
 

@@ -5,17 +5,18 @@ ghost use Rattle.xf_doc.specs.Limits.{size_of};
 ghost use Rattle.xf_tree.specs.Rows.{Sized};
 ghost use Rattle.xf_tree.specs.Tree.{content_in, no_row, AllLive, AreSteps, depths, KeepsLive, IsOver};
 
-use crate::lookup::{Hint, note_parent, note_rows, tops_end};
+use crate::hints::Hints;
+use crate::lookup::tops_end;
 use crate::rows::{Row, lift_root_in, put_last};
 use crate::slots::Slots;
-use crate::tree::{hint_at, push_node};
+use crate::tree::push_node;
 use xf_doc::Content;
 
 /// Puts a root over the top at a place, behind the instances. The answer is its key.
 pub fn root_over(
     rows: &mut Vec<Row>,
     slots: &mut Slots,
-    hints: &mut Vec<Hint>,
+    hints: &mut Hints,
     at: usize,
     number: u128,
 ) -> usize
@@ -35,8 +36,8 @@ pub fn root_over(
     let place = tops_end(&rows[..from], slots);
     let key = push_node(rows, slots, number, 0, size + 1, Content::Root);
     lift_root_in(rows, place, from);
-    hint_at(hints, key);
-    note_parent(hints, top, key);
-    note_rows(hints, rows, place, rows.len());
+    hints.reserve(key);
+    hints.note_parent(top, key);
+    hints.note_rows(rows, place, rows.len());
     key
 }

@@ -3,7 +3,8 @@ ghost use Rattle.std.specs.Prelude.{◌≡◌, ℕ, ◌+◌, ◌-◌, ◌<◌, �
 ghost use Rattle.std.specs.List.{All};
 ghost use Rattle.xf_tree.specs.Rows.{grown, shrunk, rotated, raised, Sized, IsCut, IsRooted, tree_of, after_tree, raised_part, deepened, deepened_part, deeper, top_depth, IsPaste};
 
-use crate::lookup::{Hint, above_end};
+use crate::hints::Hints;
+use crate::lookup::above_end;
 
 /// A node's place in document order: where its slot is, how many nodes its tree has, its depth.
 #[derive(Clone, Copy, Debug)]
@@ -14,7 +15,7 @@ pub struct Row {
 }
 
 /// Adds to the sizes of the rows that are open at a place, where a tree of this depth comes in. It climbs by the hints.
-pub fn grow(rows: &mut [Row], hints: &[Hint], at: usize, depth: u32, by: usize)
+pub fn grow(rows: &mut [Row], hints: &Hints, at: usize, depth: u32, by: usize)
     requires within { at ≤ length rows.old }
     requires sized { Sized rows.old }
     requires room { All (λ r. r.size + by < 2 ^ 64) (take at rows.old) }
@@ -35,7 +36,7 @@ pub fn grow(rows: &mut [Row], hints: &[Hint], at: usize, depth: u32, by: usize)
 
 /// Takes from the sizes of the rows that are open at a place, where a tree of this depth goes out. It climbs by the
 /// hints.
-pub fn shrink(rows: &mut [Row], hints: &[Hint], at: usize, depth: u32, by: usize)
+pub fn shrink(rows: &mut [Row], hints: &Hints, at: usize, depth: u32, by: usize)
     requires within { at ≤ length rows.old }
     requires sized { Sized rows.old }
     ensures { rows.new ≡ shrunk by depth (reverse (take at rows.old)) (drop at rows.old) }
@@ -82,6 +83,7 @@ pub fn raise(rows: &mut [Row], from: usize, to: usize, by: u32)
 }
 
 /// Where the tree at a place ends.
+#[inline(always)]
 pub fn end_of(rows: &[Row], at: usize) -> usize
     requires within { at < length rows.now }
     requires sized { Sized rows.now }
@@ -92,7 +94,7 @@ pub fn end_of(rows: &[Row], at: usize) -> usize
 }
 
 /// Moves the tree at a place behind all others, with its top at depth 0.
-pub fn cut(rows: &mut [Row], hints: &[Hint], at: usize)
+pub fn cut(rows: &mut [Row], hints: &Hints, at: usize)
     requires within { at < length rows.old }
     requires sized { Sized rows.old }
     ensures sized { Sized rows.new }
@@ -108,7 +110,7 @@ pub fn cut(rows: &mut [Row], hints: &[Hint], at: usize)
 }
 
 /// `cut` on a vector.
-pub fn cut_in(rows: &mut Vec<Row>, hints: &[Hint], at: usize)
+pub fn cut_in(rows: &mut Vec<Row>, hints: &Hints, at: usize)
     requires within { at < length rows.old.items }
     requires sized { Sized rows.old.items }
     ensures sized { Sized rows.new.items }
@@ -139,7 +141,7 @@ pub fn deepen(rows: &mut [Row], from: usize, to: usize, by: u32)
 }
 
 /// Moves a tree that stands by itself to an earlier place, to have this depth there.
-pub fn paste(rows: &mut [Row], hints: &[Hint], from: usize, to: usize, depth: u32)
+pub fn paste(rows: &mut [Row], hints: &Hints, from: usize, to: usize, depth: u32)
     requires order { to ≤ from }
     requires within { from < length rows.old }
     requires few { length rows.old < 2 ^ 32 }
@@ -158,7 +160,7 @@ pub fn paste(rows: &mut [Row], hints: &[Hint], from: usize, to: usize, depth: u3
 }
 
 /// `paste` on a vector.
-pub fn paste_in(rows: &mut Vec<Row>, hints: &[Hint], from: usize, to: usize, depth: u32)
+pub fn paste_in(rows: &mut Vec<Row>, hints: &Hints, from: usize, to: usize, depth: u32)
     requires order { to ≤ from }
     requires within { from < length rows.old.items }
     requires few { length rows.old.items < 2 ^ 32 }

@@ -5,7 +5,7 @@ ghost use Rattle.xf_tree.specs.Rows.{Sized, rotated};
 ghost use Rattle.xf_tree.specs.Tree.{no_row, unsized};
 ghost use Rattle.xf_tree.specs.Texts.{attributes, children, text_row, settled, AreAt, depth_at, run_of, with_text_rows};
 
-use crate::lookup::{Hint, note_rows};
+use crate::hints::Hints;
 use crate::rows::{Row, end_of, grow, rotate, shrink};
 use crate::slot::is_attribute_at;
 use crate::slots::Slots;
@@ -15,7 +15,7 @@ use xf_doc::NodeId;
 pub fn change_texts(
     rows: &mut Vec<Row>,
     slots: &Slots,
-    hints: &mut [Hint],
+    hints: &mut Hints,
     at: usize,
     texts: &[NodeId],
 )
@@ -39,9 +39,7 @@ pub fn change_texts(
     gap_in(rows, from, end, texts.len());
     fill_in(rows, from, texts, depth);
     note_run(hints, rows, at, behind);
-    if behind != end {
-        note_rows(hints, rows, behind, rows.len());
-    }
+    note_behind(hints, rows, behind, end);
 }
 
 /// How many of these rows are of no attribute.
@@ -187,7 +185,7 @@ fn fill(rows: &mut [Row], from: usize, texts: &[NodeId], depth: u32)
 }
 
 /// `settle` on a vector.
-fn settle_in(rows: &mut Vec<Row>, hints: &[Hint], at: usize, depth: u32, had: usize, now: usize)
+fn settle_in(rows: &mut Vec<Row>, hints: &Hints, at: usize, depth: u32, had: usize, now: usize)
     requires within { at ≤ length rows.old.items }
     requires sized { Sized rows.old.items }
     requires room { All (λ r. r.size + now < 2 ^ 64) (take at rows.old.items) }
@@ -199,7 +197,7 @@ fn settle_in(rows: &mut Vec<Row>, hints: &[Hint], at: usize, depth: u32, had: us
 
 /// Adds to the sizes of the rows that are open at a place, or takes from them, where there are now so many rows of this
 /// depth instead of as many as there were.
-fn settle(rows: &mut [Row], hints: &[Hint], at: usize, depth: u32, had: usize, now: usize)
+fn settle(rows: &mut [Row], hints: &Hints, at: usize, depth: u32, had: usize, now: usize)
     requires within { at ≤ length rows.old }
     requires sized { Sized rows.old }
     requires room { All (λ r. r.size + now < 2 ^ 64) (take at rows.old) }
@@ -216,14 +214,24 @@ fn settle(rows: &mut [Row], hints: &[Hint], at: usize, depth: u32, had: usize, n
 }
 
 /// Notes where the rows below an element stand, and whose they are. What is noted is only a hint.
-fn note_run(hints: &mut [Hint], rows: &[Row], at: usize, end: usize) {
+fn note_run(hints: &mut Hints, rows: &[Row], at: usize, end: usize) {
     if end <= rows.len() && at < end {
         let parent = rows[at].key;
         for row in at + 1..end {
             let key = rows[row].key;
-            if key < hints.len() {
-                hints[key] = Hint { row, parent };
-            }
+            hints.note(key, row);
+            hints.note_parent(key, parent);
         }
+    }
+}
+
+/// Notes where the rows behind a run stand that ended at another place before. What is noted is only a hint.
+fn note_behind(hints: &mut Hints, rows: &[Row], behind: usize, had: usize) {
+    if had < behind {
+        hints.move_back(rows, behind, behind - had);
+        return;
+    }
+    if behind < had {
+        hints.note_rows(rows, behind, rows.len());
     }
 }

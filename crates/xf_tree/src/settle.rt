@@ -19,7 +19,6 @@ use crate::rows::{Row, end_of};
 use crate::run::change_texts;
 use crate::slot::{is_attribute_at, is_text_at, own};
 use crate::slots::Slots;
-use crate::tree::hint_at;
 use std::alloc::AllocError;
 use xf_doc::{Kind, NodeId, TreeFault};
 use xf_name::Word;
@@ -127,7 +126,7 @@ impl Forest {
             &mut had,
             node.number,
         );
-        hint_at(&mut self.hints, place);
+        self.hints.reserve(place);
         let texts = [NodeId { number, place }];
         change_texts(
             &mut self.rows,

@@ -17,6 +17,7 @@ use std::alloc::{AllocError, Global};
 use xf_doc::{Content, Kind, Name};
 use xf_name::{QName, Word};
 
+#[inline(always)]
 pub fn number_of(slots: &Slots, key: usize) -> u128
     ensures { result ≡ number_in (get slots.now key) }
 {
@@ -37,6 +38,7 @@ pub fn kind(slots: &Slots, key: usize) -> Kind
 }
 
 /// The text that a node has itself: an attribute's value, or the characters of a text.
+#[inline(always)]
 pub fn own(slots: &Slots, key: usize) -> &str
     ensures { result.now ≡ own_text (content_in (get slots.now key)) }
 {
@@ -44,6 +46,7 @@ pub fn own(slots: &Slots, key: usize) -> &str
 }
 
 /// What a node adds to the string value of a node above it.
+#[inline(always)]
 pub fn below(slots: &Slots, key: usize) -> &str
     ensures { result.now ≡ characters (content_in (get slots.now key)) }
 {

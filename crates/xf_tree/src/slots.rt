@@ -87,6 +87,7 @@ impl Slots {
     }
 
     /// The text that a node has itself: an attribute's value, or the characters of a text.
+    #[inline(always)]
     pub fn own(&self, key: usize) -> &str
         ensures { result.now ≡ own_text (content_in (get self.now key)) }
     {
@@ -101,6 +102,7 @@ impl Slots {
     }
 
     /// What a node adds to the string value of a node above it.
+    #[inline(always)]
     pub fn below(&self, key: usize) -> &str
         ensures { result.now ≡ characters (content_in (get self.now key)) }
     {

@@ -5,7 +5,7 @@ ghost use Rattle.xf_tree.specs.Rows.{AllDeep};
 ghost use Rattle.xf_tree.specs.Tree.{is_kin, node_of, no_row};
 ghost use Rattle.xf_tree.specs.Walks.{AreNodes, IsReady, between, chosen, is_plain};
 
-use crate::lookup::Hint;
+use crate::hints::Hints;
 use crate::rows::{Row, end_of};
 use crate::slots::Slots;
 use crate::walk::{Left, step};
@@ -34,7 +34,7 @@ pub enum Sought<'a> {
 pub fn next_found(
     rows: &[Row],
     slots: &Slots,
-    hints: &[Hint],
+    hints: &Hints,
     left: Left,
     sought: Sought<'_>,
 ) -> Option<(usize, Left)>
@@ -67,7 +67,7 @@ pub fn next_found(
 fn found_by_steps(
     rows: &[Row],
     slots: &Slots,
-    hints: &[Hint],
+    hints: &Hints,
     left: Left,
     sought: Sought<'_>,
 ) -> Option<(usize, Left)>

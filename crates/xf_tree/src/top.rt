@@ -8,7 +8,8 @@ ghost use Rattle.xf_tree.specs.Tree.{no_row};
 ghost use Rattle.xf_tree.specs.Walks.{ancestor_rows};
 
 use crate::forest::Forest;
-use crate::lookup::{Hint, parent_row, row_of};
+use crate::hints::Hints;
+use crate::lookup::{parent_row, row_of};
 use crate::rows::Row;
 use crate::slot::number_of;
 use xf_doc::NodeId;
@@ -34,7 +35,7 @@ impl Forest {
 }
 
 /// The row of the top of a tree, from one of its rows up.
-fn top_row(rows: &[Row], hints: &[Hint], at: usize) -> usize
+fn top_row(rows: &[Row], hints: &Hints, at: usize) -> usize
     requires within { at < length rows.now }
     requires sized { Sized rows.now }
     ensures within { result < length rows.now }

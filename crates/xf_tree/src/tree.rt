@@ -6,7 +6,7 @@ ghost use Rattle.xf_doc.specs.Plant.{numbered_from};
 ghost use Rattle.xf_tree.specs.Rows.{Sized, deeper};
 ghost use Rattle.xf_tree.specs.Tree.{node_of, content_in, no_row, AllLive, IsTree, KeepsLive, unsized, part_of, size_of_all};
 
-use crate::lookup::Hint;
+use crate::hints::Hints;
 use crate::rows::Row;
 use crate::seen::lent;
 use crate::slot::{duplicate, shown_at, size_in};
@@ -41,20 +41,11 @@ pub fn push_node(
     key
 }
 
-/// Makes room for a hint under a key. Where there is no memory for it, there is none, and the node is looked for.
-pub fn hint_at(hints: &mut Vec<Hint>, key: usize) {
-    while hints.len() <= key {
-        if hints.push(Hint { row: 0, parent: 0 }).is_err() {
-            return;
-        }
-    }
-}
-
 /// Puts the nodes of a tree behind all others, with numbers from the first one on.
 pub fn push_tree(
     rows: &mut Vec<Row>,
     slots: &mut Slots,
-    hints: &mut Vec<Hint>,
+    hints: &mut Hints,
     first: u128,
     tree: Vec<Part>,
 )
@@ -79,7 +70,7 @@ pub fn push_tree(
 }
 
 /// `set_sizes` on vectors.
-fn set_sizes_in(rows: &mut Vec<Row>, hints: &mut Vec<Hint>, start: usize)
+fn set_sizes_in(rows: &mut Vec<Row>, hints: &mut Hints, start: usize)
     requires { start ≤ length rows.old.items }
     ensures sized { Sized (drop start rows.new.items) }
     ensures front { take start rows.new.items ≡ take start rows.old.items }
@@ -89,13 +80,7 @@ fn set_sizes_in(rows: &mut Vec<Row>, hints: &mut Vec<Hint>, start: usize)
     set_sizes(rows, hints, start);
 }
 
-fn push_all(
-    rows: &mut Vec<Row>,
-    slots: &mut Slots,
-    hints: &mut Vec<Hint>,
-    first: u128,
-    tree: Vec<Part>,
-)
+fn push_all(rows: &mut Vec<Row>, slots: &mut Slots, hints: &mut Hints, first: u128, tree: Vec<Part>)
     requires tree { IsTree tree.items }
     requires slots { HasRoomFor slots.old (length tree.items) }
     requires rows { vec_len rows.old + length tree.items ≤ vec_capacity rows.old }
@@ -112,13 +97,13 @@ fn push_all(
     let mut number = first;
     for (depth, content) in tree {
         let key = push_node(rows, slots, number, depth, 1, content);
-        hint_at(hints, key);
+        hints.reserve(key);
         number += 1;
     }
 }
 
 /// Sets the sizes of the rows from a place on, from the last one back.
-fn set_sizes(rows: &mut [Row], hints: &mut [Hint], start: usize)
+fn set_sizes(rows: &mut [Row], hints: &mut Hints, start: usize)
     requires { start ≤ length rows.old }
     ensures sized { Sized (drop start rows.new) }
     ensures front { take start rows.new ≡ take start rows.old }
@@ -133,7 +118,7 @@ fn set_sizes(rows: &mut [Row], hints: &mut [Hint], start: usize)
 }
 
 /// Where the tree of the row at a place ends, by the sizes of the rows behind it. Hints are noted for the row and its children.
-fn tree_end(rows: &[Row], hints: &mut [Hint], at: usize) -> usize
+fn tree_end(rows: &[Row], hints: &mut Hints, at: usize) -> usize
     requires within { at < length rows.now }
     requires sized { Sized (drop (at + 1) rows.now) }
     ensures answer { result ≡ at + 1 + deeper (slice_index_or rows.now at no_row).depth (drop (at + 1) rows.now) }
@@ -141,15 +126,10 @@ fn tree_end(rows: &[Row], hints: &mut [Hint], at: usize) -> usize
 {
     let key = rows[at].key;
     let depth = rows[at].depth;
-    if key < hints.len() {
-        hints[key].row = at;
-    }
+    hints.note(key, at);
     let mut next = at + 1;
     while next < rows.len() && rows[next].depth > depth {
-        let child = rows[next].key;
-        if child < hints.len() {
-            hints[child].parent = key;
-        }
+        hints.note_parent(rows[next].key, key);
         next += rows[next].size;
     }
     next

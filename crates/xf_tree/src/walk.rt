@@ -5,7 +5,8 @@ ghost use Rattle.xf_tree.specs.Rows.{Sized, AllDeep};
 ghost use Rattle.xf_tree.specs.Tree.{node_of, no_row, is_kin};
 ghost use Rattle.xf_tree.specs.Walks.{between, chosen, is_plain, left_of, IsReady, IsStep};
 
-use crate::lookup::{Hint, is_kin_at, parent_row};
+use crate::hints::Hints;
+use crate::lookup::{is_kin_at, parent_row};
 use crate::rows::{Row, end_of};
 use crate::slot::{is_attribute_at, number_of};
 use crate::slots::Slots;
@@ -34,7 +35,7 @@ pub enum Left {
 pub struct Walk<'a> {
     pub(crate) rows: &'a [Row],
     pub(crate) slots: &'a Slots,
-    pub(crate) hints: &'a [Hint],
+    pub(crate) hints: &'a Hints,
     pub(crate) first: Option<usize>,
     pub(crate) left: Left,
 }
@@ -77,7 +78,7 @@ impl<'a> Iterator for Walk<'a> {
 
 /// The row that comes next, and what is left behind it.
 #[inline(always)]
-pub fn step(rows: &[Row], slots: &Slots, hints: &[Hint], left: Left) -> Option<(usize, Left)>
+pub fn step(rows: &[Row], slots: &Slots, hints: &Hints, left: Left) -> Option<(usize, Left)>
     requires sized { Sized rows.now }
     requires ready { IsReady rows.now left }
     ensures { MatchOption result (left_of slots.now rows.now left ≡ []) (λ r. IsStep slots.now rows.now left r.0 r.1) }
@@ -140,7 +141,7 @@ fn step_over_rows(rows: &[Row], slots: &Slots, at: usize, end: usize) -> Option<
 fn step_back(
     rows: &[Row],
     slots: &Slots,
-    hints: &[Hint],
+    hints: &Hints,
     above: usize,
     at: usize,
     depth: u32,
@@ -197,7 +198,7 @@ fn next_plain(rows: &[Row], slots: &Slots, at: usize, end: usize) -> usize
 fn last_kin(
     rows: &[Row],
     slots: &Slots,
-    hints: &[Hint],
+    hints: &Hints,
     above: usize,
     at: usize,
     depth: u32,
@@ -218,7 +219,7 @@ fn last_kin(
 }
 
 /// The place of the nearest row back from a place, itself included, that is no deeper than this, down to a row that is less deep.
-fn climb_to(rows: &[Row], hints: &[Hint], above: usize, from: usize, depth: u32) -> usize
+fn climb_to(rows: &[Row], hints: &Hints, above: usize, from: usize, depth: u32) -> usize
     requires sized { Sized rows.now }
     requires order { above ≤ from }
     requires within { from < length rows.now }

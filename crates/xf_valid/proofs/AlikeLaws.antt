@@ -1,7 +1,7 @@
 -- Tables of binds by which nodes have the same properties: the values of their entries are alike, and the same nodes are not valid.
 use Rattle.std.proofs.Common.{◌≡◌, ◌<◌, ℕ, zero, suc, Bool, true, false, cond, ◌||◌, ◌&&◌, List, [], ◌∷◌, ◌++◌, map, filter, find, length, Some, not, ◌==◌, refl, sym, ap, ◌∙◌, subst}
 use Rattle.std.specs.List.{list_all, list_any}
-use Rattle.std.specs.Bool.{OnTrue}
+use Rattle.std.specs.Bool.{OnFalse, OnTrue}
 use Rattle.std.proofs.lemmas.Bool.{OnTrue_at, OnTrue_from, eqb-true}
 use Rattle.std.proofs.lemmas.List.{get_or-set_same}
 use Rattle.xf_doc.specs.declared.content.Node.{Node}
@@ -136,14 +136,20 @@ pub marks-with : (table : List Kept) (model : ℕ) (k : Kept) → AreAlike (valu
     → (nodes : List Node) (n : ℕ) → marks_in (with_kept table model k) nodes n ≡ marks_in table nodes n
 marks-with table model k a same nodes n = marks-alike table (with_kept table model k) (values-with table model k a) (invalid-with table model k same) nodes n
 
--- where these nodes are kept of one model, and they may be those of before
+-- where these nodes are kept of one model, as those that are not valid
+kept-invalid : (table after : List Kept) (model : ℕ) (ns : List ℕ) → model < length table → after ≡ with_kept table model (record (kept_at table model) { invalid = ns }) → (kept_at after model).invalid ≡ ns
+kept-invalid table after model ns there is =
+    ap (λ l. (kept_at l model).invalid) is ∙ ap (λ (k : Kept). k.invalid) (get_or-set_same table model (record (kept_at table model) { invalid = ns }) no_kept there)
+
+-- they may be those of before
 pub same-invalid : (table after : List Kept) (model : ℕ) (ns : List ℕ) (same : Bool) → model < length table → after ≡ with_kept table model (record (kept_at table model) { invalid = ns })
     → OnTrue same (ns ≡ (kept_at table model).invalid) → OnTrue same ((kept_at after model).invalid ≡ (kept_at table model).invalid)
-same-invalid table after model ns same there is h =
-    OnTrue_from same _ (λ t.
-    ap (λ l. (kept_at l model).invalid) is
-    ∙ ap (λ (k : Kept). k.invalid) (get_or-set_same table model (record (kept_at table model) { invalid = ns }) no_kept there)
-    ∙ OnTrue_at t h)
+same-invalid table after model ns same there is h = OnTrue_from same _ (λ t. kept-invalid table after model ns there is ∙ OnTrue_at t h)
+
+-- or others
+pub other-invalid : (table after : List Kept) (model : ℕ) (ns : List ℕ) (same : Bool) → model < length table → after ≡ with_kept table model (record (kept_at table model) { invalid = ns })
+    → OnFalse same (ns ≡ (kept_at table model).invalid → ⊥) → OnFalse same ((kept_at after model).invalid ≡ (kept_at table model).invalid → ⊥)
+other-invalid table after model ns same there is h = subst (λ l. OnFalse same (l ≡ (kept_at table model).invalid → ⊥)) (sym (kept-invalid table after model ns there is)) h
 
 -- ---- neither entries, what stood, nor the nodes that are not valid are others
 

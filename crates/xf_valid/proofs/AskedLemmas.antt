@@ -1,20 +1,21 @@
 -- What the entries of a node ask of it decides whether it is valid.
-use Rattle.std.proofs.Common.{◌≡◌, ℕ, Bool, true, false, cond, not, ◌&&◌, ◌||◌, List, [], ◌∷◌, ◌++◌, map, Result, Ok, Err, IfOk, Option, Some, None, option_map, is_some, refl, sym, ap, ◌∙◌}
+use Rattle.std.proofs.Common.{◌≡◌, ℕ, Bool, true, false, cond, not, ◌&&◌, ◌||◌, List, [], ◌∷◌, map, filter, Result, Ok, Err, IfOk, Option, Some, None, option_map, is_some, refl, sym, ap, ◌∙◌}
 use Rattle.xf_num.specs.Written.{is_empty}
 use Rattle.xf_types.specs.Meets.{meets_type}
 use Rattle.xf_ast.specs.declared.form.Bind.{Bind}
+use Rattle.xf_ast.specs.declared.form.Instance.{Instance}
 use Rattle.xf_doc.specs.declared.content.Node.{Node}
 use Rattle.xf_doc.specs.StringValue.{string_value}
-use Rattle.xf_doc.specs.Visit.{visits}
+use Rattle.xf_doc.specs.Visit.{Visit, visits}
 use Rattle.xf_model.specs.declared.property.Property.TheVariants.{Required, Constraint}
-use Rattle.xf_model.specs.Applied as applied
 use Rattle.xf_model.specs.Rules.{Scope, rule_of}
 use Rattle.xf_model.specs.Properties.{meets_kind, own}
 use Rattle.xf_binds.specs.declared.entry.Entry.{Entry}
 use Rattle.xf_binds.specs.Held.{entry_of}
 use Rattle.xf_binds.specs.Kept.{Kept, values_of}
 use Rattle.xf_valid.specs.declared.invalid.Asked.{Asked}
-use Rattle.xf_valid.specs.Failed.{AskNothing, IsAsked, can_fail, failed_among, fails, fails_asked, is_failed, is_under, kind_in}
+use Rattle.xf_valid.specs.Failed.{AskNothing, IsAsked, can_fail, fails, fails_asked, is_failed, is_under, kind_in}
+use Rattle.xf_valid.specs.Invalid.{invalid_in, is_held, is_invalid}
 use Rattle.xf_valid.proofs.InvalidLemmas.{and-none, kind-in, valid-unset}
 
 pub fails-asked : (scope : Scope) (nodes : List Node) (k : Kept) (n : ℕ) (binds : List Bind) (a : Asked) → scope.rules ≡ map rule_of binds → IsAsked k n a → fails_asked binds a (string_value n (visits nodes)) ≡ fails scope nodes k n
@@ -42,12 +43,15 @@ failed-unasked scope nodes roots k n binds a rules is h =
 
 -- ---- where it is asked nothing
 
-pub failed-nothing : (scope : Scope) (nodes : List Node) (roots : List ℕ) (k : Kept) (es : List applied.Entry) → AskNothing k → failed_among scope nodes roots k es ≡ []
-failed-nothing scope nodes roots k [] h = refl
-failed-nothing scope nodes roots k (x ∷ xs) h =
-    ap (λ b. cond b (x.node ∷ []) [] ++ failed_among scope nodes roots k xs)
-    (ap (λ b. is_under nodes roots x.node && b) (valid-unset scope nodes k x.node (h.0 x.node) (h.1 x.node) (h.2 x.node)) ∙ and-none (is_under nodes roots x.node))
-    ∙ failed-nothing scope nodes roots k xs h
+filter-none : {X : Type 0} (test : X → Bool) (xs : List X) → ((x : X) → test x ≡ false) → filter test xs ≡ []
+filter-none test [] h = refl
+filter-none test (x ∷ xs) h = ap (λ b. cond b (x ∷ filter test xs) (filter test xs)) (h x) ∙ filter-none test xs h
+
+pub invalid-nothing : (scope : Scope) (instances : List Instance) (nodes : List Node) (k : Kept) → AskNothing k → invalid_in scope instances nodes k ≡ []
+invalid-nothing scope instances nodes k h =
+    ap (map (λ (v : Visit). v.number)) (filter-none (λ (v : Visit). is_invalid scope instances nodes k v.number) (visits nodes) (λ v.
+    ap (λ b. is_held instances scope.model nodes v.number && b) (valid-unset scope nodes k v.number (h.0 v.number) (h.1 v.number) (h.2 v.number))
+    ∙ and-none (is_held instances scope.model nodes v.number)))
 
 -- ---- what a node fails
 

@@ -1,5 +1,5 @@
 -- The ancestors of a node are its parent and the ancestors of that.
-use Rattle.std.proofs.Common.{◌≡◌, ℕ, suc, ◌<◌, length, ◌==◌, Bool, true, false, cond, not, ◌&&◌, ◌||◌, List, [], ◌∷◌, nat_lt, find, Some, None, refl, sym, ap, ◌∙◌, arith}
+use Rattle.std.proofs.Common.{◌≡◌, ℕ, ◌==◌, Bool, true, false, cond, not, ◌&&◌, ◌||◌, List, [], ◌∷◌, nat_lt, find, Some, None, refl, sym, ap, ◌∙◌, arith}
 use Rattle.std.proofs.lemmas.Bool.{eqb-true}
 use Rattle.std.proofs.lemmas.Bool.Decides.{nat_tests}
 use Rattle.xf_doc.specs.declared.content.Node.{Node}
@@ -87,8 +87,3 @@ no-parent all n h = by (ancestors_of n all) h
     by : (ns : List ℕ) → first_of ns ≡ None → ns ≡ []
     by [] h = refl
     by (m ∷ ms) h = cc h
-
-pub fewer : (nodes : List Node) (n p : ℕ) → are_apart nodes ≡ true → has_number n nodes ≡ true → parent_of n (visits nodes) ≡ Some p → length (ancestors_of p (visits nodes)) < length (ancestors_of n (visits nodes))
-fewer nodes n p a h e =
-    let chain : length (ancestors_of n (visits nodes)) ≡ suc (length (ancestors_of p (visits nodes))) = ap length (parent-chain nodes n p a h e) in
-    omega (arith, chain)

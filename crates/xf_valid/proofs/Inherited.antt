@@ -1,5 +1,5 @@
 -- What a node has from its parent: that it is relevant, and that it is readonly.
-use Rattle.std.proofs.Common.{◌≡◌, ℕ, Bool, true, false, ◌&&◌, ◌||◌, List, Some, None, refl, sym, ap, ◌∙◌}
+use Rattle.std.proofs.Common.{◌≡◌, ℕ, Bool, true, false, ◌&&◌, ◌||◌, List, Some, None, refl, ap, ◌∙◌}
 use Rattle.std.specs.List.{list_all, list_any}
 use Rattle.xf_doc.specs.declared.content.Node.{Node}
 use Rattle.xf_doc.specs.Forest.{has_number}
@@ -34,19 +34,3 @@ readonly-top table nodes n e =
     or-false : (b : Bool) → (b || false) ≡ b
     or-false true = refl
     or-false false = refl
-
--- one step up changes nothing where the node itself does not decide
-pub relevant-same : (table : List Kept) (nodes : List Node) (n p : ℕ) → are_apart nodes ≡ true → has_number n nodes ≡ true → parent_of n (visits nodes) ≡ Some p
-    → own (values_in table) Relevant true n ≡ true → relevant_in table nodes p ≡ relevant_in table nodes n
-relevant-same table nodes n p a h e is = sym (relevant-up table nodes n p a h e ∙ ap (λ b. b && relevant_in table nodes p) is)
-
-pub readonly-same : (table : List Kept) (nodes : List Node) (n p : ℕ) → are_apart nodes ≡ true → has_number n nodes ≡ true → parent_of n (visits nodes) ≡ Some p
-    → own_readonly (values_in table) n ≡ false → readonly_in table nodes p ≡ readonly_in table nodes n
-readonly-same table nodes n p a h e is = sym (readonly-up table nodes n p a h e ∙ ap (λ b. b || readonly_in table nodes p) is)
-
--- the node itself decides
-pub relevant-not : (table : List Kept) (nodes : List Node) (n : ℕ) → own (values_in table) Relevant true n ≡ false → relevant_in table nodes n ≡ false
-relevant-not table nodes n is = rw is refl
-
-pub readonly-is : (table : List Kept) (nodes : List Node) (n : ℕ) → own_readonly (values_in table) n ≡ true → readonly_in table nodes n ≡ true
-readonly-is table nodes n is = rw is refl

@@ -37,8 +37,8 @@ pub(crate) struct Asked {
     pub kind: Option<Entry>,
 }
 
-/// Finds the nodes of the model's instances that are not valid, and keeps them in the table. Whether they are those that were found before; that
-/// they may not be promises nothing.
+/// Finds the nodes of the model's instances that are not valid, and keeps them in the table. Whether they are those that were found before.
+/// Takes no memory where no entry asks anything that a node can fail.
 pub fn revalidate(
     alloc: Global,
     tables: &Tables,
@@ -48,10 +48,15 @@ pub fn revalidate(
 ) -> Result<bool, AllocError>
     requires { model < length table.old }
     ensures same { IfOk result (λ same. OnTrue same ((kept_at table.new model).invalid ≡ (kept_at table.old model).invalid)) }
+    ensures differs { IfOk result (λ same. OnFalse same ((kept_at table.new model).invalid ≡ (kept_at table.old model).invalid → ⊥)) }
     ensures ok { OnOk result ((functions : Functions) (given : Given)
         → table.new ≡ with_kept table.old model (revalidated (scope_of functions given tables.now model) tables.now.instances forest.now.forest.nodes (kept_at table.old model))) }
     ensures err { OnErr result (table.new ≡ table.old) }
 {
+    let is_asked = may_ask(table, model);
+    if !is_asked {
+        return Ok(table.set_invalid(model, NodeSet::new(alloc)));
+    }
     forest.are_trees();
     let roots = roots_of(alloc, tables.instances.as_slice(), forest, model)?;
     let found = all_failed(alloc, tables, forest, model, table, &roots)?;
@@ -73,10 +78,6 @@ fn all_failed(
         → found ≡ failed_among (scope_of functions given tables.now model) forest.now.forest.nodes roots.now (kept_at table.now model) (kept_at table.now model).entries) }
 {
     let mut found = NodeList::new(alloc);
-    let is_asked = may_ask(table, model);
-    if !is_asked {
-        return Ok(found);
-    }
     let count = table.len(model);
     for at in 0..count {
         push_failed(&mut found, tables, forest, model, table, roots, at)?;

@@ -8,5 +8,5 @@ mod nodes;
 
 pub use invalid::revalidate;
 pub use marks::marks_of;
-pub use nodes::{is_readonly, is_relevant, is_required, is_valid, marks_at};
+pub use nodes::{is_required, is_valid, marks_at};
 pub use xf_ui::Marks;

@@ -1,12 +1,11 @@
 //! The properties of one node (XForms 1.1, section 6.1).
 
 ghost use Rattle.std.specs.Prelude.{◌≡◌, false, Some};
-ghost use Rattle.xf_doc.specs.Forest.{IsLive};
 ghost use Rattle.xf_model.specs.Applied.{is_property};
 ghost use Rattle.xf_model.specs.Properties.{own, own_readonly};
 ghost use Rattle.xf_binds.specs.Kept.{values_in};
 ghost use Rattle.xf_binds.specs.Table.{truth_told};
-ghost use Rattle.xf_valid.specs.Nodes.{marks_in, readonly_in, relevant_in, required_in, valid_in};
+ghost use Rattle.xf_valid.specs.Nodes.{marks_in, required_in, valid_in};
 
 use crate::above::{inherited_by, own_where};
 use xf_binds::Table;
@@ -14,48 +13,6 @@ use xf_doc::NodeId;
 use xf_model::Property;
 use xf_tree::Forest;
 use xf_ui::Marks;
-
-/// Whether it and all its ancestors are relevant (section 6.1.4). It costs one look for each of these.
-pub fn is_relevant(forest: &Forest, table: &Table, node: NodeId) -> bool
-    requires { IsLive node.number forest.now.forest }
-    ensures { result ≡ relevant_in table.now forest.now.forest.nodes node.number }
-{
-    forest.are_trees();
-    let mut at = node;
-    let is_first = own(table, at, Property::Relevant, true);
-    if !is_first {
-        return false;
-    }
-    while let Some(parent) = forest.parent(at) {
-        let is_next = own(table, parent, Property::Relevant, true);
-        if !is_next {
-            return false;
-        }
-        at = parent;
-    }
-    true
-}
-
-/// Whether it or an ancestor is readonly (section 6.1.2). It costs one look for each of these.
-pub fn is_readonly(forest: &Forest, table: &Table, node: NodeId) -> bool
-    requires { IsLive node.number forest.now.forest }
-    ensures { result ≡ readonly_in table.now forest.now.forest.nodes node.number }
-{
-    forest.are_trees();
-    let mut at = node;
-    let is_first = own_readonly(table, at);
-    if is_first {
-        return true;
-    }
-    while let Some(parent) = forest.parent(at) {
-        let is_next = own_readonly(table, parent);
-        if is_next {
-            return true;
-        }
-        at = parent;
-    }
-    false
-}
 
 /// Whether it is required (section 6.1.3).
 pub fn is_required(table: &Table, node: NodeId) -> bool

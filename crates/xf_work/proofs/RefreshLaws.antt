@@ -11,6 +11,7 @@ use Rattle.xf_ui.specs.Copies as copies
 use Rattle.xf_ui.specs.Interface.{interface_of}
 use Rattle.xf_ui.specs.Notifications.{notifications}
 use Rattle.xf_form_machine.specs.declared.limit.LimitWord.TheVariants.{Long}
+use Rattle.xf_form_machine.specs.Construct.{first_shown}
 use Rattle.xf_form_machine.specs.Flow.{◌>>=◌}
 use Rattle.xf_form_machine.specs.Refusal.{Refused}
 use Rattle.xf_form_machine.specs.State.{State}
@@ -36,7 +37,7 @@ use Rattle.xf_work.specs.declared.flags.Flags.{Flags}
 use Rattle.xf_work.specs.declared.tally.Tally.{Tally}
 use Rattle.xf_work.specs.Around.{given_in}
 use Rattle.xf_work.specs.Built.{IsWhole}
-use Rattle.xf_work.specs.Calls.{AreRefreshed, AreShown, Refreshes, Renews, ShowsOthers, now_shown, long_or_memory}
+use Rattle.xf_work.specs.Calls.{AreRefreshed, AreShown, Refreshes, Renews, ShowsOthers, long_or_memory}
 use Rattle.xf_work.specs.Does.{Does, Finds, IsRefused, profile}
 use Rattle.xf_work.specs.Flags.{without_refresh}
 use Rattle.xf_work.specs.Held.{IsHeld, around_over}
@@ -137,11 +138,11 @@ refused-then : {A B : Type 0} (refusal : Refusal) (g : Result A Refused) (next :
 refused-then refusal (Err r) next h = h
 refused-then refusal (Ok x) next h = absurd h
 
-pub show-stops : (e : WorkFault) (s after : Standing) → Finds {X = List ControlCopy} (map seen_copy) (Err e) (update.shown profile (state_of s)) → Does {X = Unit {0}} (Err e) after (now_shown profile (state_of s))
+pub show-stops : (e : WorkFault) (s after : Standing) → Finds {X = List ControlCopy} (map seen_copy) (Err e) (update.shown profile (state_of s)) → Does {X = Unit {0}} (Err e) after (first_shown profile (state_of s))
 show-stops (fault.Refused refusal) s after h = refused-then refusal (update.shown profile (state_of s)) (λ list. Ok (record (state_of s) { controls = list })) h
 show-stops fault.Memory s after h = tt
 
-pub shows : (s after : Standing) (list : List copies.Copy) → update.shown profile (state_of s) ≡ Ok list → after ≡ record s { controls = list } → now_shown profile (state_of s) ≡ Ok (state_of after)
+pub shows : (s after : Standing) (list : List copies.Copy) → update.shown profile (state_of s) ≡ Ok list → after ≡ record s { controls = list } → first_shown profile (state_of s) ≡ Ok (state_of after)
 shows s after list e h = ap (λ r. r >>= λ cs. Ok (record (state_of s) { controls = cs })) e ∙ ap (λ (x : Standing). Ok (state_of x)) (sym h)
 
 pub told-renews : (e : EvalFault) (given : Option (List ControlCopy)) (list : List ControlCopy) → (e ≡ eval.Memory) ⊎ ((e ≡ eval.Long) × (given ≡ None)) → Renews {X = ℕ} (Err (long_or_memory e)) given list

@@ -14,8 +14,6 @@ use Rattle.xf_form_machine.specs.Behave as machine
 use Rattle.xf_form_machine.specs.ControlText.{state_text}
 use Rattle.xf_form_machine.specs.Update as update
 use Rattle.xf_form_machine.specs.Update.{no_refresh}
-use Rattle.xf_form_machine.specs.Flow.{Run, ◌>>=◌}
-use Rattle.xf_form_machine.specs.Profile.{Profile}
 use Rattle.xf_report.specs.declared.refusal.Refusal.TheVariants.{Limit}
 use Rattle.xf_loader.specs.declared.loaded.Loaded.{Loaded}
 use Rattle.xf_work.specs.declared.fault.WorkFault.{WorkFault}
@@ -54,10 +52,6 @@ Writes loaded forest table controls before after = (flags : List Flags) (tally :
 abbrev pub long_or_memory : EvalFault → WorkFault
 long_or_memory eval.Long = Refused (Limit word.Long)
 long_or_memory eval.Memory = Memory
-
--- the controls are those made afresh
-abbrev pub now_shown : Profile → Run
-now_shown p s = update.shown p s >>= λ list. Ok (record s { controls = list })
 
 -- a refresh of all, of which the answer counts what is told, while what is due stays so
 pub record AreShown (count : ℕ) (before after : Standing) : Type 0 where

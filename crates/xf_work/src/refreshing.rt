@@ -5,8 +5,9 @@ ghost use Rattle.xf_controls.specs.Renewed.{AreThere, renewed};
 ghost use Rattle.xf_controls.specs.Rising.{is_rising};
 ghost use Rattle.xf_controls.specs.Seen.{seen_copy};
 ghost use Rattle.xf_ui.specs.Notifications.{notifications};
+ghost use Rattle.xf_form_machine.specs.Construct.{first_shown};
 ghost use Rattle.xf_form_machine.specs.Update as update;
-ghost use Rattle.xf_work.specs.Calls.{Refreshes, Renews, ShowsOthers, now_shown};
+ghost use Rattle.xf_work.specs.Calls.{Refreshes, Renews, ShowsOthers};
 ghost use Rattle.xf_work.specs.Does.{Does, Finds, profile};
 ghost use Rattle.xf_work.specs.Standing.{state_of};
 
@@ -20,7 +21,7 @@ use xf_tree::Forest;
 impl Work {
     /// Shows the controls for the first time, or again: nothing is told of differences.
     pub fn show(&mut self) -> Result<(), WorkFault>
-        ensures done { Does result self.new.now (now_shown profile (state_of self.old.now)) }
+        ensures done { Does result self.new.now (first_shown profile (state_of self.old.now)) }
         ensures kept { self.new.kept ≡ self.old.kept }
         ensures built { self.new.built ≡ self.old.built }
     {

@@ -1,8 +1,9 @@
 //! A text that is set at a node (XForms 1.1, section 10.2), and what its refusals mean.
 
-ghost use Rattle.std.specs.Prelude.{◌≡◌, ◌<◌, ◌^◌, length, nat_lt, IfOk, OnOk, OnErr};
+ghost use Rattle.std.specs.Prelude.{◌≡◌, ◌<◌, ◌^◌, bytes_eq, length, nat_lt, IfOk, OnOk, OnErr};
 ghost use Rattle.xf_doc.specs.Forest.{IsLive};
 ghost use Rattle.xf_doc.specs.Needs.{IsSettable};
+ghost use Rattle.xf_doc.specs.StringValue.{string_value};
 ghost use Rattle.xf_doc.specs.Visit.{children_of, visits};
 ghost use Rattle.xf_work.specs.Setting.{AreMarked, IsBound, IsSet, MayBeSet, holder_of, is_other};
 
@@ -57,15 +58,26 @@ pub(crate) fn is_other(forest: &Forest, node: NodeId, text: &str) -> Result<bool
     requires { IsLive node.number forest.now.forest }
     ensures { IfOk result (λ other. other ≡ is_other (visits forest.now.forest.nodes) node.number text.now) }
 {
+    let is_same = is_value(forest, node, text)?;
+    Ok(!is_same || has_children(forest, node))
+}
+
+/// Whether a text is the string value of a node: one of several pieces is put together.
+fn is_value(forest: &Forest, node: NodeId, text: &str) -> Result<bool, AllocError>
+    requires { IsLive node.number forest.now.forest }
+    ensures { IfOk result (λ same. same ≡ bytes_eq (string_value node.number (visits forest.now.forest.nodes)) text.now) }
+{
+    if let Some(value) = forest.whole_value(node) {
+        return Ok(value == text);
+    }
     if text.len() > u32::MAX as usize {
         // No memory holds so many.
         return Err(AllocError);
     }
-    let is_same = match forest.string_value(node, text.len() as u32)? {
-        Some(value) => value.is(text),
-        None => false,
-    };
-    Ok(!is_same || has_children(forest, node))
+    match forest.string_value(node, text.len() as u32)? {
+        Some(value) => Ok(value.is(text)),
+        None => Ok(false),
+    }
 }
 
 /// Whether a node has more than one child.

@@ -39,7 +39,7 @@ pub returns-in_err-push_truth : goal.returns-in_err-push_truth
 returns-in_err-push_truth g c =
     let scope = scope_in (g.A.Around.given c.args.around.now) c.args.tables.now c.args.model in
     let all = visits c.args.forest.now.forest.nodes in
-    let p = err_from_is_err_and c.from_residual.result c.from_residual.ensures.1 in
+    let p = err_from_is_err_and c.from_residual-in_err-push_truth.result c.from_residual-in_err-push_truth.ensures.1 in
     rw (p.1, p.2) (part-long Memory Long _ _ _ c.in_err-push_truth.ensures
     (λ h. step-none scope all c.loop-at.found (kept_at c.args.table.now c.args.model).entries c.loop-at.at _ c.loop-at.invariant.found (ap (found_step c.loop-at.found scope all) (sym c.entry-entry.ensures) ∙ h)))
 

@@ -90,14 +90,8 @@ sized-are c =
     c.text_rows-had.result c.settle_in.new.rows.items c.pack_in-from.new.rows.items c.gap_in.new.rows.items c.fill_in.new.rows.items (end-is c) (had-is c) (now-is c)
     c.pack_in-from.ensures.front c.pack_in-from.ensures.rest c.gap_in.ensures.front c.gap_in.ensures.rest (full-is c)
 
-pub returns-then-behind-end-clause-rows : goal.returns-then-behind-end-clause-rows
-returns-then-behind-end-clause-rows c = rows-are (goal.at.returns-then-behind-end-clause-rows c).After-fill_in
+pub returns-clause-rows : goal.returns-clause-rows
+returns-clause-rows c = rows-are (goal.at.returns-clause-rows c).After-fill_in
 
-pub returns-then-behind-end-clause-sized : goal.returns-then-behind-end-clause-sized
-returns-then-behind-end-clause-sized c = sized-are (goal.at.returns-then-behind-end-clause-sized c).After-fill_in
-
-pub returns-else-behind-end-clause-rows : goal.returns-else-behind-end-clause-rows
-returns-else-behind-end-clause-rows c = rows-are (goal.at.returns-else-behind-end-clause-rows c).After-fill_in
-
-pub returns-else-behind-end-clause-sized : goal.returns-else-behind-end-clause-sized
-returns-else-behind-end-clause-sized c = sized-are (goal.at.returns-else-behind-end-clause-sized c).After-fill_in
+pub returns-clause-sized : goal.returns-clause-sized
+returns-clause-sized c = sized-are (goal.at.returns-clause-sized c).After-fill_in

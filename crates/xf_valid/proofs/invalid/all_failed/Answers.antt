@@ -1,8 +1,6 @@
-use Rattle.std.proofs.Common.{◌≤◌, length, sym, ◌∙◌, arith}
-use Rattle.std.proofs.lemmas.Bool.{OnFalse_at}
+use Rattle.std.proofs.Common.{◌≤◌, length, arith}
 use Rattle.xf_model.specs.Rules.{scope_of}
 use Rattle.xf_binds.specs.Table.{kept_at}
-use Rattle.xf_valid.proofs.AskedLemmas.{failed-nothing}
 use Rattle.xf_valid.proofs.InvalidLemmas.{failed-more, failed-all}
 use Rattle.xf_valid.proofs.invalid.all_failed.Goals as goal
 
@@ -17,9 +15,3 @@ returns c = λ functions given.
     let k = kept_at c.args.table.now c.args.model in
     let past : length k.entries ≤ c.loop-at.at = omega (arith, c.len-count.ensures, c.loop-at-test.false) in
     failed-all (scope_of functions given c.args.tables.now c.args.model) c.args.forest.now.forest.nodes c.args.roots.now k k.entries c.loop-at.at c.loop-at.found (c.loop-at.invariant functions given) past
-
-pub returns-then-not-is_asked : goal.returns-then-not-is_asked
-returns-then-not-is_asked c = λ functions given.
-    let k = kept_at c.args.table.now c.args.model in
-    c.new-found.ensures
-    ∙ sym (failed-nothing (scope_of functions given c.args.tables.now c.args.model) c.args.forest.now.forest.nodes c.args.roots.now k k.entries (OnFalse_at c.if-not-is_asked.true c.may_ask-is_asked.ensures))

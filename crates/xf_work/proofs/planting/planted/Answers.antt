@@ -1,11 +1,18 @@
-use Rattle.std.proofs.Common.{[], ap, ◌∙◌, sym, ◌≡◌, refl, subst}
+use Rattle.std.proofs.Common.{[], ap, ◌∙◌, sym, ◌≡◌, refl, subst, Err, Result}
 use Rattle.xf_doc.specs.Shape.{shape_of}
 use Rattle.xf_work.specs.Held.{planted_shape}
 use Rattle.std.specs.Prelude.{replicate}
 use Rattle.xf_binds.specs.Table.{all_rolled_back}
 use Rattle.xf_controls.specs.Former.{Standing}
 use Rattle.xf_work.specs.Parts.{standing_of}
-use Rattle.xf_work.specs.Planting.{IsBegun, documents_grown, planted_by}
+use Rattle.xf_doc.specs.Forest.{Forest}
+use Rattle.xf_form_machine.specs.Refusal.{Refused}
+use Rattle.xf_form_machine.specs.State.{State}
+use Rattle.xf_loader.specs.declared.loaded.Loaded.{Loaded}
+use Rattle.xf_work.specs.declared.fault.WorkFault.{WorkFault}
+use Rattle.xf_work.specs.declared.fault.WorkFault.TheVariants as fault
+use Rattle.xf_work.specs.Does.{IsRefused}
+use Rattle.xf_work.specs.Planting.{Grows, IsBegun, IsPlanted, documents_grown, planted_by}
 use Rattle.xf_work.proofs.BegunLaws.{begun-is, begun-sound, first_tally, shape-planted}
 use Rattle.std.proofs.lemmas.Result.{err_from_is_err_and}
 use Rattle.xf_work.proofs.planting.planted.Goals as goal
@@ -19,7 +26,7 @@ pub invariant_of-result : goal.invariant_of-result
 invariant_of-result c =
     record {
       held = c.in_ok-bound_nodes.ensures;
-      bound = c.are_bound-is_bound.ensures;
+      bound = c.are_bound-is_bound.ensures.bound;
       steady = tt;
       steady_before = tt;
       sound = begun-sound c.args.loaded c.plant_all.new.forest.forest c.in_ok-made.made c.len-count.result c.new-2.result c.in_ok-table.table c.in_ok-flags.flags.items
@@ -47,6 +54,18 @@ returns c =
     (c.in_ok-flags.ensures.items_if_clones_equal (λ y e. e) ∙ ap (replicate c.len-count.result) c.none.ensures)
     (c.in_ok-old_flags.ensures.items_if_clones_equal (λ y e. e) ∙ ap (replicate c.len-count.result) c.none-2.ensures)
     c.len-count.ensures refl (start ∙ c.in_ok-made.ensures.done))
+
+-- data that cannot be planted
+unplanted : (f : WorkFault) (l : Loaded) (forest : Forest) (given grown : Result State Refused) → given ≡ grown → Grows (Err f) l forest grown → IsPlanted (Err f) given
+unplanted (fault.Refused refusal) l forest given grown same grows = subst (IsRefused refusal) (sym same) grows
+unplanted fault.Memory l forest given grown same grows = tt
+
+pub returns-in_err-made : goal.returns-in_err-made
+returns-in_err-made c =
+    let p = err_from_is_err_and c.from_residual.result c.from_residual.ensures.1 in
+    let start : planted_by c.args.loaded ≡ documents_grown c.args.loaded c.args.loaded.form.tables.instances c.new-forest.result.forest 0 =
+    ap (λ k. documents_grown c.args.loaded c.args.loaded.form.tables.instances k.forest 0) (sym c.new-forest.ensures) in
+    rw (p.1, p.2) (unplanted c.in_err-made.field-0.0 c.args.loaded c.plant_all.new.forest.forest _ _ start c.in_err-made.ensures.done)
 
 pub returns-in_err-bound_nodes : goal.returns-in_err-bound_nodes
 returns-in_err-bound_nodes c =

@@ -14,5 +14,5 @@ returns-in-Some-Some c =
     let at = c.in-Some-Some.one in
     let to = c.in-Some-Some.other in
     let here = subst (λ r. StandsAt s r n at) c.deref.ensures.value c.in-Some-Some.ensures in
-    let there = subst (λ r. StandsAt s r m to) c.deref-3.ensures.value c.in-Some-Some.ensures' in
+    let there = subst (λ r. StandsAt s r m to) c.deref-2.ensures.value c.in-Some-Some.ensures' in
     sym (before-means s n m at to rows c.self.inside.kept.items c.self.inside.next c.self.invariant.sound here there) ∙ ap (λ (k : Keeping). is_before n m k.forest.nodes) c.self.view_is

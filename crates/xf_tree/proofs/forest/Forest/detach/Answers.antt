@@ -18,7 +18,7 @@ use Rattle.xf_tree.proofs.AboveLemmas.{above-is, above-inside, child-depth, stan
 use Rattle.xf_tree.proofs.ForestLemmas.{cut-means}
 use Rattle.xf_tree.proofs.StateLemmas.{cut-state}
 use Rattle.xf_tree.proofs.forest.Forest.detach.Goals as goal
-use Rattle.xf_tree.proofs.forest.Forest.detach.Goals.{In_default, In_default-parent_row, After-deref-5}
+use Rattle.xf_tree.proofs.forest.Forest.detach.Goals.{In_default, In_default-parent_row, After-deref-3}
 
 nowhere : (c : In_default) → ⊥
 nowhere c =
@@ -43,7 +43,7 @@ topmost c =
     let at = c.in-Some.at in
     let here = subst (λ r. StandsAt s r n at) c.deref.ensures.value c.in-Some.ensures in
     let means = parent-means s n at rows here (one_of s rows c.self.inside.kept.items c.self.inside.next n c.self.invariant.sound) in
-    let is : None ≡ parent_row_of rows at = c.in_default-parent_row.ensures.answer ∙ ap (λ l. parent_row_of l at) c.deref-3.ensures.value in
+    let is : None ≡ parent_row_of rows at = c.in_default-parent_row.ensures.answer ∙ ap (λ l. parent_row_of l at) c.deref-2.ensures.value in
     let none : parent_of n (visits (map (node_of s) rows)) ≡ None = means ∙ ap (number_at s rows) (sym is) in
     false≢true (ap is_some (sym none ∙ ap (λ (k : Keeping). parent_of n (visits k.forest.nodes)) c.self.view_is) ∙ c.requires.below)
 
@@ -54,33 +54,33 @@ pub returns-in_default-parent_row-clause-stood : goal.returns-in_default-parent_
 returns-in_default-parent_row-clause-stood c = absurd (topmost c)
 
 -- where the node's row and the parent's stand
-stands-here : (c : After-deref-5) → StandsAt c.self.inside.slots c.self.inside.rows.items c.args.node.number c.in-Some.at
+stands-here : (c : After-deref-3) → StandsAt c.self.inside.slots c.self.inside.rows.items c.args.node.number c.in-Some.at
 stands-here c = subst (λ r. StandsAt c.self.inside.slots r c.args.node.number c.in-Some.at) c.deref.ensures.value c.in-Some.ensures
 
-above-here : (c : After-deref-5) → Some c.in-Some-parent_row.above ≡ parent_row_of c.self.inside.rows.items c.in-Some.at
-above-here c = c.in-Some-parent_row.ensures.answer ∙ ap (λ l. parent_row_of l c.in-Some.at) c.deref-3.ensures.value
+above-here : (c : After-deref-3) → Some c.in-Some-parent_row.above ≡ parent_row_of c.self.inside.rows.items c.in-Some.at
+above-here c = c.in-Some-parent_row.ensures.answer ∙ ap (λ l. parent_row_of l c.in-Some.at) c.deref-2.ensures.value
 
 pub place_of-place-requires-clause-inside : goal.place_of-place-requires-clause-inside
 place_of-place-requires-clause-inside c =
-    let c5 = (goal.at.place_of-place-requires-clause-inside c).After-deref-5 in
+    let c5 = (goal.at.place_of-place-requires-clause-inside c).After-deref-3 in
     let rows = c.self.inside.rows.items in
     let here = stands-here c5 in
     let above = c.in-Some-parent_row.above in
     let i = above-inside rows above c.in-Some.at here.within (above-is rows above c.in-Some.at here.within (above-here c5)) in
-    subst (λ r. c.in-Some.at < above + length (tree_of (drop above r))) (sym c.deref-5.ensures.value) i
+    subst (λ r. c.in-Some.at < above + length (tree_of (drop above r))) (sym c.deref-3.ensures.value) i
 
 pub place_of-place-requires-clause-child : goal.place_of-place-requires-clause-child
 place_of-place-requires-clause-child c =
-    let c5 = (goal.at.place_of-place-requires-clause-child c).After-deref-5 in
+    let c5 = (goal.at.place_of-place-requires-clause-child c).After-deref-3 in
     let rows = c.self.inside.rows.items in
     let here = stands-here c5 in
     let above = c.in-Some-parent_row.above in
     let i = child-depth rows above c.in-Some.at here.within c.self.invariant.sound.steps (above-is rows above c.in-Some.at here.within (above-here c5)) in
-    subst (λ r. (get_or r c.in-Some.at no_row).depth ≡ (get_or r above no_row).depth + 1) (sym c.deref-5.ensures.value) i
+    subst (λ r. (get_or r c.in-Some.at no_row).depth ≡ (get_or r above no_row).depth + 1) (sym c.deref-3.ensures.value) i
 
 pub invariant_of-self : goal.invariant_of-self
 invariant_of-self c =
-    let here = stands-here (goal.at.invariant_of-self c).After-deref-5 in
+    let here = stands-here (goal.at.invariant_of-self c).After-deref-3 in
     cut-state c.self.inside.slots c.in-Some.at c.self.inside.next c.self.inside.count c.self.inside.bytes _ _ c.self.inside.kept.items c.self.inside.rows.items c.cut_in.new.rows.items
     c.self.invariant here.within c.cut_in.ensures.sized c.cut_in.ensures.answer c.cut_in.ensures.room
 
@@ -89,14 +89,14 @@ returns-clause-moved c =
     let n = c.args.node.number in
     let s = c.self.inside.slots in
     let rows = c.self.inside.rows.items in
-    let here = stands-here (goal.at.returns-clause-moved c).After-deref-5 in
+    let here = stands-here (goal.at.returns-clause-moved c).After-deref-3 in
     let e = cut-means s n c.in-Some.at rows c.cut_in.new.rows.items here (one_of s rows c.self.inside.kept.items c.self.inside.next n c.self.invariant.sound) c.cut_in.ensures.answer in
     let whole : List Node → Keeping = λ l. record { forest = record { nodes = l; next = c.self.inside.next }; kept = map (kept_of s) c.self.inside.kept.items } in
     ap whole e ∙ ap (λ (k : Keeping). record k { forest = detached n k.forest }) c.self.view_is
 
 pub returns-clause-stood : goal.returns-clause-stood
 returns-clause-stood c =
-    let c5 = (goal.at.returns-clause-stood c).After-deref-5 in
+    let c5 = (goal.at.returns-clause-stood c).After-deref-3 in
     let n = c.args.node.number in
     let s = c.self.inside.slots in
     let rows = c.self.inside.rows.items in
@@ -106,7 +106,7 @@ returns-clause-stood c =
     let within : above < length rows = omega (arith, here.within, c.in-Some-parent_row.ensures.within) in
     let row = c.index.ensures ∙ get_or_default rows above _ no_row within in
     let number : c.number_of-number.result ≡ number_in (get s (get_or rows above no_row).key) = c.number_of-number.ensures ∙ ap (λ (r : Row). number_in (get s r.key)) row in
-    let place : c.place_of-place.result ≡ kin_before s rows above at = c.place_of-place.ensures ∙ ap (λ r. kin_before s r above at) c.deref-5.ensures.value in
+    let place : c.place_of-place.result ≡ kin_before s rows above at = c.place_of-place.ensures ∙ ap (λ r. kin_before s r above at) c.deref-3.ensures.value in
     let means = standing-means s rows c.self.inside.kept.items c.self.inside.next n above at c.self.invariant.sound here (above-here c5) in
     let pair : ℕ → ℕ → Option (ℕ × ℕ) = λ a b. Some (a, b) in
     ap (λ a. pair a c.place_of-place.result) number ∙ ap (pair (number_in (get s (get_or rows above no_row).key))) place ∙ sym means ∙ ap (λ (k : Keeping). standing n k.forest.nodes) c.self.view_is

@@ -49,9 +49,9 @@ returns c =
     let s = c.self.inside.slots in
     let rows = c.self.inside.rows.items in
     let text = c.args.text.now in
-    let end : c.end_of.result ≡ at + length (tree_of (drop at rows)) = c.end_of.ensures.answer ∙ ap (λ l. at + length (tree_of (drop at l))) c.deref-4.ensures.value in
+    let end : c.end_of.result ≡ at + length (tree_of (drop at rows)) = c.end_of.ensures.answer ∙ ap (λ l. at + length (tree_of (drop at l))) c.deref-3.ensures.value in
     let long : c.end_of.result - at ≡ length (tree_of (drop at rows)) = omega (arith, end) in
-    c.are_texts.ensures ∙ ap (λ l. are_texts (as_texts text) (texts_in (map (node_of s) (take (c.end_of.result - at) (drop at l))))) c.deref-3.ensures.value
+    c.are_texts.ensures ∙ ap (λ l. are_texts (as_texts text) (texts_in (map (node_of s) (take (c.end_of.result - at) (drop at l))))) c.deref-2.ensures.value
     ∙ ap (λ k. are_texts (as_texts text) (texts_in (map (node_of s) (take k (drop at rows))))) long
     ∙ sym (stands-texts s n at text rows c.self.inside.kept.items c.self.inside.next c.self.invariant.sound (stands-in p) (sym (kind-in p) ∙ c.if-is_attribute_at.false))
     ∙ ap (λ (k : Keeping). has_text n text k.forest.nodes) c.self.view_is

@@ -29,7 +29,7 @@ returns-then-at-to c =
     let at = c.in-Some.at in
     let to = c.in-Some-row_of.to in
     let here = subst (λ r. StandsAt s r n at) c.deref.ensures.value c.in-Some.ensures in
-    let there = subst (λ r. StandsAt s r m to) c.deref-3.ensures.value c.in-Some-row_of.ensures in
+    let there = subst (λ r. StandsAt s r m to) c.deref-2.ensures.value c.in-Some-row_of.ensures in
     let last = at + length (tree_of (drop at rows)) in
     let end : c.end_of.result ≡ last = c.end_of.ensures.answer ∙ ap (λ l. at + length (tree_of (drop at l))) c.deref-then-at-to.ensures.value in
     ap (nat_lt to) end ∙ within at to c.if-at-to.true (nat_lt to last) ∙ sym (inside-means s n m at to rows c.self.inside.kept.items c.self.inside.next c.self.invariant.sound here there)
@@ -44,7 +44,7 @@ returns-else-at-to c =
     let at = c.in-Some.at in
     let to = c.in-Some-row_of.to in
     let here = subst (λ r. StandsAt s r n at) c.deref.ensures.value c.in-Some.ensures in
-    let there = subst (λ r. StandsAt s r m to) c.deref-3.ensures.value c.in-Some-row_of.ensures in
+    let there = subst (λ r. StandsAt s r m to) c.deref-2.ensures.value c.in-Some-row_of.ensures in
     let last = at + length (tree_of (drop at rows)) in
     before at to c.if-at-to.false (nat_lt to last) ∙ sym (inside-means s n m at to rows c.self.inside.kept.items c.self.inside.next c.self.invariant.sound here there)
     ∙ ap (λ (k : Keeping). has_number m (tree_of_node n k.forest.nodes)) c.self.view_is
@@ -57,6 +57,6 @@ returns-in-None c =
     let rows = c.self.inside.rows.items in
     let at = c.in-Some.at in
     let here = subst (λ r. StandsAt s r n at) c.deref.ensures.value c.in-Some.ensures in
-    let absent = subst (λ r. has_number m (map (node_of s) r) ≡ false) c.deref-3.ensures.value c.in-None.ensures in
+    let absent = subst (λ r. has_number m (map (node_of s) r) ≡ false) c.deref-2.ensures.value c.in-None.ensures in
     sym (inside-other s n m at rows c.self.inside.kept.items c.self.inside.next c.self.invariant.sound here absent)
     ∙ ap (λ (k : Keeping). has_number m (tree_of_node n k.forest.nodes)) c.self.view_is

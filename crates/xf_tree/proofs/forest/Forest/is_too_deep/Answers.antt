@@ -23,14 +23,14 @@ returns-in-Some-Some c =
     let above = c.in-Some-Some.above in
     let end = c.end_of-end.result in
     let here = subst (λ r. StandsAt s r n at) c.deref.ensures.value c.in-Some-Some.ensures in
-    let there = subst (λ r. StandsAt s r m above) c.deref-3.ensures.value c.in-Some-Some.ensures' in
+    let there = subst (λ r. StandsAt s r m above) c.deref-2.ensures.value c.in-Some-Some.ensures' in
     let elements = c.elements_over-elements.ensures ∙ ap (λ l. elements_over s l above) c.deref-in-Some-Some.ensures.value
     ∙ sym (elements-mean s m above rows there (λ k. one_of s rows c.self.inside.kept.items c.self.inside.next k c.self.invariant.sound)) in
-    let size : end - at ≡ length (row_tree (drop at rows)) = omega (arith, c.end_of-end.ensures.answer, ap (λ l. length (row_tree (drop at l))) c.deref-in-Some-Some-3.ensures.value) in
-    let slice : take (end - at) (drop at c.deref-in-Some-Some-4.result.now) ≡ row_tree (drop at rows) =
-    ap (λ l. take (end - at) (drop at l)) c.deref-in-Some-Some-4.ensures.value ∙ (tree-is-front (drop at rows) (end - at) size).0 in
+    let size : end - at ≡ length (row_tree (drop at rows)) = omega (arith, c.end_of-end.ensures.answer, ap (λ l. length (row_tree (drop at l))) c.deref-in-Some-Some-2.ensures.value) in
+    let slice : take (end - at) (drop at c.deref-in-Some-Some-3.result.now) ≡ row_tree (drop at rows) =
+    ap (λ l. take (end - at) (drop at l)) c.deref-in-Some-Some-3.ensures.value ∙ (tree-is-front (drop at rows) (end - at) size).0 in
     let tree = ap (map (node_of s)) slice ∙ sym (tree-nodes s n at rows here (one_of s rows c.self.inside.kept.items c.self.inside.next n c.self.invariant.sound)) in
     let nodes = map (node_of s) rows in
-    c.has_deep.ensures ∙ ap (λ e. is_too_deep 100 e (map (node_of s) (take (end - at) (drop at c.deref-in-Some-Some-4.result.now)))) elements
+    c.has_deep.ensures ∙ ap (λ e. is_too_deep 100 e (map (node_of s) (take (end - at) (drop at c.deref-in-Some-Some-3.result.now)))) elements
     ∙ ap (is_too_deep 100 (elements_above m (visits nodes))) tree
     ∙ ap (λ (k : Keeping). is_too_deep 100 (elements_above m (visits k.forest.nodes)) (tree_of n k.forest.nodes)) c.self.view_is

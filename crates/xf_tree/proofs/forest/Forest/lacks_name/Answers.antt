@@ -35,7 +35,7 @@ returns-in-Some-row_of c =
     let above = c.in-Some-row_of.above in
     let forest : Forest = record { nodes = map (node_of s) rows; next = next } in
     let here = subst (λ r. StandsAt s r n at) c.deref.ensures.value c.in-Some.ensures in
-    let there = subst (λ r. StandsAt s r m above) c.deref-3.ensures.value c.in-Some-row_of.ensures in
+    let there = subst (λ r. StandsAt s r m above) c.deref-2.ensures.value c.in-Some-row_of.ensures in
     let row = c.index.ensures ∙ get_or_default rows at _ no_row here.within in
     let like = content_in (get s (get_or rows at no_row).key) in
     let means = kids-mean (is_attribute_like like) s m above rows kept next c.self.invariant.sound there in
@@ -53,7 +53,7 @@ returns-in-None c =
     let at = c.in-Some.at in
     let forest : Forest = record { nodes = map (node_of s) rows; next = c.self.inside.next } in
     let here = subst (λ r. StandsAt s r n at) c.deref.ensures.value c.in-Some.ensures in
-    let absent : has_number m (map (node_of s) rows) ≡ false = subst (λ r. has_number m (map (node_of s) r) ≡ false) c.deref-3.ensures.value c.in-None.ensures in
+    let absent : has_number m (map (node_of s) rows) ≡ false = subst (λ r. has_number m (map (node_of s) r) ≡ false) c.deref-2.ensures.value c.in-None.ensures in
     let like = content_in (get s (get_or rows at no_row).key) in
     sym (lacks-nobody n m forest like (content-means s n at rows c.self.inside.kept.items c.self.inside.next c.self.invariant.sound here) absent)
     ∙ ap (λ (k : Keeping). lacks_name n m k.forest) c.self.view_is

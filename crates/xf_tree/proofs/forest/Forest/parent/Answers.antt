@@ -21,7 +21,7 @@ returns c =
     let here = subst (λ r. StandsAt s r n at) c.deref.ensures.value c.in_ok-at.ensures in
     let means = parent-means s n at rows here (one_of s rows c.self.inside.kept.items c.self.inside.next n c.self.invariant.sound) in
     let view = ap (λ (k : Keeping). parent_of n (visits k.forest.nodes)) c.self.view_is in
-    let is : Some above ≡ parent_row_of rows at = c.in_ok-above.ensures.answer ∙ ap (λ l. parent_row_of l at) c.deref-3.ensures.value in
+    let is : Some above ≡ parent_row_of rows at = c.in_ok-above.ensures.answer ∙ ap (λ l. parent_row_of l at) c.deref-2.ensures.value in
     let within : above < length rows = omega (arith, here.within, c.in_ok-above.ensures.within) in
     let row = c.index.ensures ∙ get_or_default rows above _ no_row within in
     let number = c.number_of.ensures ∙ ap (λ (r : Row). number_in (get s r.key)) row in
@@ -36,5 +36,5 @@ returns-in_err-above c =
     let here = subst (λ r. StandsAt s r n at) c.deref.ensures.value c.in_ok-at.ensures in
     let means = parent-means s n at rows here (one_of s rows c.self.inside.kept.items c.self.inside.next n c.self.invariant.sound) in
     let view = ap (λ (k : Keeping). parent_of n (visits k.forest.nodes)) c.self.view_is in
-    let is : None ≡ parent_row_of rows at = c.in_err-above.ensures.answer ∙ ap (λ l. parent_row_of l at) c.deref-3.ensures.value in
+    let is : None ≡ parent_row_of rows at = c.in_err-above.ensures.answer ∙ ap (λ l. parent_row_of l at) c.deref-2.ensures.value in
     ap (option_map (λ (m : NodeId). m.number)) c.from_residual-in_err-above.ensures ∙ ap (number_at s rows) is ∙ sym means ∙ view

@@ -14,7 +14,7 @@ use Rattle.xf_tree.proofs.NeedLemmas.{none-named, none-kind, node-kind, parent-k
 use Rattle.xf_tree.proofs.AttachLemmas.{stands-outside, placed-means}
 use Rattle.xf_tree.proofs.AttachedLemmas.{placed-state}
 use Rattle.xf_tree.proofs.forest.Forest.place.Goals as goal
-use Rattle.xf_tree.proofs.forest.Forest.place.Goals.{After-deref_mut}
+use Rattle.xf_tree.proofs.forest.Forest.place.Goals.{In-Some-row_of}
 
 pub returns-in_default : goal.returns-in_default
 returns-in_default c =
@@ -31,20 +31,20 @@ returns-in_default-row_of c =
     let m = c.args.parent.number in
     let s = c.self.inside.slots in
     absurd (
-    let absent = subst (λ r. has_number m (map (node_of s) r) ≡ false) c.deref-3.ensures.value c.in_default-row_of.ensures in
+    let absent = subst (λ r. has_number m (map (node_of s) r) ≡ false) c.deref-2.ensures.value c.in_default-row_of.ensures in
     let may = subst (λ (k : Keeping). goes_below (kind_at n k.forest.nodes) (kind_at m k.forest.nodes) ≡ true) (sym c.self.view_is) c.requires.kinds in
     elim (parent-kind (kind_at n (map (node_of s) c.self.inside.rows.items)) _ may) [ inl e ↦ none-kind m kind.Element _ absent e | inr e ↦ none-kind m kind.Root _ absent e ]
     )
 
 -- where the node's row stands, and the parent's
-node-here : (c : After-deref_mut) → StandsAt c.self.inside.slots c.self.inside.rows.items c.args.node.number c.in-Some.at
+node-here : (c : In-Some-row_of) → StandsAt c.self.inside.slots c.self.inside.rows.items c.args.node.number c.in-Some.at
 node-here c = subst (λ r. StandsAt c.self.inside.slots r c.args.node.number c.in-Some.at) c.deref.ensures.value c.in-Some.ensures
 
-parent-here : (c : After-deref_mut) → StandsAt c.self.inside.slots c.self.inside.rows.items c.args.parent.number c.in-Some-row_of.above
-parent-here c = subst (λ r. StandsAt c.self.inside.slots r c.args.parent.number c.in-Some-row_of.above) c.deref-3.ensures.value c.in-Some-row_of.ensures
+parent-here : (c : In-Some-row_of) → StandsAt c.self.inside.slots c.self.inside.rows.items c.args.parent.number c.in-Some-row_of.above
+parent-here c = subst (λ r. StandsAt c.self.inside.slots r c.args.parent.number c.in-Some-row_of.above) c.deref-2.ensures.value c.in-Some-row_of.ensures
 
 -- what kinds of nodes they are
-kinds-there : (c : After-deref_mut) → goes_below (Some (kind_of (content_in (get c.self.inside.slots (get_or c.self.inside.rows.items c.in-Some.at no_row).key))))
+kinds-there : (c : In-Some-row_of) → goes_below (Some (kind_of (content_in (get c.self.inside.slots (get_or c.self.inside.rows.items c.in-Some.at no_row).key))))
     (Some (kind_of (content_in (get c.self.inside.slots (get_or c.self.inside.rows.items c.in-Some-row_of.above no_row).key)))) ≡ true
 kinds-there c =
     let n = c.args.node.number in
@@ -57,7 +57,7 @@ kinds-there c =
     let may = subst (λ (k : Keeping). goes_below (kind_at n k.forest.nodes) (kind_at m k.forest.nodes) ≡ true) (sym c.self.view_is) c.requires.kinds in
     ap (λ k. goes_below k (Some (kind_of (content_in (get s (get_or rows c.in-Some-row_of.above no_row).key))))) (sym one) ∙ ap (goes_below (kind_at n (map (node_of s) rows))) (sym two) ∙ may
 
-at-top : (c : After-deref_mut) → (get_or c.self.inside.rows.items c.in-Some.at no_row).depth ≡ 0
+at-top : (c : In-Some-row_of) → (get_or c.self.inside.rows.items c.in-Some.at no_row).depth ≡ 0
 at-top c =
     let n = c.args.node.number in
     let s = c.self.inside.slots in
@@ -67,11 +67,11 @@ at-top c =
     (named-meets n (λ (x : Node). x.depth == 0) _ _ _ _ (stands s n c.in-Some.at rows (node-here c) (one_of s rows c.self.inside.kept.items c.self.inside.next n c.self.invariant.sound)) may)
 
 pub place_tree-requires-clause-top : goal.place_tree-requires-clause-top
-place_tree-requires-clause-top c = at-top (goal.at.place_tree-requires-clause-top c).After-deref_mut
+place_tree-requires-clause-top c = at-top (goal.at.place_tree-requires-clause-top c).In-Some-row_of
 
 pub place_tree-requires-clause-outside : goal.place_tree-requires-clause-outside
 place_tree-requires-clause-outside c =
-    let k = (goal.at.place_tree-requires-clause-outside c).After-deref_mut in
+    let k = (goal.at.place_tree-requires-clause-outside c).In-Some-row_of in
     let n = c.args.node.number in
     let m = c.args.parent.number in
     let s = c.self.inside.slots in
@@ -79,13 +79,13 @@ place_tree-requires-clause-outside c =
     let outside = subst (λ (q : Keeping). has_number m (tree_of n q.forest.nodes) ≡ false) (sym c.self.view_is) c.requires.outside in
     stands-outside s n m c.in-Some.at c.in-Some-row_of.above rows (node-here k) (parent-here k) (one_of s rows c.self.inside.kept.items c.self.inside.next n c.self.invariant.sound) outside
 
-no-root_there : (c : After-deref_mut) → is_root (content_in (get c.self.inside.slots (get_or c.self.inside.rows.items c.in-Some.at no_row).key)) ≡ false
+no-root_there : (c : In-Some-row_of) → is_root (content_in (get c.self.inside.slots (get_or c.self.inside.rows.items c.in-Some.at no_row).key)) ≡ false
 no-root_there c = no-root_content _ (node-kind _ _ (kinds-there c))
 
-no-leaf_there : (c : After-deref_mut) → is_leaf (content_in (get c.self.inside.slots (get_or c.self.inside.rows.items c.in-Some-row_of.above no_row).key)) ≡ false
+no-leaf_there : (c : In-Some-row_of) → is_leaf (content_in (get c.self.inside.slots (get_or c.self.inside.rows.items c.in-Some-row_of.above no_row).key)) ≡ false
 no-leaf_there c = no-leaf_content _ (parent-kind (Some (kind_of (content_in (get c.self.inside.slots (get_or c.self.inside.rows.items c.in-Some.at no_row).key)))) _ (kinds-there c))
 
-element-there : (c : After-deref_mut) → is_attribute (content_in (get c.self.inside.slots (get_or c.self.inside.rows.items c.in-Some.at no_row).key)) ≡ true
+element-there : (c : In-Some-row_of) → is_attribute (content_in (get c.self.inside.slots (get_or c.self.inside.rows.items c.in-Some.at no_row).key)) ≡ true
     → is_element (content_in (get c.self.inside.slots (get_or c.self.inside.rows.items c.in-Some-row_of.above no_row).key)) ≡ true
 element-there c is =
     let parent = Some (kind_of (content_in (get c.self.inside.slots (get_or c.self.inside.rows.items c.in-Some-row_of.above no_row).key))) in
@@ -93,14 +93,14 @@ element-there c is =
 
 pub invariant_of-self : goal.invariant_of-self
 invariant_of-self c =
-    let k = (goal.at.invariant_of-self c).After-deref_mut in
+    let k = (goal.at.invariant_of-self c).In-Some-row_of in
     placed-state c.self.inside.slots c.args.node.number c.args.parent.number c.in-Some.at c.in-Some-row_of.above c.args.place c.self.inside.next c.self.inside.count c.self.inside.bytes _
     c.self.inside.kept.items c.self.inside.rows.items c.place_tree.new.rows.items c.self.invariant (node-here k) (parent-here k) (at-top k) c.place_tree.ensures.answer (no-root_there k) (no-leaf_there k) (element-there k)
     c.place_tree.ensures.sized _ c.place_tree.ensures.room
 
 pub returns : goal.returns
 returns c =
-    let k = (goal.at.returns c).After-deref_mut in
+    let k = (goal.at.returns c).In-Some-row_of in
     let n = c.args.node.number in
     let m = c.args.parent.number in
     let s = c.self.inside.slots in

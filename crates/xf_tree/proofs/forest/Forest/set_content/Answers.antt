@@ -32,15 +32,15 @@ run-in : (c : Passed) (rows : List Row) → rows ≡ c.self.inside.rows.items �
 run-in c rows e =
     let at = c.in-Some.at in
     let old = c.self.inside.rows.items in
-    let end : c.end_of-end.result ≡ at + length (tree_of (drop at old)) = c.end_of-end.ensures.answer ∙ ap (λ l. at + length (tree_of (drop at l))) c.deref-3.ensures.value in
+    let end : c.end_of-end.result ≡ at + length (tree_of (drop at old)) = c.end_of-end.ensures.answer ∙ ap (λ l. at + length (tree_of (drop at l))) c.deref-2.ensures.value in
     let long : c.end_of-end.result - (at + 1) ≡ deeper (depth_at at old) (drop (at + 1) old) = omega (arith, end, tree-size at old (stands-in c).within) in
     ap (λ l. take (c.end_of-end.result - (at + 1)) (drop (at + 1) l)) e ∙ ap (λ k. take k (drop (at + 1) old)) long
 
 taken-in : (c : Passed) → c.texts_in-taken.result.0 ≡ length (children c.self.inside.slots (run_of c.in-Some.at c.self.inside.rows.items))
-taken-in c = c.texts_in-taken.ensures.count ∙ ap (λ l. length (children c.self.inside.slots l)) (run-in c c.deref-4.result.now c.deref-4.ensures.value)
+taken-in c = c.texts_in-taken.ensures.count ∙ ap (λ l. length (children c.self.inside.slots l)) (run-in c c.deref-3.result.now c.deref-3.ensures.value)
 
 size-in : (c : Passed) → c.texts_in-taken.result.1 ≡ all_size (map (node_of c.self.inside.slots) (children c.self.inside.slots (run_of c.in-Some.at c.self.inside.rows.items)))
-size-in c = c.texts_in-taken.ensures.size ∙ ap (λ l. all_size (map (node_of c.self.inside.slots) (children c.self.inside.slots l))) (run-in c c.deref-4.result.now c.deref-4.ensures.value)
+size-in c = c.texts_in-taken.ensures.size ∙ ap (λ l. all_size (map (node_of c.self.inside.slots) (children c.self.inside.slots l))) (run-in c c.deref-3.result.now c.deref-3.ensures.value)
 
 count-in : (c : Passed) → c.saturating_add-count.result ≡ c.self.inside.count - length (children c.self.inside.slots (run_of c.in-Some.at c.self.inside.rows.items)) + text_count c.args.text.now
 count-in c =

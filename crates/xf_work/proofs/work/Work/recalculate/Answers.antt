@@ -132,7 +132,7 @@ invariant_of-self-2 c =
           (subst (λ f. Knows w.loaded f (all_rolled_back w.table) w.old_known) (sym c.in_ok-truths.ensures.kept) c.self.invariant.before));
       bound = c.self.invariant.bound;
       steady = elim c.if-self.branch [
-        | then-self t ↦ subst (λ b. OnTrue b (AreSteady w.loaded c.recalculated.new.self w.shown.now)) (sym t.self-is) (settled-steady w.loaded w.table w.shown.now (OnTrue_at t.if-self.true c.self.invariant.steady) t.keeps_properties-self-inside.result c.args.model c.in_ok-truths.truths c.recalculated.new.self c.recalculated.ensures t.keeps_properties-self-inside.ensures)
+        | then-self t ↦ subst (λ b. OnTrue b (AreSteady w.loaded c.recalculated.new.self w.shown.now)) (sym t.self-is) (settled-steady w.loaded w.table w.shown.now (OnTrue_at t.if-self.true c.self.invariant.steady) t.keeps_properties-self-inside.result c.args.model c.in_ok-truths.truths c.recalculated.new.self c.recalculated.ensures t.keeps_properties-self-inside.ensures.alike)
         | else-self e ↦ subst (λ b. OnTrue b (AreSteady w.loaded c.recalculated.new.self w.shown.now)) (sym (e.self-is ∙ e.if-self.false)) tt
       ];
       steady_before = subst (λ x. OnTrue w.was_steady (AreSteady w.loaded (all_rolled_back x) w.shown.kept)) (sym c.recalculated.ensures)
