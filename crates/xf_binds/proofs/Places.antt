@@ -1,5 +1,5 @@
 -- Where the entries of nodes stand, as they come one by one.
-use Rattle.std.proofs.Common.{◌≡◌, ℕ, zero, suc, Bool, true, false, cond, ◌&&◌, ◌||◌, ◌<◌, List, [], ◌∷◌, ◌++◌, length, Option, Some, None, slice_get, nat_eq, ◌==◌, refl, sym, ap, ◌∙◌, arith}
+use Rattle.std.proofs.Common.{◌≡◌, ℕ, zero, suc, Bool, true, false, cond, ◌&&◌, ◌||◌, ◌<◌, List, [], ◌∷◌, ◌++◌, length, Option, Some, None, is_some, slice_get, nat_eq, ◌==◌, refl, sym, ap, ◌∙◌, arith}
 use Rattle.std.specs.List.{list_any}
 use Rattle.std.proofs.lemmas.Bool.Decides.{nat_tests}
 use Rattle.std.proofs.lemmas.Bool.{eqb-true}
@@ -9,7 +9,7 @@ use Rattle.xf_model.specs.declared.property.Property.TheVariants.{Kind, Calculat
 use Rattle.xf_model.specs.Applied as applied
 use Rattle.xf_model.specs.Applied.{is_property, sets_same}
 use Rattle.xf_binds.specs.declared.entry.Seats.{Seats}
-use Rattle.xf_binds.specs.Held.{AreSet, Held, IsSeated, entries_in, held_as, held_at, held_on, held_same, is_seat, newly_held, no_seats, passes, seat_in, seat_of, seats_or, seats_with}
+use Rattle.xf_binds.specs.Held.{AreSet, Held, IsSeated, entries_in, held_as, held_at, held_on, held_same, is_seat, is_set, newly_held, no_seats, passes, seat_in, seat_of, seats_or, seats_with}
 use Rattle.xf_binds.proofs.Finds.{false-true, find-none, find-one, kept_if}
 
 -- ---- the seats of one node
@@ -202,17 +202,41 @@ seated-more held seats new e seated none updates = λ m q i.
     ∙ sym (passes-last (held_on m q) held (newly_held e) i)
 
 pub set-more : (held : List Held) (last : Seats) (e : applied.Entry) (k : ℕ) → AreSet held last → AreSet (held ++ newly_held e ∷ []) (seats_with last e.property k)
-set-more held last e k h = λ n p i free. by n p i (is_property p e.property) refl (sym (seat-with last p e.property k) ∙ free)
+set-more held last e k h = λ p.
+    ap is_some (seat-with last p e.property k)
+    ∙ by (is_property p e.property) (seat_of last p)
+    ∙ ap (λ b. b || is_property p e.property) (h p)
+    ∙ ap (λ b. is_set p (entries_in held) || b) (property-turned p e.property)
+    ∙ sym (set-last p held)
   where
-    by : (n : ℕ) (p : Property) (i : ℕ) (b : Bool) → is_property p e.property ≡ b → cond b (Some k) (seat_of last p) ≡ None → passes (held_on n p) (slice_get (held ++ newly_held e ∷ []) i) ≡ false
-    by n p i true is free = cc free
-    by n p i false is free =
-        passes-last (held_on n p) held (newly_held e) i
-        ∙ ap (λ b. b || ((length held == i) && held_on n p (newly_held e))) (h n p i free)
-        ∙ and-none (length held == i) (held_on n p (newly_held e)) (and-none (e.node == n) (is_property e.property p) (property-turned e.property p ∙ is))
+    by : (b : Bool) (o : Option ℕ) → is_some (cond b (Some k) o) ≡ (is_some o || b)
+    by true None = refl
+    by true (Some i) = refl
+    by false None = refl
+    by false (Some i) = refl
+
+    set-last : (p : Property) (xs : List Held) → is_set p (entries_in (xs ++ newly_held e ∷ [])) ≡ (is_set p (entries_in xs) || is_property e.property p)
+    set-last p [] = alone (is_property e.property p)
+      where
+        alone : (b : Bool) → (b || false) ≡ b
+        alone true = refl
+        alone false = refl
+    set-last p (x ∷ xs) = ap (λ b. is_property x.entry.property p || b) (set-last p xs) ∙ joined (is_property x.entry.property p) (is_set p (entries_in xs)) (is_property e.property p)
+      where
+        joined : (a b c : Bool) → (a || (b || c)) ≡ ((a || b) || c)
+        joined true b c = refl
+        joined false b c = refl
 
 pub set-none : AreSet [] no_seats
-set-none = λ n p i free. refl
+set-none = at-none
+  where
+    at-none : (p : Property) → is_some (seat_of no_seats p) ≡ false
+    at-none Kind = refl
+    at-none Calculate = refl
+    at-none Relevant = refl
+    at-none Readonly = refl
+    at-none Required = refl
+    at-none Constraint = refl
 
 -- ---- whether a property is set already
 

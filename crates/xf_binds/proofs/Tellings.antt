@@ -11,7 +11,7 @@ use Rattle.xf_model.specs.Properties.{sets_on}
 use Rattle.xf_binds.specs.declared.entry.Item.{Item}
 use Rattle.xf_binds.specs.declared.entry.Seats.{Seats}
 use Rattle.xf_model.specs.Entries.{is_computed}
-use Rattle.xf_binds.specs.Held.{AreSet, Held, IsSeated, entries_in, entry_of, held_by, held_of, held_on, holds, is_seat, passes}
+use Rattle.xf_binds.specs.Held.{AreSet, Held, IsSeated, entries_in, entry_of, held_by, held_of, held_on, holds, is_seat, is_set, passes}
 use Rattle.xf_binds.specs.Kept.{truth_from, valued_in}
 use Rattle.xf_binds.proofs.Items.{seat-there}
 use Rattle.xf_binds.proofs.Places.{same-none, same-some}
@@ -87,7 +87,7 @@ pub seated-told : {S : Type 0} (held told : List Held) (seats : IndexMap ℕ Sea
 seated-told held told seats e s n p i = s n p i ∙ passes-entry n p held i ∙ ap (λ l. passes (sets_on n p) (slice_get l i)) (sym e) ∙ sym (passes-entry n p told i)
 
 pub set-told : (held told : List Held) (last : Seats) → entries_in told ≡ entries_in held → AreSet held last → AreSet told last
-set-told held told last e s = λ n p i free. passes-entry n p told i ∙ ap (λ l. passes (sets_on n p) (slice_get l i)) e ∙ sym (passes-entry n p held i) ∙ s n p i free
+set-told held told last e s = λ p. s p ∙ ap (is_set p) (sym e)
 
 -- ---- all models, one after the other
 

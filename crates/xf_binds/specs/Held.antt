@@ -1,10 +1,11 @@
 -- The entries and types that the binds of a model set, each with the truth that its value had, and where those of a node stand among them.
-use Rattle.std.specs.Prelude.{ℕ, suc, ◌≡◌, Bool, false, ◌&&◌, List, [], ◌∷◌, map, find, Option, Some, None, option_map, slice_get, nat_eq, ◌==◌, if◌then◌else◌}
+use Rattle.std.specs.Prelude.{ℕ, suc, ◌≡◌, Bool, false, ◌&&◌, List, [], ◌∷◌, map, find, Option, Some, None, is_some, option_map, slice_get, nat_eq, ◌==◌, if◌then◌else◌}
 use Rattle.std.specs.List.{list_any}
 use Rattle.indexmap.specs.IndexMap.{IndexMap, get}
 use Rattle.xf_model.specs.declared.property.Property.{Property}
 use Rattle.xf_model.specs.declared.property.Property.TheVariants.{Kind, Calculate, Relevant, Readonly, Required, Constraint}
 use Rattle.xf_model.specs.Applied as applied
+use Rattle.xf_model.specs.Applied.{is_property}
 use Rattle.xf_model.specs.Pertinent.{is_same}
 use Rattle.xf_model.specs.Properties.{sets_on}
 use Rattle.xf_binds.specs.declared.entry.Entry.{Entry}
@@ -105,9 +106,13 @@ IsSeated held seats = (n : ℕ) (p : Property) (i : ℕ) → is_seat (seat_in (g
 abbrev pub AreNear : {S : Type 0} → IndexMap ℕ Seats S → List Seats → Type 0
 AreNear seats near = (n : ℕ) (s : Seats) → slice_get near n ≡ Some s → s ≡ seats_or (get nat_eq seats n)
 
--- a property without a seat is set on no node
+-- an entry sets the property on some node
+abbrev pub is_set : Property → List applied.Entry → Bool
+is_set p entries = list_any (λ e. is_property e.property p) entries
+
+-- a property has a seat where it is set on some node
 abbrev pub AreSet : List Held → Seats → Type 0
-AreSet held last = (n : ℕ) (p : Property) (i : ℕ) → seat_of last p ≡ None → passes (held_on n p) (slice_get held i) ≡ false
+AreSet held last = (p : Property) → is_some (seat_of last p) ≡ is_set p (entries_in held)
 
 -- where one entry at most is the same attribute of the same bind for the same node, this is it
 abbrev pub IsOnly : List applied.Entry → applied.Entry → Option applied.Entry → Type 0

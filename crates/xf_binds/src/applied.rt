@@ -8,7 +8,7 @@ ghost use Rattle.xf_model.specs.Entries.{is_computed};
 ghost use Rattle.xf_model.specs.Properties.{sets_on};
 ghost use Rattle.xf_binds.specs.Kept.{truth_from, valued_in};
 ghost use Rattle.xf_model.specs.Applied as applied;
-ghost use Rattle.xf_binds.specs.Held.{AreNear, AreSingle, IsOnly, entries_in, entry_of, held_at, held_by, held_of, held_on, held_same, holds, is_seat, newly_held, passes, place_on, seat_in, seats_or};
+ghost use Rattle.xf_binds.specs.Held.{AreNear, AreSingle, IsOnly, entries_in, entry_of, held_at, held_by, held_of, held_on, held_same, holds, is_seat, is_set, newly_held, passes, place_on, seat_in, seats_or};
 ghost use Rattle.indexmap.specs.IndexMap.{get};
 
 use crate::entry::{Entry, Item, Seats};
@@ -96,10 +96,9 @@ impl Applied {
         self.seat(node, property)
     }
 
-    /// Whether an entry may set the property: where not, it is set on no node. That one may promises nothing. It costs one look,
-    /// however many entries there are.
+    /// Whether an entry sets the property on some node. It costs one look, however many entries there are.
     pub fn sets(&self, property: Property) -> bool
-        ensures { OnFalse result ((n : ℕ) → find (sets_on n property) (entries_in self.now) ≡ None) }
+        ensures { result ≡ is_set property (entries_in self.now) }
     {
         self.last.at(property).is_some()
     }

@@ -1,7 +1,8 @@
 //! What binds set: one property of one node.
 
-ghost use Rattle.std.specs.Prelude.{◌≡◌};
-ghost use Rattle.xf_binds.specs.Held.{no_seats, seat_of, seats_with};
+ghost use Rattle.std.specs.Prelude.{◌≡◌, option_map};
+ghost use Rattle.xf_binds.specs.Held.{entry_of, no_seats, seat_of, seats_with};
+ghost use Rattle.xf_binds.specs.Placed.{is_calculate_at};
 
 use xf_doc::NodeId;
 use xf_model::Property;
@@ -15,6 +16,16 @@ pub struct Entry {
     /// The node's place in the bind's node set, from 1, and how many nodes that has.
     pub position: u32,
     pub size: u32,
+}
+
+/// Whether there is an entry, and it is a calculate.
+pub fn is_calculate(entry: Option<Entry>) -> bool
+    ensures { result ≡ is_calculate_at (option_map entry_of entry) }
+{
+    match entry {
+        Some(entry) => entry.property == Property::Calculate,
+        None => false,
+    }
 }
 
 /// An entry with the truth that its value had, where it had one.

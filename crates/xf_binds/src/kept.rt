@@ -6,7 +6,7 @@ ghost use Rattle.xf_model.specs.Applied.{is_property};
 ghost use Rattle.xf_model.specs.Entries.{is_computed};
 ghost use Rattle.xf_model.specs.Properties.{sets_on};
 ghost use Rattle.xf_model.specs.Applied as applied;
-ghost use Rattle.xf_binds.specs.Held.{AreSingle, Held, IsOnly, entries_in, entry_of};
+ghost use Rattle.xf_binds.specs.Held.{AreSingle, Held, IsOnly, entries_in, entry_of, is_set};
 ghost use Rattle.xf_binds.specs.Kept.{IsAlone, committed, entries_of, no_kept, recalculated, rolled_back, stood_of, told_of, truth_at, truth_from, truth_in};
 ghost use Rattle.xf_binds.specs.Placed.{AreInOrder};
 ghost use Rattle.xf_binds.specs.Readers.{AreReaders, list_or};
@@ -265,9 +265,9 @@ impl Kept {
         }
     }
 
-    /// Whether a present entry may set this property: where not, it is set on no node.
+    /// Whether a present entry sets this property on some node.
     pub(crate) fn sets(&self, property: Property) -> bool
-        ensures { OnFalse result ((n : ℕ) → find (sets_on n property) self.now.entries ≡ None) }
+        ensures { result ≡ is_set property self.now.entries }
     {
         self.present().sets(property)
     }

@@ -14,7 +14,7 @@ mod turns;
 mod web;
 
 pub use applied::Applied;
-pub use entry::Entry;
+pub use entry::{Entry, is_calculate};
 pub use node_set::NodeSet;
 pub use ordered::Ordered;
 pub use readers::PlaceList;

@@ -17,30 +17,28 @@ use std::alloc::{AllocError, Global};
 use std::marker::Model;
 use xf_doc::NodeList;
 
-/// What a rebuild gave: entries, what each of them asks of the data, and the nodes of the calculates, none before one that its calculate
-/// reads. Contracts see no order, since there may be others. Who reads a node is found by the node: so a change costs what it reaches.
+/// What a rebuild gave: entries, what each of them asks of the data, and the calculates, none before one that it reads. Contracts see no
+/// order, since there may be others. Who reads a node is found by the node: so a change costs what it reaches.
 #[derive(Drop)]
 pub struct Ordered {
     applied: Applied,
     web: Web,
-    order: NodeList,
-    // The calculates of these nodes.
+    // The calculates, none before one that it reads.
     turns: Vec<Turn>,
     readers: Readers,
 }
 
 impl Model for Ordered {
     ghost use Rattle.xf_binds.specs.Held.{entries_in};
-    ghost use Rattle.xf_binds.specs.Turns.{AreInTurn};
     ghost use Rattle.xf_binds.specs.Kept.{Entered};
-    ghost use Rattle.xf_binds.specs.Placed.{TellsTurns};
+    ghost use Rattle.xf_binds.specs.Placed.{AreInOrder};
     ghost use Rattle.xf_binds.specs.Readers.{TellsReaders};
 
     ghost Value = { Entered };
 
     ghost view = { λ o. record { held = o.applied; asks = o.web } };
 
-    ghost invariant = { λ o. (AreInTurn (entries_in o.applied) o.web o.order) × (TellsReaders (entries_in o.applied) o.web o.readers) × (TellsTurns (entries_in o.applied) o.order o.turns.items) };
+    ghost invariant = { λ o. (AreInOrder (entries_in o.applied) o.web o.turns.items) × (TellsReaders (entries_in o.applied) o.web o.readers) };
 }
 
 impl Ordered {
@@ -51,7 +49,6 @@ impl Ordered {
         Ordered {
             applied: Applied::new(alloc),
             web: Web::new(alloc),
-            order: NodeList::new(alloc),
             turns: Vec::new(alloc),
             readers: IndexMap::new(alloc),
         }
@@ -74,7 +71,6 @@ impl Ordered {
         Ok(Ordered {
             applied,
             web,
-            order,
             turns,
             readers,
         })

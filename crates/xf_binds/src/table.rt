@@ -9,7 +9,7 @@ ghost use Rattle.xf_model.specs.Applied.{is_property};
 ghost use Rattle.xf_model.specs.Entries.{is_computed};
 ghost use Rattle.xf_model.specs.Properties.{sets_on};
 ghost use Rattle.xf_binds.specs.Asked.{asked_by_all, asked_of, asking};
-ghost use Rattle.xf_binds.specs.Held.{AreSingle, IsOnly, entries_in, entry_of};
+ghost use Rattle.xf_binds.specs.Held.{AreSingle, IsOnly, entries_in, entry_of, is_set};
 ghost use Rattle.xf_binds.specs.Alike.{AreAlike};
 ghost use Rattle.xf_binds.specs.Kept.{IsAlone, entries_of, no_kept, recalculated, truth_at, truth_in, values_of};
 ghost use Rattle.xf_binds.specs.Placed.{AreInOrder, turns_or};
@@ -165,17 +165,16 @@ impl Table {
         has_among(&self.models, node, property)
     }
 
-    /// Whether an entry of some model may set this property: where not, no model's entry sets it on any node. That one may promises
-    /// nothing. It costs one look for each model, however many entries there are.
+    /// Whether an entry of some model sets this property on some node. It costs one look for each model, however many entries there are.
     pub fn sets(&self, property: Property) -> bool
-        ensures { OnFalse result ((n : ℕ) → truth_among self.now property n ≡ None) }
+        ensures { result ≡ list_any (λ k. is_set property k.entries) self.now }
     {
         sets_among(&self.models, property)
     }
 
     /// The same of one model alone.
     pub fn sets_in(&self, model: u32, property: Property) -> bool
-        ensures { OnFalse result ((n : ℕ) → find (sets_on n property) (kept_at self.now model).entries ≡ None) }
+        ensures { result ≡ is_set property (kept_at self.now model).entries }
     {
         match self.models.get(model as usize) {
             Some(kept) => kept.sets(property),
@@ -394,9 +393,9 @@ fn has_among(models: &[Kept], node: NodeId, property: Property) -> bool
     false
 }
 
-/// Whether an entry of one of these models may set this property.
+/// Whether an entry of one of these models sets this property on some node.
 fn sets_among(models: &[Kept], property: Property) -> bool
-    ensures { OnFalse result ((n : ℕ) → truth_among models.now property n ≡ None) }
+    ensures { result ≡ list_any (λ k. is_set property k.entries) models.now }
 {
     for kept in models {
         if kept.sets(property) {

@@ -7,7 +7,7 @@ ghost use Rattle.xf_binds.specs.Held.{entries_in, entry_of, place_on};
 ghost use Rattle.xf_binds.specs.Placed.{IsSeatedIn, is_calculate_at, placed_at, placed_from, placed_of, placed_on, places_from};
 
 use crate::applied::Applied;
-use crate::entry::Entry;
+use crate::entry::{Entry, is_calculate};
 use std::alloc::{AllocError, Global};
 use xf_doc::{NodeId, NodeList};
 use xf_model::Property;
@@ -50,16 +50,6 @@ fn places_of(alloc: Global, applied: &Applied) -> Result<Vec<usize>, AllocError>
         }
     }
     Ok(places)
-}
-
-/// Whether there is an entry, and it is a calculate.
-fn is_calculate(entry: Option<Entry>) -> bool
-    ensures { result ≡ is_calculate_at (option_map entry_of entry) }
-{
-    match entry {
-        Some(entry) => entry.property == Property::Calculate,
-        None => false,
-    }
 }
 
 /// Adds the turn of the calculate of a node, where it has one.

@@ -1,13 +1,11 @@
 //! The turns of the calculates of a model, by what is kept of its entries (XForms 1.1, section 4.3.2 and appendix C).
 
-ghost use Rattle.std.specs.Prelude.{◌≡◌, option_map};
-ghost use Rattle.xf_binds.specs.Held.{entry_of};
-ghost use Rattle.xf_binds.specs.Placed.{AreInOrder, is_calculate_at};
+ghost use Rattle.std.specs.Prelude.{◌≡◌};
+ghost use Rattle.xf_binds.specs.Placed.{AreInOrder};
 ghost use Rattle.xf_binds.specs.Table.{kept_at};
 ghost use Rattle.xf_settle.specs.Passes.{is_passed};
 
-use xf_binds::{Entry, Table, Turn};
-use xf_model::Property;
+use xf_binds::{Table, Turn};
 
 /// The turns of the calculates of a model, in the order that its rebuild found.
 pub(crate) fn turns_of<'a>(model: u32, table: &'a Table) -> &'a [Turn]
@@ -16,16 +14,6 @@ pub(crate) fn turns_of<'a>(model: u32, table: &'a Table) -> &'a [Turn]
     match table.turns(model) {
         Some(turns) => turns,
         None => &[],
-    }
-}
-
-/// Whether there is an entry, and it is a calculate.
-pub(crate) fn is_calculate(entry: Option<Entry>) -> bool
-    ensures { result ≡ is_calculate_at (option_map entry_of entry) }
-{
-    match entry {
-        Some(entry) => entry.property == Property::Calculate,
-        None => false,
     }
 }
 

@@ -14,12 +14,12 @@ ghost use Rattle.xf_settle.specs.Settles.{IsLeft, IsSettled, IsTold, MaySettle, 
 ghost use Rattle.xf_settle.specs.Turns.{AreTurns};
 
 use crate::fault::SettleFault;
-use crate::order::{is_calculate, turns_of};
+use crate::order::turns_of;
 use crate::truths::truths_of;
 use crate::turn::settle_turns;
 use std::alloc::Global;
 use xf_ast::Tables;
-use xf_binds::{Table, TruthList, Turn};
+use xf_binds::{Table, TruthList, Turn, is_calculate};
 use xf_doc::TreeFault;
 use xf_eval::Around;
 use xf_tree::Forest;

@@ -15,10 +15,10 @@ ghost use Rattle.xf_settle.specs.Passes.{AreTrue, IsKept, IsKnownBy};
 ghost use Rattle.xf_settle.specs.Turns.{found_over, found_step, is_there, is_there_at, truth_over};
 
 use crate::evaluate::entry_value;
-use crate::order::{is_calculate, is_passed};
+use crate::order::is_passed;
 use std::alloc::Global;
 use xf_ast::Tables;
-use xf_binds::{Entry, Table, TruthList};
+use xf_binds::{Entry, Table, TruthList, is_calculate};
 use xf_eval::{Around, EvalFault, truth_of};
 use xf_model::Property;
 use xf_tree::Forest;

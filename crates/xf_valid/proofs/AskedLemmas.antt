@@ -1,5 +1,5 @@
 -- What the entries of a node ask of it decides whether it is valid.
-use Rattle.std.proofs.Common.{◌≡◌, ℕ, Bool, true, false, cond, not, ◌&&◌, ◌||◌, List, [], ◌∷◌, map, filter, Result, Ok, Err, IfOk, Option, Some, None, option_map, is_some, refl, sym, ap, ◌∙◌}
+use Rattle.std.proofs.Common.{◌≡◌, ℕ, Bool, true, false, cond, not, ◌&&◌, ◌||◌, List, [], ◌∷◌, map, filter, Result, Ok, Err, IfOk, Option, Some, None, find, option_map, is_some, refl, sym, ap, ◌∙◌}
 use Rattle.xf_num.specs.Written.{is_empty}
 use Rattle.xf_types.specs.Meets.{meets_type}
 use Rattle.xf_ast.specs.declared.form.Bind.{Bind}
@@ -7,15 +7,17 @@ use Rattle.xf_ast.specs.declared.form.Instance.{Instance}
 use Rattle.xf_doc.specs.declared.content.Node.{Node}
 use Rattle.xf_doc.specs.StringValue.{string_value}
 use Rattle.xf_doc.specs.Visit.{Visit, visits}
-use Rattle.xf_model.specs.declared.property.Property.TheVariants.{Required, Constraint}
+use Rattle.xf_model.specs.declared.property.Property.{Property}
+use Rattle.xf_model.specs.declared.property.Property.TheVariants.{Kind, Required, Constraint}
 use Rattle.xf_model.specs.Rules.{Scope, rule_of}
-use Rattle.xf_model.specs.Properties.{meets_kind, own}
+use Rattle.xf_model.specs.Properties.{meets_kind, own, sets_on}
 use Rattle.xf_binds.specs.declared.entry.Entry.{Entry}
-use Rattle.xf_binds.specs.Held.{entry_of}
+use Rattle.xf_binds.specs.Held.{entry_of, is_set}
 use Rattle.xf_binds.specs.Kept.{Kept, values_of}
 use Rattle.xf_valid.specs.declared.invalid.Asked.{Asked}
-use Rattle.xf_valid.specs.Failed.{AskNothing, IsAsked, can_fail, fails, fails_asked, is_failed, is_under, kind_in}
+use Rattle.xf_valid.specs.Failed.{IsAsked, asks_any, can_fail, fails, fails_asked, is_failed, is_under, kind_in}
 use Rattle.xf_valid.specs.Invalid.{invalid_in, is_held, is_invalid}
+use Rattle.xf_binds.proofs.Unset.{set-on-none}
 use Rattle.xf_valid.proofs.InvalidLemmas.{and-none, kind-in, valid-unset}
 
 pub fails-asked : (scope : Scope) (nodes : List Node) (k : Kept) (n : ℕ) (binds : List Bind) (a : Asked) → scope.rules ≡ map rule_of binds → IsAsked k n a → fails_asked binds a (string_value n (visits nodes)) ≡ fails scope nodes k n
@@ -47,11 +49,28 @@ filter-none : {X : Type 0} (test : X → Bool) (xs : List X) → ((x : X) → te
 filter-none test [] h = refl
 filter-none test (x ∷ xs) h = ap (λ b. cond b (x ∷ filter test xs) (filter test xs)) (h x) ∙ filter-none test xs h
 
-pub invalid-nothing : (scope : Scope) (instances : List Instance) (nodes : List Node) (k : Kept) → AskNothing k → invalid_in scope instances nodes k ≡ []
+pub invalid-nothing : (scope : Scope) (instances : List Instance) (nodes : List Node) (k : Kept) → asks_any k.entries ≡ false → invalid_in scope instances nodes k ≡ []
 invalid-nothing scope instances nodes k h =
     ap (map (λ (v : Visit). v.number)) (filter-none (λ (v : Visit). is_invalid scope instances nodes k v.number) (visits nodes) (λ v.
-    ap (λ b. is_held instances scope.model nodes v.number && b) (valid-unset scope nodes k v.number (h.0 v.number) (h.1 v.number) (h.2 v.number))
+    ap (λ b. is_held instances scope.model nodes v.number && b) (valid-unset scope nodes k v.number (none Constraint (first h) v.number) (none Required (second h) v.number) (none Kind (third h) v.number))
     ∙ and-none (is_held instances scope.model nodes v.number)))
+  where
+    none : (p : Property) → is_set p k.entries ≡ false → (n : ℕ) → find (sets_on n p) k.entries ≡ None
+    none p e n = set-on-none p k.entries e n
+
+    first : {b c : Bool} {a : Bool} → (a || b || c) ≡ false → a ≡ false
+    first {b} {c} {true} e = cc e
+    first {b} {c} {false} e = refl
+
+    second : {b c : Bool} {a : Bool} → (a || b || c) ≡ false → b ≡ false
+    second {b} {c} {true} e = cc e
+    second {true} {c} {false} e = cc e
+    second {false} {c} {false} e = refl
+
+    third : {b c : Bool} {a : Bool} → (a || b || c) ≡ false → c ≡ false
+    third {b} {c} {true} e = cc e
+    third {true} {c} {false} e = cc e
+    third {false} {c} {false} e = e
 
 -- ---- what a node fails
 

@@ -2,6 +2,7 @@
 use Rattle.std.proofs.Common.{◌≡◌, ℕ, ◌<◌, length, Bool, true, false, not, ◌&&◌, ◌||◌, List, [], ◌∷◌, Option, Some, None, option_map, is_some, refl, sym, ap, ◌∙◌, arith}
 use Rattle.std.specs.Bool.{OnFalse}
 use Rattle.std.specs.List.{list_all, list_any}
+use Rattle.std.proofs.lemmas.Bool.{OnFalse_from}
 use Rattle.xf_doc.specs.declared.content.Node.{Node}
 use Rattle.xf_doc.specs.declared.node.NodeId.{NodeId}
 use Rattle.xf_doc.specs.Forest.{has_number}
@@ -11,13 +12,18 @@ use Rattle.xf_model.specs.declared.property.Property.{Property}
 use Rattle.xf_model.specs.declared.property.Property.TheVariants.{Kind, Calculate, Relevant, Readonly}
 use Rattle.xf_model.specs.Applied.{is_property}
 use Rattle.xf_model.specs.Properties.{has_own, own, own_readonly}
+use Rattle.xf_binds.specs.Held.{is_set}
 use Rattle.xf_binds.specs.Kept.{Kept, values_in}
 use Rattle.xf_binds.specs.Table.{truth_told}
 use Rattle.xf_binds.proofs.Truths.{has-among, own-among}
+use Rattle.xf_binds.proofs.Unset.{set-among-none}
 use Rattle.xf_valid.specs.declared.above.Looks.{Looks}
 use Rattle.xf_valid.specs.declared.above.Inherited.{Inherited}
 use Rattle.xf_valid.specs.Looks.{AreLooks, IsUnset, is_open}
 use Rattle.xf_valid.proofs.Chains.{no-parent, parent-chain}
+
+pub unset-from : (b : Bool) (table : List Kept) (p : Property) → b ≡ list_any (λ (k : Kept). is_set p k.entries) table → OnFalse b (IsUnset table p)
+unset-from b table p is = OnFalse_from b _ (λ e. set-among-none table p (sym is ∙ e))
 
 pub own-unset : (table : List Kept) (p : Property) (d : Bool) (n : ℕ) → is_property p Kind ≡ false → IsUnset table p → own (values_in table) p d n ≡ d
 own-unset table p d n c h = own-among table n p d c ∙ ap (truth_told d) (h n)

@@ -15,7 +15,7 @@ use Rattle.xf_model.specs.Applied.{Entry}
 use Rattle.xf_model.specs.Rules.{Scope}
 use Rattle.xf_model.specs.declared.property.Property.TheVariants.{Kind, Required, Constraint}
 use Rattle.xf_model.specs.Properties.{is_valid, meets_kind, own, sets_on}
-use Rattle.xf_binds.specs.Held.{entry_of}
+use Rattle.xf_binds.specs.Held.{entry_of, is_set}
 use Rattle.xf_binds.specs.Kept.{Kept, values_of}
 use Rattle.xf_valid.specs.declared.invalid.Asked.{Asked}
 
@@ -62,7 +62,6 @@ can_fail a = not a.is_met || a.is_required || is_some a.kind
 abbrev pub fails_asked : List Bind → Asked → List ℕ → Bool
 fails_asked binds a text = not (a.is_met && not (a.is_required && is_empty text) && meets_kind meets_type (kind_in binds (option_map entry_of a.kind)) text)
 
--- no entry asks anything of any node
-abbrev pub AskNothing : Kept → Type 0
-AskNothing k =
-    ((n : ℕ) → find (sets_on n Constraint) k.entries ≡ None) × ((n : ℕ) → find (sets_on n Required) k.entries ≡ None) × ((n : ℕ) → find (sets_on n Kind) k.entries ≡ None)
+-- an entry asks something of its node: only a constraint, a requirement or a type can fail
+abbrev pub asks_any : List Entry → Bool
+asks_any entries = is_set Constraint entries || is_set Required entries || is_set Kind entries

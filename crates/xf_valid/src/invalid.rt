@@ -17,7 +17,7 @@ ghost use Rattle.xf_model.specs.Rules.{scope_of};
 ghost use Rattle.xf_binds.specs.Held.{entry_of};
 ghost use Rattle.xf_binds.specs.Kept.{values_of};
 ghost use Rattle.xf_binds.specs.Table.{kept_at, with_kept};
-ghost use Rattle.xf_valid.specs.Failed.{AskNothing, IsAsked, can_fail, failed_among, failed_at, fails_asked, is_failed, kind_in, roots_from};
+ghost use Rattle.xf_valid.specs.Failed.{IsAsked, asks_any, can_fail, failed_among, failed_at, fails_asked, is_failed, kind_in, roots_from};
 ghost use Rattle.xf_valid.specs.Invalid.{revalidated};
 
 use crate::nodes::truth_or;
@@ -53,7 +53,7 @@ pub fn revalidate(
         → table.new ≡ with_kept table.old model (revalidated (scope_of functions given tables.now model) tables.now.instances forest.now.forest.nodes (kept_at table.old model))) }
     ensures err { OnErr result (table.new ≡ table.old) }
 {
-    let is_asked = may_ask(table, model);
+    let is_asked = asks_any(table, model);
     if !is_asked {
         return Ok(table.set_invalid(model, NodeSet::new(alloc)));
     }
@@ -85,17 +85,13 @@ fn all_failed(
     Ok(found)
 }
 
-/// Whether an entry of the model may ask something that a node can fail.
-fn may_ask(table: &Table, model: u32) -> bool
-    ensures { OnFalse result (AskNothing (kept_at table.now model)) }
+/// Whether an entry of the model asks something that a node can fail.
+fn asks_any(table: &Table, model: u32) -> bool
+    ensures { result ≡ asks_any (kept_at table.now model).entries }
 {
-    if table.sets_in(model, Property::Constraint) {
-        return true;
-    }
-    if table.sets_in(model, Property::Required) {
-        return true;
-    }
-    table.sets_in(model, Property::Kind)
+    table.sets_in(model, Property::Constraint)
+        || table.sets_in(model, Property::Required)
+        || table.sets_in(model, Property::Kind)
 }
 
 /// Adds the node of an entry, where it stands in an instance with one of these roots and is not valid.

@@ -1,5 +1,4 @@
 use Rattle.std.proofs.Common.{sym, ap, ◌∙◌}
-use Rattle.std.proofs.lemmas.Bool.{OnFalse_at}
 use Rattle.xf_doc.specs.Order.{in_order}
 use Rattle.xf_doc.specs.Visit.{visits}
 use Rattle.xf_model.specs.Rules.{scope_of}
@@ -31,7 +30,7 @@ returns-then-not-is_asked-clause-ok c = λ functions given.
     let k = kept_at c.args.table.now c.args.model in
     c.set_invalid.ensures.done
     ∙ ap (λ ns. with_kept c.args.table.now c.args.model (record k { invalid = ns }))
-    (c.new.ensures ∙ sym (invalid-nothing scope c.args.tables.now.instances c.args.forest.now.forest.nodes k (OnFalse_at c.if-not-is_asked.true c.may_ask-is_asked.ensures)))
+    (c.new.ensures ∙ sym (invalid-nothing scope c.args.tables.now.instances c.args.forest.now.forest.nodes k (sym c.asks_any-is_asked.ensures ∙ c.if-not-is_asked.true)))
 
 pub returns-then-not-is_asked-clause-same : goal.returns-then-not-is_asked-clause-same
 returns-then-not-is_asked-clause-same c = same-invalid c.args.table.now c.set_invalid.new.self c.args.model c.new.result c.set_invalid.result c.requires c.set_invalid.ensures.done c.set_invalid.ensures.same

@@ -5,7 +5,10 @@ use Rattle.xf_binds.proofs.ordered.Ordered.of.Goals as goal
 
 pub invariant_of-result : goal.invariant_of-result
 invariant_of-result c = (
-  subst (λ a. AreInTurn (entries_in a) c.args.web c.args.order) (sym c.in_ok-bring_near.ensures) c.requires,
+  record {
+    nodes = c.args.order;
+    in_turn = subst (λ a. AreInTurn (entries_in a) c.args.web c.args.order) (sym c.in_ok-bring_near.ensures) c.requires;
+    told = record { placed = c.in_ok-turns.ensures.placed; seated = c.in_ok-turns.ensures.seated };
+  },
   c.in_ok-readers.ensures,
-  record { placed = c.in_ok-turns.ensures.placed; seated = c.in_ok-turns.ensures.seated },
 )
