@@ -52,25 +52,34 @@ filter-none test (x ∷ xs) h = ap (λ b. cond b (x ∷ filter test xs) (filter 
 pub invalid-nothing : (scope : Scope) (instances : List Instance) (nodes : List Node) (k : Kept) → asks_any k.entries ≡ false → invalid_in scope instances nodes k ≡ []
 invalid-nothing scope instances nodes k h =
     ap (map (λ (v : Visit). v.number)) (filter-none (λ (v : Visit). is_invalid scope instances nodes k v.number) (visits nodes) (λ v.
-    ap (λ b. is_held instances scope.model nodes v.number && b) (valid-unset scope nodes k v.number (none Constraint (first h) v.number) (none Required (second h) v.number) (none Kind (third h) v.number))
+    ap (λ b. is_held instances scope.model nodes v.number && b) (valid-unset scope nodes k v.number (none Constraint (first c r t h) v.number) (none Required (second c r t h) v.number) (none Kind (third c r t h) v.number))
     ∙ and-none (is_held instances scope.model nodes v.number)))
   where
+    c : Bool
+    c = is_set Constraint k.entries
+
+    r : Bool
+    r = is_set Required k.entries
+
+    t : Bool
+    t = is_set Kind k.entries
+
     none : (p : Property) → is_set p k.entries ≡ false → (n : ℕ) → find (sets_on n p) k.entries ≡ None
     none p e n = set-on-none p k.entries e n
 
-    first : {b c : Bool} {a : Bool} → (a || b || c) ≡ false → a ≡ false
-    first {b} {c} {true} e = cc e
-    first {b} {c} {false} e = refl
+    first : (a b c : Bool) → (a || b || c) ≡ false → a ≡ false
+    first true b c e = cc e
+    first false b c e = refl
 
-    second : {b c : Bool} {a : Bool} → (a || b || c) ≡ false → b ≡ false
-    second {b} {c} {true} e = cc e
-    second {true} {c} {false} e = cc e
-    second {false} {c} {false} e = refl
+    second : (a b c : Bool) → (a || b || c) ≡ false → b ≡ false
+    second true b c e = cc e
+    second false true c e = cc e
+    second false false c e = refl
 
-    third : {b c : Bool} {a : Bool} → (a || b || c) ≡ false → c ≡ false
-    third {b} {c} {true} e = cc e
-    third {true} {c} {false} e = cc e
-    third {false} {c} {false} e = e
+    third : (a b c : Bool) → (a || b || c) ≡ false → c ≡ false
+    third true b c e = cc e
+    third false true c e = cc e
+    third false false c e = e
 
 -- ---- what a node fails
 
