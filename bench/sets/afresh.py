@@ -1,6 +1,6 @@
 """Does what the events of a folder ask over the data of its form, evaluating each expression of a bind afresh at each line, by lxml.
 
-Usage: afresh.py FOLDER. Writes a line for each event, and the total at the end."""
+Usage: afresh.py FOLDER. Writes a line for each event, which is flushed before the next one is read, and the total at the end."""
 import json
 import sys
 
@@ -39,5 +39,5 @@ with open(f"{folder}/events") as events:
             node.text = written(each(node))
         total.text = written(whole(total))
         count += 1
-        print(f"ok {count}")
+        print(f"ok {count}", flush=True)
 print(total.text)
