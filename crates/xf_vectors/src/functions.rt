@@ -9,20 +9,37 @@ use xf_table::find;
 use xf_table::functions::rows;
 
 pub fn answer(alloc: Global, name: &str, given: &[Word]) -> Answer {
-    let Some(code) = find(rows(), name) else {
-        return Ok(None);
-    };
+    match find(rows(), name) {
+        Some(code) => answer_of(alloc, code, given),
+        None => Ok(None),
+    }
+}
+
+fn answer_of(alloc: Global, code: u16, given: &[Word]) -> Answer {
     let mut values = Vec::new(alloc);
+    if push_values(alloc, &mut values, given)? {
+        called(alloc, code, &values)
+    } else {
+        Ok(None)
+    }
+}
+
+/// Appends the values that texts spell, and answers whether each spells one.
+fn push_values(alloc: Global, values: &mut Vec<Plain>, given: &[Word]) -> Result<bool, AllocError> {
     for text in given {
         match value_of(alloc, text.as_str())? {
             Some(value) => values.push(value)?,
-            None => return Ok(None),
+            None => return Ok(false),
         }
     }
+    Ok(true)
+}
+
+fn called(alloc: Global, code: u16, values: &[Plain]) -> Answer {
     if !is_served(code, values.len()) {
         return Ok(None);
     }
-    match call(alloc, code, &values) {
+    match call(alloc, code, values) {
         Ok(value) => spelled(alloc, &value),
         Err(FuncFault::Long) => Ok(Some(String::from_str(alloc, "Long")?)),
         Err(FuncFault::Memory) => Err(AllocError),
@@ -43,17 +60,14 @@ fn value_of(alloc: Global, text: &str) -> Result<Option<Plain>, AllocError> {
 }
 
 fn spelled(alloc: Global, value: &Plain) -> Answer {
-    let mut out = String::new(alloc);
     match value {
-        Plain::Text(text) => {
-            out.push_str("'")?;
-            out.push_str(text.as_str())?;
-        }
-        Plain::Number(number) => {
-            out.push_str("#")?;
-            out.push_str(number.print(alloc)?.as_str())?;
-        }
-        Plain::Truth(truth) => out.push_str(if *truth { "?true" } else { "?false" })?,
+        Plain::Text(text) => marked(alloc, "'", text.as_str()),
+        Plain::Number(number) => marked(alloc, "#", number.print(alloc)?.as_str()),
+        Plain::Truth(truth) => marked(alloc, "?", if *truth { "true" } else { "false" }),
     }
-    Ok(Some(out))
+}
+
+/// A mark and a text.
+fn marked(alloc: Global, mark: &str, text: &str) -> Answer {
+    Ok(Some([mark, text].concat(alloc)?))
 }

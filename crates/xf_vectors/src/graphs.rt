@@ -3,7 +3,7 @@
 
 use crate::calls::Answer;
 use std::alloc::{AllocError, Global};
-use xf_graph::{Graph, Order};
+use xf_graph::{Graph, Order, VertexList};
 use xf_name::Word;
 
 pub fn answer(alloc: Global, call: &str, given: &[Word]) -> Answer {
@@ -15,23 +15,53 @@ pub fn answer(alloc: Global, call: &str, given: &[Word]) -> Answer {
     };
     let mut graph = Graph::new(alloc, size)?;
     let mut edges = Vec::new(alloc);
-    for word in words.as_str().split_whitespace() {
-        if !draw(&mut graph, &mut edges, word)? {
+    drawn(alloc, &mut graph, &mut edges, words.as_str(), call, rest)
+}
+
+/// What a call answers of a graph to which the words are done.
+fn drawn(
+    alloc: Global,
+    graph: &mut Graph,
+    edges: &mut Vec<(u32, u32)>,
+    words: &str,
+    call: &str,
+    given: &[Word],
+) -> Answer {
+    for word in words.split_whitespace() {
+        if !draw(graph, edges, word)? {
             return Ok(None);
         }
     }
-    match (call, rest, graph.order()?) {
-        ("order", [how], Order::Sorted(list)) => {
-            spelled(alloc, "sorted", how.as_str(), list.as_slice(), &edges)
-        }
-        ("order", [how], Order::Cycle(list)) => {
-            spelled(alloc, "cycle", how.as_str(), list.as_slice(), &[])
-        }
-        ("pertinent", [changed, how], Order::Sorted(_)) => {
-            let list = graph.pertinent(&numbers_of(alloc, changed.as_str())?)?;
-            spelled(alloc, "reached", how.as_str(), list.as_slice(), &edges)
+    match (call, given) {
+        ("order", [how]) => ordered(alloc, graph, edges, how.as_str()),
+        ("pertinent", [changed, how]) => {
+            reached(alloc, graph, edges, changed.as_str(), how.as_str())
         }
         _ => Ok(None),
+    }
+}
+
+/// The vertices in order, or a cycle.
+fn ordered(alloc: Global, graph: &Graph, edges: &[(u32, u32)], how: &str) -> Answer {
+    match graph.order()? {
+        Order::Sorted(list) => spelled(alloc, "sorted", how, list.as_slice(), edges),
+        Order::Cycle(list) => spelled(alloc, "cycle", how, list.as_slice(), &[]),
+    }
+}
+
+/// The vertices that a change of some reaches, where no cycle stands.
+fn reached(alloc: Global, graph: &Graph, edges: &[(u32, u32)], changed: &str, how: &str) -> Answer {
+    let changed = numbers_of(alloc, changed)?;
+    match pertinent(graph, &changed)? {
+        Some(list) => spelled(alloc, "reached", how, list.as_slice(), edges),
+        None => Ok(None),
+    }
+}
+
+fn pertinent(graph: &Graph, changed: &[u32]) -> Result<Option<VertexList>, AllocError> {
+    match graph.order()? {
+        Order::Sorted(_) => Ok(Some(graph.pertinent(changed)?)),
+        Order::Cycle(_) => Ok(None),
     }
 }
 
@@ -88,42 +118,60 @@ fn pair_at(word: &str, between: &str) -> Option<(u32, u32)> {
 
 fn numbers_of(alloc: Global, words: &str) -> Result<Vec<u32>, AllocError> {
     let mut numbers = Vec::new(alloc);
+    push_numbers(&mut numbers, words)?;
+    Ok(numbers)
+}
+
+fn push_numbers(numbers: &mut Vec<u32>, words: &str) -> Result<(), AllocError> {
     for word in words.split_whitespace() {
         if let Ok(number) = word.parse::<u32>() {
             numbers.push(number)?;
         }
     }
-    Ok(numbers)
+    Ok(())
 }
 
 /// Vertices as a `list` in their order; as a `count`; or as a `set`, ascending, behind `forward` where each stands after those that
 /// it reads from, and `backward` otherwise.
 fn spelled(alloc: Global, kind: &str, how: &str, list: &[u32], edges: &[(u32, u32)]) -> Answer {
-    let mut out = String::from_str(alloc, kind)?;
-    let mut vertices = Vec::new(alloc);
-    for vertex in list {
-        vertices.push(*vertex)?;
-    }
     match how {
-        "list" => (),
+        "list" => listed(alloc, kind, "", list),
         "set" => {
-            out.push_str(if is_forward(list, edges) {
+            let way = if is_forward(list, edges) {
                 " forward"
             } else {
                 " backward"
-            })?;
+            };
+            let mut vertices = list.to_vec(alloc)?;
             vertices.sort()?;
+            listed(alloc, kind, way, &vertices)
         }
         "count" => {
-            let count = vertices.len();
-            return Ok(Some(format!(in alloc; "{kind} {count}")?));
+            let count = list.len();
+            Ok(Some(format!(in alloc; "{kind} {count}")?))
         }
-        _ => return Ok(None),
+        _ => Ok(None),
     }
-    for vertex in vertices {
-        out.push_str(format!(in alloc; " {vertex}")?.as_str())?;
-    }
+}
+
+fn listed(alloc: Global, kind: &str, way: &str, vertices: &[u32]) -> Answer {
+    let mut out = String::from_str(alloc, kind)?;
+    push_vertices(alloc, &mut out, way, vertices)?;
     Ok(Some(out))
+}
+
+fn push_vertices(
+    alloc: Global,
+    out: &mut String,
+    way: &str,
+    vertices: &[u32],
+) -> Result<(), AllocError> {
+    out.push_str(way)?;
+    for vertex in vertices {
+        out.push_str(" ")?;
+        out.push_str(vertex.to_string(alloc)?.as_str())?;
+    }
+    Ok(())
 }
 
 /// Whether no vertex of the list stands before one that it reads from.

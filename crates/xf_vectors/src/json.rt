@@ -11,10 +11,7 @@ use xf_name::{Lit, LitElement, Pair, PairList, Word};
 pub fn answer(alloc: Global, call: &str, given: &[Word]) -> Answer {
     match (call, given) {
         ("print", [text]) => printed(alloc, text.as_bytes()),
-        ("print_bytes", [digits]) => match bytes_of(alloc, digits.as_str())? {
-            Some(bytes) => printed(alloc, &bytes),
-            None => Ok(None),
-        },
+        ("print_bytes", [digits]) => printed_of(alloc, digits.as_str()),
         ("print_pairs", [name, pairs @ ..]) => paired(alloc, name.as_str(), pairs),
         _ => Ok(None),
     }
@@ -23,11 +20,22 @@ pub fn answer(alloc: Global, call: &str, given: &[Word]) -> Answer {
 pub fn line_answer(alloc: Global, call: &str, given: &[Word]) -> Answer {
     match (call, given) {
         ("read_line", [text]) => asked(alloc, text.as_bytes()),
-        ("read_line_bytes", [digits]) => match bytes_of(alloc, digits.as_str())? {
-            Some(bytes) => asked(alloc, &bytes),
-            None => Ok(None),
-        },
+        ("read_line_bytes", [digits]) => asked_of(alloc, digits.as_str()),
         _ => Ok(None),
+    }
+}
+
+fn printed_of(alloc: Global, digits: &str) -> Answer {
+    match bytes_of(alloc, digits)? {
+        Some(bytes) => printed(alloc, &bytes),
+        None => Ok(None),
+    }
+}
+
+fn asked_of(alloc: Global, digits: &str) -> Answer {
+    match bytes_of(alloc, digits)? {
+        Some(bytes) => asked(alloc, &bytes),
+        None => Ok(None),
     }
 }
 
@@ -57,22 +65,36 @@ fn text_of(alloc: Global, lit: &Lit) -> Answer {
 
 /// An element without children, whose attributes are given as names and texts in turns.
 fn paired(alloc: Global, name: &str, pairs: &[Word]) -> Answer {
-    let mut attributes: PairList = Items::new(alloc);
-    for pair in pairs.chunks(2) {
-        let [name, text] = pair else {
-            return Ok(None);
-        };
-        attributes.push(Pair {
-            name: Word::from_str(alloc, name.as_str())?,
-            text: Word::from_str(alloc, text.as_str())?,
-        })?;
+    if pairs.len() % 2 != 0 {
+        return Ok(None);
     }
-    let lit = Lit::Element(LitElement {
+    text_of(alloc, &Lit::Element(element_of(alloc, name, pairs)?))
+}
+
+fn element_of(alloc: Global, name: &str, pairs: &[Word]) -> Result<LitElement, AllocError> {
+    let mut element = LitElement {
         name: Word::from_str(alloc, name)?,
-        attributes,
+        attributes: Items::new(alloc),
         children: Items::new(alloc),
-    });
-    text_of(alloc, &lit)
+    };
+    push_pairs(alloc, &mut element.attributes, pairs)?;
+    Ok(element)
+}
+
+fn push_pairs(alloc: Global, attributes: &mut PairList, pairs: &[Word]) -> Result<(), AllocError> {
+    for pair in pairs.chunks(2) {
+        if let [name, text] = pair {
+            attributes.push(pair_of(alloc, name.as_str(), text.as_str())?)?;
+        }
+    }
+    Ok(())
+}
+
+fn pair_of(alloc: Global, name: &str, text: &str) -> Result<Pair, AllocError> {
+    Ok(Pair {
+        name: Word::from_str(alloc, name)?,
+        text: Word::from_str(alloc, text)?,
+    })
 }
 
 /// What a line asks for, in words.
@@ -81,29 +103,42 @@ fn asked(alloc: Global, line: &[u8]) -> Answer {
         Ok(Asked::Event(event)) => worded(alloc, &event),
         Ok(Asked::Show) => Ok(Some(String::from_str(alloc, "show")?)),
         Err(LineFault::Memory) => Err(AllocError),
-        Err(fault) => Ok(Some(format!(in alloc; "{fault}")?)),
+        Err(fault) => Ok(Some(fault.to_string(alloc)?)),
     }
 }
 
 fn worded(alloc: Global, event: &Event) -> Answer {
-    let text = match event {
-        Event::Set(id, rows, text) => {
-            format!(in alloc;
-                "set {} {:?} {}",
-                id.as_str(),
-                rows.as_slice(),
-                text.as_str()
-            )?
-        }
-        Event::Activate(id, rows) => {
-            format!(in alloc; "activate {} {:?}", id.as_str(), rows.as_slice())?
-        }
-        Event::Index(id, index) => format!(in alloc; "index {} {index}", id.as_str())?,
-        Event::Send(id) => format!(in alloc; "send {}", id.as_str())?,
-        Event::Dispatch(name, id) => {
-            format!(in alloc; "dispatch {} {}", name.as_str(), id.as_str())?
-        }
-        Event::Reset(id) => format!(in alloc; "reset {}", id.as_str())?,
-    };
-    Ok(Some(text))
+    match event {
+        Event::Set(id, rows, text) => set(alloc, id.as_str(), rows.as_slice(), text.as_str()),
+        Event::Activate(id, rows) => activated(alloc, id.as_str(), rows.as_slice()),
+        Event::Index(id, index) => indexed(alloc, id.as_str(), *index),
+        Event::Send(id) => joined(alloc, &["send", id.as_str()]),
+        Event::Dispatch(name, id) => joined(alloc, &["dispatch", name.as_str(), id.as_str()]),
+        Event::Reset(id) => joined(alloc, &["reset", id.as_str()]),
+    }
+}
+
+fn set(alloc: Global, id: &str, rows: &[u64], text: &str) -> Answer {
+    let rows = counts(alloc, rows)?;
+    joined(alloc, &["set", id, rows.as_str(), text])
+}
+
+fn activated(alloc: Global, id: &str, rows: &[u64]) -> Answer {
+    let rows = counts(alloc, rows)?;
+    joined(alloc, &["activate", id, rows.as_str()])
+}
+
+fn indexed(alloc: Global, id: &str, index: u64) -> Answer {
+    let index = index.to_string(alloc)?;
+    joined(alloc, &["index", id, index.as_str()])
+}
+
+/// The numbers of rows, in brackets.
+fn counts(alloc: Global, rows: &[u64]) -> Result<String, AllocError> {
+    format!(in alloc; "{rows:?}")
+}
+
+/// Words with a blank between each two.
+fn joined(alloc: Global, words: &[&str]) -> Answer {
+    Ok(Some(words.join(alloc, " ")?))
 }

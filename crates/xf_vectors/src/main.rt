@@ -18,7 +18,7 @@ mod tables;
 mod trees;
 mod types;
 
-use anyhow::Result;
+use std::alloc::{AllocError, Global};
 use std::io;
 
 /// The crates that are called, in the order of the report.
@@ -27,11 +27,16 @@ const NAMES: [&str; 10] = [
     "xf_line", "xf_graph",
 ];
 
-fn main(rt: HostRuntime) -> Result<()> {
+fn main(rt: HostRuntime) -> anyhow::Result<()> {
     let alloc = rt.alloc();
     let text = io::read_to_string(alloc, rt.reader())?;
-    let outcomes = sheet::outcomes_of(alloc, text.as_str())?;
-    let report = report::report_of(alloc, &NAMES, &outcomes)?;
+    let report = report_on(alloc, text.as_str())?;
     print!(rt; "{report}")?;
     Ok(())
+}
+
+/// The report of a sheet.
+fn report_on(alloc: Global, sheet: &str) -> Result<String, AllocError> {
+    let outcomes = sheet::outcomes_of(alloc, sheet)?;
+    report::report_of(alloc, &NAMES, &outcomes)
 }

@@ -57,42 +57,50 @@ fn is_case(line: &str) -> bool
 fn outcome_at(alloc: Global, line: usize, text: &str) -> Result<Outcome, AllocError>
     ensures { IfOk result (λ outcome. outcome.line ≡ line) }
 {
-    let mut texts = texts_of(alloc, text)?;
-    let Some(wanted) = texts.pop() else {
-        return no_case(alloc, line);
-    };
-    let [name, call, given @ ..] = texts.as_slice() else {
-        return no_case(alloc, line);
-    };
-    let came = match answer(alloc, name.as_str(), call.as_str(), given)? {
-        Some(text) => text,
-        None => String::from_str(alloc, "no such call")?,
-    };
-    Ok(Outcome {
-        line,
-        crate_name: Word::from_str(alloc, name.as_str())?,
-        came: Word::from_string(came),
-        wanted,
-    })
+    let texts = texts_of(alloc, text)?;
+    outcome_of(alloc, line, &texts)
 }
 
-/// What comes of a line that is no case.
-fn no_case(alloc: Global, line: usize) -> Result<Outcome, AllocError>
+/// What comes of the texts of a line.
+fn outcome_of(alloc: Global, line: usize, texts: &[Word]) -> Result<Outcome, AllocError>
+    ensures { IfOk result (λ outcome. outcome.line ≡ line) }
+{
+    let [name, call, given @ .., wanted] = texts else {
+        return outcome_with(alloc, line, "", "no case", "a case");
+    };
+    let came = came_of(alloc, name.as_str(), call.as_str(), given)?;
+    outcome_with(alloc, line, name.as_str(), came.as_str(), wanted.as_str())
+}
+
+fn outcome_with(
+    alloc: Global,
+    line: usize,
+    crate_name: &str,
+    came: &str,
+    wanted: &str,
+) -> Result<Outcome, AllocError>
     ensures { IfOk result (λ outcome. outcome.line ≡ line) }
 {
     Ok(Outcome {
         line,
-        crate_name: Word::new(alloc),
-        came: Word::from_str(alloc, "no case")?,
-        wanted: Word::from_str(alloc, "a case")?,
+        crate_name: Word::from_str(alloc, crate_name)?,
+        came: Word::from_str(alloc, came)?,
+        wanted: Word::from_str(alloc, wanted)?,
     })
+}
+
+/// What comes of a call.
+fn came_of(alloc: Global, name: &str, call: &str, given: &[Word]) -> Result<String, AllocError> {
+    match answer(alloc, name, call, given)? {
+        Some(text) => Ok(text),
+        None => String::from_str(alloc, "no such call"),
+    }
 }
 
 /// The texts of a line, and none where it is no array of them.
 fn texts_of(alloc: Global, line: &str) -> Result<Vec<Word>, AllocError> {
     match Value::from_str(alloc, line) {
-        Ok(Value::Array(items)) => texts_in(alloc, &items),
-        Ok(_) => Ok(Vec::new(alloc)),
+        Ok(value) => texts_in(alloc, &value),
         Err(e) => match e.classify() {
             Category::Memory => Err(AllocError),
             _ => Ok(Vec::new(alloc)),
@@ -100,15 +108,26 @@ fn texts_of(alloc: Global, line: &str) -> Result<Vec<Word>, AllocError> {
     }
 }
 
-fn texts_in(alloc: Global, items: &[Value]) -> Result<Vec<Word>, AllocError> {
+fn texts_in(alloc: Global, value: &Value) -> Result<Vec<Word>, AllocError> {
     let mut texts = Vec::new(alloc);
+    if let Some(items) = value.as_array() {
+        push_texts(alloc, &mut texts, items.as_slice())?;
+    }
+    Ok(texts)
+}
+
+/// Appends the texts of items; where one is no text, none is left.
+fn push_texts(alloc: Global, texts: &mut Vec<Word>, items: &[Value]) -> Result<(), AllocError> {
     for item in items {
         match text_of(alloc, item)? {
             Some(text) => texts.push(text)?,
-            None => return Ok(Vec::new(alloc)),
+            None => {
+                texts.clear();
+                return Ok(());
+            }
         }
     }
-    Ok(texts)
+    Ok(())
 }
 
 /// A text, or the text that texts and counts write.
@@ -116,21 +135,34 @@ fn text_of(alloc: Global, item: &Value) -> Result<Option<Word>, AllocError> {
     if let Some(text) = item.as_str() {
         return Ok(Some(Word::from_str(alloc, text)?));
     }
-    let Some(parts) = item.as_array() else {
-        return Ok(None);
-    };
+    match item.as_array() {
+        Some(parts) => repeated(alloc, parts.as_slice()),
+        None => Ok(None),
+    }
+}
+
+fn repeated(alloc: Global, parts: &[Value]) -> Result<Option<Word>, AllocError> {
     let mut text = Word::new(alloc);
-    for pair in parts.as_slice().chunks(2) {
+    if push_parts(alloc, &mut text, parts)? {
+        Ok(Some(text))
+    } else {
+        Ok(None)
+    }
+}
+
+/// Appends what texts and counts write, and answers whether they do.
+fn push_parts(alloc: Global, text: &mut Word, parts: &[Value]) -> Result<bool, AllocError> {
+    for pair in parts.chunks(2) {
         let [part, count] = pair else {
-            return Ok(None);
+            return Ok(false);
         };
         let Some(part) = part.as_str() else {
-            return Ok(None);
+            return Ok(false);
         };
         let Some(count) = count.as_str().and_then(|count| count.parse::<usize>().ok()) else {
-            return Ok(None);
+            return Ok(false);
         };
         text.push_str(part.repeat(alloc, count)?.as_str())?;
     }
-    Ok(Some(text))
+    Ok(true)
 }

@@ -4,142 +4,142 @@ use crate::calls::Answer;
 use crate::names::prefixes_of;
 use std::alloc::{AllocError, Global};
 use xf_ast::{Axis, Expr, Link, Operator, Start, Step, Test};
-use xf_name::Word;
+use xf_name::{Prefixes, Word};
+use xf_num::Num;
 use xf_path::{ParseFault, parse};
 use xf_table::functions::rows;
 
 type Pushed = Result<(), AllocError>;
 
 pub fn answer(alloc: Global, call: &str, given: &[Word]) -> Answer {
-    let ("parse", [text]) = (call, given) else {
-        return Ok(None);
-    };
-    let Ok(prefixes) = prefixes_of(alloc, "[\"f\",{\"xmlns:p\":\"urn:p\"}]")? else {
-        return Ok(None);
-    };
-    match parse(alloc, text.as_str(), &prefixes) {
-        Ok(tree) => {
-            let mut out = String::new(alloc);
-            push_expr(alloc, &mut out, &tree)?;
-            Ok(Some(out))
-        }
+    match (call, given) {
+        ("parse", [text]) => parsed(alloc, text.as_str()),
+        _ => Ok(None),
+    }
+}
+
+fn parsed(alloc: Global, text: &str) -> Answer {
+    match prefixes_of(alloc, "[\"f\",{\"xmlns:p\":\"urn:p\"}]")? {
+        Ok(prefixes) => parsed_over(alloc, text, &prefixes),
+        Err(_) => Ok(None),
+    }
+}
+
+/// The tree of a text, or its fault and the place of that.
+fn parsed_over(alloc: Global, text: &str, prefixes: &Prefixes) -> Answer {
+    match parse(alloc, text, prefixes) {
+        Ok(tree) => spelled(alloc, &tree),
         Err(ParseFault::Expr(place, kind)) => Ok(Some(format!(in alloc; "{kind:?} {place}")?)),
         Err(ParseFault::Memory) => Err(AllocError),
     }
 }
 
+fn spelled(alloc: Global, tree: &Expr) -> Answer {
+    let mut out = String::new(alloc);
+    push_expr(alloc, &mut out, tree)?;
+    Ok(Some(out))
+}
+
+// Each `?` of a function that calls itself again is dear to prove, so what lies between two such calls is pushed by one.
+
 #[cycle(trees)]
 fn push_expr(alloc: Global, out: &mut String, tree: &Expr) -> Pushed {
     match tree {
-        Expr::Number(place, value) => {
-            push_place(alloc, out, *place)?;
-            out.push_str(":")?;
-            out.push_str(value.print(alloc)?.as_str())
-        }
-        Expr::Literal(place, text) => {
-            push_place(alloc, out, *place)?;
-            push_all(out, &["'", text.as_str(), "'"])
-        }
+        Expr::Number(place, value) => push_number(alloc, out, *place, *value),
+        Expr::Literal(place, text) => push_at(alloc, out, *place, &["'", text.as_str(), "'"]),
         Expr::Call(place, code, given) => {
-            push_place(alloc, out, *place)?;
-            out.push_str(name_of(*code))?;
-            out.push_str("(")?;
-            push_exprs(alloc, out, ",", given.as_slice())?;
-            out.push_str(")")
+            push_at(alloc, out, *place, &[name_of(*code)])?;
+            push_exprs(alloc, out, &["(", ",", ")"], given.as_slice())
         }
         Expr::Negated(place, count, inner) => {
-            push_place(alloc, out, *place)?;
-            out.push_str("-")?;
-            push_place(alloc, out, *count)?;
-            out.push_str("(")?;
+            push_signs(alloc, out, *place, *count)?;
             push_expr(alloc, out, inner.get())?;
             out.push_str(")")
         }
         Expr::Chain(first, links) => {
             out.push_str("(")?;
             push_expr(alloc, out, first.get())?;
-            for link in links.as_slice() {
-                push_link(alloc, out, link)?;
-            }
-            out.push_str(")")
+            push_links(alloc, out, links.as_slice())
         }
         Expr::Filter(inner, predicates) => {
             out.push_str("{")?;
             push_expr(alloc, out, inner.get())?;
-            out.push_str(" where ")?;
-            push_exprs(alloc, out, " and ", predicates.as_slice())?;
-            out.push_str("}")
+            push_exprs(
+                alloc,
+                out,
+                &[" where ", " and ", "}"],
+                predicates.as_slice(),
+            )
         }
         Expr::Path(place, start, steps) => {
             push_place(alloc, out, *place)?;
-            out.push_str(match start {
-                Start::Root => "/[",
-                Start::Context => "[",
-            })?;
-            push_steps(alloc, out, steps.as_slice())
+            push_steps(alloc, out, opening(start), steps.as_slice())
         }
         Expr::From(inner, steps) => {
             out.push_str("{")?;
             push_expr(alloc, out, inner.get())?;
-            out.push_str("}[")?;
-            push_steps(alloc, out, steps.as_slice())
+            push_steps(alloc, out, "}[", steps.as_slice())
         }
     }
 }
 
+/// Trees with what stands before them, between each two and behind them.
 #[cycle(trees)]
-fn push_exprs(alloc: Global, out: &mut String, between: &str, trees: &[Expr]) -> Pushed {
+fn push_exprs(alloc: Global, out: &mut String, marks: &[&str; 3], trees: &[Expr]) -> Pushed {
+    out.push_str(marks[0])?;
     for (i, tree) in trees.iter().enumerate() {
-        if i != 0 {
-            out.push_str(between)?;
-        }
+        out.push_str(if i == 0 { "" } else { marks[1] })?;
         push_expr(alloc, out, tree)?;
     }
-    Ok(())
+    out.push_str(marks[2])
 }
 
 #[cycle(trees)]
-fn push_link(alloc: Global, out: &mut String, link: &Link) -> Pushed {
-    out.push_str(" ")?;
-    out.push_str(sign(link.operator))?;
-    push_place(alloc, out, link.place)?;
-    out.push_str(" ")?;
-    push_expr(alloc, out, &link.right)
+fn push_links(alloc: Global, out: &mut String, links: &[Link]) -> Pushed {
+    for link in links {
+        push_operator(alloc, out, link.operator, link.place)?;
+        push_expr(alloc, out, &link.right)?;
+    }
+    out.push_str(")")
 }
 
 #[cycle(trees)]
-fn push_steps(alloc: Global, out: &mut String, steps: &[Step]) -> Pushed {
+fn push_steps(alloc: Global, out: &mut String, front: &str, steps: &[Step]) -> Pushed {
+    out.push_str(front)?;
     for (i, step) in steps.iter().enumerate() {
-        if i != 0 {
-            out.push_str(" ")?;
-        }
-        push_step(alloc, out, step)?;
+        push_head(alloc, out, i != 0, step)?;
+        push_predicates(alloc, out, step.predicates.as_slice())?;
     }
     out.push_str("]")
 }
 
-/// A step as its place, `//` where that stands before it, its axis, its test and its predicates.
 #[cycle(trees)]
-fn push_step(alloc: Global, out: &mut String, step: &Step) -> Pushed {
-    push_place(alloc, out, step.place)?;
-    if step.is_below {
-        out.push_str("//")?;
-    }
-    match (step.is_written, step.axis, &step.test) {
-        (false, Axis::Self_, Test::Node) => out.push_str(".")?,
-        (false, Axis::Parent, Test::Node) => out.push_str("..")?,
-        (is_written, axis, test) => {
-            out.push_str(if is_written { "" } else { "~" })?;
-            out.push_str(axis_mark(axis))?;
-            push_test(alloc, out, test)?;
-        }
-    }
-    for predicate in step.predicates.as_slice() {
+fn push_predicates(alloc: Global, out: &mut String, predicates: &[Expr]) -> Pushed {
+    for predicate in predicates {
         out.push_str("[")?;
         push_expr(alloc, out, predicate)?;
         out.push_str("]")?;
     }
     Ok(())
+}
+
+/// A step without its predicates: a blank behind another step, its place, `//` where that stands before it, its axis and its test.
+fn push_head(alloc: Global, out: &mut String, is_behind: bool, step: &Step) -> Pushed {
+    out.push_str(if is_behind { " " } else { "" })?;
+    push_at(
+        alloc,
+        out,
+        step.place,
+        &[if step.is_below { "//" } else { "" }],
+    )?;
+    match (step.is_written, step.axis, &step.test) {
+        (false, Axis::Self_, Test::Node) => out.push_str("."),
+        (false, Axis::Parent, Test::Node) => out.push_str(".."),
+        (is_written, axis, test) => {
+            push_all(out, &[if is_written { "" } else { "~" }, axis_mark(axis)])?;
+            push_test(alloc, out, test)
+        }
+    }
 }
 
 /// A node test, with the namespace's number before a name that has one.
@@ -168,6 +168,28 @@ fn push_space(alloc: Global, out: &mut String, space: u16) -> Pushed {
     out.push_str("}")
 }
 
+fn push_number(alloc: Global, out: &mut String, place: u32, value: Num) -> Pushed {
+    push_at(alloc, out, place, &[":"])?;
+    out.push_str(value.print(alloc)?.as_str())
+}
+
+/// Minus signs, by the place of the first and how many they are, before what they negate.
+fn push_signs(alloc: Global, out: &mut String, place: u32, count: u32) -> Pushed {
+    push_at(alloc, out, place, &["-"])?;
+    push_at(alloc, out, count, &["("])
+}
+
+fn push_operator(alloc: Global, out: &mut String, operator: Operator, place: u32) -> Pushed {
+    push_all(out, &[" ", sign(operator)])?;
+    push_at(alloc, out, place, &[" "])
+}
+
+/// A place and what stands behind it.
+fn push_at(alloc: Global, out: &mut String, place: u32, parts: &[&str]) -> Pushed {
+    push_place(alloc, out, place)?;
+    push_all(out, parts)
+}
+
 fn push_place(alloc: Global, out: &mut String, place: u32) -> Pushed {
     out.push_str(place.to_string(alloc)?.as_str())
 }
@@ -183,6 +205,14 @@ fn name_of(code: u16) -> &'static str {
     match rows().get(code as usize) {
         Some(row) => row.name,
         None => "?",
+    }
+}
+
+/// What stands before the steps of a path.
+fn opening(start: &Start) -> &'static str {
+    match start {
+        Start::Root => "/[",
+        Start::Context => "[",
     }
 }
 
