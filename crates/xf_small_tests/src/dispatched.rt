@@ -10,22 +10,37 @@ use xf_small_world::SmallWorld;
 #[test]
 fn a_handler_loops_and_tells(rt: HostRuntime) -> Result<(), Fail> {
     let mut world = world_of(&rt)?;
-    tell(&rt, &mut world, "go")?;
-    assert_notes(&rt, &world, &["n is 1", "n is 2", "2: 3abb1", "2: 2bb1"])
+    let looped = loops_and_tells(&rt, &mut world);
+    discard(world);
+    looped
+}
+
+fn loops_and_tells<R: AllocGlobal + Abort>(rt: &R, world: &mut SmallWorld) -> Result<(), Fail> {
+    tell(rt, world, "go")?;
+    assert_notes(rt, world, &["n is 1", "n is 2", "2: 3abb1", "2: 2bb1"])
 }
 
 #[test]
 fn a_reset_puts_the_data_back(rt: HostRuntime) -> Result<(), Fail> {
     let mut world = world_of(&rt)?;
-    tell(&rt, &mut world, "go")?;
-    tell(&rt, &mut world, "xforms-reset")?;
-    tell(&rt, &mut world, "told")?;
+    let reset = resets_and_tells(&rt, &mut world);
+    discard(world);
+    reset
+}
+
+fn resets_and_tells<R: AllocGlobal + Abort>(rt: &R, world: &mut SmallWorld) -> Result<(), Fail> {
+    tell(rt, world, "go")?;
+    tell(rt, world, "xforms-reset")?;
+    tell(rt, world, "told")?;
     assert_notes(
-        &rt,
-        &world,
+        rt,
+        world,
         &["n is 1", "n is 2", "2: 3abb1", "2: 2bb1", "0: 2ab1"],
     )
 }
+
+/// Gives up a world. The tests leave that to one function, since each that drops a world has all its parts to prove.
+fn discard(_world: SmallWorld) {}
 
 /// An event to the first model, where no action and no update is running.
 fn tell<R: AllocGlobal + Abort>(rt: &R, world: &mut SmallWorld, name: &str) -> Result<(), Fail> {

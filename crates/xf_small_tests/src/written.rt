@@ -73,7 +73,8 @@ static ENTRIES: [Entry; 12] = [
 
 /// The world of a form with these elements.
 pub fn world_of<R: AllocGlobal + Abort>(rt: &R) -> Result<SmallWorld, Fail> {
-    match begun(rt.alloc(), loaded_of(rt)?) {
+    let loaded = loaded_of(rt)?;
+    match begun(rt.alloc(), loaded) {
         Ok(Some(world)) => Ok(world),
         Ok(None) => panic!(rt; "the form is no small one"),
         Err(_) => panic!(rt; "the form does not begin"),
@@ -81,86 +82,149 @@ pub fn world_of<R: AllocGlobal + Abort>(rt: &R) -> Result<SmallWorld, Fail> {
 }
 
 fn loaded_of<R: AllocGlobal + Abort>(rt: &R) -> Result<Loaded, Fail> {
-    let mut loaded = match load(rt.alloc(), DATA.as_bytes()) {
-        Ok(loaded) => loaded,
-        Err(fault) => panic!(rt; "the data are refused: {fault:?}"),
-    };
-    for entry in ENTRIES.iter() {
-        add(rt, &mut loaded, *entry)?;
+    let mut loaded = data_of(rt);
+    match add_all(rt, &mut loaded) {
+        Ok(()) => Ok(loaded),
+        Err(fail) => {
+            discard(loaded);
+            Err(fail)
+        }
     }
-    Ok(loaded)
 }
 
-/// An element behind the others.
-fn add<R: AllocGlobal + Abort>(rt: &R, loaded: &mut Loaded, entry: Entry) -> Result<(), Fail> {
-    let Entry(parent, binding, text, children, row) = entry;
-    let alloc = rt.alloc();
-    let bound = match expr(rt, &loaded.prefixes, binding) {
+/// Gives up a form, in a function of its own, since each that drops a form has all its parts to prove.
+fn discard(_loaded: Loaded) {}
+
+fn data_of<R: AllocGlobal + Abort>(rt: &R) -> Loaded {
+    match load(rt.alloc(), DATA.as_bytes()) {
+        Ok(loaded) => loaded,
+        Err(fault) => panic!(rt; "the data are refused: {fault:?}"),
+    }
+}
+
+fn add_all<R: AllocGlobal + Abort>(rt: &R, loaded: &mut Loaded) -> Result<(), Fail> {
+    for entry in ENTRIES.iter() {
+        let element = element_of(rt, &loaded.prefixes, entry)?;
+        loaded.form.elements.push(element)?;
+    }
+    Ok(())
+}
+
+fn element_of<R: AllocGlobal + Abort>(
+    rt: &R,
+    prefixes: &Prefixes,
+    entry: &Entry,
+) -> Result<Element, Fail> {
+    let Entry(parent, binding, text, children, row) = *entry;
+    let parts = parts_of(rt.alloc(), text, children)?;
+    let kind = kind_of(rt, prefixes, row)?;
+    Ok(Element {
+        id: Word::new(rt.alloc()),
+        parent: Some(parent),
+        parts,
+        model: None,
+        binding: binding_of(rt, prefixes, binding),
+        kind,
+    })
+}
+
+fn binding_of<R: AllocGlobal + Abort>(rt: &R, prefixes: &Prefixes, text: &str) -> Binding {
+    match expr(rt, prefixes, text) {
         Some(expr) => Binding::Nodes(expr),
         None => Binding::Absent,
-    };
-    let kind = kind_of(rt, &loaded.prefixes, row)?;
-    loaded.form.elements.push(Element {
-        id: Word::new(alloc),
-        parent: Some(parent),
-        parts: parts_of(alloc, text, children)?,
-        model: None,
-        binding: bound,
-        kind,
-    })?;
-    Ok(())
+    }
 }
 
 fn parts_of(alloc: Global, text: &str, children: &[u32]) -> Result<PartList, Fail> {
     let mut parts = Items::new(alloc);
+    push_parts(alloc, &mut parts, text, children)?;
+    Ok(parts)
+}
+
+fn push_parts(
+    alloc: Global,
+    parts: &mut PartList,
+    text: &str,
+    children: &[u32],
+) -> Result<(), Fail> {
     if !text.is_empty() {
         parts.push(Part::Text(Word::from_str(alloc, text)?))?;
     }
     for child in children {
         parts.push(Part::Element(*child))?;
     }
-    Ok(parts)
+    Ok(())
 }
 
 fn kind_of<R: AllocGlobal + Abort>(rt: &R, prefixes: &Prefixes, row: Row) -> Result<Kind, Fail> {
     let alloc = rt.alloc();
-    let (event, repetition, condition, work) = match row {
-        Row::Block(repetition, condition, event) => (event, repetition, condition, Work::Action),
-        Row::Sets(value) => ("", "", "", Work::SetValue(expr(rt, prefixes, value))),
-        Row::Says(event) => (event, "", "", Work::Message),
-        Row::Prints(value) => return Ok(Kind::Output(expr(rt, prefixes, value))),
+    match row {
+        Row::Prints(value) => Ok(Kind::Output(expr(rt, prefixes, value))),
+        Row::Block(repetition, condition, event) => {
+            let handler = handler_of(alloc, event)?;
+            Ok(Kind::Action(Action {
+                handler,
+                condition: expr(rt, prefixes, condition),
+                repetition: expr(rt, prefixes, repetition),
+                work: Work::Action,
+            }))
+        }
+        Row::Says(event) => {
+            let handler = handler_of(alloc, event)?;
+            Ok(once(handler, Work::Message))
+        }
+        Row::Sets(value) => {
+            let value = expr(rt, prefixes, value);
+            Ok(once(None, Work::SetValue(value)))
+        }
         Row::Inserts(context, origin, at) => {
-            let work = InsertWork {
-                context: expr(rt, prefixes, context),
-                origin: expr(rt, prefixes, origin),
-                at: expr(rt, prefixes, at),
-                is_before: false,
-            };
-            ("", "", "", Work::Insert(work))
+            let work = insert_of(rt, prefixes, context, origin, at);
+            Ok(once(None, Work::Insert(work)))
         }
         Row::Deletes(at) => {
-            let work = DeleteWork {
-                context: None,
-                at: expr(rt, prefixes, at),
-            };
-            ("", "", "", Work::Delete(work))
+            let at = expr(rt, prefixes, at);
+            Ok(once(None, Work::Delete(DeleteWork { context: None, at })))
         }
         Row::Tells(name) => {
-            let work = DispatchWork {
-                name: Word::from_str(alloc, name)?,
-                target: MODEL,
-                bubbles: true,
-                is_cancelable: true,
-            };
-            ("", "", "", Work::Dispatch(work))
+            let work = dispatch_of(alloc, name)?;
+            Ok(once(None, Work::Dispatch(work)))
         }
-    };
-    Ok(Kind::Action(Action {
-        handler: handler_of(alloc, event)?,
-        condition: expr(rt, prefixes, condition),
-        repetition: expr(rt, prefixes, repetition),
+    }
+}
+
+/// An action that is done once, whatever holds.
+fn once(handler: Option<Handler>, work: Work) -> Kind {
+    Kind::Action(Action {
+        handler,
+        condition: None,
+        repetition: None,
         work,
-    }))
+    })
+}
+
+fn insert_of<R: AllocGlobal + Abort>(
+    rt: &R,
+    prefixes: &Prefixes,
+    context: &str,
+    origin: &str,
+    at: &str,
+) -> InsertWork {
+    InsertWork {
+        context: expr(rt, prefixes, context),
+        origin: expr(rt, prefixes, origin),
+        at: expr(rt, prefixes, at),
+        is_before: false,
+    }
+}
+
+/// An event to the model.
+fn dispatch_of(alloc: Global, name: &str) -> Result<DispatchWork, Fail> {
+    Ok(DispatchWork {
+        name: Word::from_str(alloc, name)?,
+        target: MODEL,
+        bubbles: true,
+        is_cancelable: true,
+    })
 }
 
 /// A handler of the model for an event, where one is named.
