@@ -1,8 +1,8 @@
 #!/usr/bin/env bash
 # Times the program over 1,000 set lines on forms of 10, 100 and 1,000 rows, each with a calculate and an input, and one sum over all, beside
 # lxml that evaluates each of these expressions afresh at each line (Debian's python3-lxml; skipped where it is not there). Both flush each
-# reply. The time of a run without lines is taken off. A line may take at most a tenth of lxml's time. Then a state of 65,000 nodes, texts among them, is shown, in at
-# most 0.2 seconds.
+# reply. The time of a run without lines is taken off. A line may take at most a tenth of lxml's time. Then a state of 65,000 nodes, texts
+# among them, is shown, in at most 0.2 seconds.
 # Usage: bench/sets/run.sh [PROGRAM], with the path of the built program `xforms`, else that which `run` builds.
 . "$(dirname "$0")/../common.sh"
 program=$(realpath "${1:-$top/crates/xforms/out/xforms}")
