@@ -1,5 +1,6 @@
 pub mod RowLemmas
 pub mod SlotLemmas
+pub mod BearerLemmas
 pub mod SizedLemmas
 pub mod MoveLemmas
 pub mod CutLemmas
@@ -42,6 +43,7 @@ pub mod NamedLemmas
 pub mod ChildLemmas
 pub mod WalkLemmas
 pub mod SoughtLemmas
+pub mod NarrowLemmas
 pub mod FoundLemmas
 pub mod SiblingLemmas
 pub mod AheadLemmas

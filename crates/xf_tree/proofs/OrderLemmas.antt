@@ -124,7 +124,7 @@ order-means s rows ns ps up same =
 -- ---- the places of a set
 
 -- no two rows are of one node
-two-places : (s : Slab Slot) (rows : List Row) (n i j : ℕ) → times n (map (node_of s) rows) ≤ 1 → StandsAt s rows n i → StandsAt s rows n j → i < j → ⊥
+pub two-places : (s : Slab Slot) (rows : List Row) (n i j : ℕ) → times n (map (node_of s) rows) ≤ 1 → StandsAt s rows n i → StandsAt s rows n j → i < j → ⊥
 two-places s rows n i j few here there less =
     let p = stands s n i rows here few in
     true≢false (sym (stands-after s n i j rows here.within there few ∙ lt-true i j less) ∙ p.after)

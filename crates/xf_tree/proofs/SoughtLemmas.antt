@@ -16,9 +16,9 @@ use Rattle.xf_tree.specs.declared.walk.Left.TheVariants.{Attributes}
 use Rattle.xf_tree.specs.Rows.{AllDeep, parent_row_of, tree_of}
 use Rattle.xf_tree.specs.Slot.{Slot}
 use Rattle.xf_tree.specs.Sought.{is_met, is_sought, met_on}
-use Rattle.xf_tree.specs.Found.{alone_where, is_met_in, left_met, walk_met, sought_within, is_kin_sought, is_plain_sought, IsFound}
+use Rattle.xf_tree.specs.Found.{alone_where, is_met_in, left_met, walk_met, sought_within, is_kin_sought, IsFound}
 use Rattle.xf_tree.specs.Tree.{node_of, content_in, is_kin, no_row, same_kind}
-use Rattle.xf_tree.specs.Walks.{attributes_ahead, between, chosen, is_plain, left_of, number_of_row, walk_of, IsStep, AreNodes}
+use Rattle.xf_tree.specs.Walks.{attributes_ahead, between, chosen, left_of, number_of_row, walk_of, IsStep, AreNodes}
 use Rattle.xf_tree.proofs.AxisLemmas.{self-axis, child-axis, attribute-axis, parent-axis}
 use Rattle.xf_tree.proofs.PlaceLemmas.{split-at, stands}
 use Rattle.xf_tree.proofs.NodeLemmas.{parted-node}
@@ -59,11 +59,11 @@ module _ (s : Slab Slot) (rows : List Row) (sought : Sought) (nodes : AreNodes s
       → left_met s rows sought new ≡ left_met s rows sought old
   step-passed old new at i e = sym (ap (filter (is_met_in s rows sought)) i.rest ∙ passed (number_of_row s rows at) (left_of s rows new) (met-is at i.within ∙ e))
 
-  and-first : (a b : Bool) → (a && b) ≡ true → a ≡ true
+  pub and-first : (a b : Bool) → (a && b) ≡ true → a ≡ true
   and-first true b h = refl
   and-first false b h = h
 
-  and-second : (a b : Bool) → (a && b) ≡ true → b ≡ true
+  pub and-second : (a b : Bool) → (a && b) ≡ true → b ≡ true
   and-second true b h = h
   and-second false b h = cc h
 
@@ -106,30 +106,33 @@ module _ (s : Slab Slot) (rows : List Row) (sought : Sought) (nodes : AreNodes s
 
   -- ---- among rows
 
-  pub rows-passed : (next end : ℕ) → next < end → end ≤ length rows → next < length rows → is_plain_sought sought (node_of s (get_or rows next no_row)) ≡ false
-      → sought_within s rows sought is_plain (next + 1) end ≡ sought_within s rows sought is_plain next end
-  rows-passed next end l m within e = by (is_plain (node_of s (get_or rows next no_row))) refl e
+  pub rows-passed : (test : Node → Bool) (next end : ℕ) → next < end → end ≤ length rows → next < length rows
+      → (test (node_of s (get_or rows next no_row)) && is_sought sought (content_in (get s (get_or rows next no_row).key))) ≡ false
+      → sought_within s rows sought test (next + 1) end ≡ sought_within s rows sought test next end
+  rows-passed test next end l m within e = by (test (node_of s (get_or rows next no_row))) refl e
     where
-      by : (k : Bool) → is_plain (node_of s (get_or rows next no_row)) ≡ k → (k && is_sought sought (content_in (get s (get_or rows next no_row).key))) ≡ false
-          → sought_within s rows sought is_plain (next + 1) end ≡ sought_within s rows sought is_plain next end
+      by : (k : Bool) → test (node_of s (get_or rows next no_row)) ≡ k → (k && is_sought sought (content_in (get s (get_or rows next no_row).key))) ≡ false
+          → sought_within s rows sought test (next + 1) end ≡ sought_within s rows sought test next end
       by true h other =
-          sym (ap (filter (is_met_in s rows sought)) (ap (chosen s is_plain) (between-first next end rows l m) ∙ chosen-yes s is_plain (get_or rows next no_row) (between (next + 1) end rows) h)
-          ∙ passed (number_of_row s rows next) (chosen s is_plain (between (next + 1) end rows)) (met-is next within ∙ other))
+          sym (ap (filter (is_met_in s rows sought)) (ap (chosen s test) (between-first next end rows l m) ∙ chosen-yes s test (get_or rows next no_row) (between (next + 1) end rows) h)
+          ∙ passed (number_of_row s rows next) (chosen s test (between (next + 1) end rows)) (met-is next within ∙ other))
       by false h other =
-          sym (ap (filter (is_met_in s rows sought)) (ap (chosen s is_plain) (between-first next end rows l m) ∙ chosen-no s is_plain (get_or rows next no_row) (between (next + 1) end rows) h))
+          sym (ap (filter (is_met_in s rows sought)) (ap (chosen s test) (between-first next end rows l m) ∙ chosen-no s test (get_or rows next no_row) (between (next + 1) end rows) h))
 
-  pub rows-found : (next end : ℕ) → next < end → end ≤ length rows → next < length rows → is_plain_sought sought (node_of s (get_or rows next no_row)) ≡ true
-      → sought_within s rows sought is_plain next end ≡ number_of_row s rows next ∷ sought_within s rows sought is_plain (next + 1) end
-  rows-found next end l m within e =
-      let plain = is_plain (node_of s (get_or rows next no_row)) in
+  pub rows-found : (test : Node → Bool) (next end : ℕ) → next < end → end ≤ length rows → next < length rows
+      → (test (node_of s (get_or rows next no_row)) && is_sought sought (content_in (get s (get_or rows next no_row).key))) ≡ true
+      → sought_within s rows sought test next end ≡ number_of_row s rows next ∷ sought_within s rows sought test (next + 1) end
+  rows-found test next end l m within e =
+      let meets = test (node_of s (get_or rows next no_row)) in
       let is = is_sought sought (content_in (get s (get_or rows next no_row).key)) in
-      ap (filter (is_met_in s rows sought)) (ap (chosen s is_plain) (between-first next end rows l m) ∙ chosen-yes s is_plain (get_or rows next no_row) (between (next + 1) end rows) (and-first plain is e))
-      ∙ kept (number_of_row s rows next) (chosen s is_plain (between (next + 1) end rows)) (met-is next within ∙ and-second plain is e)
+      ap (filter (is_met_in s rows sought)) (ap (chosen s test) (between-first next end rows l m) ∙ chosen-yes s test (get_or rows next no_row) (between (next + 1) end rows) (and-first meets is e))
+      ∙ kept (number_of_row s rows next) (chosen s test (between (next + 1) end rows)) (met-is next within ∙ and-second meets is e)
 
-  pub rows-on : (next end : ℕ) (b : Bool) → next < end → end ≤ length rows → next < length rows → b ≡ is_plain_sought sought (node_of s (get_or rows next no_row))
-      → sought_within s rows sought is_plain next end ≡ alone_where b (number_of_row s rows next) ++ sought_within s rows sought is_plain (next + 1) end
-  rows-on next end true l m within e = rows-found next end l m within (sym e)
-  rows-on next end false l m within e = sym (rows-passed next end l m within (sym e))
+  pub rows-on : (test : Node → Bool) (next end : ℕ) (b : Bool) → next < end → end ≤ length rows → next < length rows
+      → b ≡ (test (node_of s (get_or rows next no_row)) && is_sought sought (content_in (get s (get_or rows next no_row).key)))
+      → sought_within s rows sought test next end ≡ alone_where b (number_of_row s rows next) ++ sought_within s rows sought test (next + 1) end
+  rows-on test next end true l m within e = rows-found test next end l m within (sym e)
+  rows-on test next end false l m within e = sym (rows-passed test next end l m within (sym e))
 
   -- ---- a node that comes first
 

@@ -1,4 +1,5 @@
 pub mod Slot
+pub mod Bearers
 pub mod Names
 pub mod Slots
 pub mod Seen

@@ -11,6 +11,9 @@ use Rattle.xf_tree.specs.declared.sought.Principal.{Principal}
 use Rattle.xf_tree.specs.declared.sought.Principal.TheVariants as principal
 use Rattle.xf_tree.specs.Names.{NameTable}
 use Rattle.xf_tree.specs.Slot.{Slot}
+use Rattle.xf_tree.specs.declared.bearers.Bearers.{Bearers}
+use Rattle.xf_tree.specs.Bearers.{IsNoted}
+use Rattle.xf_tree.specs.Tree.{content_in}
 
 -- the content of this kind, with the name that was found and a text
 abbrev pub content_by : Kind → Option Known → List ℕ → Content
@@ -42,6 +45,11 @@ IsNamed names (Some e) = HasName e.kind (slice_get names e.name)
 -- the name of each element and attribute is one of the table
 abbrev pub AreNamed : Slab Entry → NameTable → Type 0
 AreNamed slab table = (key : ℕ) → IsNamed table.names (get slab key)
+
+-- besides, each element is noted by its local name
+pub record AreHeld (slab : Slab Entry) (table : NameTable) (bearers : Bearers) : Type 0 where
+  pub named : AreNamed slab table
+  pub noted : (key : ℕ) → IsNoted bearers (content_in (get (slots_of slab table) key)) key
 
 -- the number of the name of an element or attribute
 abbrev pub number_by : Kind → ℕ → Option ℕ

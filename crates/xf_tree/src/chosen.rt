@@ -10,6 +10,7 @@ use crate::axis::{child_depth, start};
 use crate::forest::Forest;
 use crate::hints::Hints;
 use crate::lookup::{is_kin_at, parent_row, row_of};
+use crate::narrow::narrowed;
 use crate::rows::{Row, end_of};
 use crate::slot::number_of;
 use crate::slots::Slots;
@@ -78,15 +79,9 @@ fn push_from(
     match axis {
         Axis::Child => {
             let end = end_of(rows, at);
-            push_trees(
-                found,
-                rows,
-                slots,
-                at + 1,
-                end,
-                child_depth(rows, at),
-                sought,
-            )
+            let depth = child_depth(rows, at);
+            let (first, last) = narrowed(rows, slots, hints, at + 1, end, depth, sought);
+            push_trees(found, rows, slots, first, last, depth, sought)
         }
         Axis::Attribute => {
             push_attributes(found, rows, slots, at + 1, child_depth(rows, at), sought)

@@ -10,6 +10,7 @@ use crate::axis::{child_depth, start};
 use crate::forest::Forest;
 use crate::hints::Hints;
 use crate::lookup::row_of;
+use crate::narrow::narrowed;
 use crate::rows::{Row, end_of};
 use crate::slot::number_of;
 use crate::slots::Slots;
@@ -83,15 +84,9 @@ fn row_from(
     match axis {
         Axis::Child => {
             let end = end_of(rows, at);
-            row_in_trees(
-                rows,
-                slots,
-                at + 1,
-                end,
-                child_depth(rows, at),
-                sought,
-                place,
-            )
+            let depth = child_depth(rows, at);
+            let (first, last) = narrowed(rows, slots, hints, at + 1, end, depth, sought);
+            row_in_trees(rows, slots, first, last, depth, sought, place)
         }
         _ => {
             let (first, left) = start(rows, slots, hints, at, axis);

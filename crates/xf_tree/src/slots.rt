@@ -2,15 +2,17 @@
 ghost use Rattle.std.specs.Prelude.{◌≡◌, ℕ, ◌≤◌, ◌+◌, ◌&&◌, not, true, [], None, Some, option_map, OnOk};
 ghost use Rattle.slab.specs.Slab.{get, slab_len, Updates, HasRoomFor};
 ghost use Rattle.xf_doc.specs.declared.content.Content.TheVariants.{Root};
-ghost use Rattle.xf_doc.specs.Forest.{is_attribute, is_text, kind_of, name_in, own_text};
+ghost use Rattle.xf_doc.specs.Forest.{is_attribute, is_element, is_text, kind_of, name_in, own_text};
 ghost use Rattle.xf_doc.specs.StringValue.{characters};
 ghost use Rattle.xf_doc.specs.WellFormed.{have_same_name};
 ghost use Rattle.xf_tree.specs.Seen.{seen_content};
 ghost use Rattle.xf_tree.specs.Slots.{name_number, number_where, is_of_kind, slot_of, IsNamed};
-ghost use Rattle.xf_tree.specs.Sought.{is_sought};
+ghost use Rattle.xf_tree.specs.Bearers.{IsBearer};
+ghost use Rattle.xf_tree.specs.Sought.{has_name, is_sought};
 ghost use Rattle.xf_tree.specs.Texts.{valued_slot, owned_slot};
 ghost use Rattle.xf_tree.specs.Tree.{number_in, content_in};
 
+use crate::bearers::{Bearer, Bearers};
 use crate::names::Names;
 use crate::seen::Seen;
 use crate::sought::{Principal, Sought};
@@ -19,7 +21,7 @@ use std::alloc::{AllocError, Global};
 use std::marker::Model;
 use std::mem;
 use xf_doc::{Content, Kind, Name};
-use xf_name::Word;
+use xf_name::{QName, Word};
 
 /// A node or a kept text, with the number of its name. What has no name or no text of its own has 0 or an empty one there.
 #[derive(Drop)]
@@ -38,6 +40,7 @@ pub struct Slots {
     alloc: Global,
     slab: Slab<Entry>,
     names: Names,
+    bearers: Bearers,
 }
 
 impl Model for Slots {
@@ -46,11 +49,11 @@ impl Model for Slots {
 
     ghost Value = { Slab Slot };
 
-    ghost use Rattle.xf_tree.specs.Slots.{slots_of, AreNamed};
+    ghost use Rattle.xf_tree.specs.Slots.{slots_of, AreHeld};
 
     ghost view = { λ s. slots_of s.slab s.names };
 
-    ghost invariant = { λ s. AreNamed s.slab s.names };
+    ghost invariant = { λ s. AreHeld s.slab s.names s.bearers };
 }
 
 impl Slots {
@@ -62,6 +65,7 @@ impl Slots {
             alloc,
             slab: Slab::new(alloc),
             names: Names::new(alloc),
+            bearers: Bearers::new(alloc),
         }
     }
 
@@ -210,6 +214,13 @@ impl Slots {
         }
     }
 
+    /// Which key an element of a name may stand under.
+    pub fn bearer_of(&self, asked: &QName) -> Bearer
+        ensures { (key : ℕ) → is_element (content_in (get self.now key)) ≡ true → has_name asked.now (name_in (content_in (get self.now key))) ≡ true → IsBearer result key }
+    {
+        self.bearers.of(asked.local.as_str())
+    }
+
     /// The key that the next node takes.
     pub fn vacant_key(&self) -> usize
         ensures value { result ≡ self.now.vacant_key }
@@ -247,6 +258,8 @@ impl Slots {
                 .slab
                 .insert_reserved(new_entry(number, Kind::Text, 0, text)),
             Content::Element(name) => {
+                self.bearers
+                    .note(name.meaning.local.as_str(), self.slab.vacant_key());
                 let name = self.names.number_of(name);
                 let text = Word::new(self.alloc);
                 self.slab

@@ -2,6 +2,7 @@ use Rattle.std.proofs.Common.{◌++◌, ◌+◌, ◌<◌, ◌≤◌, length, get
 use Rattle.xf_tree.specs.Found.{alone_where, is_plain_sought, sought_within}
 use Rattle.xf_tree.specs.Tree.{no_row, node_of}
 use Rattle.xf_tree.specs.Walks.{is_plain, number_of_row}
+use Rattle.xf_tree.specs.Walks.{is_plain}
 use Rattle.xf_tree.proofs.SoughtLemmas.{rows-on, within-none}
 use Rattle.xf_tree.proofs.chosen.push_between.Goals as goal
 
@@ -15,7 +16,7 @@ loop-next-preserved c =
     let is = is_plain_sought c.args.sought (node_of s (get_or rows next no_row)) in
     let within : next < length rows = omega (arith, c.loop-next-test.true, c.requires.within) in
     ap (λ l. l ++ left) c.in_ok-push_plain.ensures ∙ append_assoc c.loop-next.found (alone_where is (number_of_row s rows next)) left
-    ∙ ap (λ l. c.loop-next.found ++ l) (sym (rows-on s rows c.args.sought c.requires.nodes next end is c.loop-next-test.true c.requires.within within refl))
+    ∙ ap (λ l. c.loop-next.found ++ l) (sym (rows-on s rows c.args.sought c.requires.nodes is_plain next end is c.loop-next-test.true c.requires.within within refl))
     ∙ c.loop-next.invariant
 
 pub returns : goal.returns

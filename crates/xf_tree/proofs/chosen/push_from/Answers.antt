@@ -7,23 +7,23 @@ use Rattle.xf_tree.proofs.AxisLemmas.{tree-deep}
 use Rattle.xf_tree.proofs.SoughtLemmas.{child-met, attribute-met, self-met, parent-met, no_parent-met, axis-met}
 use Rattle.xf_tree.proofs.chosen.push_from.Goals as goal
 
-pub push_trees-requires-clause-deep : goal.push_trees-requires-clause-deep
-push_trees-requires-clause-deep c =
+pub narrowed-first-requires-clause-deep : goal.narrowed-first-requires-clause-deep
+narrowed-first-requires-clause-deep c =
     let rows = c.args.rows.now in
     let at = c.args.at in
-    subst (λ d. AllDeep d (between (at + 1) c.end_of-end.result rows)) (sym c.child_depth.ensures)
+    subst (λ d. AllDeep d (between (at + 1) c.end_of-end.result rows)) (sym c.child_depth-depth.ensures)
     (subst (λ end. AllDeep ((get_or rows at no_row).depth + 1) (between (at + 1) end rows)) (sym c.end_of-end.ensures.answer) (tree-deep rows at c.requires.within))
 
 pub returns-in-Child : goal.returns-in-Child
 returns-in-Child c =
     on_ok_weaker c.push_trees.result
-    (λ h. h ∙ ap (λ l. c.args.found.now ++ l) (child-met c.args.slots.now c.args.rows.now c.args.sought c.requires.nodes c.args.axis c.args.at _ _ c.requires.within c.in-Child.is c.end_of-end.ensures.answer c.child_depth.ensures))
+    (λ h. h ∙ ap (λ l. c.args.found.now ++ l) (c.narrowed-first.ensures.same ∙ child-met c.args.slots.now c.args.rows.now c.args.sought c.requires.nodes c.args.axis c.args.at _ _ c.requires.within c.in-Child.is c.end_of-end.ensures.answer c.child_depth-depth.ensures))
     c.push_trees.ensures
 
 pub returns-in-Attribute : goal.returns-in-Attribute
 returns-in-Attribute c =
     on_ok_weaker c.push_attributes.result
-    (λ h. h ∙ ap (λ l. c.args.found.now ++ l) (attribute-met c.args.slots.now c.args.rows.now c.args.sought c.requires.nodes c.args.axis c.args.at _ c.requires.within c.in-Attribute.is c.child_depth-in-Attribute.ensures))
+    (λ h. h ∙ ap (λ l. c.args.found.now ++ l) (attribute-met c.args.slots.now c.args.rows.now c.args.sought c.requires.nodes c.args.axis c.args.at _ c.requires.within c.in-Attribute.is c.child_depth.ensures))
     c.push_attributes.ensures
 
 pub returns-in-Self_ : goal.returns-in-Self_

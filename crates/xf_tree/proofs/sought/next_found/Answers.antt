@@ -2,6 +2,7 @@ use Rattle.std.proofs.Common.{◌<◌, length, false, sym, ap, ◌∙◌, subst,
 use Rattle.xf_tree.specs.Tree.{same_kind}
 use Rattle.xf_tree.specs.Walks.{IsReady}
 use Rattle.xf_tree.specs.Found.{left_met}
+use Rattle.xf_tree.specs.Walks.{is_plain}
 use Rattle.xf_tree.proofs.WalkLemmas.{behind}
 use Rattle.xf_tree.proofs.SoughtLemmas.{trees-found, rows-found}
 use Rattle.xf_tree.proofs.sought.next_found.Goals as goal
@@ -34,5 +35,5 @@ returns-else-next-end-2 c =
     record {
       within = within;
       ready = ready;
-      rest = ap (left_met s rows c.args.sought) c.in-Rows.is ∙ sym given.same ∙ rows-found s rows c.args.sought c.requires.nodes next end c.if-next-end-2.false ready within (given.found c.if-next-end-2.false);
+      rest = ap (left_met s rows c.args.sought) c.in-Rows.is ∙ sym given.same ∙ rows-found s rows c.args.sought c.requires.nodes is_plain next end c.if-next-end-2.false ready within (given.found c.if-next-end-2.false);
     }
