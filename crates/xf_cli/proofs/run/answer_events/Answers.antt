@@ -1,0 +1,21 @@
+use Rattle.std.proofs.Common.{ap}
+use Rattle.xf_answers.specs.declared.lines.Ending.{Ending}
+use Rattle.xf_answers.specs.declared.lines.Ending.TheVariants.{ReadFault, SinkFault}
+use Rattle.xf_cli.specs.declared.status.Status.{Status}
+use Rattle.xf_cli.specs.declared.status.Status.TheVariants.{Usage, Refused, Checked, Unread, NoRoom, Answered}
+use Rattle.xf_cli.proofs.run.answer_events.Goals as goal
+
+-- how the lines ended, where they were answered
+abbrev ending_or : Ending → Status → Ending
+ending_or other (Answered ending) = ending
+ending_or other Usage = other
+ending_or other (Refused line) = other
+ending_or other Checked = other
+ending_or other Unread = other
+ending_or other NoRoom = other
+
+pub returns-in-Session-clause-read : goal.returns-in-Session-clause-read
+returns-in-Session-clause-read g c = λ e. c.answer_lines.ensures.read (ap (ending_or ReadFault) e)
+
+pub returns-in-Session-clause-written : goal.returns-in-Session-clause-written
+returns-in-Session-clause-written g c = λ e. c.answer_lines.ensures.written (ap (ending_or SinkFault) e)
