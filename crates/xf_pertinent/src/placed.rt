@@ -1,48 +1,24 @@
 //! Which expressions ask for a position or size (XPath 1.0, section 4.1).
 
-ghost use Rattle.std.specs.Prelude.{◌≡◌, map, option_map, slice_get};
+ghost use Rattle.std.specs.Prelude.{◌≡◌, map};
 ghost use Rattle.xf_lang.specs.Table.{function_at};
 ghost use Rattle.xf_model.specs.Rules.{calls_place, is_place, rule_of, some};
 ghost use Rattle.xf_binds.specs.Held.{entry_of};
-ghost use Rattle.xf_recalc.specs.Static.{expr_in};
 ghost use Rattle.xf_pertinent.specs.Begun.{is_placed_in};
 ghost use Rattle.xf_pertinent.specs.Called.{link_calls_place, step_calls_place};
 
-use xf_ast::{Bind, Expr, Link, Properties, Step};
+use xf_ast::{Bind, Expr, Link, Step};
 use xf_binds::Entry;
 use xf_eval::{Kind, kind_of};
-use xf_model::Property;
+use xf_recalc::expression_of;
 
 /// Whether the expression of an entry asks for its position or size.
 pub(crate) fn is_placed(binds: &[Bind], entry: &Entry) -> bool
     ensures { result ≡ is_placed_in (map rule_of binds.now) (entry_of entry.now) }
 {
-    match bind_at(binds, entry.bind) {
-        Some(bind) => match expression_in(&bind.properties, entry.property) {
-            Some(expr) => calls_place(expr),
-            None => false,
-        },
+    match expression_of(binds, *entry) {
+        Some(expr) => calls_place(expr),
         None => false,
-    }
-}
-
-fn bind_at(binds: &[Bind], at: u32) -> Option<&Bind>
-    ensures { option_map (λ b. b.now) result ≡ slice_get binds.now at }
-{
-    binds.get(at as usize)
-}
-
-/// The expression of a property, where it has one.
-fn expression_in(properties: &Properties, property: Property) -> Option<&Expr>
-    ensures { option_map (λ e. e.now) result ≡ expr_in properties.now property }
-{
-    match property {
-        Property::Kind => None,
-        Property::Calculate => properties.calculate.as_ref(),
-        Property::Relevant => properties.relevant.as_ref(),
-        Property::Readonly => properties.readonly.as_ref(),
-        Property::Required => properties.required.as_ref(),
-        Property::Constraint => properties.constraint.as_ref(),
     }
 }
 

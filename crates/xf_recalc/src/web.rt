@@ -1,22 +1,22 @@
 //! What the entries of a model ask of the data (XForms 1.1, section 4.3.1 and appendix C).
 
-ghost use Rattle.std.specs.Prelude.{◌≡◌, ◌++◌, ◌<◌, ◌^◌, true, map, option_and_then, option_map, slice_get, IfOk, OnOk};
+ghost use Rattle.std.specs.Prelude.{◌≡◌, ◌++◌, ◌<◌, ◌^◌, true, map, slice_get, IfOk, OnOk};
 ghost use Rattle.std.specs.List.{list_all};
 ghost use Rattle.xf_doc.specs.Forest.{IsLive};
 ghost use Rattle.xf_doc.specs.Shape.{shape_of};
 ghost use Rattle.xf_doc.specs.Visit.{ancestors_of, visits};
 ghost use Rattle.xf_funcs.specs.Called.{called};
 ghost use Rattle.xf_model.specs.Applied.{is_property};
-ghost use Rattle.xf_model.specs.Entries.{expression_in};
-ghost use Rattle.xf_model.specs.Rules.{computed_of, rule_of, scope_of};
+ghost use Rattle.xf_model.specs.Rules.{scope_of};
 ghost use Rattle.xf_eval.specs.Live.{AroundStands};
 ghost use Rattle.xf_binds.specs.Held.{entries_in, entry_of};
 ghost use Rattle.xf_recalc.specs.Found.{asks_at, holds_at, is_small, is_there};
-ghost use Rattle.xf_recalc.specs.Static.{AreFixed, expr_in, fixed_if};
+ghost use Rattle.xf_recalc.specs.Static.{AreFixed};
 ghost use Rattle.xf_recalc.specs.Web.{asks_of, no_asks};
 
+use crate::expression::expression_of;
 use std::alloc::{AllocError, Global};
-use xf_ast::{Bind, Expr, Properties, Tables};
+use xf_ast::Tables;
 use xf_binds::{Applied, Asks, Entry, Web};
 use xf_doc::{NodeId, NodeList};
 use xf_eval::{Around, Context};
@@ -154,36 +154,4 @@ fn above(alloc: Global, forest: &Forest, node: NodeId) -> Result<NodeList, Alloc
         next = forest.parent(ancestor);
     }
     Ok(above)
-}
-
-/// The expression of an entry, where it has one.
-fn expression_of<'a>(binds: &'a [Bind], entry: Entry) -> Option<&'a Expr>
-    requires fixed { AreFixed binds.now }
-    ensures value { option_map (λ e. computed_of e.now) result ≡ option_and_then (λ r. expression_in r entry.property) (slice_get (map rule_of binds.now) entry.bind) }
-    ensures fixed { fixed_if (option_map (λ e. e.now) result) ≡ true }
-{
-    match bind_at(binds, entry.bind) {
-        Some(bind) => expression_in(&bind.properties, entry.property),
-        None => None,
-    }
-}
-
-fn bind_at(binds: &[Bind], at: u32) -> Option<&Bind>
-    ensures { option_map (λ b. b.now) result ≡ slice_get binds.now at }
-{
-    binds.get(at as usize)
-}
-
-/// The expression of a property, where it has one.
-fn expression_in(properties: &Properties, property: Property) -> Option<&Expr>
-    ensures { option_map (λ e. e.now) result ≡ expr_in properties.now property }
-{
-    match property {
-        Property::Kind => None,
-        Property::Calculate => properties.calculate.as_ref(),
-        Property::Relevant => properties.relevant.as_ref(),
-        Property::Readonly => properties.readonly.as_ref(),
-        Property::Required => properties.required.as_ref(),
-        Property::Constraint => properties.constraint.as_ref(),
-    }
 }

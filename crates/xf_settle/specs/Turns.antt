@@ -1,7 +1,5 @@
 -- One calculate after the other: what is done in a turn, and what each entry is found to be over the data that stand then.
 use Rattle.std.specs.Prelude.{ℕ, ◌≡◌, Bool, true, false, List, [], ◌∷◌, ◌++◌, map, length, nat_lt, Option, Some, None, option_map, Result, Ok, Err, slice_get, if◌then◌else◌}
-use Rattle.xf_ast.specs.declared.expr.Expr.{Expr}
-use Rattle.xf_ast.specs.declared.form.Properties.{Properties}
 use Rattle.xf_base.specs.Limits.{string_limit}
 use Rattle.xf_doc.specs.Limits.{limits}
 use Rattle.xf_doc.specs.declared.content.Node.{Node}
@@ -10,8 +8,6 @@ use Rattle.xf_doc.specs.Visit.{Visit}
 use Rattle.xf_doc.specs.Settle.{has_text}
 use Rattle.xf_plain_values.specs.Bounded.{◌>>=◌}
 use Rattle.xf_lang.specs.Conversions.{truth_of}
-use Rattle.xf_model.specs.declared.property.Property.{Property}
-use Rattle.xf_model.specs.declared.property.Property.TheVariants.{Kind, Calculate, Relevant, Readonly, Required, Constraint}
 use Rattle.xf_model.specs.Rules.{Scope}
 use Rattle.xf_model.specs.Applied.{Entry}
 use Rattle.xf_model.specs.Entries.{is_computed, value_of}
@@ -74,14 +70,3 @@ is_there nodes e = has_number e.node nodes
 abbrev pub is_there_at : List Node → Option Entry → Bool
 is_there_at nodes None = true
 is_there_at nodes (Some e) = is_there nodes e
-
--- ---- expressions
-
--- that of a property; a type has none
-abbrev pub expr_in : Properties → Property → Option Expr
-expr_in properties Kind = None
-expr_in properties Calculate = properties.calculate
-expr_in properties Relevant = properties.relevant
-expr_in properties Readonly = properties.readonly
-expr_in properties Required = properties.required
-expr_in properties Constraint = properties.constraint

@@ -1,25 +1,23 @@
 //! The value of an entry and its text, over the forest as it stands (XForms 1.1, section 7.2).
 
-ghost use Rattle.std.specs.Prelude.{◌≡◌, Some, true, map, option_and_then, option_map, slice_get, IfOk};
+ghost use Rattle.std.specs.Prelude.{◌≡◌, Some, true, option_map, IfOk};
 ghost use Rattle.xf_base.specs.Limits.{string_limit};
 ghost use Rattle.xf_doc.specs.Forest.{has_number};
 ghost use Rattle.xf_doc.specs.Visit.{visits};
 ghost use Rattle.xf_plain_values.specs.Bounded.{GivesBounded};
 ghost use Rattle.xf_lang.specs.Conversions.{nodes_of, truth_of};
-ghost use Rattle.xf_model.specs.Entries.{expression_in, text_of, value_of};
-ghost use Rattle.xf_model.specs.Rules.{computed_of, rule_of};
+ghost use Rattle.xf_model.specs.Entries.{text_of, value_of};
 ghost use Rattle.xf_eval.specs.Live.{AllLive, AroundStands};
 ghost use Rattle.xf_binds.specs.Held.{entry_of};
 ghost use Rattle.xf_settle.specs.Settles.{scope_in};
-ghost use Rattle.xf_settle.specs.Turns.{expr_in};
 
 use std::alloc::Global;
-use xf_ast::{Bind, Expr, Properties, Tables};
+use xf_ast::Tables;
 use xf_binds::Entry;
 use xf_doc::NodeList;
 use xf_eval::{Around, Context, EvalFault, Value, text_of, truth_of, value_at};
-use xf_model::Property;
 use xf_name::Word;
+use xf_recalc::expression_of;
 use xf_tree::Forest;
 
 /// What an entry gives: the text of its value, and its truth.
@@ -75,35 +73,5 @@ pub(crate) fn entry_value<A: Around>(
             value_at(alloc, forest, around, expr, &context)
         }
         None => Ok(Value::Nodes(NodeList::new(alloc))),
-    }
-}
-
-/// The expression of an entry, where it has one.
-fn expression_of<'a>(binds: &'a [Bind], entry: Entry) -> Option<&'a Expr>
-    ensures { option_map (λ e. computed_of e.now) result ≡ option_and_then (λ r. expression_in r entry.property) (slice_get (map rule_of binds.now) entry.bind) }
-{
-    match bind_at(binds, entry.bind) {
-        Some(bind) => expression_in(&bind.properties, entry.property),
-        None => None,
-    }
-}
-
-fn bind_at(binds: &[Bind], at: u32) -> Option<&Bind>
-    ensures { option_map (λ b. b.now) result ≡ slice_get binds.now at }
-{
-    binds.get(at as usize)
-}
-
-/// The expression of a property, where it has one.
-fn expression_in(properties: &Properties, property: Property) -> Option<&Expr>
-    ensures { option_map (λ e. e.now) result ≡ expr_in properties.now property }
-{
-    match property {
-        Property::Kind => None,
-        Property::Calculate => properties.calculate.as_ref(),
-        Property::Relevant => properties.relevant.as_ref(),
-        Property::Readonly => properties.readonly.as_ref(),
-        Property::Required => properties.required.as_ref(),
-        Property::Constraint => properties.constraint.as_ref(),
     }
 }

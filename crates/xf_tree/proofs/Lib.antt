@@ -1,5 +1,7 @@
 pub mod RowLemmas
+pub mod RoomLemmas
 pub mod SlotLemmas
+pub mod SliceLemmas
 pub mod BearerLemmas
 pub mod SizedLemmas
 pub mod MoveLemmas
@@ -70,6 +72,7 @@ pub mod ChildlessLemmas
 pub mod SwapLemmas
 pub mod SetLemmas
 pub mod TakenLemmas
+pub mod InsertLemmas
 pub mod KeptLemmas
 pub mod BackLemmas
 pub mod UnsizedLemmas

@@ -1,17 +1,16 @@
 -- Rows of attributes and of others: the steps of loops over them.
-use Rattle.std.proofs.Common.{◌≡◌, ℕ, ◌+◌, ◌-◌, ◌<◌, ◌≤◌, ◌==◌, ◌||◌, cond, if◌then◌else◌, Bool, true, false, List, [], ◌∷◌, ◌++◌, map, length, take, drop, get_or, set, Option, Some, None, refl, sym, ap, ◌∙◌, inl, inr, arith, append_assoc, append-nil, length-take, length-drop, length-append}
+use Rattle.std.proofs.Common.{◌≡◌, ℕ, ◌+◌, ◌-◌, ◌<◌, ◌≤◌, ◌==◌, ◌||◌, cond, if◌then◌else◌, Bool, true, false, List, [], ◌∷◌, ◌++◌, map, length, take, drop, get_or, Option, Some, None, refl, sym, ap, ◌∙◌, inl, inr, arith, append-nil, length-drop}
 use Rattle.std.specs.Prelude.{filter, option_map}
 use Rattle.std.proofs.lemmas.Bool.{cases_Bool}
-use Rattle.std.proofs.lemmas.List.{map-append, get_or-drop, set_at, length-map, drop-drop, map_more}
+use Rattle.std.proofs.lemmas.List.{map-append, get_or-drop, drop-drop}
 use Rattle.std.proofs.lemmas.List.Elements.{filter_more}
 use Rattle.std.proofs.lemmas.List.Folds.{list_any-append}
 use Rattle.slab.specs.Slab.{Slab, get, Updates}
-use Rattle.xf_doc.specs.declared.node.NodeId.{NodeId}
 use Rattle.xf_doc.specs.Forest.{is_attribute}
 use Rattle.xf_tree.specs.declared.rows.Row.{Row}
 use Rattle.xf_tree.specs.Slot.{Slot}
 use Rattle.xf_tree.specs.Tree.{node_of, number_in, content_in, times, no_row, KeepsBut}
-use Rattle.xf_tree.specs.Texts.{is_attribute_row, attributes, has_key, owned_slot, owned_where, IsOwned, text_row}
+use Rattle.xf_tree.specs.Texts.{is_attribute_row, attributes, has_key, owned_slot, owned_where, IsOwned}
 use Rattle.xf_tree.proofs.NodeLemmas.{eq-true, eq-false, times-append}
 use Rattle.xf_tree.proofs.PlaceLemmas.{split-at}
 use Rattle.xf_tree.proofs.FreeLemmas.{same-key}
@@ -126,23 +125,3 @@ module _ (s : Slab Slot) (old : List Row) (from at : ℕ) (first : from ≤ at) 
 
 pub drop-next : {X : Type 0} (at : ℕ) (xs ys : List X) → drop at xs ≡ drop at ys → drop (at + 1) xs ≡ drop (at + 1) ys
 drop-next at xs ys e = sym (drop-drop 1 at xs) ∙ ap (drop 1) e ∙ drop-drop 1 at ys
-
--- ---- a text written
-
-pub fill-more : (old : List Row) (texts : List NodeId) (from i depth : ℕ) (d : NodeId) → i < length texts → from + length texts ≤ length old
-    → set (take from old ++ (map (text_row depth) (take i texts) ++ drop (from + i) old)) (from + i) (text_row depth (get_or texts i d))
-    ≡ take from old ++ (map (text_row depth) (take (i + 1) texts) ++ drop (from + (i + 1)) old)
-fill-more old texts from i depth d h k =
-    let us = take from old ++ map (text_row depth) (take i texts) in
-    let y = get_or old (from + i) no_row in
-    let within : from + i < length old = omega arith in
-    let v = text_row depth (get_or texts i d) in
-    let sum : from + i + 1 ≡ from + (i + 1) = omega arith in
-    let split : drop (from + i) old ≡ y ∷ drop (from + (i + 1)) old = split-at (from + i) old no_row within ∙ ap (λ n. y ∷ drop n old) sum in
-    let long : length us ≡ from + i = omega (arith, length-append (take from old) (map (text_row depth) (take i texts)), length-take from old, length-map (take i texts) (text_row depth), length-take i texts) in
-    let more : map (text_row depth) (take (i + 1) texts) ≡ map (text_row depth) (take i texts) ++ (v ∷ []) = map_more (text_row depth) texts i d h in
-    let rest = drop (from + (i + 1)) old in
-    ap (λ l. set l (from + i) v) (sym (append_assoc (take from old) (map (text_row depth) (take i texts)) (drop (from + i) old)) ∙ ap (λ l. us ++ l) split)
-    ∙ set_at us y rest v (from + i) long
-    ∙ append_assoc (take from old) (map (text_row depth) (take i texts)) (v ∷ rest)
-    ∙ ap (λ l. take from old ++ l) (sym (append_assoc (map (text_row depth) (take i texts)) (v ∷ []) rest) ∙ ap (λ l. l ++ rest) (sym more))

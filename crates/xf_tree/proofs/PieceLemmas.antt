@@ -1,5 +1,5 @@
 -- The texts of the rows of a tree that are not empty are the pieces of its string value.
-use Rattle.std.proofs.Common.{◌≡◌, ℕ, ◌+◌, ◌-◌, ◌<◌, true, false, cond, List, [], ◌∷◌, ◌++◌, map, length, take, drop, get_or, nat_lt, refl, sym, ap, ◌∙◌, inl, inr, arith}
+use Rattle.std.proofs.Common.{◌≡◌, ℕ, ◌+◌, ◌-◌, ◌<◌, Some, true, false, cond, List, [], ◌∷◌, ◌++◌, map, length, take, drop, get_or, nat_lt, refl, sym, ap, ◌∙◌, inl, inr, arith}
 use Rattle.std.specs.Prelude.{filter}
 use Rattle.std.proofs.lemmas.Bool.{cases_Bool}
 use Rattle.std.proofs.lemmas.List.{map-append}
@@ -8,7 +8,7 @@ use Rattle.slab.specs.Slab.{Slab, get}
 use Rattle.xf_doc.specs.declared.content.Node.{Node}
 use Rattle.xf_doc.specs.Forest.{has_number, below, own_text}
 use Rattle.xf_doc.specs.Visit.{Visit, still_above, numbers, visit, visits_from, visits, has}
-use Rattle.xf_doc.specs.StringValue.{characters, text_below, has_character, pieces, pieces_in}
+use Rattle.xf_doc.specs.StringValue.{characters, text_below, has_character, pieces, pieces_in, whole}
 use Rattle.xf_doc.proofs.RunLemmas.{AreDeeper}
 use Rattle.xf_tree.specs.declared.rows.Row.{Row}
 use Rattle.xf_tree.specs.Slot.{Slot}
@@ -117,3 +117,18 @@ no_character text e = ap has_character e
 pub some_character : (text : List ℕ) → (text ≡ [] → ⊥) → has_character text ≡ true
 some_character [] h = absurd (h refl)
 some_character (c ∷ cs) h = refl
+
+-- a node with no text of its own, over one row: its value is one text
+whole-text : (text : List ℕ) → Some text ≡ whole (filter has_character (text ∷ []))
+whole-text [] = refl
+whole-text (c ∷ cs) = refl
+
+pub whole-one : (s : Slab Slot) (rows : List Row) (at : ℕ) → at + 1 < length rows → length (tree_of (drop at rows)) ≡ 2 → own_text (content_in (get s (get_or rows at no_row).key)) ≡ []
+    → Some (characters (content_in (get s (get_or rows (at + 1) no_row).key))) ≡ whole (pieces_at s rows at)
+whole-one s rows at h size none =
+    let text = own_text (content_in (get s (get_or rows at no_row).key)) in
+    let x = get_or rows (at + 1) no_row in
+    let one : take 1 (drop (at + 1) rows) ≡ x ∷ [] = ap (take 1) (split-at (at + 1) rows no_row h) in
+    let left : pieces_at s rows at ≡ pieces_left s [] (x ∷ []) =
+    ap (λ k. pieces_left s text (take (k - 1) (drop (at + 1) rows))) size ∙ ap (pieces_left s text) one ∙ ap (λ t. pieces_left s t (x ∷ [])) none in
+    whole-text (characters (content_in (get s x.key))) ∙ sym (ap whole left)

@@ -85,6 +85,26 @@ module _ (s : Slab Slot) (at above from over place : ℕ) (old mid : List Row) (
   pub front-fits : (get_or (take from mid) over no_row).depth + 1 < 2 ^ 32
   front-fits = omega (arith, ap (λ (r : Row). r.depth) over-row, depth-small)
 
+  pub mid-fits : (get_or mid over no_row).depth + 1 < 2 ^ 32
+  mid-fits = omega (arith, ap (λ (r : Row). r.depth) (get_or-take from mid over no_row behind.order), front-fits)
+
+  stops-here : deeper 0 (drop from mid) ≡ 0
+  stops-here =
+      let none : (get_or mid from no_row).depth ≤ 0 = omega (arith, mid-top) in
+      ap (deeper 0) (split-at from mid no_row behind.within) ∙ rw (lt-false 0 (get_or mid from no_row).depth none) refl
+
+  -- the tree itself changes nothing of where it goes
+  pub mid-place : (content : Content) → row_below s mid over content place ≡ row_below s (take from mid) over content place
+  mid-place content =
+      let f = node_of s in
+      let deep = (get_or F over no_row).depth + 1 in
+      let some : 0 < deep = omega arith in
+      let inside : over + 1 ≤ length F = omega (arith, over-in) in
+      let later : drop (over + 1) mid ≡ drop (over + 1) F ++ drop from mid = ap (drop (over + 1)) (sym (take-append-drop from mid)) ∙ drop-append-le (over + 1) F (drop from mid) inside in
+      ap (λ (r : Row). over + 1 + part_at (r.depth + 1) place content (map f (drop (over + 1) mid))) (sym (get_or-take from mid over no_row behind.order))
+      ∙ ap (λ l. over + 1 + part_at deep place content (map f l)) later
+      ∙ ap (λ n. over + 1 + n) (part-front s deep place content (drop (over + 1) F) (drop from mid) some stops-here)
+
   -- where the tree goes: among the rows before it, and so among those that stay
   abbrev pub to : ℕ
   to = row_below s (take from mid) over (content_in (get s (get_or old at no_row).key)) place

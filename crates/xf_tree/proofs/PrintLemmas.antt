@@ -32,13 +32,11 @@ tree-rows s n at count rows here few size =
     ap (map f) ((tree-is-front (drop at rows) count size).0 ∙ ap row_tree (split-at at rows no_row here.within)) ∙ sym t
 
 -- the same with the rows as they come out of the forest
-pub tree-here : (s : Slab Slot) (n at end next : ℕ) (kept : List ℕ) (rows one two three : List Row) (k : Keeping) → IsSound s rows kept next → keeping_of s rows kept next ≡ k → one ≡ rows → two ≡ rows → three ≡ rows
-    → StandsAt s one n at → end ≡ at + length (row_tree (drop at two)) → map (node_of s) (take (end - at) (drop at three)) ≡ tree_of n k.forest.nodes
-tree-here s n at end next kept rows one two three k sound view is1 is2 is3 here size =
-    let count : end - at ≡ length (row_tree (drop at rows)) = omega (arith, size, ap (λ l. length (row_tree (drop at l))) is2) in
-    ap (λ l. map (node_of s) (take (end - at) (drop at l))) is3
-    ∙ tree-rows s n at (end - at) rows (subst (λ r. StandsAt s r n at) is1 here) (one_of s rows kept next n sound) count
-    ∙ ap (λ (k : Keeping). tree_of n k.forest.nodes) view
+pub tree-here : (s : Slab Slot) (n at end next : ℕ) (kept : List ℕ) (rows : List Row) (k : Keeping) → IsSound s rows kept next → keeping_of s rows kept next ≡ k
+    → StandsAt s rows n at → end ≡ at + length (row_tree (drop at rows)) → map (node_of s) (take (end - at) (drop at rows)) ≡ tree_of n k.forest.nodes
+tree-here s n at end next kept rows k sound view here size =
+    let count : end - at ≡ length (row_tree (drop at rows)) = omega (arith, size) in
+    tree-rows s n at (end - at) rows here (one_of s rows kept next n sound) count ∙ ap (λ (k : Keeping). tree_of n k.forest.nodes) view
 
 abbrev IsKind : Option Kind → Type 0
 IsKind k = (k ≡ Some kind.Element) ⊎ (k ≡ Some kind.Text)
@@ -71,9 +69,8 @@ nothing-printed n (x ∷ xs) h k = elim (cases_Bool (x.number == n)) [
 ]
 
 -- nothing that is not there may be printed
-pub nothing-here : (s : Slab Slot) (n next : ℕ) (kept : List ℕ) (rows one : List Row) (k : Keeping) → keeping_of s rows kept next ≡ k → one ≡ rows → has_number n (map (node_of s) one) ≡ false → IsKind (kind_at n k.forest.nodes) → ⊥
-nothing-here s n next kept rows one k view is1 absent may =
-    nothing-printed n k.forest.nodes (subst (λ (k : Keeping). has_number n k.forest.nodes ≡ false) view (subst (λ r. has_number n (map (node_of s) r) ≡ false) is1 absent)) may
+pub nothing-here : (s : Slab Slot) (n next : ℕ) (kept : List ℕ) (rows : List Row) (k : Keeping) → keeping_of s rows kept next ≡ k → has_number n (map (node_of s) rows) ≡ false → IsKind (kind_at n k.forest.nodes) → ⊥
+nothing-here s n next kept rows k view absent may = nothing-printed n k.forest.nodes (subst (λ (k : Keeping). has_number n k.forest.nodes ≡ false) view absent) may
 
 -- the top is printed
 pub printable-printed : (kept : List ℕ) (nodes : List Node) → is_printable nodes ≡ true → is_printable (printed kept nodes) ≡ true

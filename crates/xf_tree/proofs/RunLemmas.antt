@@ -1,20 +1,19 @@
 -- The rows below an element without element children, with other texts among them.
-use Rattle.std.proofs.Common.{◌≡◌, ℕ, suc, ◌+◌, ◌-◌, ◌<◌, ◌≤◌, ◌^◌, Bool, List, [], ◌∷◌, ◌++◌, map, length, take, drop, reverse, refl, sym, ap, ◌∙◌, subst, inl, inr, arith, append_assoc, append-nil, length-take, length-drop, length-append}
+use Rattle.std.proofs.Common.{◌≡◌, ℕ, suc, ◌+◌, ◌-◌, ◌<◌, ◌≤◌, ◌^◌, Bool, List, [], ◌∷◌, ◌++◌, map, length, take, drop, reverse, refl, sym, ap, ◌∙◌, subst, inl, inr, arith, append_assoc, append-nil, length-take, length-append}
 use Rattle.std.specs.Prelude.{filter}
 use Rattle.std.specs.List.{All}
 use Rattle.std.proofs.lemmas.Bool.{cases_lt, cases_Bool}
-use Rattle.std.proofs.lemmas.List.{take-append-drop, reverse-append, reverse-reverse, length-map, take_at, drop_at, drop-drop, take-take, take-append-le, get_or-take}
+use Rattle.std.proofs.lemmas.List.{take-append-drop, reverse-append, reverse-reverse, length-map, take_at, drop_at, drop-drop, get_or-take}
 use Rattle.slab.specs.Slab.{Slab}
 use Rattle.xf_doc.specs.declared.node.NodeId.{NodeId}
 use Rattle.xf_tree.specs.declared.rows.Row.{Row}
 use Rattle.xf_tree.specs.Slot.{Slot}
-use Rattle.xf_tree.specs.Rows.{deeper, Sized, tree_of, grown, shrunk, rotated}
+use Rattle.xf_tree.specs.Rows.{deeper, Sized, tree_of, grown, shrunk}
 use Rattle.xf_tree.specs.Tree.{unsized}
 use Rattle.xf_tree.specs.Texts.{attributes, children, is_attribute_row, text_row, AreAt, depth_at, run_of, after_run, with_text_rows, settled}
 use Rattle.xf_tree.proofs.SizedLemmas.{lt-true, lt-false, grown-sized, shrunk-sized}
 use Rattle.xf_tree.proofs.CutLemmas.{size-at, tree-within, sized-take, sized-drop, stops-after}
 use Rattle.xf_tree.proofs.PlaceLemmas.{tree-size}
-use Rattle.xf_tree.proofs.MoveLemmas.{rotated-parts}
 use Rattle.xf_tree.proofs.ForestLemmas.{IgnoresSize, map-shrunk, map-grown}
 
 -- ---- sizes that do not change
@@ -219,12 +218,11 @@ module _ (s : Slab Slot) (at : ℕ) (texts : List NodeId) (rows : List Row) (wit
 
   -- ---- the steps of the change, with where the attributes end, where the run did, and how many of it are no attributes
 
-  module _ (from end had : ℕ) (now packed gapped full : List Row) (is_end : end ≡ at + length (tree_of (drop at rows)))
+  module _ (from end had : ℕ) (now packed full : List Row) (is_end : end ≡ at + length (tree_of (drop at rows)))
       (is_had : had ≡ length (children s (take (end - (at + 1)) (drop (at + 1) rows))))
       (is_now : now ≡ settled had (length texts) (d + 1) (reverse (take (at + 1) rows)) (drop (at + 1) rows))
       (front : take from packed ≡ take (at + 1) now ++ attributes s (take (end - (at + 1)) (drop (at + 1) now))) (rest : drop end packed ≡ drop end now)
-      (gap_front : take from gapped ≡ take from packed) (gap_rest : drop (from + length texts) gapped ≡ drop end packed)
-      (is_full : full ≡ take from gapped ++ (news ++ drop (from + length texts) gapped)) where
+      (is_full : full ≡ take from packed ++ (news ++ drop end packed)) where
     abbrev count : ℕ
     count = deeper d (drop (at + 1) rows)
 
@@ -263,7 +261,7 @@ module _ (s : Slab Slot) (at : ℕ) (texts : List NodeId) (rows : List Row) (wit
 
     full-is : full ≡ settled had (length texts) (d + 1) (reverse us) (attributes s run ++ (news ++ ds))
     full-is =
-        is_full ∙ ap (λ l. l ++ (news ++ drop (from + length texts) gapped)) (gap_front ∙ front-is) ∙ ap (λ l. (top ++ attributes s run) ++ (news ++ l)) (gap_rest ∙ rest ∙ now-end)
+        is_full ∙ ap (λ l. l ++ (news ++ drop end packed)) front-is ∙ ap (λ l. (top ++ attributes s run) ++ (news ++ l)) (rest ∙ now-end)
         ∙ append_assoc top (attributes s run) (news ++ ds)
         ∙ sym (settled-apart had (length texts) (d + 1) (reverse us) (attributes s run ++ (news ++ ds)))
 
@@ -284,34 +282,3 @@ room-more to n rows sized few = λ k d h.
     let b = size-at k rows d in_rows sized in
     let w = tree-within k rows in_rows in
     rw e (omega arith)
-
--- ---- a gap
-
-pub record IsGap (from end want : ℕ) (old new : List Row) : Type 0 where
-  pub front : take from new ≡ take from old
-  pub rest : drop (from + want) new ≡ drop end old
-  pub same : length new + (end - from) ≡ length old + want
-
-pub gap-more : (from end k : ℕ) (old one new : List Row) → from ≤ end → end ≤ length old → take (length old) one ≡ old → length one ≡ length old + k
-    → new ≡ rotated end (length old) (length old + k) one → IsGap from end (end - from + k) old new
-gap-more from end k old one new g h front more is =
-    let us = take end old in
-    let bs = drop end old in
-    let cs = drop (length old) one in
-    let lu : length us ≡ end = omega (arith, length-take end old) in
-    let lb = length-drop end old in
-    let lc = length-drop (length old) one in
-    let split : old ≡ us ++ bs = sym (take-append-drop end old) in
-    let whole : one ≡ us ++ (bs ++ (cs ++ [])) =
-    sym (take-append-drop (length old) one) ∙ ap (λ l. l ++ cs) (front ∙ split) ∙ append_assoc us bs cs ∙ ap (λ l. us ++ (bs ++ l)) (sym (append-nil cs)) in
-    let t : new ≡ us ++ (cs ++ bs) =
-    is ∙ ap (rotated end (length old) (length old + k)) whole
-    ∙ rotated-parts us bs cs [] end (length old) (length old + k) (omega arith) (omega arith) (omega arith)
-    ∙ ap (λ l. us ++ l) (append-nil (cs ++ bs)) in
-    let a : from ≤ length us = omega arith in
-    let both : length (us ++ cs) ≡ from + (end - from + k) = omega (arith, length-append us cs) in
-    record {
-      front = ap (take from) t ∙ take-append-le from us (cs ++ bs) a ∙ take-take from end old g;
-      rest = ap (drop (from + (end - from + k))) t ∙ ap (drop (from + (end - from + k))) (sym (append_assoc us cs bs)) ∙ drop_at (us ++ cs) bs (from + (end - from + k)) both;
-      same = omega (arith, ap length t, length-append us (cs ++ bs), length-append cs bs);
-    }

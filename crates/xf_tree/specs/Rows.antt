@@ -2,6 +2,12 @@
 use Rattle.std.specs.Prelude.{ℕ, suc, ◌≡◌, ◌+◌, ◌-◌, ◌≤◌, List, [], ◌∷◌, ◌++◌, map, take, drop, reverse, length, nat_lt, ◌==◌, Option, Some, None, if◌then◌else◌}
 use Rattle.xf_tree.specs.declared.rows.Row.{Row}
 
+-- rows, with how many there is memory for, and at which place there is room for more
+pub record RowList : Type 0 where
+  pub items : List Row
+  pub room_at : ℕ
+  pub capacity : ℕ
+
 -- how many rows at the front are deeper than this: as many as a node of this depth has below it
 abbrev pub deeper : ℕ → List Row → ℕ
 deeper depth [] = 0

@@ -17,7 +17,9 @@ use crate::forest::Forest;
 use crate::hints::Hints;
 use crate::limits::DEPTH_LIMIT;
 use crate::lookup::{is_kin_at, parent_row, row_of};
-use crate::rows::{Row, end_of, paste_in, put_last};
+use crate::moves::{move_last, paste};
+use crate::row_slice::{RowSlice, slice};
+use crate::rows::{Rows, end_of};
 use crate::slot::{is_attribute_at, is_element_at};
 use crate::slots::Slots;
 use xf_doc::{NodeId, TreeFault};
@@ -72,7 +74,7 @@ impl Forest {
             row_of(&self.rows, &self.slots, &self.hints, parent),
         ) {
             (Some(at), Some(above)) => {
-                let key = self.rows[at].key;
+                let key = self.rows.at(at).key;
                 if is_attribute_at(&self.slots, key) {
                     count_lesser(&self.rows, &self.slots, above, key)
                 } else {
@@ -96,7 +98,7 @@ impl Forest {
             (Some(at), Some(above)) => {
                 let elements = elements_over(&self.rows, &self.slots, &self.hints, above);
                 let end = end_of(&self.rows, at);
-                has_deep(&self.rows[at..end], &self.slots, elements)
+                has_deep(&slice(&self.rows, at, end), &self.slots, elements)
             }
             _ => false,
         }
@@ -104,16 +106,16 @@ impl Forest {
 }
 
 /// How many elements a child of the node at a place is below.
-fn elements_over(rows: &[Row], slots: &Slots, hints: &Hints, above: usize) -> u32
-    requires within { above < length rows.now }
-    requires sized { Sized rows.now }
-    requires few { length rows.now < 2 ^ 31 }
-    ensures { result ≡ elements_over slots.now rows.now above }
+fn elements_over(rows: &Rows, slots: &Slots, hints: &Hints, above: usize) -> u32
+    requires within { above < length rows.now.items }
+    requires sized { Sized rows.now.items }
+    requires few { length rows.now.items < 2 ^ 31 }
+    ensures { result ≡ elements_over slots.now rows.now.items above }
 {
     let mut at = above;
     let mut count = 0;
     loop {
-        if is_element_at(slots, rows[at].key) {
+        if is_element_at(slots, rows.at(at).key) {
             count += 1;
         }
         match parent_row(rows, hints, at) {
@@ -124,11 +126,12 @@ fn elements_over(rows: &[Row], slots: &Slots, hints: &Hints, above: usize) -> u3
 }
 
 /// Whether an element of a tree would stand too deep below so many elements.
-fn has_deep(tree: &[Row], slots: &Slots, elements: u32) -> bool
+fn has_deep(tree: &RowSlice<'_>, slots: &Slots, elements: u32) -> bool
     ensures { result ≡ is_too_deep limits.depth elements (map (node_of slots.now) tree.now) }
 {
     let left = DEPTH_LIMIT.saturating_sub(elements);
-    for row in tree {
+    for at in 0..tree.len() {
+        let row = tree.at(at);
         if row.depth >= left && is_element_at(slots, row.key) {
             return true;
         }
@@ -138,7 +141,7 @@ fn has_deep(tree: &[Row], slots: &Slots, elements: u32) -> bool
 
 /// Puts the tree of the top at a place below the node at another one.
 fn place_tree(
-    rows: &mut Vec<Row>,
+    rows: &mut Rows,
     slots: &Slots,
     hints: &mut Hints,
     at: usize,
@@ -155,21 +158,21 @@ fn place_tree(
     requires leaves { AreLeaves (parts_in (map (node_of slots.now) rows.old.items)) }
     ensures sized { Sized rows.new.items }
     ensures answer { IsPlaced at above place slots.now rows.old.items rows.new.items }
-    ensures room { vec_capacity rows.new ≡ vec_capacity rows.old }
+    ensures room { rows.new.capacity ≡ rows.old.capacity }
 {
-    let top = rows[at].key;
-    let parent = rows[above].key;
-    let depth = rows[above].depth + 1;
+    let top = rows.at(at).key;
+    let parent = rows.at(above).key;
+    let depth = rows.at(above).depth + 1;
     let (from, over) = put_behind(rows, at, above);
     let end = end_of(rows, from);
-    let to = place_below(&rows[..from], slots, over, top, place);
-    paste_in(rows, hints, from, to, depth);
+    let to = place_below(rows, slots, over, top, place);
+    paste(rows, hints, from, to, depth);
     hints.note_parent(top, parent);
     hints.note_rows(rows, at.min(to), end);
 }
 
 /// Makes the tree at a place stand behind a row outside it. The answer is where the tree and the row stand then.
-fn put_behind(rows: &mut Vec<Row>, at: usize, above: usize) -> (usize, usize)
+fn put_behind(rows: &mut Rows, at: usize, above: usize) -> (usize, usize)
     requires within { at < length rows.old.items }
     requires parent { above < length rows.old.items }
     requires outside { (above < at) ⊎ (at + length (rows_of_tree (drop at rows.old.items)) ≤ above) }
@@ -177,22 +180,22 @@ fn put_behind(rows: &mut Vec<Row>, at: usize, above: usize) -> (usize, usize)
     requires sized { Sized rows.old.items }
     ensures sized { Sized rows.new.items }
     ensures behind { IsBehind at above result.0 result.1 rows.old.items rows.new.items }
-    ensures room { vec_capacity rows.new ≡ vec_capacity rows.old }
+    ensures room { rows.new.capacity ≡ rows.old.capacity }
 {
     if above < at {
         return (at, above);
     }
     let end = end_of(rows, at);
-    let from = put_last(rows, at);
+    let from = move_last(rows, at);
     (from, above - (end - at))
 }
 
 /// The row where the node under a key goes below the one at a place.
-fn place_below(rows: &[Row], slots: &Slots, above: usize, key: usize, place: u32) -> usize
-    requires within { above < length rows.now }
-    requires fits { (slice_index_or rows.now above no_row).depth + 1 < 2 ^ 32 }
-    requires sized { Sized rows.now }
-    ensures { result ≡ row_below slots.now rows.now above (content_in (get slots.now key)) place }
+fn place_below(rows: &Rows, slots: &Slots, above: usize, key: usize, place: u32) -> usize
+    requires within { above < length rows.now.items }
+    requires fits { (slice_index_or rows.now.items above no_row).depth + 1 < 2 ^ 32 }
+    requires sized { Sized rows.now.items }
+    ensures { result ≡ row_below slots.now rows.now.items above (content_in (get slots.now key)) place }
 {
     if is_attribute_at(slots, key) {
         attribute_place(rows, slots, above, place)
@@ -202,13 +205,13 @@ fn place_below(rows: &[Row], slots: &Slots, above: usize, key: usize, place: u32
 }
 
 /// The row before which a child with this place comes, below the node at a place, or behind all children.
-fn child_place(rows: &[Row], slots: &Slots, above: usize, place: u32) -> usize
-    requires within { above < length rows.now }
-    requires fits { (slice_index_or rows.now above no_row).depth + 1 < 2 ^ 32 }
-    requires sized { Sized rows.now }
-    ensures { result ≡ above + 1 + child_at ((slice_index_or rows.now above no_row).depth + 1) place (map (node_of slots.now) (drop (above + 1) rows.now)) }
+fn child_place(rows: &Rows, slots: &Slots, above: usize, place: u32) -> usize
+    requires within { above < length rows.now.items }
+    requires fits { (slice_index_or rows.now.items above no_row).depth + 1 < 2 ^ 32 }
+    requires sized { Sized rows.now.items }
+    ensures { result ≡ above + 1 + child_at ((slice_index_or rows.now.items above no_row).depth + 1) place (map (node_of slots.now) (drop (above + 1) rows.now.items)) }
 {
-    let depth = rows[above].depth + 1;
+    let depth = rows.at(above).depth + 1;
     let end = end_of(rows, above);
     let mut left = place;
     let mut next = above + 1;
@@ -225,15 +228,16 @@ fn child_place(rows: &[Row], slots: &Slots, above: usize, place: u32) -> usize
 }
 
 /// The row before which an attribute with this place comes, below the element at a place, or behind all attributes.
-fn attribute_place(rows: &[Row], slots: &Slots, above: usize, place: u32) -> usize
-    requires within { above < length rows.now }
-    requires fits { (slice_index_or rows.now above no_row).depth + 1 < 2 ^ 32 }
-    ensures { result ≡ above + 1 + attribute_at ((slice_index_or rows.now above no_row).depth + 1) place (map (node_of slots.now) (drop (above + 1) rows.now)) }
+fn attribute_place(rows: &Rows, slots: &Slots, above: usize, place: u32) -> usize
+    requires within { above < length rows.now.items }
+    requires fits { (slice_index_or rows.now.items above no_row).depth + 1 < 2 ^ 32 }
+    ensures { result ≡ above + 1 + attribute_at ((slice_index_or rows.now.items above no_row).depth + 1) place (map (node_of slots.now) (drop (above + 1) rows.now.items)) }
 {
-    let depth = rows[above].depth + 1;
+    let depth = rows.at(above).depth + 1;
+    let end = rows.len();
     let mut ahead = place;
     let mut next = above + 1;
-    while ahead > 0 && next < rows.len() && is_kin_at(rows, slots, next, depth, true) {
+    while ahead > 0 && next < end && is_kin_at(rows, slots, next, depth, true) {
         ahead -= 1;
         next += 1;
     }

@@ -10,7 +10,7 @@ ghost use Rattle.xf_tree.specs.Walks.{AreNodes, IsReady, IsWalk, left_of, number
 use crate::forest::Forest;
 use crate::hints::Hints;
 use crate::lookup::{parent_row, row_of};
-use crate::rows::{Row, end_of};
+use crate::rows::{Rows, end_of};
 use crate::slot::is_attribute_at;
 use crate::slots::Slots;
 use crate::walk::{Left, Walk};
@@ -37,15 +37,15 @@ impl Forest {
 }
 
 fn walk_from<'a>(
-    rows: &'a [Row],
+    rows: &'a Rows,
     slots: &'a Slots,
     hints: &'a Hints,
     at: usize,
     axis: Axis,
 ) -> Walk<'a>
-    requires nodes { AreNodes slots.now rows.now }
-    requires within { at < length rows.now }
-    ensures { result ≡ axis_of axis (number_of_row slots.now rows.now at) (visits (map (node_of slots.now) rows.now)) }
+    requires nodes { AreNodes slots.now rows.now.items }
+    requires within { at < length rows.now.items }
+    ensures { result ≡ axis_of axis (number_of_row slots.now rows.now.items at) (visits (map (node_of slots.now) rows.now.items)) }
 {
     let (first, left) = start(rows, slots, hints, at, axis);
     Walk {
@@ -60,16 +60,16 @@ fn walk_from<'a>(
 /// The first node of a walk and what it has left then.
 #[inline(always)]
 pub fn start(
-    rows: &[Row],
+    rows: &Rows,
     slots: &Slots,
     hints: &Hints,
     at: usize,
     axis: Axis,
 ) -> (Option<usize>, Left)
-    requires nodes { AreNodes slots.now rows.now }
-    requires within { at < length rows.now }
-    ensures walk { IsWalk rows.now result.0 result.1 }
-    ensures answer { walk_of slots.now rows.now result.0 result.1 ≡ axis_of axis (number_of_row slots.now rows.now at) (visits (map (node_of slots.now) rows.now)) }
+    requires nodes { AreNodes slots.now rows.now.items }
+    requires within { at < length rows.now.items }
+    ensures walk { IsWalk rows.now.items result.0 result.1 }
+    ensures answer { walk_of slots.now rows.now.items result.0 result.1 ≡ axis_of axis (number_of_row slots.now rows.now.items at) (visits (map (node_of slots.now) rows.now.items)) }
 {
     match axis {
         Axis::Self_ => (Some(at), Left::Nothing),
@@ -87,22 +87,22 @@ pub fn start(
 
 /// The depth of the children and attributes.
 #[inline(always)]
-pub fn child_depth(rows: &[Row], at: usize) -> u32
-    requires within { at < length rows.now }
-    requires steps { AreSteps 0 (depths rows.now) }
-    requires few { length rows.now < 2 ^ 31 }
-    ensures { result ≡ (slice_index_or rows.now at no_row).depth + 1 }
+pub fn child_depth(rows: &Rows, at: usize) -> u32
+    requires within { at < length rows.now.items }
+    requires steps { AreSteps 0 (depths rows.now.items) }
+    requires few { length rows.now.items < 2 ^ 31 }
+    ensures { result ≡ (slice_index_or rows.now.items at no_row).depth + 1 }
 {
-    rows[at].depth + 1
+    rows.at(at).depth + 1
 }
 
 /// The children.
-fn right_below(rows: &[Row], at: usize) -> Left
-    requires within { at < length rows.now }
-    requires sized { Sized rows.now }
-    requires steps { AreSteps 0 (depths rows.now) }
-    requires few { length rows.now < 2 ^ 31 }
-    ensures { result ≡ Left.Trees (at + 1) (at + length (tree_of (drop at rows.now))) ((slice_index_or rows.now at no_row).depth + 1) }
+fn right_below(rows: &Rows, at: usize) -> Left
+    requires within { at < length rows.now.items }
+    requires sized { Sized rows.now.items }
+    requires steps { AreSteps 0 (depths rows.now.items) }
+    requires few { length rows.now.items < 2 ^ 31 }
+    ensures { result ≡ Left.Trees (at + 1) (at + length (tree_of (drop at rows.now.items))) ((slice_index_or rows.now.items at no_row).depth + 1) }
 {
     Left::Trees {
         at: at + 1,
@@ -112,11 +112,11 @@ fn right_below(rows: &[Row], at: usize) -> Left
 }
 
 /// The attributes: they stand right behind their element.
-fn own_attributes(rows: &[Row], at: usize) -> Left
-    requires within { at < length rows.now }
-    requires steps { AreSteps 0 (depths rows.now) }
-    requires few { length rows.now < 2 ^ 31 }
-    ensures { result ≡ Left.Attributes (at + 1) ((slice_index_or rows.now at no_row).depth + 1) }
+fn own_attributes(rows: &Rows, at: usize) -> Left
+    requires within { at < length rows.now.items }
+    requires steps { AreSteps 0 (depths rows.now.items) }
+    requires few { length rows.now.items < 2 ^ 31 }
+    ensures { result ≡ Left.Attributes (at + 1) ((slice_index_or rows.now.items at no_row).depth + 1) }
 {
     Left::Attributes {
         at: at + 1,
@@ -124,49 +124,49 @@ fn own_attributes(rows: &[Row], at: usize) -> Left
     }
 }
 
-fn all_below(rows: &[Row], at: usize) -> Left
-    requires within { at < length rows.now }
-    requires sized { Sized rows.now }
-    ensures { result ≡ Left.Rows (at + 1) (at + length (tree_of (drop at rows.now))) }
+fn all_below(rows: &Rows, at: usize) -> Left
+    requires within { at < length rows.now.items }
+    requires sized { Sized rows.now.items }
+    ensures { result ≡ Left.Rows (at + 1) (at + length (tree_of (drop at rows.now.items))) }
 {
     let end = end_of(rows, at);
     Left::Rows { at: at + 1, end }
 }
 
-fn later_siblings(rows: &[Row], slots: &Slots, hints: &Hints, at: usize) -> Left
-    requires nodes { AreNodes slots.now rows.now }
-    requires within { at < length rows.now }
-    ensures ready { IsReady rows.now result }
-    ensures answer { left_of slots.now rows.now result ≡ axis_of Axis.FollowingSibling (number_of_row slots.now rows.now at) (visits (map (node_of slots.now) rows.now)) }
+fn later_siblings(rows: &Rows, slots: &Slots, hints: &Hints, at: usize) -> Left
+    requires nodes { AreNodes slots.now rows.now.items }
+    requires within { at < length rows.now.items }
+    ensures ready { IsReady rows.now.items result }
+    ensures answer { left_of slots.now rows.now.items result ≡ axis_of Axis.FollowingSibling (number_of_row slots.now rows.now.items at) (visits (map (node_of slots.now) rows.now.items)) }
 {
     let Some(above) = parent_row(rows, hints, at) else {
         return Left::Nothing;
     };
-    if is_attribute_at(slots, rows[at].key) {
+    if is_attribute_at(slots, rows.at(at).key) {
         return Left::Nothing;
     }
     Left::Trees {
         at: end_of(rows, at),
         end: end_of(rows, above),
-        depth: rows[at].depth,
+        depth: rows.at(at).depth,
     }
 }
 
-fn earlier_siblings(rows: &[Row], slots: &Slots, hints: &Hints, at: usize) -> Left
-    requires nodes { AreNodes slots.now rows.now }
-    requires within { at < length rows.now }
-    ensures ready { IsReady rows.now result }
-    ensures answer { left_of slots.now rows.now result ≡ axis_of Axis.PrecedingSibling (number_of_row slots.now rows.now at) (visits (map (node_of slots.now) rows.now)) }
+fn earlier_siblings(rows: &Rows, slots: &Slots, hints: &Hints, at: usize) -> Left
+    requires nodes { AreNodes slots.now rows.now.items }
+    requires within { at < length rows.now.items }
+    ensures ready { IsReady rows.now.items result }
+    ensures answer { left_of slots.now rows.now.items result ≡ axis_of Axis.PrecedingSibling (number_of_row slots.now rows.now.items at) (visits (map (node_of slots.now) rows.now.items)) }
 {
     let Some(above) = parent_row(rows, hints, at) else {
         return Left::Nothing;
     };
-    if is_attribute_at(slots, rows[at].key) {
+    if is_attribute_at(slots, rows.at(at).key) {
         return Left::Nothing;
     }
     Left::Back {
         above,
         at,
-        depth: rows[at].depth,
+        depth: rows.at(at).depth,
     }
 }

@@ -9,6 +9,7 @@ ghost use Rattle.xf_tree.specs.Tree.{node_of, content_in};
 use crate::forest::Forest;
 use crate::gather::{Below, take_inner};
 use crate::lookup::row_of;
+use crate::row_slice::{RowSlice, slice};
 use crate::rows::{Row, end_of};
 use crate::seen::Seen;
 use crate::slot::{duplicate_meaning, shown_at};
@@ -29,7 +30,7 @@ impl Forest {
         match row_of(&self.rows, &self.slots, &self.hints, node) {
             Some(at) => {
                 let end = end_of(&self.rows, at);
-                bare_of_rows(self.alloc, &self.slots, &self.rows[at..end])
+                bare_of_rows(self.alloc, &self.slots, &slice(&self.rows, at, end))
             }
             None => Ok(Bare::Text(Word::new(self.alloc))),
         }
@@ -37,7 +38,7 @@ impl Forest {
 }
 
 /// The tree that these rows are.
-fn bare_of_rows(alloc: Global, slots: &Slots, rows: &[Row]) -> Result<Bare, AllocError>
+fn bare_of_rows(alloc: Global, slots: &Slots, rows: &RowSlice<'_>) -> Result<Bare, AllocError>
     requires { IsPrintable (map (node_of slots.now) rows.now) }
     ensures { IfOk result (λ tree. Some tree ≡ first_tree_in (gathered bare_part (map (node_of slots.now) rows.now))) }
 {
@@ -48,14 +49,14 @@ fn bare_of_rows(alloc: Global, slots: &Slots, rows: &[Row]) -> Result<Bare, Allo
     }
 }
 
-fn bare_parts(alloc: Global, slots: &Slots, rows: &[Row]) -> Result<Parts, AllocError>
+fn bare_parts(alloc: Global, slots: &Slots, rows: &RowSlice<'_>) -> Result<Parts, AllocError>
     ensures { IfOk result (λ parts. stacked parts.items ≡ gathered bare_part (map (node_of slots.now) rows.now)) }
 {
     let mut parts = Vec::new(alloc);
     let mut at = rows.len();
     while at > 0 {
         at -= 1;
-        let row = rows[at];
+        let row = rows.at(at);
         let part = bare_at(alloc, slots, row, &mut parts)?;
         parts.push((row.depth, part))?;
     }

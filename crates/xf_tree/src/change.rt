@@ -12,9 +12,11 @@ use crate::fault::{has_deep, has_long, lit_fault};
 use crate::forest::Forest;
 use crate::limits::{ALL_LIMIT, NODE_LIMIT, ROW_LIMIT};
 use crate::lookup::{parent_row, place_of, row_of};
+use crate::moves::cut;
 use crate::plant::contents_of_lit;
 use crate::root::root_over;
-use crate::rows::{cut_in, end_of};
+use crate::row_slice::slice;
+use crate::rows::end_of;
 use crate::slot::number_of;
 use crate::tree::{Part, contents_of, push_tree, size_of_tree};
 use std::alloc::{AllocError, Global};
@@ -38,10 +40,10 @@ impl Forest {
         let Some(above) = parent_row(&self.rows, &self.hints, at) else {
             return (node, 0);
         };
-        let key = self.rows[above].key;
+        let key = self.rows.at(above).key;
         let number = number_of(&self.slots, key);
         let place = place_of(&self.rows, &self.slots, above, at);
-        cut_in(&mut self.rows, &self.hints, at);
+        cut(&mut self.rows, &self.hints, at);
         // It went to the end, so all rows from its old place on have moved.
         self.hints.note_rows(&self.rows, at, self.rows.len());
         (NodeId { number, place: key }, place)
@@ -112,8 +114,8 @@ impl Forest {
                 contents_of(
                     self.alloc,
                     &self.slots,
-                    &self.rows[at..end],
-                    self.rows[at].depth,
+                    &slice(&self.rows, at, end),
+                    self.rows.at(at).depth,
                 )
             }
             None => Ok(Vec::new(self.alloc)),

@@ -11,7 +11,7 @@ use crate::forest::Forest;
 use crate::hints::Hints;
 use crate::lookup::{is_kin_at, parent_row, row_of};
 use crate::narrow::narrowed;
-use crate::rows::{Row, end_of};
+use crate::rows::{Rows, end_of};
 use crate::slot::number_of;
 use crate::slots::Slots;
 use crate::sought::{Principal, Sought, next_found};
@@ -46,15 +46,15 @@ impl Forest {
 
 fn push_on_axis(
     found: &mut NodeList,
-    rows: &[Row],
+    rows: &Rows,
     slots: &Slots,
     hints: &Hints,
     node: NodeId,
     axis: Axis,
     sought: Sought<'_>,
 ) -> Result<(), AllocError>
-    requires { AreNodes slots.now rows.now }
-    ensures { OnOk result (found.new ≡ found.old ++ met_on axis sought.entry (map (node_of slots.now) rows.now) node.number) }
+    requires { AreNodes slots.now rows.now.items }
+    ensures { OnOk result (found.new ≡ found.old ++ met_on axis sought.entry (map (node_of slots.now) rows.now.items) node.number) }
 {
     let Some(at) = row_of(rows, slots, hints, node) else {
         return Ok(());
@@ -65,16 +65,16 @@ fn push_on_axis(
 /// Puts behind other nodes those on an axis from the node at a place that are sought. The axes that are walked most go straight.
 fn push_from(
     found: &mut NodeList,
-    rows: &[Row],
+    rows: &Rows,
     slots: &Slots,
     hints: &Hints,
     at: usize,
     axis: Axis,
     sought: Sought<'_>,
 ) -> Result<(), AllocError>
-    requires nodes { AreNodes slots.now rows.now }
-    requires within { at < length rows.now }
-    ensures { OnOk result (found.new ≡ found.old ++ met_on axis sought.entry (map (node_of slots.now) rows.now) (number_of_row slots.now rows.now at)) }
+    requires nodes { AreNodes slots.now rows.now.items }
+    requires within { at < length rows.now.items }
+    ensures { OnOk result (found.new ≡ found.old ++ met_on axis sought.entry (map (node_of slots.now) rows.now.items) (number_of_row slots.now rows.now.items at)) }
 {
     match axis {
         Axis::Child => {
@@ -101,16 +101,16 @@ fn push_from(
 /// Puts behind other nodes those of a walk that are sought.
 fn push_found(
     found: &mut NodeList,
-    rows: &[Row],
+    rows: &Rows,
     slots: &Slots,
     hints: &Hints,
     first: Option<usize>,
     left: Left,
     sought: Sought<'_>,
 ) -> Result<(), AllocError>
-    requires nodes { AreNodes slots.now rows.now }
-    requires walk { IsWalk rows.now first left }
-    ensures { OnOk result (found.new ≡ found.old ++ walk_met slots.now rows.now sought.entry first left) }
+    requires nodes { AreNodes slots.now rows.now.items }
+    requires walk { IsWalk rows.now.items first left }
+    ensures { OnOk result (found.new ≡ found.old ++ walk_met slots.now rows.now.items sought.entry first left) }
 {
     let Some(at) = first else {
         return push_left(found, rows, slots, hints, left, sought);
@@ -122,15 +122,15 @@ fn push_found(
 /// The same of what is left of a walk.
 fn push_left(
     found: &mut NodeList,
-    rows: &[Row],
+    rows: &Rows,
     slots: &Slots,
     hints: &Hints,
     left: Left,
     sought: Sought<'_>,
 ) -> Result<(), AllocError>
-    requires nodes { AreNodes slots.now rows.now }
-    requires ready { IsReady rows.now left }
-    ensures { OnOk result (found.new ≡ found.old ++ left_met slots.now rows.now sought.entry left) }
+    requires nodes { AreNodes slots.now rows.now.items }
+    requires ready { IsReady rows.now.items left }
+    ensures { OnOk result (found.new ≡ found.old ++ left_met slots.now rows.now.items sought.entry left) }
 {
     match left {
         Left::Trees { at, end, depth } => push_trees(found, rows, slots, at, end, depth, sought),
@@ -142,15 +142,15 @@ fn push_left(
 /// The same, by single steps of the walk.
 fn push_by_steps(
     found: &mut NodeList,
-    rows: &[Row],
+    rows: &Rows,
     slots: &Slots,
     hints: &Hints,
     left: Left,
     sought: Sought<'_>,
 ) -> Result<(), AllocError>
-    requires nodes { AreNodes slots.now rows.now }
-    requires ready { IsReady rows.now left }
-    ensures { OnOk result (found.new ≡ found.old ++ left_met slots.now rows.now sought.entry left) }
+    requires nodes { AreNodes slots.now rows.now.items }
+    requires ready { IsReady rows.now.items left }
+    ensures { OnOk result (found.new ≡ found.old ++ left_met slots.now rows.now.items sought.entry left) }
 {
     let mut rest = left;
     while let Some((at, behind)) = next_found(rows, slots, hints, rest, sought) {
@@ -164,17 +164,17 @@ fn push_by_steps(
 #[inline(always)]
 fn push_trees(
     found: &mut NodeList,
-    rows: &[Row],
+    rows: &Rows,
     slots: &Slots,
     at: usize,
     end: usize,
     depth: u32,
     sought: Sought<'_>,
 ) -> Result<(), AllocError>
-    requires nodes { AreNodes slots.now rows.now }
-    requires within { end ≤ length rows.now }
-    requires deep { AllDeep depth (between at end rows.now) }
-    ensures { OnOk result (found.new ≡ found.old ++ sought_within slots.now rows.now sought.entry (is_kin depth false) at end) }
+    requires nodes { AreNodes slots.now rows.now.items }
+    requires within { end ≤ length rows.now.items }
+    requires deep { AllDeep depth (between at end rows.now.items) }
+    ensures { OnOk result (found.new ≡ found.old ++ sought_within slots.now rows.now.items sought.entry (is_kin depth false) at end) }
 {
     match sought {
         Sought::Named(Principal::Element, asked) => push_tops(
@@ -194,17 +194,17 @@ fn push_trees(
 #[inline(always)]
 fn push_tops(
     found: &mut NodeList,
-    rows: &[Row],
+    rows: &Rows,
     slots: &Slots,
     at: usize,
     end: usize,
     depth: u32,
     sought: Sought<'_>,
 ) -> Result<(), AllocError>
-    requires nodes { AreNodes slots.now rows.now }
-    requires within { end ≤ length rows.now }
-    requires deep { AllDeep depth (between at end rows.now) }
-    ensures { OnOk result (found.new ≡ found.old ++ sought_within slots.now rows.now sought.entry (is_kin depth false) at end) }
+    requires nodes { AreNodes slots.now rows.now.items }
+    requires within { end ≤ length rows.now.items }
+    requires deep { AllDeep depth (between at end rows.now.items) }
+    ensures { OnOk result (found.new ≡ found.old ++ sought_within slots.now rows.now.items sought.entry (is_kin depth false) at end) }
 {
     let mut next = at;
     while next < end {
@@ -217,14 +217,14 @@ fn push_tops(
 /// Of the attributes of this depth from a place on, to before the first node that is none, those that are sought.
 fn push_attributes(
     found: &mut NodeList,
-    rows: &[Row],
+    rows: &Rows,
     slots: &Slots,
     at: usize,
     depth: u32,
     sought: Sought<'_>,
 ) -> Result<(), AllocError>
-    requires { AreNodes slots.now rows.now }
-    ensures { OnOk result (found.new ≡ found.old ++ left_met slots.now rows.now sought.entry (Left.Attributes at depth)) }
+    requires { AreNodes slots.now rows.now.items }
+    ensures { OnOk result (found.new ≡ found.old ++ left_met slots.now rows.now.items sought.entry (Left.Attributes at depth)) }
 {
     let mut next = at;
     while next < rows.len() && is_kin_at(rows, slots, next, depth, true) {
@@ -238,15 +238,15 @@ fn push_attributes(
 #[inline(always)]
 fn push_rows(
     found: &mut NodeList,
-    rows: &[Row],
+    rows: &Rows,
     slots: &Slots,
     at: usize,
     end: usize,
     sought: Sought<'_>,
 ) -> Result<(), AllocError>
-    requires nodes { AreNodes slots.now rows.now }
-    requires within { end ≤ length rows.now }
-    ensures { OnOk result (found.new ≡ found.old ++ sought_within slots.now rows.now sought.entry is_plain at end) }
+    requires nodes { AreNodes slots.now rows.now.items }
+    requires within { end ≤ length rows.now.items }
+    ensures { OnOk result (found.new ≡ found.old ++ sought_within slots.now rows.now.items sought.entry is_plain at end) }
 {
     match sought {
         Sought::Named(Principal::Element, asked) => push_between(
@@ -265,15 +265,15 @@ fn push_rows(
 #[inline(always)]
 fn push_between(
     found: &mut NodeList,
-    rows: &[Row],
+    rows: &Rows,
     slots: &Slots,
     at: usize,
     end: usize,
     sought: Sought<'_>,
 ) -> Result<(), AllocError>
-    requires nodes { AreNodes slots.now rows.now }
-    requires within { end ≤ length rows.now }
-    ensures { OnOk result (found.new ≡ found.old ++ sought_within slots.now rows.now sought.entry is_plain at end) }
+    requires nodes { AreNodes slots.now rows.now.items }
+    requires within { end ≤ length rows.now.items }
+    ensures { OnOk result (found.new ≡ found.old ++ sought_within slots.now rows.now.items sought.entry is_plain at end) }
 {
     let mut next = at;
     while next < end {
@@ -287,16 +287,16 @@ fn push_between(
 #[inline(always)]
 fn push_kin(
     found: &mut NodeList,
-    rows: &[Row],
+    rows: &Rows,
     slots: &Slots,
     at: usize,
     depth: u32,
     sought: Sought<'_>,
 ) -> Result<(), AllocError>
-    requires { at < length rows.now }
-    ensures { OnOk result (found.new ≡ found.old ++ alone_where (is_kin_sought depth sought.entry (node_of slots.now (slice_index_or rows.now at no_row))) (number_of_row slots.now rows.now at)) }
+    requires { at < length rows.now.items }
+    ensures { OnOk result (found.new ≡ found.old ++ alone_where (is_kin_sought depth sought.entry (node_of slots.now (slice_index_or rows.now.items at no_row))) (number_of_row slots.now rows.now.items at)) }
 {
-    if rows[at].depth != depth {
+    if rows.at(at).depth != depth {
         return Ok(());
     }
     push_plain(found, rows, slots, at, sought)
@@ -306,15 +306,15 @@ fn push_kin(
 #[inline(always)]
 fn push_plain(
     found: &mut NodeList,
-    rows: &[Row],
+    rows: &Rows,
     slots: &Slots,
     at: usize,
     sought: Sought<'_>,
 ) -> Result<(), AllocError>
-    requires { at < length rows.now }
-    ensures { OnOk result (found.new ≡ found.old ++ alone_where (is_plain_sought sought.entry (node_of slots.now (slice_index_or rows.now at no_row))) (number_of_row slots.now rows.now at)) }
+    requires { at < length rows.now.items }
+    ensures { OnOk result (found.new ≡ found.old ++ alone_where (is_plain_sought sought.entry (node_of slots.now (slice_index_or rows.now.items at no_row))) (number_of_row slots.now rows.now.items at)) }
 {
-    let place = rows[at].key;
+    let place = rows.at(at).key;
     match slots.plain_sought_number(place, sought) {
         Some(number) => found.push(NodeId { number, place }),
         None => Ok(()),
@@ -325,15 +325,15 @@ fn push_plain(
 #[inline(always)]
 fn push_sought(
     found: &mut NodeList,
-    rows: &[Row],
+    rows: &Rows,
     slots: &Slots,
     at: usize,
     sought: Sought<'_>,
 ) -> Result<(), AllocError>
-    requires { at < length rows.now }
-    ensures { OnOk result (found.new ≡ found.old ++ alone_where (is_sought sought.entry (node_of slots.now (slice_index_or rows.now at no_row)).content) (number_of_row slots.now rows.now at)) }
+    requires { at < length rows.now.items }
+    ensures { OnOk result (found.new ≡ found.old ++ alone_where (is_sought sought.entry (node_of slots.now (slice_index_or rows.now.items at no_row)).content) (number_of_row slots.now rows.now.items at)) }
 {
-    let place = rows[at].key;
+    let place = rows.at(at).key;
     match slots.sought_number(place, sought) {
         Some(number) => found.push(NodeId { number, place }),
         None => Ok(()),
@@ -341,11 +341,11 @@ fn push_sought(
 }
 
 /// Puts the node of a row behind other nodes.
-fn push_row(found: &mut NodeList, rows: &[Row], slots: &Slots, at: usize) -> Result<(), AllocError>
-    requires { at < length rows.now }
-    ensures { OnOk result (found.new ≡ found.old ++ number_of_row slots.now rows.now at ∷ []) }
+fn push_row(found: &mut NodeList, rows: &Rows, slots: &Slots, at: usize) -> Result<(), AllocError>
+    requires { at < length rows.now.items }
+    ensures { OnOk result (found.new ≡ found.old ++ number_of_row slots.now rows.now.items at ∷ []) }
 {
-    let place = rows[at].key;
+    let place = rows.at(at).key;
     let number = number_of(slots, place);
     found.push(NodeId { number, place })
 }

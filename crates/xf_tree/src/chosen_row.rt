@@ -11,7 +11,7 @@ use crate::forest::Forest;
 use crate::hints::Hints;
 use crate::lookup::row_of;
 use crate::narrow::narrowed;
-use crate::rows::{Row, end_of};
+use crate::rows::{Rows, end_of};
 use crate::slot::number_of;
 use crate::slots::Slots;
 use crate::sought::{Sought, found_in_trees, next_found};
@@ -39,7 +39,7 @@ impl Forest {
             sought,
             place,
         )?;
-        let place = self.rows[found].key;
+        let place = self.rows.at(found).key;
         Some(NodeId {
             number: number_of(&self.slots, place),
             place,
@@ -48,7 +48,7 @@ impl Forest {
 }
 
 fn row_on_axis(
-    rows: &[Row],
+    rows: &Rows,
     slots: &Slots,
     hints: &Hints,
     from: NodeId,
@@ -56,9 +56,9 @@ fn row_on_axis(
     sought: Sought<'_>,
     place: usize,
 ) -> Option<usize>
-    requires { AreNodes slots.now rows.now }
-    ensures answer { option_map (number_of_row slots.now rows.now) result ≡ slice_get (met_on axis sought.entry (map (node_of slots.now) rows.now) from.number) place }
-    ensures within { IfSome result (λ at. at < length rows.now) }
+    requires { AreNodes slots.now rows.now.items }
+    ensures answer { option_map (number_of_row slots.now rows.now.items) result ≡ slice_get (met_on axis sought.entry (map (node_of slots.now) rows.now.items) from.number) place }
+    ensures within { IfSome result (λ at. at < length rows.now.items) }
 {
     let Some(at) = row_of(rows, slots, hints, from) else {
         return None;
@@ -68,7 +68,7 @@ fn row_on_axis(
 
 /// The same from the node at a place. To the children it goes straight.
 fn row_from(
-    rows: &[Row],
+    rows: &Rows,
     slots: &Slots,
     hints: &Hints,
     at: usize,
@@ -76,10 +76,10 @@ fn row_from(
     sought: Sought<'_>,
     place: usize,
 ) -> Option<usize>
-    requires nodes { AreNodes slots.now rows.now }
-    requires within { at < length rows.now }
-    ensures answer { option_map (number_of_row slots.now rows.now) result ≡ slice_get (met_on axis sought.entry (map (node_of slots.now) rows.now) (number_of_row slots.now rows.now at)) place }
-    ensures within { IfSome result (λ found. found < length rows.now) }
+    requires nodes { AreNodes slots.now rows.now.items }
+    requires within { at < length rows.now.items }
+    ensures answer { option_map (number_of_row slots.now rows.now.items) result ≡ slice_get (met_on axis sought.entry (map (node_of slots.now) rows.now.items) (number_of_row slots.now rows.now.items at)) place }
+    ensures within { IfSome result (λ found. found < length rows.now.items) }
 {
     match axis {
         Axis::Child => {
@@ -97,7 +97,7 @@ fn row_from(
 
 /// The row at a place, from 0, of the tops of trees that have this depth, are no attributes and are sought.
 fn row_in_trees(
-    rows: &[Row],
+    rows: &Rows,
     slots: &Slots,
     at: usize,
     end: usize,
@@ -105,11 +105,11 @@ fn row_in_trees(
     sought: Sought<'_>,
     place: usize,
 ) -> Option<usize>
-    requires nodes { AreNodes slots.now rows.now }
-    requires within { end ≤ length rows.now }
-    requires deep { AllDeep depth (between at end rows.now) }
-    ensures answer { option_map (number_of_row slots.now rows.now) result ≡ slice_get (sought_within slots.now rows.now sought.entry (is_kin depth false) at end) place }
-    ensures within { IfSome result (λ found. found < length rows.now) }
+    requires nodes { AreNodes slots.now rows.now.items }
+    requires within { end ≤ length rows.now.items }
+    requires deep { AllDeep depth (between at end rows.now.items) }
+    ensures answer { option_map (number_of_row slots.now rows.now.items) result ≡ slice_get (sought_within slots.now rows.now.items sought.entry (is_kin depth false) at end) place }
+    ensures within { IfSome result (λ found. found < length rows.now.items) }
 {
     let mut ahead = place;
     let mut next = at;
@@ -129,7 +129,7 @@ fn row_in_trees(
 
 /// The row at a place, from 0, of those of a walk whose nodes are sought.
 fn row_found(
-    rows: &[Row],
+    rows: &Rows,
     slots: &Slots,
     hints: &Hints,
     first: Option<usize>,
@@ -137,15 +137,15 @@ fn row_found(
     sought: Sought<'_>,
     place: usize,
 ) -> Option<usize>
-    requires nodes { AreNodes slots.now rows.now }
-    requires walk { IsWalk rows.now first left }
-    ensures answer { option_map (number_of_row slots.now rows.now) result ≡ slice_get (walk_met slots.now rows.now sought.entry first left) place }
-    ensures within { IfSome result (λ at. at < length rows.now) }
+    requires nodes { AreNodes slots.now rows.now.items }
+    requires walk { IsWalk rows.now.items first left }
+    ensures answer { option_map (number_of_row slots.now rows.now.items) result ≡ slice_get (walk_met slots.now rows.now.items sought.entry first left) place }
+    ensures within { IfSome result (λ at. at < length rows.now.items) }
 {
     let Some(at) = first else {
         return row_left(rows, slots, hints, left, sought, place);
     };
-    if !slots.is_sought(rows[at].key, sought) {
+    if !slots.is_sought(rows.at(at).key, sought) {
         return row_left(rows, slots, hints, left, sought, place);
     }
     if place == 0 {
@@ -156,17 +156,17 @@ fn row_found(
 
 /// The same of what is left of a walk.
 fn row_left(
-    rows: &[Row],
+    rows: &Rows,
     slots: &Slots,
     hints: &Hints,
     left: Left,
     sought: Sought<'_>,
     place: usize,
 ) -> Option<usize>
-    requires nodes { AreNodes slots.now rows.now }
-    requires ready { IsReady rows.now left }
-    ensures answer { option_map (number_of_row slots.now rows.now) result ≡ slice_get (left_met slots.now rows.now sought.entry left) place }
-    ensures within { IfSome result (λ at. at < length rows.now) }
+    requires nodes { AreNodes slots.now rows.now.items }
+    requires ready { IsReady rows.now.items left }
+    ensures answer { option_map (number_of_row slots.now rows.now.items) result ≡ slice_get (left_met slots.now rows.now.items sought.entry left) place }
+    ensures within { IfSome result (λ at. at < length rows.now.items) }
 {
     let mut before = place;
     let mut rest = left;

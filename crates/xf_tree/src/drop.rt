@@ -1,5 +1,5 @@
 //! Trees and kept texts that are dropped.
-ghost use Rattle.std.specs.Prelude.{◌≡◌, ◌+◌, ◌-◌, ◌≤◌, ◌<◌, ℕ, [], false, length, map, filter, take, drop, vec_capacity};
+ghost use Rattle.std.specs.Prelude.{◌≡◌, ◌+◌, ◌-◌, ◌≤◌, ◌<◌, ℕ, [], false, length, map, filter, take, drop};
 ghost use Rattle.std.specs.List.{copy_within};
 ghost use Rattle.slab.specs.Slab.{get};
 ghost use Rattle.xf_doc.specs.Changes.{in_instances};
@@ -13,7 +13,8 @@ ghost use Rattle.xf_tree.specs.Older.{is_older, is_newer, AreWhole};
 use crate::forest::Forest;
 use crate::hints::Hints;
 use crate::lookup::tops_end;
-use crate::rows::Row;
+use crate::row_slice::slice;
+use crate::rows::Rows;
 use crate::slot::{free_kept, free_rows, number_of};
 use crate::slots::Slots;
 
@@ -25,7 +26,7 @@ impl Forest {
         let end = tops_end(&self.rows, &self.slots);
         free_rows(
             &mut self.slots,
-            &self.rows[end..],
+            &slice(&self.rows, end, self.rows.len()),
             &mut self.count,
             &mut self.bytes,
         );
@@ -67,7 +68,7 @@ fn drop_kept(slots: &mut Slots, kept: &mut Vec<usize>)
 
 /// Drops the trees from a place on whose tops have this number or a later one.
 fn drop_newer(
-    rows: &mut Vec<Row>,
+    rows: &mut Rows,
     slots: &mut Slots,
     hints: &mut Hints,
     from: usize,
@@ -86,7 +87,7 @@ fn drop_newer(
     ensures less { (key : ℕ) → size_of (content_in (get slots.new key)) ≤ size_of (content_in (get slots.old key)) }
     ensures total { total.new ≡ total.old - node_count (map (node_of slots.old) (filter (is_newer slots.old number) rows.old.items)) }
     ensures size { size.new ≡ size.old - all_size (map (node_of slots.old) (filter (is_newer slots.old number) rows.old.items)) }
-    ensures room { vec_capacity rows.new ≡ vec_capacity rows.old }
+    ensures room { rows.new.capacity ≡ rows.old.capacity }
 {
     let end = move_older(rows, slots, hints, from, number, total, size);
     rows.truncate(end);
@@ -95,7 +96,7 @@ fn drop_newer(
 /// Moves the trees from a place on whose tops are older forward over the others, whose slots are emptied. The answer is
 /// where the rows that stay end.
 fn move_older(
-    rows: &mut [Row],
+    rows: &mut Rows,
     slots: &mut Slots,
     hints: &mut Hints,
     from: usize,
@@ -103,27 +104,30 @@ fn move_older(
     total: &mut usize,
     size: &mut u128,
 ) -> usize
-    requires within { from ≤ length rows.old }
-    requires sized { Sized rows.old }
-    requires stops { deeper 0 (drop from rows.old) ≡ 0 }
-    requires front { map (node_of slots.old) (take from rows.old) ≡ in_instances (map (node_of slots.old) rows.old) }
-    requires whole { AreWhole number false (map (node_of slots.old) rows.old) }
-    requires apart { (n : ℕ) → times n (map (node_of slots.old) rows.old) ≤ 1 }
-    ensures stay { take result rows.new ≡ filter (is_older slots.old number) rows.old }
-    ensures rest { KeepsBut slots.old slots.new (map (node_of slots.old) (filter (is_newer slots.old number) rows.old)) }
+    requires within { from ≤ length rows.old.items }
+    requires sized { Sized rows.old.items }
+    requires stops { deeper 0 (drop from rows.old.items) ≡ 0 }
+    requires front { map (node_of slots.old) (take from rows.old.items) ≡ in_instances (map (node_of slots.old) rows.old.items) }
+    requires whole { AreWhole number false (map (node_of slots.old) rows.old.items) }
+    requires apart { (n : ℕ) → times n (map (node_of slots.old) rows.old.items) ≤ 1 }
+    ensures stay { take result rows.new.items ≡ filter (is_older slots.old number) rows.old.items }
+    ensures rest { KeepsBut slots.old slots.new (map (node_of slots.old) (filter (is_newer slots.old number) rows.old.items)) }
     ensures less { (key : ℕ) → size_of (content_in (get slots.new key)) ≤ size_of (content_in (get slots.old key)) }
-    ensures total { total.new ≡ total.old - node_count (map (node_of slots.old) (filter (is_newer slots.old number) rows.old)) }
-    ensures size { size.new ≡ size.old - all_size (map (node_of slots.old) (filter (is_newer slots.old number) rows.old)) }
+    ensures total { total.new ≡ total.old - node_count (map (node_of slots.old) (filter (is_newer slots.old number) rows.old.items)) }
+    ensures size { size.new ≡ size.old - all_size (map (node_of slots.old) (filter (is_newer slots.old number) rows.old.items)) }
+    ensures within { result ≤ length rows.new.items }
+    ensures room { rows.new.capacity ≡ rows.old.capacity }
 {
+    rows.is_bounded();
     let mut at = from;
     let mut to = from;
     while at < rows.len() {
-        let end = at + rows[at].size;
-        if number_of(slots, rows[at].key) < number {
+        let end = at + rows.at(at).size;
+        if number_of(slots, rows.at(at).key) < number {
             move_rows(rows, hints, at, end, to);
             to += end - at;
         } else {
-            free_rows(slots, &rows[at..end], total, size);
+            free_rows(slots, &slice(rows, at, end), total, size);
         }
         at = end;
     }
@@ -131,14 +135,15 @@ fn move_older(
 }
 
 /// Moves the rows from one place to before another forward, and notes where they stand then.
-fn move_rows(rows: &mut [Row], hints: &mut Hints, at: usize, end: usize, to: usize)
+fn move_rows(rows: &mut Rows, hints: &mut Hints, at: usize, end: usize, to: usize)
     requires order { to ≤ at }
     requires first { at ≤ end }
-    requires second { end ≤ length rows.old }
-    ensures { rows.new ≡ copy_within rows.old at end to }
+    requires second { end ≤ length rows.old.items }
+    ensures rows { rows.new.items ≡ copy_within rows.old.items at end to }
+    ensures room { rows.new.capacity ≡ rows.old.capacity }
 {
     if to < at {
-        rows.copy_within(at..end, to);
+        rows.copy_within(at, end, to);
         hints.note_rows(rows, to, to + (end - at));
     }
 }

@@ -8,7 +8,7 @@ ghost use Rattle.xf_doc.specs.Visit.{visits, parent_of};
 
 use crate::hints::Hints;
 use crate::lookup::{parent_row, root_row, row_of};
-use crate::rows::Row;
+use crate::rows::Rows;
 use crate::slot;
 use crate::slot::number_of;
 use crate::slots::Slots;
@@ -23,7 +23,7 @@ use xf_name::{QName, Word};
 #[derive(Drop)]
 pub struct Forest {
     pub(crate) alloc: Global,
-    pub(crate) rows: Vec<Row>,
+    pub(crate) rows: Rows,
     pub(crate) slots: Slots,
     // By key. What they say is tested where it is used, and owes nothing.
     pub(crate) hints: Hints,
@@ -40,12 +40,11 @@ impl Model for Forest {
 
     ghost Value = { Keeping };
 
-    ghost use Rattle.std.specs.Prelude.{vec_capacity};
     ghost use Rattle.xf_tree.specs.Tree.{keeping_of, IsState};
 
     ghost view = { λ f. keeping_of f.slots f.rows.items f.kept.items f.next };
 
-    ghost invariant = { λ f. IsState f.slots f.rows.items f.kept.items f.next f.count f.bytes (vec_capacity f.rows) };
+    ghost invariant = { λ f. IsState f.slots f.rows.items f.kept.items f.next f.count f.bytes f.rows.capacity };
 }
 
 impl Forest {
@@ -57,7 +56,7 @@ impl Forest {
     {
         Forest {
             alloc,
-            rows: Vec::new(alloc),
+            rows: Rows::new(alloc),
             slots: Slots::new(alloc),
             hints: Hints::new(alloc),
             kept: Vec::new(alloc),
@@ -86,7 +85,7 @@ impl Forest {
         match row_of(&self.rows, &self.slots, &self.hints, node) {
             Some(at) => Some(NodeId {
                 number,
-                place: self.rows[at].key,
+                place: self.rows.at(at).key,
             }),
             None => None,
         }
@@ -108,7 +107,7 @@ impl Forest {
         ensures { Some result ≡ kind_at node.number self.now.forest.nodes }
     {
         match row_of(&self.rows, &self.slots, &self.hints, node) {
-            Some(at) => slot::kind(&self.slots, self.rows[at].key),
+            Some(at) => slot::kind(&self.slots, self.rows.at(at).key),
             None => Kind::Root,
         }
     }
@@ -119,7 +118,7 @@ impl Forest {
         ensures { option_map (λ name. name.now) result ≡ name_at node.number self.now.forest.nodes }
     {
         match row_of(&self.rows, &self.slots, &self.hints, node) {
-            Some(at) => slot::name(&self.slots, self.rows[at].key),
+            Some(at) => slot::name(&self.slots, self.rows.at(at).key),
             None => None,
         }
     }
@@ -129,7 +128,7 @@ impl Forest {
         ensures { option_map (λ n. n.number) result ≡ root_of instance self.now.forest.nodes }
     {
         let at = root_row(&self.rows, &self.slots, instance)?;
-        let place = self.rows[at].key;
+        let place = self.rows.at(at).key;
         Some(NodeId {
             number: number_of(&self.slots, place),
             place,
@@ -143,7 +142,7 @@ impl Forest {
     {
         let at = row_of(&self.rows, &self.slots, &self.hints, node)?;
         let above = parent_row(&self.rows, &self.hints, at)?;
-        let place = self.rows[above].key;
+        let place = self.rows.at(above).key;
         Some(NodeId {
             number: number_of(&self.slots, place),
             place,

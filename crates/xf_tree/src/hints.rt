@@ -1,5 +1,5 @@
 //! Where rows are thought to stand. What is thought is tested where it is used, so nothing is promised of it.
-use crate::rows::Row;
+use crate::rows::Rows;
 use std::alloc::Global;
 
 /// What is thought of the node under a key: where its row stands, and the parent's key.
@@ -80,15 +80,15 @@ impl Hints {
     }
 
     /// Notes anew where the rows from one place to before another stand.
-    pub fn note_rows(&mut self, rows: &[Row], from: usize, end: usize) {
+    pub fn note_rows(&mut self, rows: &Rows, from: usize, end: usize) {
         for at in from..end.min(rows.len()) {
-            self.note(rows[at].key, at);
+            self.note(rows.at(at).key, at);
         }
     }
 
     /// Takes it that the rows that stand from a place on moved back there by so many. What stands between them and those that moved before
     /// is noted, so that texts that come in one behind the other cost what stands between them.
-    pub fn move_back(&mut self, rows: &[Row], behind: usize, by: usize) {
+    pub fn move_back(&mut self, rows: &Rows, behind: usize, by: usize) {
         let had = self.from;
         let moved = self.by;
         self.by = moved.saturating_add(by);

@@ -8,7 +8,8 @@ ghost use Rattle.xf_tree.specs.Tree.{content_in, node_of, kept_of, times, kept_t
 ghost use Rattle.xf_tree.specs.Texts.{passed_by, valued_slot, owned_slot, text_slot, text_count, IsOwned, children, keys_of, numbers_at, numbers_in, text_row, places_of, is_wanted, is_left, no_text, moved_text};
 
 use crate::limits::{ALL_LIMIT, NODE_LIMIT, ROW_LIMIT, TEXT_LIMIT};
-use crate::rows::Row;
+use crate::row_slice::RowSlice;
+use crate::rows::Rows;
 use crate::slot::{free_node, is_attribute_at, number_of, size_at};
 use crate::slots::Slots;
 use std::alloc::AllocError;
@@ -68,14 +69,15 @@ pub fn add_text(slots: &mut Slots, number: u128, text: Word) -> usize
 }
 
 /// How many of these rows are of no attribute, and their bytes.
-pub fn texts_in(rows: &[Row], slots: &Slots) -> (usize, u128)
+pub fn texts_in(rows: &RowSlice<'_>, slots: &Slots) -> (usize, u128)
     requires { length rows.now < 2 ^ 31 }
     ensures count { result.0 ≡ length (children slots.now rows.now) }
     ensures size { result.1 ≡ all_size (map (node_of slots.now) (children slots.now rows.now)) }
 {
     let mut count = 0;
     let mut size = 0;
-    for row in rows {
+    for at in 0..rows.len() {
+        let row = rows.at(at);
         if is_attribute_at(slots, row.key) {
             continue;
         }
@@ -100,7 +102,7 @@ pub fn size_of_texts(texts: &[NodeId], slots: &Slots) -> u128
 
 /// Puts those of these rows that are of no attribute behind the kept ones, as texts of an owner, and behind these nodes.
 pub fn keep_texts(
-    rows: &[Row],
+    rows: &RowSlice<'_>,
     slots: &mut Slots,
     kept: &mut Vec<usize>,
     had: &mut Vec<NodeId>,
@@ -112,7 +114,8 @@ pub fn keep_texts(
     ensures had { numbers_in had.new.items ≡ numbers_in had.old.items ++ numbers_at slots.old (children slots.old rows.now) }
     ensures slots { IsOwned owner (keys_of (children slots.old rows.now)) slots.old slots.new }
 {
-    for row in rows {
+    for at in 0..rows.len() {
+        let row = rows.at(at);
         if is_attribute_at(slots, row.key) {
             continue;
         }
@@ -191,7 +194,7 @@ fn move_text(texts: &mut Vec<NodeId>, from: usize, to: usize, key: usize)
 }
 
 /// Empties the slots of those of these rows that are of no attribute.
-pub fn free_texts(slots: &mut Slots, rows: &[Row], total: &mut usize, size: &mut u128)
+pub fn free_texts(slots: &mut Slots, rows: &RowSlice<'_>, total: &mut usize, size: &mut u128)
     requires { (n : ℕ) → times n (map (node_of slots.old) rows.now) ≤ 1 }
     ensures rest { KeepsBut slots.old slots.new (map (node_of slots.old) (children slots.old rows.now)) }
     ensures kinds { (key : ℕ) → is_attribute (content_in (get slots.new key)) ≡ is_attribute (content_in (get slots.old key)) }
@@ -199,7 +202,8 @@ pub fn free_texts(slots: &mut Slots, rows: &[Row], total: &mut usize, size: &mut
     ensures total { total.new ≡ total.old - node_count (map (node_of slots.old) (children slots.old rows.now)) }
     ensures size { size.new ≡ size.old - all_size (map (node_of slots.old) (children slots.old rows.now)) }
 {
-    for row in rows {
+    for at in 0..rows.len() {
+        let row = rows.at(at);
         if is_attribute_at(slots, row.key) {
             continue;
         }
@@ -221,20 +225,20 @@ pub fn free_all(slots: &mut Slots, texts: &[NodeId])
 
 /// Makes room for one text more in the slab, so many kept ones, and rows for all of them.
 pub fn make_room(
-    rows: &mut Vec<Row>,
+    rows: &mut Rows,
     slots: &mut Slots,
     kept: &mut Vec<usize>,
     taken: usize,
 ) -> Result<(), AllocError>
-    requires { vec_len rows.old + vec_len kept.old < 2 ^ 63 }
+    requires { length rows.old.items + vec_len kept.old < 2 ^ 63 }
     ensures rows { rows.new.items ≡ rows.old.items }
     ensures kept { kept.new.items ≡ kept.old.items }
     ensures same { (key : ℕ) → get slots.new key ≡ get slots.old key }
-    ensures spare { vec_capacity rows.old ≤ vec_capacity rows.new }
+    ensures spare { rows.old.capacity ≤ rows.new.capacity }
     ensures slot { OnOk result (HasRoomFor slots.new 1) }
-    ensures row { OnOk result (vec_len rows.old + (vec_len kept.old + 1) ≤ vec_capacity rows.new) }
+    ensures row { OnOk result (length rows.old.items + (vec_len kept.old + 1) ≤ rows.new.capacity) }
     ensures more { OnOk result (vec_len kept.old + taken ≤ vec_capacity kept.new) }
-    ensures few { OnOk result (vec_len rows.old + vec_len kept.old + 1 < 2 ^ 31) }
+    ensures few { OnOk result (length rows.old.items + vec_len kept.old + 1 < 2 ^ 31) }
 {
     if rows.len() + kept.len() >= ROW_LIMIT - 1 {
         return Err(AllocError);

@@ -6,15 +6,16 @@ ghost use Rattle.xf_tree.specs.Rows.{Sized, SizedBefore, deeper, parent_row_of, 
 ghost use Rattle.xf_tree.specs.Tree.{node_of, StandsAt, AllTops, number_at, no_row, is_kin, kin_before};
 
 use crate::hints::Hints;
-use crate::rows::{Row, end_of};
+use crate::row_slice::{RowSlice, slice};
+use crate::rows::{Row, Rows, end_of};
 use crate::slot::{is_attribute_at, is_of_kind, is_root_at, number_of};
 use crate::slots::Slots;
 use xf_doc::NodeId;
 
 /// Where the node's row stands: where the hint says so, else found by looking.
 #[inline(always)]
-pub fn row_of(rows: &[Row], slots: &Slots, hints: &Hints, node: NodeId) -> Option<usize>
-    ensures { MatchOption result (has_number node.number (map (node_of slots.now) rows.now) ≡ false) (λ at. StandsAt slots.now rows.now node.number at) }
+pub fn row_of(rows: &Rows, slots: &Slots, hints: &Hints, node: NodeId) -> Option<usize>
+    ensures { MatchOption result (has_number node.number (map (node_of slots.now) rows.now.items) ≡ false) (λ at. StandsAt slots.now rows.now.items node.number at) }
 {
     if let Some(at) = hints.noted(node.place) {
         if is_at(rows, slots, node, at) {
@@ -29,11 +30,11 @@ pub fn row_of(rows: &[Row], slots: &Slots, hints: &Hints, node: NodeId) -> Optio
 }
 
 /// Where the node's row stands, by a look through all.
-fn looked_for(rows: &[Row], slots: &Slots, node: NodeId) -> Option<usize>
-    ensures { MatchOption result (has_number node.number (map (node_of slots.now) rows.now) ≡ false) (λ at. StandsAt slots.now rows.now node.number at) }
+fn looked_for(rows: &Rows, slots: &Slots, node: NodeId) -> Option<usize>
+    ensures { MatchOption result (has_number node.number (map (node_of slots.now) rows.now.items) ≡ false) (λ at. StandsAt slots.now rows.now.items node.number at) }
 {
     for at in 0..rows.len() {
-        if number_of(slots, rows[at].key) == node.number {
+        if number_of(slots, rows.at(at).key) == node.number {
             return Some(at);
         }
     }
@@ -42,27 +43,27 @@ fn looked_for(rows: &[Row], slots: &Slots, node: NodeId) -> Option<usize>
 
 /// Whether the node's row stands at a place.
 #[inline(always)]
-fn is_at(rows: &[Row], slots: &Slots, node: NodeId, at: usize) -> bool
-    ensures { result ≡ true → StandsAt slots.now rows.now node.number at }
+fn is_at(rows: &Rows, slots: &Slots, node: NodeId, at: usize) -> bool
+    ensures { result ≡ true → StandsAt slots.now rows.now.items node.number at }
 {
-    at < rows.len() && number_of(slots, rows[at].key) == node.number
+    at < rows.len() && number_of(slots, rows.at(at).key) == node.number
 }
 
 /// The row of the parent: where the hints say so and the sizes show it, else found by going back.
-pub fn parent_row(rows: &[Row], hints: &Hints, at: usize) -> Option<usize>
-    requires within { at < length rows.now }
-    requires sized { Sized rows.now }
-    ensures answer { result ≡ parent_row_of rows.now at }
+pub fn parent_row(rows: &Rows, hints: &Hints, at: usize) -> Option<usize>
+    requires within { at < length rows.now.items }
+    requires sized { Sized rows.now.items }
+    ensures answer { result ≡ parent_row_of rows.now.items at }
     ensures within { IfSome result (λ above. above < at) }
 {
     above_row(rows, hints, at)
 }
 
 /// How many rows there are up to the parent's, it included: none where there is no parent.
-pub fn above_end(rows: &[Row], hints: &Hints, at: usize) -> usize
-    requires within { at < length rows.now }
-    requires sized { SizedBefore (reverse (take at rows.now)) (drop at rows.now) }
-    ensures answer { result ≡ past_row (parent_row_of rows.now at) }
+pub fn above_end(rows: &Rows, hints: &Hints, at: usize) -> usize
+    requires within { at < length rows.now.items }
+    requires sized { SizedBefore (reverse (take at rows.now.items)) (drop at rows.now.items) }
+    ensures answer { result ≡ past_row (parent_row_of rows.now.items at) }
     ensures within { result ≤ at }
 {
     match above_row(rows, hints, at) {
@@ -72,13 +73,13 @@ pub fn above_end(rows: &[Row], hints: &Hints, at: usize) -> usize
 }
 
 /// The row of the parent, as by `parent_row`, where only the sizes before the place need be right.
-fn above_row(rows: &[Row], hints: &Hints, at: usize) -> Option<usize>
-    requires within { at < length rows.now }
-    requires sized { SizedBefore (reverse (take at rows.now)) (drop at rows.now) }
-    ensures answer { result ≡ parent_row_of rows.now at }
+fn above_row(rows: &Rows, hints: &Hints, at: usize) -> Option<usize>
+    requires within { at < length rows.now.items }
+    requires sized { SizedBefore (reverse (take at rows.now.items)) (drop at rows.now.items) }
+    ensures answer { result ≡ parent_row_of rows.now.items at }
     ensures within { IfSome result (λ above. above < at) }
 {
-    let row = rows[at];
+    let row = rows.at(at);
     // A top has no parent, and no row before it is looked at.
     if row.depth == 0 {
         return None;
@@ -94,7 +95,7 @@ fn above_row(rows: &[Row], hints: &Hints, at: usize) -> Option<usize>
     let mut left = at;
     while left > 0 {
         left -= 1;
-        if rows[left].depth < row.depth {
+        if rows.at(left).depth < row.depth {
             return Some(left);
         }
     }
@@ -102,16 +103,16 @@ fn above_row(rows: &[Row], hints: &Hints, at: usize) -> Option<usize>
 }
 
 /// The row of the root with a place among the roots.
-pub fn root_row(rows: &[Row], slots: &Slots, instance: u32) -> Option<usize>
-    requires sized { Sized rows.now }
-    requires tops { AllTops (map (node_of slots.now) rows.now) }
-    ensures answer { number_at slots.now rows.now result ≡ root_of instance (map (node_of slots.now) rows.now) }
-    ensures within { IfSome result (λ at. at < length rows.now) }
+pub fn root_row(rows: &Rows, slots: &Slots, instance: u32) -> Option<usize>
+    requires sized { Sized rows.now.items }
+    requires tops { AllTops (map (node_of slots.now) rows.now.items) }
+    ensures answer { number_at slots.now rows.now.items result ≡ root_of instance (map (node_of slots.now) rows.now.items) }
+    ensures within { IfSome result (λ at. at < length rows.now.items) }
 {
     let mut left = instance;
     let mut at = 0;
     while at < rows.len() {
-        if is_root_at(slots, rows[at].key) {
+        if is_root_at(slots, rows.at(at).key) {
             if left == 0 {
                 return Some(at);
             }
@@ -123,7 +124,17 @@ pub fn root_row(rows: &[Row], slots: &Slots, instance: u32) -> Option<usize>
 }
 
 /// Where the detached trees begin.
-pub fn tops_end(rows: &[Row], slots: &Slots) -> usize
+pub fn tops_end(rows: &Rows, slots: &Slots) -> usize
+    requires sized { Sized rows.now.items }
+    ensures answer { map (node_of slots.now) (take result rows.now.items) ≡ in_instances (map (node_of slots.now) rows.now.items) }
+    ensures within { result ≤ length rows.now.items }
+    ensures stops { deeper 0 (drop result rows.now.items) ≡ 0 }
+{
+    tops_end_in(&slice(rows, 0, rows.len()), slots)
+}
+
+/// Where they begin among these rows.
+pub fn tops_end_in(rows: &RowSlice<'_>, slots: &Slots) -> usize
     requires sized { Sized rows.now }
     ensures answer { map (node_of slots.now) (take result rows.now) ≡ in_instances (map (node_of slots.now) rows.now) }
     ensures within { result ≤ length rows.now }
@@ -131,25 +142,26 @@ pub fn tops_end(rows: &[Row], slots: &Slots) -> usize
 {
     let mut at = 0;
     while at < rows.len() {
-        if is_detached_at(rows, slots, at) {
+        let row = rows.at(at);
+        if is_detached(slots, row) {
             return at;
         }
-        at = end_of(rows, at);
+        at += row.size;
     }
     at
 }
 
 /// How many siblings of its kind stand before the node at a place, below the parent's row.
-pub fn place_of(rows: &[Row], slots: &Slots, above: usize, at: usize) -> u32
+pub fn place_of(rows: &Rows, slots: &Slots, above: usize, at: usize) -> u32
     requires order { above < at }
-    requires inside { at < above + length (tree_of (drop above rows.now)) }
-    requires child { (slice_index_or rows.now at no_row).depth ≡ (slice_index_or rows.now above no_row).depth + 1 }
-    requires sized { Sized rows.now }
-    requires few { length rows.now < 2 ^ 32 }
-    ensures { result ≡ kin_before slots.now rows.now above at }
+    requires inside { at < above + length (tree_of (drop above rows.now.items)) }
+    requires child { (slice_index_or rows.now.items at no_row).depth ≡ (slice_index_or rows.now.items above no_row).depth + 1 }
+    requires sized { Sized rows.now.items }
+    requires few { length rows.now.items < 2 ^ 32 }
+    ensures { result ≡ kin_before slots.now rows.now.items above at }
 {
-    let wanted = is_attribute_at(slots, rows[at].key);
-    let depth = rows[at].depth;
+    let wanted = is_attribute_at(slots, rows.at(at).key);
+    let depth = rows.at(at).depth;
     let mut place = 0;
     let mut next = above + 1;
     while next < at {
@@ -161,20 +173,19 @@ pub fn place_of(rows: &[Row], slots: &Slots, above: usize, at: usize) -> u32
     place
 }
 
-/// Whether the row at a place is of the top of a detached tree.
-fn is_detached_at(rows: &[Row], slots: &Slots, at: usize) -> bool
-    requires { at < length rows.now }
-    ensures { result ≡ is_detached_top (node_of slots.now (slice_index_or rows.now at no_row)) }
+/// Whether a row is of the top of a detached tree.
+fn is_detached(slots: &Slots, row: Row) -> bool
+    ensures { result ≡ is_detached_top (node_of slots.now row) }
 {
-    rows[at].depth == 0 && !is_root_at(slots, rows[at].key)
+    row.depth == 0 && !is_root_at(slots, row.key)
 }
 
 /// Whether the row at a place has this depth, and is of an attribute, where one is wanted, or of none, where none is.
-pub fn is_kin_at(rows: &[Row], slots: &Slots, at: usize, depth: u32, wanted: bool) -> bool
-    requires { at < length rows.now }
-    ensures { result ≡ is_kin depth wanted (node_of slots.now (slice_index_or rows.now at no_row)) }
+pub fn is_kin_at(rows: &Rows, slots: &Slots, at: usize, depth: u32, wanted: bool) -> bool
+    requires { at < length rows.now.items }
+    ensures { result ≡ is_kin depth wanted (node_of slots.now (slice_index_or rows.now.items at no_row)) }
 {
-    rows[at].depth == depth && is_of_kind(slots, rows[at].key, wanted)
+    rows.at(at).depth == depth && is_of_kind(slots, rows.at(at).key, wanted)
 }
 
 /// Where the row of the parent of the node under a key was noted.
@@ -185,16 +196,16 @@ fn noted_parent(hints: &Hints, key: usize) -> Option<usize> {
 
 /// The row at a place where it is that of the parent of the row at another, as the sizes and depths show.
 #[inline(always)]
-fn parent_at(rows: &[Row], at: usize, above: usize) -> Option<usize>
-    requires within { at < length rows.now }
-    requires sized { SizedBefore (reverse (take at rows.now)) (drop at rows.now) }
-    ensures parent { IfSome result (λ found. Some found ≡ parent_row_of rows.now at) }
+fn parent_at(rows: &Rows, at: usize, above: usize) -> Option<usize>
+    requires within { at < length rows.now.items }
+    requires sized { SizedBefore (reverse (take at rows.now.items)) (drop at rows.now.items) }
+    ensures parent { IfSome result (λ found. Some found ≡ parent_row_of rows.now.items at) }
     ensures within { IfSome result (λ found. found < at) }
 {
     if above < at
-        && rows[above].depth < rows[at].depth
-        && rows[at].depth - rows[above].depth == 1
-        && at - above < rows[above].size
+        && rows.at(above).depth < rows.at(at).depth
+        && rows.at(at).depth - rows.at(above).depth == 1
+        && at - above < rows.at(above).size
     {
         return Some(above);
     }

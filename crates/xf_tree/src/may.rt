@@ -10,7 +10,7 @@ ghost use Rattle.xf_tree.specs.Tree.{node_of};
 use crate::child::{has_attribute, has_children, has_element};
 use crate::forest::Forest;
 use crate::lookup::{parent_row, row_of};
-use crate::rows::{Row, end_of};
+use crate::rows::{Rows, end_of};
 use crate::slot::{is_root_at, kind, number_of};
 use crate::slots::Slots;
 use xf_doc::{Kind, NodeId};
@@ -21,7 +21,7 @@ impl Forest {
         ensures { IsTrue result ↔ MayCopy node.number self.now.forest }
     {
         match row_of(&self.rows, &self.slots, &self.hints, node) {
-            Some(at) => !is_root_at(&self.slots, self.rows[at].key),
+            Some(at) => !is_root_at(&self.slots, self.rows.at(at).key),
             None => false,
         }
     }
@@ -84,7 +84,7 @@ impl Forest {
         ensures { IsTrue result ↔ (kind_at node.number self.now.forest.nodes ≡ Some wanted) }
     {
         match row_of(&self.rows, &self.slots, &self.hints, node) {
-            Some(at) => kind(&self.slots, self.rows[at].key) == wanted,
+            Some(at) => kind(&self.slots, self.rows.at(at).key) == wanted,
             None => false,
         }
     }
@@ -94,7 +94,7 @@ impl Forest {
         ensures { result ≡ is_top node.number self.now.forest.nodes }
     {
         match row_of(&self.rows, &self.slots, &self.hints, node) {
-            Some(at) => self.rows[at].depth == 0,
+            Some(at) => self.rows.at(at).depth == 0,
             None => false,
         }
     }
@@ -149,7 +149,7 @@ impl Forest {
             return true;
         };
         match row_of(&self.rows, &self.slots, &self.hints, parent) {
-            Some(above) => !has_attribute(&self.rows, &self.slots, above, self.rows[at].key),
+            Some(above) => !has_attribute(&self.rows, &self.slots, above, self.rows.at(at).key),
             None => true,
         }
     }
@@ -157,11 +157,12 @@ impl Forest {
 
 /// Whether each tree's nodes have either all this number or a later one, and are no roots, or all an earlier one: a node
 /// that is no top is of one tree with the node before it.
-fn are_whole(rows: &[Row], slots: &Slots, number: u128) -> bool
-    ensures { IsTrue result ↔ AreWhole number false (map (node_of slots.now) rows.now) }
+fn are_whole(rows: &Rows, slots: &Slots, number: u128) -> bool
+    ensures { IsTrue result ↔ AreWhole number false (map (node_of slots.now) rows.now.items) }
 {
     let mut before = false;
-    for row in rows {
+    for at in 0..rows.len() {
+        let row = rows.at(at);
         let is_new = number_of(slots, row.key) >= number;
         if row.depth > 0 && is_new != before {
             return false;

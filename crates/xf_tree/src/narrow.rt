@@ -7,7 +7,7 @@ ghost use Rattle.xf_tree.specs.Walks.{AreNodes, between};
 
 use crate::bearers::Bearer;
 use crate::hints::Hints;
-use crate::rows::Row;
+use crate::rows::Rows;
 use crate::slots::Slots;
 use crate::sought::{Principal, Sought};
 use xf_name::QName;
@@ -18,7 +18,7 @@ const SHORT: usize = 32;
 /// Of the rows from one place to before another, in which the tops of trees have this depth, a part that has all tops that are sought. Where an
 /// element is sought whose name stands once, it is that row alone.
 pub fn narrowed(
-    rows: &[Row],
+    rows: &Rows,
     slots: &Slots,
     hints: &Hints,
     at: usize,
@@ -26,12 +26,12 @@ pub fn narrowed(
     depth: u32,
     sought: Sought<'_>,
 ) -> (usize, usize)
-    requires nodes { AreNodes slots.now rows.now }
-    requires within { end ≤ length rows.now }
-    requires deep { AllDeep depth (between at end rows.now) }
-    ensures within { result.1 ≤ length rows.now }
-    ensures deep { AllDeep depth (between result.0 result.1 rows.now) }
-    ensures same { sought_within slots.now rows.now sought.entry (is_kin depth false) result.0 result.1 ≡ sought_within slots.now rows.now sought.entry (is_kin depth false) at end }
+    requires nodes { AreNodes slots.now rows.now.items }
+    requires within { end ≤ length rows.now.items }
+    requires deep { AllDeep depth (between at end rows.now.items) }
+    ensures within { result.1 ≤ length rows.now.items }
+    ensures deep { AllDeep depth (between result.0 result.1 rows.now.items) }
+    ensures same { sought_within slots.now rows.now.items sought.entry (is_kin depth false) result.0 result.1 ≡ sought_within slots.now rows.now.items sought.entry (is_kin depth false) at end }
 {
     if end.saturating_sub(at) <= SHORT {
         return (at, end);
@@ -46,7 +46,7 @@ pub fn narrowed(
 
 /// The same of elements of a name.
 fn narrowed_to(
-    rows: &[Row],
+    rows: &Rows,
     slots: &Slots,
     hints: &Hints,
     at: usize,
@@ -54,13 +54,13 @@ fn narrowed_to(
     depth: u32,
     asked: &QName,
 ) -> (usize, usize)
-    requires nodes { AreNodes slots.now rows.now }
+    requires nodes { AreNodes slots.now rows.now.items }
     requires order { at ≤ end }
-    requires within { end ≤ length rows.now }
-    requires deep { AllDeep depth (between at end rows.now) }
-    ensures within { result.1 ≤ length rows.now }
-    ensures deep { AllDeep depth (between result.0 result.1 rows.now) }
-    ensures same { sought_within slots.now rows.now (Sought.Named Principal.Element asked.entry) (is_kin depth false) result.0 result.1 ≡ sought_within slots.now rows.now (Sought.Named Principal.Element asked.entry) (is_kin depth false) at end }
+    requires within { end ≤ length rows.now.items }
+    requires deep { AllDeep depth (between at end rows.now.items) }
+    ensures within { result.1 ≤ length rows.now.items }
+    ensures deep { AllDeep depth (between result.0 result.1 rows.now.items) }
+    ensures same { sought_within slots.now rows.now.items (Sought.Named Principal.Element asked.entry) (is_kin depth false) result.0 result.1 ≡ sought_within slots.now rows.now.items (Sought.Named Principal.Element asked.entry) (is_kin depth false) at end }
 {
     let key = match slots.bearer_of(asked) {
         Bearer::Nobody => return (end, end),
@@ -77,15 +77,15 @@ fn narrowed_to(
 }
 
 /// The row of a key, where the hints say so.
-fn row_under(rows: &[Row], hints: &Hints, key: usize) -> Option<usize>
-    ensures { IfSome result (λ at. (at < length rows.now) × ((slice_index_or rows.now at no_row).key ≡ key)) }
+fn row_under(rows: &Rows, hints: &Hints, key: usize) -> Option<usize>
+    ensures { IfSome result (λ at. (at < length rows.now.items) × ((slice_index_or rows.now.items at no_row).key ≡ key)) }
 {
     let noted = hints.noted(key)?;
-    if noted < rows.len() && rows[noted].key == key {
+    if noted < rows.len() && rows.at(noted).key == key {
         return Some(noted);
     }
     let moved = hints.moved(noted);
-    if moved < rows.len() && rows[moved].key == key {
+    if moved < rows.len() && rows.at(moved).key == key {
         return Some(moved);
     }
     None

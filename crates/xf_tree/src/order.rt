@@ -10,7 +10,7 @@ ghost use Rattle.xf_tree.specs.Walks.{number_of_row};
 use crate::forest::Forest;
 use crate::hints::Hints;
 use crate::lookup::row_of;
-use crate::rows::Row;
+use crate::rows::Rows;
 use crate::slot::number_of;
 use crate::slots::Slots;
 use std::alloc::{AllocError, Global};
@@ -53,9 +53,9 @@ impl Forest {
 }
 
 /// Whether these nodes are live, and each stands after the one before it: they are in document order then, each once.
-fn goes_up(rows: &[Row], slots: &Slots, hints: &Hints, nodes: &[NodeId]) -> bool
-    requires { (n : ℕ) → times n (map (node_of slots.now) rows.now) ≤ 1 }
-    ensures { result ≡ true → in_order (visits (map (node_of slots.now) rows.now)) (map (λ n. n.number) nodes.now) ≡ map (λ n. n.number) nodes.now }
+fn goes_up(rows: &Rows, slots: &Slots, hints: &Hints, nodes: &[NodeId]) -> bool
+    requires { (n : ℕ) → times n (map (node_of slots.now) rows.now.items) ≤ 1 }
+    ensures { result ≡ true → in_order (visits (map (node_of slots.now) rows.now.items)) (map (λ n. n.number) nodes.now) ≡ map (λ n. n.number) nodes.now }
 {
     let mut next = 0;
     for node in nodes {
@@ -65,6 +65,7 @@ fn goes_up(rows: &[Row], slots: &Slots, hints: &Hints, nodes: &[NodeId]) -> bool
         if at < next {
             return false;
         }
+        prove!(at < rows.len());
         next = at + 1;
     }
     true
@@ -83,13 +84,13 @@ fn copied(alloc: Global, nodes: &[NodeId]) -> Result<NodeList, AllocError>
 /// A set of nodes in document order, each once, by a sort.
 fn sorted(
     alloc: Global,
-    rows: &[Row],
+    rows: &Rows,
     slots: &Slots,
     hints: &Hints,
     nodes: &[NodeId],
 ) -> Result<NodeList, AllocError>
-    requires { (n : ℕ) → times n (map (node_of slots.now) rows.now) ≤ 1 }
-    ensures { IfOk result (λ list. list ≡ in_order (visits (map (node_of slots.now) rows.now)) (map (λ n. n.number) nodes.now)) }
+    requires { (n : ℕ) → times n (map (node_of slots.now) rows.now.items) ≤ 1 }
+    ensures { IfOk result (λ list. list ≡ in_order (visits (map (node_of slots.now) rows.now.items)) (map (λ n. n.number) nodes.now)) }
 {
     let mut ranks = ranks_of(alloc, rows, slots, hints, nodes)?;
     put_up(&mut ranks);
@@ -99,13 +100,13 @@ fn sorted(
 /// The places of the rows of these nodes, in their order.
 fn ranks_of(
     alloc: Global,
-    rows: &[Row],
+    rows: &Rows,
     slots: &Slots,
     hints: &Hints,
     nodes: &[NodeId],
 ) -> Result<Vec<usize>, AllocError>
-    requires { (n : ℕ) → times n (map (node_of slots.now) rows.now) ≤ 1 }
-    ensures { IfOk result (λ ranks. (at : ℕ) → is_among at ranks.items ≡ stands_one slots.now rows.now (map (λ n. n.number) nodes.now) at) }
+    requires { (n : ℕ) → times n (map (node_of slots.now) rows.now.items) ≤ 1 }
+    ensures { IfOk result (λ ranks. (at : ℕ) → is_among at ranks.items ≡ stands_one slots.now rows.now.items (map (λ n. n.number) nodes.now) at) }
 {
     let mut ranks = Vec::with_capacity(alloc, nodes.len())?;
     for node in nodes {
@@ -133,12 +134,12 @@ fn put_up(ranks: &mut Vec<usize>)
 /// The nodes whose rows stand at these places, which go up: each once.
 fn nodes_at(
     alloc: Global,
-    rows: &[Row],
+    rows: &Rows,
     slots: &Slots,
     ranks: &[usize],
 ) -> Result<NodeList, AllocError>
-    requires { All (λ rank. rank < length rows.now) ranks.now }
-    ensures { IfOk result (λ list. list ≡ map (number_of_row slots.now rows.now) (each_once 0 ranks.now)) }
+    requires { All (λ rank. rank < length rows.now.items) ranks.now }
+    ensures { IfOk result (λ list. list ≡ map (number_of_row slots.now rows.now.items) (each_once 0 ranks.now)) }
 {
     let mut list = NodeList::with_capacity(alloc, ranks.len())?;
     let mut next = 0;
@@ -146,7 +147,8 @@ fn nodes_at(
         if *rank < next {
             continue;
         }
-        let place = rows[*rank].key;
+        prove!(*rank < rows.len());
+        let place = rows.at(*rank).key;
         let number = number_of(slots, place);
         list.push(NodeId { number, place })?;
         next = *rank + 1;

@@ -14,7 +14,7 @@ ghost use Rattle.xf_tree.specs.Walks.{AreNodes, number_of_row};
 use crate::forest::Forest;
 use crate::hints::Hints;
 use crate::lookup::{parent_row, row_of};
-use crate::rows::{Row, end_of};
+use crate::rows::{Rows, end_of};
 use crate::seen::Seen;
 use crate::siblings::{count_like, has_like};
 use crate::slot::shown_at;
@@ -39,14 +39,14 @@ impl Forest {
 
 fn path_at(
     alloc: Global,
-    rows: &[Row],
+    rows: &Rows,
     slots: &Slots,
     hints: &Hints,
     at: usize,
 ) -> Result<Word, AllocError>
-    requires nodes { AreNodes slots.now rows.now }
-    requires within { at < length rows.now }
-    ensures { IfOk result (λ text. text ≡ path_of (number_of_row slots.now rows.now at) (visits (map (node_of slots.now) rows.now))) }
+    requires nodes { AreNodes slots.now rows.now.items }
+    requires within { at < length rows.now.items }
+    ensures { IfOk result (λ text. text ≡ path_of (number_of_row slots.now rows.now.items at) (visits (map (node_of slots.now) rows.now.items))) }
 {
     let places = places_up(alloc, rows, hints, at)?;
     let mut text = String::new(alloc);
@@ -58,16 +58,11 @@ fn path_at(
 }
 
 /// The places of a row and of those above it, the nearest first.
-fn places_up(
-    alloc: Global,
-    rows: &[Row],
-    hints: &Hints,
-    at: usize,
-) -> Result<Vec<usize>, AllocError>
-    requires sized { Sized rows.now }
-    requires within { at < length rows.now }
-    ensures rows { IfOk result (λ places. map (λ p. slice_index_or rows.now p no_row) places.items ≡ rows_up rows.now (Some at)) }
-    ensures within { IfOk result (λ places. AllPlaces rows.now places.items) }
+fn places_up(alloc: Global, rows: &Rows, hints: &Hints, at: usize) -> Result<Vec<usize>, AllocError>
+    requires sized { Sized rows.now.items }
+    requires within { at < length rows.now.items }
+    ensures rows { IfOk result (λ places. map (λ p. slice_index_or rows.now.items p no_row) places.items ≡ rows_up rows.now.items (Some at)) }
+    ensures within { IfOk result (λ places. AllPlaces rows.now.items places.items) }
 {
     let mut places = Vec::new(alloc);
     let mut next = Some(at);
@@ -81,14 +76,14 @@ fn places_up(
 /// Appends what the path has for the nodes at these places, from the last one on.
 fn push_steps(
     text: &mut String,
-    rows: &[Row],
+    rows: &Rows,
     slots: &Slots,
     hints: &Hints,
     places: Vec<usize>,
 ) -> Result<(), AllocError>
-    requires nodes { AreNodes slots.now rows.now }
-    requires within { AllPlaces rows.now places.items }
-    ensures { OnOk result (string_bytes text.new ≡ string_bytes text.old ++ flat_map (step_of (visits (map (node_of slots.now) rows.now))) (reverse (map (number_of_row slots.now rows.now) places.items))) }
+    requires nodes { AreNodes slots.now rows.now.items }
+    requires within { AllPlaces rows.now.items places.items }
+    ensures { OnOk result (string_bytes text.new ≡ string_bytes text.old ++ flat_map (step_of (visits (map (node_of slots.now) rows.now.items))) (reverse (map (number_of_row slots.now rows.now.items) places.items))) }
 {
     let mut left = places;
     while let Some(place) = left.pop() {
@@ -100,16 +95,16 @@ fn push_steps(
 /// Appends what the path has for one node.
 fn push_step(
     text: &mut String,
-    rows: &[Row],
+    rows: &Rows,
     slots: &Slots,
     hints: &Hints,
     at: usize,
 ) -> Result<(), AllocError>
-    requires nodes { AreNodes slots.now rows.now }
-    requires within { at < length rows.now }
-    ensures { OnOk result (string_bytes text.new ≡ string_bytes text.old ++ step_of (visits (map (node_of slots.now) rows.now)) (number_of_row slots.now rows.now at)) }
+    requires nodes { AreNodes slots.now rows.now.items }
+    requires within { at < length rows.now.items }
+    ensures { OnOk result (string_bytes text.new ≡ string_bytes text.old ++ step_of (visits (map (node_of slots.now) rows.now.items)) (number_of_row slots.now rows.now.items at)) }
 {
-    let content = shown_at(slots, rows[at].key);
+    let content = shown_at(slots, rows.at(at).key);
     match content {
         Seen::Root => Ok(()),
         Seen::Element(name) => {
@@ -158,10 +153,10 @@ fn push_index(text: &mut String, index: Option<usize>) -> Result<(), AllocError>
 }
 
 /// The place of the node at a place of the rows among the siblings that are counted with it, from 1, where there are any.
-fn index_of(rows: &[Row], slots: &Slots, hints: &Hints, at: usize, like: Seen<'_>) -> Option<usize>
-    requires nodes { AreNodes slots.now rows.now }
-    requires within { at < length rows.now }
-    ensures { result ≡ index_among (like_before slots.now rows.now (seen_content like.entry) at (parent_row_of rows.now at)) (like_after slots.now rows.now (seen_content like.entry) at (parent_row_of rows.now at)) }
+fn index_of(rows: &Rows, slots: &Slots, hints: &Hints, at: usize, like: Seen<'_>) -> Option<usize>
+    requires nodes { AreNodes slots.now rows.now.items }
+    requires within { at < length rows.now.items }
+    ensures { result ≡ index_among (like_before slots.now rows.now.items (seen_content like.entry) at (parent_row_of rows.now.items at)) (like_after slots.now rows.now.items (seen_content like.entry) at (parent_row_of rows.now.items at)) }
 {
     let above = parent_row(rows, hints, at)?;
     let earlier = count_before(rows, slots, hints, at, like);
@@ -171,7 +166,7 @@ fn index_of(rows: &[Row], slots: &Slots, hints: &Hints, at: usize, like: Seen<'_
             slots,
             end_of(rows, at),
             end_of(rows, above),
-            rows[at].depth,
+            rows.at(at).depth,
             like,
         )
     {
@@ -181,14 +176,14 @@ fn index_of(rows: &[Row], slots: &Slots, hints: &Hints, at: usize, like: Seen<'_
 }
 
 /// How many siblings before the node at a place are counted with it.
-fn count_before(rows: &[Row], slots: &Slots, hints: &Hints, at: usize, like: Seen<'_>) -> usize
-    requires nodes { AreNodes slots.now rows.now }
-    requires within { at < length rows.now }
-    ensures answer { result ≡ length (like_before slots.now rows.now (seen_content like.entry) at (parent_row_of rows.now at)) }
-    ensures few { result < length rows.now }
+fn count_before(rows: &Rows, slots: &Slots, hints: &Hints, at: usize, like: Seen<'_>) -> usize
+    requires nodes { AreNodes slots.now rows.now.items }
+    requires within { at < length rows.now.items }
+    ensures answer { result ≡ length (like_before slots.now rows.now.items (seen_content like.entry) at (parent_row_of rows.now.items at)) }
+    ensures few { result < length rows.now.items }
 {
     match parent_row(rows, hints, at) {
-        Some(above) => count_like(rows, slots, above + 1, at, rows[at].depth, like),
+        Some(above) => count_like(rows, slots, above + 1, at, rows.at(at).depth, like),
         None => 0,
     }
 }

@@ -7,7 +7,8 @@ ghost use Rattle.xf_tree.specs.Reads.{pieces_left, pieces_at};
 ghost use Rattle.xf_tree.specs.Rows.{Sized};
 ghost use Rattle.xf_tree.specs.Tree.{content_in, no_row};
 
-use crate::rows::{Row, end_of};
+use crate::row_slice::{RowSlice, slice};
+use crate::rows::{Rows, end_of};
 use crate::slot::{below, own};
 use crate::slots::Slots;
 use std::marker::Model;
@@ -17,7 +18,7 @@ use std::marker::Model;
 pub struct Pieces<'a> {
     pub(crate) slots: &'a Slots,
     pub(crate) first: &'a str,
-    pub(crate) rows: &'a [Row],
+    pub(crate) rows: RowSlice<'a>,
 }
 
 impl<'a> Model for Pieces<'a> {
@@ -27,7 +28,7 @@ impl<'a> Model for Pieces<'a> {
 
     ghost use Rattle.xf_tree.specs.Reads.{pieces_left};
 
-    ghost view = { λ p. pieces_left p.slots.now p.first.now p.rows.now };
+    ghost view = { λ p. pieces_left p.slots.now p.first.now p.rows };
 }
 
 impl<'a> Iterator for Pieces<'a> {
@@ -43,39 +44,41 @@ impl<'a> Iterator for Pieces<'a> {
         if !first.is_empty() {
             return Some(first);
         }
-        let at = next_text(self.rows, self.slots);
+        let at = next_text(&self.rows, self.slots);
         if at >= self.rows.len() {
-            self.rows = &[];
+            self.rows.skip(at);
             return None;
         }
-        let text = below(self.slots, self.rows[at].key);
-        self.rows = &self.rows[at + 1..];
+        let text = below(self.slots, self.rows.at(at).key);
+        self.rows.skip(at + 1);
         Some(text)
     }
 }
 
 /// The texts of the node whose row stands at a place.
-pub fn pieces_at<'a>(rows: &'a [Row], slots: &'a Slots, at: usize) -> Pieces<'a>
-    requires within { at < length rows.now }
-    requires sized { Sized rows.now }
-    ensures { result ≡ pieces_at slots.now rows.now at }
+pub fn pieces_at<'a>(rows: &'a Rows, slots: &'a Slots, at: usize) -> Pieces<'a>
+    requires within { at < length rows.now.items }
+    requires sized { Sized rows.now.items }
+    ensures { result ≡ pieces_at slots.now rows.now.items at }
 {
+    rows.is_bounded();
     Pieces {
         slots,
-        first: own(slots, rows[at].key),
-        rows: &rows[at + 1..end_of(rows, at)],
+        first: own(slots, rows.at(at).key),
+        rows: slice(rows, at + 1, end_of(rows, at)),
     }
 }
 
 /// The string value of the node whose row stands at a place, where it is one text of the forest, or empty. A leaf's one text is told at a look.
 #[inline(always)]
-pub fn whole_at<'a>(rows: &'a [Row], slots: &'a Slots, at: usize) -> Option<&'a str>
-    requires within { at < length rows.now }
-    requires sized { Sized rows.now }
-    ensures { option_map (λ text. text.now) result ≡ whole (pieces_at slots.now rows.now at) }
+pub fn whole_at<'a>(rows: &'a Rows, slots: &'a Slots, at: usize) -> Option<&'a str>
+    requires within { at < length rows.now.items }
+    requires sized { Sized rows.now.items }
+    ensures { option_map (λ text. text.now) result ≡ whole (pieces_at slots.now rows.now.items at) }
 {
-    if end_of(rows, at) == at + 2 && own(slots, rows[at].key).is_empty() {
-        return Some(below(slots, rows[at + 1].key));
+    rows.is_bounded();
+    if end_of(rows, at) - at == 2 && own(slots, rows.at(at).key).is_empty() {
+        return Some(below(slots, rows.at(at + 1).key));
     }
     one_of(pieces_at(rows, slots, at))
 }
@@ -95,13 +98,13 @@ fn one_of<'a>(pieces: Pieces<'a>) -> Option<&'a str>
 }
 
 /// The place of the first of these rows that has characters, or how many rows there are.
-fn next_text(rows: &[Row], slots: &Slots) -> usize
+fn next_text(rows: &RowSlice<'_>, slots: &Slots) -> usize
     ensures left { pieces_left slots.now [] (drop result rows.now) ≡ pieces_left slots.now [] rows.now }
     ensures found { result < length rows.now → has_character (characters (content_in (get slots.now (slice_index_or rows.now result no_row).key))) ≡ true }
     ensures within { result ≤ length rows.now }
 {
     let mut at = 0;
-    while at < rows.len() && below(slots, rows[at].key).is_empty() {
+    while at < rows.len() && below(slots, rows.at(at).key).is_empty() {
         at += 1;
     }
     at

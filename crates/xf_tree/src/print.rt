@@ -12,6 +12,7 @@ use crate::declare::{declarations, element_pairs};
 use crate::forest::Forest;
 use crate::gather::{Below, take_inner};
 use crate::lookup::row_of;
+use crate::row_slice::slice;
 use crate::rows::{Row, end_of};
 use crate::seen::Seen;
 use crate::shown::{numbers_of, printed_rows};
@@ -41,7 +42,12 @@ impl Forest {
             Some(at) => {
                 let end = end_of(&self.rows, at);
                 let numbers = numbers_of(self.alloc, kept)?;
-                let left = printed_rows(self.alloc, &self.slots, &self.rows[at..end], &numbers)?;
+                let left = printed_rows(
+                    self.alloc,
+                    &self.slots,
+                    &slice(&self.rows, at, end),
+                    &numbers,
+                )?;
                 lit_of_rows(self.alloc, &self.slots, prefixes, &left)
             }
             None => Ok(Lit::Text(Word::new(self.alloc))),

@@ -10,6 +10,7 @@ ghost use Rattle.xf_tree.specs.Seen.{seen_content};
 use crate::forest::Forest;
 use crate::lookup::{parent_row, place_of, row_of};
 use crate::pieces::{Pieces, pieces_at, whole_at};
+use crate::row_slice::slice;
 use crate::seen::Seen;
 use crate::slot::{content_of, number_of};
 use xf_doc::NodeId;
@@ -20,7 +21,7 @@ impl Forest {
         ensures { option_map seen_content result ≡ content_at node.number self.now.forest.nodes }
     {
         match row_of(&self.rows, &self.slots, &self.hints, node) {
-            Some(at) => content_of(&self.slots, self.rows[at].key),
+            Some(at) => content_of(&self.slots, self.rows.at(at).key),
             None => None,
         }
     }
@@ -34,7 +35,7 @@ impl Forest {
             None => Pieces {
                 slots: &self.slots,
                 first: "",
-                rows: &[],
+                rows: slice(&self.rows, 0, 0),
             },
         }
     }
@@ -66,7 +67,7 @@ impl Forest {
     {
         let at = row_of(&self.rows, &self.slots, &self.hints, node)?;
         let above = parent_row(&self.rows, &self.hints, at)?;
-        let key = self.rows[above].key;
+        let key = self.rows.at(above).key;
         let number = number_of(&self.slots, key);
         let place = place_of(&self.rows, &self.slots, above, at);
         Some((NodeId { number, place: key }, place))

@@ -1,20 +1,22 @@
 //! A root over a tree.
-ghost use Rattle.std.specs.Prelude.{◌≡◌, ◌+◌, ◌≤◌, ◌<◌, ◌^◌, ℕ, [], ◌∷◌, ◌++◌, length, map, drop, vec_len, vec_capacity, slice_index_or};
+ghost use Rattle.std.specs.Prelude.{◌≡◌, ◌+◌, ◌≤◌, ◌<◌, ◌^◌, ℕ, [], ◌∷◌, ◌++◌, length, map, drop, slice_index_or};
 ghost use Rattle.slab.specs.Slab.{get, HasRoomFor};
 ghost use Rattle.xf_doc.specs.Limits.{size_of};
 ghost use Rattle.xf_tree.specs.Rows.{Sized};
 ghost use Rattle.xf_tree.specs.Tree.{content_in, no_row, AllLive, AreSteps, depths, KeepsLive, IsOver};
 
 use crate::hints::Hints;
-use crate::lookup::tops_end;
-use crate::rows::{Row, lift_root_in, put_last};
+use crate::lookup::tops_end_in;
+use crate::moves::{lift_root, move_last};
+use crate::row_slice::slice;
+use crate::rows::Rows;
 use crate::slots::Slots;
 use crate::tree::push_node;
 use xf_doc::Content;
 
 /// Puts a root over the top at a place, behind the instances. The answer is its key.
 pub fn root_over(
-    rows: &mut Vec<Row>,
+    rows: &mut Rows,
     slots: &mut Slots,
     hints: &mut Hints,
     at: usize,
@@ -26,16 +28,16 @@ pub fn root_over(
     requires steps { AreSteps 0 (depths rows.old.items) }
     requires few { length rows.old.items < 2 ^ 31 }
     requires slot { HasRoomFor slots.old 1 }
-    requires row { vec_len rows.old < vec_capacity rows.old }
+    requires row { length rows.old.items < rows.old.capacity }
     ensures answer { IsOver at number result slots.old slots.new rows.old.items rows.new.items }
-    ensures room { vec_capacity rows.new ≡ vec_capacity rows.old }
+    ensures room { rows.new.capacity ≡ rows.old.capacity }
 {
-    let size = rows[at].size;
-    let top = rows[at].key;
-    let from = put_last(rows, at);
-    let place = tops_end(&rows[..from], slots);
+    let size = rows.at(at).size;
+    let top = rows.at(at).key;
+    let from = move_last(rows, at);
+    let place = tops_end_in(&slice(rows, 0, from), slots);
     let key = push_node(rows, slots, number, 0, size + 1, Content::Root);
-    lift_root_in(rows, place, from);
+    lift_root(rows, place, from);
     hints.reserve(key);
     hints.note_parent(top, key);
     hints.note_rows(rows, place, rows.len());

@@ -16,6 +16,7 @@ use crate::kept::{
     change_value, free_all, free_texts, passed, size_of_texts, take_kept, text_count, texts_in,
 };
 use crate::lookup::row_of;
+use crate::row_slice::slice;
 use crate::rows::end_of;
 use crate::run::change_texts;
 use crate::slot::own;
@@ -46,7 +47,7 @@ impl Forest {
         let Some(at) = row_of(&self.rows, &self.slots, &self.hints, node) else {
             return Err(TreeFault::Memory);
         };
-        let key = self.rows[at].key;
+        let key = self.rows.at(at).key;
         let had = own(&self.slots, key).len() as u128;
         let rest = self.bytes.saturating_sub(had);
         let bytes = rest.saturating_add(text.len() as u128);
@@ -72,7 +73,7 @@ impl Forest {
             return Err(TreeFault::Memory);
         };
         let end = end_of(&self.rows, at);
-        let (taken, size) = texts_in(&self.rows[at + 1..end], &self.slots);
+        let (taken, size) = texts_in(&slice(&self.rows, at + 1, end), &self.slots);
         let more = text_count(text);
         let count = self.count.saturating_sub(taken).saturating_add(more);
         let rest = self.bytes.saturating_sub(size);
@@ -104,7 +105,7 @@ impl Forest {
         let Some(at) = row_of(&self.rows, &self.slots, &self.hints, node) else {
             return;
         };
-        let key = self.rows[at].key;
+        let key = self.rows.at(at).key;
         drop(change_value(&mut self.slots, key, text, &mut self.bytes));
     }
 
@@ -124,7 +125,7 @@ impl Forest {
         self.bytes += size_of_texts(wanted, &self.slots);
         free_texts(
             &mut self.slots,
-            &self.rows[at + 1..end],
+            &slice(&self.rows, at + 1, end),
             &mut self.count,
             &mut self.bytes,
         );

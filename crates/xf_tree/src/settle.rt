@@ -15,7 +15,8 @@ use crate::before::{Before, Had};
 use crate::forest::Forest;
 use crate::kept::{add_text, change_value, keep_texts, make_room, passed, text_count, texts_in};
 use crate::lookup::row_of;
-use crate::rows::{Row, end_of};
+use crate::row_slice::{RowSlice, slice};
+use crate::rows::end_of;
 use crate::run::change_texts;
 use crate::slot::{is_attribute_at, is_text_at, own};
 use crate::slots::Slots;
@@ -61,11 +62,15 @@ impl Forest {
         let Some(at) = row_of(&self.rows, &self.slots, &self.hints, node) else {
             return text.is_empty();
         };
-        let key = self.rows[at].key;
+        let key = self.rows.at(at).key;
         if is_attribute_at(&self.slots, key) {
             return own(&self.slots, key) == text;
         }
-        are_texts(&self.rows[at..end_of(&self.rows, at)], &self.slots, text)
+        are_texts(
+            &slice(&self.rows, at, end_of(&self.rows, at)),
+            &self.slots,
+            text,
+        )
     }
 
     /// Which of the limits of nodes and of all texts is passed, where one is.
@@ -84,7 +89,7 @@ impl Forest {
         let Some(at) = row_of(&self.rows, &self.slots, &self.hints, node) else {
             return Err(AllocError);
         };
-        let key = self.rows[at].key;
+        let key = self.rows.at(at).key;
         let word = Word::from_str(self.alloc, text)?;
         let before = change_value(&mut self.slots, key, word, &mut self.bytes);
         Ok(Before {
@@ -110,7 +115,7 @@ impl Forest {
             return Err(AllocError);
         };
         let end = end_of(&self.rows, at);
-        let (taken, size) = texts_in(&self.rows[at + 1..end], &self.slots);
+        let (taken, size) = texts_in(&slice(&self.rows, at + 1, end), &self.slots);
         let more = text_count(text);
         let count = self.count.saturating_sub(taken).saturating_add(more);
         let rest = self.bytes.saturating_sub(size);
@@ -120,7 +125,7 @@ impl Forest {
         make_room(&mut self.rows, &mut self.slots, &mut self.kept, taken)?;
         let place = add_text(&mut self.slots, number, word);
         keep_texts(
-            &self.rows[at + 1..end],
+            &slice(&self.rows, at + 1, end),
             &mut self.slots,
             &mut self.kept,
             &mut had,
@@ -145,11 +150,12 @@ impl Forest {
 }
 
 /// Whether the texts among these rows are this one alone, or none where it is empty.
-fn are_texts(rows: &[Row], slots: &Slots, text: &str) -> bool
+fn are_texts(rows: &RowSlice<'_>, slots: &Slots, text: &str) -> bool
     ensures { result ≡ are_texts (as_texts text.now) (texts_in (map (node_of slots.now) rows.now)) }
 {
     let mut found = text.is_empty();
-    for row in rows {
+    for at in 0..rows.len() {
+        let row = rows.at(at);
         if !is_text_at(slots, row.key) {
             continue;
         }

@@ -1,5 +1,5 @@
 //! Which rows of a tree are printed.
-ghost use Rattle.std.specs.Prelude.{◌≡◌, ℕ, ◌||◌, ◌++◌, None, IfOk, OnOk, map};
+ghost use Rattle.std.specs.Prelude.{◌≡◌, ℕ, ◌||◌, ◌++◌, None, IfOk, OnOk, map, drop};
 ghost use Rattle.slab.specs.Slab.{get};
 ghost use Rattle.xf_doc.specs.Forest.{is_text};
 ghost use Rattle.xf_doc.specs.Literal.{printed, printed_from};
@@ -7,6 +7,7 @@ ghost use Rattle.xf_doc.specs.Visit.{has};
 ghost use Rattle.xf_tree.specs.Tree.{node_of, number_in, content_in};
 ghost use Rattle.xf_tree.specs.Print.{is_inside};
 
+use crate::row_slice::RowSlice;
 use crate::rows::Row;
 use crate::slot::{is_text_at, number_of};
 use crate::slots::Slots;
@@ -29,38 +30,39 @@ pub fn numbers_of(alloc: Global, nodes: &NodeList) -> Result<IndexSet<u128>, All
 pub fn printed_rows(
     alloc: Global,
     slots: &Slots,
-    rows: &[Row],
+    rows: &RowSlice<'_>,
     kept: &IndexSet<u128>,
 ) -> Result<Vec<Row>, AllocError>
     ensures { IfOk result (λ left. map (node_of slots.now) left.items ≡ printed kept.now.keys (map (node_of slots.now) rows.now)) }
 {
     let mut left = Vec::new(alloc);
-    if rows.is_empty() {
+    if rows.len() == 0 {
         return Ok(left);
     }
-    left.push(rows[0])?;
-    push_printed(slots, &rows[1..], kept, &mut left)?;
+    left.push(rows.at(0))?;
+    push_printed(slots, rows, kept, &mut left)?;
     Ok(left)
 }
 
-/// Pushes those that are printed of the rows after a top.
+/// Pushes those that are printed of the rows after a top, which is the first.
 fn push_printed(
     slots: &Slots,
-    rows: &[Row],
+    rows: &RowSlice<'_>,
     kept: &IndexSet<u128>,
     left: &mut Vec<Row>,
 ) -> Result<(), AllocError>
-    ensures { OnOk result (map (node_of slots.now) left.new.items ≡ map (node_of slots.now) left.old.items ++ printed_from kept.now.keys None (map (node_of slots.now) rows.now)) }
+    ensures { OnOk result (map (node_of slots.now) left.new.items ≡ map (node_of slots.now) left.old.items ++ printed_from kept.now.keys None (map (node_of slots.now) (drop 1 rows.now))) }
 {
     // The depth of the node left out around the row, where there is one.
     let mut out = None;
-    for row in rows {
+    for at in 1..rows.len() {
+        let row = rows.at(at);
         if is_inside(out, row.depth) {
             continue;
         }
         if is_kept(slots, row.key, kept) {
             out = None;
-            left.push(*row)?;
+            left.push(row)?;
         } else {
             out = Some(row.depth);
         }

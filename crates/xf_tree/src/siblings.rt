@@ -7,7 +7,7 @@ ghost use Rattle.xf_tree.specs.Tree.{node_of, no_row};
 ghost use Rattle.xf_tree.specs.Walks.{between, chosen};
 
 use crate::name::same_written;
-use crate::rows::{Row, end_of};
+use crate::rows::{Rows, end_of};
 use crate::seen::{Seen, is_element, is_text};
 use crate::slot::shown_at;
 use crate::slots::Slots;
@@ -24,29 +24,29 @@ fn same_sort(like: Seen<'_>, other: Seen<'_>) -> bool
 }
 
 /// Whether the row at a place has this depth and is counted with a content.
-fn is_like_at(rows: &[Row], slots: &Slots, at: usize, depth: u32, like: Seen<'_>) -> bool
-    requires { at < length rows.now }
-    ensures { result ≡ is_like depth (seen_content like.entry) (node_of slots.now (slice_index_or rows.now at no_row)) }
+fn is_like_at(rows: &Rows, slots: &Slots, at: usize, depth: u32, like: Seen<'_>) -> bool
+    requires { at < length rows.now.items }
+    ensures { result ≡ is_like depth (seen_content like.entry) (node_of slots.now (slice_index_or rows.now.items at no_row)) }
 {
-    if rows[at].depth != depth {
+    if rows.at(at).depth != depth {
         return false;
     }
-    same_sort(like, shown_at(slots, rows[at].key))
+    same_sort(like, shown_at(slots, rows.at(at).key))
 }
 
 /// How many of the trees from one place to before another have tops of this depth that are counted with a content.
 pub fn count_like(
-    rows: &[Row],
+    rows: &Rows,
     slots: &Slots,
     from: usize,
     to: usize,
     depth: u32,
     like: Seen<'_>,
 ) -> usize
-    requires sized { Sized rows.now }
-    requires within { to ≤ length rows.now }
-    requires deep { AllDeep depth (between from to rows.now) }
-    ensures { result ≡ length (chosen slots.now (is_like depth (seen_content like.entry)) (between from to rows.now)) }
+    requires sized { Sized rows.now.items }
+    requires within { to ≤ length rows.now.items }
+    requires deep { AllDeep depth (between from to rows.now.items) }
+    ensures { result ≡ length (chosen slots.now (is_like depth (seen_content like.entry)) (between from to rows.now.items)) }
 {
     let mut count = 0;
     let mut next = from;
@@ -61,17 +61,17 @@ pub fn count_like(
 
 /// Whether one of the trees from one place to before another has such a top.
 pub fn has_like(
-    rows: &[Row],
+    rows: &Rows,
     slots: &Slots,
     from: usize,
     to: usize,
     depth: u32,
     like: Seen<'_>,
 ) -> bool
-    requires sized { Sized rows.now }
-    requires within { to ≤ length rows.now }
-    requires deep { AllDeep depth (between from to rows.now) }
-    ensures { result ≡ nat_lt 0 (length (chosen slots.now (is_like depth (seen_content like.entry)) (between from to rows.now))) }
+    requires sized { Sized rows.now.items }
+    requires within { to ≤ length rows.now.items }
+    requires deep { AllDeep depth (between from to rows.now.items) }
+    ensures { result ≡ nat_lt 0 (length (chosen slots.now (is_like depth (seen_content like.entry)) (between from to rows.now.items))) }
 {
     let mut next = from;
     while next < to {

@@ -10,7 +10,7 @@ ghost use Rattle.xf_tree.specs.Seen.{seen_content};
 ghost use Rattle.xf_tree.specs.Tree.{number_in, content_in, same_kind, node_of, kept_of, times, KeepsBut, KeepsButKept};
 
 use crate::name::written_less;
-use crate::rows::Row;
+use crate::row_slice::RowSlice;
 use crate::seen::Seen;
 use crate::slots::Slots;
 use std::alloc::{AllocError, Global};
@@ -178,15 +178,15 @@ pub fn free_node(slots: &mut Slots, key: usize, total: &mut usize, size: &mut u1
 }
 
 /// Empties the slots of these rows.
-pub fn free_rows(slots: &mut Slots, rows: &[Row], total: &mut usize, size: &mut u128)
+pub fn free_rows(slots: &mut Slots, rows: &RowSlice<'_>, total: &mut usize, size: &mut u128)
     requires { (n : ℕ) → times n (map (node_of slots.old) rows.now) ≤ 1 }
     ensures rest { KeepsBut slots.old slots.new (map (node_of slots.old) rows.now) }
     ensures less { (key : ℕ) → size_of (content_in (get slots.new key)) ≤ size_of (content_in (get slots.old key)) }
     ensures total { total.new ≡ total.old - node_count (map (node_of slots.old) rows.now) }
     ensures size { size.new ≡ size.old - all_size (map (node_of slots.old) rows.now) }
 {
-    for row in rows {
-        free_node(slots, row.key, total, size);
+    for at in 0..rows.len() {
+        free_node(slots, rows.at(at).key, total, size);
     }
 }
 

@@ -6,7 +6,7 @@ ghost use Rattle.xf_tree.specs.Tree.{is_kin, node_of, no_row};
 ghost use Rattle.xf_tree.specs.Walks.{AreNodes, IsReady, between, chosen, is_plain};
 
 use crate::hints::Hints;
-use crate::rows::{Row, end_of};
+use crate::rows::{Rows, end_of};
 use crate::slots::Slots;
 use crate::walk::{Left, step};
 use xf_name::QName;
@@ -32,15 +32,15 @@ pub enum Sought<'a> {
 /// The next row of a walk whose node is sought, and what is left behind it.
 #[inline(always)]
 pub fn next_found(
-    rows: &[Row],
+    rows: &Rows,
     slots: &Slots,
     hints: &Hints,
     left: Left,
     sought: Sought<'_>,
 ) -> Option<(usize, Left)>
-    requires nodes { AreNodes slots.now rows.now }
-    requires ready { IsReady rows.now left }
-    ensures { MatchOption result (left_met slots.now rows.now sought.entry left ≡ []) (λ r. IsFound slots.now rows.now sought.entry left r.0 r.1) }
+    requires nodes { AreNodes slots.now rows.now.items }
+    requires ready { IsReady rows.now.items left }
+    ensures { MatchOption result (left_met slots.now rows.now.items sought.entry left ≡ []) (λ r. IsFound slots.now rows.now.items sought.entry left r.0 r.1) }
 {
     match left {
         Left::Trees { at, end, depth } => {
@@ -65,20 +65,20 @@ pub fn next_found(
 /// The same by single steps of the walk.
 #[inline(always)]
 fn found_by_steps(
-    rows: &[Row],
+    rows: &Rows,
     slots: &Slots,
     hints: &Hints,
     left: Left,
     sought: Sought<'_>,
 ) -> Option<(usize, Left)>
-    requires nodes { AreNodes slots.now rows.now }
-    requires ready { IsReady rows.now left }
-    ensures { MatchOption result (left_met slots.now rows.now sought.entry left ≡ []) (λ r. IsFound slots.now rows.now sought.entry left r.0 r.1) }
+    requires nodes { AreNodes slots.now rows.now.items }
+    requires ready { IsReady rows.now.items left }
+    ensures { MatchOption result (left_met slots.now rows.now.items sought.entry left ≡ []) (λ r. IsFound slots.now rows.now.items sought.entry left r.0 r.1) }
 {
     let mut rest = left;
     while let Some((at, behind)) = step(rows, slots, hints, rest) {
         rest = behind;
-        if slots.is_sought(rows[at].key, sought) {
+        if slots.is_sought(rows.at(at).key, sought) {
             return Some((at, rest));
         }
     }
@@ -88,19 +88,19 @@ fn found_by_steps(
 /// The place of the next top of a tree that has this depth, is no attribute and is sought, or the end or past it where there is none.
 #[inline(always)]
 pub fn found_in_trees(
-    rows: &[Row],
+    rows: &Rows,
     slots: &Slots,
     at: usize,
     end: usize,
     depth: u32,
     sought: Sought<'_>,
 ) -> usize
-    requires nodes { AreNodes slots.now rows.now }
-    requires within { end ≤ length rows.now }
-    requires deep { AllDeep depth (between at end rows.now) }
-    ensures found { result < end → is_kin_sought depth sought.entry (node_of slots.now (slice_index_or rows.now result no_row)) ≡ true }
-    ensures same { sought_within slots.now rows.now sought.entry (is_kin depth false) result end ≡ sought_within slots.now rows.now sought.entry (is_kin depth false) at end }
-    ensures deep { AllDeep depth (between result end rows.now) }
+    requires nodes { AreNodes slots.now rows.now.items }
+    requires within { end ≤ length rows.now.items }
+    requires deep { AllDeep depth (between at end rows.now.items) }
+    ensures found { result < end → is_kin_sought depth sought.entry (node_of slots.now (slice_index_or rows.now.items result no_row)) ≡ true }
+    ensures same { sought_within slots.now rows.now.items sought.entry (is_kin depth false) result end ≡ sought_within slots.now rows.now.items sought.entry (is_kin depth false) at end }
+    ensures deep { AllDeep depth (between result end rows.now.items) }
 {
     let mut next = at;
     while next < end && !is_kin_sought_at(rows, slots, next, depth, sought) {
@@ -110,14 +110,14 @@ pub fn found_in_trees(
 }
 
 /// The place of the next node that is no attribute and is sought, or the end or past it where there is none.
-fn found_in_rows(rows: &[Row], slots: &Slots, at: usize, end: usize, sought: Sought<'_>) -> usize
-    requires nodes { AreNodes slots.now rows.now }
-    requires within { end ≤ length rows.now }
-    ensures found { result < end → is_plain_sought sought.entry (node_of slots.now (slice_index_or rows.now result no_row)) ≡ true }
-    ensures same { sought_within slots.now rows.now sought.entry is_plain result end ≡ sought_within slots.now rows.now sought.entry is_plain at end }
+fn found_in_rows(rows: &Rows, slots: &Slots, at: usize, end: usize, sought: Sought<'_>) -> usize
+    requires nodes { AreNodes slots.now rows.now.items }
+    requires within { end ≤ length rows.now.items }
+    ensures found { result < end → is_plain_sought sought.entry (node_of slots.now (slice_index_or rows.now.items result no_row)) ≡ true }
+    ensures same { sought_within slots.now rows.now.items sought.entry is_plain result end ≡ sought_within slots.now rows.now.items sought.entry is_plain at end }
 {
     let mut next = at;
-    while next < end && !slots.is_plain_sought(rows[next].key, sought) {
+    while next < end && !slots.is_plain_sought(rows.at(next).key, sought) {
         next += 1;
     }
     next
@@ -125,9 +125,9 @@ fn found_in_rows(rows: &[Row], slots: &Slots, at: usize, end: usize, sought: Sou
 
 /// Whether the row at a place has this depth, is of no attribute, and is sought.
 #[inline(always)]
-fn is_kin_sought_at(rows: &[Row], slots: &Slots, at: usize, depth: u32, sought: Sought<'_>) -> bool
-    requires { at < length rows.now }
-    ensures { result ≡ is_kin_sought depth sought.entry (node_of slots.now (slice_index_or rows.now at no_row)) }
+fn is_kin_sought_at(rows: &Rows, slots: &Slots, at: usize, depth: u32, sought: Sought<'_>) -> bool
+    requires { at < length rows.now.items }
+    ensures { result ≡ is_kin_sought depth sought.entry (node_of slots.now (slice_index_or rows.now.items at no_row)) }
 {
-    rows[at].depth == depth && slots.is_plain_sought(rows[at].key, sought)
+    rows.at(at).depth == depth && slots.is_plain_sought(rows.at(at).key, sought)
 }

@@ -4,7 +4,8 @@ ghost use Rattle.xf_doc.specs.StringValue.{within};
 ghost use Rattle.xf_tree.specs.Rows.{Sized};
 ghost use Rattle.xf_tree.specs.Tree.{texts_in, text_of};
 
-use crate::rows::{Row, end_of};
+use crate::row_slice::{RowSlice, slice};
+use crate::rows::{Rows, end_of};
 use crate::slot::{below, own};
 use crate::slots::Slots;
 use std::alloc::{AllocError, Global};
@@ -13,23 +14,29 @@ use xf_name::Word;
 /// The string value of the node whose row stands at a place, where it has no more bytes than that.
 pub fn text_at(
     alloc: Global,
-    rows: &[Row],
+    rows: &Rows,
     slots: &Slots,
     at: usize,
     most: usize,
 ) -> Result<Option<Word>, AllocError>
-    requires within { at < length rows.now }
-    requires sized { Sized rows.now }
-    ensures { IfOk result (λ text. text ≡ within most (text_of slots.now rows.now at)) }
+    requires within { at < length rows.now.items }
+    requires sized { Sized rows.now.items }
+    ensures { IfOk result (λ text. text ≡ within most (text_of slots.now rows.now.items at)) }
 {
-    let first = own(slots, rows[at].key);
+    rows.is_bounded();
+    let first = own(slots, rows.at(at).key);
     if first.len() > most {
         return Ok(None);
     }
     let left = most - first.len();
     let mut text = String::new(alloc);
     text.push_str(first)?;
-    if push_texts(&rows[at + 1..end_of(rows, at)], slots, left, &mut text)? {
+    if push_texts(
+        &slice(rows, at + 1, end_of(rows, at)),
+        slots,
+        left,
+        &mut text,
+    )? {
         Ok(Some(Word::from_string(text)))
     } else {
         Ok(None)
@@ -38,7 +45,7 @@ pub fn text_at(
 
 /// Appends the texts of these rows, one after another, and tells whether they have no more bytes than that together.
 fn push_texts(
-    rows: &[Row],
+    rows: &RowSlice<'_>,
     slots: &Slots,
     most: usize,
     text: &mut String,
@@ -47,13 +54,13 @@ fn push_texts(
     ensures added { IfOk result (λ fits. fits ≡ true → string_bytes text.new ≡ string_bytes text.old ++ texts_in slots.now rows.now) }
 {
     let mut left = most;
-    for row in rows {
-        let part = below(slots, row.key);
-        if part.len() > left {
+    for at in 0..rows.len() {
+        let piece = below(slots, rows.at(at).key);
+        if piece.len() > left {
             return Ok(false);
         }
-        left -= part.len();
-        text.push_str(part)?;
+        left -= piece.len();
+        text.push_str(piece)?;
     }
     Ok(true)
 }

@@ -10,7 +10,7 @@ ghost use Rattle.xf_tree.specs.Walks.{ancestor_rows};
 use crate::forest::Forest;
 use crate::hints::Hints;
 use crate::lookup::{parent_row, row_of};
-use crate::rows::Row;
+use crate::rows::Rows;
 use crate::slot::number_of;
 use xf_doc::NodeId;
 
@@ -23,7 +23,7 @@ impl Forest {
         match row_of(&self.rows, &self.slots, &self.hints, node) {
             Some(at) => {
                 let top = top_row(&self.rows, &self.hints, at);
-                let place = self.rows[top].key;
+                let place = self.rows.at(top).key;
                 NodeId {
                     number: number_of(&self.slots, place),
                     place,
@@ -35,11 +35,11 @@ impl Forest {
 }
 
 /// The row of the top of a tree, from one of its rows up.
-fn top_row(rows: &[Row], hints: &Hints, at: usize) -> usize
-    requires within { at < length rows.now }
-    requires sized { Sized rows.now }
-    ensures within { result < length rows.now }
-    ensures answer { slice_index_or rows.now result no_row ≡ last_row (slice_index_or rows.now at no_row) (ancestor_rows rows.now at) }
+fn top_row(rows: &Rows, hints: &Hints, at: usize) -> usize
+    requires within { at < length rows.now.items }
+    requires sized { Sized rows.now.items }
+    ensures within { result < length rows.now.items }
+    ensures answer { slice_index_or rows.now.items result no_row ≡ last_row (slice_index_or rows.now.items at no_row) (ancestor_rows rows.now.items at) }
 {
     let mut top = at;
     while let Some(above) = parent_row(rows, hints, top) {

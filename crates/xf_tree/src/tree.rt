@@ -1,5 +1,5 @@
 //! Trees that come in behind all others.
-ghost use Rattle.std.specs.Prelude.{◌≡◌, ◌+◌, ◌-◌, ◌≤◌, ◌<◌, ◌^◌, ℕ, ◌∷◌, [], ◌++◌, length, map, take, drop, Some, None, slice_index_or, vec_len, vec_capacity, IfOk, ◌*◌};
+ghost use Rattle.std.specs.Prelude.{◌≡◌, ◌+◌, ◌-◌, ◌≤◌, ◌<◌, ◌^◌, ℕ, ◌∷◌, [], ◌++◌, length, map, take, drop, Some, None, slice_index_or, IfOk, ◌*◌};
 ghost use Rattle.slab.specs.Slab.{get, slab_len, Updates, HasRoomFor};
 ghost use Rattle.xf_doc.specs.Limits.{size_of};
 ghost use Rattle.xf_doc.specs.Plant.{numbered_from};
@@ -7,7 +7,9 @@ ghost use Rattle.xf_tree.specs.Rows.{Sized, deeper};
 ghost use Rattle.xf_tree.specs.Tree.{node_of, content_in, no_row, AllLive, IsTree, KeepsLive, unsized, part_of, size_of_all};
 
 use crate::hints::Hints;
-use crate::rows::Row;
+use crate::moves::sized;
+use crate::row_slice::RowSlice;
+use crate::rows::{Row, Rows};
 use crate::seen::lent;
 use crate::slot::{duplicate, shown_at, size_in};
 use crate::slots::Slots;
@@ -19,7 +21,7 @@ pub type Part = (u32, Content);
 
 /// Puts a node behind all others.
 pub fn push_node(
-    rows: &mut Vec<Row>,
+    rows: &mut Rows,
     slots: &mut Slots,
     number: u128,
     depth: u32,
@@ -27,12 +29,12 @@ pub fn push_node(
     content: Content,
 ) -> usize
     requires slot { HasRoomFor slots.old 1 }
-    requires row { vec_len rows.old < vec_capacity rows.old }
+    requires row { length rows.old.items < rows.old.capacity }
     ensures vacant { get slots.old result ≡ None }
     ensures slot { Updates slots.old slots.new result (Some (record { number = number; owner = 0; content = content })) }
     ensures row { rows.new.items ≡ rows.old.items ++ (record { key = result; size = size; depth = depth } ∷ []) }
-    ensures more { vec_len rows.new ≡ vec_len rows.old + 1 }
-    ensures room { vec_capacity rows.new ≡ vec_capacity rows.old }
+    ensures more { length rows.new.items ≡ length rows.old.items + 1 }
+    ensures room { rows.new.capacity ≡ rows.old.capacity }
     ensures count { slab_len slots.new ≡ slab_len slots.old + 1 }
     ensures slots { slots.old.capacity ≤ slots.new.capacity }
 {
@@ -43,7 +45,7 @@ pub fn push_node(
 
 /// Puts the nodes of a tree behind all others, with numbers from the first one on.
 pub fn push_tree(
-    rows: &mut Vec<Row>,
+    rows: &mut Rows,
     slots: &mut Slots,
     hints: &mut Hints,
     first: u128,
@@ -51,7 +53,7 @@ pub fn push_tree(
 )
     requires tree { IsTree tree.items }
     requires slots { HasRoomFor slots.old (length tree.items) }
-    requires rows { vec_len rows.old + length tree.items ≤ vec_capacity rows.old }
+    requires rows { length rows.old.items + length tree.items ≤ rows.old.capacity }
     requires live { AllLive slots.old rows.old.items }
     requires small { (key : ℕ) → size_of (content_in (get slots.old key)) ≤ 2 ^ 66 }
     requires numbers { first + length tree.items < 2 ^ 128 }
@@ -61,29 +63,18 @@ pub fn push_tree(
     ensures live { AllLive slots.new rows.new.items }
     ensures rest { KeepsLive slots.old slots.new }
     ensures small { (key : ℕ) → size_of (content_in (get slots.new key)) ≤ 2 ^ 66 }
-    ensures room { vec_capacity rows.new ≡ vec_capacity rows.old }
+    ensures room { rows.new.capacity ≡ rows.old.capacity }
 {
     let start = rows.len();
     push_all(rows, slots, hints, first, tree);
     slots.give_back();
-    set_sizes_in(rows, hints, start);
-}
-
-/// `set_sizes` on vectors.
-fn set_sizes_in(rows: &mut Vec<Row>, hints: &mut Hints, start: usize)
-    requires { start ≤ length rows.old.items }
-    ensures sized { Sized (drop start rows.new.items) }
-    ensures front { take start rows.new.items ≡ take start rows.old.items }
-    ensures same { map unsized rows.new.items ≡ map unsized rows.old.items }
-    ensures room { vec_capacity rows.new ≡ vec_capacity rows.old }
-{
     set_sizes(rows, hints, start);
 }
 
-fn push_all(rows: &mut Vec<Row>, slots: &mut Slots, hints: &mut Hints, first: u128, tree: Vec<Part>)
+fn push_all(rows: &mut Rows, slots: &mut Slots, hints: &mut Hints, first: u128, tree: Vec<Part>)
     requires tree { IsTree tree.items }
     requires slots { HasRoomFor slots.old (length tree.items) }
-    requires rows { vec_len rows.old + length tree.items ≤ vec_capacity rows.old }
+    requires rows { length rows.old.items + length tree.items ≤ rows.old.capacity }
     requires live { AllLive slots.old rows.old.items }
     requires small { (key : ℕ) → size_of (content_in (get slots.old key)) ≤ 2 ^ 66 }
     requires numbers { first + length tree.items < 2 ^ 128 }
@@ -92,7 +83,7 @@ fn push_all(rows: &mut Vec<Row>, slots: &mut Slots, hints: &mut Hints, first: u1
     ensures live { AllLive slots.new rows.new.items }
     ensures rest { KeepsLive slots.old slots.new }
     ensures small { (key : ℕ) → size_of (content_in (get slots.new key)) ≤ 2 ^ 66 }
-    ensures room { vec_capacity rows.new ≡ vec_capacity rows.old }
+    ensures room { rows.new.capacity ≡ rows.old.capacity }
 {
     let mut number = first;
     for (depth, content) in tree {
@@ -103,34 +94,35 @@ fn push_all(rows: &mut Vec<Row>, slots: &mut Slots, hints: &mut Hints, first: u1
 }
 
 /// Sets the sizes of the rows from a place on, from the last one back.
-fn set_sizes(rows: &mut [Row], hints: &mut Hints, start: usize)
-    requires { start ≤ length rows.old }
-    ensures sized { Sized (drop start rows.new) }
-    ensures front { take start rows.new ≡ take start rows.old }
-    ensures same { map unsized rows.new ≡ map unsized rows.old }
+fn set_sizes(rows: &mut Rows, hints: &mut Hints, start: usize)
+    requires { start ≤ length rows.old.items }
+    ensures sized { Sized (drop start rows.new.items) }
+    ensures front { take start rows.new.items ≡ take start rows.old.items }
+    ensures same { map unsized rows.new.items ≡ map unsized rows.old.items }
+    ensures room { rows.new.capacity ≡ rows.old.capacity }
 {
     let mut at = rows.len();
     while at > start {
         at -= 1;
         let end = tree_end(rows, hints, at);
-        rows[at].size = end - at;
+        rows.put(at, sized(rows.at(at), end - at));
     }
 }
 
 /// Where the tree of the row at a place ends, by the sizes of the rows behind it. Hints are noted for the row and its children.
-fn tree_end(rows: &[Row], hints: &mut Hints, at: usize) -> usize
-    requires within { at < length rows.now }
-    requires sized { Sized (drop (at + 1) rows.now) }
-    ensures answer { result ≡ at + 1 + deeper (slice_index_or rows.now at no_row).depth (drop (at + 1) rows.now) }
-    ensures within { result ≤ length rows.now }
+fn tree_end(rows: &Rows, hints: &mut Hints, at: usize) -> usize
+    requires within { at < length rows.now.items }
+    requires sized { Sized (drop (at + 1) rows.now.items) }
+    ensures answer { result ≡ at + 1 + deeper (slice_index_or rows.now.items at no_row).depth (drop (at + 1) rows.now.items) }
+    ensures within { result ≤ length rows.now.items }
 {
-    let key = rows[at].key;
-    let depth = rows[at].depth;
-    hints.note(key, at);
+    let top = rows.at(at);
+    hints.note(top.key, at);
+    rows.is_bounded();
     let mut next = at + 1;
-    while next < rows.len() && rows[next].depth > depth {
-        hints.note_parent(rows[next].key, key);
-        next += rows[next].size;
+    while next < rows.len() && rows.at(next).depth > top.depth {
+        hints.note_parent(rows.at(next).key, top.key);
+        next += rows.at(next).size;
     }
     next
 }
@@ -139,13 +131,14 @@ fn tree_end(rows: &[Row], hints: &mut Hints, at: usize) -> usize
 pub fn contents_of(
     alloc: Global,
     slots: &Slots,
-    rows: &[Row],
+    rows: &RowSlice<'_>,
     top: u32,
 ) -> Result<Vec<Part>, AllocError>
     ensures { IfOk result (λ tree. tree.items ≡ map (part_of slots.now top) rows.now) }
 {
     let mut tree = Vec::new(alloc);
-    for row in rows {
+    for at in 0..rows.len() {
+        let row = rows.at(at);
         let content = duplicate(alloc, shown_at(slots, row.key))?;
         tree.push((row.depth.saturating_sub(top), content))?;
     }

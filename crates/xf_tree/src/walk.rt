@@ -7,7 +7,7 @@ ghost use Rattle.xf_tree.specs.Walks.{between, chosen, is_plain, left_of, IsRead
 
 use crate::hints::Hints;
 use crate::lookup::{is_kin_at, parent_row};
-use crate::rows::{Row, end_of};
+use crate::rows::{Rows, end_of};
 use crate::slot::{is_attribute_at, number_of};
 use crate::slots::Slots;
 use std::marker::Model;
@@ -33,7 +33,7 @@ pub enum Left {
 /// The nodes on an axis, nearest first. It costs what it yields, and a look at each attribute that it passes.
 #[derive(Drop)]
 pub struct Walk<'a> {
-    pub(crate) rows: &'a [Row],
+    pub(crate) rows: &'a Rows,
     pub(crate) slots: &'a Slots,
     pub(crate) hints: &'a Hints,
     pub(crate) first: Option<usize>,
@@ -47,9 +47,9 @@ impl<'a> Model for Walk<'a> {
 
     ghost use Rattle.xf_tree.specs.Walks.{walk_of, IsWalk};
 
-    ghost view = { λ w. walk_of w.slots.now w.rows.now w.first w.left };
+    ghost view = { λ w. walk_of w.slots.now w.rows.now.items w.first w.left };
 
-    ghost invariant = { λ w. IsWalk w.rows.now w.first w.left };
+    ghost invariant = { λ w. IsWalk w.rows.now.items w.first w.left };
 }
 
 impl<'a> Iterator for Walk<'a> {
@@ -68,7 +68,7 @@ impl<'a> Iterator for Walk<'a> {
         };
         self.first = None;
         self.left = left;
-        let place = self.rows[at].key;
+        let place = self.rows.at(at).key;
         Some(NodeId {
             number: number_of(self.slots, place),
             place,
@@ -78,10 +78,10 @@ impl<'a> Iterator for Walk<'a> {
 
 /// The row that comes next, and what is left behind it.
 #[inline(always)]
-pub fn step(rows: &[Row], slots: &Slots, hints: &Hints, left: Left) -> Option<(usize, Left)>
-    requires sized { Sized rows.now }
-    requires ready { IsReady rows.now left }
-    ensures { MatchOption result (left_of slots.now rows.now left ≡ []) (λ r. IsStep slots.now rows.now left r.0 r.1) }
+pub fn step(rows: &Rows, slots: &Slots, hints: &Hints, left: Left) -> Option<(usize, Left)>
+    requires sized { Sized rows.now.items }
+    requires ready { IsReady rows.now.items left }
+    ensures { MatchOption result (left_of slots.now rows.now.items left ≡ []) (λ r. IsStep slots.now rows.now.items left r.0 r.1) }
 {
     match left {
         Left::Nothing => None,
@@ -97,15 +97,15 @@ pub fn step(rows: &[Row], slots: &Slots, hints: &Hints, left: Left) -> Option<(u
 }
 
 fn step_over_trees(
-    rows: &[Row],
+    rows: &Rows,
     slots: &Slots,
     at: usize,
     end: usize,
     depth: u32,
 ) -> Option<(usize, Left)>
-    requires sized { Sized rows.now }
-    requires ready { IsReady rows.now (Left.Trees at end depth) }
-    ensures { MatchOption result (left_of slots.now rows.now (Left.Trees at end depth) ≡ []) (λ r. IsStep slots.now rows.now (Left.Trees at end depth) r.0 r.1) }
+    requires sized { Sized rows.now.items }
+    requires ready { IsReady rows.now.items (Left.Trees at end depth) }
+    ensures { MatchOption result (left_of slots.now rows.now.items (Left.Trees at end depth) ≡ []) (λ r. IsStep slots.now rows.now.items (Left.Trees at end depth) r.0 r.1) }
 {
     let next = next_kin(rows, slots, at, end, depth);
     if next >= end {
@@ -115,8 +115,8 @@ fn step_over_trees(
     Some((next, Left::Trees { at, end, depth }))
 }
 
-fn step_over_attributes(rows: &[Row], slots: &Slots, at: usize, depth: u32) -> Option<(usize, Left)>
-    ensures { MatchOption result (left_of slots.now rows.now (Left.Attributes at depth) ≡ []) (λ r. IsStep slots.now rows.now (Left.Attributes at depth) r.0 r.1) }
+fn step_over_attributes(rows: &Rows, slots: &Slots, at: usize, depth: u32) -> Option<(usize, Left)>
+    ensures { MatchOption result (left_of slots.now rows.now.items (Left.Attributes at depth) ≡ []) (λ r. IsStep slots.now rows.now.items (Left.Attributes at depth) r.0 r.1) }
 {
     if at >= rows.len() {
         return None;
@@ -127,9 +127,9 @@ fn step_over_attributes(rows: &[Row], slots: &Slots, at: usize, depth: u32) -> O
     Some((at, Left::Attributes { at: at + 1, depth }))
 }
 
-fn step_over_rows(rows: &[Row], slots: &Slots, at: usize, end: usize) -> Option<(usize, Left)>
-    requires { end ≤ length rows.now }
-    ensures { MatchOption result (left_of slots.now rows.now (Left.Rows at end) ≡ []) (λ r. IsStep slots.now rows.now (Left.Rows at end) r.0 r.1) }
+fn step_over_rows(rows: &Rows, slots: &Slots, at: usize, end: usize) -> Option<(usize, Left)>
+    requires { end ≤ length rows.now.items }
+    ensures { MatchOption result (left_of slots.now rows.now.items (Left.Rows at end) ≡ []) (λ r. IsStep slots.now rows.now.items (Left.Rows at end) r.0 r.1) }
 {
     let next = next_plain(rows, slots, at, end);
     if next >= end {
@@ -139,16 +139,16 @@ fn step_over_rows(rows: &[Row], slots: &Slots, at: usize, end: usize) -> Option<
 }
 
 fn step_back(
-    rows: &[Row],
+    rows: &Rows,
     slots: &Slots,
     hints: &Hints,
     above: usize,
     at: usize,
     depth: u32,
 ) -> Option<(usize, Left)>
-    requires sized { Sized rows.now }
-    requires ready { IsReady rows.now (Left.Back above at depth) }
-    ensures { MatchOption result (left_of slots.now rows.now (Left.Back above at depth) ≡ []) (λ r. IsStep slots.now rows.now (Left.Back above at depth) r.0 r.1) }
+    requires sized { Sized rows.now.items }
+    requires ready { IsReady rows.now.items (Left.Back above at depth) }
+    ensures { MatchOption result (left_of slots.now rows.now.items (Left.Back above at depth) ≡ []) (λ r. IsStep slots.now rows.now.items (Left.Back above at depth) r.0 r.1) }
 {
     let next = last_kin(rows, slots, hints, above, at, depth);
     if next <= above {
@@ -165,13 +165,13 @@ fn step_back(
 }
 
 /// The place of the next top of a tree that has this depth and is no attribute, or the end or past it where there is none.
-fn next_kin(rows: &[Row], slots: &Slots, at: usize, end: usize, depth: u32) -> usize
-    requires sized { Sized rows.now }
-    requires within { end ≤ length rows.now }
-    requires deep { AllDeep depth (between at end rows.now) }
-    ensures found { result < end → is_kin depth false (node_of slots.now (slice_index_or rows.now result no_row)) ≡ true }
-    ensures same { chosen slots.now (is_kin depth false) (between result end rows.now) ≡ chosen slots.now (is_kin depth false) (between at end rows.now) }
-    ensures deep { AllDeep depth (between result end rows.now) }
+fn next_kin(rows: &Rows, slots: &Slots, at: usize, end: usize, depth: u32) -> usize
+    requires sized { Sized rows.now.items }
+    requires within { end ≤ length rows.now.items }
+    requires deep { AllDeep depth (between at end rows.now.items) }
+    ensures found { result < end → is_kin depth false (node_of slots.now (slice_index_or rows.now.items result no_row)) ≡ true }
+    ensures same { chosen slots.now (is_kin depth false) (between result end rows.now.items) ≡ chosen slots.now (is_kin depth false) (between at end rows.now.items) }
+    ensures deep { AllDeep depth (between result end rows.now.items) }
 {
     let mut next = at;
     while next < end && !is_kin_at(rows, slots, next, depth, false) {
@@ -181,13 +181,13 @@ fn next_kin(rows: &[Row], slots: &Slots, at: usize, end: usize, depth: u32) -> u
 }
 
 /// The place of the next node that is no attribute, or the end or past it where there is none.
-fn next_plain(rows: &[Row], slots: &Slots, at: usize, end: usize) -> usize
-    requires within { end ≤ length rows.now }
-    ensures found { result < end → is_plain (node_of slots.now (slice_index_or rows.now result no_row)) ≡ true }
-    ensures same { chosen slots.now is_plain (between result end rows.now) ≡ chosen slots.now is_plain (between at end rows.now) }
+fn next_plain(rows: &Rows, slots: &Slots, at: usize, end: usize) -> usize
+    requires within { end ≤ length rows.now.items }
+    ensures found { result < end → is_plain (node_of slots.now (slice_index_or rows.now.items result no_row)) ≡ true }
+    ensures same { chosen slots.now is_plain (between result end rows.now.items) ≡ chosen slots.now is_plain (between at end rows.now.items) }
 {
     let mut next = at;
-    while next < end && is_attribute_at(slots, rows[next].key) {
+    while next < end && is_attribute_at(slots, rows.at(next).key) {
         next += 1;
     }
     next
@@ -195,21 +195,14 @@ fn next_plain(rows: &[Row], slots: &Slots, at: usize, end: usize) -> usize
 
 /// The place of the last node before a place that has this depth and is no attribute, or the first place where there is none
 /// behind it.
-fn last_kin(
-    rows: &[Row],
-    slots: &Slots,
-    hints: &Hints,
-    above: usize,
-    at: usize,
-    depth: u32,
-) -> usize
-    requires sized { Sized rows.now }
+fn last_kin(rows: &Rows, slots: &Slots, hints: &Hints, above: usize, at: usize, depth: u32) -> usize
+    requires sized { Sized rows.now.items }
     requires order { above < at }
-    requires within { at ≤ length rows.now }
-    requires less { (slice_index_or rows.now above no_row).depth < depth }
+    requires within { at ≤ length rows.now.items }
+    requires less { (slice_index_or rows.now.items above no_row).depth < depth }
     ensures within { result < at }
-    ensures found { above < result → is_kin depth false (node_of slots.now (slice_index_or rows.now result no_row)) ≡ true }
-    ensures same { chosen slots.now (is_kin depth false) (between (above + 1) (result + 1) rows.now) ≡ chosen slots.now (is_kin depth false) (between (above + 1) at rows.now) }
+    ensures found { above < result → is_kin depth false (node_of slots.now (slice_index_or rows.now.items result no_row)) ≡ true }
+    ensures same { chosen slots.now (is_kin depth false) (between (above + 1) (result + 1) rows.now.items) ≡ chosen slots.now (is_kin depth false) (between (above + 1) at rows.now.items) }
 {
     let mut next = climb_to(rows, hints, above, at - 1, depth);
     while next > above && !is_kin_at(rows, slots, next, depth, false) {
@@ -219,17 +212,17 @@ fn last_kin(
 }
 
 /// The place of the nearest row back from a place, itself included, that is no deeper than this, down to a row that is less deep.
-fn climb_to(rows: &[Row], hints: &Hints, above: usize, from: usize, depth: u32) -> usize
-    requires sized { Sized rows.now }
+fn climb_to(rows: &Rows, hints: &Hints, above: usize, from: usize, depth: u32) -> usize
+    requires sized { Sized rows.now.items }
     requires order { above ≤ from }
-    requires within { from < length rows.now }
-    requires less { (slice_index_or rows.now above no_row).depth < depth }
+    requires within { from < length rows.now.items }
+    requires less { (slice_index_or rows.now.items above no_row).depth < depth }
     ensures order { above ≤ result }
     ensures within { result ≤ from }
-    ensures deep { AllDeep (depth + 1) (between (result + 1) (from + 1) rows.now) }
+    ensures deep { AllDeep (depth + 1) (between (result + 1) (from + 1) rows.now.items) }
 {
     let mut at = from;
-    while rows[at].depth > depth {
+    while rows.at(at).depth > depth {
         match parent_row(rows, hints, at) {
             Some(place) => at = place,
             None => return at,

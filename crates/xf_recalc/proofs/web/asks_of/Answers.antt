@@ -1,5 +1,6 @@
 use Rattle.std.proofs.Common.{◌≡◌, ◌<◌, ◌^◌, ◌∙◌, true, nat_lt, [], ℕ, List, map, Some, None, slice_get, ap, sym, arith}
 use Rattle.std.specs.Prelude.{option_and_then}
+use Rattle.std.specs.List.{list_all}
 use Rattle.std.proofs.lemmas.Bool.Decides.{nat_tests}
 use Rattle.xf_doc.specs.Visit.{ancestors_of}
 use Rattle.xf_doc.specs.Shape.{shape_of}
@@ -7,6 +8,7 @@ use Rattle.xf_funcs.specs.Called.{called}
 use Rattle.xf_model.specs.Entries.{expression_in, expression_of}
 use Rattle.xf_model.specs.Rules.{Rule, computed_of, rule_of, scope_of}
 use Rattle.xf_binds.specs.Held.{entry_of}
+use Rattle.xf_recalc.specs.Static.{is_fixed_bind}
 use Rattle.xf_recalc.proofs.Expressions.{asks-some, asks-none}
 use Rattle.xf_recalc.proofs.Shown.{shown-above, shown-live}
 use Rattle.xf_recalc.proofs.web.asks_of.Goals as goal
@@ -23,7 +25,7 @@ asks-requires-clause-ready g c =
     record { around = c.requires.stands; node = live; current = live }
 
 pub asks-requires-clause-fixed : goal.asks-requires-clause-fixed
-asks-requires-clause-fixed g c = c.in-Some.ensures.fixed
+asks-requires-clause-fixed g c = c.in-Some.ensures.fixed (ap (list_all is_fixed_bind) c.as_slice.ensures ∙ c.requires.fixed)
 
 pub returns-in_ok-reads-in-Some : goal.returns-in_ok-reads-in-Some
 returns-in_ok-reads-in-Some g c =

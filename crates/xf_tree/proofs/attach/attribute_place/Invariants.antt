@@ -1,13 +1,13 @@
-use Rattle.std.proofs.Common.{◌≡◌, ◌≤◌, ◌+◌, ◌-◌, length, map, drop}
-use Rattle.xf_tree.specs.Tree.{node_of}
+use Rattle.std.proofs.Common.{◌≡◌, ◌≤◌, ◌+◌, ◌-◌, length, map, drop, get_or}
+use Rattle.xf_tree.specs.Tree.{node_of, no_row}
 use Rattle.xf_tree.specs.Below.{attribute_at}
 use Rattle.xf_tree.proofs.attach.attribute_place.Given as goal
 
 abbrev pub invariant-loop-ahead : goal.invariant-loop-ahead
 invariant-loop-ahead l = record {
-  last : l.next ≤ length l.rows;
-  so_far : l.next + attribute_at l.depth l.ahead (map (node_of l.slots) (drop l.next l.rows)) ≡ l.above + 1 + attribute_at l.depth l.place (map (node_of l.slots) (drop (l.above + 1) l.rows));
+  last : l.next ≤ length l.rows.items;
+  so_far : l.next + attribute_at ((get_or l.rows.items l.above no_row).depth + 1) l.ahead (map (node_of l.slots) (drop l.next l.rows.items)) ≡ l.above + 1 + attribute_at ((get_or l.rows.items l.above no_row).depth + 1) l.place (map (node_of l.slots) (drop (l.above + 1) l.rows.items));
 }
 
 abbrev pub decreases-loop-ahead : goal.decreases-loop-ahead
-decreases-loop-ahead l = length l.rows - l.next
+decreases-loop-ahead l = length l.rows.items - l.next

@@ -10,7 +10,7 @@ use Rattle.xf_tree.proofs.attach.child_place.Goals.{then-is_kin_at+else-left-eq0
 pub loop-next-preserved : goal.loop-next-preserved
 loop-next-preserved c =
     let s = c.args.slots.now in
-    let rows = c.args.rows.now in
+    let rows = c.args.rows.now.items in
     let above = c.args.above in
     let next = c.loop-next.next in
     let end = c.end_of-next.result in
@@ -29,25 +29,25 @@ loop-next-preserved c =
       first = omega (arith, i.first);
       last = omega (arith, tree-inside rows above next below in_rows (omega arith));
       so_far = elim c.if-is_kin_at.branch [
-        | then-is_kin_at+else-left-eq0 w ↦ let some : 0 < c.loop-next.left = omega (arith, w.if-left-eq0.false) in ap same w.left-is ∙ child-more s rows d next end in_rows answer c.loop-next.left some (sym c.is_kin_at.ensures ∙ w.if-is_kin_at.true) ∙ i.so_far
-        | else-is_kin_at w ↦ ap same w.left-is ∙ child-other s rows d next end in_rows answer c.loop-next.left (omega arith) (sym c.is_kin_at.ensures ∙ w.if-is_kin_at.false) ∙ i.so_far
+        | then-is_kin_at+else-left-eq0 w ↦ let some : 0 < c.loop-next.left = omega (arith, w.if-left-eq0.false) in ap same w.left-is ∙ child-more s rows d next end in_rows answer c.loop-next.left some (rw c.at-depth.ensures at (sym c.is_kin_at.ensures ∙ w.if-is_kin_at.true)) ∙ i.so_far
+        | else-is_kin_at w ↦ ap same w.left-is ∙ child-other s rows d next end in_rows answer c.loop-next.left (omega arith) (rw c.at-depth.ensures at (sym c.is_kin_at.ensures ∙ w.if-is_kin_at.false)) ∙ i.so_far
       ];
     }
 
 pub returns-then-left-eq0 : goal.returns-then-left-eq0
 returns-then-left-eq0 c =
     let s = c.args.slots.now in
-    let rows = c.args.rows.now in
+    let rows = c.args.rows.now.items in
     let next = c.loop-next.next in
     let d = (get_or rows c.args.above no_row).depth + 1 in
     let in_rows : next < length rows = omega (arith, c.end_of-end.ensures.within, c.loop-next-test.true) in
-    let none = ap (λ l. child_at d l (map (node_of s) (drop next rows))) c.if-left-eq0.true ∙ child-here s rows d next _ in_rows refl (sym c.is_kin_at.ensures ∙ c.if-is_kin_at.true) in
+    let none = ap (λ l. child_at d l (map (node_of s) (drop next rows))) c.if-left-eq0.true ∙ child-here s rows d next _ in_rows refl (rw c.at-depth.ensures at (sym c.is_kin_at.ensures ∙ c.if-is_kin_at.true)) in
     omega (arith, c.loop-next.invariant.so_far, none)
 
 pub returns : goal.returns
 returns c =
     let s = c.args.slots.now in
-    let rows = c.args.rows.now in
+    let rows = c.args.rows.now.items in
     let d = (get_or rows c.args.above no_row).depth + 1 in
     let end = c.end_of-end.result in
     let i = c.loop-next.invariant in

@@ -1,5 +1,5 @@
-use Rattle.std.proofs.Common.{◌≡◌, ◌≤◌, ◌+◌, ◌-◌, map, drop}
-use Rattle.xf_tree.specs.Tree.{node_of}
+use Rattle.std.proofs.Common.{◌≡◌, ◌≤◌, ◌+◌, ◌-◌, map, drop, get_or}
+use Rattle.xf_tree.specs.Tree.{node_of, no_row}
 use Rattle.xf_tree.specs.Below.{child_at}
 use Rattle.xf_tree.proofs.attach.child_place.Given as goal
 
@@ -7,7 +7,7 @@ abbrev pub invariant-loop-next : goal.invariant-loop-next
 invariant-loop-next l = record {
   first : l.above + 1 ≤ l.next;
   last : l.next ≤ l.end;
-  so_far : l.next + child_at l.depth l.left (map (node_of l.slots) (drop l.next l.rows)) ≡ l.above + 1 + child_at l.depth l.place (map (node_of l.slots) (drop (l.above + 1) l.rows));
+  so_far : l.next + child_at ((get_or l.rows.items l.above no_row).depth + 1) l.left (map (node_of l.slots) (drop l.next l.rows.items)) ≡ l.above + 1 + child_at ((get_or l.rows.items l.above no_row).depth + 1) l.place (map (node_of l.slots) (drop (l.above + 1) l.rows.items));
 }
 
 abbrev pub decreases-loop-next : goal.decreases-loop-next

@@ -3,5 +3,5 @@ use Rattle.xf_doc.specs.Limits.{limits, is_too_deep}
 use Rattle.xf_tree.specs.Tree.{node_of}
 use Rattle.xf_tree.proofs.attach.has_deep.Given as goal
 
-abbrev pub invariant-loop-row : goal.invariant-loop-row
-invariant-loop-row l = is_too_deep limits.depth l.elements (map (node_of l.slots) (drop l.row-index l.tree)) ≡ is_too_deep limits.depth l.elements (map (node_of l.slots) l.tree)
+abbrev pub invariant-loop-at : goal.invariant-loop-at
+invariant-loop-at l = is_too_deep limits.depth l.elements (map (node_of l.slots) (drop l.at l.tree)) ≡ is_too_deep limits.depth l.elements (map (node_of l.slots) l.tree)

@@ -9,7 +9,7 @@ use Rattle.xf_tree.proofs.chosen.push_between.Goals as goal
 pub loop-next-preserved : goal.loop-next-preserved
 loop-next-preserved c =
     let s = c.args.slots.now in
-    let rows = c.args.rows.now in
+    let rows = c.args.rows.now.items in
     let next = c.loop-next.next in
     let end = c.args.end in
     let left = sought_within s rows c.args.sought is_plain (next + 1) end in
@@ -22,7 +22,7 @@ loop-next-preserved c =
 pub returns : goal.returns
 returns c =
     let s = c.args.slots.now in
-    let rows = c.args.rows.now in
+    let rows = c.args.rows.now.items in
     let past : c.args.end ≤ c.loop-next.next = omega (arith, c.loop-next-test.false) in
     sym (ap (λ l. c.loop-next.found ++ l) (within-none s rows c.args.sought c.requires.nodes is_plain c.loop-next.next c.args.end past) ∙ append-nil c.loop-next.found)
     ∙ c.loop-next.invariant

@@ -4,7 +4,7 @@ use Rattle.xf_tree.specs.Walks.{is_plain}
 use Rattle.xf_tree.proofs.chosen.push_between.Given as goal
 
 abbrev pub invariant-loop-next : goal.invariant-loop-next
-invariant-loop-next l = l.found ++ sought_within l.slots l.rows l.sought is_plain l.next l.end ≡ l.initial.found ++ sought_within l.slots l.rows l.sought is_plain l.fn.at l.end
+invariant-loop-next l = l.found ++ sought_within l.slots l.rows.items l.sought is_plain l.next l.end ≡ l.initial.found ++ sought_within l.slots l.rows.items l.sought is_plain l.fn.at l.end
 
 abbrev pub decreases-loop-next : goal.decreases-loop-next
 decreases-loop-next l = l.end - l.next

@@ -11,7 +11,7 @@ use Rattle.xf_tree.proofs.chosen.push_found.Goals as goal
 pub returns : goal.returns
 returns c =
     let s = c.args.slots.now in
-    let rows = c.args.rows.now in
+    let rows = c.args.rows.now.items in
     let sought = c.args.sought in
     let at = c.in-Some.at in
     let within = subst (λ f. IfSome f (λ at. at < length rows)) c.in-Some.is c.requires.walk.within in

@@ -5,4 +5,4 @@ use Rattle.xf_tree.proofs.chosen.push_on_axis.Goals as goal
 
 pub returns-in_default : goal.returns-in_default
 returns-in_default c =
-    sym (ap (λ l. c.args.found.now ++ l) (met-absent c.args.axis c.args.sought (map (node_of c.args.slots.now) c.args.rows.now) c.args.node.number c.in_default.ensures) ∙ append-nil c.args.found.now)
+    sym (ap (λ l. c.args.found.now ++ l) (met-absent c.args.axis c.args.sought (map (node_of c.args.slots.now) c.args.rows.now.items) c.args.node.number c.in_default.ensures) ∙ append-nil c.args.found.now)

@@ -10,7 +10,7 @@ pub loop-next-preserved : goal.loop-next-preserved
 loop-next-preserved c =
     let i = c.loop-next.invariant in
     let s = c.args.slots.now in
-    let rows = c.args.rows.now in
+    let rows = c.args.rows.now.items in
     let next = c.loop-next.next in
     let end = c.args.end in
     let stop = c.end_of-next.result in
@@ -27,7 +27,7 @@ loop-next-preserved c =
 pub returns : goal.returns
 returns c =
     let s = c.args.slots.now in
-    let rows = c.args.rows.now in
+    let rows = c.args.rows.now.items in
     let past : c.args.end ≤ c.loop-next.next = omega (arith, c.loop-next-test.false) in
     sym (ap (λ l. c.loop-next.found ++ l) (within-none s rows c.args.sought c.requires.nodes (is_kin c.args.depth false) c.loop-next.next c.args.end past) ∙ append-nil c.loop-next.found)
     ∙ c.loop-next.invariant.same

@@ -10,14 +10,14 @@ use Rattle.xf_tree.proofs.chosen_row.row_in_trees.Goals as goal
 pub returns-then-here-end-clause-answer : goal.returns-then-here-end-clause-answer
 returns-then-here-end-clause-answer c =
     let s = c.args.slots.now in
-    let rows = c.args.rows.now in
+    let rows = c.args.rows.now.items in
     let none = within-none s rows c.args.sought c.requires.nodes (is_kin c.args.depth false) c.found_in_trees-here.result c.args.end (omega (arith, c.if-here-end.true)) in
     sym (ap (λ l. slice_get l c.loop-next.ahead) (sym c.found_in_trees-here.ensures.same ∙ none)) ∙ c.loop-next.invariant.same
 
 pub returns-then-ahead-eq0-clause-answer : goal.returns-then-ahead-eq0-clause-answer
 returns-then-ahead-eq0-clause-answer c =
     let s = c.args.slots.now in
-    let rows = c.args.rows.now in
+    let rows = c.args.rows.now.items in
     let given = c.found_in_trees-here.ensures in
     let next = trees-next s rows c.args.sought c.requires.nodes c.args.depth c.loop-next.next c.found_in_trees-here.result c.args.end c.if-here-end.false c.requires.within given.deep given.same (given.found c.if-here-end.false) in
     let here = c.found_in_trees-here.result in
@@ -27,7 +27,7 @@ returns-then-ahead-eq0-clause-answer c =
 pub loop-next-preserved : goal.loop-next-preserved
 loop-next-preserved c =
     let s = c.args.slots.now in
-    let rows = c.args.rows.now in
+    let rows = c.args.rows.now.items in
     let sought = c.args.sought in
     let here = c.found_in_trees-here.result in
     let given = c.found_in_trees-here.ensures in
@@ -43,7 +43,7 @@ loop-next-preserved c =
 pub loop-next-smaller : goal.loop-next-smaller
 loop-next-smaller c =
     let s = c.args.slots.now in
-    let rows = c.args.rows.now in
+    let rows = c.args.rows.now.items in
     let sought = c.args.sought in
     let here = c.found_in_trees-here.result in
     let given = c.found_in_trees-here.ensures in

@@ -7,9 +7,9 @@ use Rattle.xf_tree.proofs.chosen_row.row_in_trees.Given as goal
 
 abbrev pub invariant-loop-next : goal.invariant-loop-next
 invariant-loop-next l = record {
-  same : slice_get (sought_within l.slots l.rows l.sought (is_kin l.depth false) l.next l.end) l.ahead ≡ slice_get (sought_within l.slots l.rows l.sought (is_kin l.depth false) l.fn.at l.end) l.fn.place;
-  deep : AllDeep l.depth (between l.next l.end l.rows);
+  same : slice_get (sought_within l.slots l.rows.items l.sought (is_kin l.depth false) l.next l.end) l.ahead ≡ slice_get (sought_within l.slots l.rows.items l.sought (is_kin l.depth false) l.fn.at l.end) l.fn.place;
+  deep : AllDeep l.depth (between l.next l.end l.rows.items);
 }
 
 abbrev pub decreases-loop-next : goal.decreases-loop-next
-decreases-loop-next l = length (sought_within l.slots l.rows l.sought (is_kin l.depth false) l.next l.end)
+decreases-loop-next l = length (sought_within l.slots l.rows.items l.sought (is_kin l.depth false) l.next l.end)

@@ -5,9 +5,9 @@ use Rattle.xf_tree.proofs.chosen_row.row_left.Given as goal
 
 abbrev pub invariant-loop-at : goal.invariant-loop-at
 invariant-loop-at l = record {
-  ready : IsReady l.rows l.rest;
-  so_far : slice_get (left_met l.slots l.rows l.sought l.rest) l.before ≡ slice_get (left_met l.slots l.rows l.sought l.fn.left) l.fn.place;
+  ready : IsReady l.rows.items l.rest;
+  so_far : slice_get (left_met l.slots l.rows.items l.sought l.rest) l.before ≡ slice_get (left_met l.slots l.rows.items l.sought l.fn.left) l.fn.place;
 }
 
 abbrev pub decreases-loop-at : goal.decreases-loop-at
-decreases-loop-at l = length (left_met l.slots l.rows l.sought l.rest)
+decreases-loop-at l = length (left_met l.slots l.rows.items l.sought l.rest)

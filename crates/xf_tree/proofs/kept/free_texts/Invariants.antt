@@ -6,11 +6,11 @@ use Rattle.xf_tree.specs.Tree.{node_of, content_in, KeepsBut}
 use Rattle.xf_tree.specs.Texts.{children}
 use Rattle.xf_tree.proofs.kept.free_texts.Given as goal
 
-abbrev pub invariant-loop-row : goal.invariant-loop-row
-invariant-loop-row l = record {
-  rest : KeepsBut l.fn.slots l.slots (map (node_of l.fn.slots) (children l.fn.slots (take l.row-index l.rows)));
+abbrev pub invariant-loop-at : goal.invariant-loop-at
+invariant-loop-at l = record {
+  rest : KeepsBut l.fn.slots l.slots (map (node_of l.fn.slots) (children l.fn.slots (take l.at l.rows)));
   kinds : (key : ℕ) → is_attribute (content_in (get l.slots key)) ≡ is_attribute (content_in (get l.fn.slots key));
   less : (key : ℕ) → size_of (content_in (get l.slots key)) ≤ size_of (content_in (get l.fn.slots key));
-  total : l.total ≡ l.fn.total - node_count (map (node_of l.fn.slots) (children l.fn.slots (take l.row-index l.rows)));
-  size : l.size ≡ l.fn.size - all_size (map (node_of l.fn.slots) (children l.fn.slots (take l.row-index l.rows)));
+  total : l.total ≡ l.fn.total - node_count (map (node_of l.fn.slots) (children l.fn.slots (take l.at l.rows)));
+  size : l.size ≡ l.fn.size - all_size (map (node_of l.fn.slots) (children l.fn.slots (take l.at l.rows)));
 }

@@ -4,10 +4,10 @@ use Rattle.xf_tree.specs.Tree.{node_of}
 use Rattle.xf_tree.specs.Texts.{children}
 use Rattle.xf_tree.proofs.kept.texts_in.Given as goal
 
-abbrev pub invariant-loop-row : goal.invariant-loop-row
-invariant-loop-row l = record {
-  count : l.count ≡ length (children l.slots (take l.row-index l.rows));
-  size : l.size ≡ all_size (map (node_of l.slots) (children l.slots (take l.row-index l.rows)));
-  few : l.count ≤ l.row-index;
-  small : l.size ≤ 2 ^ 66 * l.row-index;
+abbrev pub invariant-loop-at : goal.invariant-loop-at
+invariant-loop-at l = record {
+  count : l.count ≡ length (children l.slots (take l.at l.rows));
+  size : l.size ≡ all_size (map (node_of l.slots) (children l.slots (take l.at l.rows)));
+  few : l.count ≤ l.at;
+  small : l.size ≤ 2 ^ 66 * l.at;
 }

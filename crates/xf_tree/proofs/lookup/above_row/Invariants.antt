@@ -1,11 +1,12 @@
-use Rattle.std.proofs.Common.{◌≡◌, ◌≤◌, take, reverse}
+use Rattle.std.proofs.Common.{◌≡◌, ◌≤◌, take, reverse, get_or}
 use Rattle.xf_tree.specs.Rows.{less_deep, parent_row_of}
+use Rattle.xf_tree.specs.Tree.{no_row}
 use Rattle.xf_tree.proofs.lookup.above_row.Given as goal
 
 abbrev pub invariant-loop-left : goal.invariant-loop-left
 invariant-loop-left l = record {
   within : l.left ≤ l.at;
-  so_far : less_deep l.row.depth (reverse (take l.left l.rows)) ≡ parent_row_of l.rows l.at;
+  so_far : less_deep (get_or l.rows.items l.at no_row).depth (reverse (take l.left l.rows.items)) ≡ parent_row_of l.rows.items l.at;
 }
 
 abbrev pub decreases-loop-left : goal.decreases-loop-left

@@ -10,7 +10,7 @@ use Rattle.xf_tree.proofs.lookup.place_of.Goals.{then-is_kin_at, else-is_kin_at}
 pub loop-next-preserved : goal.loop-next-preserved
 loop-next-preserved c =
     let s = c.args.slots.now in
-    let rows = c.args.rows.now in
+    let rows = c.args.rows.now.items in
     let above = c.args.above in
     let at = c.args.at in
     let next = c.loop-next.next in
@@ -42,10 +42,10 @@ loop-next-preserved c =
       count = elim c.if-is_kin_at.branch [ then-is_kin_at w' ↦ omega arith | else-is_kin_at w' ↦ omega arith ];
       so_far = elim c.if-is_kin_at.branch [
         | then-is_kin_at w' ↦
-            let one = ap {B = ℕ} (λ b. cond b 1 0) (sym c.is_kin_at.ensures ∙ w'.if-is_kin_at.true) in
+            let one = ap {B = ℕ} (λ b. cond b 1 0) (rw c.at-depth.ensures at (sym c.is_kin_at.ensures ∙ w'.if-is_kin_at.true)) in
             omega (arith, skip, one)
         | else-is_kin_at w' ↦
-            let none = ap {B = ℕ} (λ b. cond b 1 0) (sym c.is_kin_at.ensures ∙ w'.if-is_kin_at.false) in
+            let none = ap {B = ℕ} (λ b. cond b 1 0) (rw c.at-depth.ensures at (sym c.is_kin_at.ensures ∙ w'.if-is_kin_at.false)) in
             omega (arith, skip, none)
       ];
     }

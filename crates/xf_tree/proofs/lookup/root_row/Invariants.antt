@@ -5,9 +5,9 @@ use Rattle.xf_tree.proofs.lookup.root_row.Given as goal
 
 abbrev pub invariant-loop-at : goal.invariant-loop-at
 invariant-loop-at l = record {
-  within : l.at ≤ length l.rows;
-  so_far : root_of l.left (map (node_of l.slots) (drop l.at l.rows)) ≡ root_of l.instance (map (node_of l.slots) l.rows);
+  within : l.at ≤ length l.rows.items;
+  so_far : root_of l.left (map (node_of l.slots) (drop l.at l.rows.items)) ≡ root_of l.instance (map (node_of l.slots) l.rows.items);
 }
 
 abbrev pub decreases-loop-at : goal.decreases-loop-at
-decreases-loop-at l = length l.rows - l.at
+decreases-loop-at l = length l.rows.items - l.at

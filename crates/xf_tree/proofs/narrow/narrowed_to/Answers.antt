@@ -8,18 +8,18 @@ use Rattle.xf_tree.proofs.narrow.narrowed_to.Goals.{else-at-place-via-then-at-pl
 pub returns-in-Nobody-clause-same : goal.returns-in-Nobody-clause-same
 returns-in-Nobody-clause-same c =
     let s = c.args.slots.now in
-    let rows = c.args.rows.now in
+    let rows = c.args.rows.now.items in
     let sought = Named Element c.args.asked in
     none-there s rows sought c.requires.nodes c.args.depth c.args.at c.args.end c.requires.order c.requires.within
     (λ i a less. none-named s rows sought c.requires.nodes c.args.asked.now c.args.depth i (λ content. refl) c.in-Nobody.ensures)
 
 pub returns-then-place-end-clause-deep : goal.returns-then-place-end-clause-deep
-returns-then-place-end-clause-deep c = deep-alone c.args.depth c.args.at c.in-Some.place c.args.end c.args.rows.now c.if-at-place.true c.if-place-end.true c.requires.within c.requires.deep
+returns-then-place-end-clause-deep c = deep-alone c.args.depth c.args.at c.in-Some.place c.args.end c.args.rows.now.items c.if-at-place.true c.if-place-end.true c.requires.within c.requires.deep
 
 pub returns-then-place-end-clause-same : goal.returns-then-place-end-clause-same
 returns-then-place-end-clause-same c =
     let s = c.args.slots.now in
-    let rows = c.args.rows.now in
+    let rows = c.args.rows.now.items in
     let sought = Named Element c.args.asked in
     let place = c.in-Some.place in
     let here = c.in-Some.ensures in
@@ -29,7 +29,7 @@ returns-then-place-end-clause-same c =
 pub returns-clause-same : goal.returns-clause-same
 returns-clause-same c =
     let s = c.args.slots.now in
-    let rows = c.args.rows.now in
+    let rows = c.args.rows.now.items in
     let sought = Named Element c.args.asked in
     let place = c.in-Some.place in
     let here = c.in-Some.ensures in

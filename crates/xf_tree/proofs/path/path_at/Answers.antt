@@ -12,7 +12,7 @@ use Rattle.xf_tree.proofs.path.path_at.Goals.{then-is_empty+in_ok-push, else-is_
 
 pub returns : goal.returns
 returns c =
-    let rows = c.args.rows.now in
+    let rows = c.args.rows.now.items in
     let s = c.args.slots.now in
     let steps = c.push_steps.new.text in
     let path = path-is s rows c.args.at c.in_ok-places.places.items c.requires.nodes c.requires.within c.in_ok-places.ensures.rows in

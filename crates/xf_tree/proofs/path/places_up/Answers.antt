@@ -5,7 +5,7 @@ use Rattle.xf_tree.proofs.path.places_up.Goals as goal
 
 pub loop-next-preserved : goal.loop-next-preserved
 loop-next-preserved c =
-    let rows = c.args.rows.now in
+    let rows = c.args.rows.now.items in
     let i = c.loop-next.invariant in
     let here = here-within c.loop-next.next c.in-Some.place (length rows) i.next c.in-Some.is in
     record {

@@ -6,9 +6,9 @@ use Rattle.xf_tree.proofs.path.places_up.Given as goal
 
 abbrev pub invariant-loop-next : goal.invariant-loop-next
 invariant-loop-next l = record {
-  so_far : map (λ p. get_or l.rows p no_row) l.places.items ++ rows_up l.rows l.next ≡ rows_up l.rows (Some l.at);
-  within : AllPlaces l.rows l.places.items;
-  next : IfSome l.next (λ p. p < length l.rows);
+  so_far : map (λ p. get_or l.rows.items p no_row) l.places.items ++ rows_up l.rows.items l.next ≡ rows_up l.rows.items (Some l.at);
+  within : AllPlaces l.rows.items l.places.items;
+  next : IfSome l.next (λ p. p < length l.rows.items);
 }
 
 abbrev pub height : Option ℕ → ℕ

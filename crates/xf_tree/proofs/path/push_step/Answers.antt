@@ -11,24 +11,24 @@ use Rattle.xf_tree.proofs.path.push_step.Goals as goal
 
 pub returns-in-Root : goal.returns-in-Root
 returns-in-Root c =
-    let content = sym c.shown_at-content.ensures ∙ ap seen_content c.in-Root.is in
-    sym (ap (λ l. string_bytes c.args.text.now ++ l) (root-step c.args.slots.now c.args.rows.now c.args.at c.requires.nodes c.requires.within content) ∙ append-nil (string_bytes c.args.text.now))
+    let content = rw c.at.ensures at (sym c.shown_at-content.ensures ∙ ap seen_content c.in-Root.is) in
+    sym (ap (λ l. string_bytes c.args.text.now ++ l) (root-step c.args.slots.now c.args.rows.now.items c.args.at c.requires.nodes c.requires.within content) ∙ append-nil (string_bytes c.args.text.now))
 
 pub returns-in_ok-push_name-in-Attribute : goal.returns-in_ok-push_name-in-Attribute
 returns-in_ok-push_name-in-Attribute c =
-    let content = sym c.shown_at-content.ensures ∙ ap seen_content c.in-Attribute.is in
-    let step = attribute-step c.args.slots.now c.args.rows.now c.args.at c.in-Attribute.name.now _ c.requires.nodes c.requires.within content in
+    let content = rw c.at.ensures at (sym c.shown_at-content.ensures ∙ ap seen_content c.in-Attribute.is) in
+    let step = attribute-step c.args.slots.now c.args.rows.now.items c.args.at c.in-Attribute.name.now _ c.requires.nodes c.requires.within content in
     joined-two (string_bytes c.args.text.now) _ _ (47 ∷ 64 ∷ []) (written c.in-Attribute.name.now) c.in_ok-push_str-in-Attribute.ensures.bytes c.in_ok-push_name-in-Attribute.ensures
     ∙ ap (λ l. string_bytes c.args.text.now ++ l) (sym step)
 
 pub returns-in_ok-push_index-in-Element : goal.returns-in_ok-push_index-in-Element
 returns-in_ok-push_index-in-Element c =
     let s = c.args.slots.now in
-    let rows = c.args.rows.now in
+    let rows = c.args.rows.now.items in
     let at = c.args.at in
     let p = parent_row_of rows at in
     let name = c.in-Element.name.now in
-    let content = sym c.shown_at-content.ensures ∙ ap seen_content c.in-Element.is in
+    let content = rw c.at.ensures at (sym c.shown_at-content.ensures ∙ ap seen_content c.in-Element.is) in
     let step = element-step s rows at name c.requires.nodes c.requires.within content in
     let index = c.index_of.ensures ∙ ap (λ l. index_among (like_before s rows (seen_content l) at p) (like_after s rows (seen_content l) at p)) c.in-Element.is in
     joined (string_bytes c.args.text.now) _ _ _ (47 ∷ []) (written name) (index_text c.index_of.result) (c.in_ok-push-in-Element.ensures.bytes ∙ ap (λ l. string_bytes c.args.text.now ++ l) (c.in_ok-push-in-Element.ensures.ascii (omega arith))) c.in_ok-push_name-in-Element.ensures c.in_ok-push_index-in-Element.ensures
@@ -38,10 +38,10 @@ returns-in_ok-push_index-in-Element c =
 pub returns-in_ok-push_index-in-Text : goal.returns-in_ok-push_index-in-Text
 returns-in_ok-push_index-in-Text c =
     let s = c.args.slots.now in
-    let rows = c.args.rows.now in
+    let rows = c.args.rows.now.items in
     let at = c.args.at in
     let p = parent_row_of rows at in
-    let content = sym c.shown_at-content.ensures ∙ ap seen_content c.in-Text.is in
+    let content = rw c.at.ensures at (sym c.shown_at-content.ensures ∙ ap seen_content c.in-Text.is) in
     let step = text-step s rows at c.in-Text.field-0.now c.requires.nodes c.requires.within content in
     let count = c.count_before-earlier.ensures.answer ∙ ap (λ l. length (like_before s rows (seen_content l) at p)) c.in-Text.is in
     let more : c.count_before-earlier.result + 1 ≡ suc c.count_before-earlier.result = add-one c.count_before-earlier.result in

@@ -10,9 +10,9 @@ use Rattle.xf_tree.proofs.path.push_steps.Given as goal
 
 abbrev pub invariant-loop-place : goal.invariant-loop-place
 invariant-loop-place l = record {
-  so_far : string_bytes l.text ++ flat_map (step_of (visits (map (node_of l.slots) l.rows))) (reverse (map (number_of_row l.slots l.rows) l.left.items))
-      ≡ string_bytes l.fn.text ++ flat_map (step_of (visits (map (node_of l.slots) l.rows))) (reverse (map (number_of_row l.slots l.rows) l.fn.places.items));
-  within : AllPlaces l.rows l.left.items;
+  so_far : string_bytes l.text ++ flat_map (step_of (visits (map (node_of l.slots) l.rows.items))) (reverse (map (number_of_row l.slots l.rows.items) l.left.items))
+      ≡ string_bytes l.fn.text ++ flat_map (step_of (visits (map (node_of l.slots) l.rows.items))) (reverse (map (number_of_row l.slots l.rows.items) l.fn.places.items));
+  within : AllPlaces l.rows.items l.left.items;
 }
 
 abbrev pub decreases-loop-place : goal.decreases-loop-place

@@ -2,8 +2,10 @@ use Rattle.std.proofs.Common.{◌≡◌, ◌+◌, ◌++◌, length, map, take, d
 use Rattle.xf_tree.specs.Texts.{text_row}
 use Rattle.xf_tree.proofs.run.fill.Given as goal
 
-abbrev pub invariant-loop-at : goal.invariant-loop-at
-invariant-loop-at l = record {
-  answer : l.rows ≡ take l.from l.fn.rows ++ (map (text_row l.depth) (take l.at l.texts) ++ drop (l.from + l.at) l.fn.rows);
-  same : length l.rows ≡ length l.fn.rows;
+abbrev pub invariant-loop-text : goal.invariant-loop-text
+invariant-loop-text l = record {
+  front : take l.rows.room_at l.rows.items ≡ take l.fn.rows.room_at l.fn.rows.items ++ map (text_row l.depth) (take l.text-index l.texts);
+  rest : drop l.rows.room_at l.rows.items ≡ drop l.fn.rows.room_at l.fn.rows.items;
+  count : length l.rows.items ≡ length l.fn.rows.items + l.text-index;
+  room : l.rows.capacity ≡ l.fn.rows.capacity;
 }

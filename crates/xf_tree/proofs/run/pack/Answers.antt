@@ -3,6 +3,7 @@ use Rattle.std.proofs.lemmas.List.{take_more_set, drop-set-lt}
 use Rattle.slab.specs.Slab.{get}
 use Rattle.xf_doc.specs.Forest.{is_attribute}
 use Rattle.xf_tree.specs.declared.rows.Row.{Row}
+use Rattle.xf_tree.specs.Rows.{RowList}
 use Rattle.xf_tree.specs.Tree.{no_row, content_in}
 use Rattle.xf_tree.specs.Texts.{attributes}
 use Rattle.xf_tree.proofs.PackLemmas.{still-row, pack-no, pack-yes, drop-next}
@@ -11,26 +12,27 @@ use Rattle.xf_tree.proofs.run.pack.Goals as goal
 pub loop-at-preserved-then-not-is_attribute_at : goal.loop-at-preserved-then-not-is_attribute_at
 loop-at-preserved-then-not-is_attribute_at c =
     let s = c.args.slots.now in
-    let old = c.args.rows.now in
+    let old = c.args.rows.now.items in
     let at = c.loop-at.at in
     let inv = c.loop-at.invariant in
     let within : at < length old = omega (arith, c.loop-at-test.true) in
     let order : c.args.from ≤ at = omega (arith, inv.order, inv.within) in
-    let same = still-row c.loop-at.rows old at no_row within inv.rest in
-    let none : is_attribute (content_in (get s (get_or old at no_row).key)) ≡ false = ap (λ (r : Row). is_attribute (content_in (get s r.key))) (sym same) ∙ sym c.is_attribute_at.ensures ∙ c.if-not-is_attribute_at.true in
+    let same = still-row c.loop-at.rows.items old at no_row within inv.rest in
+    let none : is_attribute (content_in (get s (get_or old at no_row).key)) ≡ false = ap (λ (r : Row). is_attribute (content_in (get s r.key))) (sym (c.at-row.ensures ∙ same)) ∙ sym c.is_attribute_at.ensures ∙ c.if-not-is_attribute_at.true in
     record {
       order = inv.order;
       within = omega (arith, inv.within);
       front = inv.front ∙ ap (λ l. take c.args.from old ++ l) (sym (pack-no s old c.args.from at order within none));
-      rest = drop-next at c.loop-at.rows old inv.rest;
+      rest = drop-next at c.loop-at.rows.items old inv.rest;
       same = inv.same;
+      room = inv.room;
     }
 
 pub loop-at-preserved : goal.loop-at-preserved
 loop-at-preserved c =
     let s = c.args.slots.now in
-    let old = c.args.rows.now in
-    let now = c.loop-at.rows in
+    let old = c.args.rows.now.items in
+    let now = c.loop-at.rows.items in
     let at = c.loop-at.at in
     let to = c.loop-at.to in
     let inv = c.loop-at.invariant in
@@ -38,8 +40,8 @@ loop-at-preserved c =
     let order : c.args.from ≤ at = omega (arith, inv.order, inv.within) in
     let same = still-row now old at no_row within inv.rest in
     let x = get_or old at no_row in
-    let is : is_attribute (content_in (get s x.key)) ≡ true = ap (λ (r : Row). is_attribute (content_in (get s r.key))) (sym same) ∙ sym c.is_attribute_at.ensures ∙ c.if-not-is_attribute_at.false in
-    let moved : c.move_row.new.rows ≡ set now to x = c.move_row.ensures ∙ ap (set now to) same in
+    let is : is_attribute (content_in (get s x.key)) ≡ true = ap (λ (r : Row). is_attribute (content_in (get s r.key))) (sym (c.at-row.ensures ∙ same)) ∙ sym c.is_attribute_at.ensures ∙ c.if-not-is_attribute_at.false in
+    let moved : c.put.new.self.items ≡ set now to x = ap (λ (r : RowList). r.items) c.put.ensures ∙ ap (set now to) (c.at-row.ensures ∙ same) in
     let in_now : to < length now = omega (arith, inv.same, inv.within) in
     let below : to < at + 1 = omega (arith, inv.within) in
     record {
@@ -49,4 +51,5 @@ loop-at-preserved c =
           ∙ ap (λ l. take c.args.from old ++ l) (sym (pack-yes s old c.args.from at order within is));
       rest = ap (drop (at + 1)) moved ∙ drop-set-lt (at + 1) now to x below ∙ drop-next at now old inv.rest;
       same = ap length moved ∙ length-set now to x ∙ inv.same;
+      room = ap (λ (r : RowList). r.capacity) c.put.ensures ∙ inv.room;
     }

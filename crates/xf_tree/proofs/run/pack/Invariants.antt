@@ -6,7 +6,8 @@ abbrev pub invariant-loop-at : goal.invariant-loop-at
 invariant-loop-at l = record {
   order : l.from ≤ l.to;
   within : l.to ≤ l.at;
-  front : take l.to l.rows ≡ take l.from l.fn.rows ++ attributes l.slots (take (l.at - l.from) (drop l.from l.fn.rows));
-  rest : drop l.at l.rows ≡ drop l.at l.fn.rows;
-  same : length l.rows ≡ length l.fn.rows;
+  front : take l.to l.rows.items ≡ take l.from l.fn.rows.items ++ attributes l.slots (take (l.at - l.from) (drop l.from l.fn.rows.items));
+  rest : drop l.at l.rows.items ≡ drop l.at l.fn.rows.items;
+  same : length l.rows.items ≡ length l.fn.rows.items;
+  room : l.rows.capacity ≡ l.fn.rows.capacity;
 }

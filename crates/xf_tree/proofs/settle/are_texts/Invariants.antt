@@ -6,5 +6,5 @@ use Rattle.xf_tree.proofs.StandLemmas.{texts_from}
 use Rattle.xf_tree.proofs.settle.are_texts.Given as goal
 
 -- what is left of the rows decides
-abbrev pub invariant-loop-row : goal.invariant-loop-row
-invariant-loop-row l = are_texts (texts_left l.found l.text) (texts_from l.slots l.row-index l.rows) ≡ are_texts (as_texts l.text) (texts_from l.slots 0 l.rows)
+abbrev pub invariant-loop-at : goal.invariant-loop-at
+invariant-loop-at l = are_texts (texts_left l.found l.text) (texts_from l.slots l.at l.rows) ≡ are_texts (as_texts l.text) (texts_from l.slots 0 l.rows)

@@ -3,7 +3,7 @@ use Rattle.xf_doc.specs.Literal.{printed_from}
 use Rattle.xf_tree.specs.Tree.{node_of}
 use Rattle.xf_tree.proofs.shown.push_printed.Given as goal
 
-abbrev pub invariant-loop-row : goal.invariant-loop-row
-invariant-loop-row l =
-    map (node_of l.slots) l.left.items ++ printed_from l.kept.keys l.out (map (node_of l.slots) (drop l.row-index l.rows))
-    ≡ map (node_of l.slots) l.fn.left.items ++ printed_from l.kept.keys None (map (node_of l.slots) l.rows)
+abbrev pub invariant-loop-at : goal.invariant-loop-at
+invariant-loop-at l =
+    map (node_of l.slots) l.left.items ++ printed_from l.kept.keys l.out (map (node_of l.slots) (drop l.at l.rows))
+    ≡ map (node_of l.slots) l.fn.left.items ++ printed_from l.kept.keys None (map (node_of l.slots) (drop 1 l.rows))

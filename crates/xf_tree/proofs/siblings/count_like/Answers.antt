@@ -8,7 +8,7 @@ use Rattle.xf_tree.proofs.siblings.count_like.Goals.{then-is_like_at, else-is_li
 pub loop-next-preserved : goal.loop-next-preserved
 loop-next-preserved c =
     let s = c.args.slots.now in
-    let rows = c.args.rows.now in
+    let rows = c.args.rows.now.items in
     let next = c.loop-next.next in
     let i = c.loop-next.invariant in
     let q = same_sort (seen_content c.args.like) in

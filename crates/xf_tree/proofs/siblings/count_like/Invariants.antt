@@ -7,9 +7,9 @@ use Rattle.xf_tree.proofs.siblings.count_like.Given as goal
 
 abbrev pub invariant-loop-next : goal.invariant-loop-next
 invariant-loop-next l = record {
-  so_far : l.count + length (chosen l.slots (is_like l.depth (seen_content l.like)) (between l.next l.to l.rows)) ≡ length (chosen l.slots (is_like l.depth (seen_content l.like)) (between l.from l.to l.rows));
+  so_far : l.count + length (chosen l.slots (is_like l.depth (seen_content l.like)) (between l.next l.to l.rows.items)) ≡ length (chosen l.slots (is_like l.depth (seen_content l.like)) (between l.from l.to l.rows.items));
   few : l.count ≤ l.next;
-  deep : AllDeep l.depth (between l.next l.to l.rows);
+  deep : AllDeep l.depth (between l.next l.to l.rows.items);
 }
 
 abbrev pub decreases-loop-next : goal.decreases-loop-next

@@ -9,7 +9,7 @@ use Rattle.xf_tree.proofs.siblings.has_like.Goals as goal
 pub returns-then-is_like_at : goal.returns-then-is_like_at
 returns-then-is_like_at c =
     let s = c.args.slots.now in
-    let rows = c.args.rows.now in
+    let rows = c.args.rows.now.items in
     let next = c.loop-next.next in
     let i = c.loop-next.invariant in
     let q = same_sort (seen_content c.args.like) in
@@ -21,7 +21,7 @@ returns-then-is_like_at c =
 pub loop-next-preserved : goal.loop-next-preserved
 loop-next-preserved c =
     let s = c.args.slots.now in
-    let rows = c.args.rows.now in
+    let rows = c.args.rows.now.items in
     let next = c.loop-next.next in
     let i = c.loop-next.invariant in
     let q = same_sort (seen_content c.args.like) in

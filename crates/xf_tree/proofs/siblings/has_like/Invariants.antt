@@ -7,8 +7,8 @@ use Rattle.xf_tree.proofs.siblings.has_like.Given as goal
 
 abbrev pub invariant-loop-next : goal.invariant-loop-next
 invariant-loop-next l = record {
-  same : chosen l.slots (is_like l.depth (seen_content l.like)) (between l.next l.to l.rows) ≡ chosen l.slots (is_like l.depth (seen_content l.like)) (between l.from l.to l.rows);
-  deep : AllDeep l.depth (between l.next l.to l.rows);
+  same : chosen l.slots (is_like l.depth (seen_content l.like)) (between l.next l.to l.rows.items) ≡ chosen l.slots (is_like l.depth (seen_content l.like)) (between l.from l.to l.rows.items);
+  deep : AllDeep l.depth (between l.next l.to l.rows.items);
 }
 
 abbrev pub decreases-loop-next : goal.decreases-loop-next

@@ -4,10 +4,10 @@ use Rattle.xf_doc.specs.Limits.{node_count, all_size, size_of}
 use Rattle.xf_tree.specs.Tree.{node_of, content_in, KeepsBut}
 use Rattle.xf_tree.proofs.slot.free_rows.Given as goal
 
-abbrev pub invariant-loop-row : goal.invariant-loop-row
-invariant-loop-row l = record {
-  rest : KeepsBut l.fn.slots l.slots (map (node_of l.fn.slots) (take l.row-index l.rows));
+abbrev pub invariant-loop-at : goal.invariant-loop-at
+invariant-loop-at l = record {
+  rest : KeepsBut l.fn.slots l.slots (map (node_of l.fn.slots) (take l.at l.rows));
   less : (key : ℕ) → size_of (content_in (get l.slots key)) ≤ size_of (content_in (get l.fn.slots key));
-  total : l.total ≡ l.fn.total - node_count (map (node_of l.fn.slots) (take l.row-index l.rows));
-  size : l.size ≡ l.fn.size - all_size (map (node_of l.fn.slots) (take l.row-index l.rows));
+  total : l.total ≡ l.fn.total - node_count (map (node_of l.fn.slots) (take l.at l.rows));
+  size : l.size ≡ l.fn.size - all_size (map (node_of l.fn.slots) (take l.at l.rows));
 }

@@ -4,7 +4,7 @@ use Rattle.xf_tree.proofs.sought.found_by_steps.Goals as goal
 
 pub returns-then-is_sought : goal.returns-then-is_sought
 returns-then-is_sought c =
-    let f = step-found c.args.slots.now c.args.rows.now c.args.sought c.requires.nodes c.loop-at.rest c.in-Some.behind c.in-Some.at c.in-Some.ensures (sym c.is_sought.ensures ∙ c.if-is_sought.true) in
+    let f = step-found c.args.slots.now c.args.rows.now.items c.args.sought c.requires.nodes c.loop-at.rest c.in-Some.behind c.in-Some.at c.in-Some.ensures (rw c.at.ensures at (sym c.is_sought.ensures ∙ c.if-is_sought.true)) in
     record {
       within = f.within;
       ready = f.ready;
@@ -16,5 +16,5 @@ loop-at-preserved c =
     let i = c.in-Some.ensures in
     record {
       ready = i.ready;
-      same = step-passed c.args.slots.now c.args.rows.now c.args.sought c.requires.nodes c.loop-at.rest c.in-Some.behind c.in-Some.at i (sym c.is_sought.ensures ∙ c.if-is_sought.false) ∙ c.loop-at.invariant.same;
+      same = step-passed c.args.slots.now c.args.rows.now.items c.args.sought c.requires.nodes c.loop-at.rest c.in-Some.behind c.in-Some.at i (rw c.at.ensures at (sym c.is_sought.ensures ∙ c.if-is_sought.false)) ∙ c.loop-at.invariant.same;
     }

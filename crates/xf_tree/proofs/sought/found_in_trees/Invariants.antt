@@ -7,8 +7,8 @@ use Rattle.xf_tree.proofs.sought.found_in_trees.Given as goal
 
 abbrev pub invariant-loop-next : goal.invariant-loop-next
 invariant-loop-next l = record {
-  same : sought_within l.slots l.rows l.sought (is_kin l.depth false) l.next l.end ≡ sought_within l.slots l.rows l.sought (is_kin l.depth false) l.at l.end;
-  deep : AllDeep l.depth (between l.next l.end l.rows);
+  same : sought_within l.slots l.rows.items l.sought (is_kin l.depth false) l.next l.end ≡ sought_within l.slots l.rows.items l.sought (is_kin l.depth false) l.at l.end;
+  deep : AllDeep l.depth (between l.next l.end l.rows.items);
 }
 
 abbrev pub decreases-loop-next : goal.decreases-loop-next

@@ -10,7 +10,7 @@ use Rattle.xf_tree.proofs.sought.next_found.Goals as goal
 pub returns-else-next-end : goal.returns-else-next-end
 returns-else-next-end c =
     let s = c.args.slots.now in
-    let rows = c.args.rows.now in
+    let rows = c.args.rows.now.items in
     let next = c.found_in_trees-next.result in
     let end = c.in-Trees.end in
     let given = c.found_in_trees-next.ensures in
@@ -26,7 +26,7 @@ returns-else-next-end c =
 pub returns-else-next-end-2 : goal.returns-else-next-end-2
 returns-else-next-end-2 c =
     let s = c.args.slots.now in
-    let rows = c.args.rows.now in
+    let rows = c.args.rows.now.items in
     let next = c.found_in_rows-next.result in
     let end = c.in-Rows.end in
     let given = c.found_in_rows-next.ensures in

@@ -6,8 +6,8 @@ use Rattle.xf_tree.proofs.top.top_row.Given as goal
 
 abbrev pub invariant-loop-above : goal.invariant-loop-above
 invariant-loop-above l = record {
-  within : l.top < length l.rows;
-  same : last_row (get_or l.rows l.top no_row) (ancestor_rows l.rows l.top) ≡ last_row (get_or l.rows l.at no_row) (ancestor_rows l.rows l.at);
+  within : l.top < length l.rows.items;
+  same : last_row (get_or l.rows.items l.top no_row) (ancestor_rows l.rows.items l.top) ≡ last_row (get_or l.rows.items l.at no_row) (ancestor_rows l.rows.items l.at);
 }
 
 abbrev pub decreases-loop-above : goal.decreases-loop-above

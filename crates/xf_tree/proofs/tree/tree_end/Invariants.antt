@@ -5,9 +5,9 @@ use Rattle.xf_tree.proofs.tree.tree_end.Given as goal
 abbrev pub invariant-loop-next : goal.invariant-loop-next
 invariant-loop-next l = record {
   first : l.at + 1 ≤ l.next;
-  within : l.next ≤ length l.rows;
-  so_far : l.next + deeper l.depth (drop l.next l.rows) ≡ l.at + 1 + deeper l.depth (drop (l.at + 1) l.rows);
+  within : l.next ≤ length l.rows.items;
+  so_far : l.next + deeper l.top.depth (drop l.next l.rows.items) ≡ l.at + 1 + deeper l.top.depth (drop (l.at + 1) l.rows.items);
 }
 
 abbrev pub decreases-loop-next : goal.decreases-loop-next
-decreases-loop-next l = length l.rows - l.next
+decreases-loop-next l = length l.rows.items - l.next

@@ -7,7 +7,7 @@ abbrev pub invariant-loop-at : goal.invariant-loop-at
 invariant-loop-at l = record {
   least : l.above ≤ l.at;
   within : l.at ≤ l.from;
-  deep : AllDeep (l.depth + 1) (between (l.at + 1) (l.from + 1) l.rows);
+  deep : AllDeep (l.depth + 1) (between (l.at + 1) (l.from + 1) l.rows.items);
 }
 
 abbrev pub decreases-loop-at : goal.decreases-loop-at

@@ -7,7 +7,7 @@ use Rattle.xf_tree.proofs.walk.last_kin.Goals as goal
 
 pub loop-next-init : goal.loop-next-init
 loop-next-init c =
-    let rows = c.args.rows.now in
+    let rows = c.args.rows.now.items in
     let at = c.args.at in
     let next = c.climb_to-next.result in
     let e : at - 1 + 1 ≡ at = omega (arith, c.requires.order) in
@@ -20,7 +20,7 @@ loop-next-init c =
 
 pub loop-next-preserved : goal.loop-next-preserved
 loop-next-preserved c =
-    let rows = c.args.rows.now in
+    let rows = c.args.rows.now.items in
     let s = c.args.slots.now in
     let at = c.args.at in
     let old = c.loop-next.next in

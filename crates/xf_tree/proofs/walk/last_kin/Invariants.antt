@@ -7,7 +7,7 @@ abbrev pub invariant-loop-next : goal.invariant-loop-next
 invariant-loop-next l = record {
   least : l.above ≤ l.next;
   within : l.next < l.at;
-  same : chosen l.slots (is_kin l.depth false) (between (l.above + 1) (l.next + 1) l.rows) ≡ chosen l.slots (is_kin l.depth false) (between (l.above + 1) l.at l.rows);
+  same : chosen l.slots (is_kin l.depth false) (between (l.above + 1) (l.next + 1) l.rows.items) ≡ chosen l.slots (is_kin l.depth false) (between (l.above + 1) l.at l.rows.items);
 }
 
 abbrev pub decreases-loop-next : goal.decreases-loop-next

@@ -6,8 +6,8 @@ use Rattle.xf_tree.proofs.walk.next_kin.Given as goal
 
 abbrev pub invariant-loop-next : goal.invariant-loop-next
 invariant-loop-next l = record {
-  same : chosen l.slots (is_kin l.depth false) (between l.next l.end l.rows) ≡ chosen l.slots (is_kin l.depth false) (between l.at l.end l.rows);
-  deep : AllDeep l.depth (between l.next l.end l.rows);
+  same : chosen l.slots (is_kin l.depth false) (between l.next l.end l.rows.items) ≡ chosen l.slots (is_kin l.depth false) (between l.at l.end l.rows.items);
+  deep : AllDeep l.depth (between l.next l.end l.rows.items);
 }
 
 abbrev pub decreases-loop-next : goal.decreases-loop-next

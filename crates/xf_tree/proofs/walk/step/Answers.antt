@@ -9,7 +9,7 @@ use Rattle.xf_tree.proofs.walk.step.Goals as goal
 pub returns-in-Some : goal.returns-in-Some
 returns-in-Some c =
     let s = c.args.slots.now in
-    let rows = c.args.rows.now in
+    let rows = c.args.rows.now.items in
     let at = c.in-Up.at in
     let in_rows : at < length rows = subst (IsReady rows) c.in-Up.is c.requires.ready in
     record {
@@ -21,6 +21,6 @@ returns-in-Some c =
 pub returns-in-None : goal.returns-in-None
 returns-in-None c =
     let s = c.args.slots.now in
-    let rows = c.args.rows.now in
+    let rows = c.args.rows.now.items in
     let at = c.in-Up.at in
     ap (left_of s rows) c.in-Up.is ∙ ap (λ l. numbers (map (node_of s) l)) (climbed-none (top_depth (drop at rows)) (reverse (take at rows)) c.in-None.ensures.answer)

@@ -5,7 +5,7 @@ use Rattle.xf_tree.proofs.walk.step_back.Goals as goal
 
 pub returns : goal.returns
 returns c =
-    let rows = c.args.rows.now in
+    let rows = c.args.rows.now.items in
     let next = c.last_kin-next.result in
     let given = c.last_kin-next.ensures in
     let in_rows : next < length rows = omega (arith, given.within, c.requires.ready.1) in

@@ -6,7 +6,7 @@ use Rattle.xf_tree.proofs.walk.step_over_rows.Goals as goal
 
 pub returns : goal.returns
 returns c =
-    let rows = c.args.rows.now in
+    let rows = c.args.rows.now.items in
     let s = c.args.slots.now in
     let next = c.next_plain-next.result in
     let given = c.next_plain-next.ensures in

@@ -1,4 +1,4 @@
-use Rattle.std.proofs.Common.{◌≡◌, ◌+◌, ◌^◌, ◌<◌, ◌≤◌, length, sym, ap, ◌∙◌, subst, arith, vec_capacity}
+use Rattle.std.proofs.Common.{◌≡◌, ◌+◌, ◌^◌, ◌<◌, ◌≤◌, length, sym, ap, ◌∙◌, subst, arith}
 use Rattle.xf_tree.specs.Calls.{with_contents}
 use Rattle.xf_tree.specs.Tree.{IsState, AllLive, keeping_of, size_of_all}
 use Rattle.xf_tree.proofs.PushLemmas.{kept-live}
@@ -9,15 +9,15 @@ use Rattle.xf_tree.proofs.forest.Forest.add.Goals.{After-push_tree}
 pub invariant_of-self : goal.invariant_of-self
 invariant_of-self c =
     let s = c.self.inside.slots in
-    let same : vec_capacity c.self.inside.rows ≤ vec_capacity c.self.inside.rows = omega arith in
+    let same : c.self.inside.rows.capacity ≤ c.self.inside.rows.capacity = omega arith in
     same-state s c.reserve.new.self c.self.inside.rows.items c.self.inside.kept.items c.self.inside.next c.self.inside.count c.self.inside.bytes _ _ (c.reserve.ensures.same) same c.self.invariant
 
 pub invariant_of-self-in_err-reserve-2 : goal.invariant_of-self-in_err-reserve-2
 invariant_of-self-in_err-reserve-2 c =
     let s = c.self.inside.slots in
     let state = same-state s c.reserve.new.self c.self.inside.rows.items c.self.inside.kept.items c.self.inside.next c.self.inside.count c.self.inside.bytes _ _ (c.reserve.ensures.same)
-    c.reserve-2.ensures.capacity c.self.invariant in
-    subst (λ r. IsState c.reserve.new.self r c.self.inside.kept.items c.self.inside.next c.self.inside.count c.self.inside.bytes (vec_capacity c.reserve-2.new.self)) (sym c.reserve-2.ensures.items) state
+    c.reserve-2.ensures.spare c.self.invariant in
+    subst (λ r. IsState c.reserve.new.self r c.self.inside.kept.items c.self.inside.next c.self.inside.count c.self.inside.bytes c.reserve-2.new.self.capacity) (sym c.reserve-2.ensures.items) state
 
 pub push_tree-requires-clause-live : goal.push_tree-requires-clause-live
 push_tree-requires-clause-live c =
@@ -42,12 +42,12 @@ overflow_add-self-3 c =
     )
 
 -- the state before the tree came in, with the room that was made
-reserved : (c : After-push_tree) → IsState c.reserve.new.self c.reserve-2.new.self.items c.self.inside.kept.items c.self.inside.next c.self.inside.count c.self.inside.bytes (vec_capacity c.reserve-2.new.self)
+reserved : (c : After-push_tree) → IsState c.reserve.new.self c.reserve-2.new.self.items c.self.inside.kept.items c.self.inside.next c.self.inside.count c.self.inside.bytes c.reserve-2.new.self.capacity
 reserved c =
     let s = c.self.inside.slots in
     let state = same-state s c.reserve.new.self c.self.inside.rows.items c.self.inside.kept.items c.self.inside.next c.self.inside.count c.self.inside.bytes _ _ (c.reserve.ensures.same)
-    c.reserve-2.ensures.capacity c.self.invariant in
-    subst (λ r. IsState c.reserve.new.self r c.self.inside.kept.items c.self.inside.next c.self.inside.count c.self.inside.bytes (vec_capacity c.reserve-2.new.self)) (sym c.reserve-2.ensures.items) state
+    c.reserve-2.ensures.spare c.self.invariant in
+    subst (λ r. IsState c.reserve.new.self r c.self.inside.kept.items c.self.inside.next c.self.inside.count c.self.inside.bytes c.reserve-2.new.self.capacity) (sym c.reserve-2.ensures.items) state
 
 more-is : (c : After-push_tree) → c.len-more.result ≡ length c.args.tree.items
 more-is c = c.len-more.ensures ∙ c.args.tree.ok.0
@@ -61,13 +61,13 @@ invariant_of-self-2 c =
     let rows = c.reserve-2.new.self.items in
     let kept = c.self.inside.kept.items in
     let short = ap length c.reserve-2.ensures.items in
-    let few : length rows + length cs + length kept < 2 ^ 31 = omega (arith, c.if-more-len.false, c.len.ensures, c.len-kept.ensures, c.self.inside.rows.ok.0, c.self.inside.kept.ok.0, more) in
-    let most : length rows + length cs + length kept ≤ vec_capacity c.push_tree.new.rows =
-    omega (arith, c.in_ok-reserve-2.ensures.ok, c.push_tree.ensures.room, c.len-kept.ensures, c.reserve-2.new.self.ok.0, c.self.inside.kept.ok.0, more) in
+    let few : length rows + length cs + length kept < 2 ^ 31 = omega (arith, c.if-more-len.false, c.len.ensures, c.len-kept.ensures, c.self.inside.kept.ok.0, more) in
+    let most : length rows + length cs + length kept ≤ c.push_tree.new.rows.capacity =
+    omega (arith, c.in_ok-reserve-2.ensures.room, c.push_tree.ensures.room, c.len-kept.ensures, c.self.inside.kept.ok.0, more) in
     let state = added-state c.reserve.new.self c.push_tree.new.slots rows c.push_tree.new.rows.items kept c.self.inside.next c.self.inside.count c.self.inside.bytes _ cs (reserved k)
-    c.push_tree.ensures.front c.push_tree.ensures.nodes c.push_tree.ensures.rest (vec_capacity c.push_tree.new.rows) c.requires.tree c.push_tree.ensures.sized c.push_tree.ensures.live few c.push_tree.ensures.small most in
-    let numbers = subst (λ n. IsState c.push_tree.new.slots c.push_tree.new.rows.items kept (c.self.inside.next + n) (c.self.inside.count + n) (c.self.inside.bytes + size_of_all cs) (vec_capacity c.push_tree.new.rows)) (sym more) state in
-    subst (λ z. IsState c.push_tree.new.slots c.push_tree.new.rows.items kept (c.self.inside.next + c.len-more.result) (c.self.inside.count + c.len-more.result) (c.self.inside.bytes + z) (vec_capacity c.push_tree.new.rows)) (sym size) numbers
+    c.push_tree.ensures.front c.push_tree.ensures.nodes c.push_tree.ensures.rest c.push_tree.new.rows.capacity c.requires.tree c.push_tree.ensures.sized c.push_tree.ensures.live few c.push_tree.ensures.small most in
+    let numbers = subst (λ n. IsState c.push_tree.new.slots c.push_tree.new.rows.items kept (c.self.inside.next + n) (c.self.inside.count + n) (c.self.inside.bytes + size_of_all cs) c.push_tree.new.rows.capacity) (sym more) state in
+    subst (λ z. IsState c.push_tree.new.slots c.push_tree.new.rows.items kept (c.self.inside.next + c.len-more.result) (c.self.inside.count + c.len-more.result) (c.self.inside.bytes + z) c.push_tree.new.rows.capacity) (sym size) numbers
 
 pub returns-clause-ok : goal.returns-clause-ok
 returns-clause-ok c =

@@ -1,4 +1,4 @@
-use Rattle.std.proofs.Common.{◌≡◌, ◌+◌, ◌^◌, ◌<◌, ◌≤◌, ◌==◌, Some, true, length, get_or, option_map, sym, ap, ◌∙◌, subst, arith, vec_capacity}
+use Rattle.std.proofs.Common.{◌≡◌, ◌+◌, ◌^◌, ◌<◌, ◌≤◌, ◌==◌, Some, true, length, get_or, option_map, sym, ap, ◌∙◌, subst, arith}
 use Rattle.slab.specs.Slab.{get}
 use Rattle.xf_doc.specs.declared.content.Node.{Node}
 use Rattle.xf_doc.specs.declared.content.Kind.TheVariants as kind
@@ -17,15 +17,15 @@ use Rattle.xf_tree.proofs.forest.Forest.add_root.Goals.{After-root_over-place}
 pub invariant_of-self : goal.invariant_of-self
 invariant_of-self c =
     let s = c.self.inside.slots in
-    let same : vec_capacity c.self.inside.rows ≤ vec_capacity c.self.inside.rows = omega arith in
+    let same : c.self.inside.rows.capacity ≤ c.self.inside.rows.capacity = omega arith in
     same-state s c.reserve.new.self c.self.inside.rows.items c.self.inside.kept.items c.self.inside.next c.self.inside.count c.self.inside.bytes _ _ (c.reserve.ensures.same) same c.self.invariant
 
 pub invariant_of-self-in_err-reserve-2 : goal.invariant_of-self-in_err-reserve-2
 invariant_of-self-in_err-reserve-2 c =
     let s = c.self.inside.slots in
     let state = same-state s c.reserve.new.self c.self.inside.rows.items c.self.inside.kept.items c.self.inside.next c.self.inside.count c.self.inside.bytes _ _ (c.reserve.ensures.same)
-    c.reserve-2.ensures.capacity c.self.invariant in
-    subst (λ r. IsState c.reserve.new.self r c.self.inside.kept.items c.self.inside.next c.self.inside.count c.self.inside.bytes (vec_capacity c.reserve-2.new.self)) (sym c.reserve-2.ensures.items) state
+    c.reserve-2.ensures.spare c.self.invariant in
+    subst (λ r. IsState c.reserve.new.self r c.self.inside.kept.items c.self.inside.next c.self.inside.count c.self.inside.bytes c.reserve-2.new.self.capacity) (sym c.reserve-2.ensures.items) state
 
 pub root_over-place-requires-clause-top : goal.root_over-place-requires-clause-top
 root_over-place-requires-clause-top c =
@@ -33,21 +33,21 @@ root_over-place-requires-clause-top c =
     let s = c.self.inside.slots in
     let rows = c.self.inside.rows.items in
     let at = c.in-Some.at in
-    let here = subst (λ r. StandsAt s r n at) c.deref.ensures.value c.in-Some.ensures in
+    let here = c.in-Some.ensures in
     let may = subst (λ (k : Keeping). is_top n k.forest.nodes ≡ true) (sym c.self.view_is) c.requires.may.detached in
     let top = named-meets n (λ (x : Node). x.depth == 0) _ _ _ _ (stands s n at rows here (one_of s rows c.self.inside.kept.items c.self.inside.next n c.self.invariant.sound)) may in
     ap (λ r. (get_or r at no_row).depth) c.reserve-2.ensures.items ∙ zero-depth (get_or rows at no_row).depth top
 
 -- the state before the root came in, with the room that was made
-reserved : (c : After-root_over-place) → IsState c.reserve.new.self c.reserve-2.new.self.items c.self.inside.kept.items c.self.inside.next c.self.inside.count c.self.inside.bytes (vec_capacity c.reserve-2.new.self)
+reserved : (c : After-root_over-place) → IsState c.reserve.new.self c.reserve-2.new.self.items c.self.inside.kept.items c.self.inside.next c.self.inside.count c.self.inside.bytes c.reserve-2.new.self.capacity
 reserved c =
     let s = c.self.inside.slots in
     let state = same-state s c.reserve.new.self c.self.inside.rows.items c.self.inside.kept.items c.self.inside.next c.self.inside.count c.self.inside.bytes _ _ (c.reserve.ensures.same)
-    c.reserve-2.ensures.capacity c.self.invariant in
-    subst (λ r. IsState c.reserve.new.self r c.self.inside.kept.items c.self.inside.next c.self.inside.count c.self.inside.bytes (vec_capacity c.reserve-2.new.self)) (sym c.reserve-2.ensures.items) state
+    c.reserve-2.ensures.spare c.self.invariant in
+    subst (λ r. IsState c.reserve.new.self r c.self.inside.kept.items c.self.inside.next c.self.inside.count c.self.inside.bytes c.reserve-2.new.self.capacity) (sym c.reserve-2.ensures.items) state
 
 standing-here : (c : After-root_over-place) → StandsAt c.self.inside.slots c.self.inside.rows.items c.args.top.number c.in-Some.at
-standing-here c = subst (λ r. StandsAt c.self.inside.slots r c.args.top.number c.in-Some.at) c.deref.ensures.value c.in-Some.ensures
+standing-here c = c.in-Some.ensures
 
 standing-reserved : (c : After-root_over-place) → StandsAt c.reserve.new.self c.reserve-2.new.self.items c.args.top.number c.in-Some.at
 standing-reserved c =
@@ -83,11 +83,11 @@ invariant_of-self-2 c =
     let rows = c.reserve-2.new.self.items in
     let kept = c.self.inside.kept.items in
     let short = ap length c.reserve-2.ensures.items in
-    let few : length rows + 1 + length kept < 2 ^ 31 = omega (arith, c.if-len-kept.false, c.len.ensures, c.len-kept.ensures, c.self.inside.rows.ok.0, c.self.inside.kept.ok.0) in
-    let most : length rows + 1 + length kept ≤ vec_capacity c.root_over-place.new.rows =
-    omega (arith, c.in_ok-reserve-2.ensures.ok, c.root_over-place.ensures.room, c.len-kept.ensures, c.reserve-2.new.self.ok.0, c.self.inside.kept.ok.0) in
+    let few : length rows + 1 + length kept < 2 ^ 31 = omega (arith, c.if-len-kept.false, c.len.ensures, c.len-kept.ensures, c.self.inside.kept.ok.0) in
+    let most : length rows + 1 + length kept ≤ c.root_over-place.new.rows.capacity =
+    omega (arith, c.in_ok-reserve-2.ensures.room, c.root_over-place.ensures.room, c.len-kept.ensures, c.self.inside.kept.ok.0) in
     over-state c.reserve.new.self c.root_over-place.new.slots c.args.top.number c.in-Some.at c.root_over-place.result c.self.inside.next c.self.inside.count c.self.inside.bytes _ rows c.root_over-place.new.rows.items kept
-    (reserved k) (standing-reserved k) (at-top k) c.root_over-place.ensures.answer (vec_capacity c.root_over-place.new.rows) (element-there k) few most
+    (reserved k) (standing-reserved k) (at-top k) c.root_over-place.ensures.answer c.root_over-place.new.rows.capacity (element-there k) few most
 
 pub returns-clause-ok : goal.returns-clause-ok
 returns-clause-ok c =

@@ -1,7 +1,6 @@
-use Rattle.std.proofs.Common.{sym, ap, ◌∙◌, subst}
+use Rattle.std.proofs.Common.{sym, ap, ◌∙◌}
 use Rattle.xf_doc.specs.Order.{is_before}
 use Rattle.xf_doc.specs.Texts.{Keeping}
-use Rattle.xf_tree.specs.Tree.{StandsAt}
 use Rattle.xf_tree.proofs.PlaceLemmas.{before-means}
 use Rattle.xf_tree.proofs.forest.Forest.before.Goals as goal
 
@@ -13,6 +12,6 @@ returns-in-Some-Some c =
     let rows = c.self.inside.rows.items in
     let at = c.in-Some-Some.one in
     let to = c.in-Some-Some.other in
-    let here = subst (λ r. StandsAt s r n at) c.deref.ensures.value c.in-Some-Some.ensures in
-    let there = subst (λ r. StandsAt s r m to) c.deref-2.ensures.value c.in-Some-Some.ensures' in
+    let here = c.in-Some-Some.ensures in
+    let there = c.in-Some-Some.ensures' in
     sym (before-means s n m at to rows c.self.inside.kept.items c.self.inside.next c.self.invariant.sound here there) ∙ ap (λ (k : Keeping). is_before n m k.forest.nodes) c.self.view_is

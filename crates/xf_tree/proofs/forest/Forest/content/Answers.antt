@@ -1,11 +1,10 @@
-use Rattle.std.proofs.Common.{map, false, ◌≡◌, option_map, sym, ap, ◌∙◌, subst}
-use Rattle.std.proofs.lemmas.List.{get_or_default}
+use Rattle.std.proofs.Common.{map, false, ◌≡◌, option_map, sym, ap, ◌∙◌}
 use Rattle.slab.specs.Slab.{get}
 use Rattle.xf_doc.specs.Forest.{has_number, content_at}
 use Rattle.xf_doc.specs.Texts.{Keeping}
 use Rattle.xf_tree.specs.declared.rows.Row.{Row}
 use Rattle.xf_tree.specs.Slot.{Slot}
-use Rattle.xf_tree.specs.Tree.{StandsAt, no_row, node_of}
+use Rattle.xf_tree.specs.Tree.{node_of}
 use Rattle.xf_tree.proofs.ReadLemmas.{absent-content, slot-content}
 use Rattle.xf_tree.proofs.forest.Forest.content.Goals as goal
 
@@ -15,8 +14,8 @@ returns-in-Some c =
     let s = c.self.inside.slots in
     let rows = c.self.inside.rows.items in
     let at = c.in-Some.at in
-    let here = subst (λ r. StandsAt s r n at) c.deref.ensures.value c.in-Some.ensures in
-    let row = c.index.ensures ∙ get_or_default rows at _ no_row here.within in
+    let here = c.in-Some.ensures in
+    let row = c.at.ensures in
     c.content_of.ensures ∙ ap (λ (r : Row). option_map (λ (p : Slot). p.content) (get s r.key)) row
     ∙ slot-content s n at rows c.self.inside.kept.items c.self.inside.next c.self.invariant.sound here ∙ ap (λ (k : Keeping). content_at n k.forest.nodes) c.self.view_is
 
@@ -24,5 +23,5 @@ pub returns-in-None : goal.returns-in-None
 returns-in-None c =
     let n = c.args.node.number in
     let s = c.self.inside.slots in
-    let absent : has_number n (map (node_of s) c.self.inside.rows.items) ≡ false = subst (λ r. has_number n (map (node_of s) r) ≡ false) c.deref.ensures.value c.in-None.ensures in
+    let absent : has_number n (map (node_of s) c.self.inside.rows.items) ≡ false = c.in-None.ensures in
     sym (absent-content n (map (node_of s) c.self.inside.rows.items) absent) ∙ ap (λ (k : Keeping). content_at n k.forest.nodes) c.self.view_is

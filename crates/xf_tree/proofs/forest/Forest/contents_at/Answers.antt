@@ -1,7 +1,6 @@
 use Rattle.std.proofs.Common.{◌≡◌, ◌-◌, ◌==◌, ◌&&◌, not, true, false, ℕ, List, map, length, take, drop, get_or, sym, ap, ◌∙◌, subst, arith}
 use Rattle.std.specs.Prelude.{IfOk, Result, Ok, Err}
 use Rattle.std.specs.List.{list_any}
-use Rattle.std.proofs.lemmas.List.{get_or_default}
 use Rattle.xf_doc.specs.declared.content.Node.{Node}
 use Rattle.xf_doc.specs.declared.content.Content.{Content}
 use Rattle.xf_doc.specs.Changes.{contents_in}
@@ -21,7 +20,7 @@ ok-tree (Ok v) items l e tree = subst IsTree (sym e) tree
 ok-tree (Err e) items l h tree = tt
 
 stands-here : (c : After-contents_of) → StandsAt c.self.inside.slots c.self.inside.rows.items c.args.node.number c.in-Some.at
-stands-here c = subst (λ r. StandsAt c.self.inside.slots r c.args.node.number c.in-Some.at) c.deref.ensures.value c.in-Some.ensures
+stands-here c = c.in-Some.ensures
 
 -- what was read are the parts of the node's tree
 parts-here : (c : After-contents_of) → IfOk c.contents_of.result (λ tree. tree.items ≡ map (part_of c.self.inside.slots (get_or c.self.inside.rows.items c.in-Some.at no_row).depth) (row_tree (drop c.in-Some.at c.self.inside.rows.items)))
@@ -30,11 +29,11 @@ parts-here c =
     let rows = c.self.inside.rows.items in
     let at = c.in-Some.at in
     let here = stands-here c in
-    let end : c.end_of-end.result - at ≡ length (row_tree (drop at rows)) = omega (arith, c.end_of-end.ensures.answer, ap (λ l. length (row_tree (drop at l))) c.deref-in-Some.ensures.value) in
-    let slice : take (c.end_of-end.result - at) (drop at c.deref-in-Some-2.result.now) ≡ row_tree (drop at rows) =
-    ap (λ l. take (c.end_of-end.result - at) (drop at l)) c.deref-in-Some-2.ensures.value ∙ (tree-is-front (drop at rows) (c.end_of-end.result - at) end).0 in
-    let row = ap (λ (r : Row). r.depth) (c.index.ensures ∙ get_or_default rows at _ no_row here.within) in
-    let same = ap (λ l. map (part_of s c.index.result.now.depth) l) slice ∙ ap (λ d. map (part_of s d) (row_tree (drop at rows))) row in
+    let end : c.end_of-end.result - at ≡ length (row_tree (drop at rows)) = omega (arith, c.end_of-end.ensures.answer) in
+    let slice : take (c.end_of-end.result - at) (drop at rows) ≡ row_tree (drop at rows) =
+    (tree-is-front (drop at rows) (c.end_of-end.result - at) end).0 in
+    let row = ap (λ (r : Row). r.depth) (c.at.ensures) in
+    let same = ap (λ l. map (part_of s c.at.result.depth) l) (c.slice.ensures ∙ slice) ∙ ap (λ d. map (part_of s d) (row_tree (drop at rows))) row in
     subst (λ (l : List (ℕ × Content)). IfOk c.contents_of.result (λ tree. tree.items ≡ l)) same c.contents_of.ensures
 
 pub returns-in-Some-clause-answer : goal.returns-in-Some-clause-answer
@@ -62,6 +61,6 @@ pub returns-in-None-clause-answer : goal.returns-in-None-clause-answer
 returns-in-None-clause-answer c =
     let n = c.args.node.number in
     let s = c.self.inside.slots in
-    let absent : has_number n (map (node_of s) c.self.inside.rows.items) ≡ false = subst (λ r. has_number n (map (node_of s) r) ≡ false) c.deref.ensures.value c.in-None.ensures in
+    let absent : has_number n (map (node_of s) c.self.inside.rows.items) ≡ false = c.in-None.ensures in
     let may = subst (λ (q : Keeping). list_any (λ (y : Node). (y.number == n) && not (is_root y.content)) q.forest.nodes ≡ true) (sym c.self.view_is) c.requires in
     absurd (nothing-copied n _ absent may)

@@ -1,7 +1,6 @@
-use Rattle.std.proofs.Common.{◌≡◌, ℕ, ◌+◌, ◌<◌, List, length, map, drop, get_or, Option, Some, None, false, sym, ap, ◌∙◌, subst, arith}
+use Rattle.std.proofs.Common.{◌≡◌, ℕ, ◌<◌, List, length, map, get_or, Option, Some, None, false, sym, ap, ◌∙◌, arith}
 use Rattle.std.specs.Prelude.{is_some}
 use Rattle.std.proofs.lemmas.Bool.{false≢true}
-use Rattle.std.proofs.lemmas.List.{get_or_default}
 use Rattle.slab.specs.Slab.{get}
 use Rattle.xf_doc.specs.declared.content.Node.{Node}
 use Rattle.xf_doc.specs.Forest.{has_number}
@@ -9,8 +8,8 @@ use Rattle.xf_doc.specs.Changes.{detached, standing}
 use Rattle.xf_doc.specs.Texts.{Keeping}
 use Rattle.xf_doc.specs.Visit.{visits, parent_of}
 use Rattle.xf_tree.specs.declared.rows.Row.{Row}
-use Rattle.xf_tree.specs.Rows.{parent_row_of, tree_of}
-use Rattle.xf_tree.specs.Tree.{StandsAt, node_of, kept_of, number_at, number_in, kin_before, no_row}
+use Rattle.xf_tree.specs.Rows.{parent_row_of}
+use Rattle.xf_tree.specs.Tree.{node_of, kept_of, number_at, number_in, kin_before, no_row}
 use Rattle.xf_tree.proofs.StackLemmas.{absent-parent}
 use Rattle.xf_tree.proofs.ParentLemmas.{parent-means}
 use Rattle.xf_tree.proofs.PlaceLemmas.{one_of}
@@ -18,14 +17,14 @@ use Rattle.xf_tree.proofs.AboveLemmas.{above-is, above-inside, child-depth, stan
 use Rattle.xf_tree.proofs.ForestLemmas.{cut-means}
 use Rattle.xf_tree.proofs.StateLemmas.{cut-state}
 use Rattle.xf_tree.proofs.forest.Forest.detach.Goals as goal
-use Rattle.xf_tree.proofs.forest.Forest.detach.Goals.{In_default, In_default-parent_row, After-deref-3}
+use Rattle.xf_tree.proofs.forest.Forest.detach.Goals.{In_default, In_default-parent_row}
 
 nowhere : (c : In_default) → ⊥
 nowhere c =
     let n = c.args.node.number in
     let s = c.self.inside.slots in
     let rows = c.self.inside.rows.items in
-    let absent : has_number n (map (node_of s) rows) ≡ false = subst (λ r. has_number n (map (node_of s) r) ≡ false) c.deref.ensures.value c.in_default.ensures in
+    let absent : has_number n (map (node_of s) rows) ≡ false = c.in_default.ensures in
     let none = absent-parent n (map (node_of s) rows) absent in
     false≢true (ap is_some (sym none ∙ ap (λ (k : Keeping). parent_of n (visits k.forest.nodes)) c.self.view_is) ∙ c.requires.below)
 
@@ -41,9 +40,9 @@ topmost c =
     let s = c.self.inside.slots in
     let rows = c.self.inside.rows.items in
     let at = c.in-Some.at in
-    let here = subst (λ r. StandsAt s r n at) c.deref.ensures.value c.in-Some.ensures in
+    let here = c.in-Some.ensures in
     let means = parent-means s n at rows here (one_of s rows c.self.inside.kept.items c.self.inside.next n c.self.invariant.sound) in
-    let is : None ≡ parent_row_of rows at = c.in_default-parent_row.ensures.answer ∙ ap (λ l. parent_row_of l at) c.deref-2.ensures.value in
+    let is : None ≡ parent_row_of rows at = c.in_default-parent_row.ensures.answer in
     let none : parent_of n (visits (map (node_of s) rows)) ≡ None = means ∙ ap (number_at s rows) (sym is) in
     false≢true (ap is_some (sym none ∙ ap (λ (k : Keeping). parent_of n (visits k.forest.nodes)) c.self.view_is) ∙ c.requires.below)
 
@@ -53,60 +52,50 @@ returns-in_default-parent_row-clause-moved c = absurd (topmost c)
 pub returns-in_default-parent_row-clause-stood : goal.returns-in_default-parent_row-clause-stood
 returns-in_default-parent_row-clause-stood c = absurd (topmost c)
 
--- where the node's row and the parent's stand
-stands-here : (c : After-deref-3) → StandsAt c.self.inside.slots c.self.inside.rows.items c.args.node.number c.in-Some.at
-stands-here c = subst (λ r. StandsAt c.self.inside.slots r c.args.node.number c.in-Some.at) c.deref.ensures.value c.in-Some.ensures
-
-above-here : (c : After-deref-3) → Some c.in-Some-parent_row.above ≡ parent_row_of c.self.inside.rows.items c.in-Some.at
-above-here c = c.in-Some-parent_row.ensures.answer ∙ ap (λ l. parent_row_of l c.in-Some.at) c.deref-2.ensures.value
-
 pub place_of-place-requires-clause-inside : goal.place_of-place-requires-clause-inside
 place_of-place-requires-clause-inside c =
-    let c5 = (goal.at.place_of-place-requires-clause-inside c).After-deref-3 in
     let rows = c.self.inside.rows.items in
-    let here = stands-here c5 in
+    let here = c.in-Some.ensures in
     let above = c.in-Some-parent_row.above in
-    let i = above-inside rows above c.in-Some.at here.within (above-is rows above c.in-Some.at here.within (above-here c5)) in
-    subst (λ r. c.in-Some.at < above + length (tree_of (drop above r))) (sym c.deref-3.ensures.value) i
+    let i = above-inside rows above c.in-Some.at here.within (above-is rows above c.in-Some.at here.within (c.in-Some-parent_row.ensures.answer)) in
+    i
 
 pub place_of-place-requires-clause-child : goal.place_of-place-requires-clause-child
 place_of-place-requires-clause-child c =
-    let c5 = (goal.at.place_of-place-requires-clause-child c).After-deref-3 in
     let rows = c.self.inside.rows.items in
-    let here = stands-here c5 in
+    let here = c.in-Some.ensures in
     let above = c.in-Some-parent_row.above in
-    let i = child-depth rows above c.in-Some.at here.within c.self.invariant.sound.steps (above-is rows above c.in-Some.at here.within (above-here c5)) in
-    subst (λ r. (get_or r c.in-Some.at no_row).depth ≡ (get_or r above no_row).depth + 1) (sym c.deref-3.ensures.value) i
+    let i = child-depth rows above c.in-Some.at here.within c.self.invariant.sound.steps (above-is rows above c.in-Some.at here.within (c.in-Some-parent_row.ensures.answer)) in
+    i
 
 pub invariant_of-self : goal.invariant_of-self
 invariant_of-self c =
-    let here = stands-here (goal.at.invariant_of-self c).After-deref-3 in
-    cut-state c.self.inside.slots c.in-Some.at c.self.inside.next c.self.inside.count c.self.inside.bytes _ _ c.self.inside.kept.items c.self.inside.rows.items c.cut_in.new.rows.items
-    c.self.invariant here.within c.cut_in.ensures.sized c.cut_in.ensures.answer c.cut_in.ensures.room
+    let here = c.in-Some.ensures in
+    cut-state c.self.inside.slots c.in-Some.at c.self.inside.next c.self.inside.count c.self.inside.bytes _ _ c.self.inside.kept.items c.self.inside.rows.items c.cut.new.rows.items
+    c.self.invariant here.within c.cut.ensures.sized c.cut.ensures.answer c.cut.ensures.room
 
 pub returns-clause-moved : goal.returns-clause-moved
 returns-clause-moved c =
     let n = c.args.node.number in
     let s = c.self.inside.slots in
     let rows = c.self.inside.rows.items in
-    let here = stands-here (goal.at.returns-clause-moved c).After-deref-3 in
-    let e = cut-means s n c.in-Some.at rows c.cut_in.new.rows.items here (one_of s rows c.self.inside.kept.items c.self.inside.next n c.self.invariant.sound) c.cut_in.ensures.answer in
+    let here = c.in-Some.ensures in
+    let e = cut-means s n c.in-Some.at rows c.cut.new.rows.items here (one_of s rows c.self.inside.kept.items c.self.inside.next n c.self.invariant.sound) c.cut.ensures.answer in
     let whole : List Node → Keeping = λ l. record { forest = record { nodes = l; next = c.self.inside.next }; kept = map (kept_of s) c.self.inside.kept.items } in
     ap whole e ∙ ap (λ (k : Keeping). record k { forest = detached n k.forest }) c.self.view_is
 
 pub returns-clause-stood : goal.returns-clause-stood
 returns-clause-stood c =
-    let c5 = (goal.at.returns-clause-stood c).After-deref-3 in
     let n = c.args.node.number in
     let s = c.self.inside.slots in
     let rows = c.self.inside.rows.items in
     let at = c.in-Some.at in
     let above = c.in-Some-parent_row.above in
-    let here = stands-here c5 in
+    let here = c.in-Some.ensures in
     let within : above < length rows = omega (arith, here.within, c.in-Some-parent_row.ensures.within) in
-    let row = c.index.ensures ∙ get_or_default rows above _ no_row within in
+    let row = c.at-key.ensures in
     let number : c.number_of-number.result ≡ number_in (get s (get_or rows above no_row).key) = c.number_of-number.ensures ∙ ap (λ (r : Row). number_in (get s r.key)) row in
-    let place : c.place_of-place.result ≡ kin_before s rows above at = c.place_of-place.ensures ∙ ap (λ r. kin_before s r above at) c.deref-3.ensures.value in
-    let means = standing-means s rows c.self.inside.kept.items c.self.inside.next n above at c.self.invariant.sound here (above-here c5) in
+    let place : c.place_of-place.result ≡ kin_before s rows above at = c.place_of-place.ensures in
+    let means = standing-means s rows c.self.inside.kept.items c.self.inside.next n above at c.self.invariant.sound here (c.in-Some-parent_row.ensures.answer) in
     let pair : ℕ → ℕ → Option (ℕ × ℕ) = λ a b. Some (a, b) in
     ap (λ a. pair a c.place_of-place.result) number ∙ ap (pair (number_in (get s (get_or rows above no_row).key))) place ∙ sym means ∙ ap (λ (k : Keeping). standing n k.forest.nodes) c.self.view_is

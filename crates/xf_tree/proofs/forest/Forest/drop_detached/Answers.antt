@@ -1,13 +1,12 @@
-use Rattle.std.proofs.Common.{◌≡◌, ◌-◌, ◌≤◌, ℕ, List, [], map, length, take, drop, sym, ap, ◌∙◌, subst, arith, vec_capacity, length-take}
-use Rattle.std.proofs.lemmas.List.{take-append-drop, map-append}
+use Rattle.std.proofs.Common.{◌≡◌, ◌-◌, ◌≤◌, ℕ, List, [], map, length, take, drop, sym, ap, ◌∙◌, subst, arith, length-take}
+use Rattle.std.proofs.lemmas.List.{take-append-drop, map-append, take_rest}
 use Rattle.xf_doc.specs.declared.content.Node.{Node}
 use Rattle.xf_doc.specs.Changes.{in_instances}
 use Rattle.xf_doc.specs.Limits.{node_count, all_size}
 use Rattle.xf_doc.specs.Texts.{Keeping, without_detached}
-use Rattle.xf_tree.specs.Rows.{deeper}
 use Rattle.xf_tree.specs.Tree.{node_of, kept_of, times, KeepsBut, IsState}
 use Rattle.xf_tree.proofs.NodeLemmas.{times-append}
-use Rattle.xf_tree.proofs.DropLemmas.{rest-of, dropped-state, dropped-nodes, front-parted, front-shaped}
+use Rattle.xf_tree.proofs.DropLemmas.{dropped-state, dropped-nodes, front-parted, front-shaped}
 use Rattle.xf_tree.proofs.forest.Forest.drop_detached.Goals as goal
 use Rattle.xf_tree.proofs.forest.Forest.drop_detached.Goals.{After-truncate}
 
@@ -16,12 +15,12 @@ free_rows-requires c = λ n.
     let s = c.self.inside.slots in
     let rows = c.self.inside.rows.items in
     let end = c.tops_end-end.result in
-    let e = ap (λ l. times n (map (node_of s) l)) (rest-of end c.deref-2.result.now rows c.deref-2.ensures.value) in
+    let e = ap (λ l. times n (map (node_of s) l)) (c.slice.ensures ∙ ap (λ k. take (k - end) (drop end rows)) c.len.ensures ∙ take_rest rows end) in
     let a = ap (λ l. times n (map (node_of s) l)) (sym (take-append-drop end rows)) ∙ ap (times n) (map-append (node_of s) (take end rows) (drop end rows)) ∙ times-append n (map (node_of s) (take end rows)) (map (node_of s) (drop end rows)) in
     omega (arith, c.self.invariant.sound.apart n)
 
 rows-rest : (c : After-truncate) → KeepsBut c.self.inside.slots c.free_rows.new.slots (map (node_of c.self.inside.slots) (drop c.tops_end-end.result c.self.inside.rows.items))
-rows-rest c = subst (λ l. KeepsBut c.self.inside.slots c.free_rows.new.slots (map (node_of c.self.inside.slots) l)) (rest-of c.tops_end-end.result c.deref-2.result.now c.self.inside.rows.items c.deref-2.ensures.value) c.free_rows.ensures.rest
+rows-rest c = subst (λ l. KeepsBut c.self.inside.slots c.free_rows.new.slots (map (node_of c.self.inside.slots) l)) (c.slice.ensures ∙ ap (λ k. take (k - c.tops_end-end.result) (drop c.tops_end-end.result c.self.inside.rows.items)) c.len.ensures ∙ take_rest c.self.inside.rows.items c.tops_end-end.result) c.free_rows.ensures.rest
 
 pub invariant_of-self : goal.invariant_of-self
 invariant_of-self c =
@@ -29,19 +28,19 @@ invariant_of-self c =
     let s = c.self.inside.slots in
     let rows = c.self.inside.rows.items in
     let end = c.tops_end-end.result in
-    let gone = rest-of end c.deref-2.result.now rows c.deref-2.ensures.value in
+    let gone = c.slice.ensures ∙ ap (λ k. take (k - end) (drop end rows)) c.len.ensures ∙ take_rest rows end in
     let total = c.free_rows.ensures.total ∙ ap (λ l. c.self.inside.count - node_count (map (node_of s) l)) gone in
     let size = c.free_rows.ensures.size ∙ ap (λ l. c.self.inside.bytes - all_size (map (node_of s) l)) gone in
-    let stops = subst (λ l. deeper 0 (drop end l) ≡ 0) c.deref.ensures.value c.tops_end-end.ensures.stops in
+    let stops = c.tops_end-end.ensures.stops in
     let kept = c.self.inside.kept.items in
     let next = c.self.inside.next in
     let less : length (take end rows) ≤ length rows = omega (arith, length-take end rows) in
-    let state = dropped-state s c.free_rows.new.slots c.drop_kept.new.slots rows (take end rows) (drop end rows) kept next c.self.inside.count c.self.inside.bytes (vec_capacity c.self.inside.rows) c.self.invariant
+    let state = dropped-state s c.free_rows.new.slots c.drop_kept.new.slots rows (take end rows) (drop end rows) kept next c.self.inside.count c.self.inside.bytes (c.self.inside.rows.capacity) c.self.invariant
     (front-parted s end rows) (rows-rest k) c.drop_kept.ensures.rest
-    c.free_rows.ensures.less c.drop_kept.ensures.less next c.free_rows.new.total c.free_rows.new.size (vec_capacity c.truncate.new.self) (omega (arith, c.truncate.ensures.capacity)) total size
+    c.free_rows.ensures.less c.drop_kept.ensures.less next c.free_rows.new.total c.free_rows.new.size c.truncate.new.self.capacity (omega (arith, c.truncate.ensures.room)) total size
     (front-shaped s end next rows kept c.self.invariant.sound stops) less (λ n h. omega (arith, front-parted s end rows (times n) (times-append n), c.self.invariant.sound.fresh n h)) in
-    let with_rows = subst (λ l. IsState c.drop_kept.new.slots l [] c.self.inside.next c.free_rows.new.total c.free_rows.new.size (vec_capacity c.truncate.new.self)) (sym c.truncate.ensures.items) state in
-    subst (λ l. IsState c.drop_kept.new.slots c.truncate.new.self.items l c.self.inside.next c.free_rows.new.total c.free_rows.new.size (vec_capacity c.truncate.new.self)) (sym c.drop_kept.ensures.none) with_rows
+    let with_rows = subst (λ l. IsState c.drop_kept.new.slots l [] c.self.inside.next c.free_rows.new.total c.free_rows.new.size c.truncate.new.self.capacity) (sym c.truncate.ensures.items) state in
+    subst (λ l. IsState c.drop_kept.new.slots c.truncate.new.self.items l c.self.inside.next c.free_rows.new.total c.free_rows.new.size c.truncate.new.self.capacity) (sym c.drop_kept.ensures.none) with_rows
 
 pub returns : goal.returns
 returns c =
@@ -50,9 +49,9 @@ returns c =
     let s2 = c.drop_kept.new.slots in
     let rows = c.self.inside.rows.items in
     let end = c.tops_end-end.result in
-    let same = dropped-nodes s c.free_rows.new.slots s2 rows (take end rows) (drop end rows) c.self.inside.kept.items c.self.inside.next c.self.inside.count c.self.inside.bytes (vec_capacity c.self.inside.rows) c.self.invariant
+    let same = dropped-nodes s c.free_rows.new.slots s2 rows (take end rows) (drop end rows) c.self.inside.kept.items c.self.inside.next c.self.inside.count c.self.inside.bytes (c.self.inside.rows.capacity) c.self.invariant
     (front-parted s end rows) (rows-rest k) c.drop_kept.ensures.rest in
-    let is : map (node_of s) (take end rows) ≡ in_instances (map (node_of s) rows) = ap (λ l. map (node_of s) (take end l)) (sym c.deref.ensures.value) ∙ c.tops_end-end.ensures.answer ∙ ap (λ l. in_instances (map (node_of s) l)) c.deref.ensures.value in
+    let is : map (node_of s) (take end rows) ≡ in_instances (map (node_of s) rows) = c.tops_end-end.ensures.answer in
     let nodes : map (node_of s2) c.truncate.new.self.items ≡ in_instances (map (node_of s) rows) = ap (map (node_of s2)) c.truncate.ensures.items ∙ same ∙ is in
     let whole : List Node → List ℕ → Keeping = λ l ks. record { forest = record { nodes = l; next = c.self.inside.next }; kept = map (kept_of s2) ks } in
     ap (λ l. whole l c.drop_kept.new.kept.items) nodes ∙ ap (whole (in_instances (map (node_of s) rows))) c.drop_kept.ensures.none ∙ ap without_detached c.self.view_is

@@ -1,4 +1,4 @@
-use Rattle.std.proofs.Common.{◌≡◌, ℕ, List, [], map, true, false, sym, ap, ◌∙◌, subst, arith, nat_lt, vec_capacity}
+use Rattle.std.proofs.Common.{◌≡◌, ℕ, List, [], map, true, false, sym, ap, ◌∙◌, subst, arith, nat_lt}
 use Rattle.std.specs.Prelude.{filter}
 use Rattle.std.specs.List.{list_all}
 use Rattle.xf_doc.specs.declared.content.Node.{Node}
@@ -31,12 +31,12 @@ invariant_of-self c =
     let stay = filter (is_older s n) rows in
     let s2 = c.drop_kept.new.slots in
     let room = c.drop_newer.new.rows in
-    let state = dropped-state s c.drop_newer.new.slots s2 rows stay (filter (is_newer s n) rows) kept next c.self.inside.count c.self.inside.bytes (vec_capacity c.self.inside.rows) c.self.invariant
+    let state = dropped-state s c.drop_newer.new.slots s2 rows stay (filter (is_newer s n) rows) kept next c.self.inside.count c.self.inside.bytes (c.self.inside.rows.capacity) c.self.invariant
     (λ X add. older-parted s n X add rows) c.drop_newer.ensures.rest c.drop_kept.ensures.rest
-    c.drop_newer.ensures.less c.drop_kept.ensures.less n c.drop_newer.new.total c.drop_newer.new.size (vec_capacity room) (omega (arith, c.drop_newer.ensures.room)) c.drop_newer.ensures.total c.drop_newer.ensures.size
+    c.drop_newer.ensures.less c.drop_kept.ensures.less n c.drop_newer.new.total c.drop_newer.new.size room.capacity (omega (arith, c.drop_newer.ensures.room)) c.drop_newer.ensures.total c.drop_newer.ensures.size
     (older-shaped s n next rows kept c.self.invariant.sound (whole-here (goal.at.invariant_of-self c).After-tops_end-from)) (length-older s n rows) (λ m h. times-older s n m rows h) in
-    let with_rows = subst (λ l. IsState s2 l [] n c.drop_newer.new.total c.drop_newer.new.size (vec_capacity room)) (sym c.drop_newer.ensures.stay) state in
-    subst (λ l. IsState s2 room.items l n c.drop_newer.new.total c.drop_newer.new.size (vec_capacity room)) (sym c.drop_kept.ensures.none) with_rows
+    let with_rows = subst (λ l. IsState s2 l [] n c.drop_newer.new.total c.drop_newer.new.size room.capacity) (sym c.drop_newer.ensures.stay) state in
+    subst (λ l. IsState s2 room.items l n c.drop_newer.new.total c.drop_newer.new.size room.capacity) (sym c.drop_kept.ensures.none) with_rows
 
 pub returns : goal.returns
 returns c =
@@ -45,7 +45,7 @@ returns c =
     let rows = c.self.inside.rows.items in
     let stay = filter (is_older s n) rows in
     let s2 = c.drop_kept.new.slots in
-    let same = dropped-nodes s c.drop_newer.new.slots s2 rows stay (filter (is_newer s n) rows) c.self.inside.kept.items c.self.inside.next c.self.inside.count c.self.inside.bytes (vec_capacity c.self.inside.rows) c.self.invariant
+    let same = dropped-nodes s c.drop_newer.new.slots s2 rows stay (filter (is_newer s n) rows) c.self.inside.kept.items c.self.inside.next c.self.inside.count c.self.inside.bytes (c.self.inside.rows.capacity) c.self.invariant
     (λ X add. older-parted s n X add rows) c.drop_newer.ensures.rest c.drop_kept.ensures.rest in
     let older = λ (l : List Node). filter (λ (x : Node). nat_lt x.number n) l in
     let nodes : map (node_of s2) c.drop_newer.new.rows.items ≡ older (map (node_of s) rows) = ap (map (node_of s2)) c.drop_newer.ensures.stay ∙ same ∙ nodes-older s n rows in

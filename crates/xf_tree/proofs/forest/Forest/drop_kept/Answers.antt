@@ -1,4 +1,4 @@
-use Rattle.std.proofs.Common.{◌≤◌, map, sym, ap, ◌∙◌, subst, arith, vec_capacity}
+use Rattle.std.proofs.Common.{◌≤◌, map, sym, ap, ◌∙◌, subst, arith}
 use Rattle.std.specs.Prelude.{filter}
 use Rattle.xf_doc.specs.Texts.{element_texts, given_up}
 use Rattle.xf_tree.specs.Tree.{kept_of, KeepsButKept, IsState, keeping_of}
@@ -20,10 +20,10 @@ pub invariant_of-self : goal.invariant_of-self
 invariant_of-self c =
     let k = (goal.at.invariant_of-self c).After-free_all in
     let ns = numbers_in c.args.texts.items in
-    let same : vec_capacity c.self.inside.rows ≤ vec_capacity c.self.inside.rows = omega arith in
+    let same : c.self.inside.rows.capacity ≤ c.self.inside.rows.capacity = omega arith in
     let state = given-state c.self.inside.slots c.free_all.new.slots c.self.inside.rows.items c.self.inside.kept.items ns c.self.inside.next c.self.inside.count c.self.inside.bytes _ c.self.invariant
-    (keeps-in k) c.free_all.ensures.less (vec_capacity c.self.inside.rows) same in
-    subst (λ l. IsState c.free_all.new.slots c.self.inside.rows.items l c.self.inside.next c.self.inside.count c.self.inside.bytes (vec_capacity c.self.inside.rows)) (sym c.take_kept-first.ensures.left) state
+    (keeps-in k) c.free_all.ensures.less (c.self.inside.rows.capacity) same in
+    subst (λ l. IsState c.free_all.new.slots c.self.inside.rows.items l c.self.inside.next c.self.inside.count c.self.inside.bytes (c.self.inside.rows.capacity)) (sym c.take_kept-first.ensures.left) state
 
 pub returns : goal.returns
 returns c =

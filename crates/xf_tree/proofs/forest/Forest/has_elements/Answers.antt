@@ -1,10 +1,9 @@
-use Rattle.std.proofs.Common.{◌≡◌, ℕ, false, List, [], map, length, nat_lt, refl, sym, ap, ◌∙◌, subst}
-use Rattle.xf_doc.specs.Forest.{has_number, is_element}
+use Rattle.std.proofs.Common.{ℕ, List, [], map, length, nat_lt, refl, sym, ap, ◌∙◌}
+use Rattle.xf_doc.specs.Forest.{is_element}
 use Rattle.xf_doc.specs.Shape.{has_elements}
 use Rattle.xf_doc.specs.Texts.{Keeping}
 use Rattle.xf_doc.specs.Visit.{visits}
-use Rattle.xf_tree.specs.Kids.{kids_at}
-use Rattle.xf_tree.specs.Tree.{StandsAt, node_of}
+use Rattle.xf_tree.specs.Tree.{node_of}
 use Rattle.xf_tree.proofs.ChildLemmas.{kids-mean, elements-are}
 use Rattle.xf_tree.proofs.KidLemmas.{kids-none}
 use Rattle.xf_tree.proofs.forest.Forest.has_elements.Goals as goal
@@ -15,9 +14,9 @@ returns-in-Some c =
     let s = c.self.inside.slots in
     let rows = c.self.inside.rows.items in
     let at = c.in-Some.at in
-    let here = subst (λ r. StandsAt s r n at) c.deref.ensures.value c.in-Some.ensures in
+    let here = c.in-Some.ensures in
     let means = kids-mean is_element s n at rows c.self.inside.kept.items c.self.inside.next c.self.invariant.sound here in
-    c.has_element.ensures ∙ ap (λ r. nat_lt 0 (kids_at is_element s r at)) c.deref-in-Some.ensures.value ∙ ap (nat_lt 0) (sym means) ∙ sym (elements-are n (visits (map (node_of s) rows)))
+    c.has_element.ensures ∙ ap (nat_lt 0) (sym means) ∙ sym (elements-are n (visits (map (node_of s) rows)))
     ∙ ap (λ (k : Keeping). has_elements (visits k.forest.nodes) n) c.self.view_is
 
 pub returns-in-None : goal.returns-in-None
@@ -25,6 +24,6 @@ returns-in-None c =
     let n = c.args.node.number in
     let s = c.self.inside.slots in
     let rows = c.self.inside.rows.items in
-    let absent = subst (λ r. has_number n (map (node_of s) r) ≡ false) c.deref.ensures.value c.in-None.ensures in
+    let absent = c.in-None.ensures in
     ap (λ (l : List ℕ). nat_lt 0 (length l)) (sym (kids-none is_element n [] (map (node_of s) rows) refl absent)) ∙ sym (elements-are n (visits (map (node_of s) rows)))
     ∙ ap (λ (k : Keeping). has_elements (visits k.forest.nodes) n) c.self.view_is

@@ -1,10 +1,9 @@
-use Rattle.std.proofs.Common.{◌≡◌, ℕ, false, map, Option, Some, None, refl, sym, ap, ◌∙◌, subst}
+use Rattle.std.proofs.Common.{◌≡◌, ℕ, map, Option, Some, None, refl, sym, ap, ◌∙◌}
 use Rattle.std.specs.Prelude.{is_some}
-use Rattle.xf_doc.specs.Forest.{has_number}
 use Rattle.xf_doc.specs.Texts.{Keeping}
 use Rattle.xf_doc.specs.Visit.{visits, parent_of}
 use Rattle.xf_tree.specs.Rows.{parent_row_of}
-use Rattle.xf_tree.specs.Tree.{StandsAt, node_of, number_at}
+use Rattle.xf_tree.specs.Tree.{node_of, number_at}
 use Rattle.xf_tree.proofs.StackLemmas.{absent-parent}
 use Rattle.xf_tree.proofs.ParentLemmas.{parent-means}
 use Rattle.xf_tree.proofs.PlaceLemmas.{one_of}
@@ -16,9 +15,9 @@ returns-in-Some c =
     let s = c.self.inside.slots in
     let rows = c.self.inside.rows.items in
     let at = c.in-Some.at in
-    let here = subst (λ r. StandsAt s r n at) c.deref.ensures.value c.in-Some.ensures in
+    let here = c.in-Some.ensures in
     let means = parent-means s n at rows here (one_of s rows c.self.inside.kept.items c.self.inside.next n c.self.invariant.sound) in
-    let is : c.parent_row.result ≡ parent_row_of rows at = c.parent_row.ensures.answer ∙ ap (λ l. parent_row_of l at) c.deref-in-Some.ensures.value in
+    let is : c.parent_row.result ≡ parent_row_of rows at = c.parent_row.ensures.answer in
     c.is_some.ensures ∙ ap is_some is ∙ there (parent_row_of rows at) ∙ ap is_some (sym means) ∙ ap (λ (k : Keeping). is_some (parent_of n (visits k.forest.nodes))) c.self.view_is
   where
     there : (o : Option ℕ) → is_some o ≡ is_some (number_at c.self.inside.slots c.self.inside.rows.items o)
@@ -30,5 +29,5 @@ returns-in-None c =
     let n = c.args.node.number in
     let s = c.self.inside.slots in
     let rows = c.self.inside.rows.items in
-    let absent = subst (λ r. has_number n (map (node_of s) r) ≡ false) c.deref.ensures.value c.in-None.ensures in
+    let absent = c.in-None.ensures in
     ap is_some (sym (absent-parent n (map (node_of s) rows) absent)) ∙ ap (λ (k : Keeping). is_some (parent_of n (visits k.forest.nodes))) c.self.view_is

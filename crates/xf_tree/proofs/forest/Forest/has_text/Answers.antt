@@ -1,8 +1,7 @@
-use Rattle.std.proofs.Common.{◌≡◌, ◌+◌, ◌-◌, false, map, length, take, drop, get_or, sym, ap, ◌∙◌, subst, arith}
+use Rattle.std.proofs.Common.{◌≡◌, ◌+◌, ◌-◌, map, length, take, drop, get_or, sym, ap, ◌∙◌, arith}
 use Rattle.std.specs.Str.{bytes_eq}
-use Rattle.std.proofs.lemmas.List.{get_or_default}
 use Rattle.slab.specs.Slab.{get}
-use Rattle.xf_doc.specs.Forest.{is_attribute, own_text, has_number}
+use Rattle.xf_doc.specs.Forest.{is_attribute, own_text}
 use Rattle.xf_doc.specs.Shape.{as_texts}
 use Rattle.xf_doc.specs.Texts.{Keeping, texts_in}
 use Rattle.xf_doc.specs.Settle.{are_texts, has_text}
@@ -17,16 +16,16 @@ pub returns-in_default : goal.returns-in_default
 returns-in_default c =
     let n = c.args.node.number in
     let s = c.self.inside.slots in
-    let absent = subst (λ r. has_number n (map (node_of s) r) ≡ false) c.deref.ensures.value c.in_default.ensures in
+    let absent = c.in_default.ensures in
     c.is_empty.ensures ∙ sym (none-texts c.args.text.now) ∙ sym (stands-absent n c.args.text.now (map (node_of s) c.self.inside.rows.items) absent)
     ∙ ap (λ (k : Keeping). has_text n c.args.text.now k.forest.nodes) c.self.view_is
 
 -- where the node's row stands
 stands-in : (c : Seen) → StandsAt c.self.inside.slots c.self.inside.rows.items c.args.node.number c.in-Some.at
-stands-in c = subst (λ r. StandsAt c.self.inside.slots r c.args.node.number c.in-Some.at) c.deref.ensures.value c.in-Some.ensures
+stands-in c = c.in-Some.ensures
 
-key-in : (c : Seen) → c.index.result.now.key ≡ (get_or c.self.inside.rows.items c.in-Some.at no_row).key
-key-in c = ap (λ (r : Row). r.key) (c.index.ensures ∙ get_or_default c.self.inside.rows.items c.in-Some.at c.index.result.now no_row (stands-in c).within)
+key-in : (c : Seen) → c.at-key.result.key ≡ (get_or c.self.inside.rows.items c.in-Some.at no_row).key
+key-in c = ap (λ (r : Row). r.key) (c.at-key.ensures)
 
 kind-in : (c : Seen) → c.is_attribute_at.result ≡ is_attribute (content_in (get c.self.inside.slots (get_or c.self.inside.rows.items c.in-Some.at no_row).key))
 kind-in c = c.is_attribute_at.ensures ∙ ap (λ k. is_attribute (content_in (get c.self.inside.slots k))) (key-in c)
@@ -49,9 +48,9 @@ returns c =
     let s = c.self.inside.slots in
     let rows = c.self.inside.rows.items in
     let text = c.args.text.now in
-    let end : c.end_of.result ≡ at + length (tree_of (drop at rows)) = c.end_of.ensures.answer ∙ ap (λ l. at + length (tree_of (drop at l))) c.deref-3.ensures.value in
+    let end : c.end_of.result ≡ at + length (tree_of (drop at rows)) = c.end_of.ensures.answer in
     let long : c.end_of.result - at ≡ length (tree_of (drop at rows)) = omega (arith, end) in
-    c.are_texts.ensures ∙ ap (λ l. are_texts (as_texts text) (texts_in (map (node_of s) (take (c.end_of.result - at) (drop at l))))) c.deref-2.ensures.value
+    c.are_texts.ensures ∙ ap (λ l. are_texts (as_texts text) (texts_in (map (node_of s) l))) c.slice.ensures
     ∙ ap (λ k. are_texts (as_texts text) (texts_in (map (node_of s) (take k (drop at rows))))) long
     ∙ sym (stands-texts s n at text rows c.self.inside.kept.items c.self.inside.next c.self.invariant.sound (stands-in p) (sym (kind-in p) ∙ c.if-is_attribute_at.false))
     ∙ ap (λ (k : Keeping). has_text n text k.forest.nodes) c.self.view_is

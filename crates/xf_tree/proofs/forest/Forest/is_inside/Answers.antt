@@ -1,9 +1,8 @@
-use Rattle.std.proofs.Common.{◌≡◌, ℕ, ◌+◌, ◌≤◌, ◌<◌, ◌&&◌, Bool, true, false, map, length, drop, nat_le, nat_lt, refl, sym, ap, ◌∙◌, subst, arith}
+use Rattle.std.proofs.Common.{◌≡◌, ℕ, ◌+◌, ◌≤◌, ◌<◌, ◌&&◌, Bool, true, false, length, drop, nat_le, nat_lt, refl, sym, ap, ◌∙◌, arith}
 use Rattle.std.proofs.lemmas.Bool.Decides.{nat_tests}
 use Rattle.xf_doc.specs.Forest.{has_number, tree_of as tree_of_node}
 use Rattle.xf_doc.specs.Texts.{Keeping}
 use Rattle.xf_tree.specs.Rows.{tree_of}
-use Rattle.xf_tree.specs.Tree.{StandsAt, node_of}
 use Rattle.xf_tree.proofs.NamedLemmas.{inside-none, inside-means, inside-other}
 use Rattle.xf_tree.proofs.forest.Forest.is_inside.Goals as goal
 
@@ -11,7 +10,7 @@ pub returns-in_default : goal.returns-in_default
 returns-in_default c =
     let n = c.args.node.number in
     let s = c.self.inside.slots in
-    let absent = subst (λ r. has_number n (map (node_of s) r) ≡ false) c.deref.ensures.value c.in_default.ensures in
+    let absent = c.in_default.ensures in
     sym (inside-none n c.args.other.number _ absent) ∙ ap (λ (k : Keeping). has_number c.args.other.number (tree_of_node n k.forest.nodes)) c.self.view_is
 
 within : (at to : ℕ) → at ≤ to → (b : Bool) → b ≡ (nat_le at to && b)
@@ -28,10 +27,10 @@ returns-then-at-to c =
     let rows = c.self.inside.rows.items in
     let at = c.in-Some.at in
     let to = c.in-Some-row_of.to in
-    let here = subst (λ r. StandsAt s r n at) c.deref.ensures.value c.in-Some.ensures in
-    let there = subst (λ r. StandsAt s r m to) c.deref-2.ensures.value c.in-Some-row_of.ensures in
+    let here = c.in-Some.ensures in
+    let there = c.in-Some-row_of.ensures in
     let last = at + length (tree_of (drop at rows)) in
-    let end : c.end_of.result ≡ last = c.end_of.ensures.answer ∙ ap (λ l. at + length (tree_of (drop at l))) c.deref-then-at-to.ensures.value in
+    let end : c.end_of.result ≡ last = c.end_of.ensures.answer in
     ap (nat_lt to) end ∙ within at to c.if-at-to.true (nat_lt to last) ∙ sym (inside-means s n m at to rows c.self.inside.kept.items c.self.inside.next c.self.invariant.sound here there)
     ∙ ap (λ (k : Keeping). has_number m (tree_of_node n k.forest.nodes)) c.self.view_is
 
@@ -43,8 +42,8 @@ returns-else-at-to c =
     let rows = c.self.inside.rows.items in
     let at = c.in-Some.at in
     let to = c.in-Some-row_of.to in
-    let here = subst (λ r. StandsAt s r n at) c.deref.ensures.value c.in-Some.ensures in
-    let there = subst (λ r. StandsAt s r m to) c.deref-2.ensures.value c.in-Some-row_of.ensures in
+    let here = c.in-Some.ensures in
+    let there = c.in-Some-row_of.ensures in
     let last = at + length (tree_of (drop at rows)) in
     before at to c.if-at-to.false (nat_lt to last) ∙ sym (inside-means s n m at to rows c.self.inside.kept.items c.self.inside.next c.self.invariant.sound here there)
     ∙ ap (λ (k : Keeping). has_number m (tree_of_node n k.forest.nodes)) c.self.view_is
@@ -56,7 +55,7 @@ returns-in-None c =
     let s = c.self.inside.slots in
     let rows = c.self.inside.rows.items in
     let at = c.in-Some.at in
-    let here = subst (λ r. StandsAt s r n at) c.deref.ensures.value c.in-Some.ensures in
-    let absent = subst (λ r. has_number m (map (node_of s) r) ≡ false) c.deref-2.ensures.value c.in-None.ensures in
+    let here = c.in-Some.ensures in
+    let absent = c.in-None.ensures in
     sym (inside-other s n m at rows c.self.inside.kept.items c.self.inside.next c.self.invariant.sound here absent)
     ∙ ap (λ (k : Keeping). has_number m (tree_of_node n k.forest.nodes)) c.self.view_is

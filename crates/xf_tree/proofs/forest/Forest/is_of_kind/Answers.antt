@@ -1,14 +1,13 @@
-use Rattle.std.proofs.Common.{◌≡◌, false, map, Some, None, option_map, sym, ap, ◌∙◌, subst}
+use Rattle.std.proofs.Common.{◌≡◌, map, Some, None, option_map, sym, ap, ◌∙◌, subst}
 use denote.Enum.Bare.{same_true, true_same}
 use Rattle.std.proofs.lemmas.Bool.{false≢true}
-use Rattle.std.proofs.lemmas.List.{get_or_default}
 use Rattle.slab.specs.Slab.{get}
 use Rattle.xf_doc.specs.contracts.content.Kind.{the_type}
 use Rattle.xf_doc.specs.declared.content.Kind.{Kind}
-use Rattle.xf_doc.specs.Forest.{has_number, kind_of, kind_at}
+use Rattle.xf_doc.specs.Forest.{kind_of, kind_at}
 use Rattle.xf_doc.specs.Texts.{Keeping}
 use Rattle.xf_tree.specs.declared.rows.Row.{Row}
-use Rattle.xf_tree.specs.Tree.{StandsAt, node_of, content_in, no_row}
+use Rattle.xf_tree.specs.Tree.{node_of, content_in}
 use Rattle.xf_tree.proofs.NamedLemmas.{kind-none}
 use Rattle.xf_tree.proofs.PlaceLemmas.{content-means}
 use Rattle.xf_tree.proofs.forest.Forest.is_of_kind.Goals as goal
@@ -25,8 +24,8 @@ returns-in-Some c =
     let s = c.self.inside.slots in
     let rows = c.self.inside.rows.items in
     let at = c.in-Some.at in
-    let here = subst (λ r. StandsAt s r n at) c.deref.ensures.value c.in-Some.ensures in
-    let row = c.index.ensures ∙ get_or_default rows at _ no_row here.within in
+    let here = c.in-Some.ensures in
+    let row = c.at.ensures in
     let means = ap (option_map kind_of) (content-means s n at rows c.self.inside.kept.items c.self.inside.next c.self.invariant.sound here) in
     let is : Some c.kind.result ≡ kind_at n c.args.self.now.forest.nodes =
     ap Some (c.kind.ensures ∙ ap (λ (r : Row). kind_of (content_in (get s r.key))) row) ∙ sym means ∙ ap (λ (k : Keeping). kind_at n k.forest.nodes) c.self.view_is in (
@@ -39,6 +38,6 @@ returns-in-None c =
     let n = c.args.node.number in
     let s = c.self.inside.slots in
     let rows = c.self.inside.rows.items in
-    let absent = subst (λ r. has_number n (map (node_of s) r) ≡ false) c.deref.ensures.value c.in-None.ensures in
+    let absent = c.in-None.ensures in
     let none = subst (λ (k : Keeping). kind_at n k.forest.nodes ≡ None) c.self.view_is (kind-none n (map (node_of s) rows) absent) in
     (λ e. absurd (false≢true e), λ e. absurd (no-kind c.args.wanted (sym none ∙ e)))

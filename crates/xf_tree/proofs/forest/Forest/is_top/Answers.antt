@@ -1,11 +1,8 @@
-use Rattle.std.proofs.Common.{◌≡◌, ◌==◌, false, Bool, map, sym, ap, ◌∙◌, subst}
-use Rattle.std.proofs.lemmas.List.{get_or_default}
+use Rattle.std.proofs.Common.{◌==◌, Bool, sym, ap, ◌∙◌}
 use Rattle.xf_doc.specs.declared.content.Node.{Node}
-use Rattle.xf_doc.specs.Forest.{has_number}
 use Rattle.xf_doc.specs.Needs.{is_top}
 use Rattle.xf_doc.specs.Texts.{Keeping}
 use Rattle.xf_tree.specs.declared.rows.Row.{Row}
-use Rattle.xf_tree.specs.Tree.{StandsAt, node_of, no_row}
 use Rattle.xf_tree.proofs.NamedLemmas.{named-at, named-none}
 use Rattle.xf_tree.proofs.forest.Forest.is_top.Goals as goal
 
@@ -15,8 +12,8 @@ returns-in-Some c =
     let s = c.self.inside.slots in
     let rows = c.self.inside.rows.items in
     let at = c.in-Some.at in
-    let here = subst (λ r. StandsAt s r n at) c.deref.ensures.value c.in-Some.ensures in
-    let row = c.index.ensures ∙ get_or_default rows at _ no_row here.within in
+    let here = c.in-Some.ensures in
+    let row = c.at.ensures in
     let test : Node → Bool = λ x. x.depth == 0 in
     ap (λ (r : Row). r.depth == 0) row ∙ sym (named-at test s n at rows c.self.inside.kept.items c.self.inside.next c.self.invariant.sound here)
     ∙ ap (λ (k : Keeping). is_top n k.forest.nodes) c.self.view_is
@@ -25,6 +22,6 @@ pub returns-in-None : goal.returns-in-None
 returns-in-None c =
     let n = c.args.node.number in
     let s = c.self.inside.slots in
-    let absent = subst (λ r. has_number n (map (node_of s) r) ≡ false) c.deref.ensures.value c.in-None.ensures in
+    let absent = c.in-None.ensures in
     let test : Node → Bool = λ x. x.depth == 0 in
     sym (named-none n test _ absent) ∙ ap (λ (k : Keeping). is_top n k.forest.nodes) c.self.view_is

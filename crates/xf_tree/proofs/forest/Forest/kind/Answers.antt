@@ -1,10 +1,9 @@
-use Rattle.std.proofs.Common.{Some, option_map, sym, ap, ◌∙◌, subst}
-use Rattle.std.proofs.lemmas.List.{get_or_default}
+use Rattle.std.proofs.Common.{Some, option_map, sym, ap, ◌∙◌}
 use Rattle.slab.specs.Slab.{get}
 use Rattle.xf_doc.specs.Forest.{kind_of, kind_at}
 use Rattle.xf_doc.specs.Texts.{Keeping}
 use Rattle.xf_tree.specs.declared.rows.Row.{Row}
-use Rattle.xf_tree.specs.Tree.{StandsAt, content_in, no_row}
+use Rattle.xf_tree.specs.Tree.{content_in}
 use Rattle.xf_tree.proofs.PlaceLemmas.{content-means}
 use Rattle.xf_tree.proofs.forest.Forest.kind.Goals as goal
 
@@ -14,7 +13,7 @@ returns-in-Some c =
     let s = c.self.inside.slots in
     let rows = c.self.inside.rows.items in
     let at = c.in-Some.at in
-    let here = subst (λ r. StandsAt s r n at) c.deref.ensures.value c.in-Some.ensures in
-    let row = c.index.ensures ∙ get_or_default rows at _ no_row here.within in
+    let here = c.in-Some.ensures in
+    let row = c.at.ensures in
     let means = ap (option_map kind_of) (content-means s n at rows c.self.inside.kept.items c.self.inside.next c.self.invariant.sound here) in
     ap Some (c.kind.ensures ∙ ap (λ (r : Row). kind_of (content_in (get s r.key))) row) ∙ sym means ∙ ap (λ (k : Keeping). kind_at n k.forest.nodes) c.self.view_is

@@ -1,5 +1,4 @@
-use Rattle.std.proofs.Common.{◌≡◌, not, false, map, nat_lt, option_map, get_or, sym, ap, ◌∙◌, subst}
-use Rattle.std.proofs.lemmas.List.{get_or_default}
+use Rattle.std.proofs.Common.{◌≡◌, not, false, map, nat_lt, option_map, get_or, sym, ap, ◌∙◌}
 use Rattle.slab.specs.Slab.{get}
 use Rattle.xf_doc.specs.declared.content.Node.{Node}
 use Rattle.xf_doc.specs.Forest.{Forest, has_number}
@@ -7,7 +6,7 @@ use Rattle.xf_doc.specs.Needs.{lacks_name}
 use Rattle.xf_doc.specs.Texts.{Keeping}
 use Rattle.xf_tree.specs.declared.rows.Row.{Row}
 use Rattle.xf_tree.specs.Kids.{is_attribute_like, kids_at}
-use Rattle.xf_tree.specs.Tree.{StandsAt, node_of, content_in, no_row}
+use Rattle.xf_tree.specs.Tree.{node_of, content_in, no_row}
 use Rattle.xf_tree.proofs.ChildLemmas.{kids-mean, lacks-are, lacks-nameless, lacks-nobody}
 use Rattle.xf_tree.proofs.NamedLemmas.{node-none}
 use Rattle.xf_tree.proofs.PlaceLemmas.{content-means}
@@ -19,7 +18,7 @@ returns-in_default c =
     let s = c.self.inside.slots in
     let rows = c.self.inside.rows.items in
     let forest : Forest = record { nodes = map (node_of s) rows; next = c.self.inside.next } in
-    let absent : has_number n (map (node_of s) rows) ≡ false = subst (λ r. has_number n (map (node_of s) r) ≡ false) c.deref.ensures.value c.in_default.ensures in
+    let absent : has_number n (map (node_of s) rows) ≡ false = c.in_default.ensures in
     sym (lacks-nameless n c.args.parent.number forest (ap (option_map (λ (x : Node). x.content)) (node-none n (map (node_of s) rows) absent)))
     ∙ ap (λ (k : Keeping). lacks_name n c.args.parent.number k.forest) c.self.view_is
 
@@ -34,14 +33,13 @@ returns-in-Some-row_of c =
     let at = c.in-Some.at in
     let above = c.in-Some-row_of.above in
     let forest : Forest = record { nodes = map (node_of s) rows; next = next } in
-    let here = subst (λ r. StandsAt s r n at) c.deref.ensures.value c.in-Some.ensures in
-    let there = subst (λ r. StandsAt s r m above) c.deref-2.ensures.value c.in-Some-row_of.ensures in
-    let row = c.index.ensures ∙ get_or_default rows at _ no_row here.within in
+    let here = c.in-Some.ensures in
+    let there = c.in-Some-row_of.ensures in
+    let row = c.at.ensures in
     let like = content_in (get s (get_or rows at no_row).key) in
     let means = kids-mean (is_attribute_like like) s m above rows kept next c.self.invariant.sound there in
     let is = lacks-are n m forest like (content-means s n at rows kept next c.self.invariant.sound here) in
-    ap not (c.has_attribute.ensures ∙ ap (λ (r : Row). nat_lt 0 (kids_at (is_attribute_like (content_in (get s r.key))) s c.deref-in-Some-row_of.result.now above)) row
-    ∙ ap (λ l. nat_lt 0 (kids_at (is_attribute_like like) s l above)) c.deref-in-Some-row_of.ensures.value ∙ ap (nat_lt 0) (sym means))
+    ap not (c.has_attribute.ensures ∙ ap (λ (r : Row). nat_lt 0 (kids_at (is_attribute_like (content_in (get s r.key))) s rows above)) row ∙ ap (nat_lt 0) (sym means))
     ∙ sym is ∙ ap (λ (k : Keeping). lacks_name n m k.forest) c.self.view_is
 
 pub returns-in-None : goal.returns-in-None
@@ -52,8 +50,8 @@ returns-in-None c =
     let rows = c.self.inside.rows.items in
     let at = c.in-Some.at in
     let forest : Forest = record { nodes = map (node_of s) rows; next = c.self.inside.next } in
-    let here = subst (λ r. StandsAt s r n at) c.deref.ensures.value c.in-Some.ensures in
-    let absent : has_number m (map (node_of s) rows) ≡ false = subst (λ r. has_number m (map (node_of s) r) ≡ false) c.deref-2.ensures.value c.in-None.ensures in
+    let here = c.in-Some.ensures in
+    let absent : has_number m (map (node_of s) rows) ≡ false = c.in-None.ensures in
     let like = content_in (get s (get_or rows at no_row).key) in
     sym (lacks-nobody n m forest like (content-means s n at rows c.self.inside.kept.items c.self.inside.next c.self.invariant.sound here) absent)
     ∙ ap (λ (k : Keeping). lacks_name n m k.forest) c.self.view_is

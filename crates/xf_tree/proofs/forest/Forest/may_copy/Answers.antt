@@ -1,13 +1,12 @@
-use Rattle.std.proofs.Common.{◌≡◌, ◌&&◌, ◌==◌, not, false, Bool, map, sym, ap, ◌∙◌, subst}
+use Rattle.std.proofs.Common.{◌≡◌, ◌&&◌, ◌==◌, not, false, Bool, sym, ap, ◌∙◌, subst}
 use Rattle.std.specs.List.{list_any}
-use Rattle.std.proofs.lemmas.List.{get_or_default}
 use Rattle.std.proofs.lemmas.Bool.{false≢true}
 use Rattle.slab.specs.Slab.{get}
 use Rattle.xf_doc.specs.declared.content.Node.{Node}
-use Rattle.xf_doc.specs.Forest.{has_number, is_root}
+use Rattle.xf_doc.specs.Forest.{is_root}
 use Rattle.xf_doc.specs.Texts.{Keeping}
 use Rattle.xf_tree.specs.declared.rows.Row.{Row}
-use Rattle.xf_tree.specs.Tree.{StandsAt, node_of, content_in, no_row}
+use Rattle.xf_tree.specs.Tree.{content_in}
 use Rattle.xf_tree.proofs.NamedLemmas.{named-at, named-none}
 use Rattle.xf_tree.proofs.forest.Forest.may_copy.Goals as goal
 
@@ -17,8 +16,8 @@ returns-in-Some c =
     let s = c.self.inside.slots in
     let rows = c.self.inside.rows.items in
     let at = c.in-Some.at in
-    let here = subst (λ r. StandsAt s r n at) c.deref.ensures.value c.in-Some.ensures in
-    let row = c.index.ensures ∙ get_or_default rows at _ no_row here.within in
+    let here = c.in-Some.ensures in
+    let row = c.at.ensures in
     let test : Node → Bool = λ x. not (is_root x.content) in
     let is : not c.is_root_at.result ≡ list_any (λ (x : Node). (x.number == n) && test x) c.args.self.now.forest.nodes =
     ap not (c.is_root_at.ensures ∙ ap (λ (r : Row). is_root (content_in (get s r.key))) row)
@@ -30,7 +29,7 @@ pub returns-in-None : goal.returns-in-None
 returns-in-None c =
     let n = c.args.node.number in
     let s = c.self.inside.slots in
-    let absent = subst (λ r. has_number n (map (node_of s) r) ≡ false) c.deref.ensures.value c.in-None.ensures in
+    let absent = c.in-None.ensures in
     let test : Node → Bool = λ x. not (is_root x.content) in
     let none = subst (λ (k : Keeping). list_any (λ (x : Node). (x.number == n) && test x) k.forest.nodes ≡ false) c.self.view_is (named-none n test _ absent) in
     (λ e. absurd (false≢true e), λ e. sym none ∙ e)

@@ -1,11 +1,9 @@
-use Rattle.std.proofs.Common.{◌≡◌, ℕ, ◌≤◌, true, false, map, nat_le, sym, subst, arith}
+use Rattle.std.proofs.Common.{◌≡◌, ℕ, ◌≤◌, true, nat_le, sym, subst, arith}
 use Rattle.std.specs.List.{list_all}
 use Rattle.std.proofs.lemmas.Bool.Decides.{nat_tests}
 use Rattle.xf_doc.specs.Needs.{goes_or_stays}
 use Rattle.xf_doc.specs.Texts.{Keeping}
 use Rattle.xf_doc.specs.Visit.{visits}
-use Rattle.xf_tree.specs.Older.{AreWhole}
-use Rattle.xf_tree.specs.Tree.{node_of}
 use Rattle.xf_tree.proofs.WholeLemmas.{rows-whole, whole-rows}
 use Rattle.xf_tree.proofs.forest.Forest.may_drop_from.Goals as goal
 
@@ -23,8 +21,7 @@ returns-then-number-self c =
       λ e. record {
         known = subst (λ (k : Keeping). nat_le number k.forest.next ≡ true) c.self.view_is (at-most number next c.if-number-self.true);
         whole = subst (λ (k : Keeping). list_all (goes_or_stays number) (visits k.forest.nodes) ≡ true) c.self.view_is
-            (whole-rows s number next rows kept sound (subst (λ r. AreWhole number false (map (node_of s) r)) c.deref.ensures.value (c.are_whole.ensures.0 e)));
+            (whole-rows s number next rows kept sound ((c.are_whole.ensures.0 e)));
       },
-      λ may. c.are_whole.ensures.1 (subst (λ r. AreWhole number false (map (node_of s) r)) (sym c.deref.ensures.value)
-          (rows-whole s number next rows kept sound (subst (λ (k : Keeping). list_all (goes_or_stays number) (visits k.forest.nodes) ≡ true) (sym c.self.view_is) may.whole))),
+      λ may. c.are_whole.ensures.1 ((rows-whole s number next rows kept sound (subst (λ (k : Keeping). list_all (goes_or_stays number) (visits k.forest.nodes) ≡ true) (sym c.self.view_is) may.whole))),
     )

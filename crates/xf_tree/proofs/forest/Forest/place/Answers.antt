@@ -21,7 +21,7 @@ returns-in_default c =
     let n = c.args.node.number in
     let s = c.self.inside.slots in
     absurd (
-    let absent = subst (λ r. has_number n (map (node_of s) r) ≡ false) c.deref.ensures.value c.in_default.ensures in
+    let absent = c.in_default.ensures in
     none-named n (λ (x : Node). x.depth == 0) _ absent (subst (λ (k : Keeping). is_top n k.forest.nodes ≡ true) (sym c.self.view_is) c.requires.detached)
     )
 
@@ -31,17 +31,17 @@ returns-in_default-row_of c =
     let m = c.args.parent.number in
     let s = c.self.inside.slots in
     absurd (
-    let absent = subst (λ r. has_number m (map (node_of s) r) ≡ false) c.deref-2.ensures.value c.in_default-row_of.ensures in
+    let absent = c.in_default-row_of.ensures in
     let may = subst (λ (k : Keeping). goes_below (kind_at n k.forest.nodes) (kind_at m k.forest.nodes) ≡ true) (sym c.self.view_is) c.requires.kinds in
     elim (parent-kind (kind_at n (map (node_of s) c.self.inside.rows.items)) _ may) [ inl e ↦ none-kind m kind.Element _ absent e | inr e ↦ none-kind m kind.Root _ absent e ]
     )
 
 -- where the node's row stands, and the parent's
 node-here : (c : In-Some-row_of) → StandsAt c.self.inside.slots c.self.inside.rows.items c.args.node.number c.in-Some.at
-node-here c = subst (λ r. StandsAt c.self.inside.slots r c.args.node.number c.in-Some.at) c.deref.ensures.value c.in-Some.ensures
+node-here c = c.in-Some.ensures
 
 parent-here : (c : In-Some-row_of) → StandsAt c.self.inside.slots c.self.inside.rows.items c.args.parent.number c.in-Some-row_of.above
-parent-here c = subst (λ r. StandsAt c.self.inside.slots r c.args.parent.number c.in-Some-row_of.above) c.deref-2.ensures.value c.in-Some-row_of.ensures
+parent-here c = c.in-Some-row_of.ensures
 
 -- what kinds of nodes they are
 kinds-there : (c : In-Some-row_of) → goes_below (Some (kind_of (content_in (get c.self.inside.slots (get_or c.self.inside.rows.items c.in-Some.at no_row).key))))

@@ -1,6 +1,5 @@
-use Rattle.std.proofs.Common.{◌≡◌, true, false, if◌then◌else◌, map, get_or, sym, ap, ◌∙◌, subst}
+use Rattle.std.proofs.Common.{◌≡◌, true, false, if◌then◌else◌, map, get_or, sym, ap, ◌∙◌}
 use Rattle.std.specs.Prelude.{count_by}
-use Rattle.std.proofs.lemmas.List.{get_or_default}
 use Rattle.slab.specs.Slab.{get}
 use Rattle.xf_doc.specs.Changes.{place_of, is_lesser}
 use Rattle.xf_doc.specs.Forest.{is_attribute, content_at}
@@ -8,7 +7,7 @@ use Rattle.xf_doc.specs.Texts.{Keeping}
 use Rattle.xf_doc.specs.Visit.{visits}
 use Rattle.xf_tree.specs.declared.rows.Row.{Row}
 use Rattle.xf_tree.specs.Kids.{is_lesser_attribute, kids_at}
-use Rattle.xf_tree.specs.Tree.{StandsAt, node_of, content_in, no_row}
+use Rattle.xf_tree.specs.Tree.{node_of, content_in, no_row}
 use Rattle.xf_tree.proofs.ChildLemmas.{kids-mean, lesser-are}
 use Rattle.xf_tree.proofs.PlaceLemmas.{content-means}
 use Rattle.xf_tree.proofs.forest.Forest.place_of.Goals as goal
@@ -24,13 +23,12 @@ returns-then-is_attribute_at c =
     let at = c.in-Some-Some.at in
     let above = c.in-Some-Some.above in
     let all = visits (map (node_of s) rows) in
-    let here = subst (λ r. StandsAt s r n at) c.deref.ensures.value c.in-Some-Some.ensures in
-    let there = subst (λ r. StandsAt s r m above) c.deref-2.ensures.value c.in-Some-Some.ensures' in
-    let row = c.index.ensures ∙ get_or_default rows at _ no_row here.within in
+    let here = c.in-Some-Some.ensures in
+    let there = c.in-Some-Some.ensures' in
+    let row = c.at-key.ensures in
     let own = content_in (get s (get_or rows at no_row).key) in
     let is : is_attribute own ≡ true = ap (λ (r : Row). is_attribute (content_in (get s r.key))) (sym row) ∙ sym c.is_attribute_at.ensures ∙ c.if-is_attribute_at.true in
-    let count = c.count_lesser.ensures ∙ ap (λ (r : Row). kids_at (is_lesser_attribute (content_in (get s r.key))) s c.deref-then-is_attribute_at.result.now above) row
-    ∙ ap (λ l. kids_at (is_lesser_attribute own) s l above) c.deref-then-is_attribute_at.ensures.value
+    let count = c.count_lesser.ensures ∙ ap (λ (r : Row). kids_at (is_lesser_attribute (content_in (get s r.key))) s rows above) row
     ∙ sym (kids-mean (is_lesser_attribute own) s m above rows kept next c.self.invariant.sound there) ∙ sym (lesser-are m own all) in
     let placed : place_of m c.args.place all (content_at n (map (node_of s) rows)) ≡ count_by (is_lesser m own) all =
     ap (place_of m c.args.place all) (content-means s n at rows kept next c.self.invariant.sound here) ∙ ap (λ b. if b then count_by (is_lesser m own) all else c.args.place) is in
@@ -44,8 +42,8 @@ returns-else-is_attribute_at c =
     let rows = c.self.inside.rows.items in
     let at = c.in-Some-Some.at in
     let all = visits (map (node_of s) rows) in
-    let here = subst (λ r. StandsAt s r n at) c.deref.ensures.value c.in-Some-Some.ensures in
-    let row = c.index.ensures ∙ get_or_default rows at _ no_row here.within in
+    let here = c.in-Some-Some.ensures in
+    let row = c.at-key.ensures in
     let own = content_in (get s (get_or rows at no_row).key) in
     let other : is_attribute own ≡ false = ap (λ (r : Row). is_attribute (content_in (get s r.key))) (sym row) ∙ sym c.is_attribute_at.ensures ∙ c.if-is_attribute_at.false in
     let placed : place_of m c.args.place all (content_at n (map (node_of s) rows)) ≡ c.args.place =

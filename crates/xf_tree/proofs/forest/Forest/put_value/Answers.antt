@@ -1,7 +1,6 @@
 use Rattle.std.proofs.Common.{◌≡◌, ◌+◌, ◌-◌, ◌≤◌, ◌^◌, map, get_or, false, Some, sym, ap, ◌∙◌, subst, arith}
 use Rattle.std.specs.Prelude.{option_map}
 use Rattle.std.proofs.lemmas.Bool.{true≢false}
-use Rattle.std.proofs.lemmas.List.{get_or_default}
 use Rattle.slab.specs.Slab.{get, Updates}
 use Rattle.xf_doc.specs.declared.content.Kind.TheVariants.{Attribute}
 use Rattle.xf_doc.specs.Forest.{kind_at, has_number}
@@ -21,18 +20,18 @@ returns-in_default c =
     let s = c.self.inside.slots in
     let rows = c.self.inside.rows.items in
     let kind = ap (λ (k : Keeping). kind_at n k.forest.nodes) c.self.view_is ∙ c.requires in
-    let absent : has_number n (map (node_of s) rows) ≡ false = subst (λ r. has_number n (map (node_of s) r) ≡ false) c.deref.ensures.value c.in_default.ensures in
+    let absent : has_number n (map (node_of s) rows) ≡ false = c.in_default.ensures in
     absurd (true≢false (sym (kind-live n Attribute (map (node_of s) rows) kind) ∙ absent))
 
 -- where the node's row stands, and what it is
 stands-in : (c : After-change_value) → StandsAt c.self.inside.slots c.self.inside.rows.items c.args.node.number c.in-Some.at
-stands-in c = subst (λ r. StandsAt c.self.inside.slots r c.args.node.number c.in-Some.at) c.deref.ensures.value c.in-Some.ensures
+stands-in c = c.in-Some.ensures
 
 kind-in : (c : After-change_value) → kind_at c.args.node.number (map (node_of c.self.inside.slots) c.self.inside.rows.items) ≡ Some Attribute
 kind-in c = ap (λ (k : Keeping). kind_at c.args.node.number k.forest.nodes) c.self.view_is ∙ c.requires
 
-key-in : (c : After-change_value) → c.index.result.now.key ≡ (get_or c.self.inside.rows.items c.in-Some.at no_row).key
-key-in c = ap (λ (r : Row). r.key) (c.index.ensures ∙ get_or_default c.self.inside.rows.items c.in-Some.at c.index.result.now no_row (stands-in c).within)
+key-in : (c : After-change_value) → c.at-key.result.key ≡ (get_or c.self.inside.rows.items c.in-Some.at no_row).key
+key-in c = ap (λ (r : Row). r.key) (c.at-key.ensures)
 
 up-in : (c : After-change_value) → Updates c.self.inside.slots c.change_value.new.slots (get_or c.self.inside.rows.items c.in-Some.at no_row).key
     (option_map (valued_slot c.args.text) (get c.self.inside.slots (get_or c.self.inside.rows.items c.in-Some.at no_row).key))

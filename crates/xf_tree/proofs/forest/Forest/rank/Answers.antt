@@ -1,7 +1,6 @@
-use Rattle.std.proofs.Common.{sym, ap, ◌∙◌, subst}
+use Rattle.std.proofs.Common.{sym, ap, ◌∙◌}
 use Rattle.xf_doc.specs.Order.{rank_of}
 use Rattle.xf_doc.specs.Texts.{Keeping}
-use Rattle.xf_tree.specs.Tree.{StandsAt}
 use Rattle.xf_tree.proofs.ReadLemmas.{rank-means}
 use Rattle.xf_tree.proofs.forest.Forest.rank.Goals as goal
 
@@ -11,5 +10,5 @@ returns-in-Some c =
     let s = c.self.inside.slots in
     let rows = c.self.inside.rows.items in
     let at = c.in-Some.at in
-    let here = subst (λ r. StandsAt s r n at) c.deref.ensures.value c.in-Some.ensures in
+    let here = c.in-Some.ensures in
     sym (rank-means s n at rows c.self.inside.kept.items c.self.inside.next c.self.invariant.sound here) ∙ ap (λ (k : Keeping). rank_of n k.forest.nodes) c.self.view_is

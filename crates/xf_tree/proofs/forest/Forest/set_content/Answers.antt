@@ -1,4 +1,4 @@
-use Rattle.std.proofs.Common.{◌≡◌, ℕ, ◌+◌, ◌-◌, ◌≤◌, length, map, take, drop, List, false, Some, Ok, inr, sym, ap, ◌∙◌, subst, arith}
+use Rattle.std.proofs.Common.{◌≡◌, ℕ, ◌+◌, ◌-◌, ◌≤◌, length, map, take, drop, List, false, Some, Ok, inr, refl, sym, ap, ◌∙◌, subst, arith}
 use Rattle.std.proofs.lemmas.List.{length-map}
 use Rattle.xf_doc.specs.declared.content.Kind.TheVariants.{Element}
 use Rattle.xf_doc.specs.Forest.{kind_at}
@@ -19,7 +19,7 @@ use Rattle.xf_tree.proofs.forest.Forest.set_content.Goals as goal
 use Rattle.xf_tree.proofs.forest.Forest.set_content.Goals.{After-passed as Passed}
 
 stands-in : (c : Passed) → StandsAt c.self.inside.slots c.self.inside.rows.items c.args.node.number c.in-Some.at
-stands-in c = subst (λ r. StandsAt c.self.inside.slots r c.args.node.number c.in-Some.at) c.deref.ensures.value c.in-Some.ensures
+stands-in c = c.in-Some.ensures
 
 kind-in : (c : Passed) → kind_at c.args.node.number (map (node_of c.self.inside.slots) c.self.inside.rows.items) ≡ Some Element
 kind-in c = ap (λ (k : Keeping). kind_at c.args.node.number k.forest.nodes) c.self.view_is ∙ c.requires.kind
@@ -32,15 +32,15 @@ run-in : (c : Passed) (rows : List Row) → rows ≡ c.self.inside.rows.items �
 run-in c rows e =
     let at = c.in-Some.at in
     let old = c.self.inside.rows.items in
-    let end : c.end_of-end.result ≡ at + length (tree_of (drop at old)) = c.end_of-end.ensures.answer ∙ ap (λ l. at + length (tree_of (drop at l))) c.deref-2.ensures.value in
+    let end : c.end_of-end.result ≡ at + length (tree_of (drop at old)) = c.end_of-end.ensures.answer in
     let long : c.end_of-end.result - (at + 1) ≡ deeper (depth_at at old) (drop (at + 1) old) = omega (arith, end, tree-size at old (stands-in c).within) in
     ap (λ l. take (c.end_of-end.result - (at + 1)) (drop (at + 1) l)) e ∙ ap (λ k. take k (drop (at + 1) old)) long
 
 taken-in : (c : Passed) → c.texts_in-taken.result.0 ≡ length (children c.self.inside.slots (run_of c.in-Some.at c.self.inside.rows.items))
-taken-in c = c.texts_in-taken.ensures.count ∙ ap (λ l. length (children c.self.inside.slots l)) (run-in c c.deref-3.result.now c.deref-3.ensures.value)
+taken-in c = c.texts_in-taken.ensures.count ∙ ap (λ l. length (children c.self.inside.slots l)) (c.slice.ensures ∙ run-in c c.self.inside.rows.items refl)
 
 size-in : (c : Passed) → c.texts_in-taken.result.1 ≡ all_size (map (node_of c.self.inside.slots) (children c.self.inside.slots (run_of c.in-Some.at c.self.inside.rows.items)))
-size-in c = c.texts_in-taken.ensures.size ∙ ap (λ l. all_size (map (node_of c.self.inside.slots) (children c.self.inside.slots l))) (run-in c c.deref-3.result.now c.deref-3.ensures.value)
+size-in c = c.texts_in-taken.ensures.size ∙ ap (λ l. all_size (map (node_of c.self.inside.slots) (children c.self.inside.slots l))) (c.slice.ensures ∙ run-in c c.self.inside.rows.items refl)
 
 count-in : (c : Passed) → c.saturating_add-count.result ≡ c.self.inside.count - length (children c.self.inside.slots (run_of c.in-Some.at c.self.inside.rows.items)) + text_count c.args.text.now
 count-in c =

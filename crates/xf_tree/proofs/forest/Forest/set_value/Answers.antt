@@ -1,6 +1,5 @@
 use Rattle.std.proofs.Common.{◌≡◌, ℕ, ◌+◌, ◌-◌, ◌≤◌, ◌^◌, length, map, get_or, List, true, Some, Result, Ok, inr, sym, ap, ◌∙◌, subst, arith}
 use Rattle.std.specs.Prelude.{option_map}
-use Rattle.std.proofs.lemmas.List.{get_or_default}
 use Rattle.slab.specs.Slab.{get, Updates}
 use Rattle.xf_doc.specs.declared.content.Kind.TheVariants.{Attribute}
 use Rattle.xf_doc.specs.declared.fault.TreeFault.{TreeFault}
@@ -17,13 +16,13 @@ use Rattle.xf_tree.proofs.forest.Forest.set_value.Goals.{In-Some-passed, After-p
 
 -- where the node's row stands, what it is, and what its bytes would be
 stands-in : (c : Passed) → StandsAt c.self.inside.slots c.self.inside.rows.items c.args.node.number c.in-Some.at
-stands-in c = subst (λ r. StandsAt c.self.inside.slots r c.args.node.number c.in-Some.at) c.deref.ensures.value c.in-Some.ensures
+stands-in c = c.in-Some.ensures
 
 kind-in : (c : Passed) → kind_at c.args.node.number (map (node_of c.self.inside.slots) c.self.inside.rows.items) ≡ Some Attribute
 kind-in c = ap (λ (k : Keeping). kind_at c.args.node.number k.forest.nodes) c.self.view_is ∙ c.requires
 
-row-in : (c : Passed) → c.index.result.now ≡ get_or c.self.inside.rows.items c.in-Some.at no_row
-row-in c = c.index.ensures ∙ get_or_default c.self.inside.rows.items c.in-Some.at c.index.result.now no_row (stands-in c).within
+row-in : (c : Passed) → c.at-key.result ≡ get_or c.self.inside.rows.items c.in-Some.at no_row
+row-in c = c.at-key.ensures
 
 old-in : (c : Passed) → c.own.result.now ≡ own_text (content_in (get c.self.inside.slots (get_or c.self.inside.rows.items c.in-Some.at no_row).key))
 old-in c = c.own.ensures ∙ ap (λ (r : Row). own_text (content_in (get c.self.inside.slots r.key))) (row-in c)
@@ -56,21 +55,21 @@ returns-in-Some-passed-clause-answer c =
     inr (set-in p ∙ ap (λ o. unless o (value-in p)) c.in-Some-passed.is)
 
 -- the one slot that is changed
-up-in : (c : After-change_value-before) → c.index.result.now.key ≡ (get_or c.self.inside.rows.items c.in-Some.at no_row).key → Updates c.self.inside.slots c.change_value-before.new.slots (get_or c.self.inside.rows.items c.in-Some.at no_row).key
+up-in : (c : After-change_value-before) → c.at-key.result.key ≡ (get_or c.self.inside.rows.items c.in-Some.at no_row).key → Updates c.self.inside.slots c.change_value-before.new.slots (get_or c.self.inside.rows.items c.in-Some.at no_row).key
     (option_map (valued_slot c.args.text.now) (get c.self.inside.slots (get_or c.self.inside.rows.items c.in-Some.at no_row).key))
 up-in c key =
     let s = c.self.inside.slots in
     let s2 = c.change_value-before.new.slots in
-    let up : Updates s s2 c.index.result.now.key (option_map (valued_slot c.in_ok-word.word) (get s c.index.result.now.key)) = c.change_value-before.ensures.slot in
+    let up : Updates s s2 c.at-key.result.key (option_map (valued_slot c.in_ok-word.word) (get s c.at-key.result.key)) = c.change_value-before.ensures.slot in
     subst (λ k. Updates s s2 k (option_map (valued_slot c.args.text.now) (get s k))) key
-    (subst (λ t. Updates s s2 c.index.result.now.key (option_map (valued_slot t) (get s c.index.result.now.key))) c.in_ok-word.ensures up)
+    (subst (λ t. Updates s s2 c.at-key.result.key (option_map (valued_slot t) (get s c.at-key.result.key))) c.in_ok-word.ensures up)
 
 pub invariant_of-self : goal.invariant_of-self
 invariant_of-self c =
     let p = (goal.at.invariant_of-self c).After-passed in
     let s = c.self.inside.slots in
     let s2 = c.change_value-before.new.slots in
-    let key : c.index.result.now.key ≡ (get_or c.self.inside.rows.items c.in-Some.at no_row).key = ap (λ (r : Row). r.key) (row-in p) in
+    let key : c.at-key.result.key ≡ (get_or c.self.inside.rows.items c.in-Some.at no_row).key = ap (λ (r : Row). r.key) (row-in p) in
     let bytes = subst (λ k. c.change_value-before.new.bytes ≡ c.self.inside.bytes - size_of (content_in (get s k)) + size_of (content_in (get s2 k))) key c.change_value-before.ensures.bytes in
     let small = subst (λ k. size_of (content_in (get s2 k)) ≤ 2 ^ 66) key c.change_value-before.ensures.small in
     value-state s c.args.node.number c.in-Some.at c.args.text.now c.self.inside.rows.items c.self.inside.kept.items c.self.inside.next c.self.inside.count c.self.inside.bytes _ c.self.invariant
@@ -86,7 +85,7 @@ returns-clause-answer c =
     let kept = c.self.inside.kept.items in
     let next = c.self.inside.next in
     let text = c.args.text.now in
-    let key : c.index.result.now.key ≡ (get_or rows at no_row).key = ap (λ (r : Row). r.key) (row-in p) in
+    let key : c.at-key.result.key ≡ (get_or rows at no_row).key = ap (λ (r : Row). r.key) (row-in p) in
     let attribute = is-attribute s n at text rows kept next c.self.inside.count c.self.inside.bytes _ c.self.invariant (stands-in p) (kind-in p) in
     let had : c.change_value-before.result ≡ own_text (content_in (get s (get_or rows at no_row).key)) =
     c.change_value-before.ensures.answer (subst (λ k. is_attribute (content_in (get s k)) ≡ true) (sym key) attribute) ∙ ap (λ k. own_text (content_in (get s k))) key in

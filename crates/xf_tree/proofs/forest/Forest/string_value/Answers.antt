@@ -1,9 +1,8 @@
 use Rattle.std.proofs.Common.{◌≡◌, ℕ, List, Option, sym, ap, ◌∙◌, subst}
 use Rattle.std.specs.Prelude.{IfOk}
-use Rattle.xf_doc.specs.StringValue.{string_value_within, within}
+use Rattle.xf_doc.specs.StringValue.{string_value_within}
 use Rattle.xf_doc.specs.Texts.{Keeping}
 use Rattle.xf_doc.specs.Visit.{visits}
-use Rattle.xf_tree.specs.Tree.{StandsAt, text_of}
 use Rattle.xf_tree.proofs.TextLemmas.{within-means}
 use Rattle.xf_tree.proofs.forest.Forest.string_value.Goals as goal
 
@@ -13,7 +12,7 @@ returns-in-Some c =
     let s = c.self.inside.slots in
     let rows = c.self.inside.rows.items in
     let at = c.in-Some.at in
-    let here = subst (λ r. StandsAt s r n at) c.deref.ensures.value c.in-Some.ensures in
+    let here = c.in-Some.ensures in
     let means = within-means s n at c.args.most rows c.self.inside.kept.items c.self.inside.next c.self.invariant.sound here in
-    let same = ap (λ l. within c.args.most (text_of s l at)) c.deref-in-Some.ensures.value ∙ sym means ∙ ap (λ (k : Keeping). string_value_within c.args.most n (visits k.forest.nodes)) c.self.view_is in
+    let same = sym means ∙ ap (λ (k : Keeping). string_value_within c.args.most n (visits k.forest.nodes)) c.self.view_is in
     subst (λ (v : Option (List ℕ)). IfOk c.text_at.result (λ t. t ≡ v)) same c.text_at.ensures

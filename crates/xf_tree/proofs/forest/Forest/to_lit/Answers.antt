@@ -9,14 +9,14 @@ use Rattle.xf_tree.specs.Tree.{node_of}
 use Rattle.xf_tree.proofs.ShownLemmas.{printed-same}
 use Rattle.xf_tree.proofs.PrintLemmas.{tree-here, printable-first, printable-printed, nothing-here}
 use Rattle.xf_tree.proofs.forest.Forest.to_lit.Goals as goal
-use Rattle.xf_tree.proofs.forest.Forest.to_lit.Goals.{After-deref-in-Some-3}
+use Rattle.xf_tree.proofs.forest.Forest.to_lit.Goals.{After-deref}
 
 -- the rows that are printed are those of the node's tree
-left-here : (c : After-deref-in-Some-3) → map (node_of c.self.inside.slots) c.deref-in-Some-3.result.now ≡ printed c.args.kept.now (tree_of c.args.node.number c.args.self.now.forest.nodes)
+left-here : (c : After-deref) → map (node_of c.self.inside.slots) c.deref.result.now ≡ printed c.args.kept.now (tree_of c.args.node.number c.args.self.now.forest.nodes)
 left-here c =
-    let tree = tree-here c.self.inside.slots c.args.node.number c.in-Some.at c.end_of-end.result c.self.inside.next c.self.inside.kept.items c.self.inside.rows.items _ _ _ _ c.self.invariant.sound c.self.view_is
-    c.deref.ensures.value c.deref-in-Some.ensures.value c.deref-in-Some-2.ensures.value c.in-Some.ensures c.end_of-end.ensures.answer in
-    ap (map (node_of c.self.inside.slots)) c.deref-in-Some-3.ensures.value ∙ c.in_ok-left-in-Some.ensures
+    let s = c.self.inside.slots in
+    let tree = ap (map (node_of s)) c.slice.ensures ∙ tree-here c.self.inside.slots c.args.node.number c.in-Some.at c.end_of-end.result c.self.inside.next c.self.inside.kept.items c.self.inside.rows.items _ c.self.invariant.sound c.self.view_is c.in-Some.ensures c.end_of-end.ensures.answer in
+    ap (map (node_of s)) c.deref.ensures.value ∙ c.in_ok-left-in-Some.ensures
     ∙ ap (printed c.in_ok-numbers-in-Some.numbers.keys) tree ∙ printed-same c.in_ok-numbers-in-Some.numbers.keys c.args.kept.now (tree_of c.args.node.number c.args.self.now.forest.nodes) c.in_ok-numbers-in-Some.ensures
 
 pub lit_of_rows-requires : goal.lit_of_rows-requires
@@ -25,10 +25,10 @@ lit_of_rows-requires c =
 
 pub returns-in_ok-left-in-Some : goal.returns-in_ok-left-in-Some
 returns-in_ok-left-in-Some c =
-    let k = (goal.at.returns-in_ok-left-in-Some c).After-deref-in-Some-3 in
+    let k = (goal.at.returns-in_ok-left-in-Some c).After-deref in
     let b = c.args.prefixes.now in
     subst (λ (l : List Node). IfOk c.lit_of_rows.result (λ lit. Some lit ≡ printed_as b l (first_tree_in (gathered (printing b) l)))) (left-here k) c.lit_of_rows.ensures
 
 pub returns-in-None : goal.returns-in-None
 returns-in-None c =
-    absurd (nothing-here c.self.inside.slots c.args.node.number c.self.inside.next c.self.inside.kept.items c.self.inside.rows.items _ _ c.self.view_is c.deref.ensures.value c.in-None.ensures c.requires)
+    absurd (nothing-here c.self.inside.slots c.args.node.number c.self.inside.next c.self.inside.kept.items c.self.inside.rows.items _ c.self.view_is c.in-None.ensures c.requires)

@@ -1,12 +1,9 @@
-use Rattle.std.proofs.Common.{◌≡◌, ◌<◌, length, get_or, ap, ◌∙◌, subst}
-use Rattle.std.proofs.lemmas.List.{get_or_default}
+use Rattle.std.proofs.Common.{◌<◌, length, ap, ◌∙◌}
 use Rattle.slab.specs.Slab.{get}
 use Rattle.xf_doc.specs.Texts.{Keeping}
 use Rattle.xf_doc.specs.Visit.{visits, top_of}
 use Rattle.xf_tree.specs.declared.rows.Row.{Row}
-use Rattle.xf_tree.specs.Reads.{last_row}
-use Rattle.xf_tree.specs.Tree.{StandsAt, number_in, no_row}
-use Rattle.xf_tree.specs.Walks.{ancestor_rows}
+use Rattle.xf_tree.specs.Tree.{number_in}
 use Rattle.xf_tree.proofs.TopLemmas.{top-means}
 use Rattle.xf_tree.proofs.forest.Forest.top.Goals as goal
 
@@ -16,9 +13,9 @@ returns-in-Some c =
     let s = c.self.inside.slots in
     let rows = c.self.inside.rows.items in
     let at = c.in-Some.at in
-    let here = subst (λ r. StandsAt s r n at) c.deref.ensures.value c.in-Some.ensures in
-    let within : c.top_row-top.result < length rows = subst (λ r. c.top_row-top.result < length r) c.deref-in-Some.ensures.value c.top_row-top.ensures.within in
-    let row = c.index.ensures ∙ get_or_default rows c.top_row-top.result _ no_row within in
-    let top = subst (λ r. get_or r c.top_row-top.result no_row ≡ last_row (get_or r at no_row) (ancestor_rows r at)) c.deref-in-Some.ensures.value c.top_row-top.ensures.answer in
+    let here = c.in-Some.ensures in
+    let within : c.top_row-top.result < length rows = c.top_row-top.ensures.within in
+    let row = c.at-place.ensures in
+    let top = c.top_row-top.ensures.answer in
     c.number_of.ensures ∙ ap (λ (r : Row). number_in (get s r.key)) (row ∙ top)
     ∙ top-means s n at rows c.self.inside.kept.items c.self.inside.next c.self.invariant.sound here ∙ ap (λ (k : Keeping). top_of n (visits k.forest.nodes)) c.self.view_is

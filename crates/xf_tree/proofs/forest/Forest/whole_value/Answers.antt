@@ -1,10 +1,9 @@
-use Rattle.std.proofs.Common.{map, false, ◌≡◌, sym, ap, ◌∙◌, subst}
+use Rattle.std.proofs.Common.{map, false, ◌≡◌, sym, ap, ◌∙◌}
 use Rattle.xf_doc.specs.Forest.{has_number}
 use Rattle.xf_doc.specs.StringValue.{pieces, whole}
 use Rattle.xf_doc.specs.Texts.{Keeping}
 use Rattle.xf_doc.specs.Visit.{visits}
-use Rattle.xf_tree.specs.Reads.{pieces_at}
-use Rattle.xf_tree.specs.Tree.{StandsAt, node_of}
+use Rattle.xf_tree.specs.Tree.{node_of}
 use Rattle.xf_tree.proofs.PieceLemmas.{pieces-means}
 use Rattle.xf_tree.proofs.ReadLemmas.{absent-pieces}
 use Rattle.xf_tree.proofs.forest.Forest.whole_value.Goals as goal
@@ -15,13 +14,13 @@ returns-in-Some c =
     let s = c.self.inside.slots in
     let rows = c.self.inside.rows.items in
     let at = c.in-Some.at in
-    let here = subst (λ r. StandsAt s r n at) c.deref.ensures.value c.in-Some.ensures in
-    c.whole_at.ensures ∙ ap (λ l. whole (pieces_at s l at)) c.deref-in-Some.ensures.value
+    let here = c.in-Some.ensures in
+    c.whole_at.ensures
     ∙ ap whole (sym (pieces-means s n at rows c.self.inside.kept.items c.self.inside.next c.self.invariant.sound here)) ∙ ap (λ (k : Keeping). whole (pieces n (visits k.forest.nodes))) c.self.view_is
 
 pub returns-in-None : goal.returns-in-None
 returns-in-None c =
     let n = c.args.node.number in
     let s = c.self.inside.slots in
-    let absent : has_number n (map (node_of s) c.self.inside.rows.items) ≡ false = subst (λ r. has_number n (map (node_of s) r) ≡ false) c.deref.ensures.value c.in-None.ensures in
+    let absent : has_number n (map (node_of s) c.self.inside.rows.items) ≡ false = c.in-None.ensures in
     ap whole (sym (absent-pieces n (map (node_of s) c.self.inside.rows.items) absent)) ∙ ap (λ (k : Keeping). whole (pieces n (visits k.forest.nodes))) c.self.view_is

@@ -1,4 +1,4 @@
-use Rattle.std.proofs.Common.{◌≡◌, ℕ, ◌+◌, ◌-◌, ◌<◌, ◌≤◌, ◌^◌, ◌++◌, ◌∷◌, [], List, length, map, take, drop, Some, sym, ap, ◌∙◌, subst, arith, false, vec_capacity}
+use Rattle.std.proofs.Common.{◌≡◌, ℕ, ◌+◌, ◌-◌, ◌<◌, ◌≤◌, ◌^◌, ◌++◌, ◌∷◌, [], List, length, map, take, drop, Some, refl, sym, ap, ◌∙◌, subst, arith, false}
 use Rattle.std.proofs.lemmas.List.{length-map}
 use Rattle.slab.specs.Slab.{Updates}
 use Rattle.xf_doc.specs.declared.node.NodeId.{NodeId}
@@ -24,7 +24,7 @@ use Rattle.xf_tree.proofs.forest.Forest.write_content.Goals as goal
 use Rattle.xf_tree.proofs.forest.Forest.write_content.Goals.{After-saturating_add-bytes as Counted, After-change_texts as Changed}
 
 stands-in : (c : Counted) → StandsAt c.self.inside.slots c.self.inside.rows.items c.args.node.number c.in-Some.at
-stands-in c = subst (λ r. StandsAt c.self.inside.slots r c.args.node.number c.in-Some.at) c.deref.ensures.value c.in-Some.ensures
+stands-in c = c.in-Some.ensures
 
 kind-in : (c : Counted) → kind_at c.args.node.number (map (node_of c.self.inside.slots) c.self.inside.rows.items) ≡ Some Element
 kind-in c = ap (λ (k : Keeping). kind_at c.args.node.number k.forest.nodes) c.self.view_is ∙ c.requires.kind
@@ -37,15 +37,15 @@ run-in : (c : Counted) (rows : List Row) → rows ≡ c.self.inside.rows.items �
 run-in c rows e =
     let at = c.in-Some.at in
     let old = c.self.inside.rows.items in
-    let end : c.end_of-end.result ≡ at + length (tree_of (drop at old)) = c.end_of-end.ensures.answer ∙ ap (λ l. at + length (tree_of (drop at l))) c.deref-2.ensures.value in
+    let end : c.end_of-end.result ≡ at + length (tree_of (drop at old)) = c.end_of-end.ensures.answer in
     let long : c.end_of-end.result - (at + 1) ≡ deeper (depth_at at old) (drop (at + 1) old) = omega (arith, end, tree-size at old (stands-in c).within) in
     ap (λ l. take (c.end_of-end.result - (at + 1)) (drop (at + 1) l)) e ∙ ap (λ k. take k (drop (at + 1) old)) long
 
 taken-in : (c : Counted) → c.texts_in-taken.result.0 ≡ length (children c.self.inside.slots (run_of c.in-Some.at c.self.inside.rows.items))
-taken-in c = c.texts_in-taken.ensures.count ∙ ap (λ l. length (children c.self.inside.slots l)) (run-in c c.deref-3.result.now c.deref-3.ensures.value)
+taken-in c = c.texts_in-taken.ensures.count ∙ ap (λ l. length (children c.self.inside.slots l)) (c.slice.ensures ∙ run-in c c.self.inside.rows.items refl)
 
 size-in : (c : Counted) → c.texts_in-taken.result.1 ≡ all_size (map (node_of c.self.inside.slots) (children c.self.inside.slots (run_of c.in-Some.at c.self.inside.rows.items)))
-size-in c = c.texts_in-taken.ensures.size ∙ ap (λ l. all_size (map (node_of c.self.inside.slots) (children c.self.inside.slots l))) (run-in c c.deref-3.result.now c.deref-3.ensures.value)
+size-in c = c.texts_in-taken.ensures.size ∙ ap (λ l. all_size (map (node_of c.self.inside.slots) (children c.self.inside.slots l))) (c.slice.ensures ∙ run-in c c.self.inside.rows.items refl)
 
 count-in : (c : Counted) → c.saturating_add-count.result ≡ c.self.inside.count - length (children c.self.inside.slots (run_of c.in-Some.at c.self.inside.rows.items)) + text_count c.args.text.now
 count-in c =
@@ -78,9 +78,9 @@ invariant_of-self c =
     let next = c.self.inside.next in
     let count = c.self.inside.count in
     let bytes = c.self.inside.bytes in
-    let state = same-state c.self.inside.slots s1 c.self.inside.rows.items c.self.inside.kept.items next count bytes _ (vec_capacity c.make_room.new.rows) c.make_room.ensures.same c.make_room.ensures.spare c.self.invariant in
-    subst (λ k. IsState s1 c.make_room.new.rows.items k next count bytes (vec_capacity c.make_room.new.rows)) (sym c.make_room.ensures.kept)
-    (subst (λ r. IsState s1 r c.self.inside.kept.items next count bytes (vec_capacity c.make_room.new.rows)) (sym c.make_room.ensures.rows) state)
+    let state = same-state c.self.inside.slots s1 c.self.inside.rows.items c.self.inside.kept.items next count bytes _ c.make_room.new.rows.capacity c.make_room.ensures.same c.make_room.ensures.spare c.self.invariant in
+    subst (λ k. IsState s1 c.make_room.new.rows.items k next count bytes c.make_room.new.rows.capacity) (sym c.make_room.ensures.kept)
+    (subst (λ r. IsState s1 r c.self.inside.kept.items next count bytes c.make_room.new.rows.capacity) (sym c.make_room.ensures.rows) state)
 
 pub change_texts-requires-clause-flat : goal.change_texts-requires-clause-flat
 change_texts-requires-clause-flat c =
@@ -101,7 +101,7 @@ keep_texts-requires-clause-had c =
     let p = (goal.at.keep_texts-requires-clause-had c).After-saturating_add-bytes in
     let s = c.self.inside.slots in
     let s2 = c.add_text-place.new.slots in
-    let run = run-in p c.deref-4.result.now (c.deref-4.ensures.value ∙ c.make_room.ensures.rows) in
+    let run = c.slice-2.ensures ∙ run-in p c.make_room.new.rows.items c.make_room.ensures.rows in
     let slot = subst (λ t. Updates c.make_room.new.slots s2 c.add_text-place.result (text_slot c.args.number t)) c.in_ok-word.ensures c.add_text-place.ensures.slot in
     let keeps = added-keeps s c.make_room.new.slots s2 c.add_text-place.result c.args.number c.args.text.now c.make_room.ensures.same c.add_text-place.ensures.vacant slot in
     let live = live-run s c.args.node.number c.in-Some.at c.self.inside.rows.items c.self.inside.kept.items c.self.inside.next c.self.invariant.sound (stands-in p) (kind-in p) (childless-in p) in
@@ -113,7 +113,7 @@ keep_texts-requires-clause-had c =
 slot-in : (c : Changed) → Updates c.make_room.new.slots c.add_text-place.new.slots c.add_text-place.result (text_slot c.args.number c.args.text.now)
 slot-in c = subst (λ t. Updates c.make_room.new.slots c.add_text-place.new.slots c.add_text-place.result (text_slot c.args.number t)) c.in_ok-word.ensures c.add_text-place.ensures.slot
 
-owned-in : (c : Changed) → take (c.end_of-end.result - (c.in-Some.at + 1)) (drop (c.in-Some.at + 1) c.deref-4.result.now) ≡ run_of c.in-Some.at c.self.inside.rows.items
+owned-in : (c : Changed) → c.slice-2.result ≡ run_of c.in-Some.at c.self.inside.rows.items
     → IsOwned c.args.node.number (keys_of (children c.add_text-place.new.slots (run_of c.in-Some.at c.self.inside.rows.items))) c.add_text-place.new.slots c.keep_texts.new.slots
 owned-in c run = subst (λ l. IsOwned c.args.node.number (keys_of (children c.add_text-place.new.slots l)) c.add_text-place.new.slots c.keep_texts.new.slots) run c.keep_texts.ensures.slots
 
@@ -125,7 +125,7 @@ rows-in c =
     is ∙ ap (λ k. map unsized (with_text_rows c.keep_texts.new.slots c.in-Some.at (texts k) c.make_room.new.rows.items)) c.text_count-more.ensures
     ∙ ap (λ r. map unsized (with_text_rows c.keep_texts.new.slots c.in-Some.at (texts (text_count c.args.text.now)) r)) c.make_room.ensures.rows
 
-kept-in : (c : Changed) → take (c.end_of-end.result - (c.in-Some.at + 1)) (drop (c.in-Some.at + 1) c.deref-4.result.now) ≡ run_of c.in-Some.at c.self.inside.rows.items
+kept-in : (c : Changed) → c.slice-2.result ≡ run_of c.in-Some.at c.self.inside.rows.items
     → c.keep_texts.new.kept.items ≡ c.self.inside.kept.items ++ keys_of (children c.add_text-place.new.slots (run_of c.in-Some.at c.self.inside.rows.items))
 kept-in c run =
     c.keep_texts.ensures.kept ∙ ap (λ l. c.make_room.new.kept.items ++ keys_of (children c.add_text-place.new.slots l)) run
@@ -146,13 +146,13 @@ invariant_of-self-2 c =
     let s3 = c.keep_texts.new.slots in
     let new = c.change_texts.new.rows.items in
     let went = children s (run_of at rows) in
-    let room = vec_capacity c.change_texts.new.rows in
-    let run = run-in p c.deref-4.result.now (c.deref-4.ensures.value ∙ c.make_room.ensures.rows) in
+    let room = c.change_texts.new.rows.capacity in
+    let run = c.slice-2.ensures ∙ run-in p c.make_room.new.rows.items c.make_room.ensures.rows in
     let here = stands-in p in
     let kind = kind-in p in
     let childless = childless-in p in
-    let few : length rows + length kept + 1 < 2 ^ 31 = omega (arith, c.in_ok-make_room.ensures.few, c.self.inside.rows.ok.0, c.self.inside.kept.ok.0) in
-    let spare : length rows + (length kept + 1) ≤ room = omega (arith, c.in_ok-make_room.ensures.row, c.change_texts.ensures.room, c.self.inside.rows.ok.0, c.self.inside.kept.ok.0) in
+    let few : length rows + length kept + 1 < 2 ^ 31 = omega (arith, c.in_ok-make_room.ensures.few, c.self.inside.kept.ok.0) in
+    let spare : length rows + (length kept + 1) ≤ room = omega (arith, c.in_ok-make_room.ensures.row, c.change_texts.ensures.room, c.self.inside.kept.ok.0) in
     let free : times number (map (node_of s) rows) + kept_times number (map (kept_of s) kept) ≡ 0 =
     subst (λ (k : Keeping). times number k.forest.nodes + kept_times number k.kept ≡ 0) (sym c.self.view_is) c.requires.number.free in
     let later : next ≤ c.args.next = subst (λ (k : Keeping). k.forest.next ≤ c.args.next) (sym c.self.view_is) c.requires.number.later in
@@ -181,7 +181,7 @@ returns-clause-ok c =
     let s3 = c.keep_texts.new.slots in
     let new = c.change_texts.new.rows.items in
     let went = children s (run_of at rows) in
-    let run = run-in p c.deref-4.result.now (c.deref-4.ensures.value ∙ c.make_room.ensures.rows) in
+    let run = c.slice-2.ensures ∙ run-in p c.make_room.new.rows.items c.make_room.ensures.rows in
     let here = stands-in p in
     let kind = kind-in p in
     let childless = childless-in p in
@@ -193,7 +193,7 @@ returns-clause-ok c =
     let keeps = added-keeps s c.make_room.new.slots s2 c.add_text-place.result number text c.make_room.ensures.same c.add_text-place.ensures.vacant (slot-in k) in
     let live = live-children s (run_of at rows) (live-run s n at rows kept next c.self.invariant.sound here kind childless) in
     let had : numbers_in c.keep_texts.new.had.items ≡ numbers_at s went =
-    c.keep_texts.ensures.had ∙ ap (λ l. numbers_in l ++ numbers_at s2 (children s2 (take (c.end_of-end.result - (at + 1)) (drop (at + 1) c.deref-4.result.now)))) c.in_ok-had.ensures.items
+    c.keep_texts.ensures.had ∙ ap (λ l. numbers_in l ++ numbers_at s2 (children s2 c.slice-2.result)) c.in_ok-had.ensures.items
     ∙ ap (λ l. numbers_at s2 (children s2 l)) run ∙ ap (numbers_at s2) same ∙ numbers-alike s s2 went live keeps in
     let pair : List ℕ → Keeping → Before × Keeping = λ t k. (element_texts t, k) in
     let written = content-written s n at number text rows kept next c.self.inside.count c.self.inside.bytes _ c.self.invariant here kind childless c.args.next in

@@ -1,6 +1,5 @@
 use Rattle.std.proofs.Common.{◌≡◌, ℕ, ◌+◌, ◌-◌, ◌≤◌, ◌^◌, map, get_or, List, true, Some, sym, ap, ◌∙◌, subst, arith}
 use Rattle.std.specs.Prelude.{option_map}
-use Rattle.std.proofs.lemmas.List.{get_or_default}
 use Rattle.slab.specs.Slab.{get, Updates}
 use Rattle.xf_doc.specs.declared.content.Kind.TheVariants.{Attribute}
 use Rattle.xf_doc.specs.Forest.{own_text, is_attribute, kind_at}
@@ -17,13 +16,13 @@ use Rattle.xf_tree.proofs.forest.Forest.write_value.Goals.{After-change_value-be
 
 -- where the node's row stands, and what it is
 stands-in : (c : Written) → StandsAt c.self.inside.slots c.self.inside.rows.items c.args.node.number c.in-Some.at
-stands-in c = subst (λ r. StandsAt c.self.inside.slots r c.args.node.number c.in-Some.at) c.deref.ensures.value c.in-Some.ensures
+stands-in c = c.in-Some.ensures
 
 kind-in : (c : Written) → kind_at c.args.node.number (map (node_of c.self.inside.slots) c.self.inside.rows.items) ≡ Some Attribute
 kind-in c = ap (λ (k : Keeping). kind_at c.args.node.number k.forest.nodes) c.self.view_is ∙ c.requires
 
-key-in : (c : Written) → c.index.result.now.key ≡ (get_or c.self.inside.rows.items c.in-Some.at no_row).key
-key-in c = ap (λ (r : Row). r.key) (c.index.ensures ∙ get_or_default c.self.inside.rows.items c.in-Some.at c.index.result.now no_row (stands-in c).within)
+key-in : (c : Written) → c.at-key.result.key ≡ (get_or c.self.inside.rows.items c.in-Some.at no_row).key
+key-in c = ap (λ (r : Row). r.key) (c.at-key.ensures)
 
 -- the one slot that is changed
 up-in : (c : Written) → Updates c.self.inside.slots c.change_value-before.new.slots (get_or c.self.inside.rows.items c.in-Some.at no_row).key
@@ -31,9 +30,9 @@ up-in : (c : Written) → Updates c.self.inside.slots c.change_value-before.new.
 up-in c =
     let s = c.self.inside.slots in
     let s2 = c.change_value-before.new.slots in
-    let up : Updates s s2 c.index.result.now.key (option_map (valued_slot c.in_ok-word.word) (get s c.index.result.now.key)) = c.change_value-before.ensures.slot in
+    let up : Updates s s2 c.at-key.result.key (option_map (valued_slot c.in_ok-word.word) (get s c.at-key.result.key)) = c.change_value-before.ensures.slot in
     subst (λ k. Updates s s2 k (option_map (valued_slot c.args.text.now) (get s k))) (key-in c)
-    (subst (λ t. Updates s s2 c.index.result.now.key (option_map (valued_slot t) (get s c.index.result.now.key))) c.in_ok-word.ensures up)
+    (subst (λ t. Updates s s2 c.at-key.result.key (option_map (valued_slot t) (get s c.at-key.result.key))) c.in_ok-word.ensures up)
 
 pub change_value-before-requires : goal.change_value-before-requires
 change_value-before-requires c =
