@@ -25,36 +25,22 @@ module _ (s : Slab Slot) (rows : List Row) (sought : Sought) (nodes : AreNodes s
   node_at_row i = node_of s (get_or rows i no_row)
 
   -- none of so many rows is sought
-  none-among : (depth from n end : ℕ) → from + n ≤ end → end ≤ length rows → ((i : ℕ) → from ≤ i → i < end → is_kin_sought depth sought (node_at_row i) ≡ false)
+  none-among : (depth from n end : ℕ) → from + n ≤ end → end ≤ length rows → ((i : ℕ) → from ≤ i → i < from + n → is_kin_sought depth sought (node_at_row i) ≡ false)
       → sought_within s rows sought (is_kin depth false) (from + n) end ≡ sought_within s rows sought (is_kin depth false) from end
   none-among depth from zero end h l none = let e : from + 0 ≡ from = omega arith in ap (λ k. sought_within s rows sought (is_kin depth false) k end) e
   none-among depth from (suc n) end h l none =
       let e : from + suc n ≡ (from + 1) + n = omega arith in
       let less : from < end = omega arith in
+      let one : from < from + suc n = omega arith in
       ap (λ k. sought_within s rows sought (is_kin depth false) k end) e
-      ∙ none-among depth (from + 1) n end (omega arith) l (λ i a b. none i (omega (arith, a)) b)
-      ∙ rows-passed s rows sought nodes (is_kin depth false) from end less l (omega (arith, less, l)) (none from (omega arith) less)
+      ∙ none-among depth (from + 1) n end (omega arith) l (λ i a b. none i (omega (arith, a)) (omega (arith, b)))
+      ∙ rows-passed s rows sought nodes (is_kin depth false) from end less l (omega (arith, less, l)) (none from (omega arith) one)
 
-  pub none-there : (depth at end : ℕ) → at ≤ end → end ≤ length rows → ((i : ℕ) → at ≤ i → i < end → is_kin_sought depth sought (node_at_row i) ≡ false)
-      → sought_within s rows sought (is_kin depth false) end end ≡ sought_within s rows sought (is_kin depth false) at end
-  none-there depth at end h l none =
-      let e : end ≡ at + (end - at) = omega arith in
-      ap (λ k. sought_within s rows sought (is_kin depth false) k end) e ∙ none-among depth at (end - at) end (omega arith) l none
-
-  none-before : (depth at place end : ℕ) → at ≤ place → place < end → end ≤ length rows → ((i : ℕ) → at ≤ i → i < place → is_kin_sought depth sought (node_at_row i) ≡ false)
+  pub none-before : (depth at place end : ℕ) → at ≤ place → place ≤ end → end ≤ length rows → ((i : ℕ) → at ≤ i → i < place → is_kin_sought depth sought (node_at_row i) ≡ false)
       → sought_within s rows sought (is_kin depth false) place end ≡ sought_within s rows sought (is_kin depth false) at end
-  none-before depth at place end h m l none = by (place - at) (omega arith)
-    where
-      by : (n : ℕ) → place ≡ at + n → sought_within s rows sought (is_kin depth false) place end ≡ sought_within s rows sought (is_kin depth false) at end
-      by n e = up n at (omega (arith, h)) e
-        where
-          up : (n from : ℕ) → at ≤ from → place ≡ from + n → sought_within s rows sought (is_kin depth false) place end ≡ sought_within s rows sought (is_kin depth false) from end
-          up zero from a e = let z : place ≡ from = omega arith in ap (λ k. sought_within s rows sought (is_kin depth false) k end) z
-          up (suc n) from a e =
-              let less : from < place = omega arith in
-              let far : from < end = omega (arith, less, m) in
-              up n (from + 1) (omega (arith, a)) (omega arith)
-              ∙ rows-passed s rows sought nodes (is_kin depth false) from end far l (omega (arith, far, l)) (none from a less)
+  none-before depth at place end h m l none =
+      let e : place ≡ at + (place - at) = omega arith in
+      ap (λ k. sought_within s rows sought (is_kin depth false) k end) e ∙ none-among depth at (place - at) end (omega (arith, h, m)) l (λ i a b. none i a (omega (arith, b, h)))
 
   -- but one of the rows
   pub none-but : (depth at place end : ℕ) → at ≤ place → place < end → end ≤ length rows
@@ -65,10 +51,10 @@ module _ (s : Slab Slot) (rows : List Row) (sought : Sought) (nodes : AreNodes s
       let one = number_of_row s rows place in
       let within : place < length rows = omega (arith, m, l) in
       let next : place < place + 1 = omega arith in
-      let ahead = none-before depth at place end h m l (λ i a less. none i a (omega (arith, less, m)) (λ e. omega (arith, less, e))) in
+      let ahead = none-before depth at place end h (omega (arith, m)) l (λ i a less. none i a (omega (arith, less, m)) (λ e. omega (arith, less, e))) in
       let here = rows-on s rows sought nodes (is_kin depth false) place end b m l within refl in
       let behind : sought_within s rows sought (is_kin depth false) (place + 1) end ≡ [] =
-      sym (none-there depth (place + 1) end (omega (arith, m)) l (λ i a less. none i (omega (arith, a, h)) less (λ e. omega (arith, a, e)))) ∙ within-none s rows sought nodes (is_kin depth false) end end (omega arith) in
+      sym (none-before depth (place + 1) end end (omega (arith, m)) (omega arith) l (λ i a less. none i (omega (arith, a, h)) less (λ e. omega (arith, a, e)))) ∙ within-none s rows sought nodes (is_kin depth false) end end (omega arith) in
       let alone = rows-on s rows sought nodes (is_kin depth false) place (place + 1) b next (omega (arith, within)) within refl in
       let end_of_it : place + 1 ≤ place + 1 = omega arith in
       alone ∙ ap (λ ns. alone_where b one ++ ns) (within-none s rows sought nodes (is_kin depth false) (place + 1) (place + 1) end_of_it ∙ sym behind) ∙ sym here ∙ ahead

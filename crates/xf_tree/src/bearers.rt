@@ -56,7 +56,8 @@ impl Bearers {
 
     /// Which key an element of a local name may stand under.
     pub fn of(&self, local: &str) -> Bearer
-        ensures { (key : ℕ) → may_bear self.now local.now key ≡ true → IsBearer result key }
+        ensures all { (key : ℕ) → may_bear self.now local.now key ≡ true → IsBearer result key }
+        ensures only { (key : ℕ) → IsBearer result key → may_bear self.now local.now key ≡ true }
     {
         if !self.is_whole {
             return Bearer::Anybody;

@@ -2,7 +2,6 @@ use Rattle.std.proofs.Common.{◌++◌, ◌+◌, ◌<◌, ◌≤◌, length, get
 use Rattle.xf_tree.specs.Found.{alone_where, is_plain_sought, sought_within}
 use Rattle.xf_tree.specs.Tree.{no_row, node_of}
 use Rattle.xf_tree.specs.Walks.{is_plain, number_of_row}
-use Rattle.xf_tree.specs.Walks.{is_plain}
 use Rattle.xf_tree.proofs.SoughtLemmas.{rows-on, within-none}
 use Rattle.xf_tree.proofs.chosen.push_between.Goals as goal
 
