@@ -107,6 +107,7 @@ tag-simple b all place r first known tag.Input e h p = ap is_simple (by-class b 
 tag-simple b all place r first known tag.Secret e h p = ap is_simple (by-class b all place r first known tag.Secret e)
 tag-simple b all place r first known tag.Textarea e h p = ap is_simple (by-class b all place r first known tag.Textarea e)
 tag-simple b all place r first known tag.Output e h p = output-simple all place r _ (is_inline r)
+tag-simple b all place r first known tag.Group e h p = ap is_simple (by-class b all place r first known tag.Group e)
 tag-simple b all place r first known tag.Label e h p = refl
 tag-simple b all place r first known t e h p = cc
 

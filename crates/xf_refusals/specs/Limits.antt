@@ -37,6 +37,7 @@ is_built tag.Input = true
 is_built tag.Secret = true
 is_built tag.Textarea = true
 is_built tag.Output = true
+is_built tag.Group = true
 is_built tag.Label = true
 is_built tag.Help = true
 is_built tag.Hint = true

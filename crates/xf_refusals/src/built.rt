@@ -21,6 +21,7 @@ fn is_built(tag: Tag) -> bool
         Tag::Secret => true,
         Tag::Textarea => true,
         Tag::Output => true,
+        Tag::Group => true,
         Tag::Label => true,
         Tag::Help => true,
         Tag::Hint => true,
