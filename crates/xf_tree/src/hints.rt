@@ -9,12 +9,13 @@ struct Hint {
     parent: usize,
 }
 
-/// What is thought of nodes, by their keys. Rows from one place on may all have moved back by so many since they were noted: a text that
-/// comes in moves what stands behind it, and of that nothing is noted anew as long as the next ones come in behind it.
+/// What is thought of nodes, by their keys. Rows from one place on may all have moved by so many since they were noted: a text that comes in or
+/// goes moves what stands behind it, and of that nothing is noted anew but what stands between the places of two such changes.
 #[derive(Drop)]
 pub struct Hints {
     list: Vec<Hint>,
     from: usize,
+    // Forward where it is small, and back where it is so large that a sum wraps.
     by: usize,
 }
 
@@ -55,10 +56,10 @@ impl Hints {
         }
     }
 
-    /// Where a row stands now that moved back with all others since it was noted.
+    /// Where a row stands now that moved with all others since it was noted.
     #[inline(always)]
     pub fn moved(&self, noted: usize) -> usize {
-        noted.saturating_add(self.by)
+        noted.wrapping_add(self.by)
     }
 
     /// Notes where the row of the node under a key stands.
@@ -67,7 +68,7 @@ impl Hints {
             self.list[key].row = if at < self.from {
                 at
             } else {
-                at.saturating_sub(self.by)
+                at.wrapping_sub(self.by)
             };
         }
     }
@@ -86,21 +87,21 @@ impl Hints {
         }
     }
 
-    /// Takes it that the rows that stand from a place on moved back there by so many. What stands between them and those that moved before
-    /// is noted, so that texts that come in one behind the other cost what stands between them.
-    pub fn move_back(&mut self, rows: &Rows, behind: usize, by: usize) {
+    /// Takes it that the rows that stand from a place on stood from another one on before. What stands between this change and the last one is noted
+    /// anew, so that texts that come in or go one behind the other, or one before the other, cost what stands between them.
+    pub fn shift(&mut self, rows: &Rows, behind: usize, stood: usize) {
         let had = self.from;
         let moved = self.by;
-        self.by = moved.saturating_add(by);
+        let by = behind.wrapping_sub(stood);
+        self.by = moved.wrapping_add(by);
         self.from = behind;
         if moved == 0 {
             return;
         }
-        if had <= behind.saturating_sub(by) {
+        if had <= stood {
             self.note_rows(rows, had, behind);
             return;
         }
-        self.from = had.saturating_add(by);
-        self.note_rows(rows, behind, had.saturating_add(by));
+        self.note_rows(rows, behind, had.wrapping_add(by));
     }
 }

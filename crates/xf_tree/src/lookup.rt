@@ -185,7 +185,8 @@ pub fn is_kin_at(rows: &Rows, slots: &Slots, at: usize, depth: u32, wanted: bool
     requires { at < length rows.now.items }
     ensures { result ≡ is_kin depth wanted (node_of slots.now (slice_index_or rows.now.items at no_row)) }
 {
-    rows.at(at).depth == depth && is_of_kind(slots, rows.at(at).key, wanted)
+    let row = rows.at(at);
+    row.depth == depth && is_of_kind(slots, row.key, wanted)
 }
 
 /// Where the row of the parent of the node under a key was noted.

@@ -123,11 +123,7 @@ fn note_run(hints: &mut Hints, rows: &Rows, at: usize, end: usize) {
 
 /// Notes where the rows behind a run stand that ended at another place before. What is noted is only a hint.
 fn note_behind(hints: &mut Hints, rows: &Rows, behind: usize, had: usize) {
-    if had < behind {
-        hints.move_back(rows, behind, behind - had);
-        return;
-    }
-    if behind < had {
-        hints.note_rows(rows, behind, rows.len());
+    if behind != had {
+        hints.shift(rows, behind, had);
     }
 }

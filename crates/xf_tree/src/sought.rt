@@ -129,5 +129,6 @@ fn is_kin_sought_at(rows: &Rows, slots: &Slots, at: usize, depth: u32, sought: S
     requires { at < length rows.now.items }
     ensures { result ≡ is_kin_sought depth sought.entry (node_of slots.now (slice_index_or rows.now.items at no_row)) }
 {
-    rows.at(at).depth == depth && slots.is_plain_sought(rows.at(at).key, sought)
+    let row = rows.at(at);
+    row.depth == depth && slots.is_plain_sought(row.key, sought)
 }
