@@ -306,6 +306,15 @@ kid-element forest p n at name cs totals seen_so_far index sound is s c t k e =
     ∙ ap (λ m. if nat_lt 1 (count_in (is_named w) forest.nodes (axis_of Child p (visits forest.nodes))) then bracketed (suc m) else []) (k w ∙ ap (λ l. count_in (is_named w) forest.nodes (take at l)) is)
     ∙ sym (element-index forest p n at name sound (ap (λ l. slice_get l at) (sym is) ∙ s) c)
 
+-- one child alone needs no brackets
+pub alone-index : (name : List ℕ) (nodes : List Node) (cs : List ℕ) → length cs ≡ 1 → [] ≡ (if nat_lt 1 (count_in (is_named name) nodes cs) then bracketed 1 else [])
+alone-index name nodes cs h = by (count_in (is_named name) nodes cs) (omega (arith, count_by-le-length (λ (n : ℕ). meets (is_named name) (content_at n nodes)) cs, h))
+  where
+    by : (k : ℕ) → k ≤ 1 → [] ≡ (if nat_lt 1 k then bracketed 1 else [])
+    by zero l = refl
+    by (suc zero) l = refl
+    by (suc (suc k)) l = absurd (omega (arith, l))
+
 pub kid-text : (forest : Forest) (p n at : ℕ) (text : List ℕ) (cs : List ℕ) (texts : ℕ) → HasTrees forest → cs ≡ axis_of Child p (visits forest.nodes) → slice_get cs at ≡ Some n → content_at n forest.nodes ≡ Some (Text text)
     → texts ≡ count_in is_text forest.nodes (take at cs) → index_text (Some (texts + 1)) ≡ index_of (visits forest.nodes) n
 kid-text forest p n at text cs texts sound is s c e =

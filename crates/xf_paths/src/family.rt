@@ -1,5 +1,5 @@
 //! The children of a node, each with its place among those of its kind.
-ghost use Rattle.std.specs.Prelude.{◌≡◌, ◌+◌, ◌<◌, ◌^◌, ℕ, suc, List, [], IfOk, OnOk, nat_lt, if◌then◌else◌};
+ghost use Rattle.std.specs.Prelude.{◌≡◌, ◌+◌, ◌<◌, ◌^◌, ℕ, suc, List, [], IfOk, OnOk, length, nat_lt, if◌then◌else◌};
 ghost use Rattle.std.specs.List.{All, list_any};
 ghost use Rattle.std.specs.Str.{bytes_eq};
 ghost use Rattle.xf_doc.specs.Axis.{axis_of};
@@ -10,7 +10,7 @@ ghost use Rattle.xf_doc.specs.Visit.{visits};
 ghost use Rattle.xf_doc.specs.WellFormed.{HasTrees};
 ghost use Rattle.xf_paths.specs.Family.{IsKid, IsSort, count_in, index_text, is_named, meets, tallied};
 
-use crate::written::{Tally, add, tallied, written};
+use crate::written::{Tally, add, add_name, tallied, written};
 use std::alloc::{AllocError, Global};
 use std::collections::HashMap;
 use xf_doc::{Name, NodeId, NodeList};
@@ -42,7 +42,11 @@ pub fn family_of(alloc: Global, forest: &Forest, node: NodeId) -> Result<Family,
 {
     forest.are_trees();
     let children = children_of(alloc, forest, node)?;
-    let mut kids = kids_of(alloc, forest, node, &children)?;
+    let mut kids = if children.len() == 1 {
+        only_kid(alloc, forest, node, &children)?
+    } else {
+        kids_of(alloc, forest, node, &children)?
+    };
     kids.reverse();
     Ok(Family {
         kids,
@@ -96,6 +100,32 @@ fn has_element(forest: &Forest, nodes: &NodeList) -> bool
     false
 }
 
+/// The one child that there is. Nothing has to be counted for it.
+fn only_kid(
+    alloc: Global,
+    forest: &Forest,
+    node: NodeId,
+    children: &NodeList,
+) -> Result<Vec<Kid>, AllocError>
+    requires trees { HasTrees forest.now.forest }
+    requires children { children.now ≡ axis_of Axis.Child node.number (visits forest.now.forest.nodes) }
+    requires one { length children.now ≡ 1 }
+    ensures { IfOk result (λ kids. All (IsKid (visits forest.now.forest.nodes)) kids.items) }
+{
+    let child = children.at(0);
+    let index = match sort_of(forest, child) {
+        Sort::Element(_) => None,
+        Sort::Text => Some(1),
+        Sort::Other => None,
+    };
+    let mut kids = Vec::with_capacity(alloc, 1)?;
+    kids.push(Kid {
+        number: child.number,
+        index,
+    })?;
+    Ok(kids)
+}
+
 /// The children in document order, with their indexes.
 fn kids_of(
     alloc: Global,
@@ -136,7 +166,7 @@ fn totals_of(alloc: Global, forest: &Forest, nodes: &NodeList) -> Result<Tally, 
     let mut tally = HashMap::new(alloc);
     for at in 0..nodes.len() {
         match sort_of(forest, nodes.at(at)) {
-            Sort::Element(name) => add(&mut tally, written(alloc, name)?)?,
+            Sort::Element(name) => add_name(alloc, &mut tally, name)?,
             Sort::Text => continue,
             Sort::Other => continue,
         }
@@ -155,11 +185,27 @@ fn next_place(
     ensures place { IfOk result (λ place. index_text place ≡ (if nat_lt 1 (tallied totals.now (written name.now)) then bracketed (suc (tallied seen.old (written name.now))) else [])) }
     ensures seen { OnOk result ((w : List ℕ) → tallied seen.new w ≡ (if bytes_eq w (written name.now) then 1 else 0) + tallied seen.old w) }
 {
-    let name = written(alloc, name)?;
-    let place = tallied(seen, name.as_str()) + 1;
-    let is_one_of_many = tallied(totals, name.as_str()) > 1;
-    add(seen, name)?;
-    if is_one_of_many {
+    if name.prefix.is_empty() {
+        return place_of(alloc, totals, seen, name.meaning.local.as_str());
+    }
+    let text = written(alloc, name)?;
+    place_of(alloc, totals, seen, text.as_str())
+}
+
+/// The same of a name as it is written.
+fn place_of(
+    alloc: Global,
+    totals: &Tally,
+    seen: &mut Tally,
+    name: &str,
+) -> Result<Option<usize>, AllocError>
+    requires { tallied seen.old name.now + 1 < 2 ^ 64 }
+    ensures place { IfOk result (λ place. index_text place ≡ (if nat_lt 1 (tallied totals.now name.now) then bracketed (suc (tallied seen.old name.now)) else [])) }
+    ensures seen { OnOk result ((w : List ℕ) → tallied seen.new w ≡ (if bytes_eq w name.now then 1 else 0) + tallied seen.old w) }
+{
+    let place = tallied(seen, name) + 1;
+    add(alloc, seen, name)?;
+    if tallied(totals, name) > 1 {
         return Ok(Some(place));
     }
     Ok(None)

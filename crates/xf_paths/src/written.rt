@@ -81,12 +81,38 @@ pub fn tallied(tally: &Tally, name: &str) -> usize
     tally.get(name).copied().unwrap_or(0)
 }
 
-/// Counts a name once more.
-pub fn add(tally: &mut Tally, name: String) -> Result<(), AllocError>
-    requires { tallied tally.old (string_bytes name) + 1 < 2 ^ 64 }
-    ensures { OnOk result ((w : List ℕ) → tallied tally.new w ≡ (if bytes_eq w (string_bytes name) then 1 else 0) + tallied tally.old w) }
+/// Counts a name once more. Memory is taken for one that comes first.
+pub fn add(alloc: Global, tally: &mut Tally, name: &str) -> Result<(), AllocError>
+    requires { tallied tally.old name.now + 1 < 2 ^ 64 }
+    ensures { OnOk result ((w : List ℕ) → tallied tally.new w ≡ (if bytes_eq w name.now then 1 else 0) + tallied tally.old w) }
 {
-    let count = tallied(tally, name.as_str()) + 1;
-    tally.insert(name, count)?;
+    match tally.get_mut(name) {
+        Some(count) => {
+            *count += 1;
+            Ok(())
+        }
+        None => add_first(alloc, tally, name),
+    }
+}
+
+/// Counts a name that was not there.
+fn add_first(alloc: Global, tally: &mut Tally, name: &str) -> Result<(), AllocError>
+    requires { tallied tally.old name.now ≡ 0 }
+    ensures { OnOk result ((w : List ℕ) → tallied tally.new w ≡ (if bytes_eq w name.now then 1 else 0) + tallied tally.old w) }
+{
+    let name = String::from_str(alloc, name)?;
+    tally.insert(name, 1)?;
     Ok(())
+}
+
+/// Counts a name as it is written. One without a prefix is written as it stands in memory.
+pub fn add_name(alloc: Global, tally: &mut Tally, name: &Name) -> Result<(), AllocError>
+    requires { tallied tally.old (written name.now) + 1 < 2 ^ 64 }
+    ensures { OnOk result ((w : List ℕ) → tallied tally.new w ≡ (if bytes_eq w (written name.now) then 1 else 0) + tallied tally.old w) }
+{
+    if name.prefix.is_empty() {
+        return add(alloc, tally, name.meaning.local.as_str());
+    }
+    let text = written(alloc, name)?;
+    add(alloc, tally, text.as_str())
 }

@@ -1,5 +1,4 @@
-use Rattle.std.proofs.Common.{ℕ, ◌<◌, length, cond, ap, sym, ◌∙◌, arith}
-use Rattle.std.specs.Str.{bytes_eq}
+use Rattle.std.proofs.Common.{◌<◌, length, ap, sym, ◌∙◌, arith}
 use Rattle.xf_doc.specs.Forest.{content_at, is_element}
 use Rattle.xf_paths.specs.Family.{is_named, meets}
 use Rattle.xf_paths.proofs.FamilyLemmas.{count-more, count-same, named-not}
@@ -23,6 +22,5 @@ pub loop-at-preserved : goal.loop-at-preserved
 loop-at-preserved c = λ w.
     let h : c.loop-at.at < length c.args.nodes.now = omega arith in
     let more = count-more (is_named w) c.args.forest.now.forest.nodes c.args.nodes.now c.loop-at.at c.at.result.number _ h c.at.ensures c.in-Element.ensures in
-    let added = c.in_ok-add-in-Element.ensures w in
-    let same = ap (λ t. cond {A = ℕ} (bytes_eq w t) 1 0) c.in_ok-written-in-Element.ensures in
-    omega (arith, more, added, same, c.loop-at.invariant w)
+    let added = c.in_ok-add_name-in-Element.ensures w in
+    omega (arith, more, added, c.loop-at.invariant w)
