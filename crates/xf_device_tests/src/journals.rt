@@ -3,9 +3,8 @@ ghost use Rattle.std.specs.Prelude.{IsTrue, IfSome};
 ghost use Rattle.xf_journal.specs.Entry.{is_within, are_within};
 
 use std::alloc::{AllocError, Global};
-use std::test::Fail;
 use xf_disk::{Call, Disk, FusedDisk, MemoryDisk, Slot};
-use xf_io::Bytes;
+use xf_io::{Bytes, Failed};
 use xf_journal::*;
 use xf_store::{Answer, Answers};
 
@@ -36,58 +35,66 @@ enum Found {
 
 fn found_on(alloc: Global, a: &[u8], b: &[u8]) -> Result<Found, AllocError> {
     let mut disk = MemoryDisk::new(alloc, a, b, 512, 16)?;
-    Ok(match scan(alloc, &mut disk) {
+    let scanned = scan(alloc, &mut disk);
+    Ok(found_by(&scanned))
+}
+
+fn found_by(scanned: &Result<Option<Scanned>, JournalFault>) -> Found {
+    match scanned {
         Ok(None) => Found::Nothing,
         Ok(Some(scanned)) => Found::Entries(scanned.journal.count(), scanned.cut),
-        Err(JournalFault::Damaged(slot, at)) => Found::Damaged(slot, at),
+        Err(JournalFault::Damaged(slot, at)) => Found::Damaged(*slot, *at),
         Err(_) => Found::Else,
-    })
+    }
+}
+
+// Makes a journal of that form in slot A, where the disk has room for it.
+fn created(alloc: Global, disk: &mut MemoryDisk) -> Option<Journal> {
+    let image = image(alloc).ok()?;
+    if image.form.len() > 1 << 20 || image.base.len() > 2 {
+        return None;
+    }
+    create(disk, Slot::A, 1, &image).ok()
+}
+
+// Appends an entry, where the journal stands in the slot and the entry has room.
+fn append(
+    disk: &mut MemoryDisk,
+    journal: &mut Journal,
+    entry: &Entry,
+) -> Option<Result<(), Failed>> {
+    let stands = disk.held(journal.slot()).len() as u64;
+    if journal.used() > stands || journal.used() > 256 || entry.len() > 28 {
+        return None;
+    }
+    Some(journal.append(disk, entry))
 }
 
 #[test]
-fn a_new_slot_and_one_entry_have_their_bytes(rt: HostRuntime) -> Result<(), Fail> {
-    let alloc = rt.alloc();
-    let image = image(alloc)?;
-    assert!(rt; image.form.len() <= 1 << 20 && image.base.len() <= 2);
-    let mut disk = MemoryDisk::new(alloc, b"", b"", 256, 64)?;
-    let mut journal = create(&mut disk, Slot::A, 1, &image)
-        .ok()
-        .expect(&rt, "room");
-    assert_eq!(rt; disk.held(Slot::A).len(), 147);
-    let calls = disk.calls().len();
-    let entry = make_entry(alloc, LINE, &Answers::new(alloc))?;
-    assert!(rt; entry.len() == 28 && journal.used() == 147);
-    assert_eq!(rt; journal.slot(), Slot::A);
-    assert_eq!(rt; journal.append(&mut disk, &entry), Ok(()));
-    let want = [
+fn a_new_slot_and_one_entry_have_their_bytes(rt: HostRuntime) {
+    const CALLS: [Call; 4] = [
         Call::Write(Slot::A, 147, 28),
         Call::Sync(Slot::A),
         Call::Write(Slot::A, 146, 1),
         Call::Sync(Slot::A),
     ];
-    assert!(rt; calls <= disk.calls().len());
-    assert_eq!(rt; &disk.calls()[calls..], want.as_slice());
-    let bytes = disk.held(Slot::A);
-    assert_eq!(rt; bytes.len(), 175);
-    assert_eq!(rt;
-        &bytes[..21],
-        b"\x01XFS1\x01\0\0\0\0\0\0\0\x7b\0\0\0\x02\0\0\0".as_slice()
-    );
-    assert_eq!(rt; &bytes[21..144], FORM.as_slice());
-    assert_eq!(rt;
-        &bytes[144..155],
-        [0, 0, 1, 23, 0, 0, 0, 18, 0, 0, 0].as_slice()
-    );
-    assert_eq!(rt; &bytes[155..], b"[\"set\",\"a\",[],\"2\"]\0\0".as_slice());
-    assert!(rt; disk.held(Slot::B).is_empty());
-    Ok(())
+    let entry = make_entry(rt.alloc(), LINE, &Answers::new(rt.alloc())).expect(&rt, "room");
+    assert_gives!(rt; entry.len(), 28);
+    let mut disk = MemoryDisk::new(rt.alloc(), b"", b"", 256, 64).expect(&rt, "room");
+    let mut journal = created(rt.alloc(), &mut disk).expect(&rt, "room");
+    assert_gives!(rt; (journal.slot(), journal.used()), (Slot::A, 147));
+    assert_gives!(rt; disk.held(Slot::A).len(), 147);
+    let calls = disk.calls().len();
+    assert_gives!(rt; append(&mut disk, &mut journal, &entry), Some(Ok(())));
+    assert_gives!(rt; disk.calls().get(calls..), Some(CALLS.as_slice()));
+    assert_gives!(rt; disk.held(Slot::A), SLOT.as_slice());
+    assert_gives!(rt; disk.held(Slot::B).is_empty(), true);
 }
 
 #[test]
-fn a_slot_that_is_cut_is_damaged_where_it_ends(rt: HostRuntime) -> Result<(), Fail> {
-    let alloc = rt.alloc();
+fn a_slot_that_is_cut_is_damaged_where_it_ends(rt: HostRuntime) {
     // from how many bytes to how many, the last not counted, and what is found then
-    let cases = [
+    const CASES: [(usize, usize, Found); 6] = [
         (0, 22, Found::Nothing),
         (22, 144, Found::Damaged(Slot::A, 13)),
         (144, 146, Found::Damaged(Slot::A, 17)),
@@ -95,20 +102,19 @@ fn a_slot_that_is_cut_is_damaged_where_it_ends(rt: HostRuntime) -> Result<(), Fa
         (174, 175, Found::Entries(1, Some(174))),
         (175, 176, Found::Entries(1, None)),
     ];
-    for (from, end, want) in cases {
+    for (from, end, want) in CASES {
         for n in from..end {
             assert!(rt; n <= SLOT.len());
-            assert_eq!(rt; found_on(alloc, &SLOT[..n], b"")?, want, "{n}");
+            let found = found_on(rt.alloc(), &SLOT[..n], b"").expect(&rt, "room");
+            assert_gives!(rt; (n, found), (n, want));
         }
     }
-    Ok(())
 }
 
 #[test]
-fn a_byte_that_is_changed_is_found(rt: HostRuntime) -> Result<(), Fail> {
-    let alloc = rt.alloc();
+fn a_byte_that_is_changed_is_found(rt: HostRuntime) {
     // an offset of slot A, the byte there, and what is found
-    let cases = [
+    const CASES: [(usize, u8, Found); 18] = [
         (0, 0, Found::Nothing),
         (0, 255, Found::Nothing),
         (1, 0, Found::Damaged(Slot::A, 1)),
@@ -128,13 +134,13 @@ fn a_byte_that_is_changed_is_found(rt: HostRuntime) -> Result<(), Fail> {
         (174, 1, Found::Entries(1, Some(174))),
         (174, 2, Found::Entries(1, None)),
     ];
-    for (at, byte, want) in cases {
+    for (at, byte, want) in CASES {
         let mut slot = *SLOT;
         assert!(rt; at < slot.len());
         slot[at] = byte;
-        assert_eq!(rt; found_on(alloc, &slot, b"")?, want, "{at} {byte}");
+        let found = found_on(rt.alloc(), &slot, b"").expect(&rt, "room");
+        assert_gives!(rt; (at, byte, found), (at, byte, want));
     }
-    Ok(())
 }
 
 // the first entry of a journal as it was scanned
@@ -146,24 +152,22 @@ fn first_of(entries: &EntryList) -> Option<&Accepted>
 }
 
 #[test]
-fn a_scanned_entry_can_be_written_again(rt: HostRuntime) -> Result<(), Fail> {
-    let alloc = rt.alloc();
-    let mut disk = MemoryDisk::new(alloc, SLOT, b"", 512, 16)?;
+fn a_scanned_entry_can_be_written_again(rt: HostRuntime) {
+    let mut disk = MemoryDisk::new(rt.alloc(), SLOT, b"", 512, 16).expect(&rt, "room");
     let mut length = None;
-    if let Ok(Some(scanned)) = scan(alloc, &mut disk) {
+    if let Ok(Some(scanned)) = scan(rt.alloc(), &mut disk) {
         if let Some(first) = first_of(&scanned.entries) {
-            length = Some(make_entry(alloc, first.line.as_slice(), &first.answers)?.len());
+            let entry = make_entry(rt.alloc(), first.line.as_slice(), &first.answers);
+            length = Some(entry.expect(&rt, "room").len());
         }
     }
-    assert_eq!(rt; length, Some(28));
-    Ok(())
+    assert_gives!(rt; length, Some(28));
 }
 
 #[test]
-fn the_greater_epoch_is_in_use(rt: HostRuntime) -> Result<(), Fail> {
-    let alloc = rt.alloc();
+fn the_greater_epoch_is_in_use(rt: HostRuntime) {
     // the bytes at 1, 5 and 146 of slot A and of slot B, and what is found
-    let cases = [
+    const CASES: [([u8; 3], [u8; 3], Found); 6] = [
         ([b'X', 1, 1], [b'X', 2, 0], Found::Entries(0, None)),
         ([b'X', 2, 1], [b'X', 1, 0], Found::Entries(1, None)),
         ([b'X', 1, 1], [b'X', 1, 0], Found::Damaged(Slot::B, 5)),
@@ -171,16 +175,19 @@ fn the_greater_epoch_is_in_use(rt: HostRuntime) -> Result<(), Fail> {
         ([0, 1, 1], [b'X', 2, 0], Found::Entries(0, None)),
         ([b'X', 2, 1], [0, 3, 0], Found::Damaged(Slot::B, 1)),
     ];
-    for (a, b, want) in cases {
-        let mut slots = [*SLOT, *SLOT];
-        for (slot, [tag, epoch, gate]) in slots.iter_mut().zip([a, b]) {
-            slot[1] = tag;
-            slot[5] = epoch;
-            slot[146] = gate;
-        }
-        assert_eq!(rt; found_on(alloc, &slots[0], &slots[1])?, want);
+    for (a, b, want) in CASES {
+        let found = found_on(rt.alloc(), &slot_with(a), &slot_with(b)).expect(&rt, "room");
+        assert_gives!(rt; (a, b, found), (a, b, want));
     }
-    Ok(())
+}
+
+// the slot with these bytes at 1, 5 and 146
+fn slot_with([tag, epoch, gate]: [u8; 3]) -> [u8; 175] {
+    let mut slot = *SLOT;
+    slot[1] = tag;
+    slot[5] = epoch;
+    slot[146] = gate;
+    slot
 }
 
 /// A fill for the bytes that were written since the last sync, and how far a slot may have grown.
@@ -210,26 +217,37 @@ fn run(disk: &mut FusedDisk<MemoryDisk>, image: &Image, entry: &Entry) -> u8 {
     2
 }
 
-#[test]
-fn each_stop_leaves_what_was_acknowledged(rt: HostRuntime) -> Result<(), Fail> {
-    let alloc = rt.alloc();
-    let image = image(alloc)?;
-    let entry = make_entry(alloc, LINE, &Answers::new(alloc))?;
-    for calls in 0..16u64 {
-        let inner = MemoryDisk::new(alloc, b"", b"", 256, 64)?;
-        let mut disk = FusedDisk::new(inner, calls);
-        let done = run(&mut disk, &image, &entry);
-        for (fill, grown) in CRASHES {
-            let left = disk.disk.after_crash(alloc, fill, grown)?;
-            let now = found_on(alloc, left.held(Slot::A), left.held(Slot::B))?;
-            let is_right = match now {
-                Found::Nothing => done == 0,
-                Found::Entries(0, None) => done < 2,
-                Found::Entries(1, None) => done > 0,
-                _ => false,
-            };
-            assert!(rt; is_right, "{calls} {done}");
+/// Whether a crash may leave what is found, where the calls went so far.
+fn is_right(now: Found, done: u8) -> bool {
+    match now {
+        Found::Nothing => done == 0,
+        Found::Entries(0, None) => done < 2,
+        Found::Entries(1, None) => done > 0,
+        _ => false,
+    }
+}
+
+/// What is found after some crash and may not be left, where the calls went so far.
+fn wrong_after(alloc: Global, disk: &MemoryDisk, done: u8) -> Result<Option<Found>, AllocError> {
+    for (fill, grown) in CRASHES {
+        let left = disk.after_crash(alloc, fill, grown)?;
+        let now = found_on(alloc, left.held(Slot::A), left.held(Slot::B))?;
+        if !is_right(now, done) {
+            return Ok(Some(now));
         }
     }
-    Ok(())
+    Ok(None)
+}
+
+#[test]
+fn each_stop_leaves_what_was_acknowledged(rt: HostRuntime) {
+    let image = image(rt.alloc()).expect(&rt, "room");
+    let entry = make_entry(rt.alloc(), LINE, &Answers::new(rt.alloc())).expect(&rt, "room");
+    for calls in 0..16u64 {
+        let inner = MemoryDisk::new(rt.alloc(), b"", b"", 256, 64).expect(&rt, "room");
+        let mut disk = FusedDisk::new(inner, calls);
+        let done = run(&mut disk, &image, &entry);
+        let wrong = wrong_after(rt.alloc(), &disk.disk, done).expect(&rt, "room");
+        assert_gives!(rt; (calls, done, wrong), (calls, done, None));
+    }
 }
