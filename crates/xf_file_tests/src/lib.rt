@@ -1,4 +1,6 @@
 //! What no contract says of real files, folders and streams: the bytes that they carry, and errors of theirs that are answered.
+//! Most tests are a list of calls and the words that these give: a call costs the proof of a test much, and here each kind of
+//! call stands once.
 #![tactic(auto)]
 
 #[cfg(test)]
@@ -7,3 +9,5 @@ mod disks;
 mod stores;
 #[cfg(test)]
 mod streams;
+#[cfg(test)]
+mod words;
