@@ -75,6 +75,15 @@ beside() {
     verdict "${*:-all}: ours $one, plain $other tenths of a ms, ratio in hundredths" $((one * 100 / other)) "$most"
 }
 
+# instructions COMMAND..: how many it takes, as valgrind counts them
+instructions() {
+    valgrind --tool=callgrind --callgrind-out-file=/dev/null "$@" 2> "$work/counted" > "$work/told"
+    sed -n 's/.*Collected : //p' "$work/counted"
+}
+
+# grown WHAT BEFORE AFTER TIMES: AFTER may be 1.3 times as much as TIMES times BEFORE.
+grown() { verdict "$1, in hundredths of $4 times as much" $(($3 * 100 / ($2 > 0 ? $2 : 1) / $4)) 130; }
+
 # verdict WHAT NUMBER MOST: says a number and whether it is within its goal.
 verdict() {
     if [ "$2" -le "$3" ]; then

@@ -21,20 +21,11 @@ timed() {
     line=$(((whole > idle ? whole - idle : 1) * 100 / $3))
     loading=$loaded lining=$line
     if command -v valgrind > none; then
-        idle=$(instructions </dev/null)
-        whole=$(instructions < events)
+        idle=$(instructions "$program" try </dev/null)
+        whole=$(instructions "$program" try < events)
         loading=$idle lining=$(((whole - idle) / $3))
     fi
 }
-
-# instructions: how many the program takes for the lines that come in
-instructions() {
-    valgrind --tool=callgrind --callgrind-out-file=/dev/null "$program" try 2> counted > replies
-    sed -n 's/.*Collected : //p' counted
-}
-
-# grown WHAT BEFORE AFTER TIMES: AFTER may be 1.3 times as much as TIMES times BEFORE
-grown() { verdict "$1, in hundredths of $4 times as much" $(($3 * 100 / ($2 > 0 ? $2 : 1) / $4)) 130; }
 
 for count in 100 1000 8000; do
     timed rows "$count" $((200000 / count))

@@ -1,11 +1,16 @@
 //! A plain arena of linked nodes, std only, that does what the forest does in main.rt.txt, with the same calls.
-use std::collections::{HashMap, HashSet};
+mod draft;
+mod growth;
+
+use draft::Draft;
+use std::collections::HashSet;
 use std::env;
 
 const NONE: usize = usize::MAX;
 
 #[derive(Clone, Copy, PartialEq)]
 enum Kind {
+    Root,
     Element,
     Attribute,
     Text,
@@ -242,6 +247,16 @@ impl Arena {
         Before::Texts(texts)
     }
 
+    /// Frees the texts that a node had.
+    fn give_up(&mut self, before: Before) {
+        if let Before::Texts(texts) = before {
+            for text in texts {
+                self.nodes[text].text = String::new();
+                self.free.push(text);
+            }
+        }
+    }
+
     fn put_back(&mut self, node: usize, before: Before) {
         match before {
             Before::Attribute(text) => {
@@ -441,40 +456,24 @@ fn double() -> u64 {
     arena.next as u64 + arena.axis(top, 6)
 }
 
-/// Sets 100,000 texts, each third of them to this one, and gives the first ones back, from the last one back.
+/// Sets 100,000 texts, each third of them to this one, and gives the first ones back.
 fn set_and_undo(third: &str) -> u64 {
-    let mut arena = Arena::default();
-    arena.plant(&rows(10000));
-    let mut noted: Vec<(usize, Before)> = Vec::new();
-    let mut known: HashMap<usize, usize> = HashMap::new();
+    let mut draft = Draft::new(Arena::default());
+    draft.arena.plant(&rows(10000));
     for change in 0..100_000 {
-        let node = (change * 7 % 10000) * 4 + 3;
-        let before = arena.set_text(node, if change % 3 == 0 { third } else { "changed" });
-        match known.get(&node) {
-            Some(_) => {
-                if let Before::Texts(texts) = before {
-                    for text in texts {
-                        arena.nodes[text].text = String::new();
-                        arena.free.push(text);
-                    }
-                }
-            }
-            None => {
-                known.insert(node, noted.len());
-                noted.push((node, before));
-            }
-        }
+        draft.set_text((change * 7 % 10000) * 4 + 3, if change % 3 == 0 { third } else { "changed" });
     }
-    let changed = arena.text_size(0);
-    while let Some((node, before)) = noted.pop() {
-        arena.put_back(node, before);
-    }
-    changed.wrapping_mul(31).wrapping_add(arena.text_size(0))
+    let changed = draft.arena.text_size(0);
+    draft.roll_back();
+    changed.wrapping_mul(31).wrapping_add(draft.arena.text_size(0))
 }
 
 fn main() {
     let name = env::args().nth(1).unwrap_or_default();
+    let number = |at| env::args().nth(at).and_then(|word| word.parse().ok()).unwrap_or(0);
+    let size = number(2);
     let answer = match name.as_str() {
+        name if size > 0 => growth::done(name, size, number(3)),
         "print" => print_all(),
         "walk" => walk_all(&groups(20, 25)),
         "rows" => walk_all(&rows(500)),
