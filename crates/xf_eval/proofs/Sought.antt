@@ -16,9 +16,9 @@ use Rattle.xf_doc.specs.Texts.{Keeping}
 use Rattle.xf_doc.specs.WellFormed.{AreTrees}
 use Rattle.xf_lang.specs.Steps.{reached}
 use Rattle.xf_lang.specs.Tests.{has_name, is_in_space, is_principal, meets}
-use Rattle.xf_tree.specs.declared.sought.Sought.{Sought}
-use Rattle.xf_tree.specs.declared.sought.Principal.{Principal}
-use Rattle.xf_tree.specs.Sought as tree
+use Rattle.xf_slots.specs.declared.sought.Sought.{Sought}
+use Rattle.xf_slots.specs.declared.sought.Principal.{Principal}
+use Rattle.xf_slots.specs.Sought as tree
 use Rattle.xf_eval.specs.Met.{is_met, principal_in}
 use Rattle.xf_eval.proofs.Lives.{reached-met}
 

@@ -5,8 +5,8 @@ use Rattle.xf_ast.specs.declared.expr.Test.{Test}
 use Rattle.xf_doc.specs.declared.content.Content.{Content}
 use Rattle.xf_lang.specs.Tests.{meets}
 use Rattle.xf_name.specs.declared.axis.Axis.TheVariants as axis
-use Rattle.xf_tree.specs.declared.sought.Principal.{Principal}
-use Rattle.xf_tree.specs.declared.sought.Principal.TheVariants.{Element, Attribute}
+use Rattle.xf_slots.specs.declared.sought.Principal.{Principal}
+use Rattle.xf_slots.specs.declared.sought.Principal.TheVariants.{Element, Attribute}
 
 -- the principal node kind of an axis
 abbrev pub principal_in : Axis → Principal

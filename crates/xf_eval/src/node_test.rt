@@ -4,8 +4,8 @@ ghost use Rattle.std.specs.Prelude.{◌≡◌};
 ghost use Rattle.xf_lang.specs.Tests.{has_name, is_in_space, is_principal, meets};
 ghost use Rattle.xf_doc.specs.Forest.{name_in};
 ghost use Rattle.xf_doc.specs.declared.content.Content.{Content};
-ghost use Rattle.xf_tree.specs.Seen.{seen_content};
-ghost use Rattle.xf_tree.specs.Sought.{is_sought};
+ghost use Rattle.xf_slots.specs.Seen.{seen_content};
+ghost use Rattle.xf_slots.specs.Sought.{is_sought};
 ghost use Rattle.xf_eval.specs.Met.{principal_in};
 
 use xf_ast::Test;

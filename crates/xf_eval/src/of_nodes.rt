@@ -12,7 +12,7 @@ ghost use Rattle.xf_eval.specs.Live.{AllLive};
 ghost use Rattle.xf_eval.specs.OfNodes.{better, name_worth, set_worth};
 ghost use Rattle.xf_eval.specs.Texts.{combined, folded, number_at};
 ghost use Rattle.xf_eval.specs.Worth.{setting_in};
-ghost use Rattle.xf_tree.specs.Seen.{seen_content};
+ghost use Rattle.xf_slots.specs.Seen.{seen_content};
 
 use crate::around::Around;
 use crate::convert::{kept_text, whole};

@@ -1,6 +1,6 @@
 //! Steps played on a forest, and what they write: a test is a list of steps and the text that it expects.
 ghost use Rattle.std.specs.Prelude.{IsTrue};
-ghost use Rattle.xf_tree.specs.Print.{MayPrint};
+ghost use Rattle.xf_literal.specs.Print.{MayPrint};
 
 use crate::written::{Part, push_number, push_tree, tree};
 use std::alloc::Global;

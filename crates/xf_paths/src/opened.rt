@@ -7,7 +7,7 @@ ghost use Rattle.xf_doc.specs.Shape.{has_elements};
 ghost use Rattle.xf_doc.specs.Visit.{Visit, visits, parent_of};
 ghost use Rattle.xf_paths.specs.Opened.{stem_of, IsOpen, AllOpen};
 ghost use Rattle.xf_paths.specs.Family.{IsKid, index_of, index_text, meets};
-ghost use Rattle.xf_tree.specs.Seen.{seen_content};
+ghost use Rattle.xf_slots.specs.Seen.{seen_content};
 
 use crate::family::{Family, Kid, family_of};
 use crate::written::push_step;

@@ -3,7 +3,7 @@ ghost use Rattle.std.specs.Prelude.{◌≡◌, ◌+◌, ◌<◌, ◌^◌, ◌++�
 ghost use Rattle.std.specs.Str.{bytes_eq};
 ghost use Rattle.xf_doc.specs.Forest.{written};
 ghost use Rattle.xf_paths.specs.Family.{index_text, step_with, tallied};
-ghost use Rattle.xf_tree.specs.Seen.{seen_content};
+ghost use Rattle.xf_slots.specs.Seen.{seen_content};
 
 use itoa::Buffer;
 use std::alloc::{AllocError, Global};

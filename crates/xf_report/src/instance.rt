@@ -9,7 +9,7 @@ ghost use Rattle.xf_form_machine.specs.Properties.{braced, pair_text};
 ghost use Rattle.xf_form_machine.specs.State.{State};
 ghost use Rattle.xf_form_machine.specs.StateText.{instance_lines, line_of, marks_text, spaced};
 ghost use Rattle.xf_report.specs.Lines.{IsOf, block_text, has_elements_at, line_at, line_by, pair_among, text_line_if, value_text};
-ghost use Rattle.xf_tree.specs.Seen.{seen_content};
+ghost use Rattle.xf_slots.specs.Seen.{seen_content};
 
 use crate::marks::push_marks;
 use crate::nodes::nodes_at;

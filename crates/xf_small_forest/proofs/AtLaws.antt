@@ -11,7 +11,7 @@ use Rattle.xf_doc.specs.Axis.{axis_from, axis_of}
 use Rattle.xf_doc.specs.Forest.{Forest, content_at, has_number, is_attribute, is_element, is_root}
 use Rattle.xf_doc.specs.Visit.{Visit, children_of, is_first, parent_of, visits}
 use Rattle.xf_doc.specs.WellFormed.{are_apart}
-use Rattle.xf_tree.proofs.StackLemmas.{le-from}
+use Rattle.xf_walks.proofs.StackLemmas.{le-from}
 use Rattle.xf_lang.specs.Asked.{found}
 use Rattle.xf_lang.proofs.VisitFacts.{found-number}
 use Rattle.xf_model.specs.Places as model

@@ -10,7 +10,7 @@ use Rattle.xf_doc.specs.Forest.{Forest, has_number, is_attribute, name_in}
 use Rattle.xf_doc.specs.Visit.{Visit, is_first, numbers, still_above, visit, visits, visits_from}
 use Rattle.xf_doc.specs.WellFormed.{HasTrees, have_same_name}
 use Rattle.xf_doc.proofs.OrderLaws.{seen-has, visits-different}
-use Rattle.xf_tree.proofs.StackLemmas.{absent-above, absent-cons, absent-parts}
+use Rattle.xf_walks.proofs.StackLemmas.{absent-above, absent-cons, absent-parts}
 use Rattle.xf_lang.specs.Asked.{found}
 use Rattle.xf_lang.proofs.ForestVisits.{Each, self-found}
 use Rattle.xf_lang.proofs.VisitFacts.{found-number, has-found, no}

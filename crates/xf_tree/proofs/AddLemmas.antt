@@ -3,35 +3,39 @@ use Rattle.std.proofs.Common.{◌≡◌, ℕ, suc, ◌+◌, ◌<◌, ◌≤◌, 
 use Rattle.std.proofs.lemmas.Bool.{cases_lt}
 use Rattle.std.specs.List.{list_any}
 use Rattle.std.proofs.lemmas.List.{take-append-drop, map-append, length-map}
+use Rattle.std.proofs.lemmas.Bool.Decides.{nat_tests}
 use Rattle.slab.specs.Slab.{Slab, get}
 use Rattle.xf_doc.specs.declared.content.Node.{Node}
 use Rattle.xf_doc.specs.declared.content.Content.{Content}
 use Rattle.xf_doc.specs.declared.content.Content.TheVariants.{Root, Element, Attribute, Text}
 use Rattle.xf_doc.specs.declared.content.Kind.{Kind}
-use Rattle.xf_doc.specs.declared.content.Kind.TheVariants as kind
 use Rattle.xf_doc.specs.declared.fault.TreeFault.TheVariants.{Nodes, AllText}
-use Rattle.std.proofs.lemmas.Bool.Decides.{nat_tests}
+use Rattle.xf_doc.specs.declared.content.Kind.TheVariants as kind
 use Rattle.xf_doc.specs.Forest.{is_text, is_element, kind_of, has_number}
 use Rattle.xf_doc.specs.Limits.{Limits, node_count, all_size, size_of, passed_by_all}
 use Rattle.xf_doc.specs.Plant.{numbered_from}
 use Rattle.xf_doc.specs.Texts.{KeptText, Keeping}
-use Rattle.xf_tree.specs.declared.rows.Row.{Row}
-use Rattle.xf_tree.specs.Slot.{Slot}
-use Rattle.xf_tree.specs.Rows.{Sized, deeper}
-use Rattle.xf_tree.specs.Leaves.{parts_in, AreLeaves}
-use Rattle.xf_tree.specs.First.{AreFirst}
+use Rattle.xf_rows.specs.declared.rows.Row.{Row}
+use Rattle.xf_rows.specs.Rows.{Sized, deeper, AreSteps, depths, no_row}
+use Rattle.xf_rows.proofs.SizedLemmas.{sized-append, lt-true, lt-false}
+use Rattle.xf_rows.proofs.CutLemmas.{all-deep-zero}
+use Rattle.xf_slots.specs.Slot.{Slot}
+use Rattle.xf_slots.specs.Keys.{kept_of, number_in, content_in, kept_times}
+use Rattle.xf_slots.proofs.AlikeLemmas.{eq-true}
+use Rattle.xf_walks.specs.Leaves.{parts_in, AreLeaves}
+use Rattle.xf_walks.specs.First.{AreFirst}
+use Rattle.xf_walks.specs.Nodes.{node_of, times, AllLive, AllTops, IsTree, AllPlain, StandsAt}
+use Rattle.xf_walks.proofs.NodeLemmas.{Parted, times-append}
+use Rattle.xf_walks.proofs.CountLemmas.{nodes-append, sizes-append, sizes-cons}
+use Rattle.xf_walks.proofs.StepLemmas.{most_after, steps-append, steps-more}
+use Rattle.xf_walks.proofs.LeafLemmas.{leaves-top, parts-append, parts-numbered, steps-not_deeper}
+use Rattle.xf_walks.proofs.FirstLemmas.{first-append, first-anywhere}
+use Rattle.xf_walks.proofs.StackLemmas.{absent-parts}
+use Rattle.xf_changes.specs.Trees.{KeepsLive, size_of_all}
+use Rattle.xf_changes.proofs.PushLemmas.{kept-nodes, kept-live}
 use Rattle.xf_tree.specs.Calls.{with_contents}
-use Rattle.xf_tree.specs.Tree.{node_of, kept_of, number_in, content_in, times, kept_times, AllLive, AllKept, AllTops, AreSteps, depths, KeepsLive, IsTree, AllPlain, size_of_all, IsSound, IsState, StandsAt, keeping_of, no_row}
-use Rattle.xf_tree.proofs.SizedLemmas.{sized-append, lt-true, lt-false}
-use Rattle.xf_tree.proofs.CutLemmas.{all-deep-zero}
-use Rattle.xf_tree.proofs.NodeLemmas.{Parted, eq-true, times-append}
-use Rattle.xf_tree.proofs.CountLemmas.{nodes-append, sizes-append, sizes-cons}
-use Rattle.xf_tree.proofs.StepLemmas.{most_after, steps-append, steps-more}
-use Rattle.xf_tree.proofs.LeafLemmas.{leaves-top, parts-append, parts-numbered, steps-not_deeper}
-use Rattle.xf_tree.proofs.FirstLemmas.{first-append, first-anywhere}
+use Rattle.xf_tree.specs.State.{AllKept, IsSound, IsState, keeping_of}
 use Rattle.xf_tree.proofs.ForestLemmas.{tops-append}
-use Rattle.xf_tree.proofs.StackLemmas.{absent-parts}
-use Rattle.xf_tree.proofs.PushLemmas.{kept-nodes, kept-live}
 use Rattle.xf_tree.proofs.NumberLemmas.{low-times, high-times, new-times, new-count, new-size, new-tops}
 
 text-some : (o : Option Slot) → is_text (content_in o) ≡ true → IsSome o

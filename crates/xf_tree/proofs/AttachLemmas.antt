@@ -7,17 +7,23 @@ use Rattle.xf_doc.specs.declared.content.Node.{Node}
 use Rattle.xf_doc.specs.declared.content.Content.{Content}
 use Rattle.xf_doc.specs.Forest.{has_number, first_tree, tree_of}
 use Rattle.xf_doc.specs.Changes.{shifted, moved_to, without_tree, with_part, with_below}
-use Rattle.xf_tree.specs.declared.rows.Row.{Row}
-use Rattle.xf_tree.specs.Slot.{Slot}
-use Rattle.xf_tree.specs.Rows.{deeper, deepened, tree_of as row_tree, after_tree, rest_of}
-use Rattle.xf_tree.specs.Tree.{node_of, number_in, content_in, times, StandsAt, IsSound, no_row}
-use Rattle.xf_tree.specs.Below.{part_at, row_below, IsPlaced}
-use Rattle.xf_tree.proofs.NodeLemmas.{Parted, parted-without, parted-from, times-append, eq-true}
-use Rattle.xf_tree.proofs.PlaceLemmas.{split-at, stands, below-is, past-is, one_of, has-true, times-at}
-use Rattle.xf_tree.proofs.ForestLemmas.{IgnoresSize, map-grown, node-ignores, whole-map}
-use Rattle.xf_tree.proofs.CutLemmas.{tree-parts}
+use Rattle.xf_rows.specs.declared.rows.Row.{Row}
+use Rattle.xf_rows.specs.Rows.{deeper, deepened, tree_of as row_tree, after_tree, rest_of, no_row}
+use Rattle.xf_rows.proofs.RowLemmas.{split-at}
+use Rattle.xf_rows.proofs.CutLemmas.{tree-parts}
+use Rattle.xf_slots.specs.Slot.{Slot}
+use Rattle.xf_slots.specs.Keys.{number_in, content_in}
+use Rattle.xf_slots.proofs.AlikeLemmas.{eq-true}
+use Rattle.xf_walks.specs.Nodes.{node_of, times, StandsAt}
+use Rattle.xf_walks.proofs.NodeLemmas.{Parted, parted-without, parted-from, times-append}
+use Rattle.xf_walks.proofs.PlaceLemmas.{stands, below-is, past-is, has-true, times-at}
+use Rattle.xf_changes.specs.Below.{part_at, row_below, IsPlaced}
+use Rattle.xf_changes.proofs.MapLemmas.{IgnoresSize, map-grown, whole-map}
+use Rattle.xf_changes.proofs.PartLemmas.{part-is}
+use Rattle.xf_tree.specs.State.{IsSound}
+use Rattle.xf_tree.proofs.MeansLemmas.{one_of}
+use Rattle.xf_tree.proofs.ForestLemmas.{node-ignores}
 use Rattle.xf_tree.proofs.DeepenLemmas.{lowered}
-use Rattle.xf_tree.proofs.PartLemmas.{part-is}
 
 below-go : (m place : ℕ) (tree us : List Node) (x : Node) (xs : List Node) → x.number ≡ m → has_number m us ≡ false
     → with_below m place tree (us ++ (x ∷ xs)) ≡ us ++ (x ∷ with_part (suc x.depth) place tree xs)
@@ -90,19 +96,19 @@ stands-outside s n m at above rows here there few outside =
 
 module _ (s : Slab Slot) (n m at above place next : ℕ) (kept : List ℕ) (old new : List Row) (sound : IsSound s old kept next) (here : StandsAt s old n at) (there : StandsAt s old m above)
     (top : (get_or old at no_row).depth ≡ 0) (p : IsPlaced at above place s old new) where
-  abbrev W : List Row
+  abbrev pub W : List Row
   W = rest_of at old
 
-  abbrev T : List Row
+  abbrev pub T : List Row
   T = row_tree (drop at old)
 
-  abbrev x : Row
+  abbrev pub x : Row
   x = get_or old above no_row
 
-  abbrev d : ℕ
+  abbrev pub d : ℕ
   d = (get_or old above no_row).depth + 1
 
-  abbrev c : Content
+  abbrev pub c : Content
   c = content_in (get s (get_or old at no_row).key)
 
   -- where the tree comes in

@@ -14,16 +14,21 @@ use Rattle.xf_doc.specs.Shape.{has_elements}
 use Rattle.xf_doc.specs.Limits.{node_count, all_size, size_of}
 use Rattle.xf_doc.specs.Texts.{Keeping, KeptText, at_depth, text_node, with_texts, is_of, back, without, given_up, put_back, element_texts}
 use Rattle.xf_doc.proofs.RunLemmas.{text-again}
-use Rattle.xf_tree.specs.declared.rows.Row.{Row}
-use Rattle.xf_tree.specs.Slot.{Slot}
-use Rattle.xf_tree.specs.Rows.{Sized}
-use Rattle.xf_tree.specs.Leaves.{parts_in, AreLeaves}
-use Rattle.xf_tree.specs.First.{AreFirst}
-use Rattle.xf_tree.specs.Tree.{node_of, kept_of, number_in, content_in, times, kept_times, unsized, AllLive, AllKept, AllTops, StandsAt, IsSound, IsState, KeepsBut, KeepsButKept, keeping_of}
-use Rattle.xf_tree.specs.Texts.{attributes, children, text_row, depth_at, run_of, with_text_rows, places_of, is_wanted, is_left}
-use Rattle.xf_tree.proofs.NodeLemmas.{eq-true, times-append}
-use Rattle.xf_tree.proofs.CountLemmas.{nodes-append, sizes-append, nodes-cons}
-use Rattle.xf_tree.proofs.DropLemmas.{SameAt, nodes-same, live-same, same-where, kept-where}
+use Rattle.xf_rows.specs.declared.rows.Row.{Row}
+use Rattle.xf_rows.specs.Rows.{Sized}
+use Rattle.xf_slots.specs.Slot.{Slot}
+use Rattle.xf_slots.specs.Keys.{kept_of, number_in, content_in, kept_times, KeepsButKept}
+use Rattle.xf_slots.proofs.AlikeLemmas.{eq-true}
+use Rattle.xf_walks.specs.Leaves.{parts_in, AreLeaves}
+use Rattle.xf_walks.specs.First.{AreFirst}
+use Rattle.xf_walks.specs.Nodes.{node_of, times, AllLive, AllTops, StandsAt, KeepsBut}
+use Rattle.xf_walks.proofs.NodeLemmas.{times-append}
+use Rattle.xf_walks.proofs.CountLemmas.{nodes-append, sizes-append, nodes-cons}
+use Rattle.xf_changes.specs.Trees.{unsized}
+use Rattle.xf_changes.specs.Texts.{attributes, children, text_row, depth_at, run_of, with_text_rows, places_of, is_wanted, is_left}
+use Rattle.xf_changes.proofs.SameLemmas.{SameAt, nodes-same, same-where}
+use Rattle.xf_tree.specs.State.{AllKept, IsSound, IsState, keeping_of}
+use Rattle.xf_tree.proofs.DropLemmas.{live-same, kept-where}
 use Rattle.xf_tree.proofs.ValueLemmas.{kept-live_where}
 use Rattle.xf_tree.proofs.UnsizedLemmas.{AreTextNodes}
 use Rattle.xf_tree.proofs.SwapLemmas.{stay, stay-parts, with-parts, swap-nodes, swap-length, swap-live, swap-tops, swap-steps, swap-leaves, swap-first}

@@ -15,18 +15,23 @@ use Rattle.xf_doc.specs.Forest.{is_root, is_element, is_attribute, is_text, kind
 use Rattle.xf_doc.specs.Visit.{Visit, is_first, still_above, numbers, visit, visits_from, visits}
 use Rattle.xf_doc.specs.Shape.{has_elements}
 use Rattle.xf_doc.proofs.VisitLemmas.{BeginsWithin, closed, deeper-by_one}
-use Rattle.xf_tree.specs.declared.rows.Row.{Row}
-use Rattle.xf_tree.specs.Slot.{Slot}
-use Rattle.xf_tree.specs.Leaves.{is_leaf, parts_in, NotDeeper, AreLeaves}
-use Rattle.xf_tree.specs.Tree.{node_of, content_in, AllTops, AreSteps, depths, StandsAt, no_row, IsSound}
-use Rattle.xf_tree.specs.Texts.{AreAt, depth_at, run_of, children, is_child_row}
-use Rattle.xf_tree.proofs.NodeLemmas.{Parted, eq-true, parted-from}
-use Rattle.xf_tree.proofs.SizedLemmas.{lt-true, lt-false}
-use Rattle.xf_tree.proofs.StepLemmas.{steps-parts}
-use Rattle.xf_tree.proofs.StackLemmas.{stack, visits-append}
-use Rattle.xf_tree.proofs.LeafLemmas.{leaves-parts, parts-append}
-use Rattle.xf_tree.proofs.ForestLemmas.{tops-parts}
-use Rattle.xf_tree.proofs.PlaceLemmas.{stands, below-is, one_of, content-means}
+use Rattle.xf_rows.specs.declared.rows.Row.{Row}
+use Rattle.xf_rows.specs.Rows.{AreSteps, depths, no_row}
+use Rattle.xf_rows.proofs.SizedLemmas.{lt-true, lt-false}
+use Rattle.xf_slots.specs.Slot.{Slot}
+use Rattle.xf_slots.specs.Keys.{content_in}
+use Rattle.xf_slots.proofs.AlikeLemmas.{eq-true}
+use Rattle.xf_walks.specs.Leaves.{is_leaf, parts_in, NotDeeper, AreLeaves}
+use Rattle.xf_walks.specs.Nodes.{node_of, AllTops, StandsAt}
+use Rattle.xf_walks.proofs.NodeLemmas.{Parted, parted-from}
+use Rattle.xf_walks.proofs.StepLemmas.{steps-parts}
+use Rattle.xf_walks.proofs.StackLemmas.{stack, visits-append}
+use Rattle.xf_walks.proofs.LeafLemmas.{leaves-parts, parts-append}
+use Rattle.xf_walks.proofs.RootLemmas.{tops-parts}
+use Rattle.xf_walks.proofs.PlaceLemmas.{stands, below-is}
+use Rattle.xf_changes.specs.Texts.{AreAt, depth_at, run_of, children, is_child_row}
+use Rattle.xf_tree.specs.State.{IsSound}
+use Rattle.xf_tree.proofs.MeansLemmas.{one_of, content-means}
 
 -- leaves one deeper than this
 abbrev pub AreRun : ℕ → List Node → Type 0
@@ -176,7 +181,7 @@ module _ (s : Slab Slot) (n at : ℕ) (rows : List Row) (kept : List ℕ) (next 
       let split : depths rows ≡ node_depths us ++ (x.depth ∷ node_depths xs) = sym (node-depths s rows) ∙ ap (map d) element-parted.whole ∙ map-append d us (x ∷ xs) in
       (steps-parts 0 (node_depths us) (x.depth ∷ node_depths xs) (subst (AreSteps 0) split sound.steps)).1.1
 
-  run : AreRun x.depth (map (node_of s) (run_of at rows))
+  pub run : AreRun x.depth (map (node_of s) (run_of at rows))
   run =
       let leaves = (leaves-parts (parts_in us) (parts_in (x ∷ xs)) (subst AreLeaves (ap parts_in element-parted.whole ∙ parts-append us (x ∷ xs)) sound.leaves)).1.1 in
       let tops = (tops-parts us (x ∷ xs) (subst AllTops element-parted.whole sound.tops)).1.1 in

@@ -9,22 +9,27 @@ use Rattle.xf_doc.specs.declared.content.Content.{Content}
 use Rattle.xf_doc.specs.Changes.{shifted, contents_in}
 use Rattle.xf_doc.specs.Forest.{is_root, has_number, first_tree, tree_of}
 use Rattle.xf_doc.specs.Limits.{size_of}
-use Rattle.xf_tree.specs.declared.rows.Row.{Row}
-use Rattle.xf_tree.specs.Slot.{Slot}
-use Rattle.xf_tree.specs.Rows.{deeper, tree_of as row_tree}
-use Rattle.xf_tree.specs.Leaves.{parts_in, AreLeaves}
-use Rattle.xf_tree.specs.First.{AreFirst}
-use Rattle.xf_tree.specs.Tree.{node_of, content_in, times, AllTops, AreSteps, depths, IsTree, AllPlain, IsState, StandsAt, part_of, no_row}
-use Rattle.xf_tree.proofs.SizedLemmas.{AllDeep}
-use Rattle.xf_tree.proofs.CutLemmas.{all-deeper}
-use Rattle.xf_tree.proofs.NodeLemmas.{Parted, parted-from, eq-true}
-use Rattle.xf_tree.proofs.StepLemmas.{steps-parts, steps-lowered}
-use Rattle.xf_tree.proofs.LeafLemmas.{leaves-parts, leaves-shifted, parts-append}
+use Rattle.xf_rows.specs.declared.rows.Row.{Row}
+use Rattle.xf_rows.specs.Rows.{deeper, tree_of as row_tree, AreSteps, depths, no_row, AllDeep}
+use Rattle.xf_rows.proofs.CutLemmas.{all-deeper}
+use Rattle.xf_rows.proofs.ParentLemmas.{deep-prefix}
+use Rattle.xf_rows.proofs.RowLemmas.{split-at}
+use Rattle.xf_slots.specs.Slot.{Slot}
+use Rattle.xf_slots.specs.Keys.{content_in}
+use Rattle.xf_slots.proofs.AlikeLemmas.{eq-true}
+use Rattle.xf_walks.specs.Leaves.{parts_in, AreLeaves}
+use Rattle.xf_walks.specs.First.{AreFirst}
+use Rattle.xf_walks.specs.Nodes.{node_of, times, AllTops, IsTree, AllPlain, StandsAt}
+use Rattle.xf_walks.proofs.NodeLemmas.{Parted, parted-from}
+use Rattle.xf_walks.proofs.StepLemmas.{steps-parts, steps-lowered}
+use Rattle.xf_walks.proofs.LeafLemmas.{leaves-parts, leaves-shifted, parts-append}
+use Rattle.xf_walks.proofs.RootLemmas.{tops-parts}
+use Rattle.xf_walks.proofs.PlaceLemmas.{stands, below-is, parted-at}
+use Rattle.xf_walks.proofs.StackLemmas.{absent-parts}
+use Rattle.xf_changes.specs.Trees.{part_of}
+use Rattle.xf_tree.specs.State.{IsState}
 use Rattle.xf_tree.proofs.FirstRowLemmas.{tree-first}
-use Rattle.xf_tree.proofs.ForestLemmas.{tops-parts, above-deep}
-use Rattle.xf_tree.proofs.ParentLemmas.{deep-prefix}
-use Rattle.xf_tree.proofs.PlaceLemmas.{split-at, stands, below-is, parted-at}
-use Rattle.xf_tree.proofs.StackLemmas.{absent-parts}
+use Rattle.xf_tree.proofs.ForestLemmas.{above-deep}
 
 parts-mean : (s : Slab Slot) (by : ℕ) (rows : List Row) → map (part_of s by) rows ≡ map (λ (x : Node). (x.depth, x.content)) (map (shifted by 0) (map (node_of s) rows))
 parts-mean s by [] = refl

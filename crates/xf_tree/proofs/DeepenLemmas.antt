@@ -3,11 +3,11 @@ use Rattle.std.proofs.Common.{◌≡◌, ℕ, ◌+◌, ◌-◌, ◌==◌, if◌t
 use Rattle.slab.specs.Slab.{Slab, get}
 use Rattle.xf_doc.specs.declared.content.Node.{Node}
 use Rattle.xf_doc.specs.Changes.{shifted}
-use Rattle.xf_tree.specs.declared.rows.Row.{Row}
-use Rattle.xf_tree.specs.Slot.{Slot}
-use Rattle.xf_tree.specs.Rows.{deepened}
-use Rattle.xf_tree.specs.Tree.{node_of, number_in, content_in, times, AllLive, AllTops, depths}
-use Rattle.xf_tree.proofs.SizedLemmas.{AllDeep}
+use Rattle.xf_rows.specs.declared.rows.Row.{Row}
+use Rattle.xf_rows.specs.Rows.{deepened, depths, AllDeep}
+use Rattle.xf_slots.specs.Slot.{Slot}
+use Rattle.xf_slots.specs.Keys.{number_in, content_in}
+use Rattle.xf_walks.specs.Nodes.{node_of, times, AllLive, AllTops}
 
 pub lowered : (s : Slab Slot) (by : ℕ) (rows : List Row) → map (node_of s) (map (deepened by) rows) ≡ map (shifted 0 by) (map (node_of s) rows)
 lowered s by [] = refl

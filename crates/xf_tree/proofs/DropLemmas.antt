@@ -4,40 +4,29 @@ use Rattle.std.proofs.lemmas.List.{take-append-drop, map-append, take_rest}
 use Rattle.slab.specs.Slab.{Slab, get}
 use Rattle.xf_doc.specs.declared.content.Node.{Node}
 use Rattle.xf_doc.specs.Limits.{node_count, all_size, size_of}
-use Rattle.xf_tree.specs.declared.rows.Row.{Row}
-use Rattle.xf_tree.specs.Slot.{Slot}
-use Rattle.xf_tree.specs.Rows.{deeper, Sized}
-use Rattle.xf_tree.specs.Leaves.{parts_in, AreLeaves}
-use Rattle.xf_tree.specs.First.{AreFirst}
-use Rattle.xf_tree.specs.Tree.{node_of, kept_of, number_in, content_in, times, kept_times, AllLive, AllTops, AreSteps, depths, KeepsBut, KeepsButKept, IsSound, IsState}
-use Rattle.xf_tree.proofs.NodeLemmas.{times-append, eq-true}
-use Rattle.xf_tree.proofs.SizedLemmas.{sized-front}
-use Rattle.xf_tree.proofs.CutLemmas.{all-deep-zero}
-use Rattle.xf_tree.proofs.CountLemmas.{nodes-append, sizes-append}
-use Rattle.xf_tree.proofs.StepLemmas.{steps-parts}
-use Rattle.xf_tree.proofs.LeafLemmas.{leaves-parts, parts-append}
-use Rattle.xf_tree.proofs.FirstLemmas.{first-parts}
-use Rattle.xf_tree.proofs.ForestLemmas.{live-parts, tops-parts}
-
--- these rows' keys have in both slabs the same
-abbrev pub SameAt : Slab Slot → Slab Slot → List Row → Type 0
-SameAt s s2 [] = Unit {0}
-SameAt s s2 (r ∷ rs) = (get s2 r.key ≡ get s r.key) × SameAt s s2 rs
-
-pub nodes-same : (s s2 : Slab Slot) (rows : List Row) → SameAt s s2 rows → map (node_of s2) rows ≡ map (node_of s) rows
-nodes-same s s2 [] same = refl
-nodes-same s s2 (r ∷ rs) same =
-    ap (λ o. record { number = number_in o; depth = r.depth; content = content_in o } ∷ map (node_of s2) rs) same.0 ∙ ap (λ l. node_of s r ∷ l) (nodes-same s s2 rs same.1)
+use Rattle.xf_rows.specs.declared.rows.Row.{Row}
+use Rattle.xf_rows.specs.Rows.{deeper, Sized, AreSteps, depths}
+use Rattle.xf_rows.proofs.SizedLemmas.{sized-front}
+use Rattle.xf_rows.proofs.CutLemmas.{all-deep-zero}
+use Rattle.xf_slots.specs.Slot.{Slot}
+use Rattle.xf_slots.specs.Keys.{kept_of, number_in, content_in, kept_times, KeepsButKept}
+use Rattle.xf_slots.proofs.AlikeLemmas.{eq-true}
+use Rattle.xf_walks.specs.Leaves.{parts_in, AreLeaves}
+use Rattle.xf_walks.specs.First.{AreFirst}
+use Rattle.xf_walks.specs.Nodes.{node_of, times, AllLive, AllTops, KeepsBut}
+use Rattle.xf_walks.proofs.NodeLemmas.{times-append}
+use Rattle.xf_walks.proofs.CountLemmas.{nodes-append, sizes-append}
+use Rattle.xf_walks.proofs.StepLemmas.{steps-parts}
+use Rattle.xf_walks.proofs.LeafLemmas.{leaves-parts, parts-append}
+use Rattle.xf_walks.proofs.FirstLemmas.{first-parts}
+use Rattle.xf_walks.proofs.RootLemmas.{tops-parts}
+use Rattle.xf_changes.proofs.SameLemmas.{SameAt, nodes-same, same-where}
+use Rattle.xf_tree.specs.State.{IsSound, IsState}
+use Rattle.xf_tree.proofs.ForestLemmas.{live-parts}
 
 pub live-same : (s s2 : Slab Slot) (rows : List Row) → SameAt s s2 rows → AllLive s rows → AllLive s2 rows
 live-same s s2 [] same live = tt
 live-same s s2 (r ∷ rs) same live = (subst IsSome (sym same.0) live.0, live-same s s2 rs same.1 live.1)
-
-pub same-where : (s s2 : Slab Slot) (rows : List Row) → ((key : ℕ) → 1 ≤ times (number_in (get s key)) (map (node_of s) rows) → get s2 key ≡ get s key) → SameAt s s2 rows
-same-where s s2 [] h = tt
-same-where s s2 (r ∷ rs) h =
-    let one = ap {B = ℕ} (λ b. if b then 1 else 0) (eq-true (number_in (get s r.key)) (number_in (get s r.key)) refl) in
-    (h r.key (omega arith), same-where s s2 rs (λ key some. h key (omega arith)))
 
 pub kept-where : (s s2 : Slab Slot) (keys : List ℕ) → ((key : ℕ) → 1 ≤ kept_times (number_in (get s key)) (map (kept_of s) keys) → get s2 key ≡ get s key) → map (kept_of s2) keys ≡ map (kept_of s) keys
 kept-where s s2 [] h = refl

@@ -8,14 +8,14 @@ use Rattle.xf_doc.specs.declared.content.Content.{Content}
 use Rattle.xf_doc.specs.declared.content.Content.TheVariants.{Root, Element, Attribute, Text}
 use Rattle.xf_doc.specs.Forest.{is_element, is_attribute, is_text}
 use Rattle.xf_doc.specs.Texts.{at_depth}
-use Rattle.xf_tree.specs.declared.rows.Row.{Row}
-use Rattle.xf_tree.specs.Slot.{Slot}
-use Rattle.xf_tree.specs.Leaves.{parts_in, NotDeeper}
-use Rattle.xf_tree.specs.First.{attribute_depth, AreFirst}
-use Rattle.xf_tree.specs.Tree.{node_of, content_in}
-use Rattle.xf_tree.specs.Contents.{AllFrom}
-use Rattle.xf_tree.specs.Texts.{AreAt}
-use Rattle.xf_tree.proofs.FirstLemmas.{depth_behind, first-append, first-parts, first-anywhere, first-low, attribute-behind}
+use Rattle.xf_rows.specs.declared.rows.Row.{Row}
+use Rattle.xf_slots.specs.Slot.{Slot}
+use Rattle.xf_slots.specs.Keys.{content_in}
+use Rattle.xf_walks.specs.Leaves.{parts_in, NotDeeper}
+use Rattle.xf_walks.specs.First.{attribute_depth, AreFirst, AllFrom}
+use Rattle.xf_walks.specs.Nodes.{node_of}
+use Rattle.xf_walks.proofs.FirstLemmas.{depth_behind, first-append, first-parts, first-anywhere, first-low, attribute-behind}
+use Rattle.xf_changes.specs.Texts.{AreAt}
 use Rattle.xf_tree.proofs.UnsizedLemmas.{AreTextNodes}
 
 -- a content for another, where both are attributes or neither is, and an attribute stands as deep behind both

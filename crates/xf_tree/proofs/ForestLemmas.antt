@@ -7,50 +7,19 @@ use Rattle.xf_doc.specs.declared.content.Node.{Node}
 use Rattle.xf_doc.specs.Forest.{first_tree, tree_of as tree_of_node}
 use Rattle.xf_doc.specs.Changes.{moved_to, without_tree}
 use Rattle.xf_doc.specs.Limits.{node_count, all_size}
-use Rattle.xf_tree.specs.declared.rows.Row.{Row}
-use Rattle.xf_tree.specs.Slot.{Slot}
-use Rattle.xf_tree.specs.Rows.{deeper, shrunk, grown, raised, tree_of, after_tree, top_depth, IsCut}
-use Rattle.xf_tree.specs.Tree.{node_of, times, AllLive, AllTops, AreSteps, depths, IsCounted, StandsAt, no_row}
-use Rattle.xf_tree.proofs.SizedLemmas.{lt-true, lt-false, AllDeep}
-use Rattle.xf_tree.proofs.CutLemmas.{tree-parts, stops-after, all-deeper}
-use Rattle.xf_tree.proofs.NodeLemmas.{parted-without, parted-from, times-append}
-use Rattle.xf_tree.proofs.PlaceLemmas.{split-at, stands, below-is, past-is}
-use Rattle.xf_tree.proofs.StepLemmas.{most_after, steps-append, steps-parts, steps-lowered, AllAbove}
-use Rattle.xf_tree.proofs.CountLemmas.{nodes-append, sizes-append, count-alike, size-alike}
-
--- what doesn't look at sizes
-abbrev pub IgnoresSize : {X : Type 0} → (Row → X) → Type 0
-IgnoresSize g = (r : Row) (size : ℕ) → g (record { key = r.key; size = size; depth = r.depth }) ≡ g r
-
-pub map-shrunk : {X : Type 0} (g : Row → X) → IgnoresSize g → (by d : ℕ) (ys tail : List Row) → map g (shrunk by d ys tail) ≡ map g (reverse ys ++ tail)
-map-shrunk g same by d [] tail = refl
-map-shrunk g same by d (y ∷ ys) tail =
-    let small : Row = record { key = y.key; size = y.size - by; depth = y.depth } in
-    let turn : reverse (y ∷ ys) ++ tail ≡ reverse ys ++ (y ∷ tail) = ap (λ l. l ++ tail) (reverse-append (y ∷ []) ys) ∙ append_assoc (reverse ys) (y ∷ []) tail in
-    elim (cases_lt y.depth d) [
-      | inl h ↦ rw (lt-true y.depth d h)
-          (map-shrunk g same by y.depth ys (small ∷ tail)
-          ∙ map-append g (reverse ys) (small ∷ tail)
-          ∙ ap (λ x. map g (reverse ys) ++ (x ∷ map g tail)) (same y (y.size - by))
-          ∙ sym (map-append g (reverse ys) (y ∷ tail))
-          ∙ sym (ap (map g) turn))
-      | inr h ↦ rw (lt-false y.depth d h) (map-shrunk g same by d ys (y ∷ tail) ∙ sym (ap (map g) turn))
-    ]
-
-pub map-grown : {X : Type 0} (g : Row → X) → IgnoresSize g → (by d : ℕ) (ys tail : List Row) → map g (grown by d ys tail) ≡ map g (reverse ys ++ tail)
-map-grown g same by d [] tail = refl
-map-grown g same by d (y ∷ ys) tail =
-    let large : Row = record { key = y.key; size = y.size + by; depth = y.depth } in
-    let turn : reverse (y ∷ ys) ++ tail ≡ reverse ys ++ (y ∷ tail) = ap (λ l. l ++ tail) (reverse-append (y ∷ []) ys) ∙ append_assoc (reverse ys) (y ∷ []) tail in
-    elim (cases_lt y.depth d) [
-      | inl h ↦ rw (lt-true y.depth d h)
-          (map-grown g same by y.depth ys (large ∷ tail)
-          ∙ map-append g (reverse ys) (large ∷ tail)
-          ∙ ap (λ x. map g (reverse ys) ++ (x ∷ map g tail)) (same y (y.size + by))
-          ∙ sym (map-append g (reverse ys) (y ∷ tail))
-          ∙ sym (ap (map g) turn))
-      | inr h ↦ rw (lt-false y.depth d h) (map-grown g same by d ys (y ∷ tail) ∙ sym (ap (map g) turn))
-    ]
+use Rattle.xf_rows.specs.declared.rows.Row.{Row}
+use Rattle.xf_rows.specs.Rows.{deeper, shrunk, raised, tree_of, after_tree, top_depth, IsCut, AreSteps, depths, no_row, AllDeep}
+use Rattle.xf_rows.proofs.SizedLemmas.{lt-true, lt-false}
+use Rattle.xf_rows.proofs.CutLemmas.{stops-after, all-deeper}
+use Rattle.xf_rows.proofs.RowLemmas.{split-at}
+use Rattle.xf_slots.specs.Slot.{Slot}
+use Rattle.xf_walks.specs.Nodes.{node_of, times, AllLive, AllTops, StandsAt}
+use Rattle.xf_walks.proofs.NodeLemmas.{parted-without, parted-from, times-append}
+use Rattle.xf_walks.proofs.PlaceLemmas.{stands, below-is, past-is}
+use Rattle.xf_walks.proofs.StepLemmas.{most_after, steps-append, steps-parts, steps-lowered, AllAbove}
+use Rattle.xf_walks.proofs.CountLemmas.{nodes-append, sizes-append, count-alike, size-alike}
+use Rattle.xf_changes.proofs.MapLemmas.{IgnoresSize, map-shrunk, whole-map, live-append}
+use Rattle.xf_tree.specs.State.{IsCounted}
 
 -- ---- a cut as parts of the list
 
@@ -65,13 +34,6 @@ cut-map g same at old new is_cut =
     ap (map g) is_cut ∙ map-shrunk g same (length (tree_of here)) (top_depth here) (reverse us) (after ++ low)
     ∙ ap (λ l. map g (l ++ (after ++ low))) (reverse-reverse us)
     ∙ map-append g us (after ++ low) ∙ ap (λ l. map g us ++ l) (map-append g after low)
-
--- the rows themselves in these parts
-pub whole-map : {X : Type 0} (g : Row → X) (at : ℕ) (old : List Row) → map g old ≡ map g (take at old) ++ (map g (tree_of (drop at old)) ++ map g (after_tree (drop at old)))
-whole-map g at old =
-    let here = drop at old in
-    ap (map g) (sym (take-append-drop at old)) ∙ map-append g (take at old) here
-    ∙ ap (λ l. map g (take at old) ++ l) (ap (map g) (sym (tree-parts here)) ∙ map-append g (tree_of here) (after_tree here))
 
 pub node-ignores : (s : Slab Slot) → IgnoresSize (node_of s)
 node-ignores s r size = refl
@@ -155,12 +117,6 @@ cut-counted s at total size old new is_cut counted =
       small = counted.small;
     }
 
--- ---- each row
-
-pub live-append : (s : Slab Slot) (xs ys : List Row) → AllLive s xs → AllLive s ys → AllLive s (xs ++ ys)
-live-append s [] ys p q = q
-live-append s (x ∷ xs) ys p q = (p.0, live-append s xs ys p.1 q)
-
 pub live-parts : (s : Slab Slot) (xs ys : List Row) → AllLive s (xs ++ ys) → AllLive s xs × AllLive s ys
 live-parts s [] ys p = (tt, p)
 live-parts s (x ∷ xs) ys p = let i = live-parts s xs ys p.1 in ((p.0, i.0), i.1)
@@ -184,10 +140,6 @@ live-reverse s (x ∷ xs) p = subst (AllLive s) (sym (reverse-append (x ∷ []) 
 pub tops-append : (xs ys : List Node) → AllTops xs → AllTops ys → AllTops (xs ++ ys)
 tops-append [] ys p q = q
 tops-append (x ∷ xs) ys p q = (p.0, tops-append xs ys p.1 q)
-
-pub tops-parts : (xs ys : List Node) → AllTops (xs ++ ys) → AllTops xs × AllTops ys
-tops-parts [] ys p = (tt, p)
-tops-parts (x ∷ xs) ys p = let i = tops-parts xs ys p.1 in ((p.0, i.0), i.1)
 
 pub tops-lifted : (by : ℕ) (xs : List Node) → AllTops xs → AllTops (map (lifted by) xs)
 tops-lifted by [] p = tt

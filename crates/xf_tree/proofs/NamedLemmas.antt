@@ -7,15 +7,20 @@ use Rattle.std.proofs.lemmas.List.{take-append-drop, map-append, get_or-take, ge
 use Rattle.slab.specs.Slab.{Slab, get}
 use Rattle.xf_doc.specs.declared.content.Node.{Node}
 use Rattle.xf_doc.specs.Forest.{has_number, node_at, from_node, first_tree, kind_of, kind_at, tree_of as tree_of_node}
-use Rattle.xf_tree.specs.declared.rows.Row.{Row}
-use Rattle.xf_tree.specs.Slot.{Slot}
-use Rattle.xf_tree.specs.Rows.{tree_of}
-use Rattle.xf_tree.specs.Tree.{node_of, number_in, times, no_row, StandsAt, IsSound}
-use Rattle.xf_tree.proofs.CutLemmas.{tree-is-front}
-use Rattle.xf_tree.proofs.NodeLemmas.{parted-from, eq-true, times-append, times-absent, absent-times}
-use Rattle.xf_tree.proofs.PlaceLemmas.{stands, stands-live, one_of, split-at, below-is}
-use Rattle.xf_tree.proofs.SizedLemmas.{lt-true, lt-false}
-use Rattle.xf_tree.proofs.StackLemmas.{absent-parts}
+use Rattle.xf_rows.specs.declared.rows.Row.{Row}
+use Rattle.xf_rows.specs.Rows.{tree_of, no_row}
+use Rattle.xf_rows.proofs.CutLemmas.{tree-is-front}
+use Rattle.xf_rows.proofs.RowLemmas.{split-at}
+use Rattle.xf_rows.proofs.SizedLemmas.{lt-true, lt-false}
+use Rattle.xf_slots.specs.Slot.{Slot}
+use Rattle.xf_slots.specs.Keys.{number_in}
+use Rattle.xf_slots.proofs.AlikeLemmas.{eq-true}
+use Rattle.xf_walks.specs.Nodes.{node_of, times, StandsAt}
+use Rattle.xf_walks.proofs.NodeLemmas.{parted-from, times-append, times-absent, absent-times}
+use Rattle.xf_walks.proofs.PlaceLemmas.{stands, stands-live, below-is}
+use Rattle.xf_walks.proofs.StackLemmas.{absent-parts}
+use Rattle.xf_tree.specs.State.{IsSound}
+use Rattle.xf_tree.proofs.MeansLemmas.{one_of}
 
 pub named-none : (n : ℕ) (p : Node → Bool) (zs : List Node) → has_number n zs ≡ false → list_any (λ (y : Node). (y.number == n) && p y) zs ≡ false
 named-none n p [] h = refl

@@ -9,8 +9,8 @@ use Rattle.xf_doc.specs.declared.content.Kind.{Kind}
 use Rattle.xf_doc.specs.declared.content.Kind.TheVariants as kind
 use Rattle.xf_doc.specs.Forest.{Forest, is_root, is_attribute, kind_of, kind_at, node_at, has_number}
 use Rattle.xf_doc.specs.Needs.{MayAttach, MayStand, MayPlace, in_element, in_root, as_attribute, goes_below}
-use Rattle.xf_tree.specs.Leaves.{is_leaf}
-use Rattle.xf_tree.proofs.StackLemmas.{absent-parts}
+use Rattle.xf_walks.specs.Leaves.{is_leaf}
+use Rattle.xf_walks.proofs.StackLemmas.{absent-parts}
 
 -- what is said of a node that is not there
 pub none-named : (n : ℕ) (p : Node → Bool) (nodes : List Node) → has_number n nodes ≡ false → list_any (λ (y : Node). (y.number == n) && p y) nodes ≡ true → ⊥

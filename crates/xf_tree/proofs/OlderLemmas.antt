@@ -1,26 +1,23 @@
 -- The rows of older nodes, where what is new stands in trees of its own.
-use Rattle.std.proofs.Common.{◌≡◌, ℕ, suc, ◌+◌, ◌≤◌, not, Bool, true, false, if◌then◌else◌, List, [], ◌∷◌, ◌++◌, map, length, nat_lt, refl, sym, ap, ◌∙◌, subst, inl, inr, arith}
+use Rattle.std.proofs.Common.{◌≡◌, ℕ, suc, ◌+◌, ◌≤◌, not, Bool, true, false, if◌then◌else◌, List, [], ◌∷◌, map, length, nat_lt, refl, sym, ap, ◌∙◌, subst, inl, inr, arith}
 use Rattle.std.specs.Prelude.{filter}
 use Rattle.std.proofs.lemmas.Bool.{cases_Bool, cases_lt, true≢false, false≢true}
 use Rattle.slab.specs.Slab.{Slab, get}
 use Rattle.xf_doc.specs.declared.content.Node.{Node}
-use Rattle.xf_tree.specs.declared.rows.Row.{Row}
-use Rattle.xf_tree.specs.Slot.{Slot}
-use Rattle.xf_tree.specs.Rows.{Sized, deeper}
-use Rattle.xf_tree.specs.Leaves.{parts_in, NotDeeper, AreLeaves}
-use Rattle.xf_tree.specs.First.{attribute_depth, AreFirst}
-use Rattle.xf_tree.specs.Tree.{node_of, number_in, content_in, times, AllLive, AllTops, AreSteps, depths, IsSound}
-use Rattle.xf_tree.specs.Older.{is_older, is_newer, AreWhole}
-use Rattle.xf_tree.proofs.SizedLemmas.{lt-true, lt-false, deeper-less}
-use Rattle.xf_tree.proofs.NodeLemmas.{eq-false}
+use Rattle.xf_rows.specs.declared.rows.Row.{Row}
+use Rattle.xf_rows.specs.Rows.{Sized, deeper, AreSteps, depths}
+use Rattle.xf_rows.proofs.SizedLemmas.{lt-true, lt-false, deeper-less}
+use Rattle.xf_slots.specs.Slot.{Slot}
+use Rattle.xf_slots.specs.Keys.{number_in, content_in}
+use Rattle.xf_walks.specs.Leaves.{parts_in, NotDeeper, AreLeaves}
+use Rattle.xf_walks.specs.First.{attribute_depth, AreFirst}
+use Rattle.xf_walks.specs.Nodes.{node_of, times, AllLive, AllTops}
+use Rattle.xf_walks.proofs.NodeLemmas.{eq-false}
+use Rattle.xf_walks.proofs.LeafLemmas.{less-deeper, first-not_deeper}
+use Rattle.xf_changes.specs.Older.{is_older}
+use Rattle.xf_changes.proofs.OlderLemmas.{olds, WholeRows}
+use Rattle.xf_tree.specs.State.{IsSound}
 use Rattle.xf_tree.proofs.DropLemmas.{IsShaped}
-use Rattle.xf_tree.proofs.LeafLemmas.{less-deeper, first-not_deeper}
-
-abbrev olds : Slab Slot → ℕ → List Row → List Row
-olds s number rows = filter (is_older s number) rows
-
-abbrev news : Slab Slot → ℕ → List Row → List Row
-news s number rows = filter (is_newer s number) rows
 
 -- what does not look at where rows stand
 pub live-older : (s : Slab Slot) (number : ℕ) (rows : List Row) → AllLive s rows → AllLive s (olds s number rows)
@@ -58,24 +55,6 @@ times-older s number n (x ∷ xs) h = elim (cases_lt (number_in (get s x.key)) n
       rw (e, no) (omega (arith, times-older s number n xs h))
   | inr l ↦ rw (lt-false (number_in (get s x.key)) number l) (times-older s number n xs h)
 ]
-
--- the rows are those of older nodes and those of others
-pub older-parted : (s : Slab Slot) (number : ℕ) (X : List Node → ℕ) → ((xs ys : List Node) → X (xs ++ ys) ≡ X xs + X ys) → (rows : List Row)
-    → X (map (node_of s) rows) ≡ X (map (node_of s) (olds s number rows)) + X (map (node_of s) (news s number rows))
-older-parted s number X add [] = add [] []
-older-parted s number X add (x ∷ xs) =
-    let f = node_of s in
-    let i = older-parted s number X add xs in
-    let whole = add (f x ∷ []) (map f xs) in
-    elim (cases_Bool (is_older s number x)) [
-      | inl e ↦ rw e (omega (arith, add (f x ∷ []) (map f (olds s number xs))))
-      | inr e ↦ rw e (omega (arith, add (f x ∷ []) (map f (news s number xs))))
-    ]
-
--- ---- trees of their own
-
-abbrev pub WholeRows : Slab Slot → ℕ → Bool → List Row → Type 0
-WholeRows s number before rows = AreWhole number before (map (node_of s) rows)
 
 -- after what is new the next older node is a top
 top-older : (s : Slab Slot) (number : ℕ) (rows : List Row) → WholeRows s number true rows → deeper 0 (olds s number rows) ≡ 0

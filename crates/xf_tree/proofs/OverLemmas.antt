@@ -9,30 +9,39 @@ use Rattle.xf_doc.specs.declared.content.Content.TheVariants.{Root, Element, Att
 use Rattle.xf_doc.specs.Forest.{Forest, first_tree, tree_of, is_root, is_element, is_attribute}
 use Rattle.xf_doc.specs.Changes.{shifted, moved_to, without_tree, in_instances, in_detached, with_root, is_detached_top}
 use Rattle.xf_doc.specs.Limits.{node_count, all_size}
-use Rattle.xf_tree.specs.declared.rows.Row.{Row}
-use Rattle.xf_tree.specs.Slot.{Slot}
-use Rattle.xf_tree.specs.Rows.{Sized, deeper, deepened, tree_of as row_tree, after_tree, rest_of}
-use Rattle.xf_tree.specs.Leaves.{parts_in, AreLeaves}
-use Rattle.xf_tree.specs.First.{AreFirst}
-use Rattle.xf_tree.specs.Tree.{node_of, number_in, content_in, times, kept_times, AllLive, AllTops, AreSteps, depths, KeepsLive, IsSound, IsState, StandsAt, keeping_of, no_row, IsOver}
-use Rattle.xf_tree.proofs.SizedLemmas.{lt-true, lt-false, sized-append, sized-front}
-use Rattle.xf_tree.proofs.CutLemmas.{all-deep-zero, tree-parts}
-use Rattle.xf_tree.proofs.PasteLemmas.{deepened-sized}
+use Rattle.xf_rows.specs.declared.rows.Row.{Row}
+use Rattle.xf_rows.specs.Rows.{Sized, deeper, deepened, tree_of as row_tree, after_tree, rest_of, AreSteps, depths, no_row}
+use Rattle.xf_rows.proofs.SizedLemmas.{lt-true, lt-false, sized-append, sized-front}
+use Rattle.xf_rows.proofs.CutLemmas.{all-deep-zero, tree-parts}
+use Rattle.xf_rows.proofs.PasteLemmas.{deepened-sized}
+use Rattle.xf_rows.proofs.RowLemmas.{split-at}
+use Rattle.xf_rows.proofs.ParentLemmas.{deep-prefix}
+use Rattle.xf_rows.proofs.RootedLemmas.{first-zero, rest-sized}
+use Rattle.xf_slots.specs.Slot.{Slot}
+use Rattle.xf_slots.specs.Keys.{number_in, content_in, kept_times}
+use Rattle.xf_slots.proofs.AlikeLemmas.{eq-true}
+use Rattle.xf_slots.proofs.FreeLemmas.{same-key}
+use Rattle.xf_walks.specs.Leaves.{parts_in, AreLeaves}
+use Rattle.xf_walks.specs.First.{AreFirst}
+use Rattle.xf_walks.specs.Nodes.{node_of, times, AllLive, AllTops, StandsAt}
+use Rattle.xf_walks.proofs.NodeLemmas.{parted-without, parted-from, times-append, eq-false}
+use Rattle.xf_walks.proofs.PlaceLemmas.{stands, below-is, past-is}
+use Rattle.xf_walks.proofs.CountLemmas.{nodes-append, sizes-append, count-alike, size-alike}
+use Rattle.xf_walks.proofs.StepLemmas.{most_after, steps-append, steps-parts, steps-raised}
+use Rattle.xf_walks.proofs.LeafLemmas.{leaves-top, leaves-parts, leaves-shifted, parts-append, first-not_deeper}
+use Rattle.xf_walks.proofs.FirstLemmas.{depth_behind, first-append, first-parts, first-top}
+use Rattle.xf_walks.proofs.RootLemmas.{tops-parts}
+use Rattle.xf_changes.specs.Trees.{KeepsLive, IsOver}
+use Rattle.xf_changes.proofs.FirstRowLemmas.{without-first}
+use Rattle.xf_changes.proofs.MapLemmas.{live-append, whole-map}
+use Rattle.xf_changes.proofs.RestLemmas.{without-leaves}
+use Rattle.xf_changes.proofs.PushLemmas.{kept-nodes, kept-live, insert-keeps, small-insert}
+use Rattle.xf_tree.specs.State.{IsSound, IsState, keeping_of}
 use Rattle.xf_tree.proofs.DeepenLemmas.{lowered, live-deepened, times-shifted, depths-deepened, no-roots}
-use Rattle.xf_tree.proofs.NodeLemmas.{parted-without, parted-from, times-append, eq-false, eq-true}
-use Rattle.xf_tree.proofs.PlaceLemmas.{split-at, stands, below-is, past-is, one_of}
-use Rattle.xf_tree.proofs.CountLemmas.{nodes-append, sizes-append, count-alike, size-alike}
-use Rattle.xf_tree.proofs.StepLemmas.{most_after, steps-append, steps-parts, steps-raised}
-use Rattle.xf_tree.proofs.LeafLemmas.{leaves-top, leaves-parts, leaves-shifted, parts-append, first-not_deeper}
-use Rattle.xf_tree.proofs.FirstLemmas.{depth_behind, first-append, first-parts, first-top}
-use Rattle.xf_tree.proofs.FirstRowLemmas.{without-first, tree-first}
-use Rattle.xf_tree.proofs.ForestLemmas.{live-append, live-parts, tops-append, tops-parts, whole-map}
-use Rattle.xf_tree.proofs.StateLemmas.{without-leaves}
-use Rattle.xf_tree.proofs.ParentLemmas.{deep-prefix}
-use Rattle.xf_tree.proofs.RootedLemmas.{first-zero, rest-sized}
-use Rattle.xf_tree.proofs.PushLemmas.{kept-nodes, kept-live, insert-keeps, small-insert}
+use Rattle.xf_tree.proofs.MeansLemmas.{one_of}
+use Rattle.xf_tree.proofs.FirstRowLemmas.{tree-first}
+use Rattle.xf_tree.proofs.ForestLemmas.{live-parts, tops-append}
 use Rattle.xf_tree.proofs.AddLemmas.{kept-same, kept-texts}
-use Rattle.xf_tree.proofs.FreeLemmas.{same-key}
 
 -- what is not among the instances is detached
 instances-rest : (nodes front rest : List Node) → nodes ≡ front ++ rest → front ≡ in_instances nodes → rest ≡ in_detached nodes

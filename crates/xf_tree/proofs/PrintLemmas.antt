@@ -11,14 +11,17 @@ use Rattle.xf_doc.specs.declared.content.Kind.TheVariants as kind
 use Rattle.xf_doc.specs.Texts.{Keeping}
 use Rattle.xf_doc.specs.Forest.{kind_of, kind_at, has_number, first_tree, below, tree_of}
 use Rattle.xf_doc.specs.Literal.{printed}
-use Rattle.xf_tree.specs.declared.rows.Row.{Row}
-use Rattle.xf_tree.specs.Slot.{Slot}
-use Rattle.xf_tree.specs.Rows.{tree_of as row_tree}
-use Rattle.xf_tree.specs.Tree.{node_of, keeping_of, times, no_row, IsSound, StandsAt}
-use Rattle.xf_tree.specs.Print.{is_printable}
-use Rattle.xf_tree.proofs.CutLemmas.{tree-is-front}
-use Rattle.xf_tree.proofs.NodeLemmas.{parted-from}
-use Rattle.xf_tree.proofs.PlaceLemmas.{stands, split-at, below-is, one_of}
+use Rattle.xf_rows.specs.declared.rows.Row.{Row}
+use Rattle.xf_rows.specs.Rows.{tree_of as row_tree, no_row}
+use Rattle.xf_rows.proofs.CutLemmas.{tree-is-front}
+use Rattle.xf_rows.proofs.RowLemmas.{split-at}
+use Rattle.xf_slots.specs.Slot.{Slot}
+use Rattle.xf_walks.specs.Nodes.{node_of, times, StandsAt}
+use Rattle.xf_walks.proofs.NodeLemmas.{parted-from}
+use Rattle.xf_walks.proofs.PlaceLemmas.{stands, below-is}
+use Rattle.xf_literal.specs.Print.{is_printable}
+use Rattle.xf_tree.specs.State.{keeping_of, IsSound}
+use Rattle.xf_tree.proofs.MeansLemmas.{one_of}
 
 -- so many rows from a place on are the nodes of the tree there
 pub tree-rows : (s : Slab Slot) (n at count : ℕ) (rows : List Row) → StandsAt s rows n at → times n (map (node_of s) rows) ≤ 1 → count ≡ length (row_tree (drop at rows))

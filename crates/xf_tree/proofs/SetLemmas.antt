@@ -14,15 +14,19 @@ use Rattle.xf_doc.specs.Visit.{visits, numbers}
 use Rattle.xf_doc.specs.Shape.{has_elements}
 use Rattle.xf_doc.specs.Limits.{limits, unless, node_count, all_size, passed_by_text}
 use Rattle.xf_doc.specs.Texts.{Keeping, KeptText, at_depth, one_text, with_texts, kept_from, is_attribute_at, with_text, text_set, element_texts}
-use Rattle.xf_tree.specs.declared.rows.Row.{Row}
-use Rattle.xf_tree.specs.Slot.{Slot}
-use Rattle.xf_tree.specs.Tree.{AreSteps, depths, node_of, kept_of, number_in, content_in, times, kept_times, AllLive, StandsAt, no_row, IsState, keeping_of}
-use Rattle.xf_tree.specs.Texts.{passed_by, text_slot, text_count, has_key, attributes, children, keys_of, numbers_at, depth_at, run_of}
+use Rattle.xf_rows.specs.declared.rows.Row.{Row}
+use Rattle.xf_rows.specs.Rows.{AreSteps, depths, no_row}
+use Rattle.xf_slots.specs.Slot.{Slot}
+use Rattle.xf_slots.specs.Keys.{kept_of, number_in, content_in, kept_times}
+use Rattle.xf_slots.proofs.AlikeLemmas.{eq-true}
+use Rattle.xf_slots.proofs.FreeLemmas.{same-key}
+use Rattle.xf_walks.specs.Nodes.{node_of, times, AllLive, StandsAt}
+use Rattle.xf_walks.proofs.NodeLemmas.{eq-false}
+use Rattle.xf_walks.proofs.CountLemmas.{nodes-append, sizes-append, nodes-cons, sizes-cons, count-alike, size-alike}
+use Rattle.xf_walks.proofs.StepLemmas.{depth-bound}
+use Rattle.xf_changes.specs.Texts.{passed_by, text_slot, text_count, has_key, attributes, children, keys_of, numbers_at, depth_at, run_of}
+use Rattle.xf_tree.specs.State.{IsState, keeping_of}
 use Rattle.xf_tree.specs.Settled.{text_written}
-use Rattle.xf_tree.proofs.NodeLemmas.{eq-true, eq-false}
-use Rattle.xf_tree.proofs.FreeLemmas.{same-key}
-use Rattle.xf_tree.proofs.CountLemmas.{nodes-append, sizes-append, nodes-cons, sizes-cons, count-alike, size-alike}
-use Rattle.xf_tree.proofs.StepLemmas.{depth-bound}
 use Rattle.xf_tree.proofs.ValueLemmas.{attribute-at}
 use Rattle.xf_tree.proofs.ChildlessLemmas.{AllTexts, element-parted, is-element, run-all_texts, texts-are}
 use Rattle.xf_tree.proofs.UnsizedLemmas.{AreTextNodes}

@@ -1,36 +1,25 @@
 -- The invariant after a cut.
-use Rattle.std.proofs.Common.{◌≡◌, ℕ, ◌+◌, ◌<◌, List, ◌∷◌, ◌++◌, map, length, take, drop, reverse, length-append, subst, append_assoc, refl, sym, ap, ◌∙◌, arith, get_or}
+use Rattle.std.proofs.Common.{◌≡◌, ℕ, ◌<◌, List, ◌++◌, map, length, take, drop, reverse, length-append, subst, append_assoc, refl, sym, ap, ◌∙◌, arith, get_or}
 use Rattle.std.proofs.lemmas.List.{take-append-drop, length-map}
 use Rattle.slab.specs.Slab.{Slab}
 use Rattle.xf_doc.specs.Changes.{shifted}
-use Rattle.xf_tree.specs.declared.rows.Row.{Row}
-use Rattle.xf_tree.specs.Slot.{Slot}
-use Rattle.xf_tree.specs.Rows.{deeper, Sized, raised, tree_of, after_tree, top_depth, IsCut}
-use Rattle.xf_tree.specs.Leaves.{parts_in, NotDeeper, AreLeaves}
-use Rattle.xf_tree.specs.First.{AreFirst}
-use Rattle.xf_tree.specs.Tree.{node_of, no_row, AllLive, AllTops, IsSound, IsState}
-use Rattle.xf_tree.proofs.CutLemmas.{tree-parts, stops-after}
-use Rattle.xf_tree.proofs.PlaceLemmas.{split-at}
-use Rattle.xf_tree.proofs.FirstLemmas.{depth_behind, first-append, first-anywhere}
-use Rattle.xf_tree.proofs.FirstRowLemmas.{without-first, tree-first}
-use Rattle.xf_tree.proofs.LeafLemmas.{leaves-top, leaves-without, leaves-shifted, parts-append, first-not_deeper}
-use Rattle.xf_tree.proofs.ForestLemmas.{whole-map, cut-map, node-ignores, depth-ignores, map-lifted, cut-times, cut-counted, cut-stepped, live-append, live-parts, live-shrunk, live-reverse, live-raised, tops-append, tops-parts, tops-lifted}
-
--- a list without the tree at a place, and that tree
-pub without-leaves : (s : Slab Slot) (at : ℕ) (old : List Row) → at < length old → AreLeaves (parts_in (map (node_of s) old))
-    → AreLeaves (parts_in (map (node_of s) (take at old)) ++ parts_in (map (node_of s) (after_tree (drop at old)))) × AreLeaves (parts_in (map (node_of s) (tree_of (drop at old))))
-without-leaves s at old h leaves =
-    let f = node_of s in
-    let x = get_or old at no_row in
-    let xs = drop (at + 1) old in
-    let us = map f (take at old) in
-    let rest = map f (take (deeper x.depth xs) xs) in
-    let after = map f (after_tree (x ∷ xs)) in
-    let was : parts_in (map f old) ≡ parts_in us ++ (parts_in (f x ∷ rest) ++ parts_in after) =
-    ap parts_in (whole-map f at old ∙ ap (λ l. us ++ (map f (tree_of l) ++ map f (after_tree l))) (split-at at old no_row h)) ∙ parts-append us ((f x ∷ rest) ++ after)
-    ∙ ap (λ l. parts_in us ++ l) (parts-append (f x ∷ rest) after) in
-    let w = leaves-without (parts_in us) (x.depth, (f x).content) (parts_in rest) (parts_in after) (subst AreLeaves was leaves) (first-not_deeper s x.depth (after_tree (x ∷ xs)) (stops-after x.depth xs)) in
-    subst (λ l. AreLeaves (parts_in us ++ parts_in (map f (after_tree l))) × AreLeaves (parts_in (map f (tree_of l)))) (sym (split-at at old no_row h)) w
+use Rattle.xf_rows.specs.declared.rows.Row.{Row}
+use Rattle.xf_rows.specs.Rows.{Sized, raised, tree_of, after_tree, top_depth, IsCut, no_row}
+use Rattle.xf_rows.proofs.CutLemmas.{tree-parts}
+use Rattle.xf_rows.proofs.RowLemmas.{split-at}
+use Rattle.xf_slots.specs.Slot.{Slot}
+use Rattle.xf_walks.specs.Leaves.{parts_in, NotDeeper, AreLeaves}
+use Rattle.xf_walks.specs.First.{AreFirst}
+use Rattle.xf_walks.specs.Nodes.{node_of, AllLive, AllTops}
+use Rattle.xf_walks.proofs.FirstLemmas.{depth_behind, first-append, first-anywhere}
+use Rattle.xf_walks.proofs.LeafLemmas.{leaves-top, leaves-shifted, parts-append}
+use Rattle.xf_walks.proofs.RootLemmas.{tops-parts}
+use Rattle.xf_changes.proofs.FirstRowLemmas.{without-first}
+use Rattle.xf_changes.proofs.MapLemmas.{whole-map, live-append}
+use Rattle.xf_changes.proofs.RestLemmas.{without-leaves}
+use Rattle.xf_tree.specs.State.{IsSound, IsState}
+use Rattle.xf_tree.proofs.FirstRowLemmas.{tree-first}
+use Rattle.xf_tree.proofs.ForestLemmas.{cut-map, node-ignores, depth-ignores, map-lifted, cut-times, cut-counted, cut-stepped, live-parts, live-shrunk, live-reverse, live-raised, tops-append, tops-lifted}
 
 -- the nodes after a cut
 cut-parts : (s : Slab Slot) (at : ℕ) (old new : List Row) → IsCut at old new

@@ -12,20 +12,27 @@ use Rattle.xf_doc.specs.Forest.{is_attribute, kind_at, past}
 use Rattle.xf_doc.specs.Visit.{visits}
 use Rattle.xf_doc.specs.Shape.{has_elements}
 use Rattle.xf_doc.specs.Texts.{at_depth, with_content, with_texts}
-use Rattle.xf_tree.specs.declared.rows.Row.{Row}
-use Rattle.xf_tree.specs.Slot.{Slot}
-use Rattle.xf_tree.specs.Rows.{deeper}
-use Rattle.xf_tree.specs.Leaves.{parts_in, AreLeaves}
-use Rattle.xf_tree.specs.First.{AreFirst}
-use Rattle.xf_tree.specs.Tree.{node_of, content_in, AllLive, AllTops, AreSteps, depths, unsized, StandsAt, no_row, IsSound}
-use Rattle.xf_tree.specs.Texts.{attributes, children, is_attribute_row, text_row, AreAt, depth_at, run_of, after_run, with_text_rows}
-use Rattle.xf_tree.proofs.CutLemmas.{stops-after}
-use Rattle.xf_tree.proofs.StepLemmas.{most_after, steps-append, steps-parts}
-use Rattle.xf_tree.proofs.LeafLemmas.{leaves-parts, leaves-other, parts-append, first-not_deeper}
+use Rattle.xf_rows.specs.declared.rows.Row.{Row}
+use Rattle.xf_rows.specs.Rows.{deeper, AreSteps, depths, no_row}
+use Rattle.xf_rows.proofs.CutLemmas.{stops-after}
+use Rattle.xf_rows.proofs.RowLemmas.{split-at}
+use Rattle.xf_slots.specs.Slot.{Slot}
+use Rattle.xf_slots.specs.Keys.{content_in}
+use Rattle.xf_walks.specs.Leaves.{parts_in, AreLeaves}
+use Rattle.xf_walks.specs.First.{AreFirst}
+use Rattle.xf_walks.specs.Nodes.{node_of, AllLive, AllTops, StandsAt}
+use Rattle.xf_walks.proofs.StepLemmas.{most_after, steps-append, steps-parts}
+use Rattle.xf_walks.proofs.LeafLemmas.{leaves-parts, leaves-other, parts-append, first-not_deeper}
+use Rattle.xf_walks.proofs.RootLemmas.{tops-parts}
+use Rattle.xf_walks.proofs.PlaceLemmas.{below-is, past-is}
+use Rattle.xf_changes.specs.Trees.{unsized}
+use Rattle.xf_changes.specs.Texts.{attributes, children, is_attribute_row, text_row, AreAt, depth_at, run_of, after_run, with_text_rows}
+use Rattle.xf_changes.proofs.MapLemmas.{live-append}
+use Rattle.xf_changes.proofs.SameLemmas.{SameAt, nodes-same}
+use Rattle.xf_tree.specs.State.{IsSound}
 use Rattle.xf_tree.proofs.FirstBelowLemmas.{first-below, first-attributes_and, element-behind, element-plain, texts-plain, all-at, from-at}
-use Rattle.xf_tree.proofs.ForestLemmas.{live-append, live-parts, tops-append, tops-parts, first-low}
-use Rattle.xf_tree.proofs.PlaceLemmas.{below-is, past-is, split-at}
-use Rattle.xf_tree.proofs.DropLemmas.{SameAt, nodes-same, live-same}
+use Rattle.xf_tree.proofs.ForestLemmas.{live-parts, tops-append, first-low}
+use Rattle.xf_tree.proofs.DropLemmas.{live-same}
 use Rattle.xf_tree.proofs.ChildlessLemmas.{element-parted, is-element, run-flat}
 use Rattle.xf_tree.proofs.UnsizedLemmas.{nodes-unsized, depths-unsized, live-unsized, length-unsized, filter-attributes, live-filter, tops-filter, at-filter, at-append, at-texts, both-length, both-parts, at-steps, at-leaves, element-no_leaf, AreTextNodes, tops-texts, texts-go, same-parts}
 
@@ -121,7 +128,7 @@ module _ (s : Slab Slot) (n at : ℕ) (rows : List Row) (kept : List ℕ) (next 
     abbrev added : List Row
     added = map (text_row (depth_at at rows + 1)) texts
 
-    is : map unsized new ≡ map unsized (front ++ (row ∷ (attributes s run ++ (added ++ behind))))
+    pub is : map unsized new ≡ map unsized (front ++ (row ∷ (attributes s run ++ (added ++ behind))))
     is =
         rows_are ∙ ap (λ l. map unsized (take (at + 1) rows ++ (l ++ (added ++ behind)))) alike
         ∙ ap (λ l. map unsized (l ++ (attributes s run ++ (added ++ behind)))) (take_more rows at no_row here.within)

@@ -12,15 +12,19 @@ use Rattle.xf_doc.specs.Visit.{visits}
 use Rattle.xf_doc.specs.Shape.{has_elements}
 use Rattle.xf_doc.specs.Limits.{node_count, all_size, size_of}
 use Rattle.xf_doc.specs.Texts.{Keeping, KeptText, at_depth, one_text, with_texts, kept_from}
-use Rattle.xf_tree.specs.declared.rows.Row.{Row}
-use Rattle.xf_tree.specs.Slot.{Slot}
-use Rattle.xf_tree.specs.Rows.{Sized}
-use Rattle.xf_tree.specs.Tree.{node_of, kept_of, number_in, owner_in, content_in, times, kept_times, unsized, AllLive, AllKept, StandsAt, IsSound, IsState, keeping_of}
-use Rattle.xf_tree.specs.Texts.{text_slot, text_count, owned_where, has_key, IsOwned, attributes, children, is_child_row, keys_of, text_row, depth_at, run_of, with_text_rows}
-use Rattle.xf_tree.proofs.NodeLemmas.{eq-true, times-append}
-use Rattle.xf_tree.proofs.FreeLemmas.{same-key, kept_times-append}
-use Rattle.xf_tree.proofs.DropLemmas.{SameAt}
-use Rattle.xf_tree.proofs.PackLemmas.{owned-content, owned-number}
+use Rattle.xf_rows.specs.declared.rows.Row.{Row}
+use Rattle.xf_rows.specs.Rows.{Sized}
+use Rattle.xf_slots.specs.Slot.{Slot}
+use Rattle.xf_slots.specs.Keys.{kept_of, number_in, owner_in, content_in, kept_times}
+use Rattle.xf_slots.proofs.AlikeLemmas.{eq-true}
+use Rattle.xf_slots.proofs.FreeLemmas.{same-key, kept_times-append}
+use Rattle.xf_walks.specs.Nodes.{node_of, times, AllLive, StandsAt}
+use Rattle.xf_walks.proofs.NodeLemmas.{times-append}
+use Rattle.xf_changes.specs.Trees.{unsized}
+use Rattle.xf_changes.specs.Texts.{text_slot, text_count, owned_where, has_key, IsOwned, attributes, children, is_child_row, keys_of, text_row, depth_at, run_of, with_text_rows}
+use Rattle.xf_changes.proofs.SameLemmas.{SameAt}
+use Rattle.xf_changes.proofs.PackLemmas.{owned-content, owned-number}
+use Rattle.xf_tree.specs.State.{AllKept, IsSound, IsState, keeping_of}
 use Rattle.xf_tree.proofs.ChildlessLemmas.{AllTexts, run-all_texts}
 use Rattle.xf_tree.proofs.SwapLemmas.{stay, live-stay, live-run, stay-parts, with-parts, swap-nodes, swap-length, swap-live, swap-tops, swap-steps, swap-leaves, swap-first}
 use Rattle.xf_tree.proofs.SetLemmas.{added-keeps, attributes-alike, children-alike, key-absent, key-there, times-flat, from-times, one-texts, one-other, one-most, one-fresh, count-most, gone, after-count, after-size}

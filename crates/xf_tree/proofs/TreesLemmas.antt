@@ -11,16 +11,20 @@ use Rattle.xf_doc.specs.declared.content.Content.TheVariants.{Root, Element, Att
 use Rattle.xf_doc.specs.Forest.{has_number, is_root, is_element, is_attribute, is_text}
 use Rattle.xf_doc.specs.Texts.{KeptText}
 use Rattle.xf_doc.specs.WellFormed.{are_below, are_depths_from, are_first, are_tops, are_kept_apart, AreTrees}
-use Rattle.xf_tree.specs.declared.rows.Row.{Row}
-use Rattle.xf_tree.specs.Slot.{Slot}
-use Rattle.xf_tree.specs.First.{attribute_depth, AreFirst}
-use Rattle.xf_tree.specs.Leaves.{is_leaf, parts_in, NotDeeper, AreLeaves}
-use Rattle.xf_tree.specs.Tree.{node_of, kept_of, keeping_of, times, kept_times, AllTops, AreSteps, IsSound}
+use Rattle.xf_rows.specs.declared.rows.Row.{Row}
+use Rattle.xf_rows.specs.Rows.{AreSteps}
+use Rattle.xf_rows.proofs.SizedLemmas.{lt-true}
+use Rattle.xf_slots.specs.Slot.{Slot}
+use Rattle.xf_slots.specs.Keys.{kept_of, kept_times}
+use Rattle.xf_slots.proofs.AlikeLemmas.{eq-true}
+use Rattle.xf_walks.specs.First.{attribute_depth, AreFirst}
+use Rattle.xf_walks.specs.Leaves.{is_leaf, parts_in, NotDeeper, AreLeaves}
+use Rattle.xf_walks.specs.Nodes.{node_of, times, AllTops}
+use Rattle.xf_walks.proofs.KidLemmas.{node_depths}
+use Rattle.xf_walks.proofs.NodeLemmas.{eq-false}
+use Rattle.xf_tree.specs.State.{keeping_of, IsSound}
 use Rattle.xf_tree.proofs.AboveLemmas.{depths-of}
 use Rattle.xf_tree.proofs.ApartLemmas.{none-has, once-apart}
-use Rattle.xf_tree.proofs.KidLemmas.{node_depths}
-use Rattle.xf_tree.proofs.NodeLemmas.{eq-true, eq-false}
-use Rattle.xf_tree.proofs.SizedLemmas.{lt-true}
 
 -- ---- numbers
 

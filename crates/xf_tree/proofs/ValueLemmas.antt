@@ -12,20 +12,27 @@ use Rattle.xf_doc.specs.Forest.{is_root, is_attribute, is_text, own_text, kind_o
 use Rattle.xf_doc.specs.Limits.{limits, unless, node_count, all_size, size_of}
 use Rattle.xf_doc.specs.Texts.{KeptText, Keeping, attribute_text, with_value, with_attribute_text, is_attribute_at, value_in, text_set}
 use Rattle.xf_doc.specs.Settle.{numbered_text_set}
-use Rattle.xf_tree.specs.declared.rows.Row.{Row}
-use Rattle.xf_tree.specs.Slot.{Slot}
-use Rattle.xf_tree.specs.Tree.{node_of, kept_of, number_in, content_in, times, kept_times, AllLive, AllKept, AllTops, StandsAt, no_row, IsSound, IsState, keeping_of}
-use Rattle.xf_tree.specs.Leaves.{is_leaf, parts_in, AreLeaves}
-use Rattle.xf_tree.specs.First.{attribute_depth, AreFirst}
-use Rattle.xf_tree.specs.Texts.{valued_slot, passed_by}
-use Rattle.xf_tree.proofs.NodeLemmas.{Parted, parted-from, eq-true, times-append, times-here}
-use Rattle.xf_tree.proofs.PlaceLemmas.{stands, one_of, times-at, content-means, parted-at}
-use Rattle.xf_tree.proofs.FreeLemmas.{same-key}
-use Rattle.xf_tree.proofs.StackLemmas.{absent-parts}
-use Rattle.xf_tree.proofs.LeafLemmas.{parts-append}
+use Rattle.xf_rows.specs.declared.rows.Row.{Row}
+use Rattle.xf_rows.specs.Rows.{no_row}
+use Rattle.xf_slots.specs.Slot.{Slot}
+use Rattle.xf_slots.specs.Keys.{kept_of, number_in, content_in, kept_times}
+use Rattle.xf_slots.specs.Slots.{valued_slot}
+use Rattle.xf_slots.proofs.AlikeLemmas.{eq-true}
+use Rattle.xf_slots.proofs.FreeLemmas.{same-key}
+use Rattle.xf_walks.specs.Nodes.{node_of, times, AllLive, AllTops, StandsAt}
+use Rattle.xf_walks.specs.Leaves.{is_leaf, parts_in, AreLeaves}
+use Rattle.xf_walks.specs.First.{attribute_depth, AreFirst}
+use Rattle.xf_walks.proofs.NodeLemmas.{Parted, parted-from, times-append, times-here}
+use Rattle.xf_walks.proofs.PlaceLemmas.{stands, times-at, parted-at}
+use Rattle.xf_walks.proofs.StackLemmas.{absent-parts}
+use Rattle.xf_walks.proofs.LeafLemmas.{parts-append}
+use Rattle.xf_walks.proofs.CountLemmas.{nodes-append, sizes-append, nodes-cons, sizes-cons}
+use Rattle.xf_walks.proofs.RootLemmas.{tops-parts}
+use Rattle.xf_changes.specs.Texts.{passed_by}
+use Rattle.xf_tree.specs.State.{AllKept, IsSound, IsState, keeping_of}
+use Rattle.xf_tree.proofs.MeansLemmas.{one_of, content-means}
 use Rattle.xf_tree.proofs.FirstBelowLemmas.{first-changed}
-use Rattle.xf_tree.proofs.CountLemmas.{nodes-append, sizes-append, nodes-cons, sizes-cons}
-use Rattle.xf_tree.proofs.ForestLemmas.{tops-append, tops-parts}
+use Rattle.xf_tree.proofs.ForestLemmas.{tops-append}
 use Rattle.xf_tree.proofs.DropLemmas.{kept-where}
 
 -- ---- kinds

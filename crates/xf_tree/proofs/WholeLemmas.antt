@@ -2,17 +2,19 @@
 use Rattle.std.proofs.Common.{◌≡◌, ℕ, suc, ◌<◌, ◌≤◌, ◌&&◌, not, Bool, true, false, List, [], ◌∷◌, map, nat_lt, refl, sym, ◌∙◌, subst, inl, inr, arith}
 use Rattle.std.specs.List.{list_all}
 use Rattle.std.proofs.lemmas.Bool.{cases_Bool, cases_lt, false≢true}
+use Rattle.slab.specs.Slab.{Slab}
 use Rattle.xf_doc.specs.declared.content.Node.{Node}
 use Rattle.xf_doc.specs.Forest.{is_root}
 use Rattle.xf_doc.specs.Visit.{still_above, numbers, visit, visits_from, visits}
 use Rattle.xf_doc.specs.Needs.{is_new, goes_or_stays}
-use Rattle.slab.specs.Slab.{Slab}
-use Rattle.xf_tree.specs.declared.rows.Row.{Row}
-use Rattle.xf_tree.specs.Slot.{Slot}
-use Rattle.xf_tree.specs.Tree.{node_of, AreSteps, IsSound}
-use Rattle.xf_tree.specs.Older.{AreWhole}
-use Rattle.xf_tree.proofs.SizedLemmas.{lt-true, lt-false}
-use Rattle.xf_tree.proofs.KidLemmas.{node_depths}
+use Rattle.xf_rows.specs.declared.rows.Row.{Row}
+use Rattle.xf_rows.specs.Rows.{AreSteps}
+use Rattle.xf_rows.proofs.SizedLemmas.{lt-true, lt-false}
+use Rattle.xf_slots.specs.Slot.{Slot}
+use Rattle.xf_walks.specs.Nodes.{node_of}
+use Rattle.xf_walks.proofs.KidLemmas.{node_depths}
+use Rattle.xf_changes.specs.Older.{AreWhole}
+use Rattle.xf_tree.specs.State.{IsSound}
 use Rattle.xf_tree.proofs.AboveLemmas.{depths-of}
 
 -- of the nodes that are open the last is a top; where there is none, the next one is

@@ -1,9 +1,12 @@
 -- What the calls of a forest give.
-use Rattle.std.specs.Prelude.{ℕ, ◌+◌, List, [], ◌++◌, length}
+use Rattle.std.specs.Prelude.{ℕ, ◌+◌, List, [], ◌++◌, length, map}
 use Rattle.xf_doc.specs.declared.content.Content.{Content}
+use Rattle.xf_doc.specs.declared.content.Content.TheVariants.{Text}
 use Rattle.xf_doc.specs.Forest.{empty}
 use Rattle.xf_doc.specs.Plant.{numbered_from}
-use Rattle.xf_doc.specs.Texts.{Keeping}
+use Rattle.xf_doc.specs.Texts.{Keeping, Before, attribute_text, element_texts}
+use Rattle.xf_tree.specs.declared.before.Had.{Had}
+use Rattle.xf_tree.specs.declared.before.Had.TheVariants as had
 
 -- no node, and no kept text
 abbrev pub nothing : Keeping
@@ -12,3 +15,8 @@ nothing = record { forest = empty; kept = [] }
 -- with a new tree behind all others
 abbrev pub with_contents : List (ℕ × Content) → Keeping → Keeping
 with_contents contents k = record k { forest = record { nodes = k.forest.nodes ++ numbered_from k.forest.next contents; next = k.forest.next + length contents } }
+
+-- what a `Before` says
+abbrev pub known_of : Had → Before
+known_of (had.Text text) = attribute_text text
+known_of (had.Texts texts) = element_texts (map (λ n. n.number) texts.items)

@@ -1,9 +1,10 @@
 -- What writing the text of an element means, whatever number the text has.
-use Rattle.std.specs.Prelude.{ℕ, ◌≡◌, ◌+◌, ◌≤◌, Bool, true, false, List, [], ◌∷◌, ◌++◌}
+use Rattle.std.specs.Prelude.{ℕ, ◌≡◌, ◌+◌, ◌≤◌, List, ◌++◌}
 use Rattle.xf_doc.specs.Texts.{Keeping, Before, before_of, taken_from}
 use Rattle.xf_doc.specs.Settle.{with_numbered_text}
-use Rattle.xf_tree.specs.Tree.{times, kept_times}
-use Rattle.xf_tree.specs.Texts.{text_count}
+use Rattle.xf_slots.specs.Keys.{kept_times}
+use Rattle.xf_walks.specs.Nodes.{times}
+use Rattle.xf_changes.specs.Texts.{text_count}
 
 -- what the node had, and the forest with the text, which has this number; another number is next then
 abbrev pub text_written : ℕ → ℕ → ℕ → List ℕ → Keeping → Before × Keeping
@@ -20,8 +21,3 @@ pub record IsSpare (number next : ℕ) (text : List ℕ) (k : Keeping) : Type 0 
   pub free : times number k.forest.nodes + kept_times number k.kept ≡ 0
   pub later : k.forest.next ≤ next
   pub below : number + text_count text ≤ next
-
--- the texts that are still to be found: none where the one was found
-abbrev pub texts_left : Bool → List ℕ → List (List ℕ)
-texts_left true text = []
-texts_left false text = text ∷ []

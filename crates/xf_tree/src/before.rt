@@ -21,7 +21,7 @@ impl Model for Before {
 
     ghost Value = { Known };
 
-    ghost use Rattle.xf_tree.specs.Texts.{known_of};
+    ghost use Rattle.xf_tree.specs.Calls.{known_of};
 
     ghost view = { λ b. known_of b.had };
 }

@@ -6,26 +6,21 @@ ghost use Rattle.xf_doc.specs.Changes.{detached, standing, copied, contents_in, 
 ghost use Rattle.xf_doc.specs.Limits.{limits, passed_by_all, passed_by_tree};
 ghost use Rattle.xf_doc.specs.Needs.{MayCopy, MayDetach, MayRoot};
 ghost use Rattle.xf_doc.specs.Plant.{numbered_from};
-ghost use Rattle.xf_doc.specs.Planted.{planted};
+ghost use Rattle.xf_doc.specs.Planted.{planted, planted_bare};
 
-use crate::fault::{has_deep, has_long, lit_fault};
 use crate::forest::Forest;
-use crate::limits::{ALL_LIMIT, NODE_LIMIT, ROW_LIMIT};
-use crate::lookup::{parent_row, place_of, row_of};
-use crate::moves::cut;
-use crate::plant::contents_of_lit;
-use crate::root::root_over;
-use crate::row_slice::slice;
-use crate::rows::end_of;
-use crate::slot::number_of;
-use crate::tree::{Part, contents_of, push_tree, size_of_tree};
 use std::alloc::{AllocError, Global};
-use xf_doc::{NodeId, TreeFault};
+use xf_changes::{contents_of, push_tree, root_over, size_of_tree};
+use xf_doc::{Bare, NodeId, TreeFault};
+use xf_literal::{contents_of_bare, contents_of_lit, fault_of_bare, has_deep, has_long, lit_fault};
 use xf_name::{Lit, Prefixes};
+use xf_rows::{cut, end_of, parent_row, slice};
+use xf_slots::{ALL_LIMIT, NODE_LIMIT, Part, ROW_LIMIT, number_of};
+use xf_walks::{place_of, row_of};
 
 impl Forest {
     ghost use Rattle.xf_tree.specs.Calls.{with_contents};
-    ghost use Rattle.xf_tree.specs.Tree.{IsTree};
+    ghost use Rattle.xf_walks.specs.Nodes.{IsTree};
 
     /// Cuts a node's tree off: it stands behind all other trees. The answer is the parent that the node had, and its
     /// place there. Takes no memory.
@@ -191,5 +186,22 @@ impl Forest {
         let place = root_over(&mut self.rows, &mut self.slots, &mut self.hints, at, number);
         self.next = number + 1;
         Ok(NodeId { number, place })
+    }
+
+    /// A literal tree with resolved names as a detached one. A refusal leaves the forest as it was.
+    pub fn plant_bare(&mut self, tree: &Bare, prefixes: &Prefixes) -> Result<NodeId, TreeFault>
+        requires { self.old.forest.next < 2 ^ 126 }
+        ensures answer { Gives TreeFault.Memory (λ n. (n.number, self.new.forest)) result (planted_bare limits prefixes.now tree.now self.old.forest) }
+        ensures kept { self.new.kept ≡ self.old.kept }
+        ensures err { OnErr result (self.new ≡ self.old) }
+    {
+        if let Some(fault) = fault_of_bare(self.alloc, prefixes, tree)? {
+            return Err(fault);
+        }
+        let contents = contents_of_bare(self.alloc, prefixes, tree)?;
+        if let Some(fault) = self.passed_by_tree(&contents) {
+            return Err(fault);
+        }
+        Ok(self.add(contents)?)
     }
 }

@@ -6,17 +6,13 @@ ghost use Rattle.xf_doc.specs.Order.{is_before};
 ghost use Rattle.xf_doc.specs.StringValue.{string_value_within};
 ghost use Rattle.xf_doc.specs.Visit.{visits, parent_of};
 
-use crate::hints::Hints;
-use crate::lookup::{parent_row, root_row, row_of};
-use crate::rows::Rows;
-use crate::slot;
-use crate::slot::number_of;
-use crate::slots::Slots;
-use crate::text::text_at;
 use std::alloc::{AllocError, Global};
 use std::marker::Model;
 use xf_doc::{Kind, NodeId};
 use xf_name::{QName, Word};
+use xf_rows::{Hints, Rows, parent_row};
+use xf_slots::{Slots, number_of};
+use xf_walks::{root_row, row_of, text_at};
 
 /// A forest: rows in document order, and beside them what each node is. Contracts see it as the list of its nodes, and the
 /// texts that are kept beside them.
@@ -40,7 +36,7 @@ impl Model for Forest {
 
     ghost Value = { Keeping };
 
-    ghost use Rattle.xf_tree.specs.Tree.{keeping_of, IsState};
+    ghost use Rattle.xf_tree.specs.State.{keeping_of, IsState};
 
     ghost view = { λ f. keeping_of f.slots f.rows.items f.kept.items f.next };
 
@@ -107,7 +103,7 @@ impl Forest {
         ensures { Some result ≡ kind_at node.number self.now.forest.nodes }
     {
         match row_of(&self.rows, &self.slots, &self.hints, node) {
-            Some(at) => slot::kind(&self.slots, self.rows.at(at).key),
+            Some(at) => xf_slots::kind(&self.slots, self.rows.at(at).key),
             None => Kind::Root,
         }
     }
@@ -118,7 +114,7 @@ impl Forest {
         ensures { option_map (λ name. name.now) result ≡ name_at node.number self.now.forest.nodes }
     {
         match row_of(&self.rows, &self.slots, &self.hints, node) {
-            Some(at) => slot::name(&self.slots, self.rows.at(at).key),
+            Some(at) => xf_slots::name(&self.slots, self.rows.at(at).key),
             None => None,
         }
     }

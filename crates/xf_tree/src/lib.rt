@@ -1,59 +1,21 @@
-//! The forest of instance data: rows in document order over a slab of contents.
+//! The forest of instance data: rows in document order over slots, and what each call keeps of them.
 #![tactic(auto)]
 
 mod attach;
-mod axis;
-mod bare;
-mod bare_fault;
-mod bearers;
 mod before;
 mod change;
-mod child;
-mod chosen;
-mod chosen_row;
-mod declare;
+mod choose;
 mod drop;
-mod fault;
 mod forest;
-mod gather;
-mod hints;
-mod kept;
 mod law;
-mod limits;
-mod lookup;
 mod may;
-mod moves;
-mod name;
-mod names;
-mod narrow;
 mod order;
-mod path;
-mod pieces;
-mod plant;
-mod plant_bare;
 mod print;
 mod read;
-mod root;
-mod row_slice;
-mod rows;
-mod run;
-mod seen;
 mod set;
 mod settle;
-mod shown;
-mod siblings;
-mod slot;
-mod slots;
-mod sought;
-mod spaces;
-mod text;
-mod top;
-mod tree;
-mod walk;
 
 pub use before::Before;
 pub use forest::Forest;
-pub use pieces::Pieces;
-pub use seen::Seen;
-pub use sought::{Principal, Sought};
-pub use walk::Walk;
+pub use xf_slots::{Principal, Seen, Sought};
+pub use xf_walks::{Pieces, Walk};

@@ -1,19 +1,16 @@
 //! Whether what a change needs holds, for a caller who cannot know it. A node that does not stand in the forest may nothing.
-ghost use Rattle.std.specs.Prelude.{◌≡◌, ◌↔◌, false, Some, IsTrue, is_some, length, map, nat_le};
+ghost use Rattle.std.specs.Prelude.{◌≡◌, ◌↔◌, Some, IsTrue, is_some, length, nat_le};
 ghost use Rattle.xf_doc.specs.Forest.{has_number, kind_at, tree_of};
 ghost use Rattle.xf_doc.specs.Needs.{MayCopy, MayRoot, MayDetach, MayAttach, MayStand, MayDropFrom, IsSettable, is_top, lacks_name};
 ghost use Rattle.xf_doc.specs.Shape.{has_elements};
 ghost use Rattle.xf_doc.specs.Visit.{visits, parent_of, children_of};
-ghost use Rattle.xf_tree.specs.Older.{AreWhole};
-ghost use Rattle.xf_tree.specs.Tree.{node_of};
 
-use crate::child::{has_attribute, has_children, has_element};
 use crate::forest::Forest;
-use crate::lookup::{parent_row, row_of};
-use crate::rows::{Rows, end_of};
-use crate::slot::{is_root_at, kind, number_of};
-use crate::slots::Slots;
+use xf_changes::are_whole;
 use xf_doc::{Kind, NodeId};
+use xf_rows::{end_of, parent_row};
+use xf_slots::{is_root_at, kind};
+use xf_walks::{has_attribute, has_children, has_element, row_of};
 
 impl Forest {
     /// Whether a copy can be made of the node's tree.
@@ -153,24 +150,4 @@ impl Forest {
             None => true,
         }
     }
-}
-
-/// Whether each tree's nodes have either all this number or a later one, and are no roots, or all an earlier one: a node
-/// that is no top is of one tree with the node before it.
-fn are_whole(rows: &Rows, slots: &Slots, number: u128) -> bool
-    ensures { IsTrue result ↔ AreWhole number false (map (node_of slots.now) rows.now.items) }
-{
-    let mut before = false;
-    for at in 0..rows.len() {
-        let row = rows.at(at);
-        let is_new = number_of(slots, row.key) >= number;
-        if row.depth > 0 && is_new != before {
-            return false;
-        }
-        if is_new && is_root_at(slots, row.key) {
-            return false;
-        }
-        before = is_new;
-    }
-    true
 }

@@ -1,19 +1,20 @@
-//! What is read of a node at one look: what it is, its texts, where it stands.
-ghost use Rattle.std.specs.Prelude.{◌≡◌, option_map};
+//! What is read of a node: what it is, its texts, where it stands, the top of its tree, its path.
+ghost use Rattle.std.specs.Prelude.{◌≡◌, option_map, IfOk};
 ghost use Rattle.xf_doc.specs.Changes.{standing};
 ghost use Rattle.xf_doc.specs.Forest.{IsLive, content_at};
 ghost use Rattle.xf_doc.specs.Order.{rank_of};
 ghost use Rattle.xf_doc.specs.StringValue.{pieces, whole};
-ghost use Rattle.xf_doc.specs.Visit.{visits};
-ghost use Rattle.xf_tree.specs.Seen.{seen_content};
+ghost use Rattle.xf_doc.specs.Visit.{visits, top_of};
+ghost use Rattle.xf_doc.specs.Path.{path_of};
+ghost use Rattle.xf_slots.specs.Seen.{seen_content};
 
 use crate::forest::Forest;
-use crate::lookup::{parent_row, place_of, row_of};
-use crate::pieces::{Pieces, pieces_at, whole_at};
-use crate::row_slice::slice;
-use crate::seen::Seen;
-use crate::slot::{content_of, number_of};
+use std::alloc::AllocError;
 use xf_doc::NodeId;
+use xf_name::Word;
+use xf_rows::parent_row;
+use xf_slots::{Seen, content_of, number_of};
+use xf_walks::{Pieces, no_pieces, path_at, pieces_at, place_of, row_of, top_row, whole_at};
 
 impl Forest {
     /// What the node is: its kind, its name as it is resolved and as it is written, its own text. `None` where it is not live.
@@ -32,11 +33,7 @@ impl Forest {
     {
         match row_of(&self.rows, &self.slots, &self.hints, node) {
             Some(at) => pieces_at(&self.rows, &self.slots, at),
-            None => Pieces {
-                slots: &self.slots,
-                first: "",
-                rows: slice(&self.rows, 0, 0),
-            },
+            None => no_pieces(&self.rows, &self.slots),
         }
     }
 
@@ -71,5 +68,34 @@ impl Forest {
         let number = number_of(&self.slots, key);
         let place = place_of(&self.rows, &self.slots, above, at);
         Some((NodeId { number, place: key }, place))
+    }
+
+    /// The path of a node, from the top of its tree: a location path (XPath 1.0, section 2.5) where prefixes are known.
+    pub fn path(&self, node: NodeId) -> Result<Word, AllocError>
+        requires { IsLive node.number self.now.forest }
+        ensures { IfOk result (λ text. text ≡ path_of node.number (visits self.now.forest.nodes)) }
+    {
+        match row_of(&self.rows, &self.slots, &self.hints, node) {
+            Some(at) => path_at(self.alloc, &self.rows, &self.slots, &self.hints, at),
+            None => Ok(Word::new(self.alloc)),
+        }
+    }
+
+    /// The top of a node's tree: the root of its instance, or the top of a detached tree.
+    pub fn top(&self, node: NodeId) -> NodeId
+        requires { IsLive node.number self.now.forest }
+        ensures { result.number ≡ top_of node.number (visits self.now.forest.nodes) }
+    {
+        match row_of(&self.rows, &self.slots, &self.hints, node) {
+            Some(at) => {
+                let top = top_row(&self.rows, &self.hints, at);
+                let place = self.rows.at(top).key;
+                NodeId {
+                    number: number_of(&self.slots, place),
+                    place,
+                }
+            }
+            None => node,
+        }
     }
 }

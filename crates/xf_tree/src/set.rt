@@ -6,22 +6,21 @@ ghost use Rattle.xf_doc.specs.Forest.{kind_at};
 ghost use Rattle.xf_doc.specs.Visit.{visits};
 ghost use Rattle.xf_doc.specs.Shape.{has_elements};
 ghost use Rattle.xf_doc.specs.Limits.{limits};
-ghost use Rattle.xf_doc.specs.Needs.{IsSettable, MayPutBack, MayGiveUp, are_kept};
+ghost use Rattle.xf_doc.specs.Needs.{IsSettable, MayPutBack, MayGiveUp};
 ghost use Rattle.xf_doc.specs.Texts.{text_set, put_back, given_up, attribute_text, element_texts};
-ghost use Rattle.xf_tree.specs.Texts.{numbers_in};
+ghost use Rattle.xf_changes.specs.Texts.{numbers_in};
 
 use crate::before::{Before, Had};
 use crate::forest::Forest;
-use crate::kept::{
-    change_value, free_all, free_texts, passed, size_of_texts, take_kept, text_count, texts_in,
+use xf_changes::{
+    change_texts, change_value, free_all, free_texts, passed, size_of_texts, take_kept, text_count,
+    texts_in,
 };
-use crate::lookup::row_of;
-use crate::row_slice::slice;
-use crate::rows::end_of;
-use crate::run::change_texts;
-use crate::slot::own;
 use xf_doc::{Kind, NodeId, TreeFault};
 use xf_name::Word;
+use xf_rows::{end_of, slice};
+use xf_slots::own;
+use xf_walks::row_of;
 
 impl Forest {
     /// Sets the text of an attribute, or of an element without element children. The texts that an element had are kept

@@ -1,28 +1,25 @@
 //! Texts that are settled, with numbers that were reserved.
-ghost use Rattle.std.specs.Prelude.{◌≡◌, ◌<◌, ◌^◌, ℕ, Some, false, map, IfOk, OnErr};
+ghost use Rattle.std.specs.Prelude.{◌≡◌, ◌<◌, ◌^◌, ℕ, Some, false, IfOk, OnErr};
 ghost use Rattle.xf_doc.specs.declared.content.Kind.TheVariants.{Attribute, Element};
 ghost use Rattle.xf_doc.specs.Forest.{kind_at};
 ghost use Rattle.xf_doc.specs.Visit.{visits};
-ghost use Rattle.xf_doc.specs.Shape.{has_elements, as_texts};
+ghost use Rattle.xf_doc.specs.Shape.{has_elements};
 ghost use Rattle.xf_doc.specs.Limits.{limits, passed_by_all};
 ghost use Rattle.xf_doc.specs.Needs.{IsSettable};
-ghost use Rattle.xf_doc.specs.Texts.{texts_in};
-ghost use Rattle.xf_doc.specs.Settle.{reserved, IsFree, numbered_text_set, has_text, are_texts};
-ghost use Rattle.xf_tree.specs.Tree.{node_of};
+ghost use Rattle.xf_doc.specs.Settle.{reserved, IsFree, numbered_text_set, has_text};
 ghost use Rattle.xf_tree.specs.Settled.{text_written, IsSpare};
 
 use crate::before::{Before, Had};
 use crate::forest::Forest;
-use crate::kept::{add_text, change_value, keep_texts, make_room, passed, text_count, texts_in};
-use crate::lookup::row_of;
-use crate::row_slice::{RowSlice, slice};
-use crate::rows::end_of;
-use crate::run::change_texts;
-use crate::slot::{is_attribute_at, is_text_at, own};
-use crate::slots::Slots;
 use std::alloc::AllocError;
+use xf_changes::{
+    add_text, change_texts, change_value, keep_texts, make_room, passed, text_count, texts_in,
+};
 use xf_doc::{Kind, NodeId, TreeFault};
 use xf_name::Word;
+use xf_rows::{end_of, slice};
+use xf_slots::{is_attribute_at, own};
+use xf_walks::{are_texts, row_of};
 
 impl Forest {
     /// Reserves so many numbers: no new node takes them.
@@ -147,22 +144,4 @@ impl Forest {
             had: Had::Texts(had),
         })
     }
-}
-
-/// Whether the texts among these rows are this one alone, or none where it is empty.
-fn are_texts(rows: &RowSlice<'_>, slots: &Slots, text: &str) -> bool
-    ensures { result ≡ are_texts (as_texts text.now) (texts_in (map (node_of slots.now) rows.now)) }
-{
-    let mut found = text.is_empty();
-    for at in 0..rows.len() {
-        let row = rows.at(at);
-        if !is_text_at(slots, row.key) {
-            continue;
-        }
-        if found || own(slots, row.key) != text {
-            return false;
-        }
-        found = true;
-    }
-    found
 }

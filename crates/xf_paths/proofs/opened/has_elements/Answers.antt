@@ -1,6 +1,6 @@
 use Rattle.std.proofs.Common.{ap}
 use Rattle.xf_doc.proofs.TextLaws.{in_forest}
-use Rattle.xf_tree.specs.Seen.{seen_content}
+use Rattle.xf_slots.specs.Seen.{seen_content}
 use Rattle.xf_paths.proofs.StemLemmas.{childless-attribute, childless-text}
 use Rattle.xf_paths.proofs.opened.has_elements.Goals as goal
 

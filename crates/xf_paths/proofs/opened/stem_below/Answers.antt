@@ -2,7 +2,7 @@ use Rattle.std.proofs.Common.{◌∙◌}
 use Rattle.std.specs.Prelude.{string_bytes}
 use Rattle.xf_doc.specs.Visit.{visits}
 use Rattle.xf_doc.proofs.TextLaws.{in_forest}
-use Rattle.xf_tree.specs.Seen.{seen_content}
+use Rattle.xf_slots.specs.Seen.{seen_content}
 use Rattle.xf_paths.proofs.StemLemmas.{stem-pushed}
 use Rattle.xf_paths.proofs.opened.stem_below.Goals as goal
 

@@ -1,10 +1,12 @@
 use Rattle.std.proofs.Common.{◌≡◌, ◌+◌, ◌^◌, ◌<◌, ◌≤◌, length, sym, ap, ◌∙◌, subst, arith}
+use Rattle.xf_walks.specs.Nodes.{AllLive}
+use Rattle.xf_changes.specs.Trees.{size_of_all}
+use Rattle.xf_changes.proofs.PushLemmas.{kept-live}
 use Rattle.xf_tree.specs.Calls.{with_contents}
-use Rattle.xf_tree.specs.Tree.{IsState, AllLive, keeping_of, size_of_all}
-use Rattle.xf_tree.proofs.PushLemmas.{kept-live}
+use Rattle.xf_tree.specs.State.{IsState, keeping_of}
 use Rattle.xf_tree.proofs.AddLemmas.{same-state, same-view, added-state, added-view, bytes-most}
-use Rattle.xf_tree.proofs.forest.Forest.add.Goals as goal
 use Rattle.xf_tree.proofs.forest.Forest.add.Goals.{After-push_tree}
+use Rattle.xf_tree.proofs.forest.Forest.add.Goals as goal
 
 pub invariant_of-self : goal.invariant_of-self
 invariant_of-self c =

@@ -1,7 +1,7 @@
 use Rattle.std.proofs.Common.{sym, ap, ◌∙◌}
 use Rattle.xf_doc.specs.Order.{is_before}
 use Rattle.xf_doc.specs.Texts.{Keeping}
-use Rattle.xf_tree.proofs.PlaceLemmas.{before-means}
+use Rattle.xf_tree.proofs.MeansLemmas.{before-means}
 use Rattle.xf_tree.proofs.forest.Forest.before.Goals as goal
 
 pub returns-in-Some-Some : goal.returns-in-Some-Some

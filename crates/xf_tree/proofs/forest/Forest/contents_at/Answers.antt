@@ -6,14 +6,16 @@ use Rattle.xf_doc.specs.declared.content.Content.{Content}
 use Rattle.xf_doc.specs.Changes.{contents_in}
 use Rattle.xf_doc.specs.Forest.{is_root, has_number, tree_of}
 use Rattle.xf_doc.specs.Texts.{Keeping}
-use Rattle.xf_tree.specs.declared.rows.Row.{Row}
-use Rattle.xf_tree.specs.Rows.{tree_of as row_tree}
-use Rattle.xf_tree.specs.Tree.{StandsAt, IsTree, node_of, part_of, no_row}
-use Rattle.xf_tree.proofs.CutLemmas.{tree-is-front}
-use Rattle.xf_tree.proofs.PlaceLemmas.{stands, one_of}
+use Rattle.xf_rows.specs.declared.rows.Row.{Row}
+use Rattle.xf_rows.specs.Rows.{tree_of as row_tree, no_row}
+use Rattle.xf_rows.proofs.CutLemmas.{tree-is-front}
+use Rattle.xf_walks.specs.Nodes.{StandsAt, IsTree, node_of}
+use Rattle.xf_walks.proofs.PlaceLemmas.{stands}
+use Rattle.xf_changes.specs.Trees.{part_of}
+use Rattle.xf_tree.proofs.MeansLemmas.{one_of}
 use Rattle.xf_tree.proofs.CopyLemmas.{contents-mean, contents-tree, copied-stands, nothing-copied}
-use Rattle.xf_tree.proofs.forest.Forest.contents_at.Goals as goal
 use Rattle.xf_tree.proofs.forest.Forest.contents_at.Goals.{After-contents_of}
+use Rattle.xf_tree.proofs.forest.Forest.contents_at.Goals as goal
 
 ok-tree : {V E : Type 0} (r : Result V E) (items : V → List (ℕ × Content)) (l : List (ℕ × Content)) → IfOk r (λ v. items v ≡ l) → IsTree l → IfOk r (λ v. IsTree (items v))
 ok-tree (Ok v) items l e tree = subst IsTree (sym e) tree

@@ -7,17 +7,19 @@ use Rattle.xf_doc.specs.Forest.{has_number}
 use Rattle.xf_doc.specs.Changes.{detached, standing}
 use Rattle.xf_doc.specs.Texts.{Keeping}
 use Rattle.xf_doc.specs.Visit.{visits, parent_of}
-use Rattle.xf_tree.specs.declared.rows.Row.{Row}
-use Rattle.xf_tree.specs.Rows.{parent_row_of}
-use Rattle.xf_tree.specs.Tree.{node_of, kept_of, number_at, number_in, kin_before, no_row}
-use Rattle.xf_tree.proofs.StackLemmas.{absent-parent}
-use Rattle.xf_tree.proofs.ParentLemmas.{parent-means}
-use Rattle.xf_tree.proofs.PlaceLemmas.{one_of}
-use Rattle.xf_tree.proofs.AboveLemmas.{above-is, above-inside, child-depth, standing-means}
+use Rattle.xf_rows.specs.declared.rows.Row.{Row}
+use Rattle.xf_rows.specs.Rows.{parent_row_of, no_row}
+use Rattle.xf_slots.specs.Keys.{kept_of, number_in}
+use Rattle.xf_walks.specs.Nodes.{node_of, number_at, kin_before}
+use Rattle.xf_walks.proofs.StackLemmas.{absent-parent}
+use Rattle.xf_walks.proofs.ParentLemmas.{parent-means}
+use Rattle.xf_walks.proofs.AboveLemmas.{above-is, above-inside, child-depth}
+use Rattle.xf_tree.proofs.MeansLemmas.{one_of}
+use Rattle.xf_tree.proofs.AboveLemmas.{standing-means}
 use Rattle.xf_tree.proofs.ForestLemmas.{cut-means}
 use Rattle.xf_tree.proofs.StateLemmas.{cut-state}
-use Rattle.xf_tree.proofs.forest.Forest.detach.Goals as goal
 use Rattle.xf_tree.proofs.forest.Forest.detach.Goals.{In_default, In_default-parent_row}
+use Rattle.xf_tree.proofs.forest.Forest.detach.Goals as goal
 
 nowhere : (c : In_default) → ⊥
 nowhere c =

@@ -4,11 +4,13 @@ use Rattle.xf_doc.specs.declared.content.Node.{Node}
 use Rattle.xf_doc.specs.Changes.{in_instances}
 use Rattle.xf_doc.specs.Limits.{node_count, all_size}
 use Rattle.xf_doc.specs.Texts.{Keeping, without_detached}
-use Rattle.xf_tree.specs.Tree.{node_of, kept_of, times, KeepsBut, IsState}
-use Rattle.xf_tree.proofs.NodeLemmas.{times-append}
+use Rattle.xf_slots.specs.Keys.{kept_of}
+use Rattle.xf_walks.specs.Nodes.{node_of, times, KeepsBut}
+use Rattle.xf_walks.proofs.NodeLemmas.{times-append}
+use Rattle.xf_tree.specs.State.{IsState}
 use Rattle.xf_tree.proofs.DropLemmas.{dropped-state, dropped-nodes, front-parted, front-shaped}
-use Rattle.xf_tree.proofs.forest.Forest.drop_detached.Goals as goal
 use Rattle.xf_tree.proofs.forest.Forest.drop_detached.Goals.{After-truncate}
+use Rattle.xf_tree.proofs.forest.Forest.drop_detached.Goals as goal
 
 pub free_rows-requires : goal.free_rows-requires
 free_rows-requires c = λ n.

@@ -5,13 +5,16 @@ use Rattle.xf_doc.specs.declared.content.Node.{Node}
 use Rattle.xf_doc.specs.Needs.{goes_or_stays}
 use Rattle.xf_doc.specs.Texts.{Keeping, without_from}
 use Rattle.xf_doc.specs.Visit.{visits}
-use Rattle.xf_tree.specs.Tree.{node_of, kept_of, IsState}
-use Rattle.xf_tree.specs.Older.{is_older, is_newer, AreWhole}
+use Rattle.xf_slots.specs.Keys.{kept_of}
+use Rattle.xf_walks.specs.Nodes.{node_of}
+use Rattle.xf_changes.specs.Older.{is_older, is_newer, AreWhole}
+use Rattle.xf_changes.proofs.OlderLemmas.{older-parted}
+use Rattle.xf_tree.specs.State.{IsState}
 use Rattle.xf_tree.proofs.DropLemmas.{dropped-state, dropped-nodes}
-use Rattle.xf_tree.proofs.OlderLemmas.{older-parted, older-shaped, length-older, times-older, nodes-older}
+use Rattle.xf_tree.proofs.OlderLemmas.{older-shaped, length-older, times-older, nodes-older}
 use Rattle.xf_tree.proofs.WholeLemmas.{rows-whole}
-use Rattle.xf_tree.proofs.forest.Forest.drop_from.Goals as goal
 use Rattle.xf_tree.proofs.forest.Forest.drop_from.Goals.{After-tops_end-from}
+use Rattle.xf_tree.proofs.forest.Forest.drop_from.Goals as goal
 
 whole-here : (c : After-tops_end-from) → AreWhole c.args.number false (map (node_of c.self.inside.slots) c.self.inside.rows.items)
 whole-here c =

@@ -1,12 +1,13 @@
 use Rattle.std.proofs.Common.{◌≤◌, map, sym, ap, ◌∙◌, subst, arith}
 use Rattle.std.specs.Prelude.{filter}
 use Rattle.xf_doc.specs.Texts.{element_texts, given_up}
-use Rattle.xf_tree.specs.Tree.{kept_of, KeepsButKept, IsState, keeping_of}
-use Rattle.xf_tree.specs.Texts.{numbers_in, places_of, is_wanted}
+use Rattle.xf_slots.specs.Keys.{kept_of, KeepsButKept}
+use Rattle.xf_changes.specs.Texts.{numbers_in, places_of, is_wanted}
+use Rattle.xf_tree.specs.State.{IsState, keeping_of}
 use Rattle.xf_tree.proofs.DropLemmas.{rest-of}
 use Rattle.xf_tree.proofs.BackLemmas.{given-state, given-view}
-use Rattle.xf_tree.proofs.forest.Forest.drop_kept.Goals as goal
 use Rattle.xf_tree.proofs.forest.Forest.drop_kept.Goals.{After-free_all}
+use Rattle.xf_tree.proofs.forest.Forest.drop_kept.Goals as goal
 
 keeps-in : (c : After-free_all) → KeepsButKept c.self.inside.slots c.free_all.new.slots (map (kept_of c.self.inside.slots) (filter (is_wanted c.self.inside.slots (numbers_in c.args.texts.items)) c.self.inside.kept.items))
 keeps-in c =

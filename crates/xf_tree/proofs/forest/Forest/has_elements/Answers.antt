@@ -3,9 +3,9 @@ use Rattle.xf_doc.specs.Forest.{is_element}
 use Rattle.xf_doc.specs.Shape.{has_elements}
 use Rattle.xf_doc.specs.Texts.{Keeping}
 use Rattle.xf_doc.specs.Visit.{visits}
-use Rattle.xf_tree.specs.Tree.{node_of}
+use Rattle.xf_walks.specs.Nodes.{node_of}
+use Rattle.xf_walks.proofs.KidLemmas.{kids-none}
 use Rattle.xf_tree.proofs.ChildLemmas.{kids-mean, elements-are}
-use Rattle.xf_tree.proofs.KidLemmas.{kids-none}
 use Rattle.xf_tree.proofs.forest.Forest.has_elements.Goals as goal
 
 pub returns-in-Some : goal.returns-in-Some

@@ -5,12 +5,14 @@ use Rattle.xf_doc.specs.Forest.{is_attribute, own_text}
 use Rattle.xf_doc.specs.Shape.{as_texts}
 use Rattle.xf_doc.specs.Texts.{Keeping, texts_in}
 use Rattle.xf_doc.specs.Settle.{are_texts, has_text}
-use Rattle.xf_tree.specs.declared.rows.Row.{Row}
-use Rattle.xf_tree.specs.Rows.{tree_of}
-use Rattle.xf_tree.specs.Tree.{StandsAt, node_of, content_in, no_row}
-use Rattle.xf_tree.proofs.StandLemmas.{stands-absent, none-texts, stands-value, stands-texts}
-use Rattle.xf_tree.proofs.forest.Forest.has_text.Goals as goal
+use Rattle.xf_rows.specs.declared.rows.Row.{Row}
+use Rattle.xf_rows.specs.Rows.{tree_of, no_row}
+use Rattle.xf_slots.specs.Keys.{content_in}
+use Rattle.xf_walks.specs.Nodes.{StandsAt, node_of}
+use Rattle.xf_walks.proofs.StandLemmas.{none-texts}
+use Rattle.xf_tree.proofs.StandLemmas.{stands-absent, stands-value, stands-texts}
 use Rattle.xf_tree.proofs.forest.Forest.has_text.Goals.{After-is_attribute_at as Seen}
+use Rattle.xf_tree.proofs.forest.Forest.has_text.Goals as goal
 
 pub returns-in_default : goal.returns-in_default
 returns-in_default c =

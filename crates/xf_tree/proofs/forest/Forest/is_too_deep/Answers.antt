@@ -4,10 +4,10 @@ use Rattle.xf_doc.specs.Changes.{elements_above}
 use Rattle.xf_doc.specs.Limits.{is_too_deep}
 use Rattle.xf_doc.specs.Visit.{visits}
 use Rattle.xf_doc.specs.Texts.{Keeping}
-use Rattle.xf_tree.specs.Rows.{tree_of as row_tree}
-use Rattle.xf_tree.specs.Tree.{node_of}
-use Rattle.xf_tree.proofs.CutLemmas.{tree-is-front}
-use Rattle.xf_tree.proofs.PlaceLemmas.{one_of}
+use Rattle.xf_rows.specs.Rows.{tree_of as row_tree}
+use Rattle.xf_rows.proofs.CutLemmas.{tree-is-front}
+use Rattle.xf_walks.specs.Nodes.{node_of}
+use Rattle.xf_tree.proofs.MeansLemmas.{one_of}
 use Rattle.xf_tree.proofs.AttachLemmas.{tree-nodes}
 use Rattle.xf_tree.proofs.ElementLemmas.{elements-mean}
 use Rattle.xf_tree.proofs.forest.Forest.is_too_deep.Goals as goal

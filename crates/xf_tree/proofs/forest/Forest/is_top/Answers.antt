@@ -2,7 +2,7 @@ use Rattle.std.proofs.Common.{◌==◌, Bool, sym, ap, ◌∙◌}
 use Rattle.xf_doc.specs.declared.content.Node.{Node}
 use Rattle.xf_doc.specs.Needs.{is_top}
 use Rattle.xf_doc.specs.Texts.{Keeping}
-use Rattle.xf_tree.specs.declared.rows.Row.{Row}
+use Rattle.xf_rows.specs.declared.rows.Row.{Row}
 use Rattle.xf_tree.proofs.NamedLemmas.{named-at, named-none}
 use Rattle.xf_tree.proofs.forest.Forest.is_top.Goals as goal
 

@@ -4,12 +4,14 @@ use Rattle.xf_doc.specs.declared.content.Node.{Node}
 use Rattle.xf_doc.specs.Forest.{Forest, has_number}
 use Rattle.xf_doc.specs.Needs.{lacks_name}
 use Rattle.xf_doc.specs.Texts.{Keeping}
-use Rattle.xf_tree.specs.declared.rows.Row.{Row}
-use Rattle.xf_tree.specs.Kids.{is_attribute_like, kids_at}
-use Rattle.xf_tree.specs.Tree.{node_of, content_in, no_row}
+use Rattle.xf_rows.specs.declared.rows.Row.{Row}
+use Rattle.xf_rows.specs.Rows.{no_row}
+use Rattle.xf_slots.specs.Keys.{content_in}
+use Rattle.xf_walks.specs.Kids.{is_attribute_like, kids_at}
+use Rattle.xf_walks.specs.Nodes.{node_of}
 use Rattle.xf_tree.proofs.ChildLemmas.{kids-mean, lacks-are, lacks-nameless, lacks-nobody}
 use Rattle.xf_tree.proofs.NamedLemmas.{node-none}
-use Rattle.xf_tree.proofs.PlaceLemmas.{content-means}
+use Rattle.xf_tree.proofs.MeansLemmas.{content-means}
 use Rattle.xf_tree.proofs.forest.Forest.lacks_name.Goals as goal
 
 pub returns-in_default : goal.returns-in_default

@@ -5,8 +5,8 @@ use Rattle.slab.specs.Slab.{get}
 use Rattle.xf_doc.specs.declared.content.Node.{Node}
 use Rattle.xf_doc.specs.Forest.{is_root}
 use Rattle.xf_doc.specs.Texts.{Keeping}
-use Rattle.xf_tree.specs.declared.rows.Row.{Row}
-use Rattle.xf_tree.specs.Tree.{content_in}
+use Rattle.xf_rows.specs.declared.rows.Row.{Row}
+use Rattle.xf_slots.specs.Keys.{content_in}
 use Rattle.xf_tree.proofs.NamedLemmas.{named-at, named-none}
 use Rattle.xf_tree.proofs.forest.Forest.may_copy.Goals as goal
 

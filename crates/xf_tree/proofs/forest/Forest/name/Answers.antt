@@ -4,9 +4,9 @@ use Rattle.slab.specs.Slab.{get}
 use Rattle.xf_doc.specs.declared.content.Name.{Name}
 use Rattle.xf_doc.specs.Forest.{name_in, name_at}
 use Rattle.xf_doc.specs.Texts.{Keeping}
-use Rattle.xf_tree.specs.declared.rows.Row.{Row}
-use Rattle.xf_tree.specs.Tree.{content_in}
-use Rattle.xf_tree.proofs.PlaceLemmas.{content-means}
+use Rattle.xf_rows.specs.declared.rows.Row.{Row}
+use Rattle.xf_slots.specs.Keys.{content_in}
+use Rattle.xf_tree.proofs.MeansLemmas.{content-means}
 use Rattle.xf_tree.proofs.forest.Forest.name.Goals as goal
 
 pub returns-in-Some : goal.returns-in-Some

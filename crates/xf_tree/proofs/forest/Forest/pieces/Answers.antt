@@ -1,12 +1,11 @@
-use Rattle.std.proofs.Common.{[], map, false, ◌≡◌, sym, ap, ◌∙◌}
+use Rattle.std.proofs.Common.{map, false, ◌≡◌, sym, ap, ◌∙◌}
 use Rattle.xf_doc.specs.Forest.{has_number}
 use Rattle.xf_doc.specs.StringValue.{pieces}
 use Rattle.xf_doc.specs.Texts.{Keeping}
 use Rattle.xf_doc.specs.Visit.{visits}
-use Rattle.xf_tree.specs.Tree.{node_of}
-use Rattle.xf_tree.proofs.PieceLemmas.{pieces-means}
-use Rattle.xf_tree.proofs.ReadLemmas.{absent-pieces}
-use Rattle.xf_tree.specs.Reads.{pieces_left}
+use Rattle.xf_walks.specs.Nodes.{node_of}
+use Rattle.xf_walks.proofs.ReadLemmas.{absent-pieces}
+use Rattle.xf_tree.proofs.MeansLemmas.{pieces-means}
 use Rattle.xf_tree.proofs.forest.Forest.pieces.Goals as goal
 
 pub returns-in-Some : goal.returns-in-Some
@@ -24,4 +23,4 @@ returns-in-None c =
     let n = c.args.node.number in
     let s = c.self.inside.slots in
     let absent : has_number n (map (node_of s) c.self.inside.rows.items) ≡ false = c.in-None.ensures in
-    ap (pieces_left s []) c.slice.ensures ∙ sym (absent-pieces n (map (node_of s) c.self.inside.rows.items) absent) ∙ ap (λ (k : Keeping). pieces n (visits k.forest.nodes)) c.self.view_is
+    c.no_pieces.ensures ∙ sym (absent-pieces n (map (node_of s) c.self.inside.rows.items) absent) ∙ ap (λ (k : Keeping). pieces n (visits k.forest.nodes)) c.self.view_is

@@ -5,11 +5,13 @@ use Rattle.xf_doc.specs.Changes.{place_of, is_lesser}
 use Rattle.xf_doc.specs.Forest.{is_attribute, content_at}
 use Rattle.xf_doc.specs.Texts.{Keeping}
 use Rattle.xf_doc.specs.Visit.{visits}
-use Rattle.xf_tree.specs.declared.rows.Row.{Row}
-use Rattle.xf_tree.specs.Kids.{is_lesser_attribute, kids_at}
-use Rattle.xf_tree.specs.Tree.{node_of, content_in, no_row}
+use Rattle.xf_rows.specs.declared.rows.Row.{Row}
+use Rattle.xf_rows.specs.Rows.{no_row}
+use Rattle.xf_slots.specs.Keys.{content_in}
+use Rattle.xf_walks.specs.Kids.{is_lesser_attribute, kids_at}
+use Rattle.xf_walks.specs.Nodes.{node_of}
 use Rattle.xf_tree.proofs.ChildLemmas.{kids-mean, lesser-are}
-use Rattle.xf_tree.proofs.PlaceLemmas.{content-means}
+use Rattle.xf_tree.proofs.MeansLemmas.{content-means}
 use Rattle.xf_tree.proofs.forest.Forest.place_of.Goals as goal
 
 pub returns-then-is_attribute_at : goal.returns-then-is_attribute_at

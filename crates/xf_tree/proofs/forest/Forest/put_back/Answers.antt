@@ -1,8 +1,9 @@
 use Rattle.std.proofs.Common.{sym, ap, ◌∙◌, Vec, Global}
 use Rattle.xf_doc.specs.declared.node.NodeId.{NodeId}
 use Rattle.xf_doc.specs.Texts.{Before, element_texts, put_back}
+use Rattle.xf_changes.specs.Texts.{numbers_in}
 use Rattle.xf_tree.specs.declared.before.Had.{Had}
-use Rattle.xf_tree.specs.Texts.{known_of, numbers_in}
+use Rattle.xf_tree.specs.Calls.{known_of}
 use Rattle.xf_tree.proofs.forest.Forest.put_back.Goals as goal
 
 pub returns-in-Texts : goal.returns-in-Texts

@@ -9,20 +9,22 @@ use Rattle.xf_doc.specs.Visit.{visits}
 use Rattle.xf_doc.specs.Shape.{has_elements}
 use Rattle.xf_doc.specs.Limits.{all_size, node_count}
 use Rattle.xf_doc.specs.Texts.{Keeping, element_texts, put_back}
-use Rattle.xf_tree.specs.declared.rows.Row.{Row}
-use Rattle.xf_tree.specs.Rows.{tree_of, deeper}
-use Rattle.xf_tree.specs.Tree.{StandsAt, node_of, times, KeepsBut, IsState, keeping_of}
-use Rattle.xf_tree.specs.Texts.{children, numbers_in, places_of, is_wanted, run_of, depth_at}
-use Rattle.xf_tree.proofs.NodeLemmas.{times-append}
+use Rattle.xf_rows.specs.declared.rows.Row.{Row}
+use Rattle.xf_rows.specs.Rows.{tree_of, deeper}
+use Rattle.xf_walks.specs.Nodes.{StandsAt, node_of, times, KeepsBut}
+use Rattle.xf_walks.proofs.NodeLemmas.{times-append}
+use Rattle.xf_walks.proofs.PlaceLemmas.{tree-size}
+use Rattle.xf_changes.specs.Texts.{children, numbers_in, places_of, is_wanted, run_of, depth_at}
+use Rattle.xf_tree.specs.State.{IsState, keeping_of}
 use Rattle.xf_tree.proofs.AddLemmas.{bytes-most}
 use Rattle.xf_tree.proofs.DropLemmas.{rest-of}
-use Rattle.xf_tree.proofs.PlaceLemmas.{tree-size, one_of}
+use Rattle.xf_tree.proofs.MeansLemmas.{one_of}
 use Rattle.xf_tree.proofs.ValueLemmas.{kind-live}
 use Rattle.xf_tree.proofs.ChildlessLemmas.{run-flat}
 use Rattle.xf_tree.proofs.SetLemmas.{depth-most}
 use Rattle.xf_tree.proofs.BackLemmas.{wanted-long, state-back, view-back}
-use Rattle.xf_tree.proofs.forest.Forest.put_texts.Goals as goal
 use Rattle.xf_tree.proofs.forest.Forest.put_texts.Goals.{After-deref as Wanted, After-change_texts as Changed}
+use Rattle.xf_tree.proofs.forest.Forest.put_texts.Goals as goal
 
 pub returns-in_default : goal.returns-in_default
 returns-in_default c =

@@ -6,13 +6,15 @@ use Rattle.xf_doc.specs.declared.content.Kind.TheVariants.{Attribute}
 use Rattle.xf_doc.specs.Forest.{kind_at, has_number}
 use Rattle.xf_doc.specs.Limits.{size_of}
 use Rattle.xf_doc.specs.Texts.{Keeping, attribute_text, put_back}
-use Rattle.xf_tree.specs.declared.rows.Row.{Row}
-use Rattle.xf_tree.specs.Tree.{StandsAt, content_in, node_of, no_row}
-use Rattle.xf_tree.specs.Texts.{valued_slot}
+use Rattle.xf_rows.specs.declared.rows.Row.{Row}
+use Rattle.xf_rows.specs.Rows.{no_row}
+use Rattle.xf_slots.specs.Keys.{content_in}
+use Rattle.xf_slots.specs.Slots.{valued_slot}
+use Rattle.xf_walks.specs.Nodes.{StandsAt, node_of}
 use Rattle.xf_tree.proofs.AddLemmas.{bytes-most}
 use Rattle.xf_tree.proofs.ValueLemmas.{kind-live, value-state, value-view}
-use Rattle.xf_tree.proofs.forest.Forest.put_value.Goals as goal
 use Rattle.xf_tree.proofs.forest.Forest.put_value.Goals.{After-change_value}
+use Rattle.xf_tree.proofs.forest.Forest.put_value.Goals as goal
 
 pub returns-in_default : goal.returns-in_default
 returns-in_default c =

@@ -6,17 +6,19 @@ use Rattle.xf_doc.specs.Visit.{visits}
 use Rattle.xf_doc.specs.Shape.{has_elements}
 use Rattle.xf_doc.specs.Limits.{limits, unless, all_size}
 use Rattle.xf_doc.specs.Texts.{Before, Keeping, text_set}
-use Rattle.xf_tree.specs.declared.rows.Row.{Row}
-use Rattle.xf_tree.specs.Rows.{tree_of, deeper}
-use Rattle.xf_tree.specs.Tree.{StandsAt, node_of, keeping_of, times, kept_times}
-use Rattle.xf_tree.specs.Texts.{passed_by, text_count, children, run_of, depth_at}
+use Rattle.xf_rows.specs.declared.rows.Row.{Row}
+use Rattle.xf_rows.specs.Rows.{tree_of, deeper}
+use Rattle.xf_slots.specs.Keys.{kept_times}
+use Rattle.xf_walks.specs.Nodes.{StandsAt, node_of, times}
+use Rattle.xf_walks.proofs.CountLemmas.{nodes-most}
+use Rattle.xf_walks.proofs.PlaceLemmas.{tree-size}
+use Rattle.xf_changes.specs.Texts.{passed_by, text_count, children, run_of, depth_at}
+use Rattle.xf_tree.specs.State.{keeping_of}
 use Rattle.xf_tree.specs.Settled.{text_written}
 use Rattle.xf_tree.proofs.AddLemmas.{bytes-most}
-use Rattle.xf_tree.proofs.CountLemmas.{nodes-most}
-use Rattle.xf_tree.proofs.PlaceLemmas.{tree-size}
 use Rattle.xf_tree.proofs.SetLemmas.{content-passed, no-attribute, set-written, count-most}
-use Rattle.xf_tree.proofs.forest.Forest.set_content.Goals as goal
 use Rattle.xf_tree.proofs.forest.Forest.set_content.Goals.{After-passed as Passed}
+use Rattle.xf_tree.proofs.forest.Forest.set_content.Goals as goal
 
 stands-in : (c : Passed) → StandsAt c.self.inside.slots c.self.inside.rows.items c.args.node.number c.in-Some.at
 stands-in c = c.in-Some.ensures

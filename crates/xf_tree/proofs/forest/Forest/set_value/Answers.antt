@@ -6,13 +6,16 @@ use Rattle.xf_doc.specs.declared.fault.TreeFault.{TreeFault}
 use Rattle.xf_doc.specs.Forest.{own_text, is_attribute, kind_at}
 use Rattle.xf_doc.specs.Limits.{limits, unless, size_of}
 use Rattle.xf_doc.specs.Texts.{text_set, Before, Keeping, attribute_text, with_attribute_text}
-use Rattle.xf_tree.specs.declared.rows.Row.{Row}
-use Rattle.xf_tree.specs.Tree.{StandsAt, content_in, node_of, kept_of, no_row}
-use Rattle.xf_tree.specs.Texts.{passed_by, valued_slot}
+use Rattle.xf_rows.specs.declared.rows.Row.{Row}
+use Rattle.xf_rows.specs.Rows.{no_row}
+use Rattle.xf_slots.specs.Keys.{content_in, kept_of}
+use Rattle.xf_slots.specs.Slots.{valued_slot}
+use Rattle.xf_walks.specs.Nodes.{StandsAt, node_of}
+use Rattle.xf_changes.specs.Texts.{passed_by}
 use Rattle.xf_tree.proofs.AddLemmas.{bytes-most}
 use Rattle.xf_tree.proofs.ValueLemmas.{value-state, value-set, is-attribute, value-view}
-use Rattle.xf_tree.proofs.forest.Forest.set_value.Goals as goal
 use Rattle.xf_tree.proofs.forest.Forest.set_value.Goals.{In-Some-passed, After-passed as Passed, After-change_value-before}
+use Rattle.xf_tree.proofs.forest.Forest.set_value.Goals as goal
 
 -- where the node's row stands, what it is, and what its bytes would be
 stands-in : (c : Passed) → StandsAt c.self.inside.slots c.self.inside.rows.items c.args.node.number c.in-Some.at

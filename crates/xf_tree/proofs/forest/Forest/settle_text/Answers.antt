@@ -4,7 +4,7 @@ use Rattle.xf_doc.specs.declared.content.Kind.{Kind}
 use Rattle.xf_doc.specs.declared.content.Kind.TheVariants.{Attribute, Element}
 use Rattle.xf_doc.specs.Forest.{kind_at, has_number}
 use Rattle.xf_doc.specs.Texts.{Keeping}
-use Rattle.xf_tree.proofs.NodeLemmas.{times-absent}
+use Rattle.xf_walks.proofs.NodeLemmas.{times-absent}
 use Rattle.xf_tree.proofs.SetLemmas.{count-most, kept-absent}
 use Rattle.xf_tree.proofs.ValueLemmas.{kind-live}
 use Rattle.xf_tree.proofs.forest.Forest.settle_text.Goals as goal

@@ -3,7 +3,7 @@ use Rattle.std.specs.Prelude.{IfOk}
 use Rattle.xf_doc.specs.StringValue.{string_value_within}
 use Rattle.xf_doc.specs.Texts.{Keeping}
 use Rattle.xf_doc.specs.Visit.{visits}
-use Rattle.xf_tree.proofs.TextLemmas.{within-means}
+use Rattle.xf_tree.proofs.MeansLemmas.{within-means}
 use Rattle.xf_tree.proofs.forest.Forest.string_value.Goals as goal
 
 pub returns-in-Some : goal.returns-in-Some

@@ -4,12 +4,12 @@ use Rattle.xf_doc.specs.declared.content.Node.{Node}
 use Rattle.xf_doc.specs.Forest.{tree_of}
 use Rattle.xf_doc.specs.Literal.{gathered, first_tree_in, printed}
 use Rattle.xf_doc.specs.Printed.{printing, printed_as}
-use Rattle.xf_tree.specs.Print.{IsPrintable}
-use Rattle.xf_tree.specs.Tree.{node_of}
-use Rattle.xf_tree.proofs.ShownLemmas.{printed-same}
+use Rattle.xf_walks.specs.Nodes.{node_of}
+use Rattle.xf_literal.specs.Print.{IsPrintable}
+use Rattle.xf_literal.proofs.ShownLemmas.{printed-same}
 use Rattle.xf_tree.proofs.PrintLemmas.{tree-here, printable-first, printable-printed, nothing-here}
-use Rattle.xf_tree.proofs.forest.Forest.to_lit.Goals as goal
 use Rattle.xf_tree.proofs.forest.Forest.to_lit.Goals.{After-deref}
+use Rattle.xf_tree.proofs.forest.Forest.to_lit.Goals as goal
 
 -- the rows that are printed are those of the node's tree
 left-here : (c : After-deref) → map (node_of c.self.inside.slots) c.deref.result.now ≡ printed c.args.kept.now (tree_of c.args.node.number c.args.self.now.forest.nodes)

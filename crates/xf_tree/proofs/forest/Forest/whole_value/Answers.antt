@@ -3,9 +3,9 @@ use Rattle.xf_doc.specs.Forest.{has_number}
 use Rattle.xf_doc.specs.StringValue.{pieces, whole}
 use Rattle.xf_doc.specs.Texts.{Keeping}
 use Rattle.xf_doc.specs.Visit.{visits}
-use Rattle.xf_tree.specs.Tree.{node_of}
-use Rattle.xf_tree.proofs.PieceLemmas.{pieces-means}
-use Rattle.xf_tree.proofs.ReadLemmas.{absent-pieces}
+use Rattle.xf_walks.specs.Nodes.{node_of}
+use Rattle.xf_walks.proofs.ReadLemmas.{absent-pieces}
+use Rattle.xf_tree.proofs.MeansLemmas.{pieces-means}
 use Rattle.xf_tree.proofs.forest.Forest.whole_value.Goals as goal
 
 pub returns-in-Some : goal.returns-in-Some

@@ -8,20 +8,23 @@ use Rattle.xf_doc.specs.Visit.{visits}
 use Rattle.xf_doc.specs.Shape.{has_elements}
 use Rattle.xf_doc.specs.Limits.{all_size}
 use Rattle.xf_doc.specs.Texts.{Before, Keeping, element_texts, one_text, with_texts, kept_from}
-use Rattle.xf_tree.specs.declared.rows.Row.{Row}
-use Rattle.xf_tree.specs.Rows.{tree_of, deeper}
-use Rattle.xf_tree.specs.Tree.{StandsAt, unsized, content_in, keeping_of, node_of, kept_of, times, kept_times, IsState}
-use Rattle.xf_tree.specs.Texts.{text_count, children, numbers_at, run_of, depth_at, AreAt, IsOwned, keys_of, text_slot, with_text_rows, numbers_in}
+use Rattle.xf_rows.specs.declared.rows.Row.{Row}
+use Rattle.xf_rows.specs.Rows.{tree_of, deeper}
+use Rattle.xf_slots.specs.Keys.{content_in, kept_of, kept_times}
+use Rattle.xf_walks.specs.Nodes.{StandsAt, node_of, times}
+use Rattle.xf_walks.proofs.CountLemmas.{nodes-most}
+use Rattle.xf_walks.proofs.PlaceLemmas.{tree-size}
+use Rattle.xf_changes.specs.Trees.{unsized}
+use Rattle.xf_changes.specs.Texts.{text_count, children, numbers_at, run_of, depth_at, AreAt, IsOwned, keys_of, text_slot, with_text_rows, numbers_in}
+use Rattle.xf_tree.specs.State.{keeping_of, IsState}
 use Rattle.xf_tree.specs.Settled.{text_written}
 use Rattle.xf_tree.proofs.AddLemmas.{bytes-most, same-state}
-use Rattle.xf_tree.proofs.CountLemmas.{nodes-most}
-use Rattle.xf_tree.proofs.PlaceLemmas.{tree-size}
 use Rattle.xf_tree.proofs.ChildlessLemmas.{run-flat}
 use Rattle.xf_tree.proofs.SetLemmas.{children-alike, numbers-alike, added-keeps, content-written, count-most, depth-most}
 use Rattle.xf_tree.proofs.SwapLemmas.{live-run}
 use Rattle.xf_tree.proofs.TakenLemmas.{state-now, view-now, gone-is, live-children}
-use Rattle.xf_tree.proofs.forest.Forest.write_content.Goals as goal
 use Rattle.xf_tree.proofs.forest.Forest.write_content.Goals.{After-saturating_add-bytes as Counted, After-change_texts as Changed}
+use Rattle.xf_tree.proofs.forest.Forest.write_content.Goals as goal
 
 stands-in : (c : Counted) → StandsAt c.self.inside.slots c.self.inside.rows.items c.args.node.number c.in-Some.at
 stands-in c = c.in-Some.ensures

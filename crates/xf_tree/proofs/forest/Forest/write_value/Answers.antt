@@ -6,13 +6,15 @@ use Rattle.xf_doc.specs.Forest.{own_text, is_attribute, kind_at}
 use Rattle.xf_doc.specs.Limits.{size_of}
 use Rattle.xf_doc.specs.Texts.{Before, Keeping, attribute_text, with_attribute_text}
 use Rattle.xf_doc.specs.Settle.{numbered_text_set}
-use Rattle.xf_tree.specs.declared.rows.Row.{Row}
-use Rattle.xf_tree.specs.Tree.{StandsAt, content_in, node_of, kept_of, no_row}
-use Rattle.xf_tree.specs.Texts.{valued_slot}
+use Rattle.xf_rows.specs.declared.rows.Row.{Row}
+use Rattle.xf_rows.specs.Rows.{no_row}
+use Rattle.xf_slots.specs.Keys.{content_in, kept_of}
+use Rattle.xf_slots.specs.Slots.{valued_slot}
+use Rattle.xf_walks.specs.Nodes.{StandsAt, node_of}
 use Rattle.xf_tree.proofs.AddLemmas.{bytes-most}
 use Rattle.xf_tree.proofs.ValueLemmas.{value-state, value-written, is-attribute, value-view}
-use Rattle.xf_tree.proofs.forest.Forest.write_value.Goals as goal
 use Rattle.xf_tree.proofs.forest.Forest.write_value.Goals.{After-change_value-before as Written}
+use Rattle.xf_tree.proofs.forest.Forest.write_value.Goals as goal
 
 -- where the node's row stands, and what it is
 stands-in : (c : Written) → StandsAt c.self.inside.slots c.self.inside.rows.items c.args.node.number c.in-Some.at

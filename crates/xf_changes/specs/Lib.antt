@@ -1,0 +1,4 @@
+pub mod Older
+pub mod Below
+pub mod Texts
+pub mod Trees

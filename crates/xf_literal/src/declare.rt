@@ -1,0 +1,145 @@
+//! Declarations of namespaces, and pairs in the order of the bytes of their names.
+ghost use Rattle.std.specs.Prelude.{◌≡◌, map, reverse, IfOk, OnOk};
+ghost use Rattle.xf_doc.specs.Printed.{space_text, with_pair, with_pairs, with_prefix, with_default, prefixes_in};
+ghost use Rattle.xf_walks.specs.Nodes.{node_of};
+ghost use Rattle.xf_literal.specs.Print.{IsPlace, AreDeclared};
+
+use indexmap::IndexSet;
+use std::alloc::{AllocError, Global};
+use xf_doc::Name;
+use xf_name::{Pair, Prefixes, Word};
+use xf_rows::Row;
+use xf_slots::{Slots, full_name};
+
+/// The declarations of all prefixes that these rows use, the greatest first.
+pub fn declarations(
+    alloc: Global,
+    slots: &Slots,
+    prefixes: &Prefixes,
+    rows: &[Row],
+) -> Result<Vec<Pair>, AllocError>
+    ensures { IfOk result (λ pairs. reverse pairs.items ≡ prefixes_in prefixes.now (map (node_of slots.now) rows.now)) }
+{
+    let mut pairs = Vec::new(alloc);
+    let mut seen = IndexSet::new(alloc);
+    let mut at = rows.len();
+    while at > 0 {
+        at -= 1;
+        if let Some(name) = full_name(slots, rows[at].key) {
+            declare(alloc, prefixes, name, &mut seen, &mut pairs)?;
+        }
+    }
+    Ok(pairs)
+}
+
+/// Declares the prefix of a name, where it has one that is not declared yet.
+fn declare<'a>(
+    alloc: Global,
+    prefixes: &Prefixes,
+    name: &'a Name,
+    seen: &mut IndexSet<&'a str>,
+    pairs: &mut Vec<Pair>,
+) -> Result<(), AllocError>
+    requires { AreDeclared seen.old.keys (reverse pairs.old.items) }
+    ensures pairs { OnOk result (reverse pairs.new.items ≡ with_prefix prefixes.now name.now.prefix name.now.meaning.space (reverse pairs.old.items)) }
+    ensures seen { OnOk result (AreDeclared seen.new.keys (reverse pairs.new.items)) }
+{
+    let prefix = name.prefix.as_str();
+    if prefix.is_empty() || prefix == "xml" {
+        return Ok(());
+    }
+    if !seen.insert(prefix)? {
+        return Ok(());
+    }
+    let mut written = Word::from_str(alloc, "xmlns:")?;
+    written.push_str(prefix)?;
+    let text = space_word(alloc, prefixes, name.meaning.space)?;
+    insert_pair(
+        pairs,
+        Pair {
+            name: written,
+            text,
+        },
+    )
+}
+
+/// The namespace with a number.
+fn space_word(alloc: Global, prefixes: &Prefixes, space: u16) -> Result<Word, AllocError>
+    ensures { IfOk result (λ text. text ≡ space_text prefixes.now space) }
+{
+    match prefixes.space_text(space) {
+        Some(text) => Word::from_str(alloc, text),
+        None => Ok(Word::new(alloc)),
+    }
+}
+
+/// The attributes of an element in their order, with declarations, of which the greatest is first, and that of the default
+/// namespace, where another one is in force above.
+pub fn element_pairs(
+    alloc: Global,
+    prefixes: &Prefixes,
+    above: u16,
+    name: &Name,
+    attributes: Vec<Pair>,
+    declared: Vec<Pair>,
+) -> Result<Vec<Pair>, AllocError>
+    ensures { IfOk result (λ pairs. pairs.items ≡ with_default prefixes.now above name.now (with_pairs attributes.items (reverse declared.items))) }
+{
+    let mut pairs = with_pairs(attributes, declared)?;
+    if name.prefix.is_empty() && above != name.meaning.space {
+        let xmlns = Pair {
+            name: Word::from_str(alloc, "xmlns")?,
+            text: space_word(alloc, prefixes, name.meaning.space)?,
+        };
+        insert_pair(&mut pairs, xmlns)?;
+    }
+    Ok(reversed(pairs))
+}
+
+/// Attributes among declarations, the greatest first.
+fn with_pairs(attributes: Vec<Pair>, declared: Vec<Pair>) -> Result<Vec<Pair>, AllocError>
+    ensures { IfOk result (λ pairs. reverse pairs.items ≡ with_pairs attributes.items (reverse declared.items)) }
+{
+    let mut left = attributes;
+    let mut pairs = declared;
+    while let Some(pair) = left.pop() {
+        insert_pair(&mut pairs, pair)?;
+    }
+    Ok(pairs)
+}
+
+fn reversed(pairs: Vec<Pair>) -> Vec<Pair>
+    ensures { result.items ≡ reverse pairs.items }
+{
+    let mut turned = pairs;
+    turned.reverse();
+    turned
+}
+
+/// Puts a pair in its place among others, of which the greatest is first. Where its name is there already, that one stays.
+fn insert_pair(pairs: &mut Vec<Pair>, pair: Pair) -> Result<(), AllocError>
+    ensures { OnOk result (reverse pairs.new.items ≡ with_pair pair (reverse pairs.old.items)) }
+{
+    if let Some(at) = place_of(pairs, pair.name.as_str()) {
+        pairs.insert(at, pair)?;
+    }
+    Ok(())
+}
+
+/// Where a name goes among pairs, of which the greatest is first, unless it is there already.
+fn place_of(pairs: &[Pair], name: &str) -> Option<usize>
+    ensures { IsPlace name.now pairs.now result }
+{
+    let mut at = pairs.len();
+    while at > 0 {
+        let other = pairs[at - 1].name.as_str();
+        if name == other {
+            return None;
+        }
+        if name < other {
+            return Some(at);
+        }
+        at -= 1;
+    }
+    Some(at)
+}

@@ -1,0 +1,146 @@
+//! Literal trees with resolved names as detached trees.
+ghost use Rattle.std.specs.Prelude.{◌≡◌, ◌++◌, map, reverse, IfOk, OnOk};
+ghost use Rattle.xf_doc.specs.Plant.{in_order, at_depth};
+ghost use Rattle.xf_doc.specs.Planted.{contents_of_bare, bare_attribute};
+ghost use Rattle.xf_walks.specs.Nodes.{IsTree};
+ghost use Rattle.xf_literal.specs.Contents.{bare_element_at, bare_all_at, IsPart};
+
+use crate::plant::{insert_sorted, push_one, push_sorted};
+use std::alloc::{AllocError, Global};
+use xf_doc::{Bare, BareAttribute, BareElement, Content};
+use xf_name::{Prefixes, Word};
+use xf_slots::{Part, duplicate_meaning, name_for};
+
+/// The contents of a literal tree with resolved names.
+pub fn contents_of_bare(
+    alloc: Global,
+    prefixes: &Prefixes,
+    tree: &Bare,
+) -> Result<Vec<Part>, AllocError>
+    ensures answer { IfOk result (λ contents. contents.items ≡ contents_of_bare prefixes.now tree.now 0 0) }
+    ensures tree { IfOk result (λ contents. IsTree contents.items) }
+{
+    let mut contents = Vec::new(alloc);
+    push_bare(alloc, prefixes, tree, 0, &mut contents)?;
+    Ok(contents)
+}
+
+#[cycle(bare_planting)]
+fn push_bare(
+    alloc: Global,
+    prefixes: &Prefixes,
+    tree: &Bare,
+    depth: u32,
+    contents: &mut Vec<Part>,
+) -> Result<(), AllocError>
+    ensures added { OnOk result (contents.new.items ≡ contents.old.items ++ contents_of_bare prefixes.now tree.now 0 depth) }
+    ensures part { OnOk result (IsPart depth (contents_of_bare prefixes.now tree.now 0 depth)) }
+{
+    match tree {
+        Bare::Text(text) => {
+            if text.is_empty() && depth > 0 {
+                return Ok(());
+            }
+            let text = Word::from_str(alloc, text.as_str())?;
+            push_one(contents, depth, Content::Text(text))
+        }
+        Bare::Element(element) => push_element(alloc, prefixes, element, depth, contents),
+    }
+}
+
+#[cycle(bare_planting)]
+fn push_element(
+    alloc: Global,
+    prefixes: &Prefixes,
+    element: &BareElement,
+    depth: u32,
+    contents: &mut Vec<Part>,
+) -> Result<(), AllocError>
+    ensures added { OnOk result (contents.new.items ≡ contents.old.items ++ bare_element_at prefixes.now element.now depth) }
+    ensures part { OnOk result (IsPart depth (bare_element_at prefixes.now element.now depth)) }
+{
+    let meaning = duplicate_meaning(alloc, &element.name)?;
+    let name = name_for(alloc, prefixes, meaning)?;
+    let below = match depth.checked_add(1) {
+        Some(below) => below,
+        None => return Err(AllocError),
+    };
+    push_one(contents, depth, Content::Element(name))?;
+    push_attributes(
+        alloc,
+        prefixes,
+        element.attributes.as_slice(),
+        below,
+        contents,
+    )?;
+    push_all(
+        alloc,
+        prefixes,
+        element.children.as_slice(),
+        below,
+        contents,
+    )
+}
+
+#[cycle(bare_planting)]
+fn push_all(
+    alloc: Global,
+    prefixes: &Prefixes,
+    trees: &[Bare],
+    depth: u32,
+    contents: &mut Vec<Part>,
+) -> Result<(), AllocError>
+    ensures added { OnOk result (contents.new.items ≡ contents.old.items ++ bare_all_at prefixes.now trees.now depth) }
+    ensures part { OnOk result (IsPart depth (bare_all_at prefixes.now trees.now depth)) }
+{
+    for tree in trees {
+        push_bare(alloc, prefixes, tree, depth, contents)?;
+    }
+    Ok(())
+}
+
+/// Pushes the attributes in the order of the bytes of their written names.
+fn push_attributes(
+    alloc: Global,
+    prefixes: &Prefixes,
+    attributes: &[BareAttribute],
+    depth: u32,
+    contents: &mut Vec<Part>,
+) -> Result<(), AllocError>
+    ensures added { OnOk result (contents.new.items ≡ contents.old.items ++ at_depth depth (in_order (map (bare_attribute prefixes.now) attributes.now))) }
+    ensures part { OnOk result (IsPart depth (at_depth depth (in_order (map (bare_attribute prefixes.now) attributes.now)))) }
+{
+    let sorted = sorted_attributes(alloc, prefixes, attributes)?;
+    push_sorted(sorted, depth, contents)
+}
+
+/// The attributes by the bytes of their written names, the greatest first.
+fn sorted_attributes(
+    alloc: Global,
+    prefixes: &Prefixes,
+    attributes: &[BareAttribute],
+) -> Result<Vec<Content>, AllocError>
+    ensures { IfOk result (λ sorted. reverse sorted.items ≡ in_order (map (bare_attribute prefixes.now) attributes.now)) }
+{
+    let mut sorted = Vec::new(alloc);
+    let mut at = attributes.len();
+    while at > 0 {
+        at -= 1;
+        let content = attribute_of(alloc, prefixes, &attributes[at])?;
+        insert_sorted(&mut sorted, content)?;
+    }
+    Ok(sorted)
+}
+
+fn attribute_of(
+    alloc: Global,
+    prefixes: &Prefixes,
+    attribute: &BareAttribute,
+) -> Result<Content, AllocError>
+    ensures { IfOk result (λ content. content ≡ bare_attribute prefixes.now attribute.now) }
+{
+    let meaning = duplicate_meaning(alloc, &attribute.name)?;
+    let name = name_for(alloc, prefixes, meaning)?;
+    let text = Word::from_str(alloc, attribute.text.as_str())?;
+    Ok(Content::Attribute(name, text))
+}

@@ -1,0 +1,10 @@
+pub mod RowLemmas
+pub mod RoomLemmas
+pub mod SliceLemmas
+pub mod SizedLemmas
+pub mod MoveLemmas
+pub mod CutLemmas
+pub mod ClimbLemmas
+pub mod PasteLemmas
+pub mod ParentLemmas
+pub mod RootedLemmas

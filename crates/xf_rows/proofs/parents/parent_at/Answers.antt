@@ -1,0 +1,22 @@
+use Rattle.std.proofs.Common.{◌≡◌, ◌-◌, ◌<◌, ◌≤◌, length, get_or, ap, arith}
+use Rattle.xf_rows.specs.declared.rows.Row.{Row}
+use Rattle.xf_rows.specs.Rows.{no_row}
+use Rattle.xf_rows.proofs.ParentLemmas.{hint-parent}
+use Rattle.xf_rows.proofs.ClimbLemmas.{size-above}
+use Rattle.xf_rows.proofs.parents.parent_at.Goals as goal
+
+pub returns-then-at-above-clause-parent : goal.returns-then-at-above-clause-parent
+returns-then-at-above-clause-parent c =
+    let rows = c.args.rows.now.items in
+    let above = c.args.above in
+    let at = c.args.at in
+    let within : at ≤ length rows = omega (arith, c.requires.within) in
+    let size = size-above rows above at c.if-above-at.true within c.requires.sized in
+    let upper = ap (λ (r : Row). r.depth) c.at.ensures in
+    let lower = ap (λ (r : Row). r.depth) c.at-then-above-at.ensures in
+    let lower_too = ap (λ (r : Row). r.depth) c.at-then-at.ensures in
+    let upper_too = ap (λ (r : Row). r.depth) c.at-then-at-2.ensures in
+    let sized = ap (λ (r : Row). r.size) c.at-then-at-eq1.ensures in
+    let less : (get_or rows above no_row).depth < (get_or rows at no_row).depth = omega arith in
+    let one : (get_or rows at no_row).depth - (get_or rows above no_row).depth ≡ 1 = omega arith in
+    hint-parent rows above at c.if-above-at.true c.requires.within less one (omega arith)
