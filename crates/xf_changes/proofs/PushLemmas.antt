@@ -10,7 +10,7 @@ use Rattle.xf_doc.specs.Limits.{size_of}
 use Rattle.xf_doc.specs.Plant.{numbered_from}
 use Rattle.xf_rows.specs.declared.rows.Row.{Row}
 use Rattle.xf_rows.specs.Rows.{Sized, deeper, tree_of, after_tree, no_row, AllDeep}
-use Rattle.xf_rows.proofs.SizedLemmas.{lt-true, lt-false}
+use Rattle.xf_rows.proofs.SizedLemmas.{lt-true}
 use Rattle.xf_rows.proofs.CutLemmas.{size-at, sized-drop, all-deeper, tree-is-front, tree-within}
 use Rattle.xf_rows.proofs.RowLemmas.{split-at, map-drop}
 use Rattle.xf_slots.specs.Slot.{Slot}
@@ -55,25 +55,6 @@ pub record Pushed (s0 s : Slab Slot) (old rows : List Row) (first number : ℕ) 
   pub rest : KeepsLive s0 s
   pub small : (key : ℕ) → size_of (content_in (get s key)) ≤ 2 ^ 66
   pub plain : AllPlain left
-
-pub push-start : (s : Slab Slot) (old : List Row) (first : ℕ) (contents : List (ℕ × Content)) → AllLive s old → ((key : ℕ) → size_of (content_in (get s key)) ≤ 2 ^ 66) → AllPlain contents
-    → Pushed s s old old first first contents contents
-push-start s old first contents live small plain = record {
-  front = take-whole old;
-  nodes = ap (λ l. map (node_of s) l ++ numbered_from first contents) (drop-whole old);
-  live = live;
-  rest = keeps-all s;
-  small = small;
-  plain = plain;
-}
-  where
-    take-whole : {X : Type 0} (xs : List X) → take (length xs) xs ≡ xs
-    take-whole [] = refl
-    take-whole (x ∷ xs) = ap (λ l. x ∷ l) (take-whole xs)
-
-    drop-whole : {X : Type 0} (xs : List X) → drop (length xs) xs ≡ []
-    drop-whole [] = refl
-    drop-whole (x ∷ xs) = drop-whole xs
 
 front-more : {X : Type 0} (old rows : List X) (y : X) → take (length old) rows ≡ old → (take (length old) (rows ++ (y ∷ [])) ≡ old) × (drop (length old) (rows ++ (y ∷ [])) ≡ drop (length old) rows ++ (y ∷ []))
 front-more old rows y e =
@@ -152,18 +133,6 @@ end-more rows at next d h l sized deep =
     ap (λ j. drop (next + j) rows) size ∙ sym (drop-drop n next rows) ∙ (tree-is-front (drop next rows) n refl).1 ∙ ap after_tree sp in
     let long : length (tree_of (x ∷ xs)) ≡ x.size = ap (λ r. length (tree_of r)) (sym sp) ∙ sym size in
     t ∙ ap (λ j. j + deeper d (after_tree (x ∷ xs))) long ∙ ap (λ r. x.size + deeper d r) (sym rest)
-
-pub end-stop : (rows : List Row) (next d : ℕ) → next < length rows → (get_or rows next no_row).depth ≤ d → deeper d (drop next rows) ≡ 0
-end-stop rows next d l low = ap (deeper d) (split-at next rows no_row l) ∙ rw (lt-false d (get_or rows next no_row).depth low) refl
-
-pub end-all : (rows : List Row) (next d : ℕ) → length rows ≤ next → deeper d (drop next rows) ≡ 0
-end-all rows next d h = ap (deeper d) (past next rows h)
-  where
-    past : (next : ℕ) (rows : List Row) → length rows ≤ next → drop next rows ≡ []
-    past zero [] h = refl
-    past zero (x ∷ xs) h = absurd (omega arith)
-    past (suc n) [] h = refl
-    past (suc n) (x ∷ xs) h = past n xs (omega arith)
 
 -- the tree of a row within a part whose sizes are right
 pub size-within : (rows : List Row) (from next : ℕ) → from ≤ next → next < length rows → Sized (drop from rows)

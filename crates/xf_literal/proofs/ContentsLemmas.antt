@@ -20,8 +20,7 @@ use Rattle.xf_rows.specs.Rows.{AreSteps}
 use Rattle.xf_slots.proofs.AlikeLemmas.{eq-true}
 use Rattle.xf_walks.specs.First.{AllFrom, attribute_depth, AreFirst}
 use Rattle.xf_walks.specs.Leaves.{is_leaf, NotDeeper}
-use Rattle.xf_walks.specs.Nodes.{AllPlain, IsTree}
-use Rattle.xf_walks.proofs.NodeLemmas.{eq-false}
+use Rattle.xf_walks.specs.Nodes.{AllPlain}
 use Rattle.xf_walks.proofs.StepLemmas.{most_after, steps-append}
 use Rattle.xf_walks.proofs.LeafLemmas.{leaves-append, steps-not_deeper}
 use Rattle.xf_walks.proofs.FirstLemmas.{AllAttributes, BeginsPlain, attribute-behind, depth_behind, first-append, first-plain}
@@ -45,10 +44,6 @@ contents_of_element-is b e space depth =
     let own = default_below b space e.attributes in
     let first = (depth, Element (element_name b (resolved b e.name own))) ∷ at_depth (suc depth) (in_order (filter_map (attribute_in b) e.attributes)) in
     ap (λ w. w space depth) (fold_out-LitElement Contents Contents lit_contents (element_contents b) e) ∙ ap (λ cs. first ++ cs) (all-map b e.children own (suc depth))
-
-pub text-left_out : (text : List ℕ) (space depth : ℕ) → length text ≡ 0 → 0 < depth → [] ≡ text_contents text space depth
-text-left_out [] space depth e h = rw (eq-false depth 0 (λ z. let w : ⊥ = omega arith in w)) refl
-text-left_out (c ∷ cs) space depth e h = absurd (omega arith)
 
 pub text-put : (text : List ℕ) (space depth : ℕ) → (0 < length text) ⊎ (depth ≡ 0) → (depth, Text text) ∷ [] ≡ text_contents text space depth
 text-put [] space depth (inl h) = absurd (omega arith)
@@ -125,12 +120,6 @@ part-attributes d (c ∷ cs) all small =
       leaves = (λ e. steps-not_deeper d (at_depth d cs) (p.steps d same), p.leaves);
       first = ((λ is pos. refl), subst (λ e. AreFirst e (at_depth d cs)) (sym (attribute-behind d c all.0)) p.first);
     }
-
-pub part-one : (d : ℕ) (content : Content) → is_root content ≡ false → size_of content ≤ 2 ^ 66 → IsPart d ((d, content) ∷ [])
-part-one d content plain small = part-below d (d + 1) content [] refl plain (λ e. tt) small (part-none (d + 1)) tt
-
-pub tree-of_part : (cs : List (ℕ × Content)) → IsPart 0 cs → IsTree cs
-tree-of_part cs p = let h : 0 ≤ 0 = omega arith in record { steps = p.steps 0 h; plain = p.plain; leaves = p.leaves; first = p.first }
 
 -- children are no attributes
 

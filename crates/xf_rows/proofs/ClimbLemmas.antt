@@ -115,9 +115,6 @@ pub record Climbing (g : ℕ → List Row → List Row → List Row) (old rows :
   pub alike : depths rows ≡ depths old
   pub so_far : g below (reverse (take left old)) (drop left rows) ≡ g depth (reverse (take at old)) (drop at old)
 
-pub climb-start : (g : ℕ → List Row → List Row → List Row) (old : List Row) (at depth : ℕ) → Climbing g old old at depth at depth
-climb-start g old at depth = record { within = omega arith; same = refl; alike = refl; so_far = refl }
-
 module _ (g : ℕ → List Row → List Row → List Row) (passes : Passes g) (old rows : List Row) (at depth left below : ℕ) (h : 0 < left) (most : at ≤ length old) (sized : Sized old)
     (c : Climbing g old rows at depth left below) where
   abbrev here : ℕ

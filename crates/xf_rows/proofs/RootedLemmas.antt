@@ -2,19 +2,13 @@
 use Rattle.std.proofs.Common.{◌≡◌, ℕ, zero, suc, ◌+◌, ◌-◌, ◌<◌, ◌≤◌, ◌^◌, List, [], ◌∷◌, ◌++◌, map, length, take, drop, get_or, append_assoc, append-nil, refl, sym, ap, ◌∙◌, subst, inl, inr, arith, length-append, length-take, length-drop, take-add}
 use Rattle.std.specs.List.{All}
 use Rattle.std.proofs.lemmas.Bool.{cases_lt}
-use Rattle.std.proofs.lemmas.List.{take-append-drop, drop-drop, length-map, take_at, drop_at}
+use Rattle.std.proofs.lemmas.List.{take-append-drop, length-map, take_at, drop_at}
 use Rattle.xf_rows.specs.declared.rows.Row.{Row}
 use Rattle.xf_rows.specs.Rows.{Sized, deeper, deepened, deepened_part, rotated, tree_of, after_tree, rest_of, IsRooted, AreSteps, depths, no_row}
 use Rattle.xf_rows.proofs.SizedLemmas.{lt-true, lt-false, sized-append, sized-front}
 use Rattle.xf_rows.proofs.MoveLemmas.{rotated-parts}
 use Rattle.xf_rows.proofs.CutLemmas.{all-deep-zero, tree-parts, stops-after}
 use Rattle.xf_rows.proofs.RowLemmas.{split-at}
-
--- a list in three parts
-three-parts : {X : Type 0} (a b : ℕ) (xs : List X) → a ≤ b → xs ≡ take a xs ++ (take (b - a) (drop a xs) ++ drop b xs)
-three-parts a b xs h =
-    let s : a + (b - a) ≡ b = omega arith in
-    sym (take-append-drop a xs) ∙ ap (λ l. take a xs ++ l) (sym (take-append-drop (b - a) (drop a xs)) ∙ ap (λ l. take (b - a) (drop a xs) ++ l) (drop-drop (b - a) a xs ∙ ap (λ n. drop n xs) s))
 
 pub rooted-steps : (place from last : ℕ) (old one two three : List Row) → place ≤ from → from ≤ last → length old ≡ last + 1
     → one ≡ deepened_part from last 1 old → two ≡ rotated from last (last + 1) one → three ≡ rotated place from (last + 1) two → IsRooted place from old three

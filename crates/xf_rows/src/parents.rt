@@ -1,6 +1,6 @@
 //! The row of a node's parent.
-ghost use Rattle.std.specs.Prelude.{◌≡◌, ◌<◌, ◌≤◌, length, take, drop, reverse, Some, IfSome};
-ghost use Rattle.xf_rows.specs.Rows.{Sized, SizedBefore, parent_row_of, past_row};
+ghost use Rattle.std.specs.Prelude.{◌≡◌, ◌+◌, ◌<◌, ◌≤◌, length, take, drop, reverse, slice_index_or, Some, IfSome};
+ghost use Rattle.xf_rows.specs.Rows.{Sized, SizedBefore, no_row, parent_row_of, past_row};
 
 use crate::hints::Hints;
 use crate::rows::Rows;
@@ -41,10 +41,10 @@ fn above_row(rows: &Rows, hints: &Hints, at: usize) -> Option<usize>
         return None;
     }
     if let Some(noted) = noted_parent(hints, row.key) {
-        if let Some(above) = parent_at(rows, at, noted) {
+        if let Some(above) = parent_at(rows, at, row.depth - 1, noted) {
             return Some(above);
         }
-        if let Some(above) = parent_at(rows, at, hints.moved(noted)) {
+        if let Some(above) = parent_at(rows, at, row.depth - 1, hints.moved(noted)) {
             return Some(above);
         }
     }
@@ -64,19 +64,20 @@ fn noted_parent(hints: &Hints, key: usize) -> Option<usize> {
     hints.noted(parent)
 }
 
-/// The row at a place where it is that of the parent of the row at another, as the sizes and depths show.
+/// The row at a place where it is that of the parent of the row at another, as its size and its depth show, which is given.
 #[inline(always)]
-fn parent_at(rows: &Rows, at: usize, above: usize) -> Option<usize>
+fn parent_at(rows: &Rows, at: usize, depth: u32, above: usize) -> Option<usize>
     requires within { at < length rows.now.items }
+    requires depth { (slice_index_or rows.now.items at no_row).depth ≡ depth + 1 }
     requires sized { SizedBefore (reverse (take at rows.now.items)) (drop at rows.now.items) }
     ensures parent { IfSome result (λ found. Some found ≡ parent_row_of rows.now.items at) }
     ensures within { IfSome result (λ found. found < at) }
 {
-    if above < at
-        && rows.at(above).depth < rows.at(at).depth
-        && rows.at(at).depth - rows.at(above).depth == 1
-        && at - above < rows.at(above).size
-    {
+    if above >= at {
+        return None;
+    }
+    let upper = rows.at(above);
+    if upper.depth == depth && at - above < upper.size {
         return Some(above);
     }
     None

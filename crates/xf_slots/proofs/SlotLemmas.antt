@@ -64,13 +64,6 @@ kept-named old new (Some e) keeps named = kept-name e.kind (slice_get old e.name
 pub same-names : (names : List Known) → KeepsNames names names
 same-names names n k is = is
 
--- names that come in change nothing that is there
-pub slots-kept : (slab : Slab Entry) (old new : NameTable) → KeepsNames old.names new.names → AreNamed slab old → (key : ℕ) → get (slots_of slab new) key ≡ get (slots_of slab old) key
-slots-kept slab old new keeps named key = slots-get slab new key ∙ kept-slot old.names new.names (get slab key) keeps (named key) ∙ sym (slots-get slab old key)
-
-pub named-kept : (slab : Slab Entry) (old new : NameTable) → KeepsNames old.names new.names → AreNamed slab old → AreNamed slab new
-named-kept slab old new keeps named key = kept-named old.names new.names (get slab key) keeps (named key)
-
 module _ (slab slab2 : Slab Entry) (old new : NameTable) (key : ℕ) (entry : Option Entry) (keeps : KeepsNames old.names new.names) (named : AreNamed slab old) (up : Updates slab slab2 key entry) where
   -- an entry that changes, with names that come in
   pub slots-updated : Updates (slots_of slab old) (slots_of slab2 new) key (option_map (slot_of new.names) entry)

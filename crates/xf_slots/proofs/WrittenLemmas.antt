@@ -1,36 +1,10 @@
 -- Written names byte by byte.
-use Rattle.std.proofs.Common.{◌≡◌, ℕ, zero, suc, ◌+◌, ◌-◌, ◌<◌, ◌≤◌, Bool, true, false, List, [], ◌∷◌, ◌++◌, length, drop, Some, None, refl, sym, ap, ◌∙◌, arith, add-one, length-append}
+use Rattle.std.proofs.Common.{◌≡◌, ℕ, zero, suc, ◌+◌, ◌≤◌, Bool, true, false, List, [], ◌∷◌, length, drop, Some, None, refl, sym, ap, ◌∙◌, arith, add-one}
 use Rattle.std.specs.Prelude.{slice_get, nat_lt}
 use Rattle.std.proofs.lemmas.Grind.{common_steps}
-use Rattle.xf_doc.specs.Forest.{written_with}
 use Rattle.xf_doc.specs.Plant.{is_less}
 
 -- ---- bytes of a written name
-
-pub byte-front : (ps : List ℕ) (ls : List ℕ) (i : ℕ) → i < length ps → slice_get ps i ≡ slice_get (ps ++ ls) i
-byte-front [] ls i h = absurd (omega arith)
-byte-front (p ∷ ps) ls zero h = refl
-byte-front (p ∷ ps) ls (suc i) h = byte-front ps ls i (omega arith)
-
-pub byte-colon : (ps ls : List ℕ) → Some 58 ≡ slice_get (ps ++ (58 ∷ ls)) (length ps)
-byte-colon [] ls = refl
-byte-colon (p ∷ ps) ls = byte-colon ps ls
-
-pub byte-back : (ps ls : List ℕ) (i : ℕ) → length ps < i → slice_get ls (i - length ps - 1) ≡ slice_get (ps ++ (58 ∷ ls)) i
-byte-back [] ls zero h = absurd (omega arith)
-byte-back [] ls (suc i) h = let e : suc i - 0 - 1 ≡ i = omega arith in ap (slice_get ls) e
-byte-back (p ∷ ps) ls zero h = absurd (omega arith)
-byte-back (p ∷ ps) ls (suc i) h =
-    let e : suc i - suc (length ps) - 1 ≡ i - length ps - 1 = omega arith in
-    ap (slice_get ls) e ∙ byte-back ps ls i (omega arith)
-
-pub with-colon : (ps ls : List ℕ) → 0 < length ps → written_with ps ls ≡ ps ++ (58 ∷ ls)
-with-colon [] ls h = absurd (omega arith)
-with-colon (p ∷ ps) ls h = refl
-
-pub without-colon : (ps ls : List ℕ) → ps ≡ [] → ls ≡ written_with ps ls
-without-colon [] ls e = refl
-without-colon (p ∷ ps) ls e = cc
 
 -- ---- comparing
 
@@ -87,6 +61,3 @@ less-stop i xs ys h = less-end i xs ys (sym (past ys i h))
     past [] (suc i) h = refl
     past (y ∷ ys) zero h = absurd (omega arith)
     past (y ∷ ys) (suc i) h = past ys i (omega arith)
-
-pub with-colon_length : (ps ls : List ℕ) → 0 < length ps → length ps + 1 + length ls ≡ length (written_with ps ls)
-with-colon_length ps ls h = omega (arith, ap length (with-colon ps ls h), length-append ps (58 ∷ ls))

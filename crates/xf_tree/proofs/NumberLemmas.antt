@@ -1,5 +1,5 @@
 -- New nodes with the next numbers.
-use Rattle.std.proofs.Common.{◌≡◌, ℕ, suc, ◌+◌, ◌<◌, ◌≤◌, ◌^◌, ◌*◌, not, true, false, cond, List, [], ◌∷◌, length, refl, sym, ap, ◌∙◌, inl, inr, arith}
+use Rattle.std.proofs.Common.{◌≡◌, ℕ, suc, ◌+◌, ◌<◌, ◌≤◌, not, true, false, cond, List, [], ◌∷◌, length, refl, sym, ap, ◌∙◌, inl, inr, arith}
 use Rattle.std.proofs.lemmas.List.Sums.{sum_by-cons}
 use Rattle.xf_doc.specs.declared.content.Content.{Content}
 use Rattle.xf_doc.specs.Limits.{node_count, all_size, size_of}
@@ -48,9 +48,3 @@ new-tops next (c ∷ cs) plain = (λ e. absurd (contrary (sym plain.0 ∙ e)), n
   where
     contrary : false ≡ true → ⊥
     contrary e = cc e
-
-pub size-most : (cs : List (ℕ × Content)) → AllPlain cs → size_of_all cs ≤ 2 ^ 66 * length cs
-size-most [] plain = omega arith
-size-most (c ∷ cs) plain =
-    let p : ℕ × Content → ℕ = λ p. size_of p.1 in
-    omega (arith, sum_by-cons p c cs, plain.1, size-most cs plain.2)

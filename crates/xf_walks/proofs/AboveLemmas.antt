@@ -1,12 +1,10 @@
 -- A parent's row, the rows between, and a node's place among its siblings.
-use Rattle.std.proofs.Common.{◌≡◌, ℕ, zero, suc, ◌+◌, ◌-◌, ◌<◌, ◌≤◌, ◌==◌, ◌&&◌, Bool, true, false, List, [], ◌∷◌, ◌++◌, map, length, take, drop, cond, reverse, Some, length-drop, length-take, length-append, append_assoc, subst, inl, inr, refl, sym, ap, ◌∙◌, arith, get_or, take-add}
+use Rattle.std.proofs.Common.{◌≡◌, ℕ, zero, suc, ◌+◌, ◌-◌, ◌<◌, ◌≤◌, ◌==◌, Bool, false, List, [], ◌∷◌, ◌++◌, map, length, take, drop, cond, reverse, Some, length-drop, length-take, length-append, append_assoc, subst, inl, inr, refl, sym, ap, ◌∙◌, arith, get_or, take-add}
 use Rattle.std.specs.Prelude.{count_by}
 use Rattle.std.proofs.lemmas.Bool.{cases_lt}
 use Rattle.std.proofs.lemmas.List.{take-append-drop, map-append, drop-drop, reverse-append, reverse-reverse, length-reverse, take_more, get_or-take, get_or-drop}
 use Rattle.std.proofs.Math.Seq.{get_or-append_seam}
 use Rattle.slab.specs.Slab.{Slab}
-use Rattle.xf_doc.specs.declared.content.Node.{Node}
-use Rattle.xf_doc.specs.Forest.{is_attribute}
 use Rattle.xf_rows.specs.declared.rows.Row.{Row}
 use Rattle.xf_rows.specs.Rows.{deeper, tree_of, less_deep, parent_row_of, top_depth, no_row, AreSteps, depths, AllDeep}
 use Rattle.xf_rows.proofs.SizedLemmas.{lt-true, lt-false}
@@ -15,9 +13,8 @@ use Rattle.xf_rows.proofs.ParentLemmas.{deep-prefix}
 use Rattle.xf_rows.proofs.RowLemmas.{split-at}
 use Rattle.xf_slots.specs.Slot.{Slot}
 use Rattle.xf_walks.specs.Nodes.{node_of, is_kin, kin_in}
-use Rattle.xf_walks.specs.Kids.{is_kid}
 use Rattle.xf_walks.proofs.PlaceLemmas.{tree-size}
-use Rattle.xf_walks.proofs.NodeLemmas.{part, eq-false}
+use Rattle.xf_walks.proofs.NodeLemmas.{eq-false}
 use Rattle.xf_walks.proofs.CountLemmas.{count-append, count-cons}
 
 pub deep-at : (d : ℕ) (xs : List Row) (i : ℕ) → AllDeep d xs → i < length xs → d ≤ (get_or xs i no_row).depth
@@ -203,9 +200,6 @@ kin-skip s d w rows from next end h l e deep =
     ap (kin_in s d w) part ∙ kin-append s d w (take (next - from) (drop from rows)) (x ∷ rest) ∙ (omega (arith, c, none))
 
 -- ---- a place among siblings
-
-kin-kid : (d e : ℕ) (y : Node) → d ≡ e → is_kin d true y ≡ is_kid is_attribute e y
-kin-kid d e y same = ap (λ k. (y.depth == k) && is_attribute y.content) same
 
 -- where something stands within the tree at a place, there is a row at that place or something before it
 pub above-within : (rows : List Row) (above at : ℕ) → above < at → at < above + length (tree_of (drop above rows)) → above < length rows

@@ -79,29 +79,6 @@ parted-filled n nodes us x xs p =
 
 -- ---- a step
 
-pub left-first : (s : Slab Slot) (rows : List Row) (text : List ℕ) → has_character text ≡ true → pieces_left s text rows ≡ text ∷ pieces_left s [] rows
-left-first s rows text h = rw h refl
-
-pub left-rest : (s : Slab Slot) (rows : List Row) (text : List ℕ) → has_character text ≡ false → pieces_left s text rows ≡ pieces_left s [] rows
-left-rest s rows text h = rw h refl
-
--- one row that has no characters
-pub left-skip : (s : Slab Slot) (at : ℕ) (rows : List Row) → at < length rows → has_character (characters (content_in (get s (get_or rows at no_row).key))) ≡ false
-    → pieces_left s [] (drop (at + 1) rows) ≡ pieces_left s [] (drop at rows)
-left-skip s at rows h none = sym (ap (pieces_left s []) (split-at at rows no_row h) ∙ rw none refl)
-
--- and one that has
-pub left-take : (s : Slab Slot) (at : ℕ) (rows : List Row) → at < length rows → has_character (characters (content_in (get s (get_or rows at no_row).key))) ≡ true
-    → pieces_left s [] (drop at rows) ≡ characters (content_in (get s (get_or rows at no_row).key)) ∷ pieces_left s [] (drop (at + 1) rows)
-left-take s at rows h some = ap (pieces_left s []) (split-at at rows no_row h) ∙ rw some refl
-
-pub no_character : (text : List ℕ) → text ≡ [] → has_character text ≡ false
-no_character text e = ap has_character e
-
-pub some_character : (text : List ℕ) → (text ≡ [] → ⊥) → has_character text ≡ true
-some_character [] h = absurd (h refl)
-some_character (c ∷ cs) h = refl
-
 -- a node with no text of its own, over one row: its value is one text
 whole-text : (text : List ℕ) → Some text ≡ whole (filter has_character (text ∷ []))
 whole-text [] = refl

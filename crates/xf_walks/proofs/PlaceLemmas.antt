@@ -1,7 +1,7 @@
 -- The rows at and around a place are nodes of the list.
-use Rattle.std.proofs.Common.{◌≡◌, ℕ, zero, suc, ◌+◌, ◌-◌, ◌<◌, ◌≤◌, true, false, IsSome, List, [], ◌∷◌, ◌++◌, map, length, take, drop, get_or, nat_lt, refl, sym, ap, ◌∙◌, inl, inr, arith, length-drop, length-take}
+use Rattle.std.proofs.Common.{◌≡◌, ℕ, zero, suc, ◌+◌, ◌-◌, ◌<◌, ◌≤◌, true, IsSome, List, [], ◌∷◌, ◌++◌, map, length, take, drop, get_or, nat_lt, refl, sym, ap, ◌∙◌, inl, inr, arith, length-drop, length-take}
 use Rattle.std.proofs.lemmas.Bool.{cases_Bool, cases_lt}
-use Rattle.std.proofs.lemmas.List.{take-append-drop, map-append, take_more, get_or-take, get_or-drop}
+use Rattle.std.proofs.lemmas.List.{take-append-drop, map-append, get_or-take, get_or-drop}
 use Rattle.slab.specs.Slab.{Slab, get}
 use Rattle.xf_doc.specs.declared.content.Node.{Node}
 use Rattle.xf_doc.specs.Forest.{has_number, below, past}
@@ -13,7 +13,7 @@ use Rattle.xf_rows.proofs.RowLemmas.{split-at}
 use Rattle.xf_slots.specs.Slot.{Slot}
 use Rattle.xf_slots.specs.Keys.{number_in}
 use Rattle.xf_walks.specs.Nodes.{node_of, times, StandsAt, AllLive}
-use Rattle.xf_walks.proofs.NodeLemmas.{Parted, part, eq-false, has-append, times-here, times-append, times-absent, absent-times}
+use Rattle.xf_walks.proofs.NodeLemmas.{Parted, part, times-here, times-append, times-absent, absent-times}
 
 pub parted-at : {X Y : Type 0} (f : X → Y) (at : ℕ) (xs : List X) (d : X) → at < length xs → map f xs ≡ map f (take at xs) ++ (f (get_or xs at d) ∷ map f (drop (at + 1) xs))
 parted-at f at xs d h =
@@ -42,17 +42,6 @@ tree-size at rows h =
     let x = get_or rows at no_row in
     let xs = drop (at + 1) rows in
     omega (arith, ap (λ l. length (tree_of l)) (split-at at rows no_row h), length-take (deeper x.depth xs) xs, deeper-length x.depth xs)
-
--- one row more that is of another node
-pub absent-more : (s : Slab Slot) (n i : ℕ) (rows : List Row) → i < length rows → has_number n (map (node_of s) (take i rows)) ≡ false
-    → (number_in (get s (get_or rows i no_row).key) ≡ n → ⊥) → has_number n (map (node_of s) (take (i + 1) rows)) ≡ false
-absent-more s n i rows h none other =
-    let x = get_or rows i no_row in
-    let a = ap (λ l. has_number n (map (node_of s) l)) (take_more rows i no_row h) in
-    let b = ap (has_number n) (map-append (node_of s) (take i rows) (x ∷ [])) in
-    let c = has-append n (map (node_of s) (take i rows)) (node_of s x ∷ []) in
-    let e = eq-false (number_in (get s x.key)) n other in
-    a ∙ b ∙ c ∙ rw (none, e) refl
 
 pub has-true : (n : ℕ) (xs : List Node) → 1 ≤ times n xs → has_number n xs ≡ true
 has-true n xs h = elim (cases_Bool (has_number n xs)) [ inl e ↦ e | inr e ↦ absurd (omega (arith, times-absent n xs e)) ]

@@ -1,5 +1,5 @@
 -- Walking over the tops of trees: a tree's rows are skipped, since no root and no detached top stands below another node.
-use Rattle.std.proofs.Common.{◌≡◌, ℕ, zero, suc, ◌+◌, ◌-◌, ◌<◌, ◌≤◌, ◌==◌, true, false, List, [], ◌∷◌, ◌++◌, map, length, take, drop, Some, None, append-nil, append_assoc, subst, inl, inr, refl, sym, ap, ◌∙◌, arith, get_or, take-add}
+use Rattle.std.proofs.Common.{◌≡◌, ℕ, zero, suc, ◌+◌, ◌-◌, ◌<◌, ◌≤◌, ◌==◌, true, false, List, [], ◌∷◌, ◌++◌, map, length, take, drop, None, append_assoc, subst, inl, inr, refl, sym, ap, ◌∙◌, arith, get_or, take-add}
 use Rattle.std.proofs.lemmas.Bool.{cases_lt, cases_Bool}
 use Rattle.std.proofs.lemmas.List.{take-append-drop, map-append, drop-drop}
 use Rattle.slab.specs.Slab.{Slab, get}
@@ -12,7 +12,7 @@ use Rattle.xf_rows.proofs.SizedLemmas.{lt-true, lt-false}
 use Rattle.xf_rows.proofs.CutLemmas.{tree-is-front}
 use Rattle.xf_rows.proofs.RowLemmas.{split-at}
 use Rattle.xf_slots.specs.Slot.{Slot}
-use Rattle.xf_slots.specs.Keys.{number_in, content_in}
+use Rattle.xf_slots.specs.Keys.{content_in}
 use Rattle.xf_walks.specs.Nodes.{node_of, AllTops}
 use Rattle.xf_walks.proofs.NodeLemmas.{eq-false}
 
@@ -68,10 +68,6 @@ pub root-more : (s : Slab Slot) (k at end : ℕ) (rows : List Row) → at < leng
 root-more s k at end rows h e tops is some =
     sym (ap (λ l. root_of k (map (node_of s) l)) (split-at at rows no_row h) ∙ root-yes k (node_of s (get_or rows at no_row)) (map (node_of s) (drop (at + 1) rows)) is some ∙ skipped s (k - 1) at end rows h e tops)
 
-pub root-here : (s : Slab Slot) (at : ℕ) (rows : List Row) → at < length rows → is_root (content_in (get s (get_or rows at no_row).key)) ≡ true
-    → Some (number_in (get s (get_or rows at no_row).key)) ≡ root_of 0 (map (node_of s) (drop at rows))
-root-here s at rows h is = sym (ap (λ l. root_of 0 (map (node_of s) l)) (split-at at rows no_row h) ∙ rw is refl)
-
 pub past-end : (at : ℕ) (rows : List Row) → length rows ≤ at → drop at rows ≡ []
 past-end zero [] h = refl
 past-end zero (x ∷ xs) h = absurd (omega arith)
@@ -81,9 +77,6 @@ past-end (suc at) (x ∷ xs) h = past-end at xs (omega arith)
 no-root : (k : ℕ) → root_of k [] ≡ None
 no-root zero = refl
 no-root (suc k) = refl
-
-pub root-none : (s : Slab Slot) (k at : ℕ) (rows : List Row) → length rows ≤ at → None ≡ root_of k (map (node_of s) (drop at rows))
-root-none s k at rows h = sym (ap (λ l. root_of k (map (node_of s) l)) (past-end at rows h) ∙ no-root k)
 
 -- ---- the instances
 
@@ -116,13 +109,3 @@ instances-more s at end rows h e other =
     ∙ ap (λ l. (map f (take at rows) ++ map f (tree_of (x ∷ xs))) ++ in_instances (map f l)) back
     ∙ append_assoc (map f (take at rows)) (map f (tree_of (x ∷ xs))) (in_instances (map f (after_tree (x ∷ xs))))
     ∙ ap (λ l. map f (take at rows) ++ l) (sym whole)
-
-pub instances-stop : (s : Slab Slot) (at : ℕ) (rows : List Row) → at < length rows → is_detached_top (node_of s (get_or rows at no_row)) ≡ true
-    → map (node_of s) (take at rows) ≡ map (node_of s) (take at rows) ++ in_instances (map (node_of s) (drop at rows))
-instances-stop s at rows h is =
-    let f = node_of s in
-    sym (ap (λ l. map f (take at rows) ++ in_instances (map f l)) (split-at at rows no_row h) ∙ rw is (append-nil (map f (take at rows))))
-
-pub instances-end : (s : Slab Slot) (at : ℕ) (rows : List Row) → length rows ≤ at
-    → map (node_of s) (take at rows) ≡ map (node_of s) (take at rows) ++ in_instances (map (node_of s) (drop at rows))
-instances-end s at rows h = sym (ap (λ l. map (node_of s) (take at rows) ++ in_instances (map (node_of s) l)) (past-end at rows h) ∙ append-nil (map (node_of s) (take at rows)))

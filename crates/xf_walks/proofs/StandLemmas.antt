@@ -1,5 +1,5 @@
 -- A text stands at a node: what that is of its row, and of the texts among rows.
-use Rattle.std.proofs.Common.{◌≡◌, ℕ, ◌+◌, ◌<◌, Bool, true, false, List, [], ◌∷◌, map, length, drop, get_or, refl, ap, ◌∙◌, arith}
+use Rattle.std.proofs.Common.{◌≡◌, ℕ, ◌+◌, ◌<◌, true, false, List, [], ◌∷◌, map, length, drop, get_or, refl, ap, ◌∙◌, arith}
 use Rattle.std.proofs.lemmas.Bool.Decides.{nat_tests}
 use Rattle.std.specs.Prelude.{nat_eq}
 use Rattle.std.specs.Str.{bytes_eq}
@@ -26,31 +26,12 @@ none-texts (c ∷ cs) = rw (some c cs) refl
 
 -- ---- among rows
 
-pub left-first : (text : List ℕ) → texts_left (nat_eq (length text) 0) text ≡ as_texts text
-left-first [] = refl
-left-first (c ∷ cs) = rw (some c cs) refl
-
--- where nothing is left to look at, the one must have been found
-pub left-last : (found : Bool) (text : List ℕ) → are_texts (texts_left found text) [] ≡ found
-left-last true text = refl
-left-last false text = refl
-
 abbrev pub texts_from : Slab Slot → ℕ → List Row → List Node
 texts_from s at rows = texts_in (map (node_of s) (drop at rows))
-
-pub from-other : (s : Slab Slot) (at : ℕ) (rows : List Row) → at < length rows → is_text (content_in (get s (get_or rows at no_row).key)) ≡ false → texts_from s at rows ≡ texts_from s (at + 1) rows
-from-other s at rows h e = ap (λ l. texts_in (map (node_of s) l)) (split-at at rows no_row h) ∙ rw e refl
 
 pub from-text : (s : Slab Slot) (at : ℕ) (rows : List Row) → at < length rows → is_text (content_in (get s (get_or rows at no_row).key)) ≡ true
     → texts_from s at rows ≡ node_of s (get_or rows at no_row) ∷ texts_from s (at + 1) rows
 from-text s at rows h e = ap (λ l. texts_in (map (node_of s) l)) (split-at at rows no_row h) ∙ rw e refl
 
--- a text beside the one
-pub found-twice : (text : List ℕ) (x : Node) (xs : List Node) → are_texts (texts_left true text) (x ∷ xs) ≡ false
-found-twice text x xs = refl
-
 pub found-here : (text : List ℕ) (x : Node) (xs : List Node) → bytes_eq (own_text x.content) text ≡ true → are_texts (texts_left false text) (x ∷ xs) ≡ are_texts (texts_left true text) xs
 found-here text x xs e = rw e refl
-
-pub found-other : (text : List ℕ) (x : Node) (xs : List Node) → bytes_eq (own_text x.content) text ≡ false → are_texts (texts_left false text) (x ∷ xs) ≡ false
-found-other text x xs e = rw e refl

@@ -7,7 +7,7 @@ use Rattle.slab.specs.Slab.{Slab, get}
 use Rattle.xf_doc.specs.declared.content.Node.{Node}
 use Rattle.xf_doc.specs.Forest.{own_text}
 use Rattle.xf_doc.specs.Visit.{visits}
-use Rattle.xf_doc.specs.StringValue.{characters, string_value, within}
+use Rattle.xf_doc.specs.StringValue.{characters, string_value}
 use Rattle.xf_rows.specs.declared.rows.Row.{Row}
 use Rattle.xf_rows.specs.Rows.{deeper, tree_of, no_row}
 use Rattle.xf_slots.specs.Slot.{Slot}

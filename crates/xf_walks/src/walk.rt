@@ -1,5 +1,5 @@
 //! Walks over the nodes of a forest, from row to row.
-ghost use Rattle.std.specs.Prelude.{◌≡◌, ℕ, ◌+◌, ◌<◌, ◌≤◌, List, [], true, false, length, slice_index_or, MatchOption};
+ghost use Rattle.std.specs.Prelude.{◌≡◌, ℕ, ◌+◌, ◌<◌, ◌≤◌, List, [], true, false, length, slice_index_or, MatchOption, IfSome};
 ghost use Rattle.std.specs.Iterator.{YieldsFirstBy, item_count};
 ghost use Rattle.xf_rows.specs.Rows.{Sized, AllDeep, no_row};
 ghost use Rattle.xf_walks.specs.Nodes.{node_of, is_kin};
@@ -150,6 +150,7 @@ fn step_over_rows(rows: &Rows, slots: &Slots, at: usize, end: usize) -> Option<(
     Some((next, Left::Rows { at: next + 1, end }))
 }
 
+#[inline(always)]
 fn step_back(
     rows: &Rows,
     slots: &Slots,
@@ -207,6 +208,7 @@ fn next_plain(rows: &Rows, slots: &Slots, at: usize, end: usize) -> usize
 
 /// The place of the last node before a place that has this depth and is no attribute, or the first place where there is none
 /// behind it.
+#[inline(always)]
 fn last_kin(rows: &Rows, slots: &Slots, hints: &Hints, above: usize, at: usize, depth: u32) -> usize
     requires sized { Sized rows.now.items }
     requires order { above < at }
@@ -233,6 +235,9 @@ fn climb_to(rows: &Rows, hints: &Hints, above: usize, from: usize, depth: u32) -
     ensures within { result ≤ from }
     ensures deep { AllDeep (depth + 1) (between (result + 1) (from + 1) rows.now.items) }
 {
+    if let Some(place) = alike_before(rows, above, from, depth) {
+        return place;
+    }
     let mut at = from;
     while rows.at(at).depth > depth {
         match parent_row(rows, hints, at) {
@@ -241,4 +246,31 @@ fn climb_to(rows: &Rows, hints: &Hints, above: usize, from: usize, depth: u32) -
         }
     }
     at
+}
+
+/// The top of the tree whose last row is at a place, where it is as large as the tree behind it, as in a table whose rows are alike. No row
+/// between is looked at.
+#[inline(always)]
+fn alike_before(rows: &Rows, above: usize, from: usize, depth: u32) -> Option<usize>
+    requires sized { Sized rows.now.items }
+    requires order { above ≤ from }
+    requires within { from < length rows.now.items }
+    ensures order { IfSome result (λ place. above ≤ place) }
+    ensures within { IfSome result (λ place. place ≤ from) }
+    ensures deep { IfSome result (λ place. AllDeep (depth + 1) (between (place + 1) (from + 1) rows.now.items)) }
+{
+    rows.is_bounded();
+    let next = from + 1;
+    if next >= rows.len() {
+        return None;
+    }
+    let size = rows.at(next).size;
+    if size > next - above {
+        return None;
+    }
+    let place = next - size;
+    if rows.at(place).depth == depth && end_of(rows, place) == next {
+        return Some(place);
+    }
+    None
 }

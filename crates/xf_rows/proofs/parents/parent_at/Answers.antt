@@ -10,13 +10,11 @@ returns-then-at-above-clause-parent c =
     let rows = c.args.rows.now.items in
     let above = c.args.above in
     let at = c.args.at in
+    let before : above < at = omega (arith, c.if-above-at.false) in
     let within : at ≤ length rows = omega (arith, c.requires.within) in
-    let size = size-above rows above at c.if-above-at.true within c.requires.sized in
-    let upper = ap (λ (r : Row). r.depth) c.at.ensures in
-    let lower = ap (λ (r : Row). r.depth) c.at-then-above-at.ensures in
-    let lower_too = ap (λ (r : Row). r.depth) c.at-then-at.ensures in
-    let upper_too = ap (λ (r : Row). r.depth) c.at-then-at-2.ensures in
-    let sized = ap (λ (r : Row). r.size) c.at-then-at-eq1.ensures in
-    let less : (get_or rows above no_row).depth < (get_or rows at no_row).depth = omega arith in
-    let one : (get_or rows at no_row).depth - (get_or rows above no_row).depth ≡ 1 = omega arith in
-    hint-parent rows above at c.if-above-at.true c.requires.within less one (omega arith)
+    let size = size-above rows above at before within c.requires.sized in
+    let upper = ap (λ (r : Row). r.depth) c.at-upper.ensures in
+    let sized = ap (λ (r : Row). r.size) c.at-upper.ensures in
+    let less : (get_or rows above no_row).depth < (get_or rows at no_row).depth = omega (arith, c.requires.depth, upper, c.if-upper-depth.true) in
+    let one : (get_or rows at no_row).depth - (get_or rows above no_row).depth ≡ 1 = omega (arith, c.requires.depth, upper, c.if-upper-depth.true) in
+    hint-parent rows above at before c.requires.within less one (omega (arith, before, size, sized, c.if-at-above.true))

@@ -7,11 +7,11 @@ pub loop-at-preserved : goal.loop-at-preserved
 loop-at-preserved c =
     let rows = c.args.rows.now.items in
     let at = c.loop-at.at in
-    let place = c.in-Some.place in
+    let place = c.in-Some-parent_row.place in
     let i = c.loop-at.invariant in
     let test = rw c.at.ensures at c.loop-at-test.true in
     let in_rows : at < length rows = omega (arith, i.within, c.requires.within) in
-    let a = above-is rows place at in_rows c.in-Some.ensures.answer in
+    let a = above-is rows place at in_rows c.in-Some-parent_row.ensures.answer in
     let low = climb-bounded rows c.args.above place at a in_rows i.least (omega (arith, c.requires.less, test)) in
     record {
       least = low;
