@@ -279,6 +279,23 @@ count-more q nodes ns at n o h s e =
 pub count-few : (q : Content → Bool) (nodes : List Node) (ns : List ℕ) (at : ℕ) → at < length ns → count_in q nodes (take at ns) ≤ at
 count-few q nodes ns at h = let short : length (take at ns) ≡ at = length-take-le at ns (omega arith) in omega (arith, count_by-le-length (λ (n : ℕ). meets q (content_at n nodes)) (take at ns), short)
 
+count-part : (q : Content → Bool) (nodes : List Node) (k : ℕ) (ns : List ℕ) → count_in q nodes (take k ns) ≤ count_in q nodes ns
+count-part q nodes zero ns = omega arith
+count-part q nodes (suc k) [] = omega arith
+count-part q nodes (suc k) (n ∷ ns) = omega (arith, one-in q nodes n (take k ns), one-in q nodes n ns, count-part q nodes k ns)
+
+pub bytes-same : (bs : List ℕ) → bytes_eq bs bs ≡ true
+bytes-same [] = refl
+bytes-same (b ∷ bs) = ap (λ t. t && bytes_eq bs bs) (self-same b) ∙ bytes-same bs
+
+-- before one that is counted stand fewer than there are
+pub count-less : (q : Content → Bool) (nodes : List Node) (ns : List ℕ) (at n : ℕ) (content : Content) → at < length ns → slice_get ns at ≡ Some n → content_at n nodes ≡ Some content → q content ≡ true
+    → count_in q nodes (take at ns) < count_in q nodes ns
+count-less q nodes ns at n content h s e t =
+    let more = count-more q nodes ns at n (Some content) h s e in
+    let one : cond {A = ℕ} (q content) 1 0 ≡ 1 = ap (λ b. cond {A = ℕ} b 1 0) t in
+    omega (arith, more, one, count-part q nodes (at + 1) ns)
+
 pub any-at : (f : ℕ → Bool) (ns : List ℕ) (at n : ℕ) → slice_get ns at ≡ Some n → f n ≡ true → list_any f ns ≡ true
 any-at f [] at n e h = none-some e
 any-at f (m ∷ ms) zero n e h = ap (λ b. b || list_any f ms) (ap f (some-same e) ∙ h)

@@ -227,6 +227,21 @@ stem-pushed forest n p content stem text index sound h c s t plain bare =
     by (Attribute name text) e i j = ap index_text (j refl) ∙ sym (attribute-index n name text forest.nodes e)
     by (Text text) e i j = i refl
 
+-- what is below another node is no slash alone
+pub path-pushed : (forest : Forest) (n p : ℕ) (content : Content) (stem text : List ℕ) (index : Option ℕ) → HasTrees forest → parent_of n (visits forest.nodes) ≡ Some p → Some content ≡ content_at n forest.nodes → text ≡ stem ++ step_with content (index_text index)
+    → text ≡ stem_of (visits forest.nodes) n → text ≡ path_of n (visits forest.nodes)
+path-pushed forest n p content stem text index sound h c t is = t ∙ sym (by content (sym c)) ∙ ap or_slash (sym t) ∙ ap or_slash is
+  where
+    more : (xs : List ℕ) (y : ℕ) (ys : List ℕ) → or_slash (xs ++ (y ∷ ys)) ≡ xs ++ (y ∷ ys)
+    more [] y ys = refl
+    more (x ∷ xs) y ys = refl
+
+    by : (k : Content) → content_at n forest.nodes ≡ Some k → or_slash (stem ++ step_with k (index_text index)) ≡ stem ++ step_with k (index_text index)
+    by Root e = none-some (ap first_of (sym (root-none_above forest n sound e)) ∙ h)
+    by (Element name) e = more stem 47 _
+    by (Attribute name text) e = more stem 47 _
+    by (Text text) e = more stem 47 _
+
 pub childless-attribute : (forest : Forest) (n : ℕ) (content : Content) (name : Name) (text : List ℕ) → HasTrees forest → Some content ≡ content_at n forest.nodes → content ≡ Attribute name text → false ≡ has_elements (visits forest.nodes) n
 childless-attribute forest n content name text sound h is = sym (childless forest n (Attribute name text) sound (sym h ∙ ap Some is) refl)
 

@@ -1,5 +1,5 @@
 //! The children of a node, each with its place among those of its kind.
-ghost use Rattle.std.specs.Prelude.{◌≡◌, ◌+◌, ◌<◌, ◌^◌, ℕ, suc, List, [], IfOk, OnOk, length, nat_lt, if◌then◌else◌};
+ghost use Rattle.std.specs.Prelude.{◌≡◌, ◌+◌, ◌<◌, ◌^◌, ℕ, suc, List, [], ◌∷◌, IfOk, OnOk, length, nat_lt, if◌then◌else◌};
 ghost use Rattle.std.specs.List.{All, list_any};
 ghost use Rattle.std.specs.Str.{bytes_eq};
 ghost use Rattle.xf_doc.specs.Axis.{axis_of};
@@ -41,29 +41,44 @@ pub fn family_of(alloc: Global, forest: &Forest, node: NodeId) -> Result<Family,
     ensures elements { IfOk result (λ family. family.has_elements ≡ has_elements (visits forest.now.forest.nodes) node.number) }
 {
     forest.are_trees();
-    let children = children_of(alloc, forest, node)?;
-    let mut kids = if children.len() == 1 {
-        only_kid(alloc, forest, node, &children)?
-    } else {
-        kids_of(alloc, forest, node, &children)?
-    };
-    kids.reverse();
-    Ok(Family {
-        kids,
-        has_elements: has_element(forest, &children),
-    })
-}
-
-fn children_of(alloc: Global, forest: &Forest, node: NodeId) -> Result<NodeList, AllocError>
-    requires { IsLive node.number forest.now.forest }
-    ensures { IfOk result (λ children. children ≡ axis_of Axis.Child node.number (visits forest.now.forest.nodes)) }
-{
-    let mut children = NodeList::new(alloc);
     let mut walk = forest.axis(node, Axis::Child);
+    let Some(first) = walk.next() else {
+        return Ok(Family {
+            kids: Vec::new(alloc),
+            has_elements: false,
+        });
+    };
+    let Some(second) = walk.next() else {
+        return only_child(alloc, forest, node, first);
+    };
+    let mut children = NodeList::new(alloc);
+    children.push(first)?;
+    children.push(second)?;
     while let Some(child) = walk.next() {
         children.push(child)?;
     }
-    Ok(children)
+    several(alloc, forest, node, &children)
+}
+
+/// Several children.
+fn several(
+    alloc: Global,
+    forest: &Forest,
+    node: NodeId,
+    children: &NodeList,
+) -> Result<Family, AllocError>
+    requires live { IsLive node.number forest.now.forest }
+    requires trees { HasTrees forest.now.forest }
+    requires children { children.now ≡ axis_of Axis.Child node.number (visits forest.now.forest.nodes) }
+    ensures kids { IfOk result (λ family. All (IsKid (visits forest.now.forest.nodes)) family.kids.items) }
+    ensures elements { IfOk result (λ family. family.has_elements ≡ has_elements (visits forest.now.forest.nodes) node.number) }
+{
+    let mut kids = kids_of(alloc, forest, node, children)?;
+    kids.reverse();
+    Ok(Family {
+        kids,
+        has_elements: has_element(forest, children),
+    })
 }
 
 /// What a node is, as far as it is counted.
@@ -101,29 +116,32 @@ fn has_element(forest: &Forest, nodes: &NodeList) -> bool
 }
 
 /// The one child that there is. Nothing has to be counted for it.
-fn only_kid(
+fn only_child(
     alloc: Global,
     forest: &Forest,
     node: NodeId,
-    children: &NodeList,
-) -> Result<Vec<Kid>, AllocError>
+    child: NodeId,
+) -> Result<Family, AllocError>
+    requires live { IsLive node.number forest.now.forest }
     requires trees { HasTrees forest.now.forest }
-    requires children { children.now ≡ axis_of Axis.Child node.number (visits forest.now.forest.nodes) }
-    requires one { length children.now ≡ 1 }
-    ensures { IfOk result (λ kids. All (IsKid (visits forest.now.forest.nodes)) kids.items) }
+    requires children { child.number ∷ [] ≡ axis_of Axis.Child node.number (visits forest.now.forest.nodes) }
+    ensures kids { IfOk result (λ family. All (IsKid (visits forest.now.forest.nodes)) family.kids.items) }
+    ensures elements { IfOk result (λ family. family.has_elements ≡ has_elements (visits forest.now.forest.nodes) node.number) }
 {
-    let child = children.at(0);
-    let index = match sort_of(forest, child) {
-        Sort::Element(_) => None,
-        Sort::Text => Some(1),
-        Sort::Other => None,
+    let (index, is_element) = match sort_of(forest, child) {
+        Sort::Element(_) => (None, true),
+        Sort::Text => (Some(1), false),
+        Sort::Other => (None, false),
     };
     let mut kids = Vec::with_capacity(alloc, 1)?;
     kids.push(Kid {
         number: child.number,
         index,
     })?;
-    Ok(kids)
+    Ok(Family {
+        kids,
+        has_elements: is_element,
+    })
 }
 
 /// The children in document order, with their indexes.
@@ -181,7 +199,8 @@ fn next_place(
     seen: &mut Tally,
     name: &Name,
 ) -> Result<Option<usize>, AllocError>
-    requires { tallied seen.old (written name.now) + 1 < 2 ^ 64 }
+    requires fits { tallied seen.old (written name.now) + 1 < 2 ^ 64 }
+    requires within { tallied seen.old (written name.now) < tallied totals.now (written name.now) }
     ensures place { IfOk result (λ place. index_text place ≡ (if nat_lt 1 (tallied totals.now (written name.now)) then bracketed (suc (tallied seen.old (written name.now))) else [])) }
     ensures seen { OnOk result ((w : List ℕ) → tallied seen.new w ≡ (if bytes_eq w (written name.now) then 1 else 0) + tallied seen.old w) }
 {
@@ -192,20 +211,20 @@ fn next_place(
     place_of(alloc, totals, seen, text.as_str())
 }
 
-/// The same of a name as it is written.
+/// The same of a name as it is written. One that is not the first is one of several, so that nothing is looked up for it.
 fn place_of(
     alloc: Global,
     totals: &Tally,
     seen: &mut Tally,
     name: &str,
 ) -> Result<Option<usize>, AllocError>
-    requires { tallied seen.old name.now + 1 < 2 ^ 64 }
+    requires fits { tallied seen.old name.now + 1 < 2 ^ 64 }
+    requires within { tallied seen.old name.now < tallied totals.now name.now }
     ensures place { IfOk result (λ place. index_text place ≡ (if nat_lt 1 (tallied totals.now name.now) then bracketed (suc (tallied seen.old name.now)) else [])) }
     ensures seen { OnOk result ((w : List ℕ) → tallied seen.new w ≡ (if bytes_eq w name.now then 1 else 0) + tallied seen.old w) }
 {
-    let place = tallied(seen, name) + 1;
-    add(alloc, seen, name)?;
-    if tallied(totals, name) > 1 {
+    let place = add(alloc, seen, name)?;
+    if place > 1 || tallied(totals, name) > 1 {
         return Ok(Some(place));
     }
     Ok(None)

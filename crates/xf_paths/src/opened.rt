@@ -10,7 +10,7 @@ ghost use Rattle.xf_paths.specs.Family.{IsKid, index_of, index_text, meets};
 ghost use Rattle.xf_slots.specs.Seen.{seen_content};
 
 use crate::family::{Family, Kid, family_of};
-use crate::written::push_step;
+use crate::written::{joined, push_step};
 use std::alloc::{AllocError, Global};
 use std::marker::Model;
 use xf_doc::{Kind, NodeId};
@@ -66,12 +66,7 @@ impl<'a> Paths<'a> {
         ensures text { OnOk result (string_bytes text.new ≡ string_bytes text.old ++ path_of node.number (visits self.old.forest.nodes)) }
         ensures forest { self.new ≡ self.old }
     {
-        let stem = stem(self.alloc, self.forest, &mut self.nodes, node)?;
-        push_stem(text, &stem)?;
-        match self.forest.kind(node) {
-            Kind::Element => push_open(self.alloc, self.forest, &mut self.nodes, node, stem),
-            _ => Ok(()),
-        }
+        push_path(self.alloc, self.forest, &mut self.nodes, text, node)
     }
 
     /// Whether the node has element children. It is at hand where the node's path came last, or that of a node below it.
@@ -131,23 +126,45 @@ fn has_open_elements(
     Ok(answer)
 }
 
-/// The path of a node, empty for a root.
-fn stem(
+/// Appends the path of a node. An element is open then, since the paths of its children begin with its own.
+fn push_path(
     alloc: Global,
     forest: &Forest,
     nodes: &mut Vec<OpenNode>,
+    text: &mut String,
     node: NodeId,
-) -> Result<String, AllocError>
+) -> Result<(), AllocError>
     requires live { IsLive node.number forest.now.forest }
     requires nodes { AllOpen (visits forest.now.forest.nodes) nodes.old.items }
     ensures nodes { AllOpen (visits forest.now.forest.nodes) nodes.new.items }
-    ensures stem { IfOk result (λ stem. string_bytes stem ≡ stem_of (visits forest.now.forest.nodes) node.number) }
+    ensures text { OnOk result (string_bytes text.new ≡ string_bytes text.old ++ path_of node.number (visits forest.now.forest.nodes)) }
+{
+    let stem = push_path_in(alloc, forest, nodes, text, node)?;
+    match stem {
+        Some(stem) => push_open(alloc, forest, nodes, node, stem),
+        None => Ok(()),
+    }
+}
+
+/// The same, which gives the path of an element instead of opening it.
+fn push_path_in(
+    alloc: Global,
+    forest: &Forest,
+    nodes: &mut Vec<OpenNode>,
+    text: &mut String,
+    node: NodeId,
+) -> Result<Option<String>, AllocError>
+    requires live { IsLive node.number forest.now.forest }
+    requires nodes { AllOpen (visits forest.now.forest.nodes) nodes.old.items }
+    ensures nodes { AllOpen (visits forest.now.forest.nodes) nodes.new.items }
+    ensures text { OnOk result (string_bytes text.new ≡ string_bytes text.old ++ path_of node.number (visits forest.now.forest.nodes)) }
+    ensures stem { IfOk result (λ kept. IfSome kept (λ stem. string_bytes stem ≡ stem_of (visits forest.now.forest.nodes) node.number)) }
 {
     let Some(parent) = forest.parent(node) else {
-        return fresh_stem(alloc, forest, node);
+        return push_fresh(alloc, forest, text, node);
     };
     let mut one = take_open(alloc, forest, nodes, parent)?;
-    let stem = stem_below(alloc, forest, &mut one, node);
+    let stem = push_child(alloc, forest, &mut one, text, node);
     nodes.push(one)?;
     stem
 }
@@ -237,30 +254,61 @@ fn is_root(forest: &Forest, node: NodeId) -> bool
     }
 }
 
-/// The path of a node by that of its parent. A child that comes in turn has its index at hand.
-fn stem_below(
+/// Appends the path of a node of which nothing is at hand.
+fn push_fresh(
+    alloc: Global,
+    forest: &Forest,
+    text: &mut String,
+    node: NodeId,
+) -> Result<Option<String>, AllocError>
+    requires live { IsLive node.number forest.now.forest }
+    ensures text { OnOk result (string_bytes text.new ≡ string_bytes text.old ++ path_of node.number (visits forest.now.forest.nodes)) }
+    ensures stem { IfOk result (λ kept. IfSome kept (λ stem. string_bytes stem ≡ stem_of (visits forest.now.forest.nodes) node.number)) }
+{
+    let stem = fresh_stem(alloc, forest, node)?;
+    push_stem(text, &stem)?;
+    match forest.kind(node) {
+        Kind::Element => Ok(Some(stem)),
+        _ => Ok(None),
+    }
+}
+
+/// Appends the path of a node, by that of its parent. A child that comes in turn has its index at hand. An element's path is kept, since those of
+/// its children begin with it.
+fn push_child(
     alloc: Global,
     forest: &Forest,
     parent: &mut OpenNode,
+    text: &mut String,
     node: NodeId,
-) -> Result<String, AllocError>
+) -> Result<Option<String>, AllocError>
     requires live { IsLive node.number forest.now.forest }
     requires one { IsOpen (visits forest.now.forest.nodes) parent.old }
     requires parent { parent_of node.number (visits forest.now.forest.nodes) ≡ Some parent.old.number }
-    ensures stem { IfOk result (λ stem. string_bytes stem ≡ stem_of (visits forest.now.forest.nodes) node.number) }
+    ensures text { OnOk result (string_bytes text.new ≡ string_bytes text.old ++ path_of node.number (visits forest.now.forest.nodes)) }
+    ensures stem { IfOk result (λ kept. IfSome kept (λ stem. string_bytes stem ≡ stem_of (visits forest.now.forest.nodes) node.number)) }
     ensures one { IsOpen (visits forest.now.forest.nodes) parent.new }
     ensures number { parent.new.number ≡ parent.old.number }
 {
     forest.are_trees();
     let Some(content) = forest.content(node) else {
-        return fresh_stem(alloc, forest, node);
+        return push_fresh(alloc, forest, text, node);
     };
     let Some(index) = next_index(&mut parent.family.kids, content, node) else {
-        return fresh_stem(alloc, forest, node);
+        return push_fresh(alloc, forest, text, node);
     };
-    let mut stem = String::from_str(alloc, parent.stem.as_str())?;
-    push_step(&mut stem, content, index)?;
-    Ok(stem)
+    match content {
+        Seen::Element(_) => {
+            let stem = joined(alloc, parent.stem.as_str(), content, index)?;
+            text.push_str(stem.as_str())?;
+            Ok(Some(stem))
+        }
+        _ => {
+            text.push_str(parent.stem.as_str())?;
+            push_step(text, content, index)?;
+            Ok(None)
+        }
+    }
 }
 
 /// What the path of a node has in brackets: `None` where the node is not the child that comes next.

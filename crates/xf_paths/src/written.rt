@@ -11,6 +11,9 @@ use std::collections::HashMap;
 use xf_doc::Name;
 use xf_tree::Seen;
 
+/// Room for what a path has for an element, if its name is not long: memory is taken once then.
+const STEP: usize = 32;
+
 /// How often each name is there.
 pub type Tally = HashMap<String, usize>;
 
@@ -60,6 +63,21 @@ pub fn push_step(
     }
 }
 
+/// A path with what it has for a node below.
+pub fn joined(
+    alloc: Global,
+    stem: &str,
+    content: Seen<'_>,
+    index: Option<usize>,
+) -> Result<String, AllocError>
+    ensures { IfOk result (λ text. string_bytes text ≡ stem.now ++ step_with (seen_content content.entry) (index_text index)) }
+{
+    let mut text = String::with_capacity(alloc, stem.len().saturating_add(STEP))?;
+    text.push_str(stem)?;
+    push_step(&mut text, content, index)?;
+    Ok(text)
+}
+
 /// Appends an index in brackets, where there is one.
 fn push_index(text: &mut String, index: Option<usize>) -> Result<(), AllocError>
     ensures { OnOk result (string_bytes text.new ≡ string_bytes text.old ++ index_text index) }
@@ -81,28 +99,30 @@ pub fn tallied(tally: &Tally, name: &str) -> usize
     tally.get(name).copied().unwrap_or(0)
 }
 
-/// Counts a name once more. Memory is taken for one that comes first.
-pub fn add(alloc: Global, tally: &mut Tally, name: &str) -> Result<(), AllocError>
+/// Counts a name once more, and tells how often it is there then. Memory is taken for one that comes first.
+pub fn add(alloc: Global, tally: &mut Tally, name: &str) -> Result<usize, AllocError>
     requires { tallied tally.old name.now + 1 < 2 ^ 64 }
-    ensures { OnOk result ((w : List ℕ) → tallied tally.new w ≡ (if bytes_eq w name.now then 1 else 0) + tallied tally.old w) }
+    ensures count { IfOk result (λ count. count ≡ tallied tally.old name.now + 1) }
+    ensures tally { OnOk result ((w : List ℕ) → tallied tally.new w ≡ (if bytes_eq w name.now then 1 else 0) + tallied tally.old w) }
 {
     match tally.get_mut(name) {
         Some(count) => {
             *count += 1;
-            Ok(())
+            Ok(*count)
         }
         None => add_first(alloc, tally, name),
     }
 }
 
 /// Counts a name that was not there.
-fn add_first(alloc: Global, tally: &mut Tally, name: &str) -> Result<(), AllocError>
+fn add_first(alloc: Global, tally: &mut Tally, name: &str) -> Result<usize, AllocError>
     requires { tallied tally.old name.now ≡ 0 }
-    ensures { OnOk result ((w : List ℕ) → tallied tally.new w ≡ (if bytes_eq w name.now then 1 else 0) + tallied tally.old w) }
+    ensures count { IfOk result (λ count. count ≡ 1) }
+    ensures tally { OnOk result ((w : List ℕ) → tallied tally.new w ≡ (if bytes_eq w name.now then 1 else 0) + tallied tally.old w) }
 {
     let name = String::from_str(alloc, name)?;
     tally.insert(name, 1)?;
-    Ok(())
+    Ok(1)
 }
 
 /// Counts a name as it is written. One without a prefix is written as it stands in memory.
@@ -111,8 +131,10 @@ pub fn add_name(alloc: Global, tally: &mut Tally, name: &Name) -> Result<(), All
     ensures { OnOk result ((w : List ℕ) → tallied tally.new w ≡ (if bytes_eq w (written name.now) then 1 else 0) + tallied tally.old w) }
 {
     if name.prefix.is_empty() {
-        return add(alloc, tally, name.meaning.local.as_str());
+        add(alloc, tally, name.meaning.local.as_str())?;
+        return Ok(());
     }
     let text = written(alloc, name)?;
-    add(alloc, tally, text.as_str())
+    add(alloc, tally, text.as_str())?;
+    Ok(())
 }

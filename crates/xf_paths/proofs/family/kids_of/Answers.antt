@@ -1,9 +1,10 @@
 use Rattle.std.proofs.Common.{◌≡◌, ◌<◌, length, ap, sym, ◌∙◌, arith}
 use Rattle.std.proofs.lemmas.List.Elements.{All-push, All-same}
-use Rattle.xf_doc.specs.Forest.{content_at, is_element, is_text}
+use Rattle.xf_doc.specs.Forest.{content_at, is_element, is_text, written}
+use Rattle.xf_doc.specs.declared.content.Content.TheVariants.{Element}
 use Rattle.xf_doc.specs.Visit.{visits}
 use Rattle.xf_paths.specs.Family.{IsKid, index_of, index_text, is_named, meets, tallied}
-use Rattle.xf_paths.proofs.FamilyLemmas.{count-more, count-same, named-not, kid-element, kid-text, kid-other}
+use Rattle.xf_paths.proofs.FamilyLemmas.{bytes-same, count-less, count-more, count-same, named-not, kid-element, kid-text, kid-other}
 use Rattle.xf_paths.proofs.family.kids_of.Goals as goal
 use Rattle.xf_paths.proofs.family.kids_of.Goals.{in-Element+in_ok-index-in-Element, in-Text, in-Other}
 
@@ -46,3 +47,10 @@ loop-at-preserved c =
       ];
       kids = All-same (IsKid all) c.push.new.self.items _ c.in_ok-push.ensures.items (All-push (IsKid all) c.loop-at.kids.items (record { number = n; index = c.match-sort_of.index }) old.kids here);
     }
+
+pub next_place-requires-clause-within : goal.next_place-requires-clause-within
+next_place-requires-clause-within c =
+    let name = c.in-Element.name.now in
+    let h : c.loop-at.at < length c.args.children.now = omega arith in
+    let less = count-less (is_named (written name)) c.args.forest.now.forest.nodes c.args.children.now c.loop-at.at c.at-child.result.number (Element name) h c.at-child.ensures c.in-Element.ensures (bytes-same (written name)) in
+    omega (arith, less, c.loop-at.invariant.seen (written name), c.in_ok-totals.ensures (written name))

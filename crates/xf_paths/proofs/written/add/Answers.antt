@@ -13,4 +13,5 @@ returns-in-Some c =
     let got : get_by_text tally name ≡ Some count = sym c.get_mut.ensures.value ∙ ap option_copied_mut c.in-Some.is in
     let some : IsSome (get_by_text tally name) = subst (λ o. IsSome o) (sym got) refl in
     let updates = (c.get_mut.follows.holds (count + 1)).3 some in
-    tally-more name tally (c.get_mut.follows.lender (count + 1)) (count + 1) updates (ap (λ o. unwrap_or o 0 + 1) (sym got))
+    let more = ap (λ o. unwrap_or o 0 + 1) (sym got) in
+    record { count = more; tally = tally-more name tally (c.get_mut.follows.lender (count + 1)) (count + 1) updates more }

@@ -1,4 +1,4 @@
-use Rattle.std.proofs.Common.{◌≡◌, ℕ, ◌+◌, cond, ap, sym, ◌∙◌}
+use Rattle.std.proofs.Common.{◌≡◌, ℕ, ◌+◌, cond, refl, ap, sym, ◌∙◌}
 use Rattle.std.specs.Prelude.{string_bytes}
 use Rattle.std.specs.Str.{bytes_eq}
 use Rattle.xf_paths.specs.Family.{tallied}
@@ -11,4 +11,7 @@ returns c =
     let key = string_bytes c.in_ok-name.name in
     let same : key ≡ c.args.name.now = c.in_ok-name.ensures.ok in
     let one : 1 ≡ tallied tally key + 1 = sym (ap (λ k. tallied tally k + 1) same ∙ ap (λ k. k + 1) c.requires) in
-    λ w. tally-more key tally c.insert.new.self 1 c.in_ok-insert.ensures.updates one w ∙ ap (λ t. cond {A = ℕ} (bytes_eq w t) 1 0 + tallied tally w) same
+    record {
+      count = refl;
+      tally = λ w. tally-more key tally c.insert.new.self 1 c.in_ok-insert.ensures.updates one w ∙ ap (λ t. cond {A = ℕ} (bytes_eq w t) 1 0 + tallied tally w) same;
+    }

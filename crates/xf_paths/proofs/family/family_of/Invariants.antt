@@ -2,7 +2,7 @@ use Rattle.std.proofs.Common.{◌≡◌, ◌++◌, length}
 use Rattle.xf_name.specs.declared.axis.Axis.TheVariants.{Child}
 use Rattle.xf_doc.specs.Axis.{axis_of}
 use Rattle.xf_doc.specs.Visit.{visits}
-use Rattle.xf_paths.proofs.family.children_of.Given as goal
+use Rattle.xf_paths.proofs.family.family_of.Given as goal
 
 abbrev pub invariant-loop-child : goal.invariant-loop-child
 invariant-loop-child l = l.children ++ l.walk ≡ axis_of Child l.fn.node.number (visits l.forest.forest.nodes)
