@@ -1,7 +1,6 @@
 -- What is known of the nodes of controls over the data that were planted is known over all data of their shape.
-use Rattle.std.proofs.Common.{◌≡◌, ℕ, Bool, true, ◌&&◌, List, [], ◌∷◌, map, Option, Some, None, option_map, refl, sym, ap, ◌∙◌}
+use Rattle.std.proofs.Common.{◌≡◌, ℕ, true, ◌&&◌, List, [], ◌∷◌, map, Option, Some, None, refl, sym, ap, ◌∙◌}
 use Rattle.xf_base.specs.Limits.{string_limit}
-use Rattle.xf_doc.specs.declared.content.Node.{Node}
 use Rattle.xf_doc.specs.declared.node.NodeId.{NodeId}
 use Rattle.xf_doc.specs.Forest.{Forest, has_number}
 use Rattle.xf_doc.specs.Shape.{erased, shape_of}
@@ -20,9 +19,8 @@ use Rattle.xf_agree.specs.Hung.{are_hung}
 use Rattle.xf_agree.specs.Settles.{IsSolid}
 use Rattle.xf_agree.proofs.HungLaws.{hung_forest}
 use Rattle.xf_eval.specs.Worth.{with_six}
-use Rattle.xf_ui.specs.Around.{Around}
 use Rattle.xf_ui.specs.Copies.{node_of}
-use Rattle.xf_ui.specs.Interface.{Interface, interface_of}
+use Rattle.xf_ui.specs.Interface.{interface_of}
 use Rattle.xf_bound_laws.specs.OneShape.{HaveOneShape}
 use Rattle.xf_bound_laws.proofs.Chains.{node_stands, node_stays}
 use Rattle.xf_controls.specs.declared.known.Known.{Known}

@@ -1,5 +1,5 @@
 -- Controls that are made afresh, or of which the values of their nodes alone are looked at.
-use Rattle.std.proofs.Common.{◌≡◌, ℕ, Bool, true, false, ◌&&◌, List, [], ◌∷◌, map, length, nat_lt, Option, Some, None, Result, Ok, Err, refl, sym, ap, ◌∙◌, subst, ◌⊎◌, inl, inr}
+use Rattle.std.proofs.Common.{◌≡◌, ℕ, Bool, true, false, List, [], map, length, nat_lt, Option, Some, None, Result, Ok, Err, refl, sym, ap, ◌∙◌, subst, ◌⊎◌, inl, inr}
 use Rattle.std.specs.Bool.{OnTrue}
 use Rattle.std.specs.Prelude.{option_map}
 use Rattle.xf_doc.specs.declared.node.NodeId.{NodeId}

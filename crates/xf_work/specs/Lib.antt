@@ -10,6 +10,7 @@ pub mod Parts
 pub mod Calls
 pub mod Told
 pub mod Planting
+pub mod Ground
 pub mod Grown
 pub mod Settling
 pub mod Setting

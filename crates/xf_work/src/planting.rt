@@ -3,8 +3,9 @@
 ghost use Rattle.std.specs.Prelude.{◌≡◌, [], true, OnOk};
 ghost use Rattle.xf_agree.specs.Hung.{are_hung};
 ghost use Rattle.xf_doc.specs.Changes.{in_detached};
+ghost use Rattle.xf_work.specs.Ground.{IsGround, IsGrounded};
 ghost use Rattle.xf_work.specs.Parts.{IsLoaded};
-ghost use Rattle.xf_work.specs.Planting.{Grows, IsPlanted, document_in, documents_grown, fault_of, planted_by};
+ghost use Rattle.xf_work.specs.Planting.{Grows, IsBegun, IsPlanted, document_in, documents_grown, fault_of, planted_by};
 
 use crate::fault::WorkFault;
 use crate::flags::Flags;
@@ -15,7 +16,7 @@ use crate::work::Work;
 use std::alloc::Global;
 use xf_ast::Instance;
 use xf_binds::Table;
-use xf_controls::{Shown, are_bound};
+use xf_controls::{KnownList, Shown, are_bound};
 use xf_doc::TreeFault;
 use xf_form_machine::LimitWord;
 use xf_loader::{Loaded, lit_at};
@@ -23,36 +24,50 @@ use xf_report::Refusal;
 use xf_tree::Forest;
 use xf_undo::Draft;
 
+/// What a form begins with: its data, what is known of its controls over them, and of each model that nothing is kept and nothing is due.
+#[derive(Drop)]
+pub struct Ground {
+    pub forest: Forest,
+    /// How many nodes were made.
+    pub made: u64,
+    pub bound_nodes: KnownList,
+    pub is_bound: bool,
+    pub table: Table,
+    pub flags: Vec<Flags>,
+    pub old_flags: Vec<Flags>,
+}
+
 /// A form with its data, of which no model is built yet.
 pub fn planted(alloc: Global, loaded: Loaded) -> Result<Work, WorkFault>
     requires { IsLoaded loaded }
     ensures { IsPlanted result (planted_by loaded) }
 {
-    let count = loaded.form.models.len();
-    if count > u32::MAX as usize {
-        // No memory holds so many.
-        return Err(WorkFault::Memory);
+    // All that may fail is done over a loan: the form is dropped at one place.
+    match ground_of(alloc, &loaded) {
+        Ok(ground) => Ok(work_on(alloc, loaded, ground)),
+        Err(fault) => Err(fault),
     }
-    let mut forest = Forest::new(alloc);
-    let made = plant_all(&mut forest, &loaded)?;
-    let bound_nodes = held(alloc, &loaded, &forest)?;
-    let is_bound = are_bound(&loaded.form, &bound_nodes);
-    let table = Table::new(alloc, count as u32)?;
-    let flags = vec![in alloc; Flags::none(); count]?;
-    let old_flags = vec![in alloc; Flags::none(); count]?;
+}
+
+/// A form over its data.
+fn work_on(alloc: Global, loaded: Loaded, ground: Ground) -> Work
+    requires loaded { IsLoaded loaded }
+    requires ground { IsGround loaded ground }
+    ensures { IsBegun result (planted_by loaded) }
+{
     let tally = Tally {
         accepted: 0,
         turns: TURNS,
-        made,
+        made: ground.made,
         evaluated: 0,
     };
-    Ok(Work {
+    Work {
         alloc,
         loaded,
-        draft: Draft::new(alloc, forest),
-        table,
-        flags,
-        old_flags,
+        draft: Draft::new(alloc, ground.forest),
+        table: ground.table,
+        flags: ground.flags,
+        old_flags: ground.old_flags,
         shown: Shown::new(alloc),
         tally,
         old_tally: tally,
@@ -60,10 +75,38 @@ pub fn planted(alloc: Global, loaded: Loaded) -> Result<Work, WorkFault>
         old_built: 0,
         known: None,
         old_known: None,
-        bound_nodes,
-        is_bound,
+        bound_nodes: ground.bound_nodes,
+        is_bound: ground.is_bound,
         is_steady: false,
         was_steady: false,
+    }
+}
+
+/// What a form begins with.
+fn ground_of(alloc: Global, loaded: &Loaded) -> Result<Ground, WorkFault>
+    requires { IsLoaded loaded.now }
+    ensures { IsGrounded result loaded.now }
+{
+    let count = loaded.form.models.len();
+    if count > u32::MAX as usize {
+        // No memory holds so many.
+        return Err(WorkFault::Memory);
+    }
+    let table = Table::new(alloc, count as u32)?;
+    let flags = vec![in alloc; Flags::none(); count]?;
+    let old_flags = vec![in alloc; Flags::none(); count]?;
+    let mut forest = Forest::new(alloc);
+    let made = plant_all(&mut forest, loaded)?;
+    let bound_nodes = held(alloc, loaded, &forest)?;
+    let is_bound = are_bound(&loaded.form, &bound_nodes);
+    Ok(Ground {
+        forest,
+        made,
+        bound_nodes,
+        is_bound,
+        table,
+        flags,
+        old_flags,
     })
 }
 

@@ -1,4 +1,4 @@
-use Rattle.std.proofs.Common.{◌≡◌, sym, ap, ◌∙◌, subst}
+use Rattle.std.proofs.Common.{ap, ◌∙◌, subst}
 use Rattle.xf_doc.proofs.TextLaws.{in_forest}
 use Rattle.xf_ui.specs.Interface.{interface_of}
 use Rattle.xf_controls.specs.Known.{AreHeld}

@@ -1,0 +1,34 @@
+use Rattle.std.proofs.Common.{[], length, refl, sym, subst}
+use Rattle.xf_binds.specs.Table.{all_rolled_back}
+use Rattle.xf_controls.specs.Former.{Standing}
+use Rattle.xf_work.specs.Parts.{standing_of}
+use Rattle.xf_work.specs.Planting.{IsBegun, planted_by}
+use Rattle.xf_work.proofs.BegunLaws.{begun-is, begun-sound, first_tally, shape-planted}
+use Rattle.xf_work.proofs.planting.work_on.Goals as goal
+
+pub invariant_of-result : goal.invariant_of-result
+invariant_of-result c =
+    let g = c.args.ground in
+    let given = c.requires.ground in
+    record {
+      held = given.held;
+      bound = given.bound;
+      steady = tt;
+      steady_before = tt;
+      sound = begun-sound c.args.loaded g.forest.forest g.made (length c.args.loaded.form.models) c.new.result g.table g.flags.items g.old_flags.items [] given.alone c.new.ensures given.table given.flags given.old_flags
+          c.requires.loaded given.hung (shape-planted c.args.loaded g.forest.forest g.made given.grown) given.few;
+      now = tt;
+      before = tt;
+    }
+
+pub returns : goal.returns
+returns c =
+    let g = c.args.ground in
+    let given = c.requires.ground in
+    let made = first_tally g.made in
+    subst (λ (s : Standing). IsBegun (record {
+      kept = record { standing = standing_of c.args.loaded c.new.result.kept (all_rolled_back g.table) g.old_flags.items s.kept made; built = 0 };
+      now = standing_of c.args.loaded c.new.result.now g.table g.flags.items s.now made;
+      built = 0;
+    }) (planted_by c.args.loaded)) (sym c.new-2.ensures)
+    (begun-is c.args.loaded g.forest.forest g.made (length c.args.loaded.form.models) c.new.result g.table g.flags.items g.old_flags.items [] given.alone c.new.ensures given.table given.flags given.old_flags refl refl given.grown)
