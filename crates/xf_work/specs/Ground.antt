@@ -26,5 +26,5 @@ pub record IsGround (loaded : Loaded) (g : Ground) : Type 0 where
   pub old_flags : g.old_flags.items ≡ replicate (length loaded.form.models) none_due
 
 abbrev pub IsGrounded : Result Ground WorkFault → Loaded → Type 0
-IsGrounded (Ok ground) loaded = IsGround loaded ground
+IsGrounded (Ok g) loaded = IsGround loaded g
 IsGrounded (Err fault) loaded = IsPlanted (Err fault) (planted_by loaded)

@@ -44,30 +44,30 @@ pub fn planted(alloc: Global, loaded: Loaded) -> Result<Work, WorkFault>
 {
     // All that may fail is done over a loan: the form is dropped at one place.
     match ground_of(alloc, &loaded) {
-        Ok(ground) => Ok(work_on(alloc, loaded, ground)),
+        Ok(begun) => Ok(work_on(alloc, loaded, begun)),
         Err(fault) => Err(fault),
     }
 }
 
 /// A form over its data.
-fn work_on(alloc: Global, loaded: Loaded, ground: Ground) -> Work
+fn work_on(alloc: Global, loaded: Loaded, begun: Ground) -> Work
     requires loaded { IsLoaded loaded }
-    requires ground { IsGround loaded ground }
+    requires begun { IsGround loaded begun }
     ensures { IsBegun result (planted_by loaded) }
 {
     let tally = Tally {
         accepted: 0,
         turns: TURNS,
-        made: ground.made,
+        made: begun.made,
         evaluated: 0,
     };
     Work {
         alloc,
         loaded,
-        draft: Draft::new(alloc, ground.forest),
-        table: ground.table,
-        flags: ground.flags,
-        old_flags: ground.old_flags,
+        draft: Draft::new(alloc, begun.forest),
+        table: begun.table,
+        flags: begun.flags,
+        old_flags: begun.old_flags,
         shown: Shown::new(alloc),
         tally,
         old_tally: tally,
@@ -75,8 +75,8 @@ fn work_on(alloc: Global, loaded: Loaded, ground: Ground) -> Work
         old_built: 0,
         known: None,
         old_known: None,
-        bound_nodes: ground.bound_nodes,
-        is_bound: ground.is_bound,
+        bound_nodes: begun.bound_nodes,
+        is_bound: begun.is_bound,
         is_steady: false,
         was_steady: false,
     }

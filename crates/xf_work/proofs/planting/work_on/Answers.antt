@@ -8,8 +8,8 @@ use Rattle.xf_work.proofs.planting.work_on.Goals as goal
 
 pub invariant_of-result : goal.invariant_of-result
 invariant_of-result c =
-    let g = c.args.ground in
-    let given = c.requires.ground in
+    let g = c.args.begun in
+    let given = c.requires.begun in
     record {
       held = given.held;
       bound = given.bound;
@@ -23,8 +23,8 @@ invariant_of-result c =
 
 pub returns : goal.returns
 returns c =
-    let g = c.args.ground in
-    let given = c.requires.ground in
+    let g = c.args.begun in
+    let given = c.requires.begun in
     let made = first_tally g.made in
     subst (λ (s : Standing). IsBegun (record {
       kept = record { standing = standing_of c.args.loaded c.new.result.kept (all_rolled_back g.table) g.old_flags.items s.kept made; built = 0 };
