@@ -2,10 +2,10 @@
 ghost use Rattle.std.specs.Prelude.{IsTrue};
 ghost use Rattle.xf_literal.specs.Print.{MayPrint};
 
-use crate::written::{Part, push_number, push_tree, tree};
-use std::alloc::Global;
-use std::test::Fail;
-use xf_doc::{Kind, NodeId, NodeList, TreeFault};
+use crate::written::{Part, push_all, push_number, push_tree, tree};
+use std::alloc::{AllocError, Global};
+use std::mem;
+use xf_doc::{Bare, Kind, NodeId, NodeList, TreeFault};
 use xf_name::{Axis, Prefixes, collect};
 use xf_tree::Forest;
 
@@ -20,7 +20,11 @@ pub enum Step<'a> {
     Attach(u128, u128, u32),
     /// So many times, a copy of the tree comes first below its top.
     Double(u128, u32),
+    /// So many times, a copy of the last tree comes first below its top.
+    Nest(u128, u32),
     Set(u128, &'a str),
+    /// A text of so many bytes is set.
+    Fill(u128, usize),
     /// A text that is set, and undone at once.
     SetAndBack(u128, &'a str),
     Drop,
@@ -40,23 +44,38 @@ pub enum Step<'a> {
     Next,
 }
 
+/// What a step answers: a word, a number, or two of them with a point between.
+#[derive(Clone, Copy)]
+enum Answer {
+    Word(&'static str),
+    Number(u128),
+    Pair(u128, u128),
+}
+
 /// A forest that is played with.
 #[derive(Drop)]
 pub struct Stage {
-    alloc: Global,
+    pub alloc: Global,
     prefixes: Prefixes,
     pub forest: Forest,
     pub words: String,
 }
 
 /// What the steps write on an empty forest, with the prefixes that a form declares.
-pub fn play(alloc: Global, form: &[Part], steps: &[Step]) -> Result<String, Fail> {
-    let mut stage = Stage::new(alloc, form)?;
-    for step in steps {
-        stage.step(*step)?;
-        stage.words.push_str(" ")?;
+pub fn play(alloc: Global, form: &[Part], steps: &[Step]) -> Result<String, AllocError> {
+    let mut stage = Stage::new(alloc, prefixes_of(alloc, form)?);
+    let words = stage.play(steps);
+    drop(stage);
+    words
+}
+
+/// The prefixes that a form declares.
+pub fn prefixes_of(alloc: Global, form: &[Part]) -> Result<Prefixes, AllocError> {
+    let form = tree(alloc, form)?;
+    match collect(alloc, &form) {
+        Ok(prefixes) => Ok(prefixes),
+        Err(_) => Err(AllocError),
     }
-    Ok(stage.words)
 }
 
 /// The node with a number, where it is not known whether and where it stands.
@@ -65,6 +84,15 @@ fn node(number: u128) -> NodeId {
         number,
         place: usize::MAX,
     }
+}
+
+/// Nodes with these numbers.
+fn listed(alloc: Global, numbers: &[u128]) -> Result<NodeList, AllocError> {
+    let mut nodes = NodeList::new(alloc);
+    for number in numbers {
+        nodes.push(node(*number))?;
+    }
+    Ok(nodes)
 }
 
 fn name_of(fault: TreeFault) -> &'static str {
@@ -79,241 +107,252 @@ fn name_of(fault: TreeFault) -> &'static str {
     }
 }
 
+/// The number of a node that is made, or the fault.
+fn number_of(made: Result<NodeId, TreeFault>) -> Answer {
+    match made {
+        Ok(node) => Answer::Number(node.number),
+        Err(fault) => Answer::Word(name_of(fault)),
+    }
+}
+
+/// Plants a bare tree in a forest of its own. It gives the number of its top, and the next one.
+fn planted_apart(alloc: Global, bare: &Bare, prefixes: &Prefixes) -> Answer {
+    let mut other = Forest::new(alloc);
+    let answer = match other.plant_bare(bare, prefixes) {
+        Ok(top) => Answer::Pair(top.number, other.next_number()),
+        Err(fault) => Answer::Word(name_of(fault)),
+    };
+    drop(other);
+    answer
+}
+
 impl Stage {
     /// An empty forest.
-    pub fn new(alloc: Global, form: &[Part]) -> Result<Stage, Fail> {
-        let prefixes = collect(alloc, &tree(alloc, form)?)?;
-        Ok(Stage {
+    pub fn new(alloc: Global, prefixes: Prefixes) -> Stage {
+        Stage {
             alloc,
             prefixes,
             forest: Forest::new(alloc),
             words: String::new(alloc),
-        })
+        }
     }
 
-    pub fn step(&mut self, step: Step) -> Result<(), Fail> {
-        match step {
-            Step::Plant(parts) => self.plant(parts),
+    /// Makes the steps, and gives the words.
+    fn play(&mut self, steps: &[Step]) -> Result<String, AllocError> {
+        for step in steps {
+            self.step(*step)?;
+            self.words.push_str(" ")?;
+        }
+        Ok(mem::replace(&mut self.words, String::new(self.alloc)))
+    }
+
+    pub fn step(&mut self, step: Step) -> Result<(), AllocError> {
+        let answer = match step {
+            Step::Plant(parts) => self.plant(parts)?,
             Step::Root(top) => self.root(node(top)),
             Step::Copy(number) => self.copy(node(number)),
             Step::Cut(number) => self.cut(node(number)),
-            Step::Attach(number, parent, place) => {
-                let word = self.attach(node(number), node(parent), place);
-                self.say(word)
-            }
-            Step::Double(top, count) => self.double(node(top), count),
+            Step::Attach(number, parent, place) => self.attach(node(number), node(parent), place),
+            Step::Double(top, count) => self.multiply(node(top), count, false),
+            Step::Nest(top, count) => self.multiply(node(top), count, true),
             Step::Set(number, text) => self.set(node(number), text),
-            Step::SetAndBack(number, text) => {
-                let word = self.set_and_back(node(number), text);
-                self.say(word)
-            }
-            Step::Drop => {
-                self.forest.drop_detached();
-                self.say("dropped")
-            }
+            Step::Fill(number, count) => self.fill(node(number), count)?,
+            Step::SetAndBack(number, text) => self.set_and_back(node(number), text),
+            Step::Drop => self.drop_detached(),
             Step::DropFrom(number) => self.drop_from(number),
-            _ => self.ask(step),
-        }
+            Step::Bare(number) => self.bare(node(number))?,
+            Step::PlantBare(number) => self.plant_bare(node(number))?,
+            _ => return self.ask(step),
+        };
+        self.say(answer)
     }
 
-    fn ask(&mut self, step: Step) -> Result<(), Fail> {
+    fn ask(&mut self, step: Step) -> Result<(), AllocError> {
         match step {
             Step::Print(number, kept) => self.print(node(number), kept),
-            Step::Bare(number) => self.bare(node(number)),
-            Step::PlantBare(number) => self.plant_bare(node(number)),
             Step::Value(number) => self.value(node(number)),
             Step::Path(number) => self.path(node(number)),
             Step::Walk(number, axis) => self.walk(node(number), axis),
-            Step::Order(first, second) => self.order(node(first), node(second)),
-            Step::Root0 => {
-                let root = self.forest.root(0);
-                self.say_node(root)
+            Step::Order(first, second) => {
+                let answer = self.order(node(first), node(second));
+                self.say(answer)
             }
-            _ => self.next(),
+            Step::Root0 => {
+                let answer = self.root0();
+                self.say(answer)
+            }
+            _ => {
+                let answer = self.next();
+                self.say(answer)
+            }
         }
     }
 
-    fn say(&mut self, word: &str) -> Result<(), Fail> {
-        self.words.push_str(word)?;
-        Ok(())
-    }
-
-    fn say_number(&mut self, number: u128) -> Result<(), Fail> {
-        push_number(self.alloc, &mut self.words, number)?;
-        Ok(())
-    }
-
-    fn say_node(&mut self, node: Option<NodeId>) -> Result<(), Fail> {
-        match node {
-            Some(node) => self.say_number(node.number),
-            None => self.say("none"),
+    fn say(&mut self, answer: Answer) -> Result<(), AllocError> {
+        match answer {
+            Answer::Word(word) => self.words.push_str(word),
+            Answer::Number(number) => push_number(self.alloc, &mut self.words, number),
+            Answer::Pair(first, second) => {
+                push_number(self.alloc, &mut self.words, first)?;
+                self.words.push_str(".")?;
+                push_number(self.alloc, &mut self.words, second)
+            }
         }
     }
 
-    fn say_result(&mut self, made: Result<NodeId, TreeFault>) -> Result<(), Fail> {
-        match made {
-            Ok(node) => self.say_number(node.number),
-            Err(fault) => self.say(name_of(fault)),
-        }
-    }
-
-    fn plant(&mut self, parts: &[Part]) -> Result<(), Fail> {
-        let lit = tree(self.alloc, parts)?;
+    fn plant(&mut self, parts: &[Part]) -> Result<Answer, AllocError> {
         if self.forest.next_number() >= 1 << 126 {
-            return self.say("no");
+            return Ok(Answer::Word("no"));
         }
-        let planted = self.forest.plant(&lit, &self.prefixes, 0);
-        self.say_result(planted)
+        let lit = tree(self.alloc, parts)?;
+        Ok(number_of(self.forest.plant(&lit, &self.prefixes, 0)))
     }
 
-    fn root(&mut self, top: NodeId) -> Result<(), Fail> {
+    fn root(&mut self, top: NodeId) -> Answer {
         if self.forest.next_number() >= 1 << 126 || !self.forest.may_root(top) {
-            return self.say("no");
+            return Answer::Word("no");
         }
         match self.forest.add_root(top) {
-            Ok(root) => self.say_number(root.number),
-            Err(_) => self.say("Memory"),
+            Ok(root) => Answer::Number(root.number),
+            Err(_) => Answer::Word("Memory"),
         }
     }
 
-    fn copy(&mut self, node: NodeId) -> Result<(), Fail> {
+    fn copy(&mut self, node: NodeId) -> Answer {
         if self.forest.next_number() >= 1 << 126 || !self.forest.may_copy(node) {
-            return self.say("no");
+            return Answer::Word("no");
         }
-        let copied = self.forest.copy(node);
-        self.say_result(copied)
+        number_of(self.forest.copy(node))
     }
 
-    fn cut(&mut self, node: NodeId) -> Result<(), Fail> {
+    fn cut(&mut self, node: NodeId) -> Answer {
         if !self.forest.may_detach(node) {
-            return self.say("no");
+            return Answer::Word("no");
         }
         let (parent, place) = self.forest.detach(node);
-        self.say_number(parent.number)?;
-        self.say(".")?;
-        self.say_number(u128::from(place))
+        Answer::Pair(parent.number, u128::from(place))
     }
 
-    fn attach(&mut self, node: NodeId, parent: NodeId, place: u32) -> &'static str {
+    fn attach(&mut self, node: NodeId, parent: NodeId, place: u32) -> Answer {
         if !self.forest.may_attach(node, parent, place) {
-            return "no";
+            return Answer::Word("no");
         }
         match self.forest.attach(node, parent, place) {
-            Ok(()) => "attached",
-            Err(fault) => name_of(fault),
+            Ok(()) => Answer::Word("attached"),
+            Err(fault) => Answer::Word(name_of(fault)),
         }
     }
 
-    fn double(&mut self, top: NodeId, count: u32) -> Result<(), Fail> {
+    fn multiply(&mut self, top: NodeId, count: u32, nests: bool) -> Answer {
+        let mut top = top;
         for _ in 0..count {
             if self.forest.next_number() >= 1 << 126 || !self.forest.may_copy(top) {
-                return self.say("no");
+                return Answer::Word("no");
             }
-            let copied = self.forest.copy(top)?;
+            let copied = match self.forest.copy(top) {
+                Ok(copied) => copied,
+                Err(fault) => return Answer::Word(name_of(fault)),
+            };
             self.attach(copied, top, 0);
+            if nests {
+                top = copied;
+            }
         }
         self.next()
     }
 
-    fn next(&mut self) -> Result<(), Fail> {
-        let number = self.forest.next_number();
-        self.say_number(number)
+    fn next(&self) -> Answer {
+        Answer::Number(self.forest.next_number())
     }
 
-    fn set(&mut self, node: NodeId, text: &str) -> Result<(), Fail> {
+    fn set(&mut self, node: NodeId, text: &str) -> Answer {
         if self.forest.next_number() >= 1 << 126 || !self.forest.may_set_text(node) {
-            return self.say("no");
+            return Answer::Word("no");
         }
         match self.forest.set_text(node, text) {
-            Ok(_) => self.say("set"),
-            Err(fault) => self.say(name_of(fault)),
+            Ok(_) => Answer::Word("set"),
+            Err(fault) => Answer::Word(name_of(fault)),
         }
     }
 
-    fn set_and_back(&mut self, node: NodeId, text: &str) -> &'static str {
+    fn fill(&mut self, node: NodeId, count: usize) -> Result<Answer, AllocError> {
+        let text = "x".repeat(self.alloc, count)?;
+        Ok(self.set(node, text.as_str()))
+    }
+
+    fn set_and_back(&mut self, node: NodeId, text: &str) -> Answer {
         if self.forest.next_number() >= 1 << 126 || !self.forest.may_set_text(node) {
-            return "no";
+            return Answer::Word("no");
         }
         self.forest.are_trees();
         match self.forest.set_text(node, text) {
             Ok(before) => {
                 self.forest.put_back(node, before);
-                "back"
+                Answer::Word("back")
             }
-            Err(fault) => name_of(fault),
+            Err(fault) => Answer::Word(name_of(fault)),
         }
     }
 
-    fn drop_from(&mut self, number: u128) -> Result<(), Fail> {
+    fn drop_detached(&mut self) -> Answer {
+        self.forest.drop_detached();
+        Answer::Word("dropped")
+    }
+
+    fn drop_from(&mut self, number: u128) -> Answer {
         if !self.forest.may_drop_from(number) {
-            return self.say("no");
+            return Answer::Word("no");
         }
         self.forest.drop_from(number);
-        self.say("dropped")
+        Answer::Word("dropped")
     }
 
-    fn print(&mut self, node: NodeId, numbers: &[u128]) -> Result<(), Fail> {
-        let mut kept = NodeList::new(self.alloc);
-        for number in numbers {
-            kept.push(NodeId {
-                number: *number,
-                place: 0,
-            })?;
-        }
+    fn print(&mut self, node: NodeId, kept: &[u128]) -> Result<(), AllocError> {
         if !can_print(&self.forest, node) {
-            return self.say("no");
+            return self.words.push_str("no");
         }
+        let kept = listed(self.alloc, kept)?;
         let lit = self.forest.to_lit(node, &self.prefixes, &kept)?;
-        push_tree(&mut self.words, &lit)?;
-        Ok(())
+        push_tree(&mut self.words, &lit)
     }
 
-    fn bare(&mut self, node: NodeId) -> Result<(), Fail> {
+    fn bare(&mut self, node: NodeId) -> Result<Answer, AllocError> {
         if !can_print(&self.forest, node) {
-            return self.say("no");
+            return Ok(Answer::Word("no"));
         }
         let bare = self.forest.to_bare(node)?;
-        let mut other = Forest::new(self.alloc);
-        let planted = other.plant_bare(&bare, &self.prefixes);
-        self.say_result(planted)?;
-        self.say(".")?;
-        self.say_number(other.next_number())
+        Ok(planted_apart(self.alloc, &bare, &self.prefixes))
     }
 
-    fn plant_bare(&mut self, node: NodeId) -> Result<(), Fail> {
+    fn plant_bare(&mut self, node: NodeId) -> Result<Answer, AllocError> {
         if self.forest.next_number() >= 1 << 126 || !can_print(&self.forest, node) {
-            return self.say("no");
+            return Ok(Answer::Word("no"));
         }
         let bare = self.forest.to_bare(node)?;
-        let planted = self.forest.plant_bare(&bare, &self.prefixes);
-        self.say_result(planted)
+        Ok(number_of(self.forest.plant_bare(&bare, &self.prefixes)))
     }
 
-    fn value(&mut self, node: NodeId) -> Result<(), Fail> {
+    fn value(&mut self, node: NodeId) -> Result<(), AllocError> {
         if !self.forest.is_live(node) {
-            return self.say("none");
+            return self.words.push_str("none");
         }
         match self.forest.string_value(node, 9)? {
-            Some(text) => {
-                self.say("'")?;
-                self.say(text.as_str())?;
-                self.say("'")
-            }
-            None => self.say("long"),
+            Some(text) => push_all(&mut self.words, &["'", text.as_str(), "'"]),
+            None => self.words.push_str("long"),
         }
     }
 
-    fn path(&mut self, node: NodeId) -> Result<(), Fail> {
+    fn path(&mut self, node: NodeId) -> Result<(), AllocError> {
         if !self.forest.is_live(node) {
-            return self.say("none");
+            return self.words.push_str("none");
         }
         let path = self.forest.path(node)?;
-        self.say(path.as_str())
+        self.words.push_str(path.as_str())
     }
 
-    fn walk(&mut self, node: NodeId, axis: Axis) -> Result<(), Fail> {
+    fn walk(&mut self, node: NodeId, axis: Axis) -> Result<(), AllocError> {
         if !self.forest.is_live(node) {
-            return self.say("none");
+            return self.words.push_str("none");
         }
         for found in self.forest.axis(node, axis) {
             push_number(self.alloc, &mut self.words, found.number)?;
@@ -322,14 +361,21 @@ impl Stage {
         Ok(())
     }
 
-    fn order(&mut self, first: NodeId, second: NodeId) -> Result<(), Fail> {
+    fn order(&self, first: NodeId, second: NodeId) -> Answer {
         if !self.forest.is_live(first) || !self.forest.is_live(second) {
-            return self.say("none");
+            return Answer::Word("none");
         }
-        if self.forest.before(first, second) {
-            self.say("before")
+        Answer::Word(if self.forest.before(first, second) {
+            "before"
         } else {
-            self.say("behind")
+            "behind"
+        })
+    }
+
+    fn root0(&self) -> Answer {
+        match self.forest.root(0) {
+            Some(root) => Answer::Number(root.number),
+            None => Answer::Word("none"),
         }
     }
 }

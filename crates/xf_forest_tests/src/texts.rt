@@ -1,13 +1,11 @@
 //! Worked texts, limits and printed trees.
-use crate::played::{Step, play};
+use crate::played::Step;
 use crate::trees::{FORM, ONE, PLAIN, ROWS, assert_play};
 use crate::written::Part;
-use std::process::Abort;
-use std::test::Fail;
 use xf_name::Axis;
 
 #[test]
-fn a_text_is_set_where_no_element_is(rt: HostRuntime) -> Result<(), Fail> {
+fn a_text_is_set_where_no_element_is(rt: HostRuntime) {
     const STEPS: [Step<'static>; 13] = [
         Step::Plant(&ROWS),
         Step::Set(0, "a"),
@@ -24,11 +22,11 @@ fn a_text_is_set_where_no_element_is(rt: HostRuntime) -> Result<(), Fail> {
         Step::Order(3, 6),
     ];
     let want = "0 no no no set 7, 'newt' set  set '' 8 before ";
-    assert_play(&rt, &PLAIN, &STEPS, want)
+    assert_play(&rt, &PLAIN, &STEPS, want);
 }
 
 #[test]
-fn a_text_is_put_back(rt: HostRuntime) -> Result<(), Fail> {
+fn a_text_is_put_back(rt: HostRuntime) {
     const STEPS: [Step<'static>; 9] = [
         Step::Plant(&ROWS),
         Step::SetAndBack(1, "new"),
@@ -41,11 +39,11 @@ fn a_text_is_put_back(rt: HostRuntime) -> Result<(), Fail> {
         Step::Next,
     ];
     let want = "0 back 4,5, '12t' back 'x' back 1,4,5,6, 8 ";
-    assert_play(&rt, &PLAIN, &STEPS, want)
+    assert_play(&rt, &PLAIN, &STEPS, want);
 }
 
 #[test]
-fn numbers_begin_again(rt: HostRuntime) -> Result<(), Fail> {
+fn numbers_begin_again(rt: HostRuntime) {
     const STEPS: [Step<'static>; 13] = [
         Step::Plant(&ROWS),
         Step::Plant(&ONE),
@@ -62,11 +60,11 @@ fn numbers_begin_again(rt: HostRuntime) -> Result<(), Fail> {
         Step::DropFrom(0),
     ];
     let want = "0 7 no no no dropped dropped 7 7 9 no 'y' no ";
-    assert_play(&rt, &PLAIN, &STEPS, want)
+    assert_play(&rt, &PLAIN, &STEPS, want);
 }
 
 #[test]
-fn nodes_double_to_their_limit(rt: HostRuntime) -> Result<(), Fail> {
+fn nodes_double_to_their_limit(rt: HostRuntime) {
     const LEAF: [Part<'static>; 2] = [Part::Open("e"), Part::Close];
     const STEPS: [Step<'static>; 10] = [
         Step::Plant(&LEAF),
@@ -81,53 +79,43 @@ fn nodes_double_to_their_limit(rt: HostRuntime) -> Result<(), Fail> {
         Step::Next,
     ];
     let want = "0 65536 Nodes Nodes Nodes 65536 32768.14 dropped 65536 65537 ";
-    assert_play(&rt, &PLAIN, &STEPS, want)
+    assert_play(&rt, &PLAIN, &STEPS, want);
 }
 
 #[test]
-fn an_element_may_be_the_hundredth(rt: HostRuntime) -> Result<(), Fail> {
+fn an_element_may_be_the_hundredth(rt: HostRuntime) {
     const LEAF: [Part<'static>; 2] = [Part::Open("e"), Part::Close];
-    // Each copy is attached below the one before.
-    let mut steps = Vec::new(rt.alloc());
-    steps.push(Step::Plant(&LEAF))?;
-    for number in 1..100u32 {
-        steps.push(Step::Copy(u128::from(number) - 1))?;
-        steps.push(Step::Attach(u128::from(number), u128::from(number) - 1, 0))?;
-    }
-    steps.push(Step::Copy(99))?;
-    steps.push(Step::Attach(100, 99, 0))?;
-    steps.push(Step::Attach(100, 98, 0))?;
-    let words = play(rt.alloc(), &PLAIN, steps.as_slice())?;
-    assert!(rt; words.as_str().ends_with(" 99 attached 100 Depth attached "));
-    Ok(())
+    const STEPS: [Step<'static>; 5] = [
+        Step::Plant(&LEAF),
+        Step::Nest(0, 99),
+        Step::Copy(99),
+        Step::Attach(100, 99, 0),
+        Step::Attach(100, 98, 0),
+    ];
+    assert_play(&rt, &PLAIN, &STEPS, "0 100 100 Depth attached ");
 }
 
 #[test]
-fn a_text_has_65536_bytes_at_most(rt: HostRuntime) -> Result<(), Fail> {
-    let mut text = String::new(rt.alloc());
-    for _ in 0..4096 {
-        text.push_str("0123456789abcdef")?;
-    }
-    let steps = [
+fn a_text_has_65536_bytes_at_most(rt: HostRuntime) {
+    const MOST: [Step<'static>; 4] = [
         Step::Plant(&ONE),
-        Step::Set(0, text.as_str()),
-        Step::Set(1, text.as_str()),
+        Step::Fill(0, 65_536),
+        Step::Fill(1, 65_536),
         Step::Value(1),
     ];
-    assert_play(&rt, &PLAIN, &steps, "0 set set long ")?;
-    text.push_str("x")?;
-    let steps = [
+    const MORE: [Step<'static>; 5] = [
         Step::Plant(&ONE),
-        Step::Set(0, text.as_str()),
-        Step::Set(1, text.as_str()),
+        Step::Fill(0, 65_537),
+        Step::Fill(1, 65_537),
         Step::Value(1),
         Step::Next,
     ];
-    assert_play(&rt, &PLAIN, &steps, "0 NodeText NodeText 'y' 2 ")
+    assert_play(&rt, &PLAIN, &MOST, "0 set set long ");
+    assert_play(&rt, &PLAIN, &MORE, "0 NodeText NodeText 'y' 2 ");
 }
 
 #[test]
-fn what_is_not_kept_is_left_out(rt: HostRuntime) -> Result<(), Fail> {
+fn what_is_not_kept_is_left_out(rt: HostRuntime) {
     const STEPS: [Step<'static>; 6] = [
         Step::Plant(&ROWS),
         Step::Print(0, &[0, 1, 2, 3]),
@@ -138,11 +126,11 @@ fn what_is_not_kept_is_left_out(rt: HostRuntime) -> Result<(), Fail> {
     ];
     let want =
         r#"0 <d><row k="x" no="7">"1""2"</>"t"</> <d><row no="7">"1""2"</>"t"</> <d>"t"</> "1" no "#;
-    assert_play(&rt, &PLAIN, &STEPS, want)
+    assert_play(&rt, &PLAIN, &STEPS, want);
 }
 
 #[test]
-fn the_top_declares_each_prefix_once(rt: HostRuntime) -> Result<(), Fail> {
+fn the_top_declares_each_prefix_once(rt: HostRuntime) {
     const TREE: [Part<'static>; 8] = [
         Part::Open("d"),
         Part::With("z", "2"),
@@ -162,11 +150,11 @@ fn the_top_declares_each_prefix_once(rt: HostRuntime) -> Result<(), Fail> {
     ];
     let want =
         r#"0 <d xmlns:p="urn:p" z="2"><p:e a="1" p:k="x" xml:lang="en"></></> <p:e xml:lang="en" xmlns:p="urn:p"></> <d z="2"></> 0.6 "#;
-    assert_play(&rt, &FORM, &STEPS, want)
+    assert_play(&rt, &FORM, &STEPS, want);
 }
 
 #[test]
-fn a_default_namespace_is_declared_where_it_changes(rt: HostRuntime) -> Result<(), Fail> {
+fn a_default_namespace_is_declared_where_it_changes(rt: HostRuntime) {
     const TREE: [Part<'static>; 10] = [
         Part::Open("d"),
         Part::With("xmlns", "urn:d"),
@@ -188,5 +176,5 @@ fn a_default_namespace_is_declared_where_it_changes(rt: HostRuntime) -> Result<(
     ];
     let want =
         r#"0 <d xmlns="urn:d" xmlns:p="urn:p"><p:q><e></></><n xmlns=""></></> <p:q xmlns:p="urn:p"><e xmlns="urn:d"></></> <n></> 0.4 "#;
-    assert_play(&rt, &FORM, &STEPS, want)
+    assert_play(&rt, &FORM, &STEPS, want);
 }

@@ -3,7 +3,6 @@ use crate::played::{Step, play};
 use crate::written::Part;
 use std::alloc::AllocGlobal;
 use std::process::Abort;
-use std::test::Fail;
 use xf_name::Axis;
 
 // A form without prefixes, and one that declares `p` for `urn:p`, and `urn:d` as a default namespace.
@@ -61,14 +60,13 @@ pub fn assert_play(
     form: &[Part],
     steps: &[Step],
     want: &str,
-) -> Result<(), Fail> {
-    let words = play(rt.alloc(), form, steps)?;
+) {
+    let words = play(rt.alloc(), form, steps).expect(rt, "room");
     assert_eq!(rt; words.as_str(), want);
-    Ok(())
 }
 
 #[test]
-fn an_empty_forest_has_no_root(rt: HostRuntime) -> Result<(), Fail> {
+fn an_empty_forest_has_no_root(rt: HostRuntime) {
     const STEPS: [Step<'static>; 5] = [
         Step::Root0,
         Step::Next,
@@ -76,11 +74,11 @@ fn an_empty_forest_has_no_root(rt: HostRuntime) -> Result<(), Fail> {
         Step::Root0,
         Step::Value(0),
     ];
-    assert_play(&rt, &PLAIN, &STEPS, "none 0 dropped none none ")
+    assert_play(&rt, &PLAIN, &STEPS, "none 0 dropped none none ");
 }
 
 #[test]
-fn a_tree_is_planted_in_document_order(rt: HostRuntime) -> Result<(), Fail> {
+fn a_tree_is_planted_in_document_order(rt: HostRuntime) {
     const STEPS: [Step<'static>; 15] = [
         Step::Plant(&ROWS),
         Step::Next,
@@ -99,11 +97,11 @@ fn a_tree_is_planted_in_document_order(rt: HostRuntime) -> Result<(), Fail> {
         Step::Next,
     ];
     let want = "0 7 0,1,4,5,6, 2,3, '12t' '12' 'x' '7' 't' before behind behind dropped none 7 ";
-    assert_play(&rt, &PLAIN, &STEPS, want)
+    assert_play(&rt, &PLAIN, &STEPS, want);
 }
 
 #[test]
-fn a_bad_name_is_told_before_a_prefix(rt: HostRuntime) -> Result<(), Fail> {
+fn a_bad_name_is_told_before_a_prefix(rt: HostRuntime) {
     const STEPS: [Step<'static>; 7] = [
         Step::Plant(&BAD),
         Step::Plant(&UNKNOWN),
@@ -114,11 +112,11 @@ fn a_bad_name_is_told_before_a_prefix(rt: HostRuntime) -> Result<(), Fail> {
         Step::Plant(&ONE),
     ];
     let want = "BadName Prefix BadName BadName Prefix 0 0 ";
-    assert_play(&rt, &FORM, &STEPS, want)
+    assert_play(&rt, &FORM, &STEPS, want);
 }
 
 #[test]
-fn a_root_comes_over_a_detached_element(rt: HostRuntime) -> Result<(), Fail> {
+fn a_root_comes_over_a_detached_element(rt: HostRuntime) {
     const STEPS: [Step<'static>; 17] = [
         Step::Plant(&ROWS),
         Step::Plant(&ONE),
@@ -139,11 +137,11 @@ fn a_root_comes_over_a_detached_element(rt: HostRuntime) -> Result<(), Fail> {
         Step::Next,
     ];
     let want = "0 7 no no 9 9 no no before no 9.0 no attached '12t' dropped none 10 ";
-    assert_play(&rt, &PLAIN, &STEPS, want)
+    assert_play(&rt, &PLAIN, &STEPS, want);
 }
 
 #[test]
-fn what_has_a_parent_is_cut_off(rt: HostRuntime) -> Result<(), Fail> {
+fn what_has_a_parent_is_cut_off(rt: HostRuntime) {
     const STEPS: [Step<'static>; 13] = [
         Step::Plant(&ROWS),
         Step::Cut(0),
@@ -160,11 +158,11 @@ fn what_has_a_parent_is_cut_off(rt: HostRuntime) -> Result<(), Fail> {
         Step::Order(3, 1),
     ];
     let want = "0 no no no 1.1 0.0 no 't' '12' 1,4,5,  before before ";
-    assert_play(&rt, &PLAIN, &STEPS, want)
+    assert_play(&rt, &PLAIN, &STEPS, want);
 }
 
 #[test]
-fn two_texts_meet_where_an_element_is_cut_off(rt: HostRuntime) -> Result<(), Fail> {
+fn two_texts_meet_where_an_element_is_cut_off(rt: HostRuntime) {
     const TREE: [Part<'static>; 6] = [
         Part::Open("d"),
         Part::Text("x"),
@@ -183,11 +181,11 @@ fn two_texts_meet_where_an_element_is_cut_off(rt: HostRuntime) -> Result<(), Fai
         Step::Print(0, &[]),
     ];
     let want = r#"0 0.1 1,3, 'xy' /d/text()[1] /d/text()[2] <d>"x""y"</> "#;
-    assert_play(&rt, &PLAIN, &STEPS, want)
+    assert_play(&rt, &PLAIN, &STEPS, want);
 }
 
 #[test]
-fn a_tree_comes_to_its_place(rt: HostRuntime) -> Result<(), Fail> {
+fn a_tree_comes_to_its_place(rt: HostRuntime) {
     const STEPS: [Step<'static>; 13] = [
         Step::Plant(&ROWS),
         Step::Plant(&ONE),
@@ -204,11 +202,11 @@ fn a_tree_comes_to_its_place(rt: HostRuntime) -> Result<(), Fail> {
         Step::Attach(7, 0, 0),
     ];
     let want = "0 7 no no attached 4,7,5, 1.1 attached 7,1,6, 0.0 attached 1,4,5,6,7, no ";
-    assert_play(&rt, &PLAIN, &STEPS, want)
+    assert_play(&rt, &PLAIN, &STEPS, want);
 }
 
 #[test]
-fn a_tree_comes_to_a_parent_outside_it(rt: HostRuntime) -> Result<(), Fail> {
+fn a_tree_comes_to_a_parent_outside_it(rt: HostRuntime) {
     const STEPS: [Step<'static>; 13] = [
         Step::Plant(&ROWS),
         Step::Plant(&ONE),
@@ -225,11 +223,11 @@ fn a_tree_comes_to_a_parent_outside_it(rt: HostRuntime) -> Result<(), Fail> {
         Step::Order(8, 0),
     ];
     let want = "0 7 no no no no no no no attached 7,0,1,4,5,6, 0,7, before ";
-    assert_play(&rt, &PLAIN, &STEPS, want)
+    assert_play(&rt, &PLAIN, &STEPS, want);
 }
 
 #[test]
-fn an_attribute_comes_by_its_name(rt: HostRuntime) -> Result<(), Fail> {
+fn an_attribute_comes_by_its_name(rt: HostRuntime) {
     const STEPS: [Step<'static>; 15] = [
         Step::Plant(&ROWS),
         Step::Plant(&ONE),
@@ -248,11 +246,11 @@ fn an_attribute_comes_by_its_name(rt: HostRuntime) -> Result<(), Fail> {
         Step::Walk(1, Axis::DescendantOrSelf),
     ];
     let want = "0 7 1.0 no no 1.0 attached attached 2,3, 1.0 1.0 attached 8,3, '7' 1,4,5, ";
-    assert_play(&rt, &PLAIN, &STEPS, want)
+    assert_play(&rt, &PLAIN, &STEPS, want);
 }
 
 #[test]
-fn axes_go_in_proximity_order(rt: HostRuntime) -> Result<(), Fail> {
+fn axes_go_in_proximity_order(rt: HostRuntime) {
     const STEPS: [Step<'static>; 17] = [
         Step::Plant(&ROWS),
         Step::Plant(&ONE),
@@ -273,11 +271,11 @@ fn axes_go_in_proximity_order(rt: HostRuntime) -> Result<(), Fail> {
         Step::Walk(4, Axis::Child),
     ];
     let want = "0 7 attached 7, 1,  1,0, 8,7,1,0,  6, 1, 7,4, 7,5,   8,  ";
-    assert_play(&rt, &PLAIN, &STEPS, want)
+    assert_play(&rt, &PLAIN, &STEPS, want);
 }
 
 #[test]
-fn paths_count_siblings_of_one_written_name(rt: HostRuntime) -> Result<(), Fail> {
+fn paths_count_siblings_of_one_written_name(rt: HostRuntime) {
     const TREE: [Part<'static>; 14] = [
         Part::Open("d"),
         Part::Open("a"),
@@ -306,5 +304,5 @@ fn paths_count_siblings_of_one_written_name(rt: HostRuntime) -> Result<(), Fail>
         Step::Path(7),
     ];
     let want = "0 /d /d/a[1] /d/a[1]/@k /d/a[1]/text()[1] /d/a[1]/p:b /d/text()[1] /d/a[2] /d/c ";
-    assert_play(&rt, &FORM, &STEPS, want)
+    assert_play(&rt, &FORM, &STEPS, want);
 }

@@ -2,75 +2,66 @@
 use crate::undone::{Step, play};
 use std::alloc::AllocGlobal;
 use std::process::Abort;
-use std::test::Fail;
 
-// The forest that is played on.
-const SMALL: &str = "6=1,0=1,1=1,2=1,3=,@4=y,@5=x,7";
-
-/// Asserts that after some steps and a rolling back the forest is again as it was.
-fn assert_back(rt: &(impl Abort + AllocGlobal), steps: &[Step], want: &str) -> Result<(), Fail> {
-    let mut all = Vec::new(rt.alloc());
-    for step in steps {
-        all.push(*step)?;
-    }
-    all.push(Step::Back)?;
-    all.push(Step::Show(6))?;
-    let words = play(rt.alloc(), all.as_slice())?;
-    let mut wanted = String::new(rt.alloc());
-    wanted.push_str(want)?;
-    wanted.push_str("back ")?;
-    wanted.push_str(SMALL)?;
-    wanted.push_str(" ")?;
-    assert_eq!(rt; words.as_str(), wanted.as_str());
-    Ok(())
+/// Asserts what steps write on the small forest. Behind a rolling back it is to be again as it was.
+fn assert_play(rt: &(impl Abort + AllocGlobal), steps: &[Step], want: &str) {
+    let words = play(rt.alloc(), steps).expect(rt, "room");
+    assert_eq!(rt; words.as_str(), want);
 }
 
 #[test]
-fn nothing_is_undone(rt: HostRuntime) -> Result<(), Fail> {
-    assert_back(&rt, &[Step::Show(6)], "6=1,0=1,1=1,2=1,3=,@4=y,@5=x,7 ")
+fn nothing_is_undone(rt: HostRuntime) {
+    const STEPS: [Step<'static>; 3] = [Step::Show(6), Step::Back, Step::Show(6)];
+    let want = "6=1,0=1,1=1,2=1,3=,@4=y,@5=x,7 back 6=1,0=1,1=1,2=1,3=,@4=y,@5=x,7 ";
+    assert_play(&rt, &STEPS, want);
 }
 
 #[test]
-fn a_text_is_set_twice(rt: HostRuntime) -> Result<(), Fail> {
-    let steps = [
+fn a_text_is_set_twice(rt: HostRuntime) {
+    const STEPS: [Step<'static>; 6] = [
         Step::Set(1, "22"),
         Step::Set(1, ""),
         Step::Set(1, "333"),
         Step::Show(1),
+        Step::Back,
+        Step::Show(6),
     ];
-    assert_back(&rt, &steps, "made made made 1=333,8=333,9 ")
+    let want = "made made made 1=333,8=333,9 back 6=1,0=1,1=1,2=1,3=,@4=y,@5=x,7 ";
+    assert_play(&rt, &STEPS, want);
 }
 
 #[test]
-fn a_tree_is_attached(rt: HostRuntime) -> Result<(), Fail> {
-    let steps = [
+fn a_tree_is_attached(rt: HostRuntime) {
+    const STEPS: [Step<'static>; 6] = [
         Step::Copy(1),
         Step::Attach(7, 0, 1),
         Step::Set(7, "7"),
         Step::Show(0),
+        Step::Back,
+        Step::Show(6),
     ];
-    assert_back(
-        &rt,
-        &steps,
-        "7 made made 0=17,1=1,2=1,7=7,9=7,3=,@4=y,@5=x,10 ",
-    )
+    let want = "7 made made 0=17,1=1,2=1,7=7,9=7,3=,@4=y,@5=x,10 back 6=1,0=1,1=1,2=1,3=,@4=y,@5=x,7 ";
+    assert_play(&rt, &STEPS, want);
 }
 
 #[test]
-fn a_tree_is_cut_off(rt: HostRuntime) -> Result<(), Fail> {
-    let steps = [
+fn a_tree_is_cut_off(rt: HostRuntime) {
+    const STEPS: [Step<'static>; 7] = [
         Step::Cut(1),
         Step::Set(1, "9"),
         Step::Cut(0),
         Step::Attach(0, 6, 0),
         Step::Show(6),
+        Step::Back,
+        Step::Show(6),
     ];
-    assert_back(&rt, &steps, "made made made made 6=,0=,3=,@4=y,@5=x,8 ")
+    let want = "made made made made 6=,0=,3=,@4=y,@5=x,8 back 6=1,0=1,1=1,2=1,3=,@4=y,@5=x,7 ";
+    assert_play(&rt, &STEPS, want);
 }
 
 #[test]
-fn attributes_are_cut_off_and_set(rt: HostRuntime) -> Result<(), Fail> {
-    let steps = [
+fn attributes_are_cut_off_and_set(rt: HostRuntime) {
+    const STEPS: [Step<'static>; 10] = [
         Step::Set(3, "z"),
         Step::Cut(5),
         Step::Set(5, "w"),
@@ -79,17 +70,16 @@ fn attributes_are_cut_off_and_set(rt: HostRuntime) -> Result<(), Fail> {
         Step::Set(3, "zz"),
         Step::Attach(4, 3, 0),
         Step::Show(6),
+        Step::Back,
+        Step::Show(6),
     ];
-    assert_back(
-        &rt,
-        &steps,
-        "made made made made made made made 6=1zz,0=1zz,1=1,@5=w,2=1,3=zz,@4=y,8=zz,9 ",
-    )
+    let want = "made made made made made made made 6=1zz,0=1zz,1=1,@5=w,2=1,3=zz,@4=y,8=zz,9 back 6=1,0=1,1=1,2=1,3=,@4=y,@5=x,7 ";
+    assert_play(&rt, &STEPS, want);
 }
 
 #[test]
-fn a_child_comes_between_two_texts(rt: HostRuntime) -> Result<(), Fail> {
-    let steps = [
+fn a_child_comes_between_two_texts(rt: HostRuntime) {
+    const STEPS: [Step<'static>; 9] = [
         Step::Set(3, "a"),
         Step::Copy(1),
         Step::Attach(8, 3, 0),
@@ -97,17 +87,16 @@ fn a_child_comes_between_two_texts(rt: HostRuntime) -> Result<(), Fail> {
         Step::Cut(8),
         Step::Set(3, "b"),
         Step::Show(3),
+        Step::Back,
+        Step::Show(6),
     ];
-    assert_back(
-        &rt,
-        &steps,
-        "made 8 made no made made 3=b,@4=y,@5=x,10=b,11 ",
-    )
+    let want = "made 8 made no made made 3=b,@4=y,@5=x,10=b,11 back 6=1,0=1,1=1,2=1,3=,@4=y,@5=x,7 ";
+    assert_play(&rt, &STEPS, want);
 }
 
 #[test]
-fn what_is_committed_stays(rt: HostRuntime) -> Result<(), Fail> {
-    let steps = [
+fn what_is_committed_stays(rt: HostRuntime) {
+    const STEPS: [Step<'static>; 9] = [
         Step::Set(1, "22"),
         Step::Cut(3),
         Step::Commit,
@@ -118,9 +107,7 @@ fn what_is_committed_stays(rt: HostRuntime) -> Result<(), Fail> {
         Step::Show(6),
         Step::Show(3),
     ];
-    let words = play(rt.alloc(), &steps)?;
     let want =
         "made made committed 6=22,0=22,1=22,7=22,8 made made back 6=22,0=22,1=22,7=22,8 none ";
-    assert_eq!(rt; words.as_str(), want);
-    Ok(())
+    assert_play(&rt, &STEPS, want);
 }

@@ -1,10 +1,10 @@
 //! Steps played on a draft, and what they write: a test is a list of steps and the text that it expects.
+use crate::played::prefixes_of;
+use crate::written::{Part, push_number, push_value, tree};
 use std::alloc::{AllocError, Global};
-use std::string::ToString;
-use std::test::Fail;
-use xf_base::Items;
+use std::mem;
 use xf_doc::{NodeId, TreeFault};
-use xf_name::{Axis, Lit, LitElement, Pair, Word, collect};
+use xf_name::{Axis, Lit, Prefixes};
 use xf_tree::Forest;
 use xf_undo::Draft;
 
@@ -24,63 +24,53 @@ pub enum Step<'a> {
 
 /// A draft that is played with.
 #[derive(Drop)]
-pub struct Stage {
+struct Stage {
     alloc: Global,
     draft: Draft,
     words: String,
 }
 
+const SMALL: [Part<'static>; 9] = [
+    Part::Open("d"),
+    Part::Open("e"),
+    Part::Text("1"),
+    Part::Close,
+    Part::Open("f"),
+    Part::With("a", "y"),
+    Part::With("k", "x"),
+    Part::Close,
+    Part::Close,
+];
+
 /// What the steps write on ["d",["e","1"],["f",{"a":"y","k":"x"}]] under a root: 0 is d, 1 e, 2 its text, 3 f, 4 @a, 5 @k, and 6
 /// the root.
-pub fn play(alloc: Global, steps: &[Step]) -> Result<String, Fail> {
+pub fn play(alloc: Global, steps: &[Step]) -> Result<String, AllocError> {
+    let forest = small(alloc)?;
     let mut stage = Stage {
         alloc,
-        draft: Draft::new(alloc, small(alloc)?),
+        draft: Draft::new(alloc, forest),
         words: String::new(alloc),
     };
-    for step in steps {
-        stage.step(*step)?;
-        stage.words.push_str(" ")?;
-    }
-    Ok(stage.words)
+    let words = stage.play(steps);
+    drop(stage);
+    words
 }
 
-fn small(alloc: Global) -> Result<Forest, Fail> {
-    let e = element(
-        alloc,
-        "e",
-        &[],
-        vec![in alloc; Lit::Text(Word::from_str(alloc, "1")?)]?,
-    )?;
-    let f = element(alloc, "f", &[("a", "y"), ("k", "x")], Vec::new(alloc))?;
-    let lit = element(alloc, "d", &[], vec![in alloc; e, f]?)?;
-    let prefixes = collect(alloc, &lit)?;
+fn small(alloc: Global) -> Result<Forest, AllocError> {
+    let lit = tree(alloc, &SMALL)?;
+    let prefixes = prefixes_of(alloc, &SMALL)?;
+    Ok(planted(alloc, &lit, &prefixes))
+}
+
+/// A tree under a root. Where memory is wanting there is none, and no step finds its node.
+fn planted(alloc: Global, lit: &Lit, prefixes: &Prefixes) -> Forest {
     let mut forest = Forest::new(alloc);
-    let top = forest.plant(&lit, &prefixes, 0)?;
-    if forest.next_number() < 1 << 126 && forest.may_root(top) {
-        forest.add_root(top)?;
+    if let Ok(top) = forest.plant(lit, prefixes, 0) {
+        if forest.next_number() < 1 << 126 && forest.may_root(top) {
+            let _ = forest.add_root(top);
+        }
     }
-    Ok(forest)
-}
-
-fn element(
-    alloc: Global,
-    name: &str,
-    attributes: &[(&str, &str)],
-    children: Vec<Lit>,
-) -> Result<Lit, AllocError> {
-    let mut pairs = Vec::new(alloc);
-    for (name, text) in attributes {
-        pairs.push(Pair {
-            name: Word::from_str(alloc, name)?,
-            text: Word::from_str(alloc, text)?,
-        })?;
-    }
-    Ok(Lit::Element(LitElement {
-        name: Word::from_str(alloc, name)?,
-        attributes: Items::from_vec(pairs),
-        children: Items::from_vec(children),
-    }))
+    forest
 }
 
 /// The node with a number, where it is not known whether and where it stands.
@@ -91,105 +81,106 @@ fn node(number: u128) -> NodeId {
     }
 }
 
-impl Stage {
-    fn step(&mut self, step: Step) -> Result<(), Fail> {
-        match step {
-            Step::Set(number, text) => self.set(node(number), text),
-            Step::Attach(number, parent, place) => self.attach(node(number), node(parent), place),
-            Step::Cut(number) => self.cut(node(number)),
-            Step::Copy(number) => self.copy(node(number)),
-            Step::Commit => {
-                self.draft.commit();
-                self.say("committed")
-            }
-            Step::Back => {
-                self.draft.roll_back();
-                self.say("back")
-            }
-            Step::Show(number) => self.show(node(number)),
-        }
-    }
-
-    fn say(&mut self, word: &str) -> Result<(), Fail> {
-        self.words.push_str(word)?;
-        Ok(())
-    }
-
-    fn say_number(&mut self, number: u128) -> Result<(), Fail> {
-        let digits = number.to_string(self.alloc)?;
-        self.words.push_str(digits.as_str())?;
-        Ok(())
-    }
-
-    fn say_made(&mut self, made: Result<(), TreeFault>) -> Result<(), Fail> {
-        match made {
-            Ok(()) => self.say("made"),
-            Err(_) => self.say("refused"),
-        }
-    }
-
-    fn set(&mut self, node: NodeId, text: &str) -> Result<(), Fail> {
-        let forest = self.draft.forest();
-        if forest.next_number() >= 1 << 126 || !forest.may_set_text(node) {
-            return self.say("no");
-        }
-        let made = self.draft.set_text(node, text);
-        self.say_made(made)
-    }
-
-    fn attach(&mut self, node: NodeId, parent: NodeId, place: u32) -> Result<(), Fail> {
-        if !self.draft.forest().may_attach(node, parent, place) {
-            return self.say("no");
-        }
-        let made = self.draft.attach(node, parent, place);
-        self.say_made(made)
-    }
-
-    fn cut(&mut self, node: NodeId) -> Result<(), Fail> {
-        if !self.draft.forest().may_detach(node) {
-            return self.say("no");
-        }
-        self.draft.detach(node)?;
-        self.say("made")
-    }
-
-    fn copy(&mut self, node: NodeId) -> Result<(), Fail> {
-        let forest = self.draft.forest();
-        if forest.next_number() >= 1 << 126 || !forest.may_copy(node) {
-            return self.say("no");
-        }
-        let top = self.draft.copy(node)?;
-        self.say_number(top.number)
-    }
-
-    fn show(&mut self, top: NodeId) -> Result<(), Fail> {
-        if !self.draft.forest().is_live(top) {
-            return self.say("none");
-        }
-        let words = self.tree(top)?;
-        self.say(words.as_str())?;
-        let next = self.draft.forest().next_number();
-        self.say_number(next)
-    }
-
-    fn tree(&self, top: NodeId) -> Result<String, Fail> {
-        let mut words = String::new(self.alloc);
-        push_tree(self.alloc, &mut words, self.draft.forest(), top)?;
-        Ok(words)
+fn told(made: Result<(), TreeFault>) -> &'static str {
+    match made {
+        Ok(()) => "made",
+        Err(_) => "refused",
     }
 }
 
-fn push_tree(alloc: Global, words: &mut String, forest: &Forest, top: NodeId) -> Result<(), Fail> {
-    if !forest.is_live(top) {
+impl Stage {
+    /// Makes the steps, and gives the words.
+    fn play(&mut self, steps: &[Step]) -> Result<String, AllocError> {
+        for step in steps {
+            self.step(*step)?;
+            self.words.push_str(" ")?;
+        }
+        Ok(mem::replace(&mut self.words, String::new(self.alloc)))
+    }
+
+    fn step(&mut self, step: Step) -> Result<(), AllocError> {
+        let word = match step {
+            Step::Set(number, text) => self.set(node(number), text),
+            Step::Attach(number, parent, place) => self.attach(node(number), node(parent), place),
+            Step::Cut(number) => self.cut(node(number)),
+            Step::Copy(number) => return self.copy(node(number)),
+            Step::Commit => self.commit(),
+            Step::Back => self.back(),
+            Step::Show(number) => return self.show(node(number)),
+        };
+        self.words.push_str(word)
+    }
+
+    fn set(&mut self, node: NodeId, text: &str) -> &'static str {
+        let forest = self.draft.forest();
+        if forest.next_number() >= 1 << 126 || !forest.may_set_text(node) {
+            return "no";
+        }
+        told(self.draft.set_text(node, text))
+    }
+
+    fn attach(&mut self, node: NodeId, parent: NodeId, place: u32) -> &'static str {
+        if !self.draft.forest().may_attach(node, parent, place) {
+            return "no";
+        }
+        told(self.draft.attach(node, parent, place))
+    }
+
+    fn cut(&mut self, node: NodeId) -> &'static str {
+        if !self.draft.forest().may_detach(node) {
+            return "no";
+        }
+        match self.draft.detach(node) {
+            Ok(()) => "made",
+            Err(_) => "refused",
+        }
+    }
+
+    fn copy(&mut self, node: NodeId) -> Result<(), AllocError> {
+        let forest = self.draft.forest();
+        if forest.next_number() >= 1 << 126 || !forest.may_copy(node) {
+            return self.words.push_str("no");
+        }
+        match self.draft.copy(node) {
+            Ok(top) => push_number(self.alloc, &mut self.words, top.number),
+            Err(_) => self.words.push_str("refused"),
+        }
+    }
+
+    fn commit(&mut self) -> &'static str {
+        self.draft.commit();
+        "committed"
+    }
+
+    fn back(&mut self) -> &'static str {
+        self.draft.roll_back();
+        "back"
+    }
+
+    fn show(&mut self, top: NodeId) -> Result<(), AllocError> {
+        let forest = self.draft.forest();
+        if !forest.is_live(top) {
+            return self.words.push_str("none");
+        }
+        for node in forest.axis(top, Axis::DescendantOrSelf) {
+            push_node(self.alloc, &mut self.words, forest, node, "")?;
+            push_attributes(self.alloc, &mut self.words, forest, node)?;
+        }
+        push_number(self.alloc, &mut self.words, forest.next_number())
+    }
+}
+
+fn push_attributes(
+    alloc: Global,
+    words: &mut String,
+    forest: &Forest,
+    node: NodeId,
+) -> Result<(), AllocError> {
+    if !forest.is_live(node) {
         return Ok(());
     }
-    for node in forest.axis(top, Axis::DescendantOrSelf) {
-        push_node(alloc, words, forest, node, "")?;
-        if forest.is_live(node) {
-            for attribute in forest.axis(node, Axis::Attribute) {
-                push_node(alloc, words, forest, attribute, "@")?;
-            }
-        }
+    for attribute in forest.axis(node, Axis::Attribute) {
+        push_node(alloc, words, forest, attribute, "@")?;
     }
     Ok(())
 }
@@ -200,17 +191,8 @@ fn push_node(
     forest: &Forest,
     node: NodeId,
     mark: &str,
-) -> Result<(), Fail> {
-    if !forest.is_live(node) {
-        return Ok(());
-    }
+) -> Result<(), AllocError> {
     words.push_str(mark)?;
-    let digits = node.number.to_string(alloc)?;
-    words.push_str(digits.as_str())?;
-    words.push_str("=")?;
-    if let Some(value) = forest.string_value(node, 99)? {
-        words.push_str(value.as_str())?;
-    }
-    words.push_str(",")?;
-    Ok(())
+    push_number(alloc, words, node.number)?;
+    push_value(words, forest, node, ",")
 }
