@@ -55,12 +55,7 @@ const TWICE: [Part<'static>; 4] = [
 const REBOUND: [Part<'static>; 3] = [Part::Open("d"), Part::With("xmlns:p", "urn:q"), Part::Close];
 
 /// Asserts what steps write on an empty forest.
-pub fn assert_play(
-    rt: &(impl Abort + AllocGlobal),
-    form: &[Part],
-    steps: &[Step],
-    want: &str,
-) {
+pub fn assert_play(rt: &(impl Abort + AllocGlobal), form: &[Part], steps: &[Step], want: &str) {
     let words = play(rt.alloc(), form, steps).expect(rt, "room");
     assert_eq!(rt; words.as_str(), want);
 }

@@ -40,7 +40,8 @@ fn a_tree_is_attached(rt: HostRuntime) {
         Step::Back,
         Step::Show(6),
     ];
-    let want = "7 made made 0=17,1=1,2=1,7=7,9=7,3=,@4=y,@5=x,10 back 6=1,0=1,1=1,2=1,3=,@4=y,@5=x,7 ";
+    let want =
+        "7 made made 0=17,1=1,2=1,7=7,9=7,3=,@4=y,@5=x,10 back 6=1,0=1,1=1,2=1,3=,@4=y,@5=x,7 ";
     assert_play(&rt, &STEPS, want);
 }
 
@@ -73,7 +74,8 @@ fn attributes_are_cut_off_and_set(rt: HostRuntime) {
         Step::Back,
         Step::Show(6),
     ];
-    let want = "made made made made made made made 6=1zz,0=1zz,1=1,@5=w,2=1,3=zz,@4=y,8=zz,9 back 6=1,0=1,1=1,2=1,3=,@4=y,@5=x,7 ";
+    let want =
+        "made made made made made made made 6=1zz,0=1zz,1=1,@5=w,2=1,3=zz,@4=y,8=zz,9 back 6=1,0=1,1=1,2=1,3=,@4=y,@5=x,7 ";
     assert_play(&rt, &STEPS, want);
 }
 
@@ -90,7 +92,8 @@ fn a_child_comes_between_two_texts(rt: HostRuntime) {
         Step::Back,
         Step::Show(6),
     ];
-    let want = "made 8 made no made made 3=b,@4=y,@5=x,10=b,11 back 6=1,0=1,1=1,2=1,3=,@4=y,@5=x,7 ";
+    let want =
+        "made 8 made no made made 3=b,@4=y,@5=x,10=b,11 back 6=1,0=1,1=1,2=1,3=,@4=y,@5=x,7 ";
     assert_play(&rt, &STEPS, want);
 }
 

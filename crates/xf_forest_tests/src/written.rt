@@ -137,5 +137,8 @@ fn push_beginning(words: &mut String, element: &LitElement) -> Result<(), AllocE
 }
 
 fn push_attribute(words: &mut String, pair: &Pair) -> Result<(), AllocError> {
-    push_all(words, &[" ", pair.name.as_str(), "=\"", pair.text.as_str(), "\""])
+    push_all(
+        words,
+        &[" ", pair.name.as_str(), "=\"", pair.text.as_str(), "\""],
+    )
 }
