@@ -1,19 +1,23 @@
 -- What the entries of the slab stand for, key by key, and what stays as names come in.
-use Rattle.std.proofs.Common.{◌≡◌, ℕ, ◌+◌, ◌<◌, ◌≤◌, List, [], ◌∷◌, map, cond, Option, Some, None, option_map, slice_get, min, refl, sym, ap, ◌∙◌, subst, inl, inr, arith}
+use Rattle.std.proofs.Common.{◌≡◌, ℕ, false, ◌+◌, ◌<◌, ◌≤◌, List, [], ◌∷◌, map, cond, Option, Some, None, option_map, slice_get, min, refl, sym, ap, ◌∙◌, subst, inl, inr, arith}
 use Rattle.std.specs.Prelude.{is_some, fold, IsSome}
 use Rattle.std.proofs.Math.ListN.{get_or-map}
 use Rattle.std.proofs.Math.Nat.{min-le_right}
 use Rattle.slab.specs.Slab.{Slab, get, slab_len, Updates, HasRoomFor, with_value as with_entry}
 use Rattle.slab.proofs.SlabLemmas.{Updates-with_value}
 use Rattle.xf_doc.specs.declared.content.Content.{Content}
+use Rattle.xf_doc.specs.declared.content.Name.{Name}
 use Rattle.xf_doc.specs.declared.content.Kind.{Kind}
 use Rattle.xf_doc.specs.declared.content.Kind.TheVariants as kind
+use Rattle.xf_doc.specs.Forest.{name_in}
 use Rattle.xf_doc.specs.Texts.{with_value}
+use Rattle.xf_doc.specs.WellFormed.{have_same_name}
 use Rattle.xf_slots.specs.declared.names.Known.{Known}
 use Rattle.xf_slots.specs.declared.slots.Entry.{Entry}
-use Rattle.xf_slots.specs.Names.{NameTable, KeepsNames}
+use Rattle.xf_slots.specs.Names.{NameTable, KeepsNames, named}
+use Rattle.xf_slots.specs.Keys.{content_in}
 use Rattle.xf_slots.specs.Slot.{Slot}
-use Rattle.xf_slots.specs.Slots.{valued_slot, content_by, slot_of, slots_of, HasName, IsNamed, AreNamed}
+use Rattle.xf_slots.specs.Slots.{valued_slot, number_by, name_number, content_by, slot_of, slots_of, HasName, IsNamed, AreNamed}
 use Rattle.xf_slots.proofs.FreeLemmas.{same-key}
 
 pub slots-get : (slab : Slab Entry) (table : NameTable) (key : ℕ) → get (slots_of slab table) key ≡ option_map (slot_of table.names) (get slab key)
@@ -83,6 +87,34 @@ module _ (slab slab2 : Slab Entry) (old new : NameTable) (key : ℕ) (entry : Op
   seen-updated seen slot view is =
       let first = subst (λ s. Updates s (slots_of slab2 new) key (option_map (slot_of new.names) entry)) view slots-updated in
       subst (λ o. Updates seen (slots_of slab2 new) key o) is first
+
+name-by : (names : List Known) (k : Kind) (number : ℕ) (text : List ℕ) → name_in (content_by k (slice_get names number) text) ≡ named names (number_by k number)
+name-by names kind.Root number text = refl
+name-by names kind.Text number text = refl
+name-by names kind.Element number text = known (slice_get names number)
+  where
+    known : (o : Option Known) → name_in (content_by kind.Element o text) ≡ option_map (λ k. k.name) o
+    known None = refl
+    known (Some k) = refl
+name-by names kind.Attribute number text = known (slice_get names number)
+  where
+    known : (o : Option Known) → name_in (content_by kind.Attribute o text) ≡ option_map (λ k. k.name) o
+    known None = refl
+    known (Some k) = refl
+
+name-of : (names : List Known) (entry : Option Entry) → name_in (content_in (option_map (slot_of names) entry)) ≡ named names (name_number entry)
+name-of names None = refl
+name-of names (Some e) = name-by names e.kind e.name e.text
+
+-- the name of what a key stands for, by the number that its entry has
+pub name-at : (slab : Slab Entry) (table : NameTable) (seen : Slab Slot) (key : ℕ) (number : Option ℕ) → slots_of slab table ≡ seen → number ≡ name_number (get slab key)
+    → named table.names number ≡ name_in (content_in (get seen key))
+name-at slab table seen key number view is =
+    ap (named table.names) is ∙ sym (ap (λ o. name_in (content_in o)) (slots-at slab table seen key (get slab key) view refl) ∙ name-of table.names (get slab key))
+
+pub no-name : (name : Option Name) → false ≡ have_same_name name None
+no-name None = refl
+no-name (Some name) = refl
 
 -- room in the slab is room for names
 pub room-there : (slab : Slab Entry) (table : NameTable) (seen : Slab Slot) → slots_of slab table ≡ seen → HasRoomFor seen 1 → 0 < table.room

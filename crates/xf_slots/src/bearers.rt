@@ -1,12 +1,12 @@
 //! Local names that one element at most has, so that it is found without a walk.
-ghost use Rattle.std.specs.Prelude.{◌≡◌, ℕ, List, true, Some, OnOk};
+ghost use Rattle.std.specs.Prelude.{◌≡◌, ℕ, List, true, Some};
 ghost use Rattle.std.specs.Map.{update};
 ghost use Rattle.std.specs.Str.{bytes_eq};
 ghost use Rattle.indexmap.specs.IndexMap.{get_by_text};
-ghost use Rattle.xf_slots.specs.Bearers.{may_bear, IsBearer};
+ghost use Rattle.xf_slots.specs.Bearers.{may_stand, may_bear, IsBearer};
 
 use indexmap::IndexMap;
-use std::alloc::{AllocError, Global};
+use std::alloc::Global;
 
 /// Which key an element of a local name may stand under.
 #[derive(Clone, Copy, Debug)]
@@ -41,16 +41,8 @@ impl Bearers {
         ensures here { may_bear self.new local.now key ≡ true }
         ensures rest { (name : List ℕ) (other : ℕ) → may_bear self.old name other ≡ true → may_bear self.new name other ≡ true }
     {
-        if !self.is_whole {
-            return;
-        }
-        let one = match self.keys.get(local) {
-            None => Some(key),
-            Some(Some(_)) => None,
-            Some(None) => return,
-        };
-        if put(self.alloc, &mut self.keys, local, one).is_err() {
-            self.is_whole = false;
+        if self.is_whole {
+            self.is_whole = note_in(self.alloc, &mut self.keys, local, key);
         }
     }
 
@@ -70,16 +62,34 @@ impl Bearers {
     }
 }
 
-/// Puts what is known of a name in the place of what was.
+/// Notes the same in what is known of each name. The answer is whether there was memory.
+fn note_in(
+    alloc: Global,
+    keys: &mut IndexMap<String, Option<usize>>,
+    local: &str,
+    key: usize,
+) -> bool
+    ensures here { result ≡ true → may_stand true (get_by_text keys.new local.now) key ≡ true }
+    ensures rest { result ≡ true → (name : List ℕ) (other : ℕ) → may_stand true (get_by_text keys.old name) other ≡ true → may_stand true (get_by_text keys.new name) other ≡ true }
+{
+    match keys.get(local) {
+        None => put(alloc, keys, local, Some(key)),
+        Some(Some(_)) => put(alloc, keys, local, None),
+        Some(None) => true,
+    }
+}
+
+/// Puts what is known of a name in the place of what was. The answer is whether there was memory.
 fn put(
     alloc: Global,
     keys: &mut IndexMap<String, Option<usize>>,
     local: &str,
     one: Option<usize>,
-) -> Result<(), AllocError>
-    ensures { OnOk result ((name : List ℕ) → get_by_text keys.new name ≡ update bytes_eq (get_by_text keys.old) local.now (Some one) name) }
+) -> bool
+    ensures { result ≡ true → (name : List ℕ) → get_by_text keys.new name ≡ update bytes_eq (get_by_text keys.old) local.now (Some one) name }
 {
-    let name = String::from_str(alloc, local)?;
-    keys.insert(name, one)?;
-    Ok(())
+    match String::from_str(alloc, local) {
+        Ok(name) => keys.insert(name, one).is_ok(),
+        Err(_) => false,
+    }
 }

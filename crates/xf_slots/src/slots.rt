@@ -1,13 +1,14 @@
 //! What each node is, under a key that it keeps for life.
-ghost use Rattle.std.specs.Prelude.{◌≡◌, ℕ, ◌≤◌, ◌+◌, ◌&&◌, not, true, [], None, Some, option_map, OnOk};
+ghost use Rattle.std.specs.Prelude.{◌≡◌, ℕ, ◌≤◌, ◌<◌, ◌+◌, ◌&&◌, List, not, true, [], None, Some, IsSome, option_map, slice_get, OnOk};
 ghost use Rattle.slab.specs.Slab.{get, slab_len, Updates, HasRoomFor};
 ghost use Rattle.xf_doc.specs.declared.content.Content.TheVariants.{Root};
 ghost use Rattle.xf_doc.specs.Forest.{is_attribute, is_element, kind_of, name_in, own_text};
 ghost use Rattle.xf_doc.specs.StringValue.{characters};
 ghost use Rattle.xf_doc.specs.WellFormed.{have_same_name};
 ghost use Rattle.xf_slots.specs.Seen.{seen_content};
+ghost use Rattle.xf_slots.specs.Names.{named, KeepsNames};
 ghost use Rattle.xf_slots.specs.Slots.{name_number, number_where, is_of_kind, slot_of, IsNamed, valued_slot, owned_slot};
-ghost use Rattle.xf_slots.specs.Bearers.{IsBearer};
+ghost use Rattle.xf_slots.specs.Bearers.{may_bear, IsBearer, IsNoted};
 ghost use Rattle.xf_slots.specs.Sought.{has_name, is_sought};
 ghost use Rattle.xf_slots.specs.Keys.{number_in, content_in};
 
@@ -122,12 +123,8 @@ impl Slots {
     pub fn name(&self, key: usize) -> Option<&Name>
         ensures { option_map (λ name. name.now) result ≡ name_in (content_in (get self.now key)) }
     {
-        match self.slab.get(key) {
-            Some(entry) => match entry.kind {
-                Kind::Element => self.names.get(entry.name),
-                Kind::Attribute => self.names.get(entry.name),
-                _ => None,
-            },
+        match name_number(&self.slab, key) {
+            Some(number) => self.names.get(number),
             None => None,
         }
     }
@@ -136,13 +133,13 @@ impl Slots {
     pub fn has_same_name(&self, first: usize, second: usize) -> bool
         ensures { result ≡ have_same_name (name_in (content_in (get self.now first))) (name_in (content_in (get self.now second))) }
     {
-        match (
-            name_number(&self.slab, first),
-            name_number(&self.slab, second),
-        ) {
-            (Some(one), Some(other)) => self.names.is_same(one, other),
-            _ => false,
-        }
+        let Some(one) = name_number(&self.slab, first) else {
+            return false;
+        };
+        let Some(other) = name_number(&self.slab, second) else {
+            return false;
+        };
+        self.names.is_same(one, other)
     }
 
     /// What is under a key, where there is something.
@@ -150,18 +147,7 @@ impl Slots {
         ensures { option_map seen_content result ≡ option_map (λ slot. slot.content) (get self.now key) }
     {
         match self.slab.get(key) {
-            Some(entry) => match entry.kind {
-                Kind::Root => Some(Seen::Root),
-                Kind::Text => Some(Seen::Text(entry.text.as_str())),
-                Kind::Element => match self.names.get(entry.name) {
-                    Some(name) => Some(Seen::Element(name)),
-                    None => unreachable!(),
-                },
-                Kind::Attribute => match self.names.get(entry.name) {
-                    Some(name) => Some(Seen::Attribute(name, entry.text.as_str())),
-                    None => unreachable!(),
-                },
-            },
+            Some(entry) => Some(seen_entry(&self.names, entry)),
             None => None,
         }
     }
@@ -247,29 +233,16 @@ impl Slots {
         ensures count { slab_len self.new ≡ slab_len self.old + 1 }
         ensures room { self.old.capacity ≤ self.new.capacity }
     {
-        match content {
-            Content::Root => {
-                let text = Word::new(self.alloc);
-                self.slab
-                    .insert_reserved(new_entry(number, Kind::Root, 0, text))
-            }
-            Content::Text(text) => self
-                .slab
-                .insert_reserved(new_entry(number, Kind::Text, 0, text)),
-            Content::Element(name) => {
-                self.bearers
-                    .note(name.meaning.local.as_str(), self.slab.vacant_key());
-                let name = self.names.number_of(name);
-                let text = Word::new(self.alloc);
-                self.slab
-                    .insert_reserved(new_entry(number, Kind::Element, name, text))
-            }
-            Content::Attribute(name, text) => {
-                let name = self.names.number_of(name);
-                self.slab
-                    .insert_reserved(new_entry(number, Kind::Attribute, name, text))
-            }
-        }
+        let key = self.slab.vacant_key();
+        let entry = entry_for(
+            self.alloc,
+            &mut self.names,
+            &mut self.bearers,
+            key,
+            number,
+            content,
+        );
+        self.slab.insert_reserved(entry)
     }
 
     /// Gives back room for names that none took.
@@ -310,6 +283,39 @@ impl Slots {
     }
 }
 
+/// The entry of a node that comes under a key, whose name comes into the table.
+#[inline(always)]
+fn entry_for(
+    alloc: Global,
+    names: &mut Names,
+    bearers: &mut Bearers,
+    key: usize,
+    number: u128,
+    content: Content,
+) -> Entry
+    requires { 0 < names.old.room }
+    ensures slot { slot_of names.new.names result ≡ record { number = number; owner = 0; content = content } }
+    ensures named { IsNamed names.new.names (Some result) }
+    ensures noted { IsNoted bearers.new content key }
+    ensures kept { KeepsNames names.old.names names.new.names }
+    ensures room { names.old.room ≤ names.new.room + 1 }
+    ensures rest { (name : List ℕ) (other : ℕ) → may_bear bearers.old name other ≡ true → may_bear bearers.new name other ≡ true }
+{
+    match content {
+        Content::Root => new_entry(number, Kind::Root, 0, Word::new(alloc)),
+        Content::Text(text) => new_entry(number, Kind::Text, 0, text),
+        Content::Element(name) => {
+            bearers.note(name.meaning.local.as_str(), key);
+            let name = names.number_of(name);
+            new_entry(number, Kind::Element, name, Word::new(alloc))
+        }
+        Content::Attribute(name, text) => {
+            let name = names.number_of(name);
+            new_entry(number, Kind::Attribute, name, text)
+        }
+    }
+}
+
 fn new_entry(number: u128, kind: Kind, name: u32, text: Word) -> Entry
     ensures { result ≡ record { number = number; owner = 0; text = text; name = name; kind = kind } }
 {
@@ -322,7 +328,34 @@ fn new_entry(number: u128, kind: Kind, name: u32, text: Word) -> Entry
     }
 }
 
+/// What the node of an entry is.
+#[inline(always)]
+fn seen_entry<'a>(names: &'a Names, entry: &'a Entry) -> Seen<'a>
+    requires { IsNamed names.now.names (Some entry.now) }
+    ensures { seen_content result ≡ (slot_of names.now.names entry.now).content }
+{
+    match entry.kind {
+        Kind::Root => Seen::Root,
+        Kind::Text => Seen::Text(entry.text.as_str()),
+        Kind::Element => Seen::Element(name_at(names, entry.name)),
+        Kind::Attribute => Seen::Attribute(name_at(names, entry.name), entry.text.as_str()),
+    }
+}
+
+/// The name with a number that one of the table has.
+#[inline(always)]
+fn name_at(names: &Names, number: u32) -> &Name
+    requires { IsSome (slice_get names.now.names number) }
+    ensures { Some result.now ≡ named names.now.names (Some number) }
+{
+    match names.get(number) {
+        Some(name) => name,
+        None => unreachable!(),
+    }
+}
+
 /// The number of the name of an element or attribute.
+#[inline(always)]
 fn name_number(slab: &Slab<Entry>, key: usize) -> Option<u32>
     ensures { result ≡ name_number (get slab.now key) }
 {
