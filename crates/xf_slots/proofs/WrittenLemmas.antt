@@ -1,10 +1,41 @@
 -- Written names byte by byte.
-use Rattle.std.proofs.Common.{◌≡◌, ℕ, zero, suc, ◌+◌, ◌≤◌, Bool, true, false, List, [], ◌∷◌, length, drop, Some, None, refl, sym, ap, ◌∙◌, arith, add-one}
+use Rattle.std.proofs.Common.{◌≡◌, ℕ, zero, suc, ◌+◌, ◌<◌, ◌≤◌, Bool, true, false, List, [], ◌∷◌, ◌++◌, length, drop, Some, None, refl, sym, ap, ◌∙◌, ◌==◌, arith, add-one}
 use Rattle.std.specs.Prelude.{slice_get, nat_lt}
+use Rattle.std.proofs.lemmas.Bool.Decides.{nat_tests}
 use Rattle.std.proofs.lemmas.Grind.{common_steps}
+use Rattle.xf_doc.specs.Forest.{written_with}
 use Rattle.xf_doc.specs.Plant.{is_less}
 
 -- ---- bytes of a written name
+
+before : (xs ys : List ℕ) (i : ℕ) → i < length xs → slice_get xs i ≡ slice_get (xs ++ ys) i
+before [] ys i h = absurd (omega arith)
+before (x ∷ xs) ys zero h = refl
+before (x ∷ xs) ys (suc i) h = before xs ys i (omega arith)
+
+behind : (xs ys : List ℕ) (i j : ℕ) → i ≡ length xs + j → slice_get ys j ≡ slice_get (xs ++ ys) i
+behind [] ys i j e = ap (slice_get ys) (omega arith)
+behind (x ∷ xs) ys zero j e = absurd (omega arith)
+behind (x ∷ xs) ys (suc i) j e = behind xs ys i j (omega arith)
+
+pub byte-bare : (prefix local : List ℕ) (i : ℕ) → true ≡ (length prefix == 0) → slice_get local i ≡ slice_get (written_with prefix local) i
+byte-bare [] local i none = refl
+byte-bare (c ∷ cs) local i none = absurd (let differ : true ≡ false = none ∙ not-zero (length cs) in let no : ⊥ = cc in no)
+  where
+    not-zero : (n : ℕ) → (suc n == 0) ≡ false
+    not-zero n = grind (arith, nat_tests)
+
+pub byte-before : (prefix local : List ℕ) (i : ℕ) → i < length prefix → slice_get prefix i ≡ slice_get (written_with prefix local) i
+byte-before [] local i h = absurd (omega arith)
+byte-before (c ∷ cs) local i h = before (c ∷ cs) (58 ∷ local) i h
+
+pub byte-between : (prefix local : List ℕ) (i : ℕ) → false ≡ (length prefix == 0) → i ≡ length prefix → Some 58 ≡ slice_get (written_with prefix local) i
+byte-between [] local i some e = absurd (let no : ⊥ = cc in no)
+byte-between (c ∷ cs) local i some e = behind (c ∷ cs) (58 ∷ local) i 0 (omega arith)
+
+pub byte-behind : (prefix local : List ℕ) (i j : ℕ) → false ≡ (length prefix == 0) → i ≡ length prefix + (j + 1) → slice_get local j ≡ slice_get (written_with prefix local) i
+byte-behind [] local i j some e = absurd (let no : ⊥ = cc in no)
+byte-behind (c ∷ cs) local i j some e = behind (c ∷ cs) (58 ∷ local) i (suc j) (omega arith)
 
 -- ---- comparing
 

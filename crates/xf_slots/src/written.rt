@@ -96,13 +96,20 @@ fn byte_of(name: &Name, at: usize) -> Option<u8>
     let prefix = name.prefix.as_bytes();
     let local = name.meaning.local.as_bytes();
     if prefix.is_empty() {
-        return local.get(at).copied();
+        return byte_in(local, at);
     }
     if at < prefix.len() {
-        return prefix.get(at).copied();
+        return byte_in(prefix, at);
     }
     if at == prefix.len() {
         return Some(b':');
     }
-    local.get(at - prefix.len() - 1).copied()
+    byte_in(local, at - prefix.len() - 1)
+}
+
+#[inline(always)]
+fn byte_in(bytes: &[u8], at: usize) -> Option<u8>
+    ensures { result ≡ slice_get bytes.now at }
+{
+    bytes.get(at).copied()
 }
