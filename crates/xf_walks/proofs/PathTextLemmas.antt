@@ -1,6 +1,6 @@
 -- A path put together step by step.
-use Rattle.std.proofs.Common.{◌≡◌, ℕ, ◌<◌, ◌==◌, true, false, List, [], ◌∷◌, ◌++◌, map, length, take, drop, get_or, reverse, Option, Some, None, refl, sym, ap, ◌∙◌, subst, arith, append_assoc}
-use Rattle.std.specs.Prelude.{IfSome}
+use Rattle.std.proofs.Common.{◌≡◌, ℕ, ◌<◌, ◌==◌, true, false, List, [], ◌∷◌, ◌++◌, Result, Ok, Err, map, length, take, drop, get_or, reverse, Option, Some, None, refl, sym, ap, ◌∙◌, subst, arith, append_assoc}
+use Rattle.std.specs.Prelude.{IfSome, OnOk}
 use Rattle.std.specs.List.{flat_map}
 use Rattle.std.proofs.lemmas.Bool.Decides.{nat_tests}
 use Rattle.std.proofs.lemmas.List.{map-append, reverse-append}
@@ -55,6 +55,11 @@ joined text one two three first name index a b c =
 
 pub joined-two : (text one two first name : List ℕ) → one ≡ text ++ first → two ≡ one ++ name → two ≡ text ++ (first ++ name)
 joined-two text one two first name a b = b ∙ ap (λ l. l ++ name) a ∙ append_assoc text first name
+
+-- what follows where a call succeeds
+pub on-ok : {A E P Q : Type 0} (r : Result A E) → (P → Q) → OnOk r P → OnOk r Q
+on-ok (Ok a) more holds = more holds
+on-ok (Err e) more holds = holds
 
 -- ---- a root alone
 

@@ -1,8 +1,8 @@
 //! Paths as they are printed.
-ghost use Rattle.std.specs.Prelude.{◌≡◌, ◌<◌, ◌++◌, length, map, reverse, slice_index_or, string_bytes, IfOk, OnOk};
+ghost use Rattle.std.specs.Prelude.{◌≡◌, ◌<◌, ◌++◌, ◌∷◌, codes, length, map, reverse, slice_index_or, string_bytes, IfOk, OnOk};
 ghost use Rattle.std.specs.List.{flat_map};
 ghost use Rattle.xf_doc.specs.Forest.{written};
-ghost use Rattle.xf_doc.specs.Path.{path_of, step_of};
+ghost use Rattle.xf_doc.specs.Path.{bracketed, path_of, step_of};
 ghost use Rattle.xf_doc.specs.Visit.{visits};
 ghost use Rattle.xf_rows.specs.Rows.{Sized, parent_row_of, no_row};
 ghost use Rattle.xf_slots.specs.Seen.{seen_content};
@@ -89,23 +89,40 @@ fn push_step(
     match content {
         Seen::Root => Ok(()),
         Seen::Element(name) => {
-            text.push('/')?;
-            push_name(text, name)?;
-            push_index(text, index_of(rows, slots, hints, at, content))?;
-            Ok(())
+            let index = index_of(rows, slots, hints, at, content);
+            push_element(text, name, index)
         }
-        Seen::Attribute(name, _) => {
-            text.push_str("/@")?;
-            push_name(text, name)?;
-            Ok(())
-        }
+        Seen::Attribute(name, _) => push_attribute(text, name),
         Seen::Text(_) => {
-            text.push_str("/text()")?;
             let earlier = count_before(rows, slots, hints, at, content);
-            push_index(text, Some(earlier + 1))?;
-            Ok(())
+            push_text(text, earlier + 1)
         }
     }
+}
+
+/// Appends what the path has for an element, with its index where it has one.
+fn push_element(text: &mut String, name: &Name, index: Option<usize>) -> Result<(), AllocError>
+    ensures { OnOk result (string_bytes text.new ≡ string_bytes text.old ++ (47 ∷ (written name.now ++ index_text index))) }
+{
+    text.push('/')?;
+    push_name(text, name)?;
+    push_index(text, index)
+}
+
+/// Appends what the path has for an attribute.
+fn push_attribute(text: &mut String, name: &Name) -> Result<(), AllocError>
+    ensures { OnOk result (string_bytes text.new ≡ string_bytes text.old ++ (47 ∷ 64 ∷ written name.now)) }
+{
+    text.push_str("/@")?;
+    push_name(text, name)
+}
+
+/// Appends what the path has for the text that has a place among its siblings, from 1.
+fn push_text(text: &mut String, place: usize) -> Result<(), AllocError>
+    ensures { OnOk result (string_bytes text.new ≡ string_bytes text.old ++ (codes "/text()" ++ bracketed place)) }
+{
+    text.push_str("/text()")?;
+    push_index(text, Some(place))
 }
 
 /// Appends a name as it is written.

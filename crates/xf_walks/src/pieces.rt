@@ -130,13 +130,12 @@ pub fn are_texts(rows: &RowSlice<'_>, slots: &Slots, text: &str) -> bool
     let mut found = text.is_empty();
     for at in 0..rows.len() {
         let row = rows.at(at);
-        if !is_text_at(slots, row.key) {
-            continue;
+        if is_text_at(slots, row.key) {
+            if found || own(slots, row.key) != text {
+                return false;
+            }
+            found = true;
         }
-        if found || own(slots, row.key) != text {
-            return false;
-        }
-        found = true;
     }
     found
 }

@@ -12,7 +12,7 @@ use xf_rows::{Hints, Rows, end_of, parent_row};
 use xf_slots::{Slots, is_attribute_at, number_of};
 
 /// What a walk has left besides a first node. Places are those of rows.
-#[derive(Clone, Copy, Debug)]
+#[derive(Clone, Copy)]
 pub enum Left {
     Nothing,
     /// Of the trees from one place to before another the tops that have this depth, without the attributes.
