@@ -1,7 +1,6 @@
 //! What is told of the node under a key.
 ghost use Rattle.std.specs.Prelude.{◌≡◌, ◌-◌, ◌≤◌, ◌^◌, ℕ, not, cond, map, option_map, None, IfOk};
 ghost use Rattle.slab.specs.Slab.{get, Updates};
-ghost use Rattle.xf_doc.specs.declared.content.Content.TheVariants.{Attribute};
 ghost use Rattle.xf_doc.specs.Limits.{size_of};
 ghost use Rattle.xf_doc.specs.Forest.{is_root, is_element, is_attribute, is_text, kind_of, name_in, own_text};
 ghost use Rattle.xf_doc.specs.Plant.{is_less, written_of};
@@ -193,20 +192,15 @@ pub fn free_kept(slots: &mut Slots, keys: &[usize])
 pub fn duplicate(alloc: Global, content: Seen<'_>) -> Result<Content, AllocError>
     ensures { IfOk result (λ copy. copy ≡ seen_content content.entry) }
 {
-    match content {
-        Seen::Root => Ok(Content::Root),
-        Seen::Element(name) => Ok(Content::Element(duplicate_name(alloc, name)?)),
-        Seen::Attribute(name, text) => duplicate_attribute(alloc, name, text),
-        Seen::Text(text) => Ok(Content::Text(Word::from_str(alloc, text)?)),
-    }
-}
-
-fn duplicate_attribute(alloc: Global, name: &Name, text: &str) -> Result<Content, AllocError>
-    ensures { IfOk result (λ copy. copy ≡ Attribute name.now text.now) }
-{
-    let name = duplicate_name(alloc, name)?;
-    let text = Word::from_str(alloc, text)?;
-    Ok(Content::Attribute(name, text))
+    Ok(match content {
+        Seen::Root => Content::Root,
+        Seen::Element(name) => Content::Element(duplicate_name(alloc, name)?),
+        Seen::Attribute(name, text) => {
+            let name = duplicate_name(alloc, name)?;
+            Content::Attribute(name, Word::from_str(alloc, text)?)
+        }
+        Seen::Text(text) => Content::Text(Word::from_str(alloc, text)?),
+    })
 }
 
 fn duplicate_name(alloc: Global, name: &Name) -> Result<Name, AllocError>
