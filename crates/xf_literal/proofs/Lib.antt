@@ -6,3 +6,4 @@ pub mod PairLemmas
 pub mod PrintedLemmas
 pub mod BareLemmas
 pub mod BareContents
+pub mod StackLemmas

@@ -1,5 +1,5 @@
 //! Why a literal tree with resolved names is refused by its names.
-ghost use Rattle.std.specs.Prelude.{◌≡◌, ◌||◌, not, map, IfOk};
+ghost use Rattle.std.specs.Prelude.{◌≡◌, ◌||◌, [], not, map, IfOk};
 ghost use Rattle.std.specs.List.{list_any};
 ghost use Rattle.xf_name.specs.Part.{is_part, kind_of};
 ghost use Rattle.xf_name.specs.Faults.{has_double};
@@ -112,6 +112,16 @@ fn has_double(alloc: Global, attributes: &[BareAttribute]) -> Result<bool, Alloc
     ensures { IfOk result (λ double. double ≡ has_double (map (λ a. (a.name.space, a.name.local)) attributes.now)) }
 {
     let mut seen = IndexSet::new(alloc);
+    repeats(attributes, &mut seen)
+}
+
+fn repeats<'a>(
+    attributes: &'a [BareAttribute],
+    seen: &mut IndexSet<(u16, &'a str)>,
+) -> Result<bool, AllocError>
+    requires { seen.old.keys ≡ [] }
+    ensures { IfOk result (λ double. double ≡ has_double (map (λ a. (a.name.space, a.name.local)) attributes.now)) }
+{
     for attribute in attributes {
         let name = (attribute.name.space, attribute.name.local.as_str());
         if !seen.insert(name)? {

@@ -1,6 +1,6 @@
 //! Declarations of namespaces, and pairs in the order of the bytes of their names.
-ghost use Rattle.std.specs.Prelude.{◌≡◌, map, reverse, IfOk, OnOk};
-ghost use Rattle.xf_doc.specs.Printed.{space_text, with_pair, with_pairs, with_prefix, with_default, prefixes_in};
+ghost use Rattle.std.specs.Prelude.{◌≡◌, ◌++◌, [], map, reverse, codes, IfOk, OnOk};
+ghost use Rattle.xf_doc.specs.Printed.{pair, space_text, with_pair, with_pairs, with_prefix, with_default, prefixes_in};
 ghost use Rattle.xf_walks.specs.Nodes.{node_of};
 ghost use Rattle.xf_literal.specs.Print.{IsPlace, AreDeclared};
 
@@ -21,15 +21,29 @@ pub fn declarations(
     ensures { IfOk result (λ pairs. reverse pairs.items ≡ prefixes_in prefixes.now (map (node_of slots.now) rows.now)) }
 {
     let mut pairs = Vec::new(alloc);
+    declare_all(alloc, slots, prefixes, rows, &mut pairs)?;
+    Ok(pairs)
+}
+
+fn declare_all(
+    alloc: Global,
+    slots: &Slots,
+    prefixes: &Prefixes,
+    rows: &[Row],
+    pairs: &mut Vec<Pair>,
+) -> Result<(), AllocError>
+    requires { pairs.old.items ≡ [] }
+    ensures { OnOk result (reverse pairs.new.items ≡ prefixes_in prefixes.now (map (node_of slots.now) rows.now)) }
+{
     let mut seen = IndexSet::new(alloc);
     let mut at = rows.len();
     while at > 0 {
         at -= 1;
         if let Some(name) = full_name(slots, rows[at].key) {
-            declare(alloc, prefixes, name, &mut seen, &mut pairs)?;
+            declare(alloc, prefixes, name, &mut seen, pairs)?;
         }
     }
-    Ok(pairs)
+    Ok(())
 }
 
 /// Declares the prefix of a name, where it has one that is not declared yet.
@@ -51,16 +65,23 @@ fn declare<'a>(
     if !seen.insert(prefix)? {
         return Ok(());
     }
-    let mut written = Word::from_str(alloc, "xmlns:")?;
-    written.push_str(prefix)?;
-    let text = space_word(alloc, prefixes, name.meaning.space)?;
-    insert_pair(
-        pairs,
-        Pair {
-            name: written,
-            text,
-        },
-    )
+    insert_declaration(alloc, prefixes, prefix, name.meaning.space, pairs)
+}
+
+/// Puts the declaration of a prefix in its place.
+fn insert_declaration(
+    alloc: Global,
+    prefixes: &Prefixes,
+    prefix: &str,
+    space: u16,
+    pairs: &mut Vec<Pair>,
+) -> Result<(), AllocError>
+    ensures { OnOk result (reverse pairs.new.items ≡ with_pair (pair (codes "xmlns:" ++ prefix.now) (space_text prefixes.now space)) (reverse pairs.old.items)) }
+{
+    let text = space_word(alloc, prefixes, space)?;
+    let mut name = Word::from_str(alloc, "xmlns:")?;
+    name.push_str(prefix)?;
+    insert_pair(pairs, Pair { name, text })
 }
 
 /// The namespace with a number.
@@ -86,14 +107,26 @@ pub fn element_pairs(
     ensures { IfOk result (λ pairs. pairs.items ≡ with_default prefixes.now above name.now (with_pairs attributes.items (reverse declared.items))) }
 {
     let mut pairs = with_pairs(attributes, declared)?;
-    if name.prefix.is_empty() && above != name.meaning.space {
-        let xmlns = Pair {
-            name: Word::from_str(alloc, "xmlns")?,
-            text: space_word(alloc, prefixes, name.meaning.space)?,
-        };
-        insert_pair(&mut pairs, xmlns)?;
-    }
+    insert_default(alloc, prefixes, above, name, &mut pairs)?;
     Ok(reversed(pairs))
+}
+
+/// Puts the declaration of the default namespace in its place, where another one is in force above.
+fn insert_default(
+    alloc: Global,
+    prefixes: &Prefixes,
+    above: u16,
+    name: &Name,
+    pairs: &mut Vec<Pair>,
+) -> Result<(), AllocError>
+    ensures { OnOk result (reverse pairs.new.items ≡ with_default prefixes.now above name.now (reverse pairs.old.items)) }
+{
+    if !name.prefix.is_empty() || above == name.meaning.space {
+        return Ok(());
+    }
+    let text = space_word(alloc, prefixes, name.meaning.space)?;
+    let name = Word::from_str(alloc, "xmlns")?;
+    insert_pair(pairs, Pair { name, text })
 }
 
 /// Attributes among declarations, the greatest first.

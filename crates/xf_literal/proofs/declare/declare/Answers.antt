@@ -1,6 +1,6 @@
-use Rattle.std.proofs.Common.{◌≡◌, ◌++◌, reverse, sym, ap, ◌∙◌, subst}
+use Rattle.std.proofs.Common.{◌≡◌, reverse, sym, ◌∙◌, subst}
 use Rattle.std.proofs.lemmas.Result.{on_ok_weaker}
-use Rattle.xf_doc.specs.Printed.{pair, with_pair, with_prefix}
+use Rattle.xf_doc.specs.Printed.{space_text, with_prefix}
 use Rattle.xf_literal.proofs.PairLemmas.{declared-stays, declared-more, not-false}
 use Rattle.xf_literal.proofs.declare.declare.Goals as goal
 
@@ -14,10 +14,7 @@ returns-then-not-branch-clause-pairs c =
 
 pub returns-clause-seen : goal.returns-clause-seen
 returns-clause-seen c =
-    let prefix = c.as_str-prefix.result.now in
-    let pairs = reverse c.args.pairs.now.items in
-    let written = c.in_ok-push_str.ensures.ok ∙ ap (λ w. w ++ prefix) c.in_ok-written.ensures in
-    on_ok_weaker c.insert_pair.result
-    (λ h. declared-more c.args.seen.now.keys c.insert.new.self.keys c.as_str-prefix.result c.in_ok-text.text pairs (reverse c.insert_pair.new.pairs.items) c.in_ok-insert.ensures.keys c.requires
-    (h ∙ ap (λ w. with_pair (pair w c.in_ok-text.text) pairs) written))
-    c.insert_pair.ensures
+    let text = space_text c.args.prefixes.now c.args.name.now.meaning.space in
+    on_ok_weaker c.insert_declaration.result
+    (declared-more c.args.seen.now.keys c.insert.new.self.keys c.as_str-prefix.result text (reverse c.args.pairs.now.items) (reverse c.insert_declaration.new.pairs.items) c.in_ok-insert.ensures.keys c.requires)
+    c.insert_declaration.ensures

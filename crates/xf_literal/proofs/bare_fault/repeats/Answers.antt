@@ -2,12 +2,12 @@ use Rattle.std.proofs.Common.{map, sym, ap, ◌∙◌}
 use Rattle.xf_name.specs.Faults.{has_double}
 use Rattle.xf_name.proofs.DoubleLemmas.{doubles, doubles-none, name_shown}
 use Rattle.xf_literal.proofs.BareLemmas.{bare-doubled, bare-more}
-use Rattle.xf_literal.proofs.bare_fault.has_double.Goals as goal
+use Rattle.xf_literal.proofs.bare_fault.repeats.Goals as goal
 
 pub loop-attribute-init : goal.loop-attribute-init
 loop-attribute-init c =
     let names = map (λ a. (a.name.space, a.name.local)) c.args.attributes.now in
-    doubles-none names ∙ ap (λ keys. doubles (map name_shown keys) names) (sym c.new-seen.ensures.empty)
+    doubles-none names ∙ ap (λ keys. doubles (map name_shown keys) names) (sym c.requires)
 
 pub returns-then-not-branch : goal.returns-then-not-branch
 returns-then-not-branch c =

@@ -1,7 +1,7 @@
 use Rattle.std.proofs.Common.{◌≡◌, map, drop}
 use Rattle.xf_name.specs.Faults.{has_double}
 use Rattle.xf_name.proofs.DoubleLemmas.{doubles, name_shown}
-use Rattle.xf_literal.proofs.bare_fault.has_double.Given as goal
+use Rattle.xf_literal.proofs.bare_fault.repeats.Given as goal
 
 abbrev pub invariant-loop-attribute : goal.invariant-loop-attribute
 invariant-loop-attribute l =

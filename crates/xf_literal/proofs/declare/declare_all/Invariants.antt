@@ -2,7 +2,7 @@ use Rattle.std.proofs.Common.{◌≡◌, ◌≤◌, length, map, drop, reverse}
 use Rattle.xf_doc.specs.Printed.{prefixes_in}
 use Rattle.xf_walks.specs.Nodes.{node_of}
 use Rattle.xf_literal.specs.Print.{AreDeclared}
-use Rattle.xf_literal.proofs.declare.declarations.Given as goal
+use Rattle.xf_literal.proofs.declare.declare_all.Given as goal
 
 abbrev pub invariant-loop-at : goal.invariant-loop-at
 invariant-loop-at l = record {
