@@ -21,26 +21,28 @@ pub fn declarations(
     ensures { IfOk result (λ pairs. reverse pairs.items ≡ prefixes_in prefixes.now (map (node_of slots.now) rows.now)) }
 {
     let mut pairs = Vec::new(alloc);
-    declare_all(alloc, slots, prefixes, rows, &mut pairs)?;
+    let mut seen = IndexSet::new(alloc);
+    declare_all(alloc, slots, prefixes, rows, &mut seen, &mut pairs)?;
     Ok(pairs)
 }
 
-fn declare_all(
+fn declare_all<'a>(
     alloc: Global,
-    slots: &Slots,
+    slots: &'a Slots,
     prefixes: &Prefixes,
     rows: &[Row],
+    seen: &mut IndexSet<&'a str>,
     pairs: &mut Vec<Pair>,
 ) -> Result<(), AllocError>
-    requires { pairs.old.items ≡ [] }
+    requires seen { seen.old.keys ≡ [] }
+    requires pairs { pairs.old.items ≡ [] }
     ensures { OnOk result (reverse pairs.new.items ≡ prefixes_in prefixes.now (map (node_of slots.now) rows.now)) }
 {
-    let mut seen = IndexSet::new(alloc);
     let mut at = rows.len();
     while at > 0 {
         at -= 1;
         if let Some(name) = full_name(slots, rows[at].key) {
-            declare(alloc, prefixes, name, &mut seen, pairs)?;
+            declare(alloc, prefixes, name, seen, pairs)?;
         }
     }
     Ok(())

@@ -1,9 +1,10 @@
 //! Literal trees as the contents of nodes, with their names resolved.
-ghost use Rattle.std.specs.Prelude.{◌≡◌, ◌≤◌, ◌^◌, ◌++◌, ◌∷◌, [], filter_map, reverse, take, drop, length, IfOk, OnOk};
+ghost use Rattle.std.specs.Prelude.{◌≡◌, ◌≤◌, ◌+◌, ◌^◌, ◌++◌, ◌∷◌, [], filter_map, reverse, take, drop, length, IfOk, OnOk};
 ghost use Rattle.xf_name.specs.Bindings.{resolved};
 ghost use Rattle.xf_name.specs.Part.{kind_of};
+ghost use Rattle.xf_doc.specs.declared.content.Content.TheVariants.{Element};
 ghost use Rattle.xf_doc.specs.Limits.{size_of};
-ghost use Rattle.xf_doc.specs.Plant.{contents_of, default_number, default_below, element_name, attribute_in, in_order, in_place, at_depth};
+ghost use Rattle.xf_doc.specs.Plant.{contents_of, text_contents, default_number, default_below, element_name, attribute_in, in_order, in_place, at_depth};
 ghost use Rattle.xf_doc.specs.Planted.{is_declaration};
 ghost use Rattle.xf_walks.specs.Nodes.{IsTree};
 ghost use Rattle.xf_literal.specs.Contents.{contents_of_element, contents_of_all, IsPart, AllLess, EndsNotLess, AllSmall};
@@ -41,13 +42,7 @@ fn push_lit(
     ensures part { OnOk result (IsPart depth (contents_of prefixes.now lit.now space depth)) }
 {
     match lit {
-        Lit::Text(text) => {
-            if text.is_empty() && depth > 0 {
-                return Ok(());
-            }
-            let text = Word::from_str(alloc, text.as_str())?;
-            push_one(tree, depth, Content::Text(text))
-        }
+        Lit::Text(text) => push_text(alloc, text.as_str(), depth, tree),
         Lit::Element(element) => push_element(alloc, prefixes, element, space, depth, tree),
     }
 }
@@ -67,11 +62,7 @@ fn push_element(
     let attributes = element.attributes.as_slice();
     let own = default_in(prefixes, attributes, space);
     let name = element_name(alloc, prefixes, element.name.as_str(), own)?;
-    let below = match depth.checked_add(1) {
-        Some(below) => below,
-        None => return Err(AllocError),
-    };
-    push_one(tree, depth, Content::Element(name))?;
+    let below = push_named(name, depth, tree)?;
     push_attributes(alloc, prefixes, attributes, below, tree)?;
     push_all(
         alloc,
@@ -101,8 +92,39 @@ fn push_all(
     Ok(())
 }
 
+/// Pushes a text, unless it is empty and below another node.
+pub fn push_text(
+    alloc: Global,
+    text: &str,
+    depth: u32,
+    tree: &mut Vec<Part>,
+) -> Result<(), AllocError>
+    ensures added { OnOk result (tree.new.items ≡ tree.old.items ++ text_contents text.now 0 depth) }
+    ensures part { OnOk result (IsPart depth (text_contents text.now 0 depth)) }
+{
+    if text.is_empty() && depth > 0 {
+        return Ok(());
+    }
+    let text = Word::from_str(alloc, text)?;
+    push_one(tree, depth, Content::Text(text))
+}
+
+/// Pushes the node of an element. The answer is the depth of what is below it.
+pub fn push_named(name: Name, depth: u32, tree: &mut Vec<Part>) -> Result<u32, AllocError>
+    ensures below { IfOk result (λ below. below ≡ depth + 1) }
+    ensures added { IfOk result (λ below. tree.new.items ≡ tree.old.items ++ (depth, Element name) ∷ []) }
+    ensures small { IfOk result (λ below. size_of (Element name) ≤ 2 ^ 66) }
+{
+    let below = match depth.checked_add(1) {
+        Some(below) => below,
+        None => return Err(AllocError),
+    };
+    push_one(tree, depth, Content::Element(name))?;
+    Ok(below)
+}
+
 /// Pushes a node of a tree.
-pub fn push_one(tree: &mut Vec<Part>, depth: u32, content: Content) -> Result<(), AllocError>
+fn push_one(tree: &mut Vec<Part>, depth: u32, content: Content) -> Result<(), AllocError>
     ensures added { OnOk result (tree.new.items ≡ tree.old.items ++ (depth, content) ∷ []) }
     ensures small { size_of content ≤ 2 ^ 66 }
 {

@@ -1,14 +1,14 @@
 //! Literal trees with resolved names as detached trees.
 ghost use Rattle.std.specs.Prelude.{◌≡◌, ◌++◌, map, reverse, IfOk, OnOk};
-ghost use Rattle.xf_doc.specs.Plant.{in_order, at_depth};
+ghost use Rattle.xf_doc.specs.Plant.{in_order, at_depth, name_for};
 ghost use Rattle.xf_doc.specs.Planted.{contents_of_bare, bare_attribute};
 ghost use Rattle.xf_walks.specs.Nodes.{IsTree};
 ghost use Rattle.xf_literal.specs.Contents.{bare_element_at, bare_all_at, IsPart};
 
-use crate::plant::{insert_sorted, push_one, push_sorted};
+use crate::plant::{insert_sorted, push_named, push_sorted, push_text};
 use std::alloc::{AllocError, Global};
-use xf_doc::{Bare, BareAttribute, BareElement, Content};
-use xf_name::{Prefixes, Word};
+use xf_doc::{Bare, BareAttribute, BareElement, Content, Name};
+use xf_name::{Prefixes, QName, Word};
 use xf_slots::{Part, duplicate_meaning, name_for};
 
 /// The contents of a literal tree with resolved names.
@@ -37,13 +37,7 @@ fn push_bare(
     ensures part { OnOk result (IsPart depth (contents_of_bare prefixes.now tree.now 0 depth)) }
 {
     match tree {
-        Bare::Text(text) => {
-            if text.is_empty() && depth > 0 {
-                return Ok(());
-            }
-            let text = Word::from_str(alloc, text.as_str())?;
-            push_one(contents, depth, Content::Text(text))
-        }
+        Bare::Text(text) => push_text(alloc, text.as_str(), depth, contents),
         Bare::Element(element) => push_element(alloc, prefixes, element, depth, contents),
     }
 }
@@ -59,13 +53,8 @@ fn push_element(
     ensures added { OnOk result (contents.new.items ≡ contents.old.items ++ bare_element_at prefixes.now element.now depth) }
     ensures part { OnOk result (IsPart depth (bare_element_at prefixes.now element.now depth)) }
 {
-    let meaning = duplicate_meaning(alloc, &element.name)?;
-    let name = name_for(alloc, prefixes, meaning)?;
-    let below = match depth.checked_add(1) {
-        Some(below) => below,
-        None => return Err(AllocError),
-    };
-    push_one(contents, depth, Content::Element(name))?;
+    let name = name_of(alloc, prefixes, &element.name)?;
+    let below = push_named(name, depth, contents)?;
     push_attributes(
         alloc,
         prefixes,
@@ -139,8 +128,15 @@ fn attribute_of(
 ) -> Result<Content, AllocError>
     ensures { IfOk result (λ content. content ≡ bare_attribute prefixes.now attribute.now) }
 {
-    let meaning = duplicate_meaning(alloc, &attribute.name)?;
-    let name = name_for(alloc, prefixes, meaning)?;
+    let name = name_of(alloc, prefixes, &attribute.name)?;
     let text = Word::from_str(alloc, attribute.text.as_str())?;
     Ok(Content::Attribute(name, text))
+}
+
+/// A resolved name as that of a node.
+fn name_of(alloc: Global, prefixes: &Prefixes, meaning: &QName) -> Result<Name, AllocError>
+    ensures { IfOk result (λ name. name ≡ name_for prefixes.now meaning.now) }
+{
+    let meaning = duplicate_meaning(alloc, meaning)?;
+    name_for(alloc, prefixes, meaning)
 }

@@ -44,11 +44,11 @@ push_element-returns-clause-added t c =
     let b = c.args.prefixes.now in
     let e = c.args.element.now in
     let own = default_below b c.args.space e.attributes in
-    let below = c.in-Some.below in
-    let two = c.in_ok-push_attributes.ensures.added ∙ ap (λ ps. c.push_one.new.tree.items ++ at_depth below (in_order (filter_map (attribute_in b) ps))) c.as_slice-attributes.ensures in
+    let below = c.in_ok-below.below in
+    let two = c.in_ok-push_attributes.ensures.added ∙ ap (λ ps. c.push_named.new.tree.items ++ at_depth below (in_order (filter_map (attribute_in b) ps))) c.as_slice-attributes.ensures in
     on_ok_weaker c.push_all.result
-    (λ h. added-element b e c.args.space c.args.depth below (Element c.in_ok-name.name) c.args.tree.now.items c.push_one.new.tree.items c.push_attributes.new.tree.items c.push_all.new.tree.items
-    c.in-Some.ensures.1 (content-is t k) c.in_ok-push_one.ensures.added two
+    (λ h. added-element b e c.args.space c.args.depth below (Element c.in_ok-name.name) c.args.tree.now.items c.push_named.new.tree.items c.push_attributes.new.tree.items c.push_all.new.tree.items
+    c.in_ok-below.ensures.below (content-is t k) c.in_ok-below.ensures.added two
     (h ∙ ap (λ ls. c.push_attributes.new.tree.items ++ contents_of_all b ls c.default_in-own.result below) c.as_slice.ensures
     ∙ ap (λ o. c.push_attributes.new.tree.items ++ contents_of_all b e.children o below) (own-is t k)))
     c.push_all.ensures.added
@@ -58,10 +58,10 @@ push_element-returns-clause-part t c =
     let k = (goal.at.push_element-returns-clause-part t c).After-push_all in
     let b = c.args.prefixes.now in
     let e = c.args.element.now in
-    let below = c.in-Some.below in
+    let below = c.in_ok-below.below in
     let attributes = subst (λ ps. IsPart below (at_depth below (in_order (filter_map (attribute_in b) ps)))) c.as_slice-attributes.ensures c.in_ok-push_attributes.ensures.part in
     on_ok_weaker c.push_all.result
-    (λ h. part-element b e c.args.space c.args.depth below (Element c.in_ok-name.name) c.in-Some.ensures.1 (content-is t k) c.push_one.ensures.small attributes
+    (λ h. part-element b e c.args.space c.args.depth below (Element c.in_ok-name.name) c.in_ok-below.ensures.below (content-is t k) c.in_ok-below.ensures.small attributes
     (subst (λ o. IsPart below (contents_of_all b e.children o below)) (own-is t k)
     (subst (λ ls. IsPart below (contents_of_all b ls c.default_in-own.result below)) c.as_slice.ensures h)))
     c.push_all.ensures.part

@@ -29,18 +29,18 @@ push_all-loop-tree-preserved t c =
 -- ---- an element
 
 content-is : (t : ℕ) (c : push_element-After-push_all t) → ◌≡◌ {A = Content} (Element c.in_ok-name.name) (Element (name_for c.args.prefixes.now c.args.element.now.name))
-content-is t c = ap Element (c.in_ok-name.ensures ∙ ap (name_for c.args.prefixes.now) c.in_ok-meaning.ensures)
+content-is t c = ap Element c.in_ok-name.ensures
 
 pub push_element-returns-clause-added : goal.push_element-returns-clause-added
 push_element-returns-clause-added t c =
     let k = (goal.at.push_element-returns-clause-added t c).After-push_all in
     let b = c.args.prefixes.now in
     let e = c.args.element.now in
-    let below = c.in-Some.below in
-    let two = c.in_ok-push_attributes.ensures.added ∙ ap (λ l. c.push_one.new.tree.items ++ at_depth below (in_order (map (bare_attribute b) l))) c.as_slice.ensures in
+    let below = c.in_ok-below.below in
+    let two = c.in_ok-push_attributes.ensures.added ∙ ap (λ l. c.push_named.new.tree.items ++ at_depth below (in_order (map (bare_attribute b) l))) c.as_slice.ensures in
     on_ok_weaker c.push_all.result
-    (λ h. bare-added b e c.args.depth below (Element c.in_ok-name.name) c.args.contents.now.items c.push_one.new.tree.items c.push_attributes.new.contents.items c.push_all.new.contents.items
-    c.in-Some.ensures.1 (content-is t k) c.in_ok-push_one.ensures.added two
+    (λ h. bare-added b e c.args.depth below (Element c.in_ok-name.name) c.args.contents.now.items c.push_named.new.tree.items c.push_attributes.new.contents.items c.push_all.new.contents.items
+    c.in_ok-below.ensures.below (content-is t k) c.in_ok-below.ensures.added two
     (h ∙ ap (λ l. c.push_attributes.new.contents.items ++ bare_all_at b l below) c.as_slice-2.ensures))
     c.push_all.ensures.added
 
@@ -49,8 +49,8 @@ push_element-returns-clause-part t c =
     let k = (goal.at.push_element-returns-clause-part t c).After-push_all in
     let b = c.args.prefixes.now in
     let e = c.args.element.now in
-    let below = c.in-Some.below in
+    let below = c.in_ok-below.below in
     let attributes = subst (λ l. IsPart below (at_depth below (in_order (map (bare_attribute b) l)))) c.as_slice.ensures c.in_ok-push_attributes.ensures.part in
     on_ok_weaker c.push_all.result
-    (λ h. bare-part b e c.args.depth below (Element c.in_ok-name.name) c.in-Some.ensures.1 (content-is t k) c.push_one.ensures.small attributes (subst (λ l. IsPart below (bare_all_at b l below)) c.as_slice-2.ensures h))
+    (λ h. bare-part b e c.args.depth below (Element c.in_ok-name.name) c.in_ok-below.ensures.below (content-is t k) c.in_ok-below.ensures.small attributes (subst (λ l. IsPart below (bare_all_at b l below)) c.as_slice-2.ensures h))
     c.push_all.ensures.part
