@@ -65,6 +65,12 @@ bare-Element : (b : Bindings) (e : BareElement) (depth : ℕ) → contents_of_ba
 bare-Element b e depth =
     ap (λ w. w 0 depth) (ap (contents_of_bare b) (sym (bare.rolls-Element e)) ∙ fold-roll-Bare Contents Contents bare_contents (bare_element_contents b) (Bare-F.Element e))
 
+pub bare-text : (b : Bindings) (x : Bare) (text word : List ℕ) (depth : ℕ) → x ≡ bare.Text text → word ≡ text → text_contents word 0 depth ≡ contents_of_bare b x 0 depth
+bare-text b x text word depth is same = ap (λ w. text_contents w 0 depth) same ∙ sym (ap (λ w. w 0 depth) (ap (contents_of_bare b) is ∙ bare-Text b text))
+
+pub bare-element : (b : Bindings) (x : Bare) (e : BareElement) (depth : ℕ) → x ≡ bare.Element e → bare_element_at b e depth ≡ contents_of_bare b x 0 depth
+bare-element b x e depth is = sym (ap (λ w. contents_of_bare b w 0 depth) is ∙ bare-Element b e depth)
+
 abbrev BareCase : Bare → Type 0
 BareCase x = ((t : List ℕ) × (x ≡ bare.Text t)) ⊎ ((e : BareElement) × (x ≡ bare.Element e))
 

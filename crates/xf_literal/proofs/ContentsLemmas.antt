@@ -1,5 +1,5 @@
 -- The contents of a literal tree, level by level, and that they are those of a tree.
-use Rattle.std.proofs.Common.{◌≡◌, ℕ, suc, ◌+◌, ◌<◌, ◌≤◌, ◌^◌, ◌==◌, true, false, List, [], ◌∷◌, ◌++◌, map, flat_map, length, refl, sym, ap, ◌∙◌, subst, inl, inr, arith, append_assoc}
+use Rattle.std.proofs.Common.{◌≡◌, ℕ, suc, ◌+◌, ◌≤◌, ◌^◌, ◌==◌, true, false, List, [], ◌∷◌, ◌++◌, map, flat_map, refl, sym, ap, ◌∙◌, subst, inl, inr, arith, append_assoc}
 use Rattle.std.specs.Prelude.{◌⊎◌}
 use Rattle.std.specs.List.{filter_map}
 use Rattle.std.proofs.lemmas.Bool.{cases_Bool, false≢true}
@@ -17,7 +17,6 @@ use Rattle.xf_doc.specs.Forest.{is_root, is_attribute}
 use Rattle.xf_doc.specs.Limits.{size_of}
 use Rattle.xf_doc.specs.Plant.{Contents, lit_contents, element_contents, contents_of, text_contents, at_depth, in_order, attribute_in, default_below, element_name}
 use Rattle.xf_rows.specs.Rows.{AreSteps}
-use Rattle.xf_slots.proofs.AlikeLemmas.{eq-true}
 use Rattle.xf_walks.specs.First.{AllFrom, attribute_depth, AreFirst}
 use Rattle.xf_walks.specs.Leaves.{is_leaf, NotDeeper}
 use Rattle.xf_walks.specs.Nodes.{AllPlain}
@@ -26,17 +25,17 @@ use Rattle.xf_walks.proofs.LeafLemmas.{leaves-append, steps-not_deeper}
 use Rattle.xf_walks.proofs.FirstLemmas.{AllAttributes, BeginsPlain, attribute-behind, depth_behind, first-append, first-plain}
 use Rattle.xf_literal.specs.Contents.{contents_of_element, contents_of_all, IsPart, AllSmall}
 
-pub contents-Text : (b : Bindings) (text : List ℕ) → contents_of b (lit.Text text) ≡ text_contents text
+contents-Text : (b : Bindings) (text : List ℕ) → contents_of b (lit.Text text) ≡ text_contents text
 contents-Text b text = ap (contents_of b) (sym (lit.rolls-Text text)) ∙ fold-roll-Lit Contents Contents lit_contents (element_contents b) (Lit-F.Text text)
 
-pub contents-Element : (b : Bindings) (e : LitElement) → contents_of b (lit.Element e) ≡ contents_of_element b e
+contents-Element : (b : Bindings) (e : LitElement) → contents_of b (lit.Element e) ≡ contents_of_element b e
 contents-Element b e = ap (contents_of b) (sym (lit.rolls-Element e)) ∙ fold-roll-Lit Contents Contents lit_contents (element_contents b) (Lit-F.Element e)
 
 all-map : (b : Bindings) (xs : List Lit) (space depth : ℕ) → flat_map (λ child. child space depth) (map (contents_of b) xs) ≡ contents_of_all b xs space depth
 all-map b [] space depth = refl
 all-map b (x ∷ xs) space depth = ap (λ cs. contents_of b x space depth ++ cs) (all-map b xs space depth)
 
-pub contents_of_element-is : (b : Bindings) (e : LitElement) (space depth : ℕ)
+contents_of_element-is : (b : Bindings) (e : LitElement) (space depth : ℕ)
     → contents_of_element b e space depth
     ≡ ((depth, Element (element_name b (resolved b e.name (default_below b space e.attributes)))) ∷ at_depth (suc depth) (in_order (filter_map (attribute_in b) e.attributes)))
     ++ contents_of_all b e.children (default_below b space e.attributes) (suc depth)
@@ -45,10 +44,17 @@ contents_of_element-is b e space depth =
     let first = (depth, Element (element_name b (resolved b e.name own))) ∷ at_depth (suc depth) (in_order (filter_map (attribute_in b) e.attributes)) in
     ap (λ w. w space depth) (fold_out-LitElement Contents Contents lit_contents (element_contents b) e) ∙ ap (λ cs. first ++ cs) (all-map b e.children own (suc depth))
 
-pub text-put : (text : List ℕ) (space depth : ℕ) → (0 < length text) ⊎ (depth ≡ 0) → (depth, Text text) ∷ [] ≡ text_contents text space depth
-text-put [] space depth (inl h) = absurd (omega arith)
-text-put [] space depth (inr e) = rw (eq-true depth 0 e) (ap (λ d. (d, Text []) ∷ []) e)
-text-put (c ∷ cs) space depth h = refl
+-- the contents of a text are the same below any namespace
+text-anywhere : (text : List ℕ) (space depth : ℕ) → text_contents text 0 depth ≡ text_contents text space depth
+text-anywhere [] space depth = refl
+text-anywhere (c ∷ cs) space depth = refl
+
+pub text-contents : (b : Bindings) (x : Lit) (text word : List ℕ) (space depth : ℕ) → x ≡ lit.Text text → word ≡ text → text_contents word 0 depth ≡ contents_of b x space depth
+text-contents b x text word space depth is same =
+    ap (λ w. text_contents w 0 depth) same ∙ text-anywhere text space depth ∙ sym (ap (λ w. w space depth) (ap (contents_of b) is ∙ contents-Text b text))
+
+pub element-contents : (b : Bindings) (x : Lit) (e : LitElement) (space depth : ℕ) → x ≡ lit.Element e → contents_of_element b e space depth ≡ contents_of b x space depth
+element-contents b x e space depth is = sym (ap (λ w. w space depth) (ap (contents_of b) is ∙ contents-Element b e))
 
 -- ---- parts of a tree
 

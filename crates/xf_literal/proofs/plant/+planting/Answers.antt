@@ -1,4 +1,5 @@
 use Rattle.std.proofs.Common.{◌≡◌, ◌+◌, ◌++◌, ◌∷◌, ℕ, drop, sym, ap, ◌∙◌, subst, append_assoc, add-one}
+use Rattle.std.proofs.lemmas.List.{drop_all}
 use Rattle.std.proofs.lemmas.Result.{on_ok_weaker}
 use Rattle.std.proofs.Math.Seq.{drop-cons}
 use Rattle.std.specs.List.{filter_map}
@@ -7,7 +8,7 @@ use Rattle.xf_doc.specs.declared.content.Content.{Content}
 use Rattle.xf_doc.specs.declared.content.Content.TheVariants.{Element}
 use Rattle.xf_doc.specs.Plant.{contents_of, default_below, element_name, at_depth, in_order, attribute_in}
 use Rattle.xf_literal.specs.Contents.{contents_of_all, IsPart}
-use Rattle.xf_literal.proofs.ContentsLemmas.{part-append, part-element, added-element, children-plain}
+use Rattle.xf_literal.proofs.ContentsLemmas.{text-contents, element-contents, part-none, part-append, part-element, added-element, children-plain}
 use Rattle.xf_literal.proofs.plant.+planting.Goals.{push_element-After-push_all}
 use Rattle.xf_literal.proofs.plant.+planting.Goals as goal
 
@@ -65,3 +66,26 @@ push_element-returns-clause-part t c =
     (subst (λ o. IsPart below (contents_of_all b e.children o below)) (own-is t k)
     (subst (λ ls. IsPart below (contents_of_all b ls c.default_in-own.result below)) c.as_slice.ensures h)))
     c.push_all.ensures.part
+
+-- ---- a tree, and the end of trees
+
+pub push_lit-returns-in-Text-clause-added : goal.push_lit-returns-in-Text-clause-added
+push_lit-returns-in-Text-clause-added t c =
+    on_ok_weaker c.push_text.result (λ h. h ∙ ap (λ l. c.args.tree.now.items ++ l) (text-contents c.args.prefixes.now c.args.lit.now c.in-Text.text c.as_str.result.now c.args.space c.args.depth c.in-Text.is c.as_str.ensures)) c.push_text.ensures.added
+
+pub push_lit-returns-in-Text-clause-part : goal.push_lit-returns-in-Text-clause-part
+push_lit-returns-in-Text-clause-part t c =
+    on_ok_weaker c.push_text.result (subst (IsPart c.args.depth) (text-contents c.args.prefixes.now c.args.lit.now c.in-Text.text c.as_str.result.now c.args.space c.args.depth c.in-Text.is c.as_str.ensures)) c.push_text.ensures.part
+
+pub push_lit-returns-in-Element-clause-added : goal.push_lit-returns-in-Element-clause-added
+push_lit-returns-in-Element-clause-added t c =
+    on_ok_weaker c.push_element.result (λ h. h ∙ ap (λ l. c.args.tree.now.items ++ l) (element-contents c.args.prefixes.now c.args.lit.now c.in-Element.element c.args.space c.args.depth c.in-Element.is)) c.push_element.ensures.added
+
+pub push_lit-returns-in-Element-clause-part : goal.push_lit-returns-in-Element-clause-part
+push_lit-returns-in-Element-clause-part t c =
+    on_ok_weaker c.push_element.result (subst (IsPart c.args.depth) (element-contents c.args.prefixes.now c.args.lit.now c.in-Element.element c.args.space c.args.depth c.in-Element.is)) c.push_element.ensures.part
+
+pub push_all-returns-clause-part : goal.push_all-returns-clause-part
+push_all-returns-clause-part t c =
+    let past = drop_all c.loop-lit.lit-index c.args.lits.now c.loop-lit-test.false in
+    c.loop-lit.invariant.part (subst (λ l. IsPart c.args.depth (contents_of_all c.args.prefixes.now l c.args.space c.args.depth)) (sym past) (part-none c.args.depth))

@@ -1,4 +1,5 @@
 use Rattle.std.proofs.Common.{◌≡◌, ◌+◌, ◌++◌, ◌∷◌, ℕ, map, drop, sym, ap, ◌∙◌, subst, append_assoc, add-one}
+use Rattle.std.proofs.lemmas.List.{drop_all}
 use Rattle.std.proofs.lemmas.Result.{on_ok_weaker}
 use Rattle.std.proofs.Math.Seq.{drop-cons}
 use Rattle.xf_doc.specs.declared.content.Content.{Content}
@@ -6,8 +7,8 @@ use Rattle.xf_doc.specs.declared.content.Content.TheVariants.{Element}
 use Rattle.xf_doc.specs.Plant.{at_depth, in_order, name_for}
 use Rattle.xf_doc.specs.Planted.{contents_of_bare, bare_attribute}
 use Rattle.xf_literal.specs.Contents.{bare_all_at, IsPart}
-use Rattle.xf_literal.proofs.BareContents.{bare-added, bare-part, trees-plain}
-use Rattle.xf_literal.proofs.ContentsLemmas.{part-append}
+use Rattle.xf_literal.proofs.BareContents.{bare-text, bare-element, bare-added, bare-part, trees-plain}
+use Rattle.xf_literal.proofs.ContentsLemmas.{part-none, part-append}
 use Rattle.xf_literal.proofs.plant_bare.+bare_planting.Goals.{push_element-After-push_all}
 use Rattle.xf_literal.proofs.plant_bare.+bare_planting.Goals as goal
 
@@ -54,3 +55,26 @@ push_element-returns-clause-part t c =
     on_ok_weaker c.push_all.result
     (λ h. bare-part b e c.args.depth below (Element c.in_ok-name.name) c.in_ok-below.ensures.below (content-is t k) c.in_ok-below.ensures.small attributes (subst (λ l. IsPart below (bare_all_at b l below)) c.as_slice-2.ensures h))
     c.push_all.ensures.part
+
+-- ---- a tree, and the end of trees
+
+pub push_bare-returns-in-Text-clause-added : goal.push_bare-returns-in-Text-clause-added
+push_bare-returns-in-Text-clause-added t c =
+    on_ok_weaker c.push_text.result (λ h. h ∙ ap (λ l. c.args.contents.now.items ++ l) (bare-text c.args.prefixes.now c.args.tree.now c.in-Text.text c.as_str.result.now c.args.depth c.in-Text.is c.as_str.ensures)) c.push_text.ensures.added
+
+pub push_bare-returns-in-Text-clause-part : goal.push_bare-returns-in-Text-clause-part
+push_bare-returns-in-Text-clause-part t c =
+    on_ok_weaker c.push_text.result (subst (IsPart c.args.depth) (bare-text c.args.prefixes.now c.args.tree.now c.in-Text.text c.as_str.result.now c.args.depth c.in-Text.is c.as_str.ensures)) c.push_text.ensures.part
+
+pub push_bare-returns-in-Element-clause-added : goal.push_bare-returns-in-Element-clause-added
+push_bare-returns-in-Element-clause-added t c =
+    on_ok_weaker c.push_element.result (λ h. h ∙ ap (λ l. c.args.contents.now.items ++ l) (bare-element c.args.prefixes.now c.args.tree.now c.in-Element.element c.args.depth c.in-Element.is)) c.push_element.ensures.added
+
+pub push_bare-returns-in-Element-clause-part : goal.push_bare-returns-in-Element-clause-part
+push_bare-returns-in-Element-clause-part t c =
+    on_ok_weaker c.push_element.result (subst (IsPart c.args.depth) (bare-element c.args.prefixes.now c.args.tree.now c.in-Element.element c.args.depth c.in-Element.is)) c.push_element.ensures.part
+
+pub push_all-returns-clause-part : goal.push_all-returns-clause-part
+push_all-returns-clause-part t c =
+    let past = drop_all c.loop-tree.tree-index c.args.trees.now c.loop-tree-test.false in
+    c.loop-tree.invariant.part (subst (λ l. IsPart c.args.depth (bare_all_at c.args.prefixes.now l c.args.depth)) (sym past) (part-none c.args.depth))
