@@ -85,6 +85,18 @@ same-view s s2 rows kept next same sound =
     let whole : List Node → List KeptText → Keeping = λ nodes texts. record { forest = record { nodes = nodes; next = next }; kept = texts } in
     ap (λ l. whole l (map (kept_of s2) kept)) (kept-nodes s s2 rows sound.live keeps) ∙ ap (whole (map (node_of s) rows)) (kept-same s s2 kept sound.kept_live keeps)
 
+-- the same where rows and kept texts are the same too
+pub moved-state : (s s2 : Slab Slot) (rows rows2 : List Row) (kept kept2 : List ℕ) (next total size room room2 : ℕ) → ((key : ℕ) → get s2 key ≡ get s key) → rows2 ≡ rows → kept2 ≡ kept → room ≤ room2
+    → IsState s rows kept next total size room → IsState s2 rows2 kept2 next total size room2
+moved-state s s2 rows rows2 kept kept2 next total size room room2 same er ek more state =
+    subst (λ r. IsState s2 r kept2 next total size room2) (sym er)
+    (subst (λ k. IsState s2 rows k next total size room2) (sym ek) (same-state s s2 rows kept next total size room room2 same more state))
+
+pub moved-view : (s s2 : Slab Slot) (rows rows2 : List Row) (kept kept2 : List ℕ) (next : ℕ) → ((key : ℕ) → get s2 key ≡ get s key) → rows2 ≡ rows → kept2 ≡ kept → IsSound s rows kept next
+    → keeping_of s2 rows2 kept2 next ≡ keeping_of s rows kept next
+moved-view s s2 rows rows2 kept kept2 next same er ek sound =
+    ap (λ r. keeping_of s2 r kept2 next) er ∙ ap (λ k. keeping_of s2 rows k next) ek ∙ same-view s s2 rows kept next same sound
+
 -- the depths of rows are those of their nodes
 node-steps : (s : Slab Slot) (rows : List Row) (next : ℕ) (cs : List (ℕ × Content)) → map (node_of s) rows ≡ numbered_from next cs → depths rows ≡ map (λ (p : ℕ × Content). p.0) cs
 node-steps s rows next cs e = by_nodes s rows ∙ ap (map (λ (x : Node). x.depth)) e ∙ of_numbered next cs

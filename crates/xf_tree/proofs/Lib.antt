@@ -27,5 +27,6 @@ pub mod ChildlessLemmas
 pub mod SwapLemmas
 pub mod SetLemmas
 pub mod TakenLemmas
+pub mod SwappedLemmas
 pub mod BackLemmas
 pub mod PrintLemmas

@@ -1,3 +1,4 @@
 pub mod Calls
 pub mod Settled
 pub mod State
+pub mod Swapped

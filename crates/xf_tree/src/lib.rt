@@ -14,6 +14,7 @@ mod print;
 mod read;
 mod set;
 mod settle;
+mod texts;
 
 pub use before::Before;
 pub use forest::Forest;

@@ -12,9 +12,9 @@ ghost use Rattle.xf_changes.specs.Texts.{numbers_in};
 
 use crate::before::{Before, Had};
 use crate::forest::Forest;
+use crate::texts::{sums_of, swap_texts};
 use xf_changes::{
-    change_texts, change_value, free_all, free_texts, passed, size_of_texts, take_kept, text_count,
-    texts_in,
+    change_texts, change_value, free_all, free_texts, passed, size_of_texts, take_kept,
 };
 use xf_doc::{Kind, NodeId, TreeFault};
 use xf_name::Word;
@@ -71,18 +71,28 @@ impl Forest {
         let Some(at) = row_of(&self.rows, &self.slots, &self.hints, node) else {
             return Err(TreeFault::Memory);
         };
-        let end = end_of(&self.rows, at);
-        let (taken, size) = texts_in(&slice(&self.rows, at + 1, end), &self.slots);
-        let more = text_count(text);
-        let count = self.count.saturating_sub(taken).saturating_add(more);
-        let rest = self.bytes.saturating_sub(size);
-        let bytes = rest.saturating_add(text.len() as u128);
-        if let Some(fault) = passed(count, text.len(), bytes) {
+        let sums = sums_of(&self.rows, &self.slots, at, text, self.count, self.bytes);
+        if let Some(fault) = passed(sums.count, text.len(), sums.bytes) {
             return Err(fault);
         }
         let number = self.next;
-        let before = self.write_content(node, text, number, number + more as u128)?;
-        Ok(before)
+        let had = swap_texts(
+            self.alloc,
+            &mut self.rows,
+            &mut self.slots,
+            &mut self.hints,
+            &mut self.kept,
+            node.number,
+            number,
+            text,
+            sums,
+        )?;
+        self.next = number + sums.more as u128;
+        self.count = sums.count;
+        self.bytes = sums.bytes;
+        Ok(Before {
+            had: Had::Texts(had),
+        })
     }
 
     /// Gives a node back what it had: the kept texts with their numbers, or the attribute's text. Takes no memory.

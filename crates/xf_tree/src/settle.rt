@@ -11,10 +11,9 @@ ghost use Rattle.xf_tree.specs.Settled.{text_written, IsSpare};
 
 use crate::before::{Before, Had};
 use crate::forest::Forest;
+use crate::texts::{sums_of, swap_texts};
 use std::alloc::AllocError;
-use xf_changes::{
-    add_text, change_texts, change_value, keep_texts, make_room, passed, text_count, texts_in,
-};
+use xf_changes::{change_value, passed};
 use xf_doc::{Kind, NodeId, TreeFault};
 use xf_name::Word;
 use xf_rows::{end_of, slice};
@@ -95,7 +94,7 @@ impl Forest {
     }
 
     /// Writes the text of an element with a number; another one is next then.
-    pub(crate) fn write_content(
+    fn write_content(
         &mut self,
         node: NodeId,
         text: &str,
@@ -111,35 +110,21 @@ impl Forest {
         let Some(at) = row_of(&self.rows, &self.slots, &self.hints, node) else {
             return Err(AllocError);
         };
-        let end = end_of(&self.rows, at);
-        let (taken, size) = texts_in(&slice(&self.rows, at + 1, end), &self.slots);
-        let more = text_count(text);
-        let count = self.count.saturating_sub(taken).saturating_add(more);
-        let rest = self.bytes.saturating_sub(size);
-        let bytes = rest.saturating_add(text.len() as u128);
-        let word = Word::from_str(self.alloc, text)?;
-        let mut had = Vec::with_capacity(self.alloc, taken)?;
-        make_room(&mut self.rows, &mut self.slots, &mut self.kept, taken)?;
-        let place = add_text(&mut self.slots, number, word);
-        keep_texts(
-            &slice(&self.rows, at + 1, end),
-            &mut self.slots,
-            &mut self.kept,
-            &mut had,
-            node.number,
-        );
-        self.hints.reserve(place);
-        let texts = [NodeId { number, place }];
-        change_texts(
+        let sums = sums_of(&self.rows, &self.slots, at, text, self.count, self.bytes);
+        let had = swap_texts(
+            self.alloc,
             &mut self.rows,
-            &self.slots,
+            &mut self.slots,
             &mut self.hints,
-            at,
-            &texts[..more],
-        );
+            &mut self.kept,
+            node.number,
+            number,
+            text,
+            sums,
+        )?;
         self.next = next;
-        self.count = count;
-        self.bytes = bytes;
+        self.count = sums.count;
+        self.bytes = sums.bytes;
         Ok(Before {
             had: Had::Texts(had),
         })

@@ -1,27 +1,31 @@
-use Rattle.std.proofs.Common.{◌≡◌, ℕ, ◌+◌, ◌-◌, ◌≤◌, length, map, take, drop, List, false, Some, Ok, inr, refl, sym, ap, ◌∙◌, subst, arith}
-use Rattle.std.proofs.lemmas.List.{length-map}
+use Rattle.std.proofs.Common.{◌≡◌, ℕ, ◌+◌, ◌-◌, ◌≤◌, length, map, false, Some, Ok, inr, sym, ap, ◌∙◌, subst, arith}
 use Rattle.xf_doc.specs.declared.content.Kind.TheVariants.{Element}
 use Rattle.xf_doc.specs.Forest.{kind_at}
 use Rattle.xf_doc.specs.Visit.{visits}
 use Rattle.xf_doc.specs.Shape.{has_elements}
 use Rattle.xf_doc.specs.Limits.{limits, unless, all_size}
 use Rattle.xf_doc.specs.Texts.{Before, Keeping, text_set}
-use Rattle.xf_rows.specs.declared.rows.Row.{Row}
-use Rattle.xf_rows.specs.Rows.{tree_of, deeper}
-use Rattle.xf_slots.specs.Keys.{kept_times}
-use Rattle.xf_walks.specs.Nodes.{StandsAt, node_of, times}
-use Rattle.xf_walks.proofs.CountLemmas.{nodes-most}
-use Rattle.xf_walks.proofs.PlaceLemmas.{tree-size}
-use Rattle.xf_changes.specs.Texts.{passed_by, text_count, children, run_of, depth_at}
+use Rattle.xf_walks.specs.Nodes.{StandsAt, node_of}
+use Rattle.xf_changes.specs.Texts.{passed_by, text_count, children, run_of}
 use Rattle.xf_tree.specs.State.{keeping_of}
 use Rattle.xf_tree.specs.Settled.{text_written}
-use Rattle.xf_tree.proofs.AddLemmas.{bytes-most}
-use Rattle.xf_tree.proofs.SetLemmas.{content-passed, no-attribute, set-written, count-most}
+use Rattle.xf_tree.proofs.AddLemmas.{moved-state}
+use Rattle.xf_tree.proofs.ChildlessLemmas.{run-flat}
+use Rattle.xf_tree.proofs.SetLemmas.{content-passed, no-attribute, set-written, depth-most}
+use Rattle.xf_tree.proofs.SwapLemmas.{live-run}
+use Rattle.xf_tree.proofs.SwappedLemmas.{count-few, size-few, swapped-state, swapped-view}
 use Rattle.xf_tree.proofs.forest.Forest.set_content.Goals.{After-passed as Passed}
 use Rattle.xf_tree.proofs.forest.Forest.set_content.Goals as goal
 
-stands-in : (c : Passed) → StandsAt c.self.inside.slots c.self.inside.rows.items c.args.node.number c.in-Some.at
-stands-in c = c.in-Some.ensures
+pub sums_of-sums-requires-clause-counted : goal.sums_of-sums-requires-clause-counted
+sums_of-sums-requires-clause-counted c = count-few c.self.inside.slots c.self.inside.rows.items c.self.inside.kept.items c.self.inside.next c.self.inside.count c.self.inside.bytes _ c.self.invariant
+
+pub sums_of-sums-requires-clause-small : goal.sums_of-sums-requires-clause-small
+sums_of-sums-requires-clause-small c = size-few c.self.inside.slots c.self.inside.rows.items c.self.inside.kept.items c.self.inside.next c.self.inside.count c.self.inside.bytes _ c.self.invariant
+
+-- where the element stands, and that it has texts only
+stands-in : (c : Passed) → StandsAt c.self.inside.slots c.self.inside.rows.items c.args.node.number c.sums_of-sums.result.at
+stands-in c = subst (StandsAt c.self.inside.slots c.self.inside.rows.items c.args.node.number) (sym c.sums_of-sums.ensures.at) c.in-Some.ensures
 
 kind-in : (c : Passed) → kind_at c.args.node.number (map (node_of c.self.inside.slots) c.self.inside.rows.items) ≡ Some Element
 kind-in c = ap (λ (k : Keeping). kind_at c.args.node.number k.forest.nodes) c.self.view_is ∙ c.requires.kind
@@ -29,47 +33,11 @@ kind-in c = ap (λ (k : Keeping). kind_at c.args.node.number k.forest.nodes) c.s
 childless-in : (c : Passed) → has_elements (visits (map (node_of c.self.inside.slots) c.self.inside.rows.items)) c.args.node.number ≡ false
 childless-in c = ap (λ (k : Keeping). has_elements (visits k.forest.nodes) c.args.node.number) c.self.view_is ∙ c.requires.childless
 
--- the rows from the one after the element to the end of its tree
-run-in : (c : Passed) (rows : List Row) → rows ≡ c.self.inside.rows.items → take (c.end_of-end.result - (c.in-Some.at + 1)) (drop (c.in-Some.at + 1) rows) ≡ run_of c.in-Some.at c.self.inside.rows.items
-run-in c rows e =
-    let at = c.in-Some.at in
-    let old = c.self.inside.rows.items in
-    let end : c.end_of-end.result ≡ at + length (tree_of (drop at old)) = c.end_of-end.ensures.answer in
-    let long : c.end_of-end.result - (at + 1) ≡ deeper (depth_at at old) (drop (at + 1) old) = omega (arith, end, tree-size at old (stands-in c).within) in
-    ap (λ l. take (c.end_of-end.result - (at + 1)) (drop (at + 1) l)) e ∙ ap (λ k. take k (drop (at + 1) old)) long
-
-taken-in : (c : Passed) → c.texts_in-taken.result.0 ≡ length (children c.self.inside.slots (run_of c.in-Some.at c.self.inside.rows.items))
-taken-in c = c.texts_in-taken.ensures.count ∙ ap (λ l. length (children c.self.inside.slots l)) (c.slice.ensures ∙ run-in c c.self.inside.rows.items refl)
-
-size-in : (c : Passed) → c.texts_in-taken.result.1 ≡ all_size (map (node_of c.self.inside.slots) (children c.self.inside.slots (run_of c.in-Some.at c.self.inside.rows.items)))
-size-in c = c.texts_in-taken.ensures.size ∙ ap (λ l. all_size (map (node_of c.self.inside.slots) (children c.self.inside.slots l))) (c.slice.ensures ∙ run-in c c.self.inside.rows.items refl)
-
-count-in : (c : Passed) → c.saturating_add-count.result ≡ c.self.inside.count - length (children c.self.inside.slots (run_of c.in-Some.at c.self.inside.rows.items)) + text_count c.args.text.now
-count-in c =
-    let m = nodes-most (map (node_of c.self.inside.slots) c.self.inside.rows.items) in
-    omega (
-      arith,
-      c.saturating_add-count.ensures,
-      c.saturating_sub.ensures,
-      taken-in c,
-      c.text_count-more.ensures,
-      m,
-      c.self.invariant.counted.count,
-      c.self.invariant.sound.few,
-      length-map c.self.inside.rows.items (node_of c.self.inside.slots),
-      count-most c.args.text.now,
-    )
-
-bytes-in : (c : Passed) → c.saturating_add-bytes.result ≡ c.self.inside.bytes - all_size (map (node_of c.self.inside.slots) (children c.self.inside.slots (run_of c.in-Some.at c.self.inside.rows.items))) + length c.args.text.now
-bytes-in c =
-    let b = bytes-most c.self.inside.slots c.self.inside.rows.items c.self.invariant.counted.small in
-    omega (arith, c.saturating_add-bytes.ensures, c.saturating_sub-rest.ensures, size-in c, b, c.self.invariant.counted.bytes, c.self.invariant.sound.few)
-
-passed-in : (c : Passed) → c.passed.result ≡ passed_by (c.self.inside.count - length (children c.self.inside.slots (run_of c.in-Some.at c.self.inside.rows.items)) + text_count c.args.text.now) (length c.args.text.now)
-    (c.self.inside.bytes - all_size (map (node_of c.self.inside.slots) (children c.self.inside.slots (run_of c.in-Some.at c.self.inside.rows.items))) + length c.args.text.now)
+passed-in : (c : Passed) → c.passed.result ≡ passed_by (c.self.inside.count - length (children c.self.inside.slots (run_of c.sums_of-sums.result.at c.self.inside.rows.items)) + text_count c.args.text.now) (length c.args.text.now)
+    (c.self.inside.bytes - all_size (map (node_of c.self.inside.slots) (children c.self.inside.slots (run_of c.sums_of-sums.result.at c.self.inside.rows.items))) + length c.args.text.now)
 passed-in c =
-    c.passed.ensures ∙ ap (λ k. passed_by k (length c.args.text.now) c.saturating_add-bytes.result) (count-in c)
-    ∙ ap (λ b. passed_by (c.self.inside.count - length (children c.self.inside.slots (run_of c.in-Some.at c.self.inside.rows.items)) + text_count c.args.text.now) (length c.args.text.now) b) (bytes-in c)
+    c.passed.ensures ∙ ap (λ k. passed_by k (length c.args.text.now) c.sums_of-sums.result.bytes) c.sums_of-sums.ensures.count
+    ∙ ap (λ b. passed_by (c.self.inside.count - length (children c.self.inside.slots (run_of c.sums_of-sums.result.at c.self.inside.rows.items)) + text_count c.args.text.now) (length c.args.text.now) b) c.sums_of-sums.ensures.bytes
 
 -- the text has the next number, and the one behind it is next then
 set-in : (c : Passed) → text_set limits c.args.node.number c.args.text.now c.args.self.now
@@ -80,10 +48,11 @@ set-in c =
     let text = c.args.text.now in
     let rows = c.self.inside.rows.items in
     let next = c.self.inside.next in
+    let at = c.sums_of-sums.result.at in
     let k = keeping_of s rows c.self.inside.kept.items next in
     let written : Keeping → Before × Keeping = text_written next (next + text_count text) n text in
-    let none = no-attribute s n c.in-Some.at next text rows c.self.inside.kept.items next c.self.inside.count c.self.inside.bytes _ c.self.invariant (stands-in c) (kind-in c) (childless-in c) in
-    let limit = content-passed s n c.in-Some.at text rows c.self.inside.kept.items next c.self.inside.count c.self.inside.bytes _ c.self.invariant (stands-in c) (kind-in c) (childless-in c) in
+    let none = no-attribute s n at next text rows c.self.inside.kept.items next c.self.inside.count c.self.inside.bytes _ c.self.invariant (stands-in c) (kind-in c) (childless-in c) in
+    let limit = content-passed s n at text rows c.self.inside.kept.items next c.self.inside.count c.self.inside.bytes _ c.self.invariant (stands-in c) (kind-in c) (childless-in c) in
     ap (text_set limits n text) (sym c.self.view_is) ∙ set-written n text k none ∙ ap (λ o. unless o (written k)) (limit ∙ sym (passed-in c))
     ∙ ap (λ (k : Keeping). unless c.passed.result (written k)) c.self.view_is
 
@@ -92,19 +61,44 @@ returns-in-Some-passed-clause-answer c =
     let p = (goal.at.returns-in-Some-passed-clause-answer c).After-passed in
     inr (set-in p ∙ ap (λ o. unless o (text_written c.self.inside.next (c.self.inside.next + text_count c.args.text.now) c.args.node.number c.args.text.now c.args.self.now)) c.in-Some-passed.is)
 
-pub write_content-requires-clause-number : goal.write_content-requires-clause-number
-write_content-requires-clause-number c =
+pub swap_texts-requires-clause-deep : goal.swap_texts-requires-clause-deep
+swap_texts-requires-clause-deep c =
+    let p = (goal.at.swap_texts-requires-clause-deep c).After-passed in
+    depth-most c.sums_of-sums.result.at c.self.inside.rows.items (stands-in p).within c.self.invariant.sound.steps (omega (arith, c.self.invariant.sound.few))
+
+pub swap_texts-requires-clause-flat : goal.swap_texts-requires-clause-flat
+swap_texts-requires-clause-flat c =
+    let p = (goal.at.swap_texts-requires-clause-flat c).After-passed in
+    run-flat c.self.inside.slots c.args.node.number c.sums_of-sums.result.at c.self.inside.rows.items c.self.inside.kept.items c.self.inside.next c.self.invariant.sound (stands-in p) (kind-in p) (childless-in p)
+
+pub swap_texts-requires-clause-live : goal.swap_texts-requires-clause-live
+swap_texts-requires-clause-live c =
+    let p = (goal.at.swap_texts-requires-clause-live c).After-passed in
+    live-run c.self.inside.slots c.args.node.number c.sums_of-sums.result.at c.self.inside.rows.items c.self.inside.kept.items c.self.inside.next c.self.invariant.sound (stands-in p) (kind-in p) (childless-in p)
+
+pub invariant_of-self : goal.invariant_of-self
+invariant_of-self c =
+    moved-state c.self.inside.slots c.swap_texts.new.slots c.self.inside.rows.items c.swap_texts.new.rows.items c.self.inside.kept.items c.swap_texts.new.kept.items c.self.inside.next c.self.inside.count c.self.inside.bytes _ _
+    c.in_err-had.ensures.same c.in_err-had.ensures.rows c.in_err-had.ensures.kept c.swap_texts.ensures.spare c.self.invariant
+
+pub invariant_of-self-2 : goal.invariant_of-self-2
+invariant_of-self-2 c =
+    let p = (goal.at.invariant_of-self-2 c).After-passed in
     let next = c.self.inside.next in
-    let free = c.self.invariant.sound.fresh next (omega arith) in
-    record {
-      free = subst (λ (k : Keeping). times next k.forest.nodes + kept_times next k.kept ≡ 0) c.self.view_is free;
-      later = subst (λ (k : Keeping). k.forest.next ≤ next + c.text_count-more.result) c.self.view_is (omega arith);
-      below = omega (arith, c.text_count-more.ensures);
-    }
+    let below : next + text_count c.args.text.now ≤ next + c.sums_of-sums.result.more = omega (arith, c.sums_of-sums.ensures.more) in
+    swapped-state c.self.inside.slots c.swap_texts.new.slots c.args.node.number c.sums_of-sums.result.at next c.args.text.now c.self.inside.rows.items c.swap_texts.new.rows.items c.self.inside.kept.items c.swap_texts.new.kept.items _
+    next c.self.inside.count c.self.inside.bytes _ _ c.self.invariant (stands-in p) (kind-in p) (childless-in p) c.in_ok-had.ensures.ok (next + c.sums_of-sums.result.more) c.sums_of-sums.result.count c.sums_of-sums.result.bytes
+    (c.self.invariant.sound.fresh next (omega arith)) (omega arith) below (omega arith) c.sums_of-sums.ensures.count c.sums_of-sums.ensures.bytes
 
 pub returns-clause-answer : goal.returns-clause-answer
 returns-clause-answer c =
     let p = (goal.at.returns-clause-answer c).After-passed in
-    let written : ℕ → Before × Keeping = λ next2. text_written c.self.inside.next next2 c.args.node.number c.args.text.now c.args.self.now in
-    set-in p ∙ ap (λ o. unless o (written (c.self.inside.next + text_count c.args.text.now))) c.in_default-passed.is
-    ∙ ap (λ m. Ok (written (c.self.inside.next + m))) (sym c.text_count-more.ensures) ∙ ap Ok (sym c.in_ok-before.ensures.ok)
+    let n = c.args.node.number in
+    let text = c.args.text.now in
+    let next = c.self.inside.next in
+    let more = c.sums_of-sums.result.more in
+    let written : ℕ → Before × Keeping = λ next2. text_written next next2 n text c.args.self.now in
+    let view = swapped-view c.self.inside.slots c.swap_texts.new.slots n c.sums_of-sums.result.at next text c.self.inside.rows.items c.swap_texts.new.rows.items c.self.inside.kept.items c.swap_texts.new.kept.items _
+    next c.self.inside.count c.self.inside.bytes _ _ c.self.invariant (stands-in p) (kind-in p) (childless-in p) c.in_ok-had.ensures.ok (next + more) in
+    set-in p ∙ ap (λ o. unless o (written (next + text_count text))) c.in_default-passed.is
+    ∙ ap (λ m. Ok (written (next + m))) (sym c.sums_of-sums.ensures.more) ∙ ap Ok (sym (view ∙ ap (text_written next (next + more) n text) c.self.view_is))
