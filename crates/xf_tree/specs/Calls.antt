@@ -1,8 +1,10 @@
 -- What the calls of a forest give.
-use Rattle.std.specs.Prelude.{ℕ, ◌+◌, List, [], ◌++◌, length, map}
+use Rattle.std.specs.Prelude.{ℕ, ◌+◌, List, [], ◌++◌, length, map, Option, Result}
 use Rattle.xf_doc.specs.declared.content.Content.{Content}
 use Rattle.xf_doc.specs.declared.content.Content.TheVariants.{Text}
-use Rattle.xf_doc.specs.Forest.{empty}
+use Rattle.xf_doc.specs.declared.fault.TreeFault.{TreeFault}
+use Rattle.xf_doc.specs.Forest.{Forest, empty}
+use Rattle.xf_doc.specs.Limits.{unless}
 use Rattle.xf_doc.specs.Plant.{numbered_from}
 use Rattle.xf_doc.specs.Texts.{Keeping, Before, attribute_text, element_texts}
 use Rattle.xf_tree.specs.declared.before.Had.{Had}
@@ -15,6 +17,10 @@ nothing = record { forest = empty; kept = [] }
 -- with a new tree behind all others
 abbrev pub with_contents : List (ℕ × Content) → Keeping → Keeping
 with_contents contents k = record k { forest = record { nodes = k.forest.nodes ++ numbered_from k.forest.next contents; next = k.forest.next + length contents } }
+
+-- the same, unless a limit is passed; the number is that of the tree's top
+abbrev pub added_unless : Option TreeFault → List (ℕ × Content) → Keeping → Result (ℕ × Forest) TreeFault
+added_unless passed contents k = unless passed (k.forest.next, (with_contents contents k).forest)
 
 -- what a `Before` says
 abbrev pub known_of : Had → Before

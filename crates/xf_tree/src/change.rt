@@ -1,5 +1,6 @@
 //! Changes of a forest: trees that come and move.
-ghost use Rattle.std.specs.Prelude.{◌≡◌, ◌<◌, ◌^◌, ◌++◌, Some, IfOk, OnOk, OnErr};
+ghost use Rattle.std.specs.Prelude.{◌≡◌, ◌<◌, ◌≤◌, ◌+◌, ◌^◌, ◌++◌, ◌⊎◌, ℕ, Some, None, length, IfOk, IfErr, OnOk, OnErr};
+ghost use Rattle.slab.specs.Slab.{get, HasRoomFor};
 ghost use Rattle.xf_base.specs.Gives.{Gives};
 ghost use Rattle.xf_doc.specs.Forest.{tree_of};
 ghost use Rattle.xf_doc.specs.Changes.{detached, standing, copied, contents_in, with_root};
@@ -14,12 +15,12 @@ use xf_changes::{contents_of, push_tree, root_over, size_of_tree};
 use xf_doc::{Bare, NodeId, TreeFault};
 use xf_literal::{contents_of_bare, contents_of_lit, fault_of_bare, has_deep, has_long, lit_fault};
 use xf_name::{Lit, Prefixes};
-use xf_rows::{cut, end_of, parent_row, slice};
-use xf_slots::{ALL_LIMIT, NODE_LIMIT, Part, ROW_LIMIT, number_of};
+use xf_rows::{Rows, cut, end_of, parent_row, slice};
+use xf_slots::{ALL_LIMIT, NODE_LIMIT, Part, ROW_LIMIT, Slots, number_of};
 use xf_walks::{place_of, row_of};
 
 impl Forest {
-    ghost use Rattle.xf_tree.specs.Calls.{with_contents};
+    ghost use Rattle.xf_tree.specs.Calls.{added_unless};
     ghost use Rattle.xf_walks.specs.Nodes.{IsTree};
 
     /// Cuts a node's tree off: it stands behind all other trees. The answer is the parent that the node had, and its
@@ -53,10 +54,8 @@ impl Forest {
         ensures err { OnErr result (self.new ≡ self.old) }
     {
         let tree = self.contents_at(node)?;
-        if let Some(fault) = self.passed_by_all(&tree) {
-            return Err(fault);
-        }
-        Ok(self.add(tree)?)
+        let passed = self.passed_by_all(&tree);
+        self.add(tree, passed)
     }
 
     /// A literal tree as a detached one, where a name without a prefix has the namespace `space`. Texts that stand side by
@@ -71,10 +70,8 @@ impl Forest {
             return Err(fault);
         }
         let tree = contents_of_lit(self.alloc, prefixes, space, lit)?;
-        if let Some(fault) = self.passed_by_tree(&tree) {
-            return Err(fault);
-        }
-        Ok(self.add(tree)?)
+        let passed = self.passed_by_tree(&tree);
+        self.add(tree, passed)
     }
 
     /// The limit that is passed with this tree as a detached one.
@@ -131,22 +128,18 @@ impl Forest {
         None
     }
 
-    /// Puts a tree behind all others.
-    pub(crate) fn add(&mut self, tree: Vec<Part>) -> Result<NodeId, AllocError>
+    /// Puts a tree behind all others, unless a limit is passed.
+    fn add(&mut self, tree: Vec<Part>, passed: Option<TreeFault>) -> Result<NodeId, TreeFault>
         requires tree { IsTree tree.items }
         requires number { self.old.forest.next < 2 ^ 126 }
-        ensures ok { OnOk result (self.new ≡ with_contents tree.items self.old) }
-        ensures number { IfOk result (λ node. node.number ≡ self.old.forest.next) }
+        ensures answer { Gives TreeFault.Memory (λ n. (n.number, self.new.forest)) result (added_unless passed tree.items self.old) }
+        ensures kept { self.new.kept ≡ self.old.kept }
         ensures err { OnErr result (self.new ≡ self.old) }
     {
         let more = tree.len();
         let kept = self.kept.len();
-        if more >= ROW_LIMIT - self.rows.len() - kept {
-            return Err(AllocError);
-        }
+        admit(&mut self.rows, &mut self.slots, more, kept, passed)?;
         let size = size_of_tree(&tree);
-        self.slots.reserve(more)?;
-        self.rows.reserve(more + kept)?;
         let first = self.next;
         let place = self.slots.vacant_key();
         push_tree(
@@ -173,15 +166,11 @@ impl Forest {
         ensures kept { self.new.kept ≡ self.old.kept }
         ensures err { OnErr result (self.new ≡ self.old) }
     {
-        let kept = self.kept.len();
-        if self.rows.len() + kept >= ROW_LIMIT - 1 {
-            return Err(AllocError);
-        }
         let Some(at) = row_of(&self.rows, &self.slots, &self.hints, top) else {
             return Err(AllocError);
         };
-        self.slots.reserve(1)?;
-        self.rows.reserve(1 + kept)?;
+        let kept = self.kept.len();
+        make_way(&mut self.rows, &mut self.slots, 1, kept)?;
         let number = self.next;
         let place = root_over(&mut self.rows, &mut self.slots, &mut self.hints, at, number);
         self.next = number + 1;
@@ -199,9 +188,48 @@ impl Forest {
             return Err(fault);
         }
         let contents = contents_of_bare(self.alloc, prefixes, tree)?;
-        if let Some(fault) = self.passed_by_tree(&contents) {
-            return Err(fault);
-        }
-        Ok(self.add(contents)?)
+        let passed = self.passed_by_tree(&contents);
+        self.add(contents, passed)
     }
+}
+
+/// Makes room for so many nodes more, beside so many kept texts, unless a limit is passed.
+fn admit(
+    rows: &mut Rows,
+    slots: &mut Slots,
+    more: usize,
+    kept: usize,
+    passed: Option<TreeFault>,
+) -> Result<(), TreeFault>
+    requires { length rows.old.items + kept < 2 ^ 31 }
+    ensures items { rows.new.items ≡ rows.old.items }
+    ensures same { (key : ℕ) → get slots.new key ≡ get slots.old key }
+    ensures spare { rows.old.capacity ≤ rows.new.capacity }
+    ensures slot { OnOk result (HasRoomFor slots.new more) }
+    ensures row { OnOk result (length rows.old.items + (more + kept) ≤ rows.new.capacity) }
+    ensures few { OnOk result (length rows.old.items + (more + kept) < 2 ^ 31) }
+    ensures none { OnOk result (passed ≡ None) }
+    ensures fault { IfErr result (λ e. (e ≡ TreeFault.Memory) ⊎ (passed ≡ Some e)) }
+{
+    match passed {
+        Some(fault) => Err(fault),
+        None => Ok(make_way(rows, slots, more, kept)?),
+    }
+}
+
+/// Makes room for so many nodes more, beside so many kept texts. An `Err` leaves the nodes as they were.
+fn make_way(rows: &mut Rows, slots: &mut Slots, more: usize, kept: usize) -> Result<(), AllocError>
+    requires { length rows.old.items + kept < 2 ^ 31 }
+    ensures items { rows.new.items ≡ rows.old.items }
+    ensures same { (key : ℕ) → get slots.new key ≡ get slots.old key }
+    ensures spare { rows.old.capacity ≤ rows.new.capacity }
+    ensures slot { OnOk result (HasRoomFor slots.new more) }
+    ensures row { OnOk result (length rows.old.items + (more + kept) ≤ rows.new.capacity) }
+    ensures few { OnOk result (length rows.old.items + (more + kept) < 2 ^ 31) }
+{
+    if more >= ROW_LIMIT - rows.len() - kept {
+        return Err(AllocError);
+    }
+    slots.reserve(more)?;
+    rows.reserve(more + kept)
 }
