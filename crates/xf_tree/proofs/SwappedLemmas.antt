@@ -1,6 +1,6 @@
 -- The state and the view after a text came in place of an element's texts.
 use Rattle.std.proofs.Common.{◌≡◌, ℕ, ◌+◌, ◌-◌, ◌<◌, ◌≤◌, ◌^◌, false, List, ◌++◌, map, length, take, drop, Some, None, sym, ap, ◌∙◌, subst, arith}
-use Rattle.std.proofs.lemmas.List.{length-map}
+use Rattle.std.proofs.lemmas.List.{length-map, map-append, take-append-drop}
 use Rattle.slab.specs.Slab.{Slab, get, Updates}
 use Rattle.xf_doc.specs.declared.content.Kind.TheVariants as kind
 use Rattle.xf_doc.specs.Forest.{kind_at}
@@ -15,6 +15,7 @@ use Rattle.xf_slots.specs.Keys.{kept_of, content_in, kept_times}
 use Rattle.xf_walks.specs.Nodes.{StandsAt, AllLive, node_of, times}
 use Rattle.xf_walks.proofs.CountLemmas.{nodes-most}
 use Rattle.xf_walks.proofs.PlaceLemmas.{tree-size}
+use Rattle.xf_walks.proofs.NodeLemmas.{times-append}
 use Rattle.xf_changes.specs.Texts.{text_slot, text_count, children, keys_of, numbers_at, run_of, depth_at}
 use Rattle.xf_tree.specs.State.{IsState, keeping_of}
 use Rattle.xf_tree.specs.Settled.{text_written}
@@ -29,6 +30,15 @@ pub run-part : (at end : ℕ) (rows : List Row) → at < length rows → end ≡
 run-part at end rows h e =
     let long : end - (at + 1) ≡ deeper (depth_at at rows) (drop (at + 1) rows) = omega (arith, e, tree-size at rows h) in
     ap (λ k. take k (drop (at + 1) rows)) long
+
+-- no number comes more often in a part of the rows than in all
+pub part-times : (s : Slab Slot) (n i j : ℕ) (rows : List Row) → times n (map (node_of s) (take i (drop j rows))) ≤ times n (map (node_of s) rows)
+part-times s n i j rows =
+    let f = node_of s in
+    let rest = drop j rows in
+    let a = ap (λ l. times n (map f l)) (sym (take-append-drop j rows)) ∙ ap (times n) (map-append f (take j rows) rest) ∙ times-append n (map f (take j rows)) (map f rest) in
+    let b = ap (λ l. times n (map f l)) (sym (take-append-drop i rest)) ∙ ap (times n) (map-append f (take i rest) (drop i rest)) ∙ times-append n (map f (take i rest)) (map f (drop i rest)) in
+    omega arith
 
 -- as many rows are taken as were counted, although a text has come in
 pub taken-long : (s s1 s2 : Slab Slot) (place number at taken : ℕ) (text : List ℕ) (rows part : List Row) → ((key : ℕ) → get s1 key ≡ get s key) → get s1 place ≡ None → Updates s1 s2 place (text_slot number text)

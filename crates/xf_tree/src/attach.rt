@@ -1,17 +1,18 @@
 //! A detached tree comes into place below a parent.
-ghost use Rattle.std.specs.Prelude.{◌≡◌, OnErr};
+ghost use Rattle.std.specs.Prelude.{◌≡◌, ◌⊎◌, false, map, IfNone, IfSome, OnErr};
 ghost use Rattle.std.specs.Result.{result_map_both};
-ghost use Rattle.xf_doc.specs.Forest.{IsLive, content_at, tree_of};
+ghost use Rattle.xf_doc.specs.Forest.{IsLive, has_number, content_at, tree_of};
 ghost use Rattle.xf_doc.specs.Changes.{placed, place_of, attached, elements_above};
 ghost use Rattle.xf_doc.specs.Limits.{limits, is_too_deep};
 ghost use Rattle.xf_doc.specs.Needs.{MayAttach, MayPlace};
 ghost use Rattle.xf_doc.specs.Visit.{visits};
+ghost use Rattle.xf_walks.specs.Nodes.{StandsAt, node_of};
 
 use crate::forest::Forest;
 use xf_changes::{elements_over, has_deep, place_tree};
 use xf_doc::{NodeId, TreeFault};
-use xf_rows::{end_of, slice};
-use xf_slots::is_attribute_at;
+use xf_rows::{Hints, Rows, end_of, slice};
+use xf_slots::{Slots, is_attribute_at};
 use xf_walks::{count_lesser, row_of};
 
 impl Forest {
@@ -21,10 +22,7 @@ impl Forest {
         requires { MayPlace node.number parent.number self.old.forest }
         ensures { self.new ≡ record self.old { forest = placed node.number parent.number place self.old.forest } }
     {
-        let Some(at) = row_of(&self.rows, &self.slots, &self.hints, node) else {
-            return;
-        };
-        let Some(above) = row_of(&self.rows, &self.slots, &self.hints, parent) else {
+        let Some((at, above)) = rows_of(&self.rows, &self.slots, &self.hints, node, parent) else {
             return;
         };
         place_tree(
@@ -93,4 +91,21 @@ impl Forest {
             _ => false,
         }
     }
+}
+
+/// Where two nodes stand, if both do.
+fn rows_of(
+    rows: &Rows,
+    slots: &Slots,
+    hints: &Hints,
+    node: NodeId,
+    parent: NodeId,
+) -> Option<(usize, usize)>
+    ensures none { IfNone result ((has_number node.number (map (node_of slots.now) rows.now.items) ≡ false) ⊎ (has_number parent.number (map (node_of slots.now) rows.now.items) ≡ false)) }
+    ensures node { IfSome result (λ found. StandsAt slots.now rows.now.items node.number found.0) }
+    ensures parent { IfSome result (λ found. StandsAt slots.now rows.now.items parent.number found.1) }
+{
+    let at = row_of(rows, slots, hints, node)?;
+    let above = row_of(rows, slots, hints, parent)?;
+    Some((at, above))
 }

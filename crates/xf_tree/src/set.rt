@@ -12,13 +12,10 @@ ghost use Rattle.xf_changes.specs.Texts.{numbers_in};
 
 use crate::before::{Before, Had};
 use crate::forest::Forest;
-use crate::texts::{sums_of, swap_texts};
-use xf_changes::{
-    change_texts, change_value, free_all, free_texts, passed, size_of_texts, take_kept,
-};
+use crate::texts::{sums_of, swap_back, swap_texts};
+use xf_changes::{change_value, free_all, passed, take_kept};
 use xf_doc::{Kind, NodeId, TreeFault};
 use xf_name::Word;
-use xf_rows::{end_of, slice};
 use xf_slots::own;
 use xf_walks::row_of;
 
@@ -127,18 +124,16 @@ impl Forest {
         let Some(at) = row_of(&self.rows, &self.slots, &self.hints, node) else {
             return;
         };
-        let end = end_of(&self.rows, at);
         let first = take_kept(&mut self.kept, &self.slots, &mut texts);
-        let wanted = &texts[first..];
-        self.count += wanted.len();
-        self.bytes += size_of_texts(wanted, &self.slots);
-        free_texts(
+        swap_back(
+            &mut self.rows,
             &mut self.slots,
-            &slice(&self.rows, at + 1, end),
+            &mut self.hints,
+            at,
+            &texts[first..],
             &mut self.count,
             &mut self.bytes,
         );
-        change_texts(&mut self.rows, &self.slots, &mut self.hints, at, wanted);
     }
 
     /// Keeps these texts no more. Takes no memory.

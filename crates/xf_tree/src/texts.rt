@@ -1,14 +1,19 @@
 //! A text that comes in place of the texts of an element, on the parts of a forest.
 ghost use Rattle.std.specs.Prelude.{◌≡◌, ◌+◌, ◌-◌, ◌≤◌, ◌<◌, ◌^◌, ℕ, [], length, map, drop, vec_len, vec_capacity, IfOk, OnOk, OnErr};
 ghost use Rattle.slab.specs.Slab.{get, HasRoomFor};
-ghost use Rattle.xf_doc.specs.Limits.{all_size};
+ghost use Rattle.xf_doc.specs.Limits.{all_size, node_count, size_of};
+ghost use Rattle.xf_doc.specs.Forest.{is_attribute};
+ghost use Rattle.xf_slots.specs.Keys.{content_in};
+ghost use Rattle.xf_changes.specs.Trees.{unsized};
 ghost use Rattle.xf_rows.specs.Rows.{Sized, tree_of};
-ghost use Rattle.xf_walks.specs.Nodes.{AllLive, node_of};
-ghost use Rattle.xf_changes.specs.Texts.{text_count, children, run_of, depth_at, AreAt, numbers_in};
+ghost use Rattle.xf_walks.specs.Nodes.{AllLive, KeepsBut, node_of, times};
+ghost use Rattle.xf_changes.specs.Texts.{text_count, children, run_of, depth_at, AreAt, numbers_in, text_row, with_text_rows};
 ghost use Rattle.xf_tree.specs.Swapped.{IsSwapped};
 
 use std::alloc::{AllocError, Global};
-use xf_changes::{add_text, change_texts, keep_texts, make_room, text_count, texts_in};
+use xf_changes::{
+    add_text, change_texts, free_texts, keep_texts, make_room, size_of_texts, text_count, texts_in,
+};
 use xf_doc::NodeId;
 use xf_name::Word;
 use xf_rows::{Hints, Rows, end_of, slice};
@@ -135,4 +140,39 @@ pub(crate) fn swap_texts(
     let texts = [NodeId { number, place }];
     change_texts(rows, slots, hints, sums.at, &texts[..sums.more]);
     Ok(had)
+}
+
+/// Puts texts whose slots are kept in place of the texts of an element, which go. Takes no memory.
+pub(crate) fn swap_back(
+    rows: &mut Rows,
+    slots: &mut Slots,
+    hints: &mut Hints,
+    at: usize,
+    wanted: &[NodeId],
+    count: &mut usize,
+    bytes: &mut u128,
+)
+    requires within { at < length rows.old.items }
+    requires sized { Sized rows.old.items }
+    requires deep { depth_at at rows.old.items + 1 < 2 ^ 32 }
+    requires flat { AreAt (depth_at at rows.old.items + 1) (run_of at rows.old.items) }
+    requires few { length rows.old.items + length wanted.now < 2 ^ 31 }
+    requires room { length rows.old.items + length wanted.now ≤ rows.old.capacity }
+    requires apart { (n : ℕ) → times n (map (node_of slots.old) rows.old.items) ≤ 1 }
+    requires counted { count.old ≤ 2 ^ 31 }
+    requires small { bytes.old ≤ 2 ^ 100 }
+    ensures rest { KeepsBut slots.old slots.new (map (node_of slots.old) (children slots.old (run_of at rows.old.items))) }
+    ensures kinds { (key : ℕ) → is_attribute (content_in (get slots.new key)) ≡ is_attribute (content_in (get slots.old key)) }
+    ensures less { (key : ℕ) → size_of (content_in (get slots.new key)) ≤ size_of (content_in (get slots.old key)) }
+    ensures rows { map unsized rows.new.items ≡ map unsized (with_text_rows slots.new at wanted.now rows.old.items) }
+    ensures sized { Sized rows.new.items }
+    ensures room { rows.new.capacity ≡ rows.old.capacity }
+    ensures count { count.new ≡ count.old + length wanted.now - node_count (map (node_of slots.old) (children slots.old (run_of at rows.old.items))) }
+    ensures bytes { bytes.new ≡ bytes.old + all_size (map (node_of slots.old) (map (text_row (depth_at at rows.old.items + 1)) wanted.now)) - all_size (map (node_of slots.old) (children slots.old (run_of at rows.old.items))) }
+{
+    let end = end_of(rows, at);
+    *count += wanted.len();
+    *bytes += size_of_texts(wanted, slots);
+    free_texts(slots, &slice(rows, at + 1, end), count, bytes);
+    change_texts(rows, slots, hints, at, wanted);
 }
