@@ -1,5 +1,5 @@
 -- What a path counts beside a child, by the list of the children.
-use Rattle.std.proofs.Common.{◌≡◌, ℕ, zero, suc, ◌+◌, ◌<◌, ◌≤◌, ◌==◌, Bool, true, false, not, cond, ◌&&◌, ◌||◌, if◌then◌else◌, List, [], ◌∷◌, ◌++◌, map, length, take, nat_lt, Option, Some, None, option_map, refl, sym, ap, ◌∙◌, inl, inr, arith}
+use Rattle.std.proofs.Common.{◌≡◌, ℕ, zero, suc, ◌+◌, ◌<◌, ◌≤◌, ◌==◌, Bool, true, false, not, cond, ◌&&◌, ◌||◌, if◌then◌else◌, List, [], ◌∷◌, ◌++◌, map, length, take, nat_lt, is_some, Option, Some, None, option_map, refl, sym, ap, ◌∙◌, inl, inr, arith}
 use Rattle.std.specs.Prelude.{filter, slice_get}
 use Rattle.std.specs.List.{list_any}
 use Rattle.std.specs.Str.{bytes_eq}
@@ -13,7 +13,7 @@ use Rattle.xf_doc.specs.declared.content.Name.{Name}
 use Rattle.xf_doc.specs.declared.content.Content.{Content}
 use Rattle.xf_doc.specs.declared.content.Content.TheVariants.{Root, Element, Attribute, Text}
 use Rattle.xf_doc.specs.Forest.{Forest, is_element, is_attribute, is_text, name_in, written, written_in, content_at, has_number}
-use Rattle.xf_doc.specs.Visit.{Visit, visits, has, is_first, same_parent}
+use Rattle.xf_doc.specs.Visit.{Visit, visits, has, is_first, first_of, above_in, parent_of, same_parent}
 use Rattle.xf_doc.specs.Axis.{before, is_on, axis_from, axis_of}
 use Rattle.xf_doc.specs.Path.{is_namesake, bracketed}
 use Rattle.xf_doc.specs.Shape.{has_elements}
@@ -22,7 +22,7 @@ use Rattle.xf_doc.proofs.BackLaws.{and-true, or-false, not-true}
 use Rattle.xf_doc.proofs.OrderLaws.{map-sub, filter-sub, sub-has, sub-different}
 use Rattle.xf_lang.specs.Asked.{found}
 use Rattle.xf_lang.specs.Agree.{numbers_of, are_apart}
-use Rattle.xf_lang.proofs.VisitFacts.{self-same, turned, or-left, or-right, no, some-same, none-some, filter-and, filter-same, found-number}
+use Rattle.xf_lang.proofs.VisitFacts.{self-same, turned, or-left, or-right, no, some-same, none-some, filter-and, filter-same, found-number, found-out, has-found}
 use Rattle.xf_lang.proofs.ForestVisits.{Each, each-filter, each-found}
 use Rattle.xf_paths.specs.Family.{index_of, index_by, index_in, index_text, meets, count_in, is_named}
 use Rattle.xf_paths.proofs.VisitLemmas.{Linked, all-linked, apart, Seen, seen, live-content, content-seen}
@@ -338,6 +338,30 @@ kid-text forest p n at text cs texts sound is s c e =
     let more : texts + 1 ≡ suc (count_in is_text forest.nodes (take at cs)) = omega (arith, e) in
     ap bracketed more ∙ ap (λ l. bracketed (suc (count_in is_text forest.nodes (take at l)))) is
     ∙ sym (text-index forest p n at text sound (ap (λ l. slice_get l at) (sym is) ∙ s) c)
+
+-- what stands on the child axis of a node is its child
+pub kid-parent : (forest : Forest) (p n at : ℕ) (cs : List ℕ) → HasTrees forest → cs ≡ axis_of Child p (visits forest.nodes) → slice_get cs at ≡ Some n → parent_of n (visits forest.nodes) ≡ Some p
+kid-parent forest p n at cs sound is e = by (found p all) refl (ap (λ l. slice_get l at) (sym is) ∙ e)
+  where
+    all : List Visit
+    all = visits forest.nodes
+
+    first : (ns : List ℕ) → is_first p ns ≡ true → first_of ns ≡ Some p
+    first [] i = no i
+    first (m ∷ ms) i = ap Some (sym (eqb-true p m i))
+
+    child : (px : Visit) → px.number ≡ p → (o : Option Visit) → found n (filter (is_on Child px) all) ≡ o → is_some o ≡ true → parent_of n all ≡ Some p
+    child px f None h i = no i
+    child px f (Some x) h i =
+        let out = found-out (is_on Child px) n all x (apart forest sound) h in
+        let up = (and-true (is_first px.number x.above) (not (is_attribute x.content)) out.1).0 in
+        ap (λ o. first_of (above_in o)) out.0 ∙ first x.above (ap (λ k. is_first k x.above) (sym f) ∙ up)
+
+    by : (o : Option Visit) → found p all ≡ o → slice_get (map (λ (v : Visit). v.number) (axis_from Child all o)) at ≡ Some n → parent_of n all ≡ Some p
+    by None f i = none-some i
+    by (Some px) f i =
+        child px (found-number p all px f) (found n (filter (is_on Child px) all)) refl
+        (sym (has-found n (filter (is_on Child px) all)) ∙ has-at n at (numbers_of (filter (is_on Child px) all)) i)
 
 -- what is neither an element nor a text has none
 pub kid-other : (n : ℕ) (nodes : List Node) → meets is_element (content_at n nodes) ≡ false → meets is_text (content_at n nodes) ≡ false → [] ≡ index_of (visits nodes) n

@@ -2,3 +2,4 @@ pub mod TallyLemmas
 pub mod VisitLemmas
 pub mod FamilyLemmas
 pub mod StemLemmas
+pub mod OpenLemmas

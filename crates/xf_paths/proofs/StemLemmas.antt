@@ -22,7 +22,6 @@ use Rattle.xf_lang.proofs.ForestVisits.{Each, self-found, found-erased, forest-v
 use Rattle.xf_paths.specs.Family.{index_of, index_by, index_in, index_text, meets, step_with}
 use Rattle.xf_paths.specs.Opened.{stem_of}
 use Rattle.xf_paths.proofs.VisitLemmas.{Seen, seen, apart, live-content}
-use Rattle.xf_paths.proofs.FamilyLemmas.{attribute-index}
 
 -- ---- ancestors
 
@@ -213,19 +212,20 @@ stem-path-is n nodes live h = by (content_at n nodes) refl h
     by (Some content) e i = stem-path n content nodes e i
 
 pub stem-pushed : (forest : Forest) (n p : ℕ) (content : Content) (stem text : List ℕ) (index : Option ℕ) → HasTrees forest → parent_of n (visits forest.nodes) ≡ Some p → Some content ≡ content_at n forest.nodes → stem ≡ stem_of (visits forest.nodes) p
-    → text ≡ stem ++ step_with content (index_text index) → (is_attribute content ≡ false → index_text index ≡ index_of (visits forest.nodes) n) → (is_attribute content ≡ true → index ≡ None) → text ≡ stem_of (visits forest.nodes) n
-stem-pushed forest n p content stem text index sound h c s t plain bare =
+    → text ≡ stem ++ step_with content (index_text index) → (is_attribute content ≡ false → index_text index ≡ index_of (visits forest.nodes) n) → text ≡ stem_of (visits forest.nodes) n
+stem-pushed forest n p content stem text index sound h c s t plain =
     let all = visits forest.nodes in
     t ∙ ap (λ l. l ++ step_with content (index_text index)) s
-    ∙ ap (λ l. stem_of all p ++ step_with content l) (by content (sym c) plain bare)
+    ∙ ap (λ l. stem_of all p ++ l) (by content plain)
     ∙ ap (λ l. stem_of all p ++ l) (sym (step-is n content forest.nodes (sym c)))
     ∙ sym (stem-below forest n p sound h)
   where
-    by : (k : Content) → content_at n forest.nodes ≡ Some k → (is_attribute k ≡ false → index_text index ≡ index_of (visits forest.nodes) n) → (is_attribute k ≡ true → index ≡ None) → index_text index ≡ index_of (visits forest.nodes) n
-    by Root e i j = i refl
-    by (Element name) e i j = i refl
-    by (Attribute name text) e i j = ap index_text (j refl) ∙ sym (attribute-index n name text forest.nodes e)
-    by (Text text) e i j = i refl
+    -- an attribute has none
+    by : (k : Content) → (is_attribute k ≡ false → index_text index ≡ index_of (visits forest.nodes) n) → step_with k (index_text index) ≡ step_with k (index_of (visits forest.nodes) n)
+    by Root i = refl
+    by (Element name) i = ap (step_with (Element name)) (i refl)
+    by (Attribute name text) i = refl
+    by (Text text) i = ap (step_with (Text text)) (i refl)
 
 -- what is below another node is no slash alone
 pub path-pushed : (forest : Forest) (n p : ℕ) (content : Content) (stem text : List ℕ) (index : Option ℕ) → HasTrees forest → parent_of n (visits forest.nodes) ≡ Some p → Some content ≡ content_at n forest.nodes → text ≡ stem ++ step_with content (index_text index)

@@ -6,7 +6,7 @@ use Rattle.xf_doc.specs.declared.content.Node.{Node}
 use Rattle.xf_doc.specs.declared.content.Content.{Content}
 use Rattle.xf_doc.specs.declared.content.Content.TheVariants.{Root, Element, Attribute, Text}
 use Rattle.xf_doc.specs.Forest.{is_element, is_text, name_in, written, written_in, content_at}
-use Rattle.xf_doc.specs.Visit.{Visit}
+use Rattle.xf_doc.specs.Visit.{Visit, parent_of}
 use Rattle.xf_doc.specs.Axis.{before}
 use Rattle.xf_doc.specs.Path.{is_namesake, is_text_beside, bracketed, index_if}
 use Rattle.xf_paths.specs.declared.family.Kid.{Kid}
@@ -62,6 +62,7 @@ IsSort content sort.Other = (meets is_element content ≡ false) × (meets is_te
 abbrev pub tallied : {Y S : Type 0} → HashMap (String Y) ℕ S → List ℕ → ℕ
 tallied tally name = unwrap_or (get_by_text tally name) 0
 
--- the index of a child is that of its path
-abbrev pub IsKid : List Visit → Kid → Type 0
-IsKid all kid = index_text kid.index ≡ index_of all kid.number
+-- a child of a node, with the index that its path has
+pub record IsKid (all : List Visit) (parent : ℕ) (kid : Kid) : Type 0 where
+  pub index : index_text kid.index ≡ index_of all kid.number
+  pub below : parent_of kid.number all ≡ Some parent

@@ -13,7 +13,7 @@ stem_of all n = flat_map (step_of all) (reverse (n ∷ ancestors_of n all))
 
 pub record IsOpen (all : List Visit) (one : OpenNode) : Type 0 where
   pub stem : string_bytes one.stem ≡ stem_of all one.number
-  pub kids : All (IsKid all) one.family.kids.items
+  pub kids : All (IsKid all one.number) one.family.kids.items
   pub elements : one.family.has_elements ≡ has_elements all one.number
 
 abbrev pub AllOpen : List Visit → List OpenNode → Type 0

@@ -37,7 +37,7 @@ pub struct Family {
 /// The children of a node.
 pub fn family_of(alloc: Global, forest: &Forest, node: NodeId) -> Result<Family, AllocError>
     requires { IsLive node.number forest.now.forest }
-    ensures kids { IfOk result (λ family. All (IsKid (visits forest.now.forest.nodes)) family.kids.items) }
+    ensures kids { IfOk result (λ family. All (IsKid (visits forest.now.forest.nodes) node.number) family.kids.items) }
     ensures elements { IfOk result (λ family. family.has_elements ≡ has_elements (visits forest.now.forest.nodes) node.number) }
 {
     forest.are_trees();
@@ -70,7 +70,7 @@ fn several(
     requires live { IsLive node.number forest.now.forest }
     requires trees { HasTrees forest.now.forest }
     requires children { children.now ≡ axis_of Axis.Child node.number (visits forest.now.forest.nodes) }
-    ensures kids { IfOk result (λ family. All (IsKid (visits forest.now.forest.nodes)) family.kids.items) }
+    ensures kids { IfOk result (λ family. All (IsKid (visits forest.now.forest.nodes) node.number) family.kids.items) }
     ensures elements { IfOk result (λ family. family.has_elements ≡ has_elements (visits forest.now.forest.nodes) node.number) }
 {
     let mut kids = kids_of(alloc, forest, node, children)?;
@@ -125,7 +125,7 @@ fn only_child(
     requires live { IsLive node.number forest.now.forest }
     requires trees { HasTrees forest.now.forest }
     requires children { child.number ∷ [] ≡ axis_of Axis.Child node.number (visits forest.now.forest.nodes) }
-    ensures kids { IfOk result (λ family. All (IsKid (visits forest.now.forest.nodes)) family.kids.items) }
+    ensures kids { IfOk result (λ family. All (IsKid (visits forest.now.forest.nodes) node.number) family.kids.items) }
     ensures elements { IfOk result (λ family. family.has_elements ≡ has_elements (visits forest.now.forest.nodes) node.number) }
 {
     let (index, is_element) = match sort_of(forest, child) {
@@ -153,7 +153,7 @@ fn kids_of(
 ) -> Result<Vec<Kid>, AllocError>
     requires trees { HasTrees forest.now.forest }
     requires children { children.now ≡ axis_of Axis.Child node.number (visits forest.now.forest.nodes) }
-    ensures { IfOk result (λ kids. All (IsKid (visits forest.now.forest.nodes)) kids.items) }
+    ensures { IfOk result (λ kids. All (IsKid (visits forest.now.forest.nodes) node.number) kids.items) }
 {
     let totals = totals_of(alloc, forest, children)?;
     let mut seen = HashMap::new(alloc);

@@ -1,15 +1,14 @@
 //! Paths of nodes, by what is open.
 ghost use Rattle.std.specs.Prelude.{◌≡◌, ◌++◌, List, IfOk, IfSome, OnOk, string_bytes, true, false};
-ghost use Rattle.std.specs.List.{All};
 ghost use Rattle.xf_doc.specs.Forest.{IsLive, content_at, is_attribute, is_root};
 ghost use Rattle.xf_doc.specs.Path.{or_slash, path_of};
 ghost use Rattle.xf_doc.specs.Shape.{has_elements};
 ghost use Rattle.xf_doc.specs.Visit.{Visit, visits, parent_of};
 ghost use Rattle.xf_paths.specs.Opened.{stem_of, IsOpen, AllOpen};
-ghost use Rattle.xf_paths.specs.Family.{IsKid, index_of, index_text, meets};
+ghost use Rattle.xf_paths.specs.Family.{index_of, index_text, meets};
 ghost use Rattle.xf_slots.specs.Seen.{seen_content};
 
-use crate::family::{Family, Kid, family_of};
+use crate::family::{Family, family_of};
 use crate::written::{joined, push_step};
 use std::alloc::{AllocError, Global};
 use std::marker::Model;
@@ -146,7 +145,7 @@ fn push_path(
     }
 }
 
-/// The same, which gives the path of an element instead of opening it.
+/// The same, which gives the path of an element instead of opening it. Of a child that comes in turn the parent is what is open, and is not looked for.
 fn push_path_in(
     alloc: Global,
     forest: &Forest,
@@ -160,11 +159,62 @@ fn push_path_in(
     ensures text { OnOk result (string_bytes text.new ≡ string_bytes text.old ++ path_of node.number (visits forest.now.forest.nodes)) }
     ensures stem { IfOk result (λ kept. IfSome kept (λ stem. string_bytes stem ≡ stem_of (visits forest.now.forest.nodes) node.number)) }
 {
+    let Some(content) = forest.content(node) else {
+        return push_fresh(alloc, forest, text, node);
+    };
+    if is_told_attribute(content) {
+        // Attributes are not among the children, and their element may have more.
+        return push_below(alloc, forest, nodes, text, node, content);
+    }
+    close(nodes);
+    if let Some(one) = nodes.last_mut() {
+        if let Some(index) = turn_of(one, node) {
+            return push_known(alloc, forest, one, text, node, content, index);
+        }
+    }
+    push_below(alloc, forest, nodes, text, node, content)
+}
+
+fn is_told_attribute(content: Seen<'_>) -> bool {
+    match content {
+        Seen::Attribute(_, _) => true,
+        _ => false,
+    }
+}
+
+/// Closes what has no more children to come.
+fn close(nodes: &mut Vec<OpenNode>)
+    ensures { (all : List Visit) → AllOpen all nodes.old.items → AllOpen all nodes.new.items }
+{
+    while let Some(one) = nodes.last() {
+        if !one.family.kids.is_empty() {
+            return;
+        }
+        nodes.pop();
+    }
+}
+
+/// Appends the path of a node by that of its parent, which is looked for.
+fn push_below(
+    alloc: Global,
+    forest: &Forest,
+    nodes: &mut Vec<OpenNode>,
+    text: &mut String,
+    node: NodeId,
+    content: Seen<'_>,
+) -> Result<Option<String>, AllocError>
+    requires live { IsLive node.number forest.now.forest }
+    requires nodes { AllOpen (visits forest.now.forest.nodes) nodes.old.items }
+    requires content { Some (seen_content content) ≡ content_at node.number forest.now.forest.nodes }
+    ensures nodes { AllOpen (visits forest.now.forest.nodes) nodes.new.items }
+    ensures text { OnOk result (string_bytes text.new ≡ string_bytes text.old ++ path_of node.number (visits forest.now.forest.nodes)) }
+    ensures stem { IfOk result (λ kept. IfSome kept (λ stem. string_bytes stem ≡ stem_of (visits forest.now.forest.nodes) node.number)) }
+{
     let Some(parent) = forest.parent(node) else {
         return push_fresh(alloc, forest, text, node);
     };
     let mut one = take_open(alloc, forest, nodes, parent)?;
-    let stem = push_child(alloc, forest, &mut one, text, node);
+    let stem = push_child(alloc, forest, &mut one, text, node, content);
     nodes.push(one)?;
     stem
 }
@@ -273,30 +323,73 @@ fn push_fresh(
     }
 }
 
-/// Appends the path of a node, by that of its parent. A child that comes in turn has its index at hand. An element's path is kept, since those of
-/// its children begin with it.
+/// Appends the path of a node, by that of its parent. An attribute has no index, and a child that comes in turn has it at hand.
 fn push_child(
     alloc: Global,
     forest: &Forest,
     parent: &mut OpenNode,
     text: &mut String,
     node: NodeId,
+    content: Seen<'_>,
 ) -> Result<Option<String>, AllocError>
     requires live { IsLive node.number forest.now.forest }
     requires one { IsOpen (visits forest.now.forest.nodes) parent.old }
     requires parent { parent_of node.number (visits forest.now.forest.nodes) ≡ Some parent.old.number }
+    requires content { Some (seen_content content) ≡ content_at node.number forest.now.forest.nodes }
     ensures text { OnOk result (string_bytes text.new ≡ string_bytes text.old ++ path_of node.number (visits forest.now.forest.nodes)) }
     ensures stem { IfOk result (λ kept. IfSome kept (λ stem. string_bytes stem ≡ stem_of (visits forest.now.forest.nodes) node.number)) }
     ensures one { IsOpen (visits forest.now.forest.nodes) parent.new }
-    ensures number { parent.new.number ≡ parent.old.number }
+{
+    let index = match content {
+        Seen::Attribute(_, _) => Some(None),
+        _ => turn_of(parent, node),
+    };
+    match index {
+        Some(index) => push_known(alloc, forest, parent, text, node, content, index),
+        None => push_fresh(alloc, forest, text, node),
+    }
+}
+
+/// What the path of the child that comes next has in brackets, where it is this node. It has come then.
+fn turn_of(one: &mut OpenNode, node: NodeId) -> Option<Option<usize>>
+    ensures one { (all : List Visit) → IsOpen all one.old → IsOpen all one.new }
+    ensures number { one.new.number ≡ one.old.number }
+    ensures index { (all : List Visit) → IsOpen all one.old → IfSome result (λ index. index_text index ≡ index_of all node.number) }
+    ensures parent { (all : List Visit) → IsOpen all one.old → IfSome result (λ index. parent_of node.number all ≡ Some one.old.number) }
+{
+    match one.family.kids.last() {
+        Some(kid) => {
+            if kid.number != node.number {
+                return None;
+            }
+        }
+        None => return None,
+    }
+    match one.family.kids.pop() {
+        Some(kid) => Some(kid.index),
+        None => None,
+    }
+}
+
+/// Appends the path of a node, by that of its parent and what it has in brackets. An element's path is kept, since those of its children begin
+/// with it.
+fn push_known(
+    alloc: Global,
+    forest: &Forest,
+    parent: &OpenNode,
+    text: &mut String,
+    node: NodeId,
+    content: Seen<'_>,
+    index: Option<usize>,
+) -> Result<Option<String>, AllocError>
+    requires one { IsOpen (visits forest.now.forest.nodes) parent.now }
+    requires parent { parent_of node.number (visits forest.now.forest.nodes) ≡ Some parent.now.number }
+    requires content { Some (seen_content content) ≡ content_at node.number forest.now.forest.nodes }
+    requires index { is_attribute (seen_content content) ≡ false → index_text index ≡ index_of (visits forest.now.forest.nodes) node.number }
+    ensures text { OnOk result (string_bytes text.new ≡ string_bytes text.old ++ path_of node.number (visits forest.now.forest.nodes)) }
+    ensures stem { IfOk result (λ kept. IfSome kept (λ stem. string_bytes stem ≡ stem_of (visits forest.now.forest.nodes) node.number)) }
 {
     forest.are_trees();
-    let Some(content) = forest.content(node) else {
-        return push_fresh(alloc, forest, text, node);
-    };
-    let Some(index) = next_index(&mut parent.family.kids, content, node) else {
-        return push_fresh(alloc, forest, text, node);
-    };
     match content {
         Seen::Element(_) => {
             let stem = joined(alloc, parent.stem.as_str(), content, index)?;
@@ -309,31 +402,4 @@ fn push_child(
             Ok(None)
         }
     }
-}
-
-/// What the path of a node has in brackets: `None` where the node is not the child that comes next.
-fn next_index(kids: &mut Vec<Kid>, content: Seen<'_>, node: NodeId) -> Option<Option<usize>>
-    ensures kids { (all : List Visit) → All (IsKid all) kids.old.items → All (IsKid all) kids.new.items }
-    ensures index { (all : List Visit) → All (IsKid all) kids.old.items → IfSome result (λ index. is_attribute (seen_content content.entry) ≡ false → index_text index ≡ index_of all node.number) }
-    ensures attribute { IfSome result (λ index. is_attribute (seen_content content.entry) ≡ true → index ≡ None) }
-{
-    match content {
-        Seen::Attribute(_, _) => Some(None),
-        _ => match next_kid(kids, node) {
-            Some(kid) => Some(kid.index),
-            None => None,
-        },
-    }
-}
-
-/// The next child, where it is this node.
-fn next_kid(kids: &mut Vec<Kid>, node: NodeId) -> Option<Kid>
-    ensures kids { (all : List Visit) → All (IsKid all) kids.old.items → All (IsKid all) kids.new.items }
-    ensures kid { (all : List Visit) → All (IsKid all) kids.old.items → IfSome result (λ kid. index_text kid.index ≡ index_of all node.number) }
-{
-    let kid = kids.pop()?;
-    if kid.number == node.number {
-        return Some(kid);
-    }
-    None
 }

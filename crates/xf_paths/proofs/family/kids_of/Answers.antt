@@ -4,7 +4,7 @@ use Rattle.xf_doc.specs.Forest.{content_at, is_element, is_text, written}
 use Rattle.xf_doc.specs.declared.content.Content.TheVariants.{Element}
 use Rattle.xf_doc.specs.Visit.{visits}
 use Rattle.xf_paths.specs.Family.{IsKid, index_of, index_text, is_named, meets, tallied}
-use Rattle.xf_paths.proofs.FamilyLemmas.{bytes-same, count-less, count-more, count-same, named-not, kid-element, kid-text, kid-other}
+use Rattle.xf_paths.proofs.FamilyLemmas.{bytes-same, count-less, count-more, count-same, named-not, kid-element, kid-text, kid-other, kid-parent}
 use Rattle.xf_paths.proofs.family.kids_of.Goals as goal
 use Rattle.xf_paths.proofs.family.kids_of.Goals.{in-Element+in_ok-index-in-Element, in-Text, in-Other}
 
@@ -14,6 +14,7 @@ loop-at-preserved c =
     let nodes = forest.nodes in
     let all = visits nodes in
     let cs = c.args.children.now in
+    let p = c.args.node.number in
     let at = c.loop-at.at in
     let n = c.at-child.result.number in
     let old = c.loop-at.invariant in
@@ -45,7 +46,7 @@ loop-at-preserved c =
             omega (arith, w.texts-is, more, old.texts)
         | in-Other w ↦ w.texts-is ∙ old.texts ∙ sym (count-same is_text nodes cs at n h c.at-child.ensures w.in-Other.ensures.1)
       ];
-      kids = All-same (IsKid all) c.push.new.self.items _ c.in_ok-push.ensures.items (All-push (IsKid all) c.loop-at.kids.items (record { number = n; index = c.match-sort_of.index }) old.kids here);
+      kids = All-same (IsKid all p) c.push.new.self.items _ c.in_ok-push.ensures.items (All-push (IsKid all p) c.loop-at.kids.items (record { number = n; index = c.match-sort_of.index }) old.kids (record { index = here; below = kid-parent forest p n at cs c.requires.trees c.requires.children c.at-child.ensures }));
     }
 
 pub next_place-requires-clause-within : goal.next_place-requires-clause-within

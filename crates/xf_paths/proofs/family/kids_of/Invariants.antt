@@ -9,5 +9,5 @@ abbrev pub invariant-loop-at : goal.invariant-loop-at
 invariant-loop-at l = record {
   seen : (w : List ℕ) → tallied l.seen w ≡ count_in (is_named w) l.forest.forest.nodes (take l.at l.children);
   texts : l.texts ≡ count_in is_text l.forest.forest.nodes (take l.at l.children);
-  kids : All (IsKid (visits l.forest.forest.nodes)) l.kids.items;
+  kids : All (IsKid (visits l.forest.forest.nodes) l.fn.node.number) l.kids.items;
 }

@@ -5,7 +5,7 @@ use Rattle.xf_doc.specs.Forest.{content_at, is_element}
 use Rattle.xf_doc.specs.Visit.{visits}
 use Rattle.xf_paths.specs.Family.{IsKid, count_in, index_of, index_text, is_named, meets}
 use Rattle.xf_paths.specs.declared.family.Kid.{Kid}
-use Rattle.xf_paths.proofs.FamilyLemmas.{alone-index, elements-are, kid-element, kid-text, kid-other}
+use Rattle.xf_paths.proofs.FamilyLemmas.{alone-index, elements-are, kid-element, kid-text, kid-other, kid-parent}
 use Rattle.xf_paths.proofs.family.only_child.Goals as goal
 use Rattle.xf_paths.proofs.family.only_child.Goals.{in-Element, in-Text, in-Other}
 
@@ -25,7 +25,7 @@ returns-clause-kids c =
       | in-Other w ↦ ap (λ p. index_text p.0) w.index-is ∙ kid-other n nodes w.in-Other.ensures.0 w.in-Other.ensures.1
     ] in
     let kid : Kid = record { number = n; index = c.match-sort_of.index.0 } in
-    All-same (IsKid all) c.push.new.self.items (kid ∷ []) (c.in_ok-push.ensures.items ∙ ap (λ kids. kids ++ kid ∷ []) c.in_ok-kids.ensures.items) (All-push (IsKid all) [] kid (λ k d less. absurd (omega (arith, less))) here)
+    All-same (IsKid all p) c.push.new.self.items (kid ∷ []) (c.in_ok-push.ensures.items ∙ ap (λ kids. kids ++ kid ∷ []) c.in_ok-kids.ensures.items) (All-push (IsKid all p) [] kid (λ k d less. absurd (omega (arith, less))) (record { index = here; below = kid-parent forest p n 0 cs c.requires.trees c.requires.children refl }))
 
 pub returns-clause-elements : goal.returns-clause-elements
 returns-clause-elements c =
