@@ -1,14 +1,16 @@
 -- The places of the children of a node among those of their kind, as a path has them.
-use Rattle.std.specs.Prelude.{ℕ, suc, String, ◌≡◌, Bool, false, ◌&&◌, List, [], ◌∷◌, ◌++◌, length, codes, find, filter, count_by, unwrap_or, Option, Some, None, ◌==◌}
+use Rattle.std.specs.List.{All}
+use Rattle.std.specs.Prelude.{IfSome, ℕ, suc, String, ◌≡◌, Bool, false, ◌&&◌, List, [], ◌∷◌, ◌++◌, length, codes, find, filter, count_by, unwrap_or, Option, Some, None, ◌==◌}
 use Rattle.std.specs.HashMap.{HashMap, get_by_text}
 use Rattle.std.specs.Str.{bytes_eq}
 use Rattle.xf_doc.specs.declared.content.Node.{Node}
 use Rattle.xf_doc.specs.declared.content.Content.{Content}
 use Rattle.xf_doc.specs.declared.content.Content.TheVariants.{Root, Element, Attribute, Text}
 use Rattle.xf_doc.specs.Forest.{is_element, is_text, name_in, written, written_in, content_at}
-use Rattle.xf_doc.specs.Visit.{Visit, parent_of}
+use Rattle.xf_doc.specs.Visit.{Visit, visits, parent_of}
 use Rattle.xf_doc.specs.Axis.{before}
 use Rattle.xf_doc.specs.Path.{is_namesake, is_text_beside, bracketed, index_if}
+use Rattle.xf_paths.specs.declared.family.Family.{Family}
 use Rattle.xf_paths.specs.declared.family.Kid.{Kid}
 use Rattle.xf_paths.specs.declared.family.Sort.{Sort}
 use Rattle.xf_paths.specs.declared.family.Sort.TheVariants as sort
@@ -55,14 +57,20 @@ is_named name content = is_element content && bytes_eq name (written_in (name_in
 -- what a content is, as far as it is counted
 abbrev pub IsSort : Option Content → Sort → Type 0
 IsSort content (sort.Element name) = content ≡ Some (Element name.now)
-IsSort content sort.Text = (text : List ℕ) × (content ≡ Some (Text text))
+IsSort content (sort.Text text) = content ≡ Some (Text text.now)
 IsSort content sort.Other = (meets is_element content ≡ false) × (meets is_text content ≡ false)
 
 -- how often a name was counted
 abbrev pub tallied : {Y S : Type 0} → HashMap (String Y) ℕ S → List ℕ → ℕ
 tallied tally name = unwrap_or (get_by_text tally name) 0
 
--- a child of a node, with the index that its path has
-pub record IsKid (all : List Visit) (parent : ℕ) (kid : Kid) : Type 0 where
-  pub index : index_text kid.index ≡ index_of all kid.number
-  pub below : parent_of kid.number all ≡ Some parent
+-- a child of a node, with what it is and the index that its path has
+pub record IsKid (nodes : List Node) (parent : ℕ) (kid : Kid) : Type 0 where
+  pub sort : IsSort (content_at kid.number nodes) kid.sort
+  pub index : index_text kid.index ≡ index_of (visits nodes) kid.number
+  pub below : parent_of kid.number (visits nodes) ≡ Some parent
+
+-- children of a node
+pub record HasKids (nodes : List Node) (parent : ℕ) (family : Family) : Type 0 where
+  pub next : IfSome family.next (IsKid nodes parent)
+  pub later : All (IsKid nodes parent) family.later.items

@@ -1,5 +1,5 @@
 //! The children of a node, each with its place among those of its kind.
-ghost use Rattle.std.specs.Prelude.{◌≡◌, ◌+◌, ◌<◌, ◌^◌, ℕ, suc, List, [], ◌∷◌, IfOk, OnOk, length, nat_lt, if◌then◌else◌};
+ghost use Rattle.std.specs.Prelude.{IfSome, Option, Some, ◌≡◌, ◌+◌, ◌<◌, ◌^◌, ℕ, suc, List, [], ◌∷◌, IfOk, OnOk, length, nat_lt, if◌then◌else◌};
 ghost use Rattle.std.specs.List.{All, list_any};
 ghost use Rattle.std.specs.Str.{bytes_eq};
 ghost use Rattle.xf_doc.specs.Axis.{axis_of};
@@ -7,8 +7,10 @@ ghost use Rattle.xf_doc.specs.Forest.{IsLive, content_at, is_element, written};
 ghost use Rattle.xf_doc.specs.Path.{bracketed};
 ghost use Rattle.xf_doc.specs.Shape.{has_elements};
 ghost use Rattle.xf_doc.specs.Visit.{visits};
+ghost use Rattle.xf_doc.specs.declared.content.Content.{Content};
+ghost use Rattle.xf_slots.specs.Seen.{seen_content};
 ghost use Rattle.xf_doc.specs.WellFormed.{HasTrees};
-ghost use Rattle.xf_paths.specs.Family.{IsKid, IsSort, count_in, index_text, is_named, meets, tallied};
+ghost use Rattle.xf_paths.specs.Family.{HasKids, IsKid, IsSort, count_in, index_text, is_named, meets, tallied};
 
 use crate::written::{Tally, add, add_name, tallied, written};
 use std::alloc::{AllocError, Global};
@@ -17,39 +19,43 @@ use xf_doc::{Name, NodeId, NodeList};
 use xf_name::Axis;
 use xf_tree::{Forest, Seen};
 
-/// A child, and what its path has in brackets: for an element its place among the elements beside it whose names are written
-/// alike, where there are others, for a text that among the texts beside it.
+/// A child, what it is, and what its path has in brackets: for an element its place among the elements beside it whose names are
+/// written alike, where there are others, for a text that among the texts beside it.
 #[derive(Clone, Copy, Debug)]
-pub struct Kid {
+pub struct Kid<'a> {
     pub number: u128,
+    pub sort: Sort<'a>,
     pub index: Option<usize>,
 }
 
 /// The children of a node.
 #[derive(Drop)]
-pub struct Family {
-    /// From the last one back.
-    pub kids: Vec<Kid>,
+pub struct Family<'a> {
+    /// The one that comes next.
+    pub next: Option<Kid<'a>>,
+    /// Those behind it, from the last one back.
+    pub later: Vec<Kid<'a>>,
     /// Whether one is an element.
     pub has_elements: bool,
 }
 
 /// The children of a node.
-pub fn family_of(alloc: Global, forest: &Forest, node: NodeId) -> Result<Family, AllocError>
+pub fn family_of(alloc: Global, forest: &Forest, node: NodeId) -> Result<Family<'_>, AllocError>
     requires { IsLive node.number forest.now.forest }
-    ensures kids { IfOk result (λ family. All (IsKid (visits forest.now.forest.nodes) node.number) family.kids.items) }
+    ensures kids { IfOk result (λ family. HasKids forest.now.forest.nodes node.number family) }
     ensures elements { IfOk result (λ family. family.has_elements ≡ has_elements (visits forest.now.forest.nodes) node.number) }
 {
     forest.are_trees();
     let mut walk = forest.axis(node, Axis::Child);
     let Some(first) = walk.next() else {
         return Ok(Family {
-            kids: Vec::new(alloc),
+            next: None,
+            later: Vec::new(alloc),
             has_elements: false,
         });
     };
     let Some(second) = walk.next() else {
-        return only_child(alloc, forest, node, first);
+        return Ok(only_child(alloc, forest, node, first));
     };
     let mut children = NodeList::new(alloc);
     children.push(first)?;
@@ -61,30 +67,32 @@ pub fn family_of(alloc: Global, forest: &Forest, node: NodeId) -> Result<Family,
 }
 
 /// Several children.
-fn several(
+fn several<'a>(
     alloc: Global,
-    forest: &Forest,
+    forest: &'a Forest,
     node: NodeId,
     children: &NodeList,
-) -> Result<Family, AllocError>
+) -> Result<Family<'a>, AllocError>
     requires live { IsLive node.number forest.now.forest }
     requires trees { HasTrees forest.now.forest }
     requires children { children.now ≡ axis_of Axis.Child node.number (visits forest.now.forest.nodes) }
-    ensures kids { IfOk result (λ family. All (IsKid (visits forest.now.forest.nodes) node.number) family.kids.items) }
+    ensures kids { IfOk result (λ family. HasKids forest.now.forest.nodes node.number family) }
     ensures elements { IfOk result (λ family. family.has_elements ≡ has_elements (visits forest.now.forest.nodes) node.number) }
 {
     let mut kids = kids_of(alloc, forest, node, children)?;
     kids.reverse();
     Ok(Family {
-        kids,
+        next: kids.pop(),
+        later: kids,
         has_elements: has_element(forest, children),
     })
 }
 
 /// What a node is, as far as it is counted.
-enum Sort<'a> {
+#[derive(Clone, Copy, Debug)]
+pub enum Sort<'a> {
     Element(&'a Name),
-    Text,
+    Text(&'a str),
     Other,
 }
 
@@ -94,10 +102,21 @@ fn sort_of(forest: &Forest, node: NodeId) -> Sort<'_>
     match forest.content(node) {
         Some(content) => match content {
             Seen::Element(name) => Sort::Element(name),
-            Seen::Text(_) => Sort::Text,
+            Seen::Text(text) => Sort::Text(text),
             _ => Sort::Other,
         },
         None => Sort::Other,
+    }
+}
+
+/// What a node of a sort is, where it is counted.
+pub fn seen_of(sort: Sort<'_>) -> Option<Seen<'_>>
+    ensures { (content : Option Content) → IsSort content sort.entry → IfSome result (λ seen. Some (seen_content seen) ≡ content) }
+{
+    match sort {
+        Sort::Element(name) => Some(Seen::Element(name)),
+        Sort::Text(text) => Some(Seen::Text(text)),
+        Sort::Other => None,
     }
 }
 
@@ -108,7 +127,7 @@ fn has_element(forest: &Forest, nodes: &NodeList) -> bool
     for at in 0..nodes.len() {
         match sort_of(forest, nodes.at(at)) {
             Sort::Element(_) => return true,
-            Sort::Text => continue,
+            Sort::Text(_) => continue,
             Sort::Other => continue,
         }
     }
@@ -116,44 +135,40 @@ fn has_element(forest: &Forest, nodes: &NodeList) -> bool
 }
 
 /// The one child that there is. Nothing has to be counted for it.
-fn only_child(
-    alloc: Global,
-    forest: &Forest,
-    node: NodeId,
-    child: NodeId,
-) -> Result<Family, AllocError>
+fn only_child<'a>(alloc: Global, forest: &'a Forest, node: NodeId, child: NodeId) -> Family<'a>
     requires live { IsLive node.number forest.now.forest }
     requires trees { HasTrees forest.now.forest }
     requires children { child.number ∷ [] ≡ axis_of Axis.Child node.number (visits forest.now.forest.nodes) }
-    ensures kids { IfOk result (λ family. All (IsKid (visits forest.now.forest.nodes) node.number) family.kids.items) }
-    ensures elements { IfOk result (λ family. family.has_elements ≡ has_elements (visits forest.now.forest.nodes) node.number) }
+    ensures kids { HasKids forest.now.forest.nodes node.number result }
+    ensures elements { result.has_elements ≡ has_elements (visits forest.now.forest.nodes) node.number }
 {
-    let (index, is_element) = match sort_of(forest, child) {
+    let sort = sort_of(forest, child);
+    let (index, is_element) = match sort {
         Sort::Element(_) => (None, true),
-        Sort::Text => (Some(1), false),
+        Sort::Text(_) => (Some(1), false),
         Sort::Other => (None, false),
     };
-    let mut kids = Vec::with_capacity(alloc, 1)?;
-    kids.push(Kid {
-        number: child.number,
-        index,
-    })?;
-    Ok(Family {
-        kids,
+    Family {
+        next: Some(Kid {
+            number: child.number,
+            sort,
+            index,
+        }),
+        later: Vec::new(alloc),
         has_elements: is_element,
-    })
+    }
 }
 
 /// The children in document order, with their indexes.
-fn kids_of(
+fn kids_of<'a>(
     alloc: Global,
-    forest: &Forest,
+    forest: &'a Forest,
     node: NodeId,
     children: &NodeList,
-) -> Result<Vec<Kid>, AllocError>
+) -> Result<Vec<Kid<'a>>, AllocError>
     requires trees { HasTrees forest.now.forest }
     requires children { children.now ≡ axis_of Axis.Child node.number (visits forest.now.forest.nodes) }
-    ensures { IfOk result (λ kids. All (IsKid (visits forest.now.forest.nodes) node.number) kids.items) }
+    ensures { IfOk result (λ kids. All (IsKid forest.now.forest.nodes node.number) kids.items) }
 {
     let totals = totals_of(alloc, forest, children)?;
     let mut seen = HashMap::new(alloc);
@@ -161,9 +176,10 @@ fn kids_of(
     let mut kids = Vec::with_capacity(alloc, children.len())?;
     for at in 0..children.len() {
         let child = children.at(at);
-        let index = match sort_of(forest, child) {
+        let sort = sort_of(forest, child);
+        let index = match sort {
             Sort::Element(name) => next_place(alloc, &totals, &mut seen, name)?,
-            Sort::Text => {
+            Sort::Text(_) => {
                 texts += 1;
                 Some(texts)
             }
@@ -171,6 +187,7 @@ fn kids_of(
         };
         kids.push(Kid {
             number: child.number,
+            sort,
             index,
         })?;
     }
@@ -185,7 +202,7 @@ fn totals_of(alloc: Global, forest: &Forest, nodes: &NodeList) -> Result<Tally, 
     for at in 0..nodes.len() {
         match sort_of(forest, nodes.at(at)) {
             Sort::Element(name) => add_name(alloc, &mut tally, name)?,
-            Sort::Text => continue,
+            Sort::Text(_) => continue,
             Sort::Other => continue,
         }
     }

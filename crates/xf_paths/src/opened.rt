@@ -5,10 +5,11 @@ ghost use Rattle.xf_doc.specs.Path.{or_slash, path_of};
 ghost use Rattle.xf_doc.specs.Shape.{has_elements};
 ghost use Rattle.xf_doc.specs.Visit.{Visit, visits, parent_of};
 ghost use Rattle.xf_paths.specs.Opened.{stem_of, IsOpen, AllOpen};
-ghost use Rattle.xf_paths.specs.Family.{index_of, index_text, meets};
+ghost use Rattle.xf_paths.specs.Family.{IsSort, index_of, index_text, meets};
+ghost use Rattle.xf_doc.specs.declared.content.Node.{Node};
 ghost use Rattle.xf_slots.specs.Seen.{seen_content};
 
-use crate::family::{Family, family_of};
+use crate::family::{Family, Kid, family_of, seen_of};
 use crate::written::{joined, push_step};
 use std::alloc::{AllocError, Global};
 use std::marker::Model;
@@ -17,11 +18,11 @@ use xf_tree::{Forest, Seen};
 
 /// A node whose path is at hand, with its children that did not come yet.
 #[derive(Drop)]
-pub struct OpenNode {
+pub struct OpenNode<'a> {
     pub number: u128,
     /// Its path, empty for a root.
     pub stem: String,
-    pub family: Family,
+    pub family: Family<'a>,
 }
 
 /// The paths of nodes of a forest. Where they are asked for in document order, each costs what it prints, and a look at each child;
@@ -31,7 +32,7 @@ pub struct Paths<'a> {
     alloc: Global,
     forest: &'a Forest,
     // Each one below the one before it.
-    nodes: Vec<OpenNode>,
+    nodes: Vec<OpenNode<'a>>,
 }
 
 impl<'a> Model for Paths<'a> {
@@ -44,7 +45,7 @@ impl<'a> Model for Paths<'a> {
 
     ghost view = { λ p. p.forest.now };
 
-    ghost invariant = { λ p. AllOpen (visits p.forest.now.forest.nodes) p.nodes.items };
+    ghost invariant = { λ p. AllOpen p.forest.now.forest.nodes p.nodes.items };
 }
 
 impl<'a> Paths<'a> {
@@ -88,15 +89,15 @@ fn push_stem(text: &mut String, stem: &String) -> Result<(), AllocError>
     text.push_str(stem.as_str())
 }
 
-fn has_elements(
+fn has_elements<'a>(
     alloc: Global,
-    forest: &Forest,
-    nodes: &mut Vec<OpenNode>,
+    forest: &'a Forest,
+    nodes: &mut Vec<OpenNode<'a>>,
     node: NodeId,
 ) -> Result<bool, AllocError>
     requires live { IsLive node.number forest.now.forest }
-    requires nodes { AllOpen (visits forest.now.forest.nodes) nodes.old.items }
-    ensures nodes { AllOpen (visits forest.now.forest.nodes) nodes.new.items }
+    requires nodes { AllOpen forest.now.forest.nodes nodes.old.items }
+    ensures nodes { AllOpen forest.now.forest.nodes nodes.new.items }
     ensures answer { IfOk result (λ answer. answer ≡ has_elements (visits forest.now.forest.nodes) node.number) }
 {
     forest.are_trees();
@@ -108,15 +109,15 @@ fn has_elements(
     }
 }
 
-fn has_open_elements(
+fn has_open_elements<'a>(
     alloc: Global,
-    forest: &Forest,
-    nodes: &mut Vec<OpenNode>,
+    forest: &'a Forest,
+    nodes: &mut Vec<OpenNode<'a>>,
     node: NodeId,
 ) -> Result<bool, AllocError>
     requires live { IsLive node.number forest.now.forest }
-    requires nodes { AllOpen (visits forest.now.forest.nodes) nodes.old.items }
-    ensures nodes { AllOpen (visits forest.now.forest.nodes) nodes.new.items }
+    requires nodes { AllOpen forest.now.forest.nodes nodes.old.items }
+    ensures nodes { AllOpen forest.now.forest.nodes nodes.new.items }
     ensures answer { IfOk result (λ answer. answer ≡ has_elements (visits forest.now.forest.nodes) node.number) }
 {
     let one = take_open(alloc, forest, nodes, node)?;
@@ -126,16 +127,16 @@ fn has_open_elements(
 }
 
 /// Appends the path of a node. An element is open then, since the paths of its children begin with its own.
-fn push_path(
+fn push_path<'a>(
     alloc: Global,
-    forest: &Forest,
-    nodes: &mut Vec<OpenNode>,
+    forest: &'a Forest,
+    nodes: &mut Vec<OpenNode<'a>>,
     text: &mut String,
     node: NodeId,
 ) -> Result<(), AllocError>
     requires live { IsLive node.number forest.now.forest }
-    requires nodes { AllOpen (visits forest.now.forest.nodes) nodes.old.items }
-    ensures nodes { AllOpen (visits forest.now.forest.nodes) nodes.new.items }
+    requires nodes { AllOpen forest.now.forest.nodes nodes.old.items }
+    ensures nodes { AllOpen forest.now.forest.nodes nodes.new.items }
     ensures text { OnOk result (string_bytes text.new ≡ string_bytes text.old ++ path_of node.number (visits forest.now.forest.nodes)) }
 {
     let stem = push_path_in(alloc, forest, nodes, text, node)?;
@@ -146,48 +147,50 @@ fn push_path(
 }
 
 /// The same, which gives the path of an element instead of opening it. Of a child that comes in turn the parent is what is open, and is not looked for.
-fn push_path_in(
+fn push_path_in<'a>(
     alloc: Global,
-    forest: &Forest,
-    nodes: &mut Vec<OpenNode>,
+    forest: &'a Forest,
+    nodes: &mut Vec<OpenNode<'a>>,
     text: &mut String,
     node: NodeId,
 ) -> Result<Option<String>, AllocError>
     requires live { IsLive node.number forest.now.forest }
-    requires nodes { AllOpen (visits forest.now.forest.nodes) nodes.old.items }
-    ensures nodes { AllOpen (visits forest.now.forest.nodes) nodes.new.items }
+    requires nodes { AllOpen forest.now.forest.nodes nodes.old.items }
+    ensures nodes { AllOpen forest.now.forest.nodes nodes.new.items }
     ensures text { OnOk result (string_bytes text.new ≡ string_bytes text.old ++ path_of node.number (visits forest.now.forest.nodes)) }
     ensures stem { IfOk result (λ kept. IfSome kept (λ stem. string_bytes stem ≡ stem_of (visits forest.now.forest.nodes) node.number)) }
 {
-    let Some(content) = forest.content(node) else {
-        return push_fresh(alloc, forest, text, node);
-    };
-    if is_told_attribute(content) {
-        // Attributes are not among the children, and their element may have more.
-        return push_below(alloc, forest, nodes, text, node, content);
-    }
-    close(nodes);
-    if let Some(one) = nodes.last_mut() {
-        if let Some(index) = turn_of(one, node) {
-            return push_known(alloc, forest, one, text, node, content, index);
+    if comes_next(nodes, node) {
+        close(nodes);
+        if let Some(one) = nodes.last_mut() {
+            if let Some(kid) = turn_of(one, node) {
+                if let Some(content) = seen_of(kid.sort) {
+                    return push_known(alloc, forest, one, text, node, content, kid.index);
+                }
+            }
         }
     }
-    push_below(alloc, forest, nodes, text, node, content)
+    push_below(alloc, forest, nodes, text, node)
 }
 
-fn is_told_attribute(content: Seen<'_>) -> bool {
-    match content {
-        Seen::Attribute(_, _) => true,
-        _ => false,
+/// Whether a node is the child that comes next. It tells only what is tried first: nothing is promised of it.
+fn comes_next(nodes: &[OpenNode<'_>], node: NodeId) -> bool {
+    let mut at = nodes.len();
+    while at > 0 {
+        at -= 1;
+        if let Some(kid) = nodes[at].family.next {
+            return kid.number == node.number;
+        }
     }
+    false
 }
 
 /// Closes what has no more children to come.
-fn close(nodes: &mut Vec<OpenNode>)
-    ensures { (all : List Visit) → AllOpen all nodes.old.items → AllOpen all nodes.new.items }
+fn close(nodes: &mut Vec<OpenNode<'_>>)
+    ensures { (all : List Node) → AllOpen all nodes.old.items → AllOpen all nodes.new.items }
 {
     while let Some(one) = nodes.last() {
-        if !one.family.kids.is_empty() {
+        if one.family.next.is_some() {
             return;
         }
         nodes.pop();
@@ -195,21 +198,22 @@ fn close(nodes: &mut Vec<OpenNode>)
 }
 
 /// Appends the path of a node by that of its parent, which is looked for.
-fn push_below(
+fn push_below<'a>(
     alloc: Global,
-    forest: &Forest,
-    nodes: &mut Vec<OpenNode>,
+    forest: &'a Forest,
+    nodes: &mut Vec<OpenNode<'a>>,
     text: &mut String,
     node: NodeId,
-    content: Seen<'_>,
 ) -> Result<Option<String>, AllocError>
     requires live { IsLive node.number forest.now.forest }
-    requires nodes { AllOpen (visits forest.now.forest.nodes) nodes.old.items }
-    requires content { Some (seen_content content) ≡ content_at node.number forest.now.forest.nodes }
-    ensures nodes { AllOpen (visits forest.now.forest.nodes) nodes.new.items }
+    requires nodes { AllOpen forest.now.forest.nodes nodes.old.items }
+    ensures nodes { AllOpen forest.now.forest.nodes nodes.new.items }
     ensures text { OnOk result (string_bytes text.new ≡ string_bytes text.old ++ path_of node.number (visits forest.now.forest.nodes)) }
     ensures stem { IfOk result (λ kept. IfSome kept (λ stem. string_bytes stem ≡ stem_of (visits forest.now.forest.nodes) node.number)) }
 {
+    let Some(content) = forest.content(node) else {
+        return push_fresh(alloc, forest, text, node);
+    };
     let Some(parent) = forest.parent(node) else {
         return push_fresh(alloc, forest, text, node);
     };
@@ -220,16 +224,16 @@ fn push_below(
 }
 
 /// Closes what is open down to this node, and takes it out.
-fn take_open(
+fn take_open<'a>(
     alloc: Global,
-    forest: &Forest,
-    nodes: &mut Vec<OpenNode>,
+    forest: &'a Forest,
+    nodes: &mut Vec<OpenNode<'a>>,
     node: NodeId,
-) -> Result<OpenNode, AllocError>
+) -> Result<OpenNode<'a>, AllocError>
     requires live { IsLive node.number forest.now.forest }
-    requires nodes { AllOpen (visits forest.now.forest.nodes) nodes.old.items }
-    ensures nodes { AllOpen (visits forest.now.forest.nodes) nodes.new.items }
-    ensures one { IfOk result (λ one. IsOpen (visits forest.now.forest.nodes) one) }
+    requires nodes { AllOpen forest.now.forest.nodes nodes.old.items }
+    ensures nodes { AllOpen forest.now.forest.nodes nodes.new.items }
+    ensures one { IfOk result (λ one. IsOpen forest.now.forest.nodes one) }
     ensures number { IfOk result (λ one. one.number ≡ node.number) }
 {
     while let Some(one) = nodes.pop() {
@@ -242,17 +246,17 @@ fn take_open(
 }
 
 /// Opens a node below those that are open.
-fn push_open(
+fn push_open<'a>(
     alloc: Global,
-    forest: &Forest,
-    nodes: &mut Vec<OpenNode>,
+    forest: &'a Forest,
+    nodes: &mut Vec<OpenNode<'a>>,
     node: NodeId,
     stem: String,
 ) -> Result<(), AllocError>
     requires live { IsLive node.number forest.now.forest }
     requires stem { string_bytes stem ≡ stem_of (visits forest.now.forest.nodes) node.number }
-    requires nodes { AllOpen (visits forest.now.forest.nodes) nodes.old.items }
-    ensures nodes { AllOpen (visits forest.now.forest.nodes) nodes.new.items }
+    requires nodes { AllOpen forest.now.forest.nodes nodes.old.items }
+    ensures nodes { AllOpen forest.now.forest.nodes nodes.new.items }
 {
     let one = with_children(alloc, forest, node, stem)?;
     nodes.push(one)?;
@@ -260,15 +264,15 @@ fn push_open(
 }
 
 /// A node with its children.
-fn with_children(
+fn with_children<'a>(
     alloc: Global,
-    forest: &Forest,
+    forest: &'a Forest,
     node: NodeId,
     stem: String,
-) -> Result<OpenNode, AllocError>
+) -> Result<OpenNode<'a>, AllocError>
     requires live { IsLive node.number forest.now.forest }
     requires stem { string_bytes stem ≡ stem_of (visits forest.now.forest.nodes) node.number }
-    ensures one { IfOk result (λ one. IsOpen (visits forest.now.forest.nodes) one) }
+    ensures one { IfOk result (λ one. IsOpen forest.now.forest.nodes one) }
     ensures number { IfOk result (λ one. one.number ≡ node.number) }
 {
     let family = family_of(alloc, forest, node)?;
@@ -327,22 +331,25 @@ fn push_fresh(
 fn push_child(
     alloc: Global,
     forest: &Forest,
-    parent: &mut OpenNode,
+    parent: &mut OpenNode<'_>,
     text: &mut String,
     node: NodeId,
     content: Seen<'_>,
 ) -> Result<Option<String>, AllocError>
     requires live { IsLive node.number forest.now.forest }
-    requires one { IsOpen (visits forest.now.forest.nodes) parent.old }
+    requires one { IsOpen forest.now.forest.nodes parent.old }
     requires parent { parent_of node.number (visits forest.now.forest.nodes) ≡ Some parent.old.number }
     requires content { Some (seen_content content) ≡ content_at node.number forest.now.forest.nodes }
     ensures text { OnOk result (string_bytes text.new ≡ string_bytes text.old ++ path_of node.number (visits forest.now.forest.nodes)) }
     ensures stem { IfOk result (λ kept. IfSome kept (λ stem. string_bytes stem ≡ stem_of (visits forest.now.forest.nodes) node.number)) }
-    ensures one { IsOpen (visits forest.now.forest.nodes) parent.new }
+    ensures one { IsOpen forest.now.forest.nodes parent.new }
 {
     let index = match content {
         Seen::Attribute(_, _) => Some(None),
-        _ => turn_of(parent, node),
+        _ => match turn_of(parent, node) {
+            Some(kid) => Some(kid.index),
+            None => None,
+        },
     };
     match index {
         Some(index) => push_known(alloc, forest, parent, text, node, content, index),
@@ -350,25 +357,20 @@ fn push_child(
     }
 }
 
-/// What the path of the child that comes next has in brackets, where it is this node. It has come then.
-fn turn_of(one: &mut OpenNode, node: NodeId) -> Option<Option<usize>>
-    ensures one { (all : List Visit) → IsOpen all one.old → IsOpen all one.new }
+/// The child that comes next, where it is this node. It has come then.
+fn turn_of<'a>(one: &mut OpenNode<'a>, node: NodeId) -> Option<Kid<'a>>
+    ensures one { (nodes : List Node) → IsOpen nodes one.old → IsOpen nodes one.new }
     ensures number { one.new.number ≡ one.old.number }
-    ensures index { (all : List Visit) → IsOpen all one.old → IfSome result (λ index. index_text index ≡ index_of all node.number) }
-    ensures parent { (all : List Visit) → IsOpen all one.old → IfSome result (λ index. parent_of node.number all ≡ Some one.old.number) }
+    ensures sort { (nodes : List Node) → IsOpen nodes one.old → IfSome result (λ kid. IsSort (content_at node.number nodes) kid.sort) }
+    ensures index { (nodes : List Node) → IsOpen nodes one.old → IfSome result (λ kid. index_text kid.index ≡ index_of (visits nodes) node.number) }
+    ensures parent { (nodes : List Node) → IsOpen nodes one.old → IfSome result (λ kid. parent_of node.number (visits nodes) ≡ Some one.old.number) }
 {
-    match one.family.kids.last() {
-        Some(kid) => {
-            if kid.number != node.number {
-                return None;
-            }
-        }
-        None => return None,
+    let kid = one.family.next?;
+    if kid.number != node.number {
+        return None;
     }
-    match one.family.kids.pop() {
-        Some(kid) => Some(kid.index),
-        None => None,
-    }
+    one.family.next = one.family.later.pop();
+    Some(kid)
 }
 
 /// Appends the path of a node, by that of its parent and what it has in brackets. An element's path is kept, since those of its children begin
@@ -376,13 +378,13 @@ fn turn_of(one: &mut OpenNode, node: NodeId) -> Option<Option<usize>>
 fn push_known(
     alloc: Global,
     forest: &Forest,
-    parent: &OpenNode,
+    parent: &OpenNode<'_>,
     text: &mut String,
     node: NodeId,
     content: Seen<'_>,
     index: Option<usize>,
 ) -> Result<Option<String>, AllocError>
-    requires one { IsOpen (visits forest.now.forest.nodes) parent.now }
+    requires one { IsOpen forest.now.forest.nodes parent.now }
     requires parent { parent_of node.number (visits forest.now.forest.nodes) ≡ Some parent.now.number }
     requires content { Some (seen_content content) ≡ content_at node.number forest.now.forest.nodes }
     requires index { is_attribute (seen_content content) ≡ false → index_text index ≡ index_of (visits forest.now.forest.nodes) node.number }

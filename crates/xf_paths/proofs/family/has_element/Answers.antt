@@ -11,7 +11,7 @@ returns-in-Element c =
 pub loop-at-preserved-in-Text : goal.loop-at-preserved-in-Text
 loop-at-preserved-in-Text c =
     let h : c.loop-at.at < length c.args.nodes.now = omega arith in
-    any-more (λ n. meets is_element (content_at n c.args.forest.now.forest.nodes)) c.args.nodes.now c.loop-at.at c.at.result.number h c.at.ensures c.loop-at.invariant (ap (meets is_element) c.in-Text.ensures.1)
+    any-more (λ n. meets is_element (content_at n c.args.forest.now.forest.nodes)) c.args.nodes.now c.loop-at.at c.at.result.number h c.at.ensures c.loop-at.invariant (ap (meets is_element) c.in-Text.ensures)
 
 pub loop-at-preserved : goal.loop-at-preserved
 loop-at-preserved c =

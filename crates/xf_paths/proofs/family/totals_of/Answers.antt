@@ -9,7 +9,7 @@ loop-at-preserved-in-Text c = λ w.
     let nodes = c.args.forest.now.forest.nodes in
     let h : c.loop-at.at < length c.args.nodes.now = omega arith in
     c.loop-at.invariant w
-    ∙ sym (count-same (is_named w) nodes c.args.nodes.now c.loop-at.at c.at.result.number h c.at.ensures (named-not w (content_at c.at.result.number nodes) (ap (meets is_element) c.in-Text.ensures.1)))
+    ∙ sym (count-same (is_named w) nodes c.args.nodes.now c.loop-at.at c.at.result.number h c.at.ensures (named-not w (content_at c.at.result.number nodes) (ap (meets is_element) c.in-Text.ensures)))
 
 pub loop-at-preserved-in-Other : goal.loop-at-preserved-in-Other
 loop-at-preserved-in-Other c = λ w.

@@ -9,19 +9,19 @@ use Rattle.xf_paths.proofs.opened.push_path_in.Goals.{in-Some-last_mut+in_defaul
 
 pub push_known-requires-clause-one : goal.push_known-requires-clause-one
 push_known-requires-clause-one c =
-    let all = visits c.args.forest.now.forest.nodes in
+    let all = c.args.forest.now.forest.nodes in
     c.turn_of.ensures.one all (last-open all c.close.new.nodes.items (vec_len c.close.new.nodes - 1) c.in-Some-last_mut.one.now (c.close.ensures all c.requires.nodes) (omega (arith, c.in-Some-last_mut.ensures.variant.0 refl, c.close.new.nodes.ok)) c.in-Some-last_mut.ensures.value)
 
 pub returns-in-Some-turn_of-clause-nodes : goal.returns-in-Some-turn_of-clause-nodes
 returns-in-Some-turn_of-clause-nodes c =
-    let all = visits c.args.forest.now.forest.nodes in
+    let all = c.args.forest.now.forest.nodes in
     let stands = c.close.ensures all c.requires.nodes in
     All-set (IsOpen all) c.close.new.nodes.items (vec_len c.close.new.nodes - 1) c.turn_of.new.one
     (c.turn_of.ensures.one all (last-open all c.close.new.nodes.items (vec_len c.close.new.nodes - 1) c.in-Some-last_mut.one.now stands (omega (arith, c.in-Some-last_mut.ensures.variant.0 refl, c.close.new.nodes.ok)) c.in-Some-last_mut.ensures.value)) stands
 
 pub push_below-requires-2-clause-nodes : goal.push_below-requires-2-clause-nodes
 push_below-requires-2-clause-nodes c =
-    let all = visits c.args.forest.now.forest.nodes in
+    let all = c.args.forest.now.forest.nodes in
     let stands = c.close.ensures all c.requires.nodes in
     elim c.match-last_mut.branch [
       | in-Some-last_mut+in_default-turn_of w ↦
