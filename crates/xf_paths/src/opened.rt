@@ -175,10 +175,8 @@ fn push_path_in<'a>(
 
 /// Whether a node is the child that comes next. It tells only what is tried first: nothing is promised of it.
 fn comes_next(nodes: &[OpenNode<'_>], node: NodeId) -> bool {
-    let mut at = nodes.len();
-    while at > 0 {
-        at -= 1;
-        if let Some(kid) = nodes[at].family.next {
+    for one in nodes.iter().rev() {
+        if let Some(kid) = one.family.next {
             return kid.number == node.number;
         }
     }
