@@ -27,7 +27,7 @@ abbrev first : Outcome
 first = start profile (binding (b_by_a ∷ [])) []
 
 abbrev no_state : State
-no_state = unbuilt profile (binding []) None
+no_state = unbuilt profile (binding [])
 
 -- an input on a, which has no id
 abbrev nameless : Program

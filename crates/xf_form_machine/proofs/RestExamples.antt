@@ -53,7 +53,7 @@ silent = form (element None (1 ∷ []) sort.host role.other ∷ model (2 ∷ [])
 -- the state before it where the start is refused
 abbrev state_of : Outcome → State
 state_of (accepted s posted) = s
-state_of (refused why calls) = unbuilt profile silent None
+state_of (refused why calls) = unbuilt profile silent
 
 abbrev begun : State
 begun = state_of (start profile silent [])

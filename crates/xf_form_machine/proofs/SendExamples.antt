@@ -139,7 +139,7 @@ ended_by (Err refusal) = None
 abbrev third_call : List ℕ → Option (Option (List ℕ))
 third_call name =
     let sub = sending Put replace.Nothing name in
-    seen (λ s. ended_by (attempt profile (λ e t. Ok t) sub (record s { calls = a_call ∷ a_call ∷ [] }))) (start profile (submitting sub [] one) [])
+    seen (λ s. ended_by (attempt profile [] (λ e t. Ok t) sub (record s { calls = a_call ∷ a_call ∷ [] }))) (start profile (submitting sub [] one) [])
 
 refused_before_it_is_made : third_call (codes "o") ≡ Some None
 refused_before_it_is_made = refl

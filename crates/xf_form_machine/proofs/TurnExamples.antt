@@ -64,10 +64,10 @@ abbrev refusal_of : Result State Refused → Option Refusal
 refusal_of (Ok s) = None
 refusal_of (Err r) = Some r.why
 
-the_turn_first : seen (λ s. refusal_of (dispatch profile 0 true (plainly (codes "e") 0 []) (record s { turns = 0 }))) (start profile (twice as_it_is as_it_is again again) []) ≡ Some (Some budget)
+the_turn_first : seen (λ s. refusal_of (dispatch profile [] 0 true (plainly (codes "e") 0 []) (record s { turns = 0 }))) (start profile (twice as_it_is as_it_is again again) []) ≡ Some (Some budget)
 the_turn_first = refl
 
-then_the_depth : seen (λ s. refusal_of (dispatch profile 0 true (plainly (codes "e") 0 []) s)) (start profile (twice as_it_is as_it_is again again) []) ≡ Some (Some depth)
+then_the_depth : seen (λ s. refusal_of (dispatch profile [] 0 true (plainly (codes "e") 0 []) s)) (start profile (twice as_it_is as_it_is again again) []) ≡ Some (Some depth)
 then_the_depth = refl
 
 -- ---- what all entries ask: the sum over the models, each by its last rebuild, of which 100 are allowed

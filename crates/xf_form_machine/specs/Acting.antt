@@ -85,4 +85,4 @@ whole_of d k = option_map (λ units. int_div_euclid units (pos (scale d))) (roun
 -- as a whole number
 abbrev pub whole_for : Profile → Acting → State → Focus → Meaning → Result (Option ℤ) Refused
 whole_for p x s c m =
-    value_for p x s c m >>= λ value. or_long s (number_of (setting (surroundings p x s) x.model c.node) value) >>= λ k. Ok (whole_of p.decimals k)
+    value_for p x s c m >>= λ value. or_long s (number_of (setting (surroundings p x s) x.model c.node) value) >>= λ k. Ok (whole_of s.form.decimals k)

@@ -26,7 +26,7 @@ use Rattle.xf_form_machine.specs.Profile.{Profile}
 use Rattle.xf_form_machine.specs.Program.{Program}
 use Rattle.xf_form_machine.specs.State.{State}
 use Rattle.xf_form_machine.specs.Data.{Data, data_of}
-use Rattle.xf_form_machine.specs.Surround.{interface, instances_in, scope, all_in, quiet}
+use Rattle.xf_form_machine.specs.Surround.{interface, instances_in, bind_scope, all_in, quiet}
 use Rattle.xf_form_machine.specs.Cycles.{counted_from, reported_cycle}
 use Rattle.xf_form_machine.specs.Behave.{model_at, asked_by_all, truly, is_invalid}
 use Rattle.xf_form_machine.specs.Update.{is_due, shown}
@@ -69,18 +69,18 @@ HasDocuments s =
 
 -- a calculated node has the text of its expression as its whole content
 abbrev pub IsSettledAt : Profile → State → ℕ → Entry → Type 0
-IsSettledAt p s model e = texts_at s e.node ≡ as_texts (content_by p.bounds (scope p s model) (all_in s) e).1
+IsSettledAt p s model e = texts_at s e.node ≡ as_texts (content_by p.bounds (bind_scope p s model) (all_in s) e).1
 
 -- what a model keeps is what would be made of the data by now
 pub record RestsModel (p : Profile) (s : State) (model : ℕ) : Type 0 where
   -- the entries are those that the binds set, without an exception and without a cycle
-  pub entries : applied (scope p s model) s.forest.nodes ≡ Ok (model_at s model).entries
-  pub no_cycle : reported_cycle (graph_over (scope p s model) (shape_of s.forest.nodes) (model_at s model).entries) ≡ None
-  pub asked : (model_at s model).asked ≡ edge_count (scope p s model) (shape_of s.forest.nodes) (model_at s model).entries
+  pub entries : applied (bind_scope p s model) s.forest.nodes ≡ Ok (model_at s model).entries
+  pub no_cycle : reported_cycle (graph_over (bind_scope p s model) (shape_of s.forest.nodes) (model_at s model).entries) ≡ None
+  pub asked : (model_at s model).asked ≡ edge_count (bind_scope p s model) (shape_of s.forest.nodes) (model_at s model).entries
   -- the data are settled within the limits, and the values are those of now
   pub settled : AllOf (IsSettledAt p s model) (calculates (model_at s model).entries)
-  pub within : passed p.bounds (scope p s model) (model_at s model).entries (all_in s) ≡ []
-  pub values : (model_at s model).stood ≡ map truly (values_over p.bounds (scope p s model) (model_at s model).entries (all_in s))
+  pub within : passed p.bounds (bind_scope p s model) (model_at s model).entries (all_in s) ≡ []
+  pub values : (model_at s model).stood ≡ map truly (values_over p.bounds (bind_scope p s model) (model_at s model).entries (all_in s))
   pub invalid : (model_at s model).invalid ≡ map (λ x. x.number) (filter (is_invalid p model s) (all_in s))
   -- nothing is marked
   pub texts : (model_at s model).texts ≡ []
@@ -136,7 +136,7 @@ pub record IsAtRest (p : Profile) (s : State) : Type 0 where
   -- the list of the controls is that of now
   pub controls : shown p s ≡ Ok s.controls
   -- nothing of an event is left
-  pub is_fresh : fresh p [] s ≡ s
+  pub is_fresh : fresh p s ≡ s
 
 -- the data are those of a state at rest of the form: such a state is fixed by them, but for the numbers of nodes
 abbrev pub Restores : Profile → Program → Data → Type 0

@@ -18,7 +18,7 @@ use Rattle.xf_form_machine.specs.State.{Flags, Model, State}
 use Rattle.xf_form_machine.specs.Refusal as refusal
 use Rattle.xf_form_machine.specs.Refusal.{Refusal, Refused, circular, word_of, refused, unless_passed, if_over}
 use Rattle.xf_form_machine.specs.Flow.{Run, ◌>>=◌}
-use Rattle.xf_form_machine.specs.Surround.{scope, all_in, model_holding}
+use Rattle.xf_form_machine.specs.Surround.{bind_scope, all_in, model_holding}
 use Rattle.xf_form_machine.specs.Primitives.{in_model, over_made}
 use Rattle.xf_form_machine.specs.Properties.{values_of, path_in}
 use Rattle.xf_form_machine.specs.Cycles.{reported_cycle}
@@ -62,19 +62,19 @@ unless_cycle before readers (Some places) s = refused (circular (map (path_in be
 -- unless the calculates of these entries stand in a cycle
 abbrev pub no_cycle : Profile → ℕ → List Entry → Run
 no_cycle p model entries s =
-    let readers = calculated (scope p s model) (shape_of s.forest.nodes) entries in
+    let readers = calculated (bind_scope p s model) (shape_of s.forest.nodes) entries in
     unless_cycle s readers (reported_cycle (dependents (shape_of s.forest.nodes) readers)) s
 
 -- by what the binds set, or their first exception
 abbrev pub by_applied : Profile → ℕ → Result (List Entry) Exception → Run
 by_applied p model (Err x) s = refused (refusal_of s x) s
 by_applied p model (Ok entries) s =
-    within_edges p (in_model (rebuilt_with entries (edge_count (scope p s model) (shape_of s.forest.nodes) entries)) model s)
+    within_edges p (in_model (rebuilt_with entries (edge_count (bind_scope p s model) (shape_of s.forest.nodes) entries)) model s)
     >>= no_cycle p model entries
 
 -- the binds are applied: first exceptions, then the limit, then cycles
 abbrev pub rebuild : Profile → ℕ → Run
-rebuild p model s = by_applied p model (applied (scope p s model) s.forest.nodes) s
+rebuild p model s = by_applied p model (applied (bind_scope p s model) s.forest.nodes) s
 
 -- ---- recalculate
 
@@ -99,7 +99,7 @@ recalculated_with values m = record m { stood = map truly values; texts = []; li
 abbrev pub settled_in : Profile → ℕ → List Entry → Contents → State → State
 settled_in p model entries contents s =
     let forest = record (reserved (length contents) s.forest) { nodes = with_contents s.forest.next contents s.forest.nodes } in
-    in_model (recalculated_with (values_over p.bounds (scope p s model) entries (visits forest.nodes))) model (record s { forest = forest })
+    in_model (recalculated_with (values_over p.bounds (bind_scope p s model) entries (visits forest.nodes))) model (record s { forest = forest })
 
 -- so many nodes more are made, and so many evaluations more counted
 abbrev pub evaluated_more : ℕ → ℕ → State → State
@@ -111,9 +111,9 @@ abbrev pub recalculate : Profile → ℕ → Run
 recalculate p model s =
     let m = model_at s model in
     let made = length (calculates m.entries) in
-    let count = pertinent_count (scope p s model) (shape (all_in s)) m.entries (changes_of m) in
-    unless_passed s (map word_of (passed p.bounds (scope p s model) m.entries (all_in s)) ++ over_made p (s.made + made)) s
-    >>= λ t. Ok (evaluated_more made count (settled_in p model m.entries (settled_contents p.bounds (scope p s model) m.entries (all_in s)) t))
+    let count = pertinent_count (bind_scope p s model) (shape (all_in s)) m.entries (changes_of m) in
+    unless_passed s (map word_of (passed p.bounds (bind_scope p s model) m.entries (all_in s)) ++ over_made p (s.made + made)) s
+    >>= λ t. Ok (evaluated_more made count (settled_in p model m.entries (settled_contents p.bounds (bind_scope p s model) m.entries (all_in s)) t))
 
 -- ---- revalidate
 
@@ -126,7 +126,7 @@ is_model model (Some other) = model == other
 abbrev pub is_invalid : Profile → ℕ → State → Visit → Bool
 is_invalid p model s x =
     let m = model_at s model in
-    is_model model (model_holding s x.number) && not (is_valid p.meets (scope p s model) (all_in s) m.entries (values_of m) x.number)
+    is_model model (model_holding s x.number) && not (is_valid p.meets (bind_scope p s model) (all_in s) m.entries (values_of m) x.number)
 
 -- what a model keeps after its revalidation
 abbrev pub revalidated_with : List ℕ → Model → Model

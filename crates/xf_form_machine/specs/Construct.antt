@@ -1,6 +1,5 @@
 -- How a form is constructed (XForms 1.1, section 4.2.1), and what a reset puts back (section 4.3.7): the data as construction left them.
 use Rattle.std.specs.Prelude.{ℕ, List, [], map, filter, length, Option, Some, None, Result, Ok, Err, ◌==◌}
-use Rattle.xf_store.specs.declared.answers.Answer.{Answer}
 use Rattle.xf_ast.specs.Ordered.{numbered_from}
 use Rattle.xf_doc.specs.declared.content.Content.{Content}
 use Rattle.xf_doc.specs.Forest.{Forest, empty, tree_of}
@@ -22,8 +21,8 @@ use Rattle.xf_form_machine.specs.Update.{reindex, shown}
 -- ---- construction
 
 -- before anything is planted, with a whole budget
-abbrev pub unbuilt : Profile → Program → Option (List Answer) → State
-unbuilt p form answers = record {
+abbrev pub unbuilt : Profile → Program → State
+unbuilt p form = record {
   form = form;
   forest = empty;
   indexes = [];
@@ -36,7 +35,6 @@ unbuilt p form answers = record {
   made = 0;
   evaluated = 0;
   calls = [];
-  to_come = answers;
 }
 
 -- with a root over the tree that was planted
@@ -61,9 +59,9 @@ abbrev pub first_shown : Profile → Run
 first_shown p s = shown p s >>= λ list. Ok (record s { controls = list })
 
 -- every instance, then model by model, then the indexes, then the controls
-abbrev pub construct : Profile → Program → Option (List Answer) → Result State Refused
-construct p form answers =
-    in_turn (plant_document p) form.documents (unbuilt p form answers)
+abbrev pub construct : Profile → Program → Result State Refused
+construct p form =
+    in_turn (plant_document p) form.documents (unbuilt p form)
     >>= λ s. in_turn (build_model p) (counted_from 0 (length s.models)) s
     >>= λ t. start_indexes p (record t { cases = first_cases (interface t) })
     >>= first_shown p
@@ -100,4 +98,4 @@ instances_of s model = map (λ i. i.0) (filter (λ i. i.1.model == model) (numbe
 
 -- the data of the model, as new nodes; then the indexes are brought up to date
 abbrev pub reset : Profile → ℕ → Run
-reset p model s = in_turn (put_back p (construct p s.form (Some []))) (instances_of s model) s >>= reindex p []
+reset p model s = in_turn (put_back p (construct p s.form)) (instances_of s model) s >>= reindex p []

@@ -1,5 +1,6 @@
 -- The default actions of events (XForms 1.1, section 4): of a submit control, of a model and of a submission.
 use Rattle.std.specs.Prelude.{ℕ, List, bytes_eq, codes, Ok, if◌then◌else◌}
+use Rattle.xf_store.specs.declared.answers.Answer.{Answer}
 use Rattle.xf_form_machine.specs.Program.{Role, role_at}
 use Rattle.xf_form_machine.specs.Program as role
 use Rattle.xf_form_machine.specs.Profile.{Profile}
@@ -41,13 +42,13 @@ of_model p tell model name =
 
 -- ---- by the target
 
--- by what the target is
-abbrev pub of_role : Profile → Tell → List ℕ → Role → Run
-of_role p tell name (role.model k) = of_model p tell k name
-of_role p tell name (role.submission k) = when (bytes_eq name (codes "xforms-submit")) (submit p tell k)
-of_role p tell name (role.submit target) = when (bytes_eq name (codes "DOMActivate")) (act_send tell target)
-of_role p tell name role = nothing
+-- by what the target is, over the answers of the store in the event
+abbrev pub of_role : Profile → List Answer → Tell → List ℕ → Role → Run
+of_role p answers tell name (role.model k) = of_model p tell k name
+of_role p answers tell name (role.submission k) = when (bytes_eq name (codes "xforms-submit")) (submit p answers tell k)
+of_role p answers tell name (role.submit target) = when (bytes_eq name (codes "DOMActivate")) (act_send tell target)
+of_role p answers tell name role = nothing
 
 -- that of an event
-abbrev pub default : Profile → Tell → Fired → Run
-default p tell e s = of_role p tell e.event.name (role_at s.form e.event.target) s
+abbrev pub default : Profile → List Answer → Tell → Fired → Run
+default p answers tell e s = of_role p answers tell e.event.name (role_at s.form e.event.target) s

@@ -63,7 +63,7 @@ deleted p tell location (n ∷ ns) s =
 abbrev pub delete_at : Profile → Tell → Acting → DeleteBy → Focus → Run
 delete_at p tell x w c s =
     set_asked p x c s >>= λ set. at_asked p x w.at set s >>= λ at.
-    deleted p tell (location_of p.decimals set at) (planned_delete s.forest.nodes (asked_with s set at)) s
+    deleted p tell (location_of s.form.decimals set at) (planned_delete s.forest.nodes (asked_with s set at)) s
 
 -- no effect where `context` selects nothing
 abbrev pub delete : Profile → Tell → Acting → DeleteBy → Run

@@ -22,7 +22,6 @@ abbrev pub profile : Profile
 profile = record {
   functions = functions;
   meets = λ kind text. true;
-  decimals = 6;
   bounds = record { string = 1000; limits = record { nodes = 40; text = 10; all = 200; depth = 5 } };
   turns = 12;
   depth = 3;
@@ -141,5 +140,7 @@ form parts rules repeats switches document = record {
   instance_elements = 2 ∷ [];
   submission_elements = [];
   bindings = no_bindings;
+  decimals = 6;
+  decimals = 6;
   documents = document ∷ [];
 }

@@ -5,7 +5,7 @@ use Rattle.xf_json.specs.Printed.{text_of}
 use Rattle.xf_store.specs.declared.answers.Answer.{Answer}
 use Rattle.xf_store.specs.declared.call.Asked.{Asked}
 use Rattle.xf_store.specs.declared.call.Asked.TheVariants as store
-use Rattle.xf_store.specs.Replay.{fits_put, fits_get, reply, after}
+use Rattle.xf_store.specs.Replay.{fits, answer_at}
 use Rattle.xf_ast.specs.declared.form.Method.{Method}
 use Rattle.xf_ast.specs.declared.form.Method.TheVariants.{Put, Post, Get}
 use Rattle.xf_ast.specs.declared.form.Submission.{Submission}
@@ -43,16 +43,10 @@ is_store_name name = begins_well name && nat_le (length name) 64 && list_all is_
 
 -- ---- the call (step 5)
 
--- the answer is one to such a call
-abbrev pub fits : Asked → Answer → Bool
-fits (store.Put bytes) answer = fits_put answer
-fits store.Get answer = fits_get answer
-
 -- the store is called, and what it answers stands with the call
 abbrev pub with_call : List ℕ → Asked → Answer → State → State
 with_call name asked answer s = record s {
   calls = s.calls ++ record { name = name; asked = asked; answer = answer } ∷ [];
-  to_come = after (fits asked) s.to_come;
 }
 
 -- unless all calls of the event are made
@@ -60,11 +54,11 @@ abbrev pub unless_many : Bool → State → Result State Refused
 unless_many true s = refused sends s
 unless_many false s = Ok s
 
--- the call, and what its answer makes
-abbrev pub exchange : Profile → Tell → Submission → ℕ → Asked → State → Sending
-exchange p tell sub n asked s =
+-- the call, and what its answer makes: of the answers of the event it gets the one at its place
+abbrev pub exchange : Profile → List Answer → Tell → Submission → ℕ → Asked → State → Sending
+exchange p answers tell sub n asked s =
     unless_many (nat_le p.sends (length s.calls)) s >>= λ t.
-    let answer = reply (fits asked) t.to_come in answered p tell sub n (with_call sub.resource asked answer t) answer
+    let answer = answer_at (fits asked) answers (length t.calls) in answered p tell sub n (with_call sub.resource asked answer t) answer
 
 -- the bytes of the nodes that are left, or none
 abbrev pub sent_bytes : Submission → ℕ → List ℕ → State → List ℕ
@@ -80,15 +74,15 @@ asked_by sub n kept s Get = store.Get
 -- ---- the selection (steps 2 and 3)
 
 -- by what is selected: an error, or the call where the resource is a name
-abbrev pub selected : Profile → Tell → Submission → State → Submitted → Sending
-selected p tell sub s no_data = Ok (failed (codes "no-data") s)
-selected p tell sub s (invalid n) = Ok (failed (codes "validation-error") s)
-selected p tell sub s (left n kept) =
-    if is_store_name sub.resource then exchange p tell sub n (asked_by sub n kept s sub.method) s else Ok (failed (codes "resource-error") s)
+abbrev pub selected : Profile → List Answer → Tell → Submission → State → Submitted → Sending
+selected p answers tell sub s no_data = Ok (failed (codes "no-data") s)
+selected p answers tell sub s (invalid n) = Ok (failed (codes "validation-error") s)
+selected p answers tell sub s (left n kept) =
+    if is_store_name sub.resource then exchange p answers tell sub n (asked_by sub n kept s sub.method) s else Ok (failed (codes "resource-error") s)
 
 -- steps 2 to 8
-abbrev pub attempt : Profile → Tell → Submission → State → Sending
-attempt p tell sub s = or_long s (submitted (scope p s sub.model) (relevant_in s) (valid_in s) s.forest.nodes sub) >>= selected p tell sub s
+abbrev pub attempt : Profile → List Answer → Tell → Submission → State → Sending
+attempt p answers tell sub s = or_long s (submitted (Some p.bounds.string) (scope p s sub.model) (relevant_in s) (valid_in s) s.forest.nodes sub) >>= selected p answers tell sub s
 
 -- ---- the whole
 
@@ -106,9 +100,9 @@ told_end tell k sub (done s) = tell (fired_at s (codes "xforms-submit-done") (do
 told_end tell k sub (failed error s) = tell (fired_at s (codes "xforms-submit-error") (failed_told sub error) (submission_element s k)) s
 
 -- of this submission
-abbrev pub submit_by : Profile → Tell → ℕ → Submission → Run
-submit_by p tell k sub s = due_revalidation p sub.model s >>= attempt p tell sub >>= told_end tell k sub
+abbrev pub submit_by : Profile → List Answer → Tell → ℕ → Submission → Run
+submit_by p answers tell k sub s = due_revalidation p sub.model s >>= attempt p answers tell sub >>= told_end tell k sub
 
 -- the submission of this number: first what is flagged of its model is done (step 1)
-abbrev pub submit : Profile → Tell → ℕ → Run
-submit p tell k s = where_some (slice_get s.form.submissions k) (submit_by p tell k) s
+abbrev pub submit : Profile → List Answer → Tell → ℕ → Run
+submit p answers tell k s = where_some (slice_get s.form.submissions k) (submit_by p answers tell k) s

@@ -10,8 +10,6 @@ pub record Profile : Type 0 where
   pub functions : Functions
   -- whether a text meets a type
   pub meets : Meets
-  -- how many decimals numbers have
-  pub decimals : ℕ
   -- those of strings, and of the forest
   pub bounds : Bounds
   -- the turns of one event, how deep its dispatches nest, and its calls of the store
@@ -29,12 +27,11 @@ pub record Profile : Type 0 where
   -- what all entries read and look at
   pub edges : ℕ
 
--- those of every form: budgets, limits and decimals, over the functions and the rule of types that a processor has
+-- those of every form: budgets and limits, over the functions and the rule of types that a processor has
 abbrev pub usual : Functions → Meets → Profile
 usual functions meets = record {
   functions = functions;
   meets = meets;
-  decimals = 6;
   bounds = bounds;
   turns = 50000;
   depth = 64;

@@ -75,6 +75,8 @@ pub record Program : Type 0 where
   pub instance_elements : List ℕ
   pub submission_elements : List ℕ
   pub bindings : Bindings
+  -- how many decimals its numbers have
+  pub decimals : ℕ
   -- of each instance the nodes with their depths
   pub documents : List (List (ℕ × Content))
 

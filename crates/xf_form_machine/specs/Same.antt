@@ -42,4 +42,3 @@ pub record IsSame (first second : State) : Type 0 where
   pub made : first.made ≡ second.made
   pub evaluated : first.evaluated ≡ second.evaluated
   pub calls : first.calls ≡ second.calls
-  pub to_come : first.to_come ≡ second.to_come

@@ -1,7 +1,6 @@
 -- The state of the form machine (XForms 1.1, section 4): the data, the indexes and cases, what the models keep, the controls as last shown,
 -- and what the event that is handled has done so far.
 use Rattle.std.specs.Prelude.{ℕ, Bool, List, Option}
-use Rattle.xf_store.specs.declared.answers.Answer.{Answer}
 use Rattle.xf_store.specs.declared.call.StoreCall.{StoreCall}
 use Rattle.xf_doc.specs.Forest.{Forest}
 use Rattle.xf_model.specs.Applied.{Entry}
@@ -50,5 +49,3 @@ pub record State : Type 0 where
   pub made : ℕ
   pub evaluated : ℕ
   pub calls : List StoreCall
-  -- the answers of the store that are to come, unless a call did not fit
-  pub to_come : Option (List Answer)

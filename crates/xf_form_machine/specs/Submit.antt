@@ -1,4 +1,4 @@
--- Submission (XForms 1.1, section 11.2), in steps of which the first that fails ends it: over answers of the store that are given.
+-- Submission (XForms 1.1, section 11.2), in steps of which the first that fails ends it: from the answer of the store on.
 use Rattle.std.specs.Prelude.{ℕ, Bool, not, ◌&&◌, List, [], ◌∷◌, length, codes, Option, Some, None, is_none, option_and_then, Result, Ok, Err, ◌==◌, if◌then◌else◌}
 use Rattle.std.specs.List.{list_any}
 use Rattle.std.specs.Str.{is_utf8}

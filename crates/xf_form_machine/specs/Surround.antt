@@ -8,7 +8,7 @@ use Rattle.xf_doc.specs.Changes.{root_of}
 use Rattle.xf_doc.specs.Order.{instance_of}
 use Rattle.xf_lang.specs.declared.value.Value.{Value}
 use Rattle.xf_lang.specs.Given.{Document, Given}
-use Rattle.xf_model.specs.Rules.{Scope}
+use Rattle.xf_model.specs.Rules.{Scope, for_binds}
 use Rattle.xf_model.specs.Nested.{nested}
 use Rattle.xf_ui.specs.Interface.{Interface}
 use Rattle.xf_ui.specs.Around.{Around}
@@ -67,27 +67,31 @@ model_holding s n = option_and_then (model_of_instance s) (instance_holding s n)
 -- ---- surroundings
 
 -- what is given to the expressions of a form, within an event or outside
-abbrev pub given : Profile → State → Option Told → Given
-given p s event = record {
+abbrev pub given : State → Option Told → Given
+given s event = record {
   documents = documents s;
   indexes = named_indexes (interface s) s.indexes;
   event = event;
   bindings = s.form.bindings;
-  decimals = p.decimals;
+  decimals = s.form.decimals;
 }
 
--- of the binds of a model: outside an event
+-- of the expressions of a model's submissions: outside an event
 abbrev pub scope : Profile → State → ℕ → Scope
-scope p s model = record { functions = p.functions; given = given p s None; model = model; rules = s.form.rules }
+scope p s model = record { functions = p.functions; given = given s None; model = model; rules = s.form.rules }
+
+-- of its binds: these see no index, and no event
+abbrev pub bind_scope : Profile → State → ℕ → Scope
+bind_scope p s model = for_binds (scope p s model)
 
 -- all that surrounds them
 abbrev pub around : Profile → State → Option Told → Around
 around p s event = record {
   functions = p.functions;
   most = Some p.bounds.string;
-  given = given p s event;
+  given = given s event;
   all = all_in s;
-  bound = λ k. nested (Some p.bounds.string) (scope p s 0) (all_in s) k;
+  bound = λ k. nested (Some p.bounds.string) (bind_scope p s 0) (all_in s) k;
 }
 
 -- outside an event

@@ -84,5 +84,6 @@ program_of form bindings documents = record {
   instance_elements = form.instances;
   submission_elements = form.submissions;
   bindings = bindings;
+  decimals = form.decimals;
   documents = documents;
 }

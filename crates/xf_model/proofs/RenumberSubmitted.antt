@@ -1,6 +1,5 @@
 -- What a submission sends goes with a renumbering of the nodes.
 use Rattle.std.proofs.Common.{◌≡◌, ℕ, ◌==◌, Bool, true, false, not, ◌&&◌, ◌||◌, List, [], ◌∷◌, map, find, Option, Some, None, option_map, if◌then◌else◌, refl, sym, ap, ◌∙◌}
-use Rattle.xf_base.specs.Limits.{string_limit}
 use Rattle.xf_ast.specs.declared.form.Selection.{Selection}
 use Rattle.xf_ast.specs.declared.form.Selection.TheVariants.{Whole, Ref, Bind}
 use Rattle.xf_ast.specs.declared.form.Submission.{Submission}
@@ -13,7 +12,7 @@ use Rattle.xf_lang.specs.Setting.{each, joined}
 use Rattle.xf_lang.specs.Reads.{trace}
 use Rattle.xf_lang.proofs.Options.{map-through, each-through}
 use Rattle.xf_lang.proofs.RenumberLaws.{found-renumbered, joined-renumbered}
-use Rattle.xf_model.specs.Rules.{Scope, in_model, chains}
+use Rattle.xf_model.specs.Rules.{Scope, in_model, for_binds, chains}
 use Rattle.xf_model.specs.Nested.{begun, nested}
 use Rattle.xf_model.specs.Submitted.{Submitted, no_data, first_in, first_from, selected_by, element_in, element_of, kept_below, unless_invalid, validated, sent_from, left_by, submitted_from, submitted}
 use Rattle.xf_model.specs.Same.{renumbered_scope, renumbered_submitted}
@@ -38,8 +37,8 @@ module _ (f : ℕ → ℕ) (same : IsRenumbering f) where
       ∙ map-through (map (map f)) (option_map f) (each (first_from most scope all (trace expr)) (begun scope)) (λ sets. first_in (joined sets)) (λ sets. first_in (joined sets))
       (λ sets. ap first_in (joined-renumbered f sets) ∙ first-renumbered (joined sets))
   selected-renumbered most scope all goes (Bind bind) =
-      ap (option_map first_in) (binds.nested-renumbered f same most scope all bind (got f (chains scope) bind (all-chains_go f scope (sets-go f scope.rules goes))))
-      ∙ map-through (map f) (option_map f) (nested most scope all bind) first_in first_in first-renumbered
+      ap (option_map first_in) (binds.nested-renumbered f same most (for_binds scope) all bind (got f (chains scope) bind (all-chains_go f scope (sets-go f scope.rules goes))))
+      ∙ map-through (map f) (option_map f) (nested most (for_binds scope) all bind) first_in first_in first-renumbered
 
   -- ---- what is left
 
@@ -98,13 +97,13 @@ module _ (f : ℕ → ℕ) (same : IsRenumbering f) where
         ap (sent_from s.is_validated (left_by s.is_relevant new_relevant) new_valid others) (element_of-renumbered n)
         ∙ sent-renumbered s.is_validated (left_by s.is_relevant is_relevant) (left_by s.is_relevant new_relevant) is_valid new_valid (left-renumbered s.is_relevant is_relevant new_relevant h) k (element_of all n)
 
-  pub submitted-renumbered : (scope : Scope) → ScopeGoes f scope → (is_relevant new_relevant is_valid new_valid : ℕ → Bool) → ((n : ℕ) → new_relevant (f n) ≡ is_relevant n) → ((n : ℕ) → new_valid (f n) ≡ is_valid n)
+  pub submitted-renumbered : (most : Option ℕ) (scope : Scope) → ScopeGoes f scope → (is_relevant new_relevant is_valid new_valid : ℕ → Bool) → ((n : ℕ) → new_relevant (f n) ≡ is_relevant n) → ((n : ℕ) → new_valid (f n) ≡ is_valid n)
       → (nodes : List Node) (s : Submission)
-      → submitted (renumbered_scope f scope) new_relevant new_valid (map (renumbered f) nodes) s ≡ option_map (renumbered_submitted f) (submitted scope is_relevant is_valid nodes s)
-  submitted-renumbered scope goes is_relevant new_relevant is_valid new_valid h k nodes s =
+      → submitted most (renumbered_scope f scope) new_relevant new_valid (map (renumbered f) nodes) s ≡ option_map (renumbered_submitted f) (submitted most scope is_relevant is_valid nodes s)
+  submitted-renumbered most scope goes is_relevant new_relevant is_valid new_valid h k nodes s =
       let own = in_model s.model scope in
-      ap (λ all. option_map (submitted_from s new_relevant new_valid all) (selected_by (Some string_limit) (renumbered_scope f own) all s.selection)) (visits-renumbered f same nodes)
-      ∙ ap (option_map (submitted_from s new_relevant new_valid (map (renumbered_visit f) (visits nodes)))) (selected-renumbered (Some string_limit) own (visits nodes) goes s.selection)
-      ∙ map-through (option_map f) (renumbered_submitted f) (selected_by (Some string_limit) own (visits nodes) s.selection)
+      ap (λ all. option_map (submitted_from s new_relevant new_valid all) (selected_by most (renumbered_scope f own) all s.selection)) (visits-renumbered f same nodes)
+      ∙ ap (option_map (submitted_from s new_relevant new_valid (map (renumbered_visit f) (visits nodes)))) (selected-renumbered most own (visits nodes) goes s.selection)
+      ∙ map-through (option_map f) (renumbered_submitted f) (selected_by most own (visits nodes) s.selection)
       (submitted_from s is_relevant is_valid (visits nodes)) (submitted_from s new_relevant new_valid (map (renumbered_visit f) (visits nodes)))
       (from-renumbered (visits nodes) s is_relevant new_relevant is_valid new_valid h k)

@@ -133,9 +133,9 @@ its_own_model_counts : nested (Some string_limit) (Examples.both_models (of_the_
 its_own_model_counts = refl
 
 -- a submission of the first model sends what a bind of the second selects
-by_a_bind_of_another_model : submitted (Examples.both_models (of_the_second ∷ [])) all_relevant all_relevant Examples.apart (record (asking true true) { selection = Bind 0 }) ≡ Some (left 5 (5 ∷ 6 ∷ []))
+by_a_bind_of_another_model : submitted (Some string_limit) (Examples.both_models (of_the_second ∷ [])) all_relevant all_relevant Examples.apart (record (asking true true) { selection = Bind 0 }) ≡ Some (left 5 (5 ∷ 6 ∷ []))
 by_a_bind_of_another_model = refl
 
 -- a submission of the second model sends the document of that, whatever the scope's model
-of_its_own_model : submitted (Examples.both_models []) all_relevant all_relevant Examples.apart (record (asking true true) { model = 1 }) ≡ Some (left 4 (4 ∷ 5 ∷ 6 ∷ []))
+of_its_own_model : submitted (Some string_limit) (Examples.both_models []) all_relevant all_relevant Examples.apart (record (asking true true) { model = 1 }) ≡ Some (left 4 (4 ∷ 5 ∷ 6 ∷ []))
 of_its_own_model = refl

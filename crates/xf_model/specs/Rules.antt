@@ -47,6 +47,10 @@ pub record Scope : Type 0 where
 abbrev pub in_model : ℕ → Scope → Scope
 in_model model scope = record scope { model = model }
 
+-- as binds see it: no index, and no event
+abbrev pub for_binds : Scope → Scope
+for_binds scope = record scope { given = record scope.given { indexes = []; event = None } }
+
 -- ---- calls of `position()` and `last()` (XPath 1.0, section 4.1)
 
 abbrev pub is_place : Function → Bool

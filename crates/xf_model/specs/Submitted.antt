@@ -1,7 +1,6 @@
 -- What a submission sends (XForms 1.1, section 11.2): the selected element with what is below it, irrelevant nodes left out, unless
 -- nothing is left or a node that is left is invalid.
 use Rattle.std.specs.Prelude.{ℕ, Bool, true, false, not, ◌&&◌, ◌||◌, List, [], ◌∷◌, map, filter, find, Option, Some, None, option_map, ◌==◌, if◌then◌else◌}
-use Rattle.xf_base.specs.Limits.{string_limit}
 use Rattle.xf_ast.specs.declared.form.Selection.{Selection}
 use Rattle.xf_ast.specs.declared.form.Selection.TheVariants.{Whole, Ref, Bind}
 use Rattle.xf_ast.specs.declared.form.Submission.{Submission}
@@ -13,7 +12,7 @@ use Rattle.xf_lang.specs.Conversions.{nodes_of}
 use Rattle.xf_lang.specs.Binding.{first_bound}
 use Rattle.xf_lang.specs.Asked.{Trace}
 use Rattle.xf_lang.specs.Reads.{trace}
-use Rattle.xf_model.specs.Rules.{Scope, in_model}
+use Rattle.xf_model.specs.Rules.{Scope, in_model, for_binds}
 use Rattle.xf_model.specs.Nested.{alone, setting_for, begun, nested}
 
 pub data Submitted : Type 0 where
@@ -42,7 +41,7 @@ by_expression most scope all t = option_map (λ sets. first_in (joined sets)) (e
 abbrev pub selected_by : Option ℕ → Scope → List Visit → Selection → Option (Option ℕ)
 selected_by most scope all Whole = Some (first_in (begun scope))
 selected_by most scope all (Ref expr) = by_expression most scope all (trace expr)
-selected_by most scope all (Bind bind) = option_map first_in (nested most scope all bind)
+selected_by most scope all (Bind bind) = option_map first_in (nested most (for_binds scope) all bind)
 
 abbrev pub element_in : Option Visit → Option ℕ
 element_in None = None
@@ -84,7 +83,7 @@ abbrev pub submitted_from : Submission → (ℕ → Bool) → (ℕ → Bool) →
 submitted_from s is_relevant is_valid all selected =
     sent_from s.is_validated (left_by s.is_relevant is_relevant) is_valid all (element_of all selected)
 
--- whatever the scope's model is, the submission's own counts; None where the selection is too long
-abbrev pub submitted : Scope → (ℕ → Bool) → (ℕ → Bool) → List Node → Submission → Option Submitted
-submitted scope is_relevant is_valid nodes s =
-    option_map (submitted_from s is_relevant is_valid (visits nodes)) (selected_by (Some string_limit) (in_model s.model scope) (visits nodes) s.selection)
+-- whatever the scope's model is, the submission's own counts; strings have at most so many bytes, and None is a selection where one is longer
+abbrev pub submitted : Option ℕ → Scope → (ℕ → Bool) → (ℕ → Bool) → List Node → Submission → Option Submitted
+submitted most scope is_relevant is_valid nodes s =
+    option_map (submitted_from s is_relevant is_valid (visits nodes)) (selected_by most (in_model s.model scope) (visits nodes) s.selection)
