@@ -82,3 +82,12 @@ fn a_call_that_does_not_fit_fails(rt: HostRuntime) {
     assert_gives!(rt; store.get("a", &mut into), Err(GetFault::Failed), "in the place of a put");
     assert_gives!(rt; store.is_spent(), false);
 }
+
+#[test]
+fn behind_a_call_that_does_not_fit_the_next_answer_is_given(rt: HostRuntime) {
+    let mut store = canned(&rt, Answer::PutDone, Answer::Absent);
+    let mut into = Bytes::new(rt.alloc());
+    assert_gives!(rt; store.get("a", &mut into), Err(GetFault::Failed), "in the place of a put");
+    assert_gives!(rt; store.get("b", &mut into), Ok(Got::Absent));
+    assert_gives!(rt; store.is_spent(), false, "not as they are kept");
+}

@@ -4,7 +4,7 @@ use Rattle.xf_store.specs.declared.answers.Answer.TheVariants as answer
 use Rattle.xf_store.specs.declared.call.Named.{Named}
 use Rattle.xf_store.specs.Held.{found, put_under}
 use Rattle.xf_store.specs.Replies.{answer_for}
-use Rattle.xf_store.specs.Replay.{fits_put, fits_get, reply, after}
+use Rattle.xf_store.specs.Replay.{fits_put, fits_get, answer_at}
 
 abbrev held : List Named
 held = record { name = 97 ∷ []; bytes = 1 ∷ [] } ∷ record { name = 98 ∷ []; bytes = [] } ∷ []
@@ -30,17 +30,14 @@ absent = refl
 short : answer_for (Some (1 ∷ [])) ≡ answer.Found (1 ∷ [])
 short = refl
 
-put_fits : reply fits_put (Some (answer.PutDone ∷ answer.Absent ∷ [])) ≡ answer.PutDone
+put_fits : answer_at fits_put (answer.PutDone ∷ answer.Absent ∷ []) 0 ≡ answer.PutDone
 put_fits = refl
 
-get_does_not : reply fits_get (Some (answer.PutDone ∷ [])) ≡ answer.Failed
+get_does_not : answer_at fits_get (answer.PutDone ∷ answer.Absent ∷ []) 0 ≡ answer.Failed
 get_does_not = refl
 
-rest_is_left : after fits_put (Some (answer.PutDone ∷ answer.Absent ∷ [])) ≡ Some (answer.Absent ∷ [])
-rest_is_left = refl
+the_next_goes_on : answer_at fits_get (answer.PutDone ∷ answer.Absent ∷ []) 1 ≡ answer.Absent
+the_next_goes_on = refl
 
-lost_after_a_misfit : after fits_put (Some (answer.Absent ∷ [])) ≡ None
-lost_after_a_misfit = refl
-
-lost_past_the_end : after fits_get (Some []) ≡ None
-lost_past_the_end = refl
+none_behind_the_last : answer_at fits_get (answer.PutDone ∷ []) 1 ≡ answer.Failed
+none_behind_the_last = refl

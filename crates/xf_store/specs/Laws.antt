@@ -1,9 +1,11 @@
--- What a put means for the names: the bytes stand under its name, and what stands under others stays.
-use Rattle.std.proofs.Common.{◌≡◌, ℕ, List, [], ◌∷◌, Some, true, false, if◌then◌else◌, refl, Bool}
+-- What a put means for the names: the bytes stand under its name, and what stands under others stays. Kept answers by place.
+use Rattle.std.proofs.Common.{◌≡◌, ℕ, zero, suc, List, [], ◌∷◌, drop, Some, true, false, if◌then◌else◌, refl, Bool}
 use Rattle.std.specs.Str.{bytes_eq}
 use Rattle.std.proofs.lemmas.Slice.Eq.{bytes_eq-Decides}
 use Rattle.xf_store.specs.declared.call.Named.{Named}
+use Rattle.xf_store.specs.declared.answers.Answer.{Answer}
 use Rattle.xf_store.specs.Held.{found, put_under}
+use Rattle.xf_store.specs.Replay.{answer_at}
 
 pub name_same : (name : List ℕ) → bytes_eq name name ≡ true
 name_same name = (bytes_eq-Decides name name).1 refl
@@ -25,3 +27,9 @@ found_put_other name other bytes (y ∷ ys) differ =
       | true ↦ λ is. let same : y.name ≡ name = (bytes_eq-Decides y.name name).0 is in rw (same, differ) refl
       | false ↦ λ is. rw (found_put_other name other bytes ys differ) refl
     ]) refl
+
+-- what comes first behind some answers is at their number
+pub first_behind : (fits : Answer → Bool) (answers : List Answer) (at : ℕ) → answer_at fits (drop at answers) 0 ≡ answer_at fits answers at
+first_behind fits answers zero = refl
+first_behind fits [] (suc at) = refl
+first_behind fits (next ∷ rest) (suc at) = first_behind fits rest at

@@ -1,5 +1,5 @@
 -- What the stores that tell something show of themselves.
-use Rattle.std.specs.Prelude.{ℕ, List, Option}
+use Rattle.std.specs.Prelude.{ℕ, List, Option, Bool}
 use Rattle.xf_store.specs.declared.answers.Answer.{Answer}
 use Rattle.xf_store.specs.declared.call.Named.{Named}
 use Rattle.xf_store.specs.declared.call.StoreCall.{StoreCall}
@@ -16,8 +16,10 @@ pub record Telling : Type 0 where
 
 -- the store that answers from kept answers
 pub record Replaying : Type 0 where
-  -- the answers that are left, unless a call did not fit the next
-  pub to_come : Option (List Answer)
+  -- the answers that are left
+  pub to_come : List Answer
+  -- whether each call found an answer that fits it
+  pub is_exact : Bool
   pub faults : ℕ
 
 -- the store over a folder: its path, and how often a call has failed

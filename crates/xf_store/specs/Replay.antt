@@ -1,28 +1,12 @@
--- Kept answers, which are given in turn.
-use Rattle.std.specs.Prelude.{List, [], ◌∷◌, Bool, true, false, IsTrue, if◌then◌else◌, Option, Some, None, Result, Ok, Err}
-use Rattle.std.specs.List.{list_all}
+-- Kept answers, each given to the call at its place.
+use Rattle.std.specs.Prelude.{◌≡◌, ℕ, zero, suc, List, [], ◌∷◌, drop, Bool, true, false, if◌then◌else◌, Option, Some, None, Result, Ok, Err}
 use Rattle.xf_store.specs.declared.answers.Answer.{Answer}
 use Rattle.xf_store.specs.declared.answers.Answer.TheVariants as answer
 use Rattle.xf_store.specs.declared.got.Got.{Got}
 use Rattle.xf_store.specs.declared.got.Got.TheVariants as got
 use Rattle.xf_store.specs.declared.got.GetFault.{GetFault}
 use Rattle.xf_store.specs.declared.got.GetFault.TheVariants as fault
-use Rattle.xf_store.specs.Replies.{is_short}
-
-abbrev pub first_of : Option (List Answer) → Option Answer
-first_of None = None
-first_of (Some []) = None
-first_of (Some (next ∷ rest)) = Some next
-
-abbrev pub rest_of : Option (List Answer) → Option (List Answer)
-rest_of None = None
-rest_of (Some []) = None
-rest_of (Some (next ∷ rest)) = Some rest
-
--- what was found is nowhere longer than a get gives
-abbrev pub AreShort : Option (List Answer) → Type 0
-AreShort None = Unit {0}
-AreShort (Some left) = IsTrue (list_all is_short left)
+use Rattle.xf_store.specs.Replies.{get_answer}
 
 -- the answers of a put, and those of a get
 abbrev pub fits_put : Answer → Bool
@@ -39,11 +23,27 @@ fits_get (answer.Found bytes) = true
 fits_get answer.Absent = true
 fits_get answer.TooLong = true
 
--- the next answer where it fits
-abbrev pub reply : (Answer → Bool) → Option (List Answer) → Answer
-reply fits None = answer.Failed
-reply fits (Some []) = answer.Failed
-reply fits (Some (next ∷ rest)) = if fits next then next else answer.Failed
+-- the answer to the call at this place, the first being 0: the one at that place where it fits, else a failure
+abbrev pub answer_at : (Answer → Bool) → List Answer → ℕ → Answer
+answer_at fits [] at = answer.Failed
+answer_at fits (next ∷ rest) zero = if fits next then next else answer.Failed
+answer_at fits (next ∷ rest) (suc at) = answer_at fits rest at
+
+-- whether there is a next answer, and it fits
+abbrev pub next_fits : (Answer → Bool) → List Answer → Bool
+next_fits fits [] = false
+next_fits fits (next ∷ rest) = fits next
+
+-- a call gets the answer at its place, whatever the calls before it got
+abbrev pub Uses : (Answer → Bool) → Option (List Answer) → Option (List Answer) → Answer → Type 0
+Uses fits None new given = new ≡ None
+Uses fits (Some left) new given = (given ≡ answer_at fits left 0) × (new ≡ Some (drop 1 left))
+
+-- a get that finds no memory uses none
+abbrev pub GetUses : Option (List Answer) → Option (List Answer) → Result Got GetFault → List ℕ → Type 0
+GetUses old new (Ok done) into = Uses fits_get old new (get_answer (Ok done) into)
+GetUses old new (Err fault.Failed) into = Uses fits_get old new answer.Failed
+GetUses old new (Err fault.Memory) into = new ≡ old
 
 -- what a get gives by an answer
 abbrev pub got_by : Answer → Result Got GetFault
@@ -53,7 +53,11 @@ got_by (answer.Found bytes) = Ok got.Found
 got_by answer.Absent = Ok got.Absent
 got_by answer.TooLong = Ok got.TooLong
 
--- the answers left after it; none any more where it does not fit
+-- the next answer where it fits, and the answers left after it, none any more where it does not
+abbrev pub reply : (Answer → Bool) → Option (List Answer) → Answer
+reply fits None = answer.Failed
+reply fits (Some left) = answer_at fits left 0
+
 abbrev pub after : (Answer → Bool) → Option (List Answer) → Option (List Answer)
 after fits None = None
 after fits (Some []) = None

@@ -1,12 +1,11 @@
 -- What a store answers.
-use Rattle.std.specs.Prelude.{◌≡◌, ℕ, ◌^◌, List, ◌∷◌, length, Bool, true, nat_le, if◌then◌else◌, Option, Some, None, Result, Ok, Err}
+use Rattle.std.specs.Prelude.{ℕ, List, length, Bool, true, nat_le, if◌then◌else◌, Option, Some, None, Result, Ok, Err}
 use Rattle.xf_base.specs.Limits.{found_limit}
 use Rattle.xf_store.specs.declared.answers.Answer.{Answer}
 use Rattle.xf_store.specs.declared.answers.Answer.TheVariants as answer
 use Rattle.xf_store.specs.declared.got.Got.{Got}
 use Rattle.xf_store.specs.declared.got.Got.TheVariants as got
 use Rattle.xf_store.specs.declared.got.GetFault.{GetFault}
-use Rattle.xf_store.specs.declared.got.GetFault.TheVariants as fault
 
 -- what was found is no longer than a get gives
 abbrev pub is_short : Answer → Bool
@@ -32,15 +31,3 @@ get_answer (Ok got.Found) into = answer.Found into
 get_answer (Ok got.Absent) into = answer.Absent
 get_answer (Ok got.TooLong) into = answer.TooLong
 get_answer (Err _) into = answer.Failed
-
--- a call uses the first answer to come; where it failed, they may be known no more
-abbrev pub Uses : Option (List Answer) → Option (List Answer) → Answer → Type 0
-Uses None new given = new ≡ None
-Uses (Some left) None given = given ≡ answer.Failed
-Uses (Some left) (Some rest) given = left ≡ given ∷ rest
-
--- a get that finds no memory uses none
-abbrev pub GetUses : Option (List Answer) → Option (List Answer) → Result Got GetFault → List ℕ → Type 0
-GetUses old new (Ok done) into = Uses old new (get_answer (Ok done) into)
-GetUses old new (Err fault.Failed) into = Uses old new answer.Failed
-GetUses old new (Err fault.Memory) into = new ≡ old

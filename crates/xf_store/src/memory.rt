@@ -6,7 +6,7 @@ ghost use Rattle.xf_base.specs.Faults.{HasCause};
 ghost use Rattle.xf_io.specs.Failing.{after_call};
 ghost use Rattle.xf_store.specs.Held.{found, put_under, place_from, Puts, Gets, Leaves};
 ghost use Rattle.xf_store.specs.Calls.{Lists, GetLists, put_call};
-ghost use Rattle.xf_store.specs.Replies.{GetUses};
+ghost use Rattle.xf_store.specs.Replay.{GetUses};
 ghost use Rattle.xf_store.specs.Causes.{HasGetCause, PutFails, GetFails};
 ghost use Rattle.xf_store.specs.declared.call.StoreCall.{StoreCall};
 

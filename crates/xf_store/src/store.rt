@@ -7,14 +7,16 @@ ghost use Rattle.xf_store.specs.declared.call.Named.{Named};
 ghost use Rattle.xf_store.specs.declared.call.StoreCall.{StoreCall};
 ghost use Rattle.xf_store.specs.Held.{Puts, Gets, Leaves};
 ghost use Rattle.xf_store.specs.Calls.{Lists, GetLists, put_call};
-ghost use Rattle.xf_store.specs.Replies.{Uses, GetUses, put_answer};
+ghost use Rattle.xf_store.specs.Replies.{put_answer};
+ghost use Rattle.xf_store.specs.Replay.{Uses, GetUses, fits_put};
 ghost use Rattle.xf_store.specs.Causes.{HasGetCause};
 
 use crate::{GetFault, Got};
 use xf_io::{Bytes, Failed};
 
 /// A store of bytes under names. What it tells of these, it tells before a call exactly where after it,
-/// but that a call which fails may end the list of calls and of the answers to come.
+/// but that a call which fails may end the list of calls. A store that foretells its answers has one for each
+/// call by its place: a call that does not fit it, or that comes behind the last, fails, and the next goes on.
 pub trait Store {
     /// What stands under each name, where that is told.
     ghost held: { Self → Option (List Named) };
@@ -32,7 +34,7 @@ pub trait Store {
     fn put(&mut self, name: &str, bytes: &[u8]) -> Result<(), Failed>
         ensures held { Puts (held self.old) (held self.new) name.now bytes.now result }
         ensures calls { Lists (calls self.old) (calls self.new) (put_call name.now bytes.now result) }
-        ensures to_come { Uses (to_come self.old) (to_come self.new) (put_answer result) }
+        ensures to_come { Uses fits_put (to_come self.old) (to_come self.new) (put_answer result) }
         ensures cause { HasCause (faults self.old) (faults self.new) result };
 
     /// After `Found` the bytes under the name are in `into`, in the place of what it held, and otherwise
