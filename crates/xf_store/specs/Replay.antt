@@ -1,7 +1,10 @@
 -- Kept answers, each given to the call at its place.
-use Rattle.std.specs.Prelude.{◌≡◌, ℕ, zero, suc, List, [], ◌∷◌, drop, Bool, true, false, if◌then◌else◌, Option, Some, None, Result, Ok, Err}
+use Rattle.std.specs.Prelude.{◌≡◌, ℕ, zero, suc, List, [], ◌∷◌, drop, slice_get, Bool, true, false, if◌then◌else◌, Option, Some, None, Result, Ok, Err}
 use Rattle.xf_store.specs.declared.answers.Answer.{Answer}
 use Rattle.xf_store.specs.declared.answers.Answer.TheVariants as answer
+use Rattle.xf_store.specs.declared.call.Asked.{Asked}
+use Rattle.xf_store.specs.declared.call.Asked.TheVariants as asked
+use Rattle.xf_store.specs.declared.call.StoreCall.{StoreCall}
 use Rattle.xf_store.specs.declared.got.Got.{Got}
 use Rattle.xf_store.specs.declared.got.Got.TheVariants as got
 use Rattle.xf_store.specs.declared.got.GetFault.{GetFault}
@@ -23,11 +26,20 @@ fits_get (answer.Found bytes) = true
 fits_get answer.Absent = true
 fits_get answer.TooLong = true
 
+-- those of a call, by what it asks for
+abbrev pub fits : Asked → Answer → Bool
+fits (asked.Put bytes) given = fits_put given
+fits asked.Get given = fits_get given
+
 -- the answer to the call at this place, the first being 0: the one at that place where it fits, else a failure
 abbrev pub answer_at : (Answer → Bool) → List Answer → ℕ → Answer
 answer_at fits [] at = answer.Failed
 answer_at fits (next ∷ rest) zero = if fits next then next else answer.Failed
 answer_at fits (next ∷ rest) (suc at) = answer_at fits rest at
+
+-- each of these calls, in the order in which they were made, got the answer at its place
+abbrev pub Covers : List Answer → List StoreCall → Type 0
+Covers answers calls = (at : ℕ) (call : StoreCall) → slice_get calls at ≡ Some call → answer_at (fits call.asked) answers at ≡ call.answer
 
 -- whether there is a next answer, and it fits
 abbrev pub next_fits : (Answer → Bool) → List Answer → Bool
@@ -52,13 +64,3 @@ got_by answer.Failed = Err fault.Failed
 got_by (answer.Found bytes) = Ok got.Found
 got_by answer.Absent = Ok got.Absent
 got_by answer.TooLong = Ok got.TooLong
-
--- the next answer where it fits, and the answers left after it, none any more where it does not
-abbrev pub reply : (Answer → Bool) → Option (List Answer) → Answer
-reply fits None = answer.Failed
-reply fits (Some left) = answer_at fits left 0
-
-abbrev pub after : (Answer → Bool) → Option (List Answer) → Option (List Answer)
-after fits None = None
-after fits (Some []) = None
-after fits (Some (next ∷ rest)) = if fits next then Some rest else None
