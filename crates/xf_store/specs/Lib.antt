@@ -4,5 +4,6 @@ pub mod Held
 pub mod Calls
 pub mod Causes
 pub mod Replay
+pub mod Called
 pub mod Objects
 pub mod Laws

@@ -1,5 +1,5 @@
 -- Kept answers, each given to the call at its place.
-use Rattle.std.specs.Prelude.{◌≡◌, ℕ, zero, suc, List, [], ◌∷◌, drop, slice_get, Bool, true, false, if◌then◌else◌, Option, Some, None, Result, Ok, Err}
+use Rattle.std.specs.Prelude.{◌≡◌, ℕ, zero, suc, List, [], ◌∷◌, drop, Bool, true, false, if◌then◌else◌, Option, Some, None, Result, Ok, Err}
 use Rattle.xf_store.specs.declared.answers.Answer.{Answer}
 use Rattle.xf_store.specs.declared.answers.Answer.TheVariants as answer
 use Rattle.xf_store.specs.declared.call.Asked.{Asked}
@@ -37,9 +37,10 @@ answer_at fits [] at = answer.Failed
 answer_at fits (next ∷ rest) zero = if fits next then next else answer.Failed
 answer_at fits (next ∷ rest) (suc at) = answer_at fits rest at
 
--- each of these calls, in the order in which they were made, got the answer at its place
+-- each of these calls got the answer at its place, the first call the first one
 abbrev pub Covers : List Answer → List StoreCall → Type 0
-Covers answers calls = (at : ℕ) (call : StoreCall) → slice_get calls at ≡ Some call → answer_at (fits call.asked) answers at ≡ call.answer
+Covers answers [] = Unit {0}
+Covers answers (call ∷ calls) = (answer_at (fits call.asked) answers 0 ≡ call.answer) × Covers (drop 1 answers) calls
 
 -- whether there is a next answer, and it fits
 abbrev pub next_fits : (Answer → Bool) → List Answer → Bool

@@ -1,5 +1,5 @@
 -- What a store answers.
-use Rattle.std.specs.Prelude.{ℕ, List, length, Bool, true, nat_le, if◌then◌else◌, Option, Some, None, Result, Ok, Err}
+use Rattle.std.specs.Prelude.{ℕ, List, length, Bool, true, false, nat_le, if◌then◌else◌, Option, Some, None, Result, Ok, Err}
 use Rattle.xf_base.specs.Limits.{found_limit}
 use Rattle.xf_store.specs.declared.answers.Answer.{Answer}
 use Rattle.xf_store.specs.declared.answers.Answer.TheVariants as answer
@@ -14,6 +14,14 @@ is_short answer.Failed = true
 is_short (answer.Found bytes) = nat_le (length bytes) found_limit
 is_short answer.Absent = true
 is_short answer.TooLong = true
+
+-- the call did not go through
+abbrev pub has_failed : Answer → Bool
+has_failed answer.PutDone = false
+has_failed answer.Failed = true
+has_failed (answer.Found bytes) = false
+has_failed answer.Absent = false
+has_failed answer.TooLong = false
 
 -- what a get answers where this stands under the name
 abbrev pub answer_for : Option (List ℕ) → Answer
