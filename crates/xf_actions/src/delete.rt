@@ -10,7 +10,7 @@ ghost use Rattle.xf_actions.specs.Seen.{fired_of, acting_of, focus_of};
 ghost use Rattle.xf_actions.specs.Parts.{delete_in};
 ghost use Rattle.xf_actions.specs.TreeChanges.{delete as deletes, delete_at as deletes_at, cut, deleted_from as deletes_from, deleted as makes_deleted};
 
-use crate::acting::{Acting, Focus};
+use crate::acting::Acting;
 use crate::fired::{Fired, FiredList};
 use crate::parts::action_of;
 use crate::tell::one;
@@ -18,6 +18,7 @@ use crate::world::World;
 use xf_ast::Work;
 use xf_base::Items;
 use xf_doc::{NodeId, NodeList};
+use xf_ui::Focus;
 
 /// Has no effect where its `context` selects nothing.
 pub fn delete<W: World>(

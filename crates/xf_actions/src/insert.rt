@@ -11,7 +11,7 @@ ghost use Rattle.xf_actions.specs.Parts.{insert_in};
 ghost use Rattle.xf_actions.specs.Inserting.{planned};
 ghost use Rattle.xf_actions.specs.TreeChanges.{insert as inserts, insert_at as inserts_at, inserted_by, inserted_in as inserts_in};
 
-use crate::acting::{Acting, Focus};
+use crate::acting::Acting;
 use crate::fault::WorldFault;
 use crate::fired::{Fired, FiredList};
 use crate::parts::action_of;
@@ -21,6 +21,7 @@ use crate::world::World;
 use xf_ast::{InsertWork, Work};
 use xf_base::Items;
 use xf_doc::{NodeId, NodeList};
+use xf_ui::Focus;
 
 /// Has no effect where its `context` selects nothing.
 pub fn insert<W: World>(

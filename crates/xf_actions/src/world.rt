@@ -29,7 +29,7 @@ ghost use Rattle.xf_actions.specs.Defaulted.{submitted, told_by_end};
 ghost use Rattle.xf_form_machine.specs.Construct.{construct, instances_of, put_back as instance_put_back};
 ghost use Rattle.xf_actions.specs.Texts.{bound_for, message_text, settable};
 
-use crate::acting::{Acting, Focus};
+use crate::acting::Acting;
 use crate::fault::WorldFault;
 use crate::fired::{Concluded, Ending, Fired, FiredList};
 use crate::place::{Inserting, PlaceList};
@@ -38,7 +38,7 @@ use xf_ast::{ElementList, Expr, Form, InsertWork};
 use xf_doc::{NodeId, NodeList};
 use xf_form_machine::Note;
 use xf_name::Word;
-use xf_ui::CallList;
+use xf_ui::{CallList, Focus};
 
 /// A behaviour of a model (XForms 1.1, section 4.3).
 #[derive(Clone, Copy, Debug, PartialEq, Eq)]
