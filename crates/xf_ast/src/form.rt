@@ -5,6 +5,7 @@ use crate::element::{ElementList, Elements};
 use crate::expr::Expr;
 use xf_base::Items;
 use xf_name::Word;
+use xf_num::Decimals;
 use xf_types::SimpleType;
 
 /// Places among the parts of elements, each within the one before.
@@ -119,6 +120,8 @@ pub struct Tables {
 /// A form: its models, and all elements outside its instances.
 #[derive(Drop)]
 pub struct Form {
+    /// How many decimals its numbers have: the attribute `decimals` of the first model.
+    pub decimals: Decimals,
     pub tables: Tables,
     pub elements: Elements,
     /// The elements of what is numbered among its kind, by these numbers.
