@@ -34,7 +34,7 @@ delete-stops p x w s why calls r = refuses-then why calls (moved_focus p x w.con
 
 abbrev deleted_by : Profile → Acting → DeleteBy → State → List ℕ → Telling
 deleted_by p x w s set t =
-    del.at_asked p x w.at set s >>= λ at. deleted p (del.location_of p.decimals set at) (planned_delete s.forest.nodes (del.asked_with s set at)) t
+    del.at_asked p x w.at set s >>= λ at. deleted p (del.location_of s.form.decimals set at) (planned_delete s.forest.nodes (del.asked_with s set at)) t
 
 pub delete_at-stops : (p : Profile) (x : Acting) (w : DeleteBy) (c : Focus) (s : State) (why : Option Refusal) (calls : List StoreCall)
     → Refuses why calls (set_asked p x c s) → Refuses why calls (delete_at p x w c s)
@@ -44,7 +44,7 @@ pub delete_at-unread : (p : Profile) (x : Acting) (w : DeleteBy) (c : Focus) (s 
     → set_asked p x c s ≡ Ok set → Refuses why calls (del.at_asked p x w.at set s) → Refuses why calls (delete_at p x w c s)
 delete_at-unread p x w c s set why calls e r =
     same-refuses why calls _ _ (ap (λ g. g >>= λ ns. deleted_by p x w s ns s) e)
-    (refuses-then why calls (del.at_asked p x w.at set s) (λ at. deleted p (del.location_of p.decimals set at) (planned_delete s.forest.nodes (del.asked_with s set at)) s) r)
+    (refuses-then why calls (del.at_asked p x w.at set s) (λ at. deleted p (del.location_of s.form.decimals set at) (planned_delete s.forest.nodes (del.asked_with s set at)) s) r)
 
 pub deleted-none : (p : Profile) (location : Decimal) (ns : List ℕ) (s : State) → slice_get ns 0 ≡ None → deleted p location ns s ≡ fine (quietly s)
 deleted-none p location [] s h = refl

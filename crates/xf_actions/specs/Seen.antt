@@ -3,7 +3,7 @@ use Rattle.std.specs.Prelude.{ℕ, ◌≡◌, List, map, Option, Some, None, opt
 use Rattle.xf_ast.specs.declared.form.Form.{Form}
 use Rattle.xf_model.specs.Places as model
 use Rattle.xf_ui.specs.Interface.{interface_of}
-use Rattle.xf_lang.specs.Setting as setting
+pub use Rattle.xf_ui.specs.Focused.{focus_of}
 use Rattle.xf_form_machine.specs.Program.{Program}
 use Rattle.xf_form_machine.specs.Tables.{role_of}
 use Rattle.xf_form_machine.specs.Surround.{Told}
@@ -13,7 +13,6 @@ use Rattle.xf_form_machine.specs.Acting as machine_acting
 use Rattle.xf_actions.specs.declared.fired.Fired.{Fired}
 use Rattle.xf_actions.specs.declared.fired.Property.{Property}
 use Rattle.xf_actions.specs.declared.acting.Acting.{Acting}
-use Rattle.xf_actions.specs.declared.acting.Focus.{Focus}
 use Rattle.xf_actions.specs.declared.place.Place.{Place}
 use Rattle.xf_actions.specs.declared.place.Inserting.{Inserting}
 use Rattle.xf_actions.specs.declared.fired.Ending.{Ending}
@@ -41,10 +40,6 @@ fired_of f = record {
   rows = f.rows;
   told = told_of f.properties;
 }
-
--- a context
-abbrev pub focus_of : Focus → setting.Focus
-focus_of x = record { node = x.node.number; position = x.position; size = x.size }
 
 -- an action that is called for an event
 abbrev pub acting_of : Fired → Acting → machine_acting.Acting

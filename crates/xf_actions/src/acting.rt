@@ -1,15 +1,7 @@
 //! Actions as they act (XForms 1.1, sections 7.2 and 10).
 
-use xf_doc::{NodeId, NodeList};
-
-/// The context of an expression.
-#[derive(Clone, Copy, Debug)]
-pub struct Focus {
-    /// The context node, the place of it among the nodes at hand, from 1, and their number.
-    pub node: NodeId,
-    pub position: u32,
-    pub size: u32,
-}
+use xf_doc::NodeList;
+use xf_ui::Focus;
 
 /// An action that is about to act.
 #[derive(Drop)]

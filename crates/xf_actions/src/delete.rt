@@ -10,7 +10,7 @@ ghost use Rattle.xf_actions.specs.Seen.{fired_of, acting_of, focus_of};
 ghost use Rattle.xf_actions.specs.Parts.{delete_in};
 ghost use Rattle.xf_actions.specs.TreeChanges.{delete as deletes, delete_at as deletes_at, cut, deleted_from as deletes_from, deleted as makes_deleted};
 
-use crate::acting::{Acting, Focus};
+use crate::acting::Acting;
 use crate::fired::{Fired, FiredList};
 use crate::parts::action_of;
 use crate::tell::one;
@@ -18,6 +18,7 @@ use crate::world::World;
 use xf_ast::Work;
 use xf_base::Items;
 use xf_doc::{NodeId, NodeList};
+use xf_ui::Focus;
 
 /// Has no effect where its `context` selects nothing.
 pub fn delete<W: World>(
@@ -27,6 +28,7 @@ pub fn delete<W: World>(
 ) -> Result<FiredList, W::Fault>
     ensures done { Makes W.Fault.means (map fired_of) (W.state world.new) result (deletes W.profile (acting_of fired.now acting.now) (delete_in (act_at (W.state world.old) acting.now.element)) (W.state world.old)) }
     ensures form { (W.state world.new).form ≡ (W.state world.old).form }
+    ensures calls { (W.state world.new).calls ≡ (W.state world.old).calls }
 {
     match context(world, fired, acting)? {
         None => Ok(Items::new(world.alloc())),
@@ -54,6 +56,7 @@ fn delete_at<W: World>(
 ) -> Result<FiredList, W::Fault>
     ensures done { Makes W.Fault.means (map fired_of) (W.state world.new) result (deletes_at W.profile (acting_of fired.now acting.now) (delete_in (act_at (W.state world.old) acting.now.element)) (focus_of focus.now) (W.state world.old)) }
     ensures form { (W.state world.new).form ≡ (W.state world.old).form }
+    ensures calls { (W.state world.new).calls ≡ (W.state world.old).calls }
 {
     let set = world.bound_set(fired, acting, focus)?;
     let at = place_asked(world, fired, acting, &set)?;
@@ -85,8 +88,9 @@ fn deleted<W: World>(
     set: &NodeList,
     at: Option<i64>,
 ) -> Result<FiredList, W::Fault>
-    ensures done { Makes W.Fault.means (map fired_of) (W.state world.new) result (makes_deleted W.profile (location_of W.profile.decimals set.now at) nodes.now (W.state world.old)) }
+    ensures done { Makes W.Fault.means (map fired_of) (W.state world.new) result (makes_deleted W.profile (location_of (W.state world.old).form.decimals set.now at) nodes.now (W.state world.old)) }
     ensures form { (W.state world.new).form ≡ (W.state world.old).form }
+    ensures calls { (W.state world.new).calls ≡ (W.state world.old).calls }
 {
     match nodes.get(0) {
         None => Ok(Items::new(world.alloc())),
@@ -101,8 +105,9 @@ fn deleted_from<W: World>(
     set: &NodeList,
     at: Option<i64>,
 ) -> Result<FiredList, W::Fault>
-    ensures done { Makes W.Fault.means (map fired_of) (W.state world.new) result (deletes_from W.profile (location_of W.profile.decimals set.now at) first.number nodes.now (W.state world.old)) }
+    ensures done { Makes W.Fault.means (map fired_of) (W.state world.new) result (deletes_from W.profile (location_of (W.state world.old).form.decimals set.now at) first.number nodes.now (W.state world.old)) }
     ensures form { (W.state world.new).form ≡ (W.state world.old).form }
+    ensures calls { (W.state world.new).calls ≡ (W.state world.old).calls }
 {
     let instance = world.instance_holding(first);
     detach_all(world, nodes.as_slice())?;
@@ -120,6 +125,7 @@ fn deleted_from<W: World>(
 fn detach_all<W: World>(world: &mut W, nodes: &[NodeId]) -> Result<(), W::Fault>
     ensures done { Runs W.Fault.means (W.state world.new) result (in_turn cut (map (λ n. n.number) nodes.now) (W.state world.old)) }
     ensures form { (W.state world.new).form ≡ (W.state world.old).form }
+    ensures calls { (W.state world.new).calls ≡ (W.state world.old).calls }
 {
     for node in nodes {
         world.detach(*node)?;

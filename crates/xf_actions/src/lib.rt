@@ -18,9 +18,10 @@ mod tell;
 mod work;
 mod world;
 
-pub use act::dispatch;
-pub use acting::{Acting, Focus};
+pub use act::{dispatch, update};
+pub use acting::Acting;
 pub use fault::WorldFault;
 pub use fired::{Concluded, Ending, Fired, FiredList, Property, PropertyList};
 pub use place::{Inserting, Place, PlaceList};
 pub use world::{Flag, World};
+pub use xf_ui::Focus;
