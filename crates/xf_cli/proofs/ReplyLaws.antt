@@ -18,10 +18,11 @@ use Rattle.xf_form_machine.specs.FormReplies.{form_texts, construct_texts, ready
 use Rattle.xf_form_machine.specs.StateText.{line_of}
 use Rattle.xf_form_machine.specs.Step.{Outcome, accepted, refused, Posted, step}
 use Rattle.xf_form_machine.specs.Replies.{Reply, without_event, ok_text, limit_text, refusal_texts, reply_outcome, is_blank}
-use Rattle.xf_report.specs.declared.refusal.Refusal.{Refusal}
-use Rattle.xf_report.specs.declared.refusal.Refusal.TheVariants as told
-use Rattle.xf_report.specs.Refusals.{Tells, refusal_text, construct_text}
-use Rattle.xf_report.specs.Refusals as meaning
+use Rattle.xf_form_machine.specs.declared.refusal.Refusal.{Refusal}
+use Rattle.xf_form_machine.specs.declared.refusal.Refusal.TheVariants as told
+use Rattle.xf_form_machine.specs.Told.{Tells}
+use Rattle.xf_report.specs.Refusals.{refusal_text, construct_text}
+use Rattle.xf_form_machine.specs.Told as meaning
 use Rattle.xf_report.proofs.AnswerLaws.{tells-text}
 use Rattle.xf_form_machine.specs.ControlText.{state_text}
 use Rattle.xf_work.specs.Standing.{Standing, state_of}
@@ -86,14 +87,14 @@ set_refused s refusal id rows text reply h e =
 -- ---- the line of a form that is refused
 
 form-line : (r : Refusal) (why : machine.Refusal) → Tells r why → is_of_form r ≡ true → Contains (map line_of (form_texts why)) (construct_text r)
-form-line (told.Twice path) why h k = subst (λ w. Contains (map line_of (form_texts w)) (construct_text (told.Twice path))) (sym h) (only (construct_text (told.Twice path)))
-form-line (told.OnParent path) why h k = subst (λ w. Contains (map line_of (form_texts w)) (construct_text (told.OnParent path))) (sym h) (only (construct_text (told.OnParent path)))
+form-line (told.PropertyTwice path) why h k = subst (λ w. Contains (map line_of (form_texts w)) (construct_text (told.PropertyTwice path))) (sym h) (only (construct_text (told.PropertyTwice path)))
+form-line (told.CalculateOnParent path) why h k = subst (λ w. Contains (map line_of (form_texts w)) (construct_text (told.CalculateOnParent path))) (sym h) (only (construct_text (told.CalculateOnParent path)))
 form-line (told.Circular paths) why h k = subst (λ w. Contains (map line_of (form_texts w)) (construct_text (told.Circular paths))) (sym h) (only (construct_text (told.Circular paths)))
 form-line (told.Limit word) why h k =
     subst (λ w. Contains (map line_of (form_texts w)) (construct_text (told.Limit word))) (sym h.1)
     (contains-map line_of (map (λ w. codes "form F17 Limit " ++ limit_text w) h.0) (codes "form F17 Limit " ++ limit_text word)
     (contains-map (λ w. codes "form F17 Limit " ++ limit_text w) h.0 word h.2))
-form-line told.NoTarget why h k = cc
+form-line told.NoSuchTarget why h k = cc
 form-line told.Disabled why h k = cc
 form-line told.ReadOnly why h k = cc
 form-line told.NotAnItem why h k = cc
@@ -109,10 +110,10 @@ construct_refused r (Err given) line h k e = subst (λ l. Contains (map line_of 
 
 ready-same : (r : Refusal) (why : machine.Refusal) → Tells r why → ready_text why ≡ ready_text (meaning.told r)
 ready-same (told.Limit word) why h = ap ready_text h.1
-ready-same (told.Twice path) why h = ap ready_text h
-ready-same (told.OnParent path) why h = ap ready_text h
+ready-same (told.PropertyTwice path) why h = ap ready_text h
+ready-same (told.CalculateOnParent path) why h = ap ready_text h
 ready-same (told.Circular paths) why h = ap ready_text h
-ready-same told.NoTarget why h = ap ready_text h
+ready-same told.NoSuchTarget why h = ap ready_text h
 ready-same told.Disabled why h = ap ready_text h
 ready-same told.ReadOnly why h = ap ready_text h
 ready-same told.NotAnItem why h = ap ready_text h

@@ -15,7 +15,8 @@ use std::marker::Model;
 use xf_answers::Answering;
 use xf_engine::Engine;
 use xf_line::{Asked, Event, LineFault, read_line};
-use xf_report::{Refusal, push_ok, push_refusal};
+use xf_form_machine::Refusal;
+use xf_report::{push_ok, push_refusal};
 use xf_work::WorkFault;
 
 /// A form at work, whose events come as lines. Contracts see the state of the form machine.

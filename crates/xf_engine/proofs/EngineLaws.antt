@@ -12,7 +12,7 @@ use Rattle.xf_form_machine.specs.Targets.{or_no_target}
 use Rattle.xf_machine_laws.specs.Quiet.{Quiet, HasSteps, copy_at, update_quietly}
 use Rattle.xf_machine_laws.proofs.QuietKeeps.{Like, NoneDue, bound-keeps, keeps-then}
 use Rattle.xf_machine_laws.proofs.QuietLaws.{sets_quietly, tried-is, update-keeps}
-use Rattle.xf_report.specs.declared.refusal.Refusal.{Refusal}
+use Rattle.xf_form_machine.specs.declared.refusal.Refusal.{Refusal}
 use Rattle.xf_work.specs.declared.fault.WorkFault.{WorkFault}
 use Rattle.xf_work.specs.declared.fault.WorkFault.TheVariants as fault
 use Rattle.xf_work.specs.Does.{Does, IsKept, IsRefused, Stage, Twin, profile}

@@ -4,7 +4,7 @@ use Rattle.xf_form_machine.specs.State.{State}
 use Rattle.xf_form_machine.specs.Refusal.{Refused}
 use Rattle.xf_form_machine.specs.Flow.{Run, ◌>>=◌, in_turn}
 use Rattle.xf_form_machine.specs.Cycles.{counted_from}
-use Rattle.xf_report.specs.declared.refusal.Refusal.{Refusal}
+use Rattle.xf_form_machine.specs.declared.refusal.Refusal.{Refusal}
 use Rattle.xf_work.specs.declared.fault.WorkFault.{WorkFault}
 use Rattle.xf_work.specs.declared.fault.WorkFault.TheVariants as fault
 use Rattle.xf_work.specs.Standing.{Standing}

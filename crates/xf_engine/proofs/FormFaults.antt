@@ -27,9 +27,9 @@ use Rattle.xf_form_machine.specs.Surround.{interface, quiet, scope}
 use Rattle.xf_form_machine.specs.Update.{shown}
 use Rattle.xf_machine_laws.specs.Quiet.{IsQuiet, HasSteps, construct_quietly}
 use Rattle.xf_machine_laws.proofs.QuietLaws.{constructs_quietly}
-use Rattle.xf_report.specs.declared.refusal.Refusal.{Refusal}
-use Rattle.xf_report.specs.declared.refusal.Refusal.TheVariants.{NoTarget, Disabled, ReadOnly, NotAnItem, BadIndex, Twice, OnParent, Binding, Circular, Limit, Budget, Depth, Sends}
-use Rattle.xf_report.specs.Refusals.{Tells}
+use Rattle.xf_form_machine.specs.declared.refusal.Refusal.{Refusal}
+use Rattle.xf_form_machine.specs.declared.refusal.Refusal.TheVariants.{NoSuchTarget, Disabled, ReadOnly, NotAnItem, BadIndex, PropertyTwice, CalculateOnParent, Binding, Circular, Limit, Budget, Depth, Sends}
+use Rattle.xf_form_machine.specs.Told.{Tells}
 use Rattle.xf_work.specs.Does.{IsRefused}
 use Rattle.xf_engine.specs.Stepped.{is_of_form}
 
@@ -48,10 +48,10 @@ other-told why other e h = ap is_form_fault (sym e) ∙ h
 
 told-fault : (refusal : Refusal) (why : machine.Refusal) → Tells refusal why → is_form_fault why ≡ true → is_of_form refusal ≡ true
 told-fault (Limit word) why t h = refl
-told-fault (Twice path) why t h = refl
-told-fault (OnParent path) why t h = refl
+told-fault (PropertyTwice path) why t h = refl
+told-fault (CalculateOnParent path) why t h = refl
 told-fault (Circular paths) why t h = refl
-told-fault NoTarget why t h = other-told why machine.no_target t h
+told-fault NoSuchTarget why t h = other-told why machine.no_target t h
 told-fault Disabled why t h = other-told why machine.disabled t h
 told-fault ReadOnly why t h = other-told why machine.readonly t h
 told-fault NotAnItem why t h = other-told why machine.not_an_item t h

@@ -11,7 +11,7 @@ use Rattle.xf_form_machine.specs.Cycles.{counted_from}
 use Rattle.xf_form_machine.specs.Update.{shown, all_cleared, is_due, is_refresh_due, rounds}
 use Rattle.xf_machine_laws.specs.Quiet.{spend_for, refresh_quietly, round_quietly, update_quietly}
 use Rattle.xf_machine_laws.proofs.QuietLaws.{then-same}
-use Rattle.xf_report.specs.declared.refusal.Refusal.TheVariants.{Budget}
+use Rattle.xf_form_machine.specs.declared.refusal.Refusal.TheVariants.{Budget}
 use Rattle.xf_work.specs.declared.fault.WorkFault.{WorkFault}
 use Rattle.xf_work.specs.declared.fault.WorkFault.TheVariants as fault
 use Rattle.xf_work.specs.Calls.{AreRefreshed, Refreshes}

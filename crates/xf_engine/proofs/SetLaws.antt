@@ -17,7 +17,7 @@ use Rattle.xf_form_machine.specs.Targets.{or_no_target, unless, takes_text}
 use Rattle.xf_form_machine.specs.Step.{changed_by, set, set_bound, try_set}
 use Rattle.xf_machine_laws.specs.Quiet.{Quiet, HasSteps, copy_at, set_quietly, update_quietly}
 use Rattle.xf_machine_laws.proofs.QuietLaws.{sets_quietly}
-use Rattle.xf_report.specs.declared.refusal.Refusal.TheVariants.{NoTarget}
+use Rattle.xf_form_machine.specs.declared.refusal.Refusal.TheVariants.{NoSuchTarget}
 use Rattle.xf_work.specs.declared.fault.WorkFault.{WorkFault}
 use Rattle.xf_work.specs.Standing.{Standing, state_of}
 use Rattle.xf_work.specs.Does.{IsRefused, profile}
@@ -92,12 +92,12 @@ set-named s id rows text n q h e =
     ∙ sets_quietly profile n rows text (state_of s) steps q
     ∙ set-is profile n rows text (state_of s) h
 
-refused-none : (s : Standing) (o : Option ℕ) (next : ℕ → Result State Refused) → o ≡ None → IsRefused NoTarget (or_no_target (state_of s) o >>= next)
+refused-none : (s : Standing) (o : Option ℕ) (next : ℕ → Result State Refused) → o ≡ None → IsRefused NoSuchTarget (or_no_target (state_of s) o >>= next)
 refused-none s None next h = (refl, refl)
 refused-none s (Some n) next h = cc
 
 pub set-unnamed : (s : Standing) (id rows text : List ℕ)
-    → entry_from id 0 s.form.elements ≡ None → IsRefused NoTarget (changed_by profile (Set id rows text) (state_of s))
+    → entry_from id 0 s.form.elements ≡ None → IsRefused NoSuchTarget (changed_by profile (Set id rows text) (state_of s))
 set-unnamed s id rows text e = refused-none s _ (λ m. set profile m rows text (state_of s)) (sym (entry-named s id) ∙ e)
 
 -- ---- the steps

@@ -9,8 +9,8 @@ use Rattle.xf_form_machine.specs.Start.{tell_models}
 use Rattle.xf_form_machine.specs.Step.{Posted, Outcome, accepted, refused, outcome, at_end}
 use Rattle.xf_loader.specs.declared.loaded.Loaded.{Loaded}
 use Rattle.xf_loader.specs.Loading.{loaded_in}
-use Rattle.xf_report.specs.declared.refusal.Refusal.{Refusal}
-use Rattle.xf_report.specs.declared.refusal.Refusal.TheVariants as refusal
+use Rattle.xf_form_machine.specs.declared.refusal.Refusal.{Refusal}
+use Rattle.xf_form_machine.specs.declared.refusal.Refusal.TheVariants as refusal
 use Rattle.xf_work.specs.Does.{IsRefused, profile}
 use Rattle.xf_work.specs.Standing.{Standing, state_of}
 use Rattle.xf_work.specs.declared.fault.WorkFault.{WorkFault}
@@ -24,8 +24,8 @@ IsFromBytes l = (bytes : List ℕ) × (loaded_in bytes ≡ Ok l)
 
 -- binds set a property twice, or a calculate where elements stand, or make a cycle; or a limit is passed
 abbrev pub is_of_form : Refusal → Bool
-is_of_form (refusal.Twice path) = true
-is_of_form (refusal.OnParent path) = true
+is_of_form (refusal.PropertyTwice path) = true
+is_of_form (refusal.CalculateOnParent path) = true
 is_of_form (refusal.Circular paths) = true
 is_of_form (refusal.Limit word) = true
 is_of_form other = false

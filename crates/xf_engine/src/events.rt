@@ -14,7 +14,7 @@ use crate::updates::update;
 use std::alloc::AllocError;
 use xf_ast::{Control, Element, Kind};
 use xf_doc::NodeId;
-use xf_report::Refusal;
+use xf_form_machine::Refusal;
 use xf_work::{Work, WorkFault};
 
 /// Sets the text of the control that has this id, and does what is due.
@@ -28,7 +28,7 @@ pub(crate) fn set(work: &mut Work, id: &str, rows: &[u64], text: &str) -> Result
     work.plain();
     match entry_named(work.form().elements.as_slice(), id)? {
         Some(element) => set_element(work, element, rows, text),
-        None => Err(WorkFault::Refused(Refusal::NoTarget)),
+        None => Err(WorkFault::Refused(Refusal::NoSuchTarget)),
     }
 }
 
@@ -49,10 +49,10 @@ fn node_to_set(work: &Work, element: u32, rows: &[u64]) -> Result<Option<NodeId>
     ensures { Finds (option_map (λ n. n.number)) result (node_tried element rows.now (state_of work.now.now)) }
 {
     if !rows.is_empty() {
-        return Err(WorkFault::Refused(Refusal::NoTarget));
+        return Err(WorkFault::Refused(Refusal::NoSuchTarget));
     }
     let Some(copy) = work.control(element) else {
-        return Err(WorkFault::Refused(Refusal::NoTarget));
+        return Err(WorkFault::Refused(Refusal::NoSuchTarget));
     };
     if !copy.enabled {
         return Err(WorkFault::Refused(Refusal::Disabled));

@@ -7,7 +7,7 @@ ghost use Rattle.xf_work.specs.Does.{Does, profile};
 ghost use Rattle.xf_work.specs.Standing.{state_of};
 ghost use Rattle.xf_engine.specs.Rounds.{all_behaved, spend_times};
 
-use xf_report::Refusal;
+use xf_form_machine::Refusal;
 use xf_work::{Flag, Work, WorkFault};
 
 /// Does what is due: each round spends a turn.

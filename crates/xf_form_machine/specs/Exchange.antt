@@ -1,5 +1,5 @@
 -- Submission up to the response of the store (XForms 1.1, section 11.2), and the event that tells how it ended.
-use Rattle.std.specs.Prelude.{ℕ, Bool, true, false, not, ◌&&◌, ◌||◌, List, [], ◌∷◌, ◌++◌, length, codes, nat_le, option_map, slice_get, unwrap_or, Result, Ok, ◌==◌, if◌then◌else◌}
+use Rattle.std.specs.Prelude.{ℕ, Bool, true, false, not, ◌&&◌, ◌||◌, List, [], ◌∷◌, ◌++◌, length, codes, nat_le, Some, option_map, slice_get, unwrap_or, Result, Ok, ◌==◌, if◌then◌else◌}
 use Rattle.std.specs.List.{list_all}
 use Rattle.xf_json.specs.Printed.{text_of}
 use Rattle.xf_store.specs.declared.answers.Answer.{Answer}

@@ -3,6 +3,7 @@ pub mod Program
 pub mod Tables
 pub mod State
 pub mod Refusal
+pub mod Told
 pub mod Flow
 pub mod Surround
 pub mod NoteLines

@@ -4,6 +4,8 @@
 
 mod limit;
 mod note;
+mod refusal;
 
 pub use limit::LimitWord;
 pub use note::{Note, Notes};
+pub use refusal::{PathList, Refusal};

@@ -9,9 +9,10 @@ use Rattle.xf_form_machine.specs.Replies.{note_lines, count_part, ok_text}
 use Rattle.std.proofs.lemmas.List.{length-map, get_or-map}
 use Rattle.xf_form_machine.specs.Replies.{limit_text, refusal_texts}
 use Rattle.xf_form_machine.specs.Refusal as machine
-use Rattle.xf_report.specs.declared.refusal.Refusal.{Refusal}
-use Rattle.xf_report.specs.declared.refusal.Refusal.TheVariants.{NoTarget, Disabled, ReadOnly, NotAnItem, BadIndex, Twice, OnParent, Binding, Circular, Limit, Budget, Depth, Sends}
-use Rattle.xf_report.specs.Refusals.{Tells, told, refusal_text, construct_text}
+use Rattle.xf_form_machine.specs.declared.refusal.Refusal.{Refusal}
+use Rattle.xf_form_machine.specs.declared.refusal.Refusal.TheVariants.{NoSuchTarget, Disabled, ReadOnly, NotAnItem, BadIndex, PropertyTwice, CalculateOnParent, Binding, Circular, Limit, Budget, Depth, Sends}
+use Rattle.xf_form_machine.specs.Told.{Tells, told}
+use Rattle.xf_report.specs.Refusals.{refusal_text, construct_text}
 use Rattle.std.specs.List.{flat_map}
 use Rattle.xf_form_machine.specs.FormReplies.{form_texts}
 use Rattle.xf_report.specs.Answers.{IsAnswer, counted_in, count_text, answer_text}
@@ -49,13 +50,13 @@ pub tells-text : (r : Refusal) (why : machine.Refusal) → Tells r why → Conta
 tells-text (Limit word) why h =
     let P : machine.Refusal → Type 0 = λ w. Contains (refusal_texts w) (refusal_text (Limit word)) in
     subst P (sym h.1) (contains-map (λ w. codes "no E11 Limit " ++ limit_text w) h.0 word h.2)
-tells-text NoTarget why h = tells-told NoTarget why h (only (refusal_text NoTarget))
+tells-text NoSuchTarget why h = tells-told NoSuchTarget why h (only (refusal_text NoSuchTarget))
 tells-text Disabled why h = tells-told Disabled why h (only (refusal_text Disabled))
 tells-text ReadOnly why h = tells-told ReadOnly why h (only (refusal_text ReadOnly))
 tells-text NotAnItem why h = tells-told NotAnItem why h (only (refusal_text NotAnItem))
 tells-text BadIndex why h = tells-told BadIndex why h (only (refusal_text BadIndex))
-tells-text (Twice path) why h = tells-told (Twice path) why h (only (refusal_text (Twice path)))
-tells-text (OnParent path) why h = tells-told (OnParent path) why h (only (refusal_text (OnParent path)))
+tells-text (PropertyTwice path) why h = tells-told (PropertyTwice path) why h (only (refusal_text (PropertyTwice path)))
+tells-text (CalculateOnParent path) why h = tells-told (CalculateOnParent path) why h (only (refusal_text (CalculateOnParent path)))
 tells-text (Binding path) why h = tells-told (Binding path) why h (only (refusal_text (Binding path)))
 tells-text (Circular paths) why h = tells-told (Circular paths) why h (only (refusal_text (Circular paths)))
 tells-text Budget why h = tells-told Budget why h (only (refusal_text Budget))
@@ -64,11 +65,11 @@ tells-text Sends why h = tells-told Sends why h (only (refusal_text Sends))
 
 -- where one limit alone is passed, the line of a refused form is the one that may be written
 pub construct-text : (r : Refusal) → construct_text r ≡ flat_map line_of (form_texts (told r))
-construct-text (Twice path) = sym (append-nil _)
+construct-text (PropertyTwice path) = sym (append-nil _)
 construct-text (Circular paths) = sym (append-nil _)
-construct-text (OnParent path) = sym (append-nil _)
+construct-text (CalculateOnParent path) = sym (append-nil _)
 construct-text (Limit word) = sym (append-nil _)
-construct-text NoTarget = refl
+construct-text NoSuchTarget = refl
 construct-text Disabled = refl
 construct-text ReadOnly = refl
 construct-text NotAnItem = refl

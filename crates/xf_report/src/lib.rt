@@ -20,7 +20,7 @@ pub use instance::push_instance;
 pub use names::numbers_of;
 pub use note::push_notes;
 pub use path::{instance_holding, path_in};
-pub use refusal::{PathList, Refusal, push_construct_refusal, push_ready_refusal, push_refusal};
+pub use refusal::{push_construct_refusal, push_ready_refusal, push_refusal};
 pub use shown::shown_copies;
 pub use state::{ShownControls, ShownRepeat, ShownSwitch, push_state};
 pub use xf_ui::{Marks, NodeMarks};

@@ -4,46 +4,12 @@ ghost use Rattle.std.specs.List.{flat_map};
 ghost use Rattle.xf_form_machine.specs.FormReplies.{event_refusal, ready_text};
 ghost use Rattle.xf_form_machine.specs.Replies.{limit_text};
 ghost use Rattle.xf_form_machine.specs.StateText.{line_of, spaced};
-ghost use Rattle.xf_report.specs.Refusals.{construct_text, details, refusal_text, told};
+ghost use Rattle.xf_form_machine.specs.Told.{told};
+ghost use Rattle.xf_report.specs.Refusals.{construct_text, details, refusal_text};
 
 use std::alloc::AllocError;
-use xf_base::Items;
-use xf_form_machine::LimitWord;
+use xf_form_machine::{LimitWord, Refusal};
 use xf_name::Word;
-
-/// The paths of nodes.
-pub type PathList = Items<Word>;
-
-/// Why an event, a construction or a start is refused.
-#[derive(Debug, Drop)]
-pub enum Refusal {
-    /// No element of that kind has the id, or the rows do not stand.
-    NoTarget,
-    /// The control is not enabled.
-    Disabled,
-    /// Its node is readonly.
-    ReadOnly,
-    /// Its items do not allow the text.
-    NotAnItem,
-    /// The number is not one of the rows.
-    BadIndex,
-    /// A property is set twice on the node with this path (XForms 1.1, section 4.5.1).
-    Twice(Word),
-    /// A calculate is set on the node with this path, though it has element children.
-    OnParent(Word),
-    /// The text of the node with this path is set, though it has element children.
-    Binding(Word),
-    /// The calculates of the nodes with these paths stand in a cycle.
-    Circular(PathList),
-    /// This limit is passed, and maybe others.
-    Limit(LimitWord),
-    /// One turn more is needed.
-    Budget,
-    /// A deeper dispatch is needed.
-    Depth,
-    /// One call of the store more is needed.
-    Sends,
-}
 
 /// Appends the line of a refused event.
 pub fn push_refusal(text: &mut String, refusal: &Refusal) -> Result<(), AllocError>
@@ -60,13 +26,13 @@ fn event_refusal(refusal: &Refusal) -> &'static str
     ensures { result.now ≡ event_refusal (told refusal.now) }
 {
     match refusal {
-        Refusal::NoTarget => "E4 NoSuchTarget",
+        Refusal::NoSuchTarget => "E4 NoSuchTarget",
         Refusal::Disabled => "E5 Disabled",
         Refusal::ReadOnly => "E6 ReadOnly",
         Refusal::NotAnItem => "E7 NotAnItem",
         Refusal::BadIndex => "E8 BadIndex",
-        Refusal::Twice(_) => "E9 Binding",
-        Refusal::OnParent(_) => "E9 Binding",
+        Refusal::PropertyTwice(_) => "E9 Binding",
+        Refusal::CalculateOnParent(_) => "E9 Binding",
         Refusal::Binding(_) => "E9 Binding",
         Refusal::Circular(_) => "E10 Circular",
         Refusal::Limit(_) => "E11 Limit",
@@ -81,8 +47,8 @@ fn push_details(text: &mut String, refusal: &Refusal) -> Result<(), AllocError>
     ensures { OnOk result (string_bytes text.new ≡ string_bytes text.old ++ details refusal.now) }
 {
     match refusal {
-        Refusal::Twice(path) => push_spaced(text, path.as_str()),
-        Refusal::OnParent(path) => push_spaced(text, path.as_str()),
+        Refusal::PropertyTwice(path) => push_spaced(text, path.as_str()),
+        Refusal::CalculateOnParent(path) => push_spaced(text, path.as_str()),
         Refusal::Binding(path) => push_spaced(text, path.as_str()),
         Refusal::Circular(paths) => push_paths(text, paths.as_slice()),
         Refusal::Limit(word) => push_spaced(text, limit_text(*word)),
@@ -129,9 +95,9 @@ pub fn push_construct_refusal(text: &mut String, refusal: &Refusal) -> Result<()
     ensures { OnOk result (string_bytes text.new ≡ string_bytes text.old ++ construct_text refusal.now) }
 {
     match refusal {
-        Refusal::Twice(_) => push_named(text, "form F14 PropertyTwice", refusal),
+        Refusal::PropertyTwice(_) => push_named(text, "form F14 PropertyTwice", refusal),
         Refusal::Circular(_) => push_named(text, "form F15 Circular", refusal),
-        Refusal::OnParent(_) => push_named(text, "form F16 CalculateOnParent", refusal),
+        Refusal::CalculateOnParent(_) => push_named(text, "form F16 CalculateOnParent", refusal),
         Refusal::Limit(_) => push_named(text, "form F17 Limit", refusal),
         _ => Ok(()),
     }

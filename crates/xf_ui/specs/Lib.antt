@@ -14,3 +14,4 @@ pub mod Copies
 pub mod Notifications
 pub mod Calls
 pub mod Examples
+pub mod Focused

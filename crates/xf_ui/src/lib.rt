@@ -3,7 +3,9 @@
 #![tactic(auto)]
 
 mod answers;
+mod focus;
 mod marks;
 
 pub use answers::{CallList, Item, ItemList};
+pub use focus::Focus;
 pub use marks::{Marks, NodeMarks};

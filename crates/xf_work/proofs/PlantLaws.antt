@@ -27,7 +27,7 @@ use Rattle.xf_form_machine.specs.Refusal.{Refused, limit, words_of}
 use Rattle.xf_form_machine.specs.State.{State}
 use Rattle.xf_loader.specs.Data.{lit_at}
 use Rattle.xf_loader.specs.declared.loaded.Loaded.{Loaded}
-use Rattle.xf_report.specs.declared.refusal.Refusal.TheVariants.{Limit}
+use Rattle.xf_form_machine.specs.declared.refusal.Refusal.TheVariants.{Limit}
 use Rattle.xf_work.specs.declared.fault.WorkFault.{WorkFault}
 use Rattle.xf_work.specs.declared.fault.WorkFault.TheVariants as work
 use Rattle.xf_work.specs.Does.{IsRefused, profile}

@@ -25,7 +25,7 @@ use Rattle.xf_binds.specs.Kept.{Kept, recalculated}
 use Rattle.xf_binds.specs.Table.{kept_at, with_kept}
 use Rattle.xf_controls.specs.declared.copy.ControlCopy.{ControlCopy}
 use Rattle.xf_loader.specs.declared.loaded.Loaded.{Loaded}
-use Rattle.xf_report.specs.declared.refusal.Refusal.TheVariants.{Limit}
+use Rattle.xf_form_machine.specs.declared.refusal.Refusal.TheVariants.{Limit}
 use Rattle.xf_settle.specs.declared.fault.SettleFault.{SettleFault}
 use Rattle.xf_settle.specs.declared.fault.SettleFault.TheVariants as settle
 use Rattle.xf_settle.specs.Settles.{IsSettled, IsTold, tells_all, tells_nodes, words_of}

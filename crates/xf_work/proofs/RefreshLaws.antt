@@ -28,8 +28,8 @@ use Rattle.xf_controls.specs.Seen.{seen_copy}
 use Rattle.xf_controls.proofs.RenewedLaws.{copies-renewed, copies-there, renewed-again, renewed-count, renewed-rising, renewed-there}
 use Rattle.xf_valid.specs.Nodes.{marks_in}
 use Rattle.xf_valid.proofs.ShapeLaws.{marks-shaped}
-use Rattle.xf_report.specs.declared.refusal.Refusal.{Refusal}
-use Rattle.xf_report.specs.declared.refusal.Refusal.TheVariants.{Limit}
+use Rattle.xf_form_machine.specs.declared.refusal.Refusal.{Refusal}
+use Rattle.xf_form_machine.specs.declared.refusal.Refusal.TheVariants.{Limit}
 use Rattle.xf_loader.specs.declared.loaded.Loaded.{Loaded}
 use Rattle.xf_work.specs.declared.fault.WorkFault.{WorkFault}
 use Rattle.xf_work.specs.declared.fault.WorkFault.TheVariants as fault

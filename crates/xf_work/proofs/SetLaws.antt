@@ -17,7 +17,7 @@ use Rattle.xf_binds.specs.Kept.{Kept}
 use Rattle.xf_binds.specs.Table.{kept_at, with_kept}
 use Rattle.xf_controls.specs.declared.copy.ControlCopy.{ControlCopy}
 use Rattle.xf_loader.specs.declared.loaded.Loaded.{Loaded}
-use Rattle.xf_report.specs.declared.refusal.Refusal.TheVariants as refusal
+use Rattle.xf_form_machine.specs.declared.refusal.Refusal.TheVariants as refusal
 use Rattle.xf_work.specs.declared.fault.WorkFault.{WorkFault}
 use Rattle.xf_work.specs.declared.fault.WorkFault.TheVariants as fault
 use Rattle.xf_work.specs.declared.flags.Flags.{Flags}
@@ -112,13 +112,13 @@ module _ (loaded : Loaded) (forest : Forest) (table : List Kept) (flags : List F
   bound-refused full (fault.Refused (refusal.Binding path)) h end =
       subst (IsRefused (refusal.Binding path)) (sym (ap (λ b. unless_parent b n (set_text profile n text) s) full))
       (ap binding (sym (h s refl refl)), refl)
-  bound-refused full (fault.Refused refusal.NoTarget) h end = absurd h
+  bound-refused full (fault.Refused refusal.NoSuchTarget) h end = absurd h
   bound-refused full (fault.Refused refusal.Disabled) h end = absurd h
   bound-refused full (fault.Refused refusal.ReadOnly) h end = absurd h
   bound-refused full (fault.Refused refusal.NotAnItem) h end = absurd h
   bound-refused full (fault.Refused refusal.BadIndex) h end = absurd h
-  bound-refused full (fault.Refused (refusal.Twice path)) h end = absurd h
-  bound-refused full (fault.Refused (refusal.OnParent path)) h end = absurd h
+  bound-refused full (fault.Refused (refusal.PropertyTwice path)) h end = absurd h
+  bound-refused full (fault.Refused (refusal.CalculateOnParent path)) h end = absurd h
   bound-refused full (fault.Refused (refusal.Circular paths)) h end = absurd h
   bound-refused full (fault.Refused (refusal.Limit w)) h end = absurd h
   bound-refused full (fault.Refused refusal.Budget) h end = absurd h

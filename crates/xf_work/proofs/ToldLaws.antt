@@ -10,16 +10,16 @@ use Rattle.xf_form_machine.specs.Properties.{path_in}
 use Rattle.xf_form_machine.specs.Refusal as machine
 use Rattle.xf_model.specs.Applied.{twice, on_parent}
 use Rattle.xf_recalc.specs.Rebuilt.{exception, edges, circular}
-use Rattle.xf_report.specs.declared.refusal.Refusal.TheVariants as refusal
+use Rattle.xf_form_machine.specs.declared.refusal.Refusal.TheVariants as refusal
 use Rattle.xf_report.specs.Paths.{IsPath}
 use Rattle.xf_work.specs.declared.fault.WorkFault.TheVariants.{Refused}
 use Rattle.xf_work.specs.Told.{ArePaths, IsOver, IsSaid, numbers}
 
 module _ (instances : List Instance) (forest : Forest) where
-  pub said-twice : (n : ℕ) (path : List ℕ) → IsPath instances forest n path → IsSaid instances forest (Refused (refusal.Twice path)) (exception (twice n))
+  pub said-twice : (n : ℕ) (path : List ℕ) → IsPath instances forest n path → IsSaid instances forest (Refused (refusal.PropertyTwice path)) (exception (twice n))
   said-twice n path h s o = ap machine.twice (sym (h s o.tables o.nodes))
 
-  pub said-parent : (n : ℕ) (path : List ℕ) → IsPath instances forest n path → IsSaid instances forest (Refused (refusal.OnParent path)) (exception (on_parent n))
+  pub said-parent : (n : ℕ) (path : List ℕ) → IsPath instances forest n path → IsSaid instances forest (Refused (refusal.CalculateOnParent path)) (exception (on_parent n))
   said-parent n path h s o = ap machine.on_parent (sym (h s o.tables o.nodes))
 
   pub said-edges : IsSaid instances forest (Refused (refusal.Limit word.Edges)) edges

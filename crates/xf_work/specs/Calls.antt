@@ -14,7 +14,7 @@ use Rattle.xf_form_machine.specs.Behave as machine
 use Rattle.xf_form_machine.specs.ControlText.{state_text}
 use Rattle.xf_form_machine.specs.Update as update
 use Rattle.xf_form_machine.specs.Update.{no_refresh}
-use Rattle.xf_report.specs.declared.refusal.Refusal.TheVariants.{Limit}
+use Rattle.xf_form_machine.specs.declared.refusal.Refusal.TheVariants.{Limit}
 use Rattle.xf_loader.specs.declared.loaded.Loaded.{Loaded}
 use Rattle.xf_work.specs.declared.fault.WorkFault.{WorkFault}
 use Rattle.xf_work.specs.declared.fault.WorkFault.TheVariants.{Refused, Memory}

@@ -1,7 +1,7 @@
 -- What is counted of one event besides: nodes that were made, and evaluations.
 use Rattle.std.specs.Prelude.{ℕ, ◌≡◌, ◌+◌, ◌^◌, true, false, nat_lt, Result, Ok, Err}
 use Rattle.xf_form_machine.specs.declared.limit.LimitWord.TheVariants.{Made}
-use Rattle.xf_report.specs.declared.refusal.Refusal.TheVariants.{Limit}
+use Rattle.xf_form_machine.specs.declared.refusal.Refusal.TheVariants.{Limit}
 use Rattle.xf_work.specs.declared.fault.WorkFault.{WorkFault}
 use Rattle.xf_work.specs.declared.fault.WorkFault.TheVariants.{Refused, Memory}
 use Rattle.xf_work.specs.declared.tally.Tally.{Tally}

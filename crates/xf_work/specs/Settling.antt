@@ -5,7 +5,7 @@ use Rattle.xf_form_machine.specs.declared.limit.LimitWord.{LimitWord}
 use Rattle.xf_form_machine.specs.declared.limit.LimitWord.TheVariants as word
 use Rattle.xf_form_machine.specs.Refusal.{word_of}
 use Rattle.xf_model.specs.Settled.{Passed}
-use Rattle.xf_report.specs.declared.refusal.Refusal.TheVariants.{Limit}
+use Rattle.xf_form_machine.specs.declared.refusal.Refusal.TheVariants.{Limit}
 use Rattle.xf_binds.specs.Kept.{Kept}
 use Rattle.xf_loader.specs.declared.loaded.Loaded.{Loaded}
 use Rattle.xf_settle.specs.declared.fault.SettleFault.{SettleFault}

@@ -11,7 +11,7 @@ use Rattle.xf_model.specs.Applied.{twice, on_parent}
 use Rattle.xf_recalc.specs.Machine.{refusal_of}
 use Rattle.xf_recalc.specs.declared.fault.RebuildFault.{RebuildFault}
 use Rattle.xf_recalc.specs.declared.fault.RebuildFault.TheVariants as fault
-use Rattle.xf_report.specs.Refusals.{Tells}
+use Rattle.xf_form_machine.specs.Told.{Tells}
 use Rattle.xf_work.specs.declared.fault.WorkFault.{WorkFault}
 use Rattle.xf_work.specs.declared.fault.WorkFault.TheVariants.{Refused, Memory}
 

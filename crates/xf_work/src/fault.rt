@@ -1,7 +1,7 @@
 //! Why an event or a construction is refused.
 
 use std::alloc::AllocError;
-use xf_report::Refusal;
+use xf_form_machine::Refusal;
 
 /// Why an event, a construction or a start is refused.
 #[derive(Debug, Drop)]

@@ -4,8 +4,7 @@ ghost use Rattle.xf_work.specs.Grown.{IsGrown};
 
 use crate::fault::WorkFault;
 use crate::tally::Tally;
-use xf_form_machine::LimitWord;
-use xf_report::Refusal;
+use xf_form_machine::{LimitWord, Refusal};
 
 /// The nodes that one event may make.
 pub(crate) const MADE: u64 = 4_294_967_296;

@@ -18,9 +18,8 @@ use xf_ast::Instance;
 use xf_binds::Table;
 use xf_controls::{KnownList, Shown, are_bound};
 use xf_doc::TreeFault;
-use xf_form_machine::LimitWord;
+use xf_form_machine::{LimitWord, Refusal};
 use xf_loader::{Loaded, lit_at};
-use xf_report::Refusal;
 use xf_tree::Forest;
 use xf_undo::Draft;
 

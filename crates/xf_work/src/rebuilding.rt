@@ -15,10 +15,10 @@ use xf_ast::Instance;
 use xf_base::Items;
 use xf_binds::Table;
 use xf_doc::NodeId;
-use xf_form_machine::LimitWord;
+use xf_form_machine::{LimitWord, PathList, Refusal};
 use xf_loader::Loaded;
 use xf_recalc::{RebuildFault, rebuild as rebuild_table};
-use xf_report::{PathList, Refusal, path_in};
+use xf_report::path_in;
 use xf_tree::Forest;
 
 /// Applies the binds of a model, and keeps what they set.
@@ -57,11 +57,11 @@ fn told(alloc: Global, instances: &[Instance], forest: &Forest, fault: RebuildFa
 {
     match fault {
         RebuildFault::Twice(node) => match path_in(alloc, instances, forest, node) {
-            Ok(path) => WorkFault::Refused(Refusal::Twice(path)),
+            Ok(path) => WorkFault::Refused(Refusal::PropertyTwice(path)),
             Err(_) => WorkFault::Memory,
         },
         RebuildFault::OnParent(node) => match path_in(alloc, instances, forest, node) {
-            Ok(path) => WorkFault::Refused(Refusal::OnParent(path)),
+            Ok(path) => WorkFault::Refused(Refusal::CalculateOnParent(path)),
             Err(_) => WorkFault::Memory,
         },
         RebuildFault::Edges => WorkFault::Refused(Refusal::Limit(LimitWord::Edges)),

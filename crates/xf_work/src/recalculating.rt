@@ -16,9 +16,8 @@ use crate::fault::WorkFault;
 use crate::growing::NUMBERS;
 use std::alloc::Global;
 use xf_binds::{Table, TruthList};
-use xf_form_machine::LimitWord;
+use xf_form_machine::{LimitWord, Refusal};
 use xf_loader::Loaded;
-use xf_report::Refusal;
 use xf_settle::{SettleFault, settle};
 use xf_undo::Draft;
 

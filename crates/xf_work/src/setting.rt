@@ -16,7 +16,8 @@ use xf_ast::Instance;
 use xf_binds::Table;
 use xf_doc::{Kind, NodeId};
 use xf_name::Axis;
-use xf_report::{Refusal, instance_holding, path_in};
+use xf_form_machine::Refusal;
+use xf_report::{instance_holding, path_in};
 use xf_tree::Forest;
 use xf_undo::Draft;
 

@@ -16,9 +16,8 @@ use std::alloc::Global;
 use xf_binds::Table;
 use xf_controls::{ControlCopy, ControlList, KnownList, controls};
 use xf_eval::EvalFault;
-use xf_form_machine::LimitWord;
+use xf_form_machine::{LimitWord, Refusal};
 use xf_loader::Loaded;
-use xf_report::Refusal;
 use xf_tree::Forest;
 
 /// The copies of controls and items that a form may have.
