@@ -253,7 +253,7 @@ fn act_by_default<W: World, S: Store>(
     is_idle: bool,
     store: &mut S,
 ) -> Result<(), W::Fault>
-    ensures done { RunsOver W.Fault.means (W.state world.new) result (λ answers. default W.profile (dispatches W.profile answers depth is_idle) (fired_of fired.now) (W.state world.old)) }
+    ensures done { RunsOver W.Fault.means (W.state world.new) result (λ answers. default W.profile answers (dispatches W.profile answers depth is_idle) (fired_of fired.now) (W.state world.old)) }
     ensures store { Called (S.calls store.old, S.to_come store.old) (S.calls store.new, S.to_come store.new) (W.state world.old).calls (W.state world.new).calls }
     ensures form { (W.state world.new).form ≡ (W.state world.old).form }
 {
