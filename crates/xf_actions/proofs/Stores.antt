@@ -1,5 +1,5 @@
 -- Changes that follow one another, by the calls of the store that are made in them, and the answers that cover those.
-use Rattle.std.proofs.Common.{◌≡◌, List, refl, sym, subst, ◌∙◌}
+use Rattle.std.proofs.Common.{◌≡◌, List, ◌++◌, sym, subst}
 use Rattle.xf_store.specs.declared.answers.Answer.{Answer}
 use Rattle.xf_store.specs.declared.call.StoreCall.{StoreCall}
 use Rattle.xf_store.specs.Replay.{Covers}
@@ -9,8 +9,8 @@ use Rattle.xf_store.proofs.CalledLaws.{covers-front, called-none, called-on}
 -- ---- answers
 
 -- what covers the calls after a change covers those before it
-pub covers-before : {a b : Told} {old new : List StoreCall} → Called a b old new → (answers : List Answer) → Covers answers new → Covers answers old
-covers-before {old} h answers k = covers-front answers old h.made (subst (λ calls. Covers answers calls) h.grown k)
+pub covers-before : {new : List StoreCall} (old made : List StoreCall) → new ≡ old ++ made → (answers : List Answer) → Covers answers new → Covers answers old
+covers-before old made h answers k = covers-front answers old made (subst (λ calls. Covers answers calls) h k)
 
 -- so where no call was made
 pub covers-same : (answers : List Answer) (old new : List StoreCall) → new ≡ old → Covers answers new → Covers answers old

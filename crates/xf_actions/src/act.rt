@@ -43,7 +43,14 @@ pub fn dispatch<W: World, S: Store>(
         return Err(W::Fault::depth());
     }
     let called = world.calls(fired)?;
-    handle_all(world, fired, called.handlers.as_slice(), depth - 1, is_idle, store)?;
+    handle_all(
+        world,
+        fired,
+        called.handlers.as_slice(),
+        depth - 1,
+        is_idle,
+        store,
+    )?;
     if called.with_default {
         conclude(world, fired, depth - 1, is_idle, store)
     } else {

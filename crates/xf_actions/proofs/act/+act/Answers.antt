@@ -53,7 +53,7 @@ pub dispatch-returns-then-called-clause-done : goal.dispatch-returns-then-called
 dispatch-returns-then-called-clause-done g t c answers h =
     same-runs _ _ _ _ _
     (dispatch-after _ answers _ _ _ _ _ _ c.in_ok-called.called (omega arith) c.in_ok-spend.ensures.done c.in_ok-called.ensures
-    (rw c.as_slice.ensures at (c.in_ok-handle_all.ensures.done answers (covers-before c.conclude.ensures.store answers h)))
+    (rw c.as_slice.ensures at (c.in_ok-handle_all.ensures.done answers (covers-before _ _ c.conclude.ensures.store.grown answers h)))
     ∙ when-true _ _ _ c.if-called.true)
     (c.conclude.ensures.done answers h)
 
@@ -80,7 +80,7 @@ handle_all-loop-handler-init g t c =
 pub handle_all-returns-in_err-handle-clause-done : goal.handle_all-returns-in_err-handle-clause-done
 handle_all-returns-in_err-handle-clause-done g t c answers h =
     stopped _ _ _ _ _ c.from_residual.ensures.1
-    (same-refuses _ _ _ _ (c.loop-handler.invariant.rest answers (covers-before c.in_err-handle.ensures.store answers h))
+    (same-refuses _ _ _ _ (c.loop-handler.invariant.rest answers (covers-before _ _ c.in_err-handle.ensures.store.grown answers h))
     (in_turn-stop {X = ℕ} (handle g.W.World.profile (dispatch g.W.World.profile answers c.args.depth) c.args.is_idle (fired_of c.args.fired.now)) c.args.handlers.now c.loop-handler.handler-index 0 _ _ _ (omega arith) (c.in_err-handle.ensures.done answers h)))
 
 pub handle_all-returns-in_err-handle-clause-store : goal.handle_all-returns-in_err-handle-clause-store
@@ -91,7 +91,7 @@ pub handle_all-loop-handler-preserved : goal.handle_all-loop-handler-preserved
 handle_all-loop-handler-preserved g t c =
     record {
       rest = λ answers h.
-          c.loop-handler.invariant.rest answers (covers-before c.in_ok-handle.ensures.store answers h)
+          c.loop-handler.invariant.rest answers (covers-before _ _ c.in_ok-handle.ensures.store.grown answers h)
           ∙ in_turn-step {X = ℕ} (handle g.W.World.profile (dispatch g.W.World.profile answers c.args.depth) c.args.is_idle (fired_of c.args.fired.now)) c.args.handlers.now c.loop-handler.handler-index 0 _ _ (omega arith) (c.in_ok-handle.ensures.done answers h);
       store = called-both c.loop-handler.invariant.store c.in_ok-handle.ensures.store;
       form = c.in_ok-handle.ensures.form ∙ c.loop-handler.invariant.form;
@@ -112,15 +112,15 @@ handle-returns-in_err-act-clause-store g t c =
 pub handle-returns-then-is_idle-clause-done : goal.handle-returns-then-is_idle-clause-done
 handle-returns-then-is_idle-clause-done g t c answers h =
     same-runs _ _ _ _ _
-    (handle-acted g.W.World.profile (dispatch g.W.World.profile answers c.args.depth) c.args.is_idle (fired_of c.args.fired.now) c.args.handler (g.W.World.state c.args.world.now) (g.W.World.state c.act.new.world) c.form.result.now c.len-left.result c.form.ensures c.len-left.ensures (c.in_ok-act.ensures.done answers (covers-before c.update.ensures.store answers h)) ∙ when-true _ _ _ c.if-is_idle.true)
+    (handle-acted g.W.World.profile (dispatch g.W.World.profile answers c.args.depth) c.args.is_idle (fired_of c.args.fired.now) c.args.handler (g.W.World.state c.args.world.now) (g.W.World.state c.act.new.world) c.form.result.now c.len-left.result c.form.ensures c.len-left.ensures (c.in_ok-act.ensures.done answers (covers-before _ _ c.update.ensures.store.grown answers h)) ∙ when-true _ _ _ c.if-is_idle.true)
     (c.update.ensures.done answers h)
 
 pub handle-returns-then-is_idle-clause-store : goal.handle-returns-then-is_idle-clause-store
 handle-returns-then-is_idle-clause-store g t c =
     called-both c.in_ok-act.ensures.store c.update.ensures.store
 
-pub handle-returns-clause-done : goal.handle-returns-clause-done
-handle-returns-clause-done g t c answers h =
+pub handle-returns-else-is_idle-clause-done : goal.handle-returns-else-is_idle-clause-done
+handle-returns-else-is_idle-clause-done g t c answers h =
     handle-acted g.W.World.profile (dispatch g.W.World.profile answers c.args.depth) c.args.is_idle (fired_of c.args.fired.now) c.args.handler (g.W.World.state c.args.world.now) (g.W.World.state c.act.new.world) c.form.result.now c.len-left.result c.form.ensures c.len-left.ensures (c.in_ok-act.ensures.done answers h)
     ∙ when-false _ _ _ c.if-is_idle.false
 
@@ -137,15 +137,15 @@ conclude-returns-in_err-act_by_default-clause-store g t c =
 pub conclude-returns-then-is_idle-clause-done : goal.conclude-returns-then-is_idle-clause-done
 conclude-returns-then-is_idle-clause-done g t c answers h =
     same-runs _ _ _ _ _
-    (after-done g.W.World.profile answers (dispatch g.W.World.profile answers c.args.depth) c.args.is_idle (fired_of c.args.fired.now) (g.W.World.state c.args.world.now) (g.W.World.state c.act_by_default.new.world) (c.in_ok-act_by_default.ensures.done answers (covers-before c.update.ensures.store answers h)) ∙ when-true _ _ _ c.if-is_idle.true)
+    (after-done g.W.World.profile answers (dispatch g.W.World.profile answers c.args.depth) c.args.is_idle (fired_of c.args.fired.now) (g.W.World.state c.args.world.now) (g.W.World.state c.act_by_default.new.world) (c.in_ok-act_by_default.ensures.done answers (covers-before _ _ c.update.ensures.store.grown answers h)) ∙ when-true _ _ _ c.if-is_idle.true)
     (c.update.ensures.done answers h)
 
 pub conclude-returns-then-is_idle-clause-store : goal.conclude-returns-then-is_idle-clause-store
 conclude-returns-then-is_idle-clause-store g t c =
     called-both c.in_ok-act_by_default.ensures.store c.update.ensures.store
 
-pub conclude-returns-clause-done : goal.conclude-returns-clause-done
-conclude-returns-clause-done g t c answers h =
+pub conclude-returns-else-is_idle-clause-done : goal.conclude-returns-else-is_idle-clause-done
+conclude-returns-else-is_idle-clause-done g t c answers h =
     after-done g.W.World.profile answers (dispatch g.W.World.profile answers c.args.depth) c.args.is_idle (fired_of c.args.fired.now) (g.W.World.state c.args.world.now) (g.W.World.state c.act_by_default.new.world) (c.in_ok-act_by_default.ensures.done answers h)
     ∙ when-false _ _ _ c.if-is_idle.false
 
@@ -161,7 +161,7 @@ pub act_by_default-returns-in_err-tell_all-clause-done : goal.act_by_default-ret
 act_by_default-returns-in_err-tell_all-clause-done g t c answers h =
     stopped _ _ _ _ _ c.from_residual-in_err-tell_all.ensures.1
     (default-told_stops g.W.World.profile answers (dispatch g.W.World.profile answers c.args.depth c.args.is_idle) (fired_of c.args.fired.now) (g.W.World.state c.args.world.now) (concluded_of (g.W.World.state c.args.world.now).form (g.W.World.state c.default_action.new.world) c.in_ok-told.told) _ _
-    (c.in_ok-told.ensures.done answers (covers-before c.in_err-tell_all.ensures.store answers h)) (rw c.as_slice.ensures at (c.in_err-tell_all.ensures.done answers h)))
+    (c.in_ok-told.ensures.done answers (covers-before _ _ c.in_err-tell_all.ensures.store.grown answers h)) (rw c.as_slice.ensures at (c.in_err-tell_all.ensures.done answers h)))
 
 pub act_by_default-returns-in_err-tell_all-clause-store : goal.act_by_default-returns-in_err-tell_all-clause-store
 act_by_default-returns-in_err-tell_all-clause-store g t c =
@@ -169,10 +169,10 @@ act_by_default-returns-in_err-tell_all-clause-store g t c =
 
 pub act_by_default-returns-clause-done : goal.act_by_default-returns-clause-done
 act_by_default-returns-clause-done g t c answers h =
-    let k = covers-before c.tell_end.ensures.store answers h in
+    let k = covers-before _ _ c.tell_end.ensures.store.grown answers h in
     same-runs _ _ _ _ _
     (default-end g.W.World.profile answers (dispatch g.W.World.profile answers c.args.depth c.args.is_idle) (fired_of c.args.fired.now) (g.W.World.state c.args.world.now) (g.W.World.state c.default_action.new.world) (g.W.World.state c.tell_all.new.world) (g.W.World.state c.args.world.now).form c.in_ok-told.told
-    (c.in_ok-told.ensures.done answers (covers-before c.in_ok-tell_all.ensures.store answers k)) (rw c.as_slice.ensures at (c.in_ok-tell_all.ensures.done answers k))
+    (c.in_ok-told.ensures.done answers (covers-before _ _ c.in_ok-tell_all.ensures.store.grown answers k)) (rw c.as_slice.ensures at (c.in_ok-tell_all.ensures.done answers k))
     (c.in_ok-tell_all.ensures.form ∙ c.in_ok-told.ensures.form))
     (c.tell_end.ensures.done answers h)
 
@@ -188,14 +188,12 @@ tell_end-returns-in_err-end_event-in-Some-clause-done g t c answers h =
 
 pub act-returns-in_err-acting-clause-done : goal.act-returns-in_err-acting-clause-done
 act-returns-in_err-acting-clause-done g t c answers h =
-    let there : is_some (act_at (g.W.World.state c.args.world.now) c.args.element) ≡ true = search rules in
-    stopped _ _ _ _ _ c.from_residual.ensures.1 (act-stops c.args.left g.W.World.profile (dispatch g.W.World.profile answers c.args.depth false) (fired_of c.args.fired.now) c.args.element (g.W.World.state c.args.world.now) _ _ (omega arith) there c.in_err-acting.ensures)
+    stopped _ _ _ _ _ c.from_residual.ensures.1 (act-stops c.args.left g.W.World.profile (dispatch g.W.World.profile answers c.args.depth false) (fired_of c.args.fired.now) c.args.element (g.W.World.state c.args.world.now) _ _ (omega arith) (search rules) c.in_err-acting.ensures)
 
 pub act-returns-in-Some-clause-done : goal.act-returns-in-Some-clause-done
 act-returns-in-Some-clause-done g t c answers h =
-    let there : is_some (act_at (g.W.World.state c.args.world.now) c.args.element) ≡ true = search rules in
     same-runs _ _ _ _ _
-    (act-acts-by c.args.left g.W.World.profile (dispatch g.W.World.profile answers c.args.depth false) (fired_of c.args.fired.now) c.args.element (acting_of c.args.fired.now) c.in_ok-acting.field-0 c.in-Some.acting (g.W.World.state c.args.world.now) (omega arith) there c.in_ok-acting.ensures c.in-Some.is)
+    (act-acts-by c.args.left g.W.World.profile (dispatch g.W.World.profile answers c.args.depth false) (fired_of c.args.fired.now) c.args.element (acting_of c.args.fired.now) c.in_ok-acting.field-0 c.in-Some.acting (g.W.World.state c.args.world.now) (omega arith) (search rules) c.in_ok-acting.ensures c.in-Some.is)
     (c.repeat.ensures.done answers h)
 
 pub act_all-loop-part-init : goal.act_all-loop-part-init
@@ -205,7 +203,7 @@ act_all-loop-part-init g t c =
 pub act_all-returns-in_err-act-clause-done : goal.act_all-returns-in_err-act-clause-done
 act_all-returns-in_err-act-clause-done g t c answers h =
     stopped _ _ _ _ _ c.from_residual.ensures.1
-    (same-refuses _ _ _ _ (c.loop-part.invariant.rest answers (covers-before c.in_err-act.ensures.store answers h))
+    (same-refuses _ _ _ _ (c.loop-part.invariant.rest answers (covers-before _ _ c.in_err-act.ensures.store.grown answers h))
     (in_turn-stop {X = ℕ} (act_within c.args.left g.W.World.profile (dispatch g.W.World.profile answers c.args.depth false) (fired_of c.args.fired.now)) c.args.parts.now c.loop-part.part-index 0 _ _ _ (omega arith) (c.in_err-act.ensures.done answers h)))
 
 pub act_all-returns-in_err-act-clause-store : goal.act_all-returns-in_err-act-clause-store
@@ -216,7 +214,7 @@ pub act_all-loop-part-preserved : goal.act_all-loop-part-preserved
 act_all-loop-part-preserved g t c =
     record {
       rest = λ answers h.
-          c.loop-part.invariant.rest answers (covers-before c.in_ok-act.ensures.store answers h)
+          c.loop-part.invariant.rest answers (covers-before _ _ c.in_ok-act.ensures.store.grown answers h)
           ∙ in_turn-step {X = ℕ} (act_within c.args.left g.W.World.profile (dispatch g.W.World.profile answers c.args.depth false) (fired_of c.args.fired.now)) c.args.parts.now c.loop-part.part-index 0 _ _ (omega arith) (c.in_ok-act.ensures.done answers h);
       store = called-both c.loop-part.invariant.store c.in_ok-act.ensures.store;
       form = c.in_ok-act.ensures.form ∙ c.loop-part.invariant.form;
@@ -237,6 +235,10 @@ once-returns-then-not-branch-clause-done g t c answers h =
 pub once-returns-in_err-parts-clause-done : goal.once-returns-in_err-parts-clause-done
 once-returns-in_err-parts-clause-done g t c answers h =
     stopped _ _ _ _ _ c.from_residual-in_err-parts.ensures.1 (refuses-any _ _ _ _ c.in_err-parts.ensures)
+
+pub once-returns-in_err-parts-clause-store : goal.once-returns-in_err-parts-clause-store
+once-returns-in_err-parts-clause-store g t c =
+    called-none _ _
 
 pub once-returns-then-is_block-clause-done : goal.once-returns-then-is_block-clause-done
 once-returns-then-is_block-clause-done g t c answers h =
@@ -272,7 +274,7 @@ tell_all-loop-fired-init g t c =
 pub tell_all-returns-in_err-dispatch-clause-done : goal.tell_all-returns-in_err-dispatch-clause-done
 tell_all-returns-in_err-dispatch-clause-done g t c answers h =
     stopped _ _ _ _ _ c.from_residual.ensures.1
-    (same-refuses _ _ _ _ (c.loop-fired.invariant.rest answers (covers-before c.in_err-dispatch.ensures.store answers h))
+    (same-refuses _ _ _ _ (c.loop-fired.invariant.rest answers (covers-before _ _ c.in_err-dispatch.ensures.store.grown answers h))
     (told-stop (dispatch g.W.World.profile answers c.args.depth c.args.is_idle) fired_of c.args.events.now c.loop-fired.fired-index c.fired-item.result (g.W.World.state c.loop-fired.world) _ _ (omega arith) c.fired-item.is (c.in_err-dispatch.ensures.done answers h)))
 
 pub tell_all-returns-in_err-dispatch-clause-store : goal.tell_all-returns-in_err-dispatch-clause-store
@@ -283,7 +285,7 @@ pub tell_all-loop-fired-preserved : goal.tell_all-loop-fired-preserved
 tell_all-loop-fired-preserved g t c =
     record {
       rest = λ answers h.
-          c.loop-fired.invariant.rest answers (covers-before c.in_ok-dispatch.ensures.store answers h)
+          c.loop-fired.invariant.rest answers (covers-before _ _ c.in_ok-dispatch.ensures.store.grown answers h)
           ∙ told-step (dispatch g.W.World.profile answers c.args.depth c.args.is_idle) fired_of c.args.events.now c.loop-fired.fired-index c.fired-item.result (g.W.World.state c.loop-fired.world) _ (omega arith) c.fired-item.is (c.in_ok-dispatch.ensures.done answers h);
       store = called-both c.loop-fired.invariant.store c.in_ok-dispatch.ensures.store;
       form = c.in_ok-dispatch.ensures.form ∙ c.loop-fired.invariant.form;
@@ -316,7 +318,7 @@ update-returns-in_err-events-clause-store g t c =
 pub update-returns-in_err-tell_all-clause-done : goal.update-returns-in_err-tell_all-clause-done
 update-returns-in_err-tell_all-clause-done g t c answers h =
     stopped _ _ _ _ _ c.from_residual-in_err-tell_all.ensures.1
-    (same-refuses _ _ _ _ (c.loop-round.invariant.rest answers (covers-same answers _ _ c.in_ok-events.ensures.calls (covers-before c.in_err-tell_all.ensures.store answers h)))
+    (same-refuses _ _ _ _ (c.loop-round.invariant.rest answers (covers-same answers _ _ c.in_ok-events.ensures.calls (covers-before _ _ c.in_err-tell_all.ensures.store.grown answers h)))
     (rounds-told_stop _ g.W.World.profile (dispatch g.W.World.profile answers c.args.depth false) (g.W.World.state c.loop-round.world) (g.W.World.state c.begin_round.new.world) _ _ _ (omega arith) (search rules) c.in_ok-events.ensures.done (rw c.as_slice.ensures at (c.in_err-tell_all.ensures.done answers h))))
 
 pub update-returns-in_err-tell_all-clause-store : goal.update-returns-in_err-tell_all-clause-store
@@ -331,7 +333,7 @@ pub update-loop-round-preserved : goal.update-loop-round-preserved
 update-loop-round-preserved g t c =
     record {
       rest = λ answers h.
-          c.loop-round.invariant.rest answers (covers-same answers _ _ c.in_ok-events.ensures.calls (covers-before c.in_ok-tell_all.ensures.store answers h))
+          c.loop-round.invariant.rest answers (covers-same answers _ _ c.in_ok-events.ensures.calls (covers-before _ _ c.in_ok-tell_all.ensures.store.grown answers h))
           ∙ rounds-on _ _ g.W.World.profile (dispatch g.W.World.profile answers c.args.depth false) (g.W.World.state c.loop-round.world) (g.W.World.state c.begin_round.new.world) (g.W.World.state c.tell_all.new.world) _ (omega arith) (omega arith) (search rules) c.in_ok-events.ensures.done
           (rw c.as_slice.ensures at (c.in_ok-tell_all.ensures.done answers h));
       store = called-both (called-ahead _ c.loop-round.invariant.store c.in_ok-events.ensures.calls) c.in_ok-tell_all.ensures.store;
@@ -381,7 +383,7 @@ repeat-returns-then-not-branch-clause-store g t c =
 pub repeat-returns-in_err-once-clause-done : goal.repeat-returns-in_err-once-clause-done
 repeat-returns-in_err-once-clause-done g t c answers h =
     stopped _ _ _ _ _ c.from_residual-in_err-once.ensures.1
-    (same-refuses _ _ _ _ (c.loop-test.invariant.rest answers (covers-same answers _ _ c.in_ok-spend.ensures.calls (covers-before c.in_err-once.ensures.store answers h)))
+    (same-refuses _ _ _ _ (c.loop-test.invariant.rest answers (covers-same answers _ _ c.in_ok-spend.ensures.calls (covers-before _ _ c.in_err-once.ensures.store.grown answers h)))
     (tests-work_stops _ g.W.World.profile (dispatch g.W.World.profile answers c.args.depth false) (act_within c.args.left g.W.World.profile (dispatch g.W.World.profile answers c.args.depth false) (fired_of c.args.fired.now)) (acting_of c.args.fired.now c.args.acting.now) (g.W.World.state c.args.world.now) c.args.acting.now.element (g.W.World.state c.loop-test.world) (g.W.World.state c.spend.new.self) c.in_ok-holds_repetition.field-0 _ _ (omega arith) c.loop-test.invariant.written (c.in_ok-spend.ensures.form ∙ c.loop-test.invariant.form) c.in_ok-spend.ensures.done c.in_ok-holds_repetition.ensures (search rules)
     (c.in_err-once.ensures.done answers h)))
 
@@ -393,7 +395,7 @@ pub repeat-loop-test-preserved : goal.repeat-loop-test-preserved
 repeat-loop-test-preserved g t c =
     record {
       rest = λ answers h.
-          c.loop-test.invariant.rest answers (covers-same answers _ _ c.in_ok-spend.ensures.calls (covers-before c.in_ok-once.ensures.store answers h))
+          c.loop-test.invariant.rest answers (covers-same answers _ _ c.in_ok-spend.ensures.calls (covers-before _ _ c.in_ok-once.ensures.store.grown answers h))
           ∙ tests-next _ _ g.W.World.profile (dispatch g.W.World.profile answers c.args.depth false) (act_within c.args.left g.W.World.profile (dispatch g.W.World.profile answers c.args.depth false) (fired_of c.args.fired.now)) (acting_of c.args.fired.now c.args.acting.now) (g.W.World.state c.args.world.now) c.args.acting.now.element (g.W.World.state c.loop-test.world) (g.W.World.state c.spend.new.self) (g.W.World.state c.once-in-loop-test.new.world) c.in_ok-holds_repetition.field-0 (omega arith) (omega arith) c.loop-test.invariant.written
           (c.in_ok-spend.ensures.form ∙ c.loop-test.invariant.form) c.in_ok-spend.ensures.done c.in_ok-holds_repetition.ensures (search rules)
           (c.in_ok-once.ensures.done answers h);
