@@ -1,6 +1,7 @@
 -- Default actions, by what they are.
 use Rattle.std.proofs.Common.{ℕ, ◌≡◌, List, map, get_or, unwrap_or, option_map, Bool, true, false, Option, Some, None, bytes_eq, codes, slice_get, Result, Ok, Err, refl, ap, sym, ◌∙◌, if◌then◌else◌}
 use Rattle.std.proofs.lemmas.Option.{unwrap_or-slice_get, slice_get-map}
+use Rattle.xf_store.specs.declared.answers.Answer.{Answer}
 use Rattle.xf_store.specs.declared.call.StoreCall.{StoreCall}
 use Rattle.xf_ast.specs.declared.element.Element.{Element}
 use Rattle.xf_ast.specs.declared.form.Form.{Form}
@@ -18,32 +19,32 @@ use Rattle.xf_actions.specs.Performs.{Refuses, RefusedAs}
 use Rattle.xf_actions.specs.Seen.{IsProgram}
 use Rattle.xf_actions.specs.Defaulted.{Defaulted, telling, of_model, of_role, defaulted, model_default, default_of, done_by_default}
 
-choice : (p : Profile) (b : Bool) (s : State) (v w : Result Defaulted Refused) (x y : DefaultAction)
-    → v ≡ done_by_default p x s → w ≡ done_by_default p y s → (if b then v else w) ≡ done_by_default p (if b then x else y) s
-choice p true s v w x y first second = first
-choice p false s v w x y first second = second
+choice : (p : Profile) (answers : List Answer) (b : Bool) (s : State) (v w : Result Defaulted Refused) (x y : DefaultAction)
+    → v ≡ done_by_default p answers x s → w ≡ done_by_default p answers y s → (if b then v else w) ≡ done_by_default p answers (if b then x else y) s
+choice p answers true s v w x y first second = first
+choice p answers false s v w x y first second = second
 
-of_model-done : (p : Profile) (k : ℕ) (name : List ℕ) (s : State) → of_model p k name s ≡ done_by_default p (model_default k name) s
-of_model-done p k name s =
-    choice p (bytes_eq name (codes "xforms-rebuild")) s _ _ (Quiet (Rebuild k)) _ refl
-    (choice p (bytes_eq name (codes "xforms-recalculate")) s _ _ (Quiet (Recalculate k)) _ refl
-    (choice p (bytes_eq name (codes "xforms-revalidate")) s _ _ (Quiet (Revalidate k)) _ refl
-    (choice p (bytes_eq name (codes "xforms-refresh")) s _ _ (Refresh k) _ refl
-    (choice p (bytes_eq name (codes "xforms-reset")) s _ _ (Quiet (Reset k)) (Quiet Nothing) refl refl))))
+of_model-done : (p : Profile) (answers : List Answer) (k : ℕ) (name : List ℕ) (s : State) → of_model p k name s ≡ done_by_default p answers (model_default k name) s
+of_model-done p answers k name s =
+    choice p answers (bytes_eq name (codes "xforms-rebuild")) s _ _ (Quiet (Rebuild k)) _ refl
+    (choice p answers (bytes_eq name (codes "xforms-recalculate")) s _ _ (Quiet (Recalculate k)) _ refl
+    (choice p answers (bytes_eq name (codes "xforms-revalidate")) s _ _ (Quiet (Revalidate k)) _ refl
+    (choice p answers (bytes_eq name (codes "xforms-refresh")) s _ _ (Refresh k) _ refl
+    (choice p answers (bytes_eq name (codes "xforms-reset")) s _ _ (Quiet (Reset k)) (Quiet Nothing) refl refl))))
 
-of_role-done : (p : Profile) (name : List ℕ) (r : Role) (s : State) → of_role p name r s ≡ done_by_default p (default_of name r) s
-of_role-done p name (role.model k) s = of_model-done p k name s
-of_role-done p name (role.submission k) s = choice p (bytes_eq name (codes "xforms-submit")) s _ _ (Submit k) (Quiet Nothing) refl refl
-of_role-done p name (role.submit target) s = choice p (bytes_eq name (codes "DOMActivate")) s _ _ (Send target) (Quiet Nothing) refl refl
-of_role-done p name (role.action a) s = refl
-of_role-done p name role.entry s = refl
-of_role-done p name role.trigger s = refl
-of_role-done p name role.other s = refl
+of_role-done : (p : Profile) (answers : List Answer) (name : List ℕ) (r : Role) (s : State) → of_role p answers name r s ≡ done_by_default p answers (default_of name r) s
+of_role-done p answers name (role.model k) s = of_model-done p answers k name s
+of_role-done p answers name (role.submission k) s = choice p answers (bytes_eq name (codes "xforms-submit")) s _ _ (Submit k) (Quiet Nothing) refl refl
+of_role-done p answers name (role.submit target) s = choice p answers (bytes_eq name (codes "DOMActivate")) s _ _ (Send target) (Quiet Nothing) refl refl
+of_role-done p answers name (role.action a) s = refl
+of_role-done p answers name role.entry s = refl
+of_role-done p answers name role.trigger s = refl
+of_role-done p answers name role.other s = refl
 
-pub defaulted-done : (p : Profile) (e : Fired) (s : State) (action : DefaultAction)
-    → action ≡ default_of e.event.name (role_at s.form e.event.target) → defaulted p e s ≡ done_by_default p action s
-defaulted-done p e s action h =
-    of_role-done p e.event.name (role_at s.form e.event.target) s ∙ ap (λ (d : DefaultAction). done_by_default p d s) (sym h)
+pub defaulted-done : (p : Profile) (answers : List Answer) (e : Fired) (s : State) (action : DefaultAction)
+    → action ≡ default_of e.event.name (role_at s.form e.event.target) → defaulted p answers e s ≡ done_by_default p answers action s
+defaulted-done p answers e s action h =
+    of_role-done p answers e.event.name (role_at s.form e.event.target) s ∙ ap (λ (d : DefaultAction). done_by_default p answers d s) (sym h)
 
 refused-telling : (why : Refusal) (calls : List StoreCall) (r : Result (List Fired × State) Refused) → RefusedAs why calls r → RefusedAs why calls (telling r)
 refused-telling why calls (Err refusal) h = h

@@ -1,6 +1,7 @@
 -- Handlers with the updates after them, and default actions, step by step.
 use Rattle.std.proofs.Common.{ℕ, ◌≡◌, List, Bool, false, length, map, Option, Some, None, option_map, Ok, ap, sym, ◌∙◌}
 use Rattle.std.proofs.lemmas.List.{length-map}
+use Rattle.xf_store.specs.declared.answers.Answer.{Answer}
 use Rattle.xf_store.specs.declared.call.StoreCall.{StoreCall}
 use Rattle.xf_ast.specs.declared.form.Form.{Form}
 use Rattle.xf_form_machine.specs.Program.{Program}
@@ -47,37 +48,37 @@ handle-acted p further is_idle e n s t f left h q r =
 
 -- ---- a default action, and the update after it
 
-pub after-stops : (p : Profile) (further : Further) (is_idle : Bool) (e : Fired) (s : State) (why : Option Refusal) (calls : List StoreCall)
-    → Refuses why calls (default p (further is_idle) e s) → Refuses why calls (after_all p further is_idle e s)
-after-stops p further is_idle e s why calls r = refuses-then why calls _ (update_if p further is_idle) r
+pub after-stops : (p : Profile) (answers : List Answer) (further : Further) (is_idle : Bool) (e : Fired) (s : State) (why : Option Refusal) (calls : List StoreCall)
+    → Refuses why calls (default p answers (further is_idle) e s) → Refuses why calls (after_all p answers further is_idle e s)
+after-stops p answers further is_idle e s why calls r = refuses-then why calls _ (update_if p further is_idle) r
 
-pub after-done : (p : Profile) (further : Further) (is_idle : Bool) (e : Fired) (s t : State)
-    → default p (further is_idle) e s ≡ Ok t → after_all p further is_idle e s ≡ when is_idle (update p (further false)) t
-after-done p further is_idle e s t h = ap (λ g. g >>= update_if p further is_idle) h
+pub after-done : (p : Profile) (answers : List Answer) (further : Further) (is_idle : Bool) (e : Fired) (s t : State)
+    → default p answers (further is_idle) e s ≡ Ok t → after_all p answers further is_idle e s ≡ when is_idle (update p (further false)) t
+after-done p answers further is_idle e s t h = ap (λ g. g >>= update_if p further is_idle) h
 
-pub default-stops : (p : Profile) (tell : Tell) (e : Fired) (s : State) (why : Option Refusal) (calls : List StoreCall)
-    → Refuses why calls (defaulted.defaulted p e s) → Refuses why calls (default p tell e s)
-default-stops p tell e s why calls r =
-    same-refuses why calls _ _ (default-told p tell e s) (refuses-then why calls (defaulted.defaulted p e s) (concluded tell) r)
+pub default-stops : (p : Profile) (answers : List Answer) (tell : Tell) (e : Fired) (s : State) (why : Option Refusal) (calls : List StoreCall)
+    → Refuses why calls (defaulted.defaulted p answers e s) → Refuses why calls (default p answers tell e s)
+default-stops p answers tell e s why calls r =
+    same-refuses why calls _ _ (default-told p answers tell e s) (refuses-then why calls (defaulted.defaulted p answers e s) (concluded tell) r)
 
-pub default-tells : (p : Profile) (tell : Tell) (e : Fired) (s : State) (d : Defaulted)
-    → defaulted.defaulted p e s ≡ Ok d → default p tell e s ≡ in_turn tell d.events d.state >>= where_some d.ending (ended tell)
-default-tells p tell e s d h = default-told p tell e s ∙ ap (λ r. r >>= concluded tell) h
+pub default-tells : (p : Profile) (answers : List Answer) (tell : Tell) (e : Fired) (s : State) (d : Defaulted)
+    → defaulted.defaulted p answers e s ≡ Ok d → default p answers tell e s ≡ in_turn tell d.events d.state >>= where_some d.ending (ended tell)
+default-tells p answers tell e s d h = default-told p answers tell e s ∙ ap (λ r. r >>= concluded tell) h
 
-pub default-told_stops : (p : Profile) (tell : Tell) (e : Fired) (s : State) (d : Defaulted) (why : Option Refusal) (calls : List StoreCall)
-    → defaulted.defaulted p e s ≡ Ok d → Refuses why calls (in_turn tell d.events d.state) → Refuses why calls (default p tell e s)
-default-told_stops p tell e s d why calls h r =
-    same-refuses why calls _ _ (default-tells p tell e s d h) (refuses-then why calls (in_turn tell d.events d.state) (where_some d.ending (ended tell)) r)
+pub default-told_stops : (p : Profile) (answers : List Answer) (tell : Tell) (e : Fired) (s : State) (d : Defaulted) (why : Option Refusal) (calls : List StoreCall)
+    → defaulted.defaulted p answers e s ≡ Ok d → Refuses why calls (in_turn tell d.events d.state) → Refuses why calls (default p answers tell e s)
+default-told_stops p answers tell e s d why calls h r =
+    same-refuses why calls _ _ (default-tells p answers tell e s d h) (refuses-then why calls (in_turn tell d.events d.state) (where_some d.ending (ended tell)) r)
 
-default-ending : (p : Profile) (tell : Tell) (e : Fired) (s u : State) (d : Defaulted)
-    → defaulted.defaulted p e s ≡ Ok d → in_turn tell d.events d.state ≡ Ok u → default p tell e s ≡ where_some d.ending (ended tell) u
-default-ending p tell e s u d h q = default-tells p tell e s d h ∙ ap (λ r. r >>= where_some d.ending (ended tell)) q
+default-ending : (p : Profile) (answers : List Answer) (tell : Tell) (e : Fired) (s u : State) (d : Defaulted)
+    → defaulted.defaulted p answers e s ≡ Ok d → in_turn tell d.events d.state ≡ Ok u → default p answers tell e s ≡ where_some d.ending (ended tell) u
+default-ending p answers tell e s u d h q = default-tells p answers tell e s d h ∙ ap (λ r. r >>= where_some d.ending (ended tell)) q
 
-pub default-end : (p : Profile) (tell : Tell) (e : Fired) (s t u : State) (form : Program) (c : Concluded)
-    → defaulted.defaulted p e s ≡ Ok (concluded_of form t c) → in_turn tell (map fired_of c.events) t ≡ Ok u → u.form ≡ form
-    → default p tell e s ≡ where_some (option_map (ending_of u.form) c.ending) (ended tell) u
-default-end p tell e s t u form c h q same =
-    default-ending p tell e s u (concluded_of form t c) h q
+pub default-end : (p : Profile) (answers : List Answer) (tell : Tell) (e : Fired) (s t u : State) (form : Program) (c : Concluded)
+    → defaulted.defaulted p answers e s ≡ Ok (concluded_of form t c) → in_turn tell (map fired_of c.events) t ≡ Ok u → u.form ≡ form
+    → default p answers tell e s ≡ where_some (option_map (ending_of u.form) c.ending) (ended tell) u
+default-end p answers tell e s t u form c h q same =
+    default-ending p answers tell e s u (concluded_of form t c) h q
     ∙ ap (λ f. where_some (option_map (ending_of f) c.ending) (ended tell) u) (sym same)
 
 -- ---- the end of a submission

@@ -1,6 +1,6 @@
 -- How one change follows another, and what a refusal of the first means for both.
-use Rattle.std.proofs.Common.{ℕ, ◌≡◌, ◌+◌, ◌<◌, List, [], ◌∷◌, length, map, drop, get_or, Option, Some, None, Result, Ok, Err, refl, ap, sym, ◌∙◌, subst}
-use Rattle.std.proofs.lemmas.List.{at_drop_more, get_or-map, length-map}
+use Rattle.std.proofs.Common.{ℕ, ◌≡◌, ◌+◌, ◌<◌, ◌≤◌, List, [], ◌∷◌, length, map, drop, get_or, Option, Some, None, Result, Ok, Err, refl, ap, sym, ◌∙◌, subst}
+use Rattle.std.proofs.lemmas.List.{at_drop_more, at_drop_all, get_or-map, length-map}
 use Rattle.std.specs.Result.{IsErrAnd}
 use Rattle.xf_store.specs.declared.call.StoreCall.{StoreCall}
 use Rattle.xf_form_machine.specs.Refusal.{Refusal, Refused}
@@ -133,3 +133,11 @@ pub told-stop : {A X : Type 0} (run : X → Run) (f : A → X) (xs : List A) (i 
 told-stop run f xs i x s told calls h is r =
     in_turn-stop run (map f xs) i (f x) s told calls (rw (length-map xs f) h)
     (same-refuses told calls _ _ (ap (λ y. run y s) (get_or-map f xs i x (f x) h ∙ ap f (sym is))) r)
+
+-- nothing is left
+
+pub in_turn-end : {X : Type 0} (run : X → Run) (xs : List X) (i : ℕ) (s : State) → length xs ≤ i → in_turn run (drop i xs) s ≡ Ok s
+in_turn-end run xs i s h = at_drop_all (λ ys. in_turn run ys s) xs i h
+
+pub told-end : {A X : Type 0} (run : X → Run) (f : A → X) (xs : List A) (i : ℕ) (s : State) → length xs ≤ i → in_turn run (drop i (map f xs)) s ≡ Ok s
+told-end run f xs i s h = in_turn-end run (map f xs) i s (rw (length-map xs f) h)

@@ -1,4 +1,5 @@
 pub mod Flow
+pub mod Stores
 pub mod Telling
 pub mod Works
 pub mod Sendings

@@ -13,7 +13,7 @@ use Rattle.xf_ast.specs.declared.form.Submission.{Submission}
 use Rattle.xf_model.specs.Submitted.{Submitted, left, no_data, invalid}
 use Rattle.xf_model.specs.Submitted as model
 use Rattle.xf_doc.specs.Plant.{contents_of}
-use Rattle.xf_store.specs.Replay.{reply}
+use Rattle.xf_store.specs.Replay.{fits, answer_at}
 use Rattle.xf_form_machine.specs.declared.note.Note.TheVariants as note
 use Rattle.xf_form_machine.specs.Primitives.{set_text, add_note}
 use Rattle.xf_form_machine.specs.Properties.{relevant_in, valid_in}
@@ -120,26 +120,26 @@ answered-told p tell sub n Failed s = refl
 answered-told p tell sub n Absent s = refl
 answered-told p tell sub n TooLong s = refl
 
-exchanged-told : (p : Profile) (tell : Tell) (sub : Submission) (n : ℕ) (asked : Asked) (s : State)
-    → exchange.exchange p tell sub n asked s ≡ exchanged p sub n asked s >>= told_then tell
-exchanged-told p tell sub n asked s =
+exchanged-told : (p : Profile) (answers : List Answer) (tell : Tell) (sub : Submission) (n : ℕ) (asked : Asked) (s : State)
+    → exchange.exchange p answers tell sub n asked s ≡ exchanged p answers sub n asked s >>= told_then tell
+exchanged-told p answers tell sub n asked s =
     let asking = exchange.unless_many (nat_le p.sends (length s.calls)) s in
     then-same asking _ _
-    (λ t. answered-told p tell sub n (reply (exchange.fits asked) t.to_come) (exchange.with_call sub.resource asked (reply (exchange.fits asked) t.to_come) t))
+    (λ t. answered-told p tell sub n (answer_at (fits asked) answers (length t.calls)) (exchange.with_call sub.resource asked (answer_at (fits asked) answers (length t.calls)) t))
     ∙ sym (bind-assoc asking _ (told_then tell))
 
-selected-told : (p : Profile) (tell : Tell) (sub : Submission) (found : Submitted) (s : State)
-    → exchange.selected p tell sub s found ≡ selected p sub found s >>= told_then tell
-selected-told p tell sub no_data s = refl
-selected-told p tell sub (invalid n) s = refl
-selected-told p tell sub (left n kept) s =
-    if-told (exchange.is_store_name sub.resource) _ _ _ _ (told_then tell) (exchanged-told p tell sub n _ s) refl
+selected-told : (p : Profile) (answers : List Answer) (tell : Tell) (sub : Submission) (found : Submitted) (s : State)
+    → exchange.selected p answers tell sub s found ≡ selected p answers sub found s >>= told_then tell
+selected-told p answers tell sub no_data s = refl
+selected-told p answers tell sub (invalid n) s = refl
+selected-told p answers tell sub (left n kept) s =
+    if-told (exchange.is_store_name sub.resource) _ _ _ _ (told_then tell) (exchanged-told p answers tell sub n _ s) refl
 
-attempted-told : (p : Profile) (tell : Tell) (sub : Submission) (s : State)
-    → exchange.attempt p tell sub s ≡ attempted p sub s >>= told_then tell
-attempted-told p tell sub s =
-    let found = or_long s (model.submitted (scope p s sub.model) (relevant_in s) (valid_in s) s.forest.nodes sub) in
-    then-same found _ _ (λ f. selected-told p tell sub f s) ∙ sym (bind-assoc found _ (told_then tell))
+attempted-told : (p : Profile) (answers : List Answer) (tell : Tell) (sub : Submission) (s : State)
+    → exchange.attempt p answers tell sub s ≡ attempted p answers sub s >>= told_then tell
+attempted-told p answers tell sub s =
+    let found = or_long s (model.submitted (Some p.bounds.string) (scope p s sub.model) (relevant_in s) (valid_in s) s.forest.nodes sub) in
+    then-same found _ _ (λ f. selected-told p answers tell sub f s) ∙ sym (bind-assoc found _ (told_then tell))
 
 end-told : (tell : Tell) (k : ℕ) (sub : Submission) (end : End) (t : State)
     → exchange.told_end tell k sub (ending end t) ≡ tell (end_event k sub end t) t
@@ -151,17 +151,17 @@ sent_then-told : (tell : Tell) (k : ℕ) (sub : Submission) (w : Sent)
 sent_then-told tell k sub w =
     bind-assoc (in_turn tell w.events w.state) _ _ ∙ then-same (in_turn tell w.events w.state) _ _ (end-told tell k sub w.end)
 
-attempt_then-told : (p : Profile) (tell : Tell) (k : ℕ) (sub : Submission) (s : State)
-    → exchange.attempt p tell sub s >>= exchange.told_end tell k sub ≡ attempted p sub s >>= told_sent tell k sub
-attempt_then-told p tell k sub s =
-    ap (λ r. r >>= exchange.told_end tell k sub) (attempted-told p tell sub s)
-    ∙ bind-assoc (attempted p sub s) _ _ ∙ then-same (attempted p sub s) _ _ (sent_then-told tell k sub)
+attempt_then-told : (p : Profile) (answers : List Answer) (tell : Tell) (k : ℕ) (sub : Submission) (s : State)
+    → exchange.attempt p answers tell sub s >>= exchange.told_end tell k sub ≡ attempted p answers sub s >>= told_sent tell k sub
+attempt_then-told p answers tell k sub s =
+    ap (λ r. r >>= exchange.told_end tell k sub) (attempted-told p answers tell sub s)
+    ∙ bind-assoc (attempted p answers sub s) _ _ ∙ then-same (attempted p answers sub s) _ _ (sent_then-told tell k sub)
 
-sent-told : (p : Profile) (tell : Tell) (k : ℕ) (sub : Submission) (s : State)
-    → exchange.submit_by p tell k sub s ≡ sent p sub s >>= told_sent tell k sub
-sent-told p tell k sub s =
+sent-told : (p : Profile) (answers : List Answer) (tell : Tell) (k : ℕ) (sub : Submission) (s : State)
+    → exchange.submit_by p answers tell k sub s ≡ sent p answers sub s >>= told_sent tell k sub
+sent-told p answers tell k sub s =
     bind-assoc (due_revalidation p sub.model s) _ _
-    ∙ then-same (due_revalidation p sub.model s) _ _ (attempt_then-told p tell k sub)
+    ∙ then-same (due_revalidation p sub.model s) _ _ (attempt_then-told p answers tell k sub)
     ∙ sym (bind-assoc (due_revalidation p sub.model s) _ _)
 
 -- ---- default actions
@@ -176,10 +176,10 @@ with_end-told : (tell : Tell) (k : ℕ) (sub : Submission) (w : Result Sent Refu
 with_end-told tell k sub (Err refusal) = refl
 with_end-told tell k sub (Ok w) = refl
 
-submitted-told : (p : Profile) (tell : Tell) (k : ℕ) (o : Option Submission) (s : State)
-    → where_some o (exchange.submit_by p tell k) s ≡ submitted p k o s >>= concluded tell
-submitted-told p tell k None s = refl
-submitted-told p tell k (Some sub) s = sent-told p tell k sub s ∙ with_end-told tell k sub (sent p sub s)
+submitted-told : (p : Profile) (answers : List Answer) (tell : Tell) (k : ℕ) (o : Option Submission) (s : State)
+    → where_some o (exchange.submit_by p answers tell k) s ≡ submitted p answers k o s >>= concluded tell
+submitted-told p answers tell k None s = refl
+submitted-told p answers tell k (Some sub) s = sent-told p answers tell k sub s ∙ with_end-told tell k sub (sent p answers sub s)
 
 when-told : (tell : Tell) (b : Bool) (run : Run) (w : Result Defaulted Refused) (s : State)
     → run s ≡ w >>= concluded tell → when b run s ≡ (if b then w else nothing s) >>= concluded tell
@@ -207,18 +207,18 @@ of_model-told p tell k name s =
     (run_if-told tell (bytes_eq name (codes "xforms-refresh")) _ _ _ _ s (telling-told tell _ _ (refreshed_now-told p tell k s))
     (run_if-told tell (bytes_eq name (codes "xforms-reset")) _ _ _ _ s (quiet-told tell _) refl))))
 
-of_role-told : (p : Profile) (tell : Tell) (name : List ℕ) (r : Role) (s : State)
-    → default.of_role p tell name r s ≡ of_role p name r s >>= concluded tell
-of_role-told p tell name (role.model k) s = of_model-told p tell k name s
-of_role-told p tell name (role.submission k) s =
-    when-told tell (bytes_eq name (codes "xforms-submit")) _ _ s (submitted-told p tell k (slice_get s.form.submissions k) s)
-of_role-told p tell name (role.submit target) s =
+of_role-told : (p : Profile) (answers : List Answer) (tell : Tell) (name : List ℕ) (r : Role) (s : State)
+    → default.of_role p answers tell name r s ≡ of_role p answers name r s >>= concluded tell
+of_role-told p answers tell name (role.model k) s = of_model-told p tell k name s
+of_role-told p answers tell name (role.submission k) s =
+    when-told tell (bytes_eq name (codes "xforms-submit")) _ _ s (submitted-told p answers tell k (slice_get s.form.submissions k) s)
+of_role-told p answers tell name (role.submit target) s =
     when-told tell (bytes_eq name (codes "DOMActivate")) _ _ s
     (telling-told tell _ _ (where-told tell _ _ target s (λ k t. one-told tell _ t)))
-of_role-told p tell name (role.action a) s = refl
-of_role-told p tell name role.entry s = refl
-of_role-told p tell name role.trigger s = refl
-of_role-told p tell name role.other s = refl
+of_role-told p answers tell name (role.action a) s = refl
+of_role-told p answers tell name role.entry s = refl
+of_role-told p answers tell name role.trigger s = refl
+of_role-told p answers tell name role.other s = refl
 
-pub default-told : (p : Profile) (tell : Tell) (e : Fired) (s : State) → default.default p tell e s ≡ defaulted p e s >>= concluded tell
-default-told p tell e s = of_role-told p tell e.event.name (role_at s.form e.event.target) s
+pub default-told : (p : Profile) (answers : List Answer) (tell : Tell) (e : Fired) (s : State) → default.default p answers tell e s ≡ defaulted p answers e s >>= concluded tell
+default-told p answers tell e s = of_role-told p answers tell e.event.name (role_at s.form e.event.target) s

@@ -1,6 +1,7 @@
 -- Dispatch and actions, step by step: what each step of the machine gives, once the steps before it are done.
 use Rattle.std.proofs.Common.{ℕ, zero, suc, ◌≡◌, ◌-◌, ◌<◌, List, Bool, true, false, Option, Some, None, is_some, option_map, Result, Ok, refl, ap, sym, ◌∙◌, arith}
 use Rattle.std.proofs.lemmas.Option.{none-some}
+use Rattle.xf_store.specs.declared.answers.Answer.{Answer}
 use Rattle.xf_store.specs.declared.call.StoreCall.{StoreCall}
 use Rattle.xf_lang.specs.Setting.{Meaning, Focus}
 use Rattle.xf_ui.specs.Context.{Context, context_of}
@@ -43,44 +44,44 @@ refuses-budget X told s e = rw e (refl, refl)
 
 -- ---- dispatch
 
-pub dispatch-stops : (p : Profile) (d : ℕ) (is_idle : Bool) (e : Fired) (s : State) (told : Option Refusal) (calls : List StoreCall)
-    → Refuses told calls (spend s) → Refuses told calls (dispatch p d is_idle e s)
-dispatch-stops p zero is_idle e s told calls h = refuses-then told calls (spend s) _ h
-dispatch-stops p (suc d) is_idle e s told calls h = refuses-then told calls (spend s) _ h
+pub dispatch-stops : (p : Profile) (answers : List Answer) (d : ℕ) (is_idle : Bool) (e : Fired) (s : State) (told : Option Refusal) (calls : List StoreCall)
+    → Refuses told calls (spend s) → Refuses told calls (dispatch p answers d is_idle e s)
+dispatch-stops p answers zero is_idle e s told calls h = refuses-then told calls (spend s) _ h
+dispatch-stops p answers (suc d) is_idle e s told calls h = refuses-then told calls (spend s) _ h
 
-pub dispatch-too_deep : (p : Profile) (d : ℕ) (is_idle : Bool) (e : Fired) (s t : State)
-    → d ≡ 0 → spend s ≡ Ok t → dispatch p d is_idle e s ≡ refused depth t
-dispatch-too_deep p zero is_idle e s t h q = ap (λ r. r >>= refused depth) q
-dispatch-too_deep p (suc d) is_idle e s t h q = absurd (omega arith)
+pub dispatch-too_deep : (p : Profile) (answers : List Answer) (d : ℕ) (is_idle : Bool) (e : Fired) (s t : State)
+    → d ≡ 0 → spend s ≡ Ok t → dispatch p answers d is_idle e s ≡ refused depth t
+dispatch-too_deep p answers zero is_idle e s t h q = ap (λ r. r >>= refused depth) q
+dispatch-too_deep p answers (suc d) is_idle e s t h q = absurd (omega arith)
 
-pub dispatch-begins : (p : Profile) (d : ℕ) (is_idle : Bool) (e : Fired) (s t : State)
-    → 0 < d → spend s ≡ Ok t → dispatch p d is_idle e s ≡ handled p (dispatch p (d - 1)) is_idle e t
-dispatch-begins p zero is_idle e s t h q = absurd (omega arith)
-dispatch-begins p (suc d) is_idle e s t h q =
-    ap (λ r. r >>= handled p (dispatch p d) is_idle e) q
-    ∙ ap (λ k. handled p (dispatch p k) is_idle e t) (let k : d ≡ suc d - 1 = omega arith in k)
+pub dispatch-begins : (p : Profile) (answers : List Answer) (d : ℕ) (is_idle : Bool) (e : Fired) (s t : State)
+    → 0 < d → spend s ≡ Ok t → dispatch p answers d is_idle e s ≡ handled p answers (dispatch p answers (d - 1)) is_idle e t
+dispatch-begins p answers zero is_idle e s t h q = absurd (omega arith)
+dispatch-begins p answers (suc d) is_idle e s t h q =
+    ap (λ r. r >>= handled p answers (dispatch p answers d) is_idle e) q
+    ∙ ap (λ k. handled p answers (dispatch p answers k) is_idle e t) (let k : d ≡ suc d - 1 = omega arith in k)
 
 -- the handlers are known
-pub handled-by : (p : Profile) (further : Further) (is_idle : Bool) (e : Fired) (t : State) (called : CallList)
+pub handled-by : (p : Profile) (answers : List Answer) (further : Further) (is_idle : Bool) (e : Fired) (t : State) (called : CallList)
     → fine (calls (interface t) e.event) ≡ Ok called
-    → handled p further is_idle e t ≡ in_turn (handle p further is_idle e) called.handlers t >>= when called.with_default (after_all p further is_idle e)
-handled-by p further is_idle e t called h =
+    → handled p answers further is_idle e t ≡ in_turn (handle p further is_idle e) called.handlers t >>= when called.with_default (after_all p answers further is_idle e)
+handled-by p answers further is_idle e t called h =
     let q : calls (interface t) e.event ≡ called = cc in
-    ap (λ (c : CallList). in_turn (handle p further is_idle e) c.handlers t >>= when c.with_default (after_all p further is_idle e)) q
+    ap (λ (c : CallList). in_turn (handle p further is_idle e) c.handlers t >>= when c.with_default (after_all p answers further is_idle e)) q
 
-pub dispatch-handles : (p : Profile) (d : ℕ) (is_idle : Bool) (e : Fired) (s t : State) (called : CallList)
+pub dispatch-handles : (p : Profile) (answers : List Answer) (d : ℕ) (is_idle : Bool) (e : Fired) (s t : State) (called : CallList)
     → 0 < d → spend s ≡ Ok t → fine (calls (interface t) e.event) ≡ Ok called
-    → dispatch p d is_idle e s
-    ≡ in_turn (handle p (dispatch p (d - 1)) is_idle e) called.handlers t >>= when called.with_default (after_all p (dispatch p (d - 1)) is_idle e)
-dispatch-handles p d is_idle e s t called h q r =
-    dispatch-begins p d is_idle e s t h q ∙ handled-by p (dispatch p (d - 1)) is_idle e t called r
+    → dispatch p answers d is_idle e s
+    ≡ in_turn (handle p (dispatch p answers (d - 1)) is_idle e) called.handlers t >>= when called.with_default (after_all p answers (dispatch p answers (d - 1)) is_idle e)
+dispatch-handles p answers d is_idle e s t called h q r =
+    dispatch-begins p answers d is_idle e s t h q ∙ handled-by p answers (dispatch p answers (d - 1)) is_idle e t called r
 
-pub dispatch-after : (p : Profile) (d : ℕ) (is_idle : Bool) (e : Fired) (s t u : State) (called : CallList)
+pub dispatch-after : (p : Profile) (answers : List Answer) (d : ℕ) (is_idle : Bool) (e : Fired) (s t u : State) (called : CallList)
     → 0 < d → spend s ≡ Ok t → fine (calls (interface t) e.event) ≡ Ok called
-    → in_turn (handle p (dispatch p (d - 1)) is_idle e) called.handlers t ≡ Ok u
-    → dispatch p d is_idle e s ≡ when called.with_default (after_all p (dispatch p (d - 1)) is_idle e) u
-dispatch-after p d is_idle e s t u called h q r k =
-    dispatch-handles p d is_idle e s t called h q r ∙ ap (λ g. g >>= when called.with_default (after_all p (dispatch p (d - 1)) is_idle e)) k
+    → in_turn (handle p (dispatch p answers (d - 1)) is_idle e) called.handlers t ≡ Ok u
+    → dispatch p answers d is_idle e s ≡ when called.with_default (after_all p answers (dispatch p answers (d - 1)) is_idle e) u
+dispatch-after p answers d is_idle e s t u called h q r k =
+    dispatch-handles p answers d is_idle e s t called h q r ∙ ap (λ g. g >>= when called.with_default (after_all p answers (dispatch p answers (d - 1)) is_idle e)) k
 
 -- ---- an action begins
 

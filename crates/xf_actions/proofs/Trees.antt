@@ -7,7 +7,7 @@ use Rattle.xf_lang.specs.Setting.{Focus}
 use Rattle.xf_model.specs.Places.{Place, planned_insert}
 use Rattle.xf_model.specs.Taken.{planned_delete}
 use Rattle.xf_plain_values.specs.Conversions.{Decimal}
-use Rattle.xf_form_machine.specs.Program.{InsertBy, DeleteBy}
+use Rattle.xf_form_machine.specs.Program.{Program, InsertBy, DeleteBy}
 use Rattle.xf_form_machine.specs.Profile.{Profile}
 use Rattle.xf_form_machine.specs.State.{State}
 use Rattle.xf_form_machine.specs.Refusal.{Refusal, Refused}
@@ -34,7 +34,7 @@ delete-stops p x w s why calls r = refuses-then why calls (moved_focus p x w.con
 
 abbrev deleted_by : Profile → Acting → DeleteBy → State → List ℕ → Telling
 deleted_by p x w s set t =
-    del.at_asked p x w.at set s >>= λ at. deleted p (del.location_of p.decimals set at) (planned_delete s.forest.nodes (del.asked_with s set at)) t
+    del.at_asked p x w.at set s >>= λ at. deleted p (del.location_of s.form.decimals set at) (planned_delete s.forest.nodes (del.asked_with s set at)) t
 
 pub delete_at-stops : (p : Profile) (x : Acting) (w : DeleteBy) (c : Focus) (s : State) (why : Option Refusal) (calls : List StoreCall)
     → Refuses why calls (set_asked p x c s) → Refuses why calls (delete_at p x w c s)
@@ -44,7 +44,7 @@ pub delete_at-unread : (p : Profile) (x : Acting) (w : DeleteBy) (c : Focus) (s 
     → set_asked p x c s ≡ Ok set → Refuses why calls (del.at_asked p x w.at set s) → Refuses why calls (delete_at p x w c s)
 delete_at-unread p x w c s set why calls e r =
     same-refuses why calls _ _ (ap (λ g. g >>= λ ns. deleted_by p x w s ns s) e)
-    (refuses-then why calls (del.at_asked p x w.at set s) (λ at. deleted p (del.location_of p.decimals set at) (planned_delete s.forest.nodes (del.asked_with s set at)) s) r)
+    (refuses-then why calls (del.at_asked p x w.at set s) (λ at. deleted p (del.location_of s.form.decimals set at) (planned_delete s.forest.nodes (del.asked_with s set at)) s) r)
 
 pub deleted-none : (p : Profile) (location : Decimal) (ns : List ℕ) (s : State) → slice_get ns 0 ≡ None → deleted p location ns s ≡ fine (quietly s)
 deleted-none p location [] s h = refl
@@ -84,11 +84,15 @@ pub deleted-quiet : (p : Profile) (location : Decimal) (n : ℕ) (ns : List ℕ)
 deleted-quiet p location n ns s t u instance e r i h =
     deleted-tells p location n ns s t u instance e r i ∙ ap (λ o. delete_tells location ns o u) h
 
-pub deleted-told : (p : Profile) (location : Decimal) (n : ℕ) (ns : List ℕ) (s t u : State) (instance : Option ℕ) (place : ℕ)
-    → in_turn cut ns s ≡ Ok t → reindex p [] t ≡ Ok u → instance ≡ instance_holding s n → instance ≡ Some place
-    → deleted_from p location n ns s ≡ fine (tells (instance_event (codes "xforms-delete") (delete_told u ns location) place u) u)
-deleted-told p location n ns s t u instance place e r i h =
-    deleted-tells p location n ns s t u instance e r i ∙ ap (λ o. delete_tells location ns o u) h
+-- the form is what it was, and so are the decimals of the place that is told
+pub deleted-told : (p : Profile) (set : List ℕ) (at : Option ℤ) (n : ℕ) (ns : List ℕ) (s t u : State) (instance : Option ℕ) (place : ℕ)
+    → in_turn cut ns s ≡ Ok t → reindex p [] t ≡ Ok u → u.form ≡ s.form → instance ≡ instance_holding s n → instance ≡ Some place
+    → deleted_from p (del.location_of s.form.decimals set at) n ns s
+    ≡ fine (tells (instance_event (codes "xforms-delete") (delete_told u ns (del.location_of u.form.decimals set at)) place u) u)
+deleted-told p set at n ns s t u instance place e r same i h =
+    deleted-tells p (del.location_of s.form.decimals set at) n ns s t u instance e r i
+    ∙ ap (λ o. delete_tells (del.location_of s.form.decimals set at) ns o u) h
+    ∙ ap (λ (f : Program). fine (tells (instance_event (codes "xforms-delete") (delete_told u ns (del.location_of f.decimals set at)) place u) u)) (sym same)
 
 -- ---- an insert
 

@@ -79,7 +79,7 @@ pub delete_at-told : (p : Profile) (tell : Tell) (x : Acting) (w : DeleteBy) (c 
 delete_at-told p tell x w c s =
     then-same (machine.set_asked p x c s) _ _ (λ set.
     then-same (deletes.at_asked p x w.at set s) _ _ (λ at.
-    deleted-told p tell (deletes.location_of p.decimals set at) (planned_delete s.forest.nodes (deletes.asked_with s set at)) s)
+    deleted-told p tell (deletes.location_of s.form.decimals set at) (planned_delete s.forest.nodes (deletes.asked_with s set at)) s)
     ∙ sym (bind-assoc (deletes.at_asked p x w.at set s) _ (told tell)))
     ∙ sym (bind-assoc (machine.set_asked p x c s) _ (told tell))
 

@@ -1,6 +1,7 @@
 -- The default action of an event apart from telling its events: what it changes, the events that are told, and the end of a submission, which
 -- is told after them.
 use Rattle.std.specs.Prelude.{ℕ, List, [], Option, Some, None, option_map, bytes_eq, codes, slice_get, Result, Ok, Err, if◌then◌else◌}
+use Rattle.xf_store.specs.declared.answers.Answer.{Answer}
 use Rattle.xf_ast.specs.declared.form.Submission.{Submission}
 use Rattle.xf_form_machine.specs.Program.{Role, role_at}
 use Rattle.xf_form_machine.specs.Program as role
@@ -78,23 +79,24 @@ of_model p model name s =
     else if bytes_eq name (codes "xforms-reset") then telling (untold (reset p model s))
     else nothing s
 
--- ---- of a submission
+-- ---- of a submission, over the answers of the store in the event
 
-abbrev pub submitted : Profile → ℕ → Option Submission → Defaults
-submitted p k None s = nothing s
-submitted p k (Some sub) s = with_end k (Some sub) (sent p sub s)
+abbrev pub submitted : Profile → List Answer → ℕ → Option Submission → Defaults
+submitted p answers k None s = nothing s
+submitted p answers k (Some sub) s = with_end k (Some sub) (sent p answers sub s)
 
 -- ---- by the target
 
-abbrev pub of_role : Profile → List ℕ → Role → Defaults
-of_role p name (role.model k) s = of_model p k name s
-of_role p name (role.submission k) s = if bytes_eq name (codes "xforms-submit") then submitted p k (slice_get s.form.submissions k) s else nothing s
-of_role p name (role.submit target) s = if bytes_eq name (codes "DOMActivate") then telling (work.sent target s) else nothing s
-of_role p name role s = nothing s
+abbrev pub of_role : Profile → List Answer → List ℕ → Role → Defaults
+of_role p answers name (role.model k) s = of_model p k name s
+of_role p answers name (role.submission k) s =
+    if bytes_eq name (codes "xforms-submit") then submitted p answers k (slice_get s.form.submissions k) s else nothing s
+of_role p answers name (role.submit target) s = if bytes_eq name (codes "DOMActivate") then telling (work.sent target s) else nothing s
+of_role p answers name role s = nothing s
 
 -- that of an event
-abbrev pub defaulted : Profile → Fired → Defaults
-defaulted p e s = of_role p e.event.name (role_at s.form e.event.target) s
+abbrev pub defaulted : Profile → List Answer → Fired → Defaults
+defaulted p answers e s = of_role p answers e.event.name (role_at s.form e.event.target) s
 
 -- ---- which it is
 
@@ -120,8 +122,8 @@ done_quietly p (Recalculate k) s = recalculate_now p k s
 done_quietly p (Revalidate k) s = revalidate_now p k s
 done_quietly p (Reset k) s = reset p k s
 
-abbrev pub done_by_default : Profile → DefaultAction → Defaults
-done_by_default p (Quiet action) s = telling (untold (done_quietly p action s))
-done_by_default p (Refresh k) s = telling (refreshed_now p k s)
-done_by_default p (Submit k) s = submitted p k (slice_get s.form.submissions k) s
-done_by_default p (Send target) s = telling (work.sent target s)
+abbrev pub done_by_default : Profile → List Answer → DefaultAction → Defaults
+done_by_default p answers (Quiet action) s = telling (untold (done_quietly p action s))
+done_by_default p answers (Refresh k) s = telling (refreshed_now p k s)
+done_by_default p answers (Submit k) s = submitted p answers k (slice_get s.form.submissions k) s
+done_by_default p answers (Send target) s = telling (work.sent target s)

@@ -1,7 +1,9 @@
 -- How a call of a world stands to the function of the machine that it means. After a refusal the state is for the caller to put back, but for
 -- the calls of the store that were made.
 use Rattle.std.specs.Prelude.{◌≡◌, ◌⊎◌, List, [], ◌∷◌, Option, Some, None, Result, Ok, Err}
+use Rattle.xf_store.specs.declared.answers.Answer.{Answer}
 use Rattle.xf_store.specs.declared.call.StoreCall.{StoreCall}
+use Rattle.xf_store.specs.Replay.{Covers}
 use Rattle.xf_form_machine.specs.declared.limit.LimitWord.{LimitWord}
 use Rattle.xf_form_machine.specs.Refusal.{Refusal, Refused, limit}
 use Rattle.xf_form_machine.specs.State.{State}
@@ -47,3 +49,13 @@ Leaves means view new (Err fault) given = Refuses (means fault) new.calls given
 abbrev pub Reads : {F T X : Type 0} → (F → Option Refusal) → (T → X) → State → Result T F → Result X Refused → Type 0
 Reads means view now (Ok x) given = given ≡ Ok (view x)
 Reads means view now (Err fault) given = Refuses (means fault) now.calls given
+
+-- ---- calls that come to the store: what they mean is told for all answers that cover the calls of the store made in the event so far
+
+-- one that only changes the state
+abbrev pub RunsOver : {F T : Type 0} → (F → Option Refusal) → State → Result T F → (List Answer → Result State Refused) → Type 0
+RunsOver means new r given = (answers : List Answer) → Covers answers new.calls → Runs means new r (given answers)
+
+-- one that changes the state and gives a value, both seen by view
+abbrev pub LeavesOver : {F T X : Type 0} → (F → Option Refusal) → (T → X) → State → Result T F → (List Answer → Result X Refused) → Type 0
+LeavesOver means view new r given = (answers : List Answer) → Covers answers new.calls → Leaves means view new r (given answers)

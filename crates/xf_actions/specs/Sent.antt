@@ -8,7 +8,7 @@ use Rattle.xf_json.specs.Element.{lit_in}
 use Rattle.xf_store.specs.declared.answers.Answer.{Answer}
 use Rattle.xf_store.specs.declared.answers.Answer.TheVariants.{PutDone, Found}
 use Rattle.xf_store.specs.declared.call.Asked.{Asked}
-use Rattle.xf_store.specs.Replay.{reply}
+use Rattle.xf_store.specs.Replay.{fits, answer_at}
 use Rattle.xf_ast.specs.declared.form.Replace.{Replace}
 use Rattle.xf_ast.specs.declared.form.Replace.TheVariants as instead
 use Rattle.xf_ast.specs.declared.form.Submission.{Submission}
@@ -27,7 +27,7 @@ use Rattle.xf_form_machine.specs.Update.{reindex, due_revalidation, refresh_clea
 use Rattle.xf_form_machine.specs.Construct.{replace}
 use Rattle.xf_form_machine.specs.Events.{Fired, Tell, fired_at, submission_element}
 use Rattle.xf_form_machine.specs.Submit.{target_by, takes_tree, takes_text, has_fault}
-use Rattle.xf_form_machine.specs.Exchange.{fits, with_call, unless_many, asked_by, is_store_name, done_told, failed_told}
+use Rattle.xf_form_machine.specs.Exchange.{with_call, unless_many, asked_by, is_store_name, done_told, failed_told}
 use Rattle.xf_actions.specs.Told.{Telling, refreshed, untold, where_told}
 
 -- ---- how it ended
@@ -97,24 +97,25 @@ answered p sub n PutDone s = responded p sub n [] sub.replace s
 answered p sub n (Found bytes) s = responded p sub n bytes sub.replace s
 answered p sub n answer s = fails (codes "resource-error") s
 
--- ---- up to the response (steps 1 to 5)
+-- ---- up to the response (steps 1 to 5), over the answers of the store in the event
 
-abbrev pub exchanged : Profile → Submission → ℕ → Asked → Sends
-exchanged p sub n asked s =
+abbrev pub exchanged : Profile → List Answer → Submission → ℕ → Asked → Sends
+exchanged p answers sub n asked s =
     unless_many (nat_le p.sends (length s.calls)) s >>= λ t.
-    let answer = reply (fits asked) t.to_come in answered p sub n answer (with_call sub.resource asked answer t)
+    let answer = answer_at (fits asked) answers (length t.calls) in answered p sub n answer (with_call sub.resource asked answer t)
 
-abbrev pub selected : Profile → Submission → Submitted → Sends
-selected p sub no_data s = fails (codes "no-data") s
-selected p sub (invalid n) s = fails (codes "validation-error") s
-selected p sub (left n kept) s =
-    if is_store_name sub.resource then exchanged p sub n (asked_by sub n kept s sub.method) s else fails (codes "resource-error") s
+abbrev pub selected : Profile → List Answer → Submission → Submitted → Sends
+selected p answers sub no_data s = fails (codes "no-data") s
+selected p answers sub (invalid n) s = fails (codes "validation-error") s
+selected p answers sub (left n kept) s =
+    if is_store_name sub.resource then exchanged p answers sub n (asked_by sub n kept s sub.method) s else fails (codes "resource-error") s
 
-abbrev pub attempted : Profile → Submission → Sends
-attempted p sub s = or_long s (submitted (scope p s sub.model) (relevant_in s) (valid_in s) s.forest.nodes sub) >>= λ found. selected p sub found s
+abbrev pub attempted : Profile → List Answer → Submission → Sends
+attempted p answers sub s =
+    or_long s (submitted (Some p.bounds.string) (scope p s sub.model) (relevant_in s) (valid_in s) s.forest.nodes sub) >>= λ found. selected p answers sub found s
 
-abbrev pub sent : Profile → Submission → Sends
-sent p sub s = due_revalidation p sub.model s >>= attempted p sub
+abbrev pub sent : Profile → List Answer → Submission → Sends
+sent p answers sub s = due_revalidation p sub.model s >>= attempted p answers sub
 
 -- ---- the event that tells the end
 

@@ -68,7 +68,7 @@ deleted p location (n ∷ ns) s = deleted_from p location n (n ∷ ns) s
 abbrev pub delete_at : Profile → Acting → DeleteBy → Focus → Telling
 delete_at p x w c s =
     set_asked p x c s >>= λ set. del.at_asked p x w.at set s >>= λ at.
-    deleted p (del.location_of p.decimals set at) (planned_delete s.forest.nodes (del.asked_with s set at)) s
+    deleted p (del.location_of s.form.decimals set at) (planned_delete s.forest.nodes (del.asked_with s set at)) s
 
 abbrev pub delete : Profile → Acting → DeleteBy → Telling
 delete p x w s = moved_focus p x w.context s >>= λ c. where_told c (delete_at p x w) s

@@ -28,6 +28,7 @@ pub fn set_index<W: World>(
 ) -> Result<(), W::Fault>
     ensures done { Runs W.Fault.means (W.state world.new) result (index_chosen W.profile (acting_of fired.now acting.now) repeat (index_in (act_at (W.state world.old) acting.now.element)) (W.state world.old)) }
     ensures form { (W.state world.new).form ≡ (W.state world.old).form }
+    ensures calls { (W.state world.new).calls ≡ (W.state world.old).calls }
 {
     let element = world.repeat_element(repeat);
     match world.named_copy(element)? {
@@ -67,6 +68,7 @@ fn not_below_zero(number: Option<i64>) -> Option<u64>
 pub fn toggle<W: World>(world: &mut W, acting: &Acting, case: u32) -> Result<FiredList, W::Fault>
     ensures done { Makes W.Fault.means (map fired_of) (W.state world.new) result (toggles acting.now.model case (W.state world.old)) }
     ensures form { (W.state world.new).form ≡ (W.state world.old).form }
+    ensures calls { (W.state world.new).calls ≡ (W.state world.old).calls }
 {
     match world.parent(case) {
         None => Ok(Items::new(world.alloc())),
@@ -82,6 +84,7 @@ fn toggle_in<W: World>(
 ) -> Result<FiredList, W::Fault>
     ensures done { Makes W.Fault.means (map fired_of) (W.state world.new) result (toggles_in model case parent (W.state world.old)) }
     ensures form { (W.state world.new).form ≡ (W.state world.old).form }
+    ensures calls { (W.state world.new).calls ≡ (W.state world.old).calls }
 {
     let switch = world.switch_number(parent);
     let place = world.place_of_case(parent, case);
@@ -105,11 +108,12 @@ fn toggled<W: World>(
 ) -> Result<FiredList, W::Fault>
     ensures done { Makes W.Fault.means (map fired_of) (W.state world.new) result (makes_toggled model switch place case rows.now (W.state world.old)) }
     ensures form { (W.state world.new).form ≡ (W.state world.old).form }
+    ensures calls { (W.state world.new).calls ≡ (W.state world.old).calls }
 {
     let before = world.case_at(switch, world.selected(switch));
     let events = case_events(world, before, case, rows)?;
-    world.set_case(switch, place)?;
-    world.flag_refresh(model)?;
+    world.set_case(switch, place);
+    world.flag_refresh(model);
     Ok(events)
 }
 

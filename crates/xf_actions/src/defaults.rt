@@ -1,10 +1,11 @@
 //! The default actions of events (XForms 1.1, section 4).
 
 ghost use Rattle.std.specs.Prelude.{◌≡◌, map, None};
+ghost use Rattle.xf_store.specs.Called.{Called};
 ghost use Rattle.xf_form_machine.specs.Program.{role_at};
 ghost use Rattle.xf_form_machine.specs.Tables.{role_of, role_of_control};
 ghost use Rattle.xf_form_machine.specs.Default.{recalculate_now as recalculates_now, revalidate_now as revalidates_now};
-ghost use Rattle.xf_actions.specs.Performs.{Runs, Makes, Leaves};
+ghost use Rattle.xf_actions.specs.Performs.{Runs, Makes, LeavesOver};
 ghost use Rattle.xf_actions.specs.Seen.{fired_of, concluded_of};
 ghost use Rattle.xf_actions.specs.Defaulted.{model_default, default_of, done_quietly, defaulted, refreshed_now};
 
@@ -16,6 +17,7 @@ use crate::world::World;
 use xf_ast::{Control, Kind};
 use xf_base::Items;
 use xf_name::Word;
+use xf_store::Store;
 
 /// A default action that tells nothing: of the model of this number.
 #[derive(Clone, Copy, Debug)]
@@ -113,8 +115,13 @@ fn which_default<W: World>(world: &W, fired: &Fired) -> DefaultAction
 }
 
 /// The default action of an event. It gives what is told after it.
-pub fn default_action<W: World>(world: &mut W, fired: &Fired) -> Result<Concluded, W::Fault>
-    ensures done { Leaves W.Fault.means (concluded_of (W.state world.old).form (W.state world.new)) (W.state world.new) result (defaulted W.profile (fired_of fired.now) (W.state world.old)) }
+pub fn default_action<W: World, S: Store>(
+    world: &mut W,
+    fired: &Fired,
+    store: &mut S,
+) -> Result<Concluded, W::Fault>
+    ensures done { LeavesOver W.Fault.means (concluded_of (W.state world.old).form (W.state world.new)) (W.state world.new) result (λ answers. defaulted W.profile answers (fired_of fired.now) (W.state world.old)) }
+    ensures store { Called (S.calls store.old, S.to_come store.old) (S.calls store.new, S.to_come store.new) (W.state world.old).calls (W.state world.new).calls }
     ensures form { (W.state world.new).form ≡ (W.state world.old).form }
 {
     match which_default(world, fired) {
@@ -130,7 +137,7 @@ pub fn default_action<W: World>(world: &mut W, fired: &Fired) -> Result<Conclude
             let events = sent(world, target)?;
             Ok(only(events))
         }
-        DefaultAction::Submit(submission) => world.submit(submission),
+        DefaultAction::Submit(submission) => world.submit(submission, store),
     }
 }
 
@@ -147,6 +154,7 @@ fn only(events: FiredList) -> Concluded
 fn act_quietly<W: World>(world: &mut W, action: QuietAction) -> Result<(), W::Fault>
     ensures done { Runs W.Fault.means (W.state world.new) result (done_quietly W.profile action (W.state world.old)) }
     ensures form { (W.state world.new).form ≡ (W.state world.old).form }
+    ensures calls { (W.state world.new).calls ≡ (W.state world.old).calls }
 {
     match action {
         QuietAction::Nothing => Ok(()),
@@ -161,6 +169,7 @@ fn act_quietly<W: World>(world: &mut W, action: QuietAction) -> Result<(), W::Fa
 fn recalculate_now<W: World>(world: &mut W, model: u32) -> Result<(), W::Fault>
     ensures done { Runs W.Fault.means (W.state world.new) result (recalculates_now W.profile model (W.state world.old)) }
     ensures form { (W.state world.new).form ≡ (W.state world.old).form }
+    ensures calls { (W.state world.new).calls ≡ (W.state world.old).calls }
 {
     rebuild_due(world, model)?;
     world.recalculate(model)
@@ -169,6 +178,7 @@ fn recalculate_now<W: World>(world: &mut W, model: u32) -> Result<(), W::Fault>
 fn revalidate_now<W: World>(world: &mut W, model: u32) -> Result<(), W::Fault>
     ensures done { Runs W.Fault.means (W.state world.new) result (revalidates_now W.profile model (W.state world.old)) }
     ensures form { (W.state world.new).form ≡ (W.state world.old).form }
+    ensures calls { (W.state world.new).calls ≡ (W.state world.old).calls }
 {
     recalculate_due(world, model)?;
     world.revalidate(model)
@@ -177,6 +187,7 @@ fn revalidate_now<W: World>(world: &mut W, model: u32) -> Result<(), W::Fault>
 fn refresh_now<W: World>(world: &mut W, model: u32) -> Result<FiredList, W::Fault>
     ensures done { Makes W.Fault.means (map fired_of) (W.state world.new) result (refreshed_now W.profile model (W.state world.old)) }
     ensures form { (W.state world.new).form ≡ (W.state world.old).form }
+    ensures calls { (W.state world.new).calls ≡ (W.state world.old).calls }
 {
     revalidate_due(world, model)?;
     world.refresh(Some(model))

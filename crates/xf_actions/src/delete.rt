@@ -28,6 +28,7 @@ pub fn delete<W: World>(
 ) -> Result<FiredList, W::Fault>
     ensures done { Makes W.Fault.means (map fired_of) (W.state world.new) result (deletes W.profile (acting_of fired.now acting.now) (delete_in (act_at (W.state world.old) acting.now.element)) (W.state world.old)) }
     ensures form { (W.state world.new).form ≡ (W.state world.old).form }
+    ensures calls { (W.state world.new).calls ≡ (W.state world.old).calls }
 {
     match context(world, fired, acting)? {
         None => Ok(Items::new(world.alloc())),
@@ -55,6 +56,7 @@ fn delete_at<W: World>(
 ) -> Result<FiredList, W::Fault>
     ensures done { Makes W.Fault.means (map fired_of) (W.state world.new) result (deletes_at W.profile (acting_of fired.now acting.now) (delete_in (act_at (W.state world.old) acting.now.element)) (focus_of focus.now) (W.state world.old)) }
     ensures form { (W.state world.new).form ≡ (W.state world.old).form }
+    ensures calls { (W.state world.new).calls ≡ (W.state world.old).calls }
 {
     let set = world.bound_set(fired, acting, focus)?;
     let at = place_asked(world, fired, acting, &set)?;
@@ -86,8 +88,9 @@ fn deleted<W: World>(
     set: &NodeList,
     at: Option<i64>,
 ) -> Result<FiredList, W::Fault>
-    ensures done { Makes W.Fault.means (map fired_of) (W.state world.new) result (makes_deleted W.profile (location_of W.profile.decimals set.now at) nodes.now (W.state world.old)) }
+    ensures done { Makes W.Fault.means (map fired_of) (W.state world.new) result (makes_deleted W.profile (location_of (W.state world.old).form.decimals set.now at) nodes.now (W.state world.old)) }
     ensures form { (W.state world.new).form ≡ (W.state world.old).form }
+    ensures calls { (W.state world.new).calls ≡ (W.state world.old).calls }
 {
     match nodes.get(0) {
         None => Ok(Items::new(world.alloc())),
@@ -102,8 +105,9 @@ fn deleted_from<W: World>(
     set: &NodeList,
     at: Option<i64>,
 ) -> Result<FiredList, W::Fault>
-    ensures done { Makes W.Fault.means (map fired_of) (W.state world.new) result (deletes_from W.profile (location_of W.profile.decimals set.now at) first.number nodes.now (W.state world.old)) }
+    ensures done { Makes W.Fault.means (map fired_of) (W.state world.new) result (deletes_from W.profile (location_of (W.state world.old).form.decimals set.now at) first.number nodes.now (W.state world.old)) }
     ensures form { (W.state world.new).form ≡ (W.state world.old).form }
+    ensures calls { (W.state world.new).calls ≡ (W.state world.old).calls }
 {
     let instance = world.instance_holding(first);
     detach_all(world, nodes.as_slice())?;
@@ -121,6 +125,7 @@ fn deleted_from<W: World>(
 fn detach_all<W: World>(world: &mut W, nodes: &[NodeId]) -> Result<(), W::Fault>
     ensures done { Runs W.Fault.means (W.state world.new) result (in_turn cut (map (λ n. n.number) nodes.now) (W.state world.old)) }
     ensures form { (W.state world.new).form ≡ (W.state world.old).form }
+    ensures calls { (W.state world.new).calls ≡ (W.state world.old).calls }
 {
     for node in nodes {
         world.detach(*node)?;

@@ -31,6 +31,7 @@ pub fn insert<W: World>(
 ) -> Result<FiredList, W::Fault>
     ensures done { Makes W.Fault.means (map fired_of) (W.state world.new) result (inserts W.profile (acting_of fired.now acting.now) (insert_in (act_at (W.state world.old) acting.now.element)) (W.state world.old)) }
     ensures form { (W.state world.new).form ≡ (W.state world.old).form }
+    ensures calls { (W.state world.new).calls ≡ (W.state world.old).calls }
 {
     match context(world, fired, acting)? {
         None => Ok(Items::new(world.alloc())),
@@ -58,6 +59,7 @@ fn insert_at<W: World>(
 ) -> Result<FiredList, W::Fault>
     ensures done { Makes W.Fault.means (map fired_of) (W.state world.new) result (inserts_at W.profile (acting_of fired.now acting.now) (insert_in (act_at (W.state world.old) acting.now.element)) (focus_of focus.now) (W.state world.old)) }
     ensures form { (W.state world.new).form ≡ (W.state world.old).form }
+    ensures calls { (W.state world.new).calls ≡ (W.state world.old).calls }
 {
     let inserting = inserting(world, fired, acting, focus)?;
     inserted(world, &inserting)
@@ -128,6 +130,7 @@ fn place<W: World>(
 fn inserted<W: World>(world: &mut W, inserting: &Inserting) -> Result<FiredList, W::Fault>
     ensures done { Makes W.Fault.means (map fired_of) (W.state world.new) result (inserted_by W.profile (inserting_of inserting.now) (W.state world.old)) }
     ensures form { (W.state world.new).form ≡ (W.state world.old).form }
+    ensures calls { (W.state world.new).calls ≡ (W.state world.old).calls }
 {
     match inserting.places.get(0) {
         None => Ok(Items::new(world.alloc())),
@@ -142,6 +145,7 @@ fn inserted_in<W: World>(
 ) -> Result<FiredList, W::Fault>
     ensures done { Makes W.Fault.means (map fired_of) (W.state world.new) result (inserts_in W.profile inserting.now.is_before inserting.now.location parent.number (map place_of inserting.now.places) (W.state world.old)) }
     ensures form { (W.state world.new).form ≡ (W.state world.old).form }
+    ensures calls { (W.state world.new).calls ≡ (W.state world.old).calls }
 {
     let instance = world.instance_holding(parent);
     let tops = copies(world, inserting.places.as_slice())?;
@@ -160,6 +164,7 @@ fn inserted_in<W: World>(
 fn copies<W: World>(world: &mut W, places: &[Place]) -> Result<NodeList, W::Fault>
     ensures done { Makes W.Fault.means (λ tops. tops) (W.state world.new) result (copies_of W.profile (map (λ q. q.origin) (map place_of places.now)) (W.state world.old)) }
     ensures form { (W.state world.new).form ≡ (W.state world.old).form }
+    ensures calls { (W.state world.new).calls ≡ (W.state world.old).calls }
 {
     let mut tops = NodeList::new(world.alloc());
     for place in places {
@@ -176,6 +181,7 @@ fn copies<W: World>(world: &mut W, places: &[Place]) -> Result<NodeList, W::Faul
 fn put_copies<W: World>(world: &mut W, places: &[Place], tops: &NodeList) -> Result<(), W::Fault>
     ensures done { Runs W.Fault.means (W.state world.new) result (in_turn (puts_copy W.profile tops.now) (zip (map place_of places.now) tops.now) (W.state world.old)) }
     ensures form { (W.state world.new).form ≡ (W.state world.old).form }
+    ensures calls { (W.state world.new).calls ≡ (W.state world.old).calls }
 {
     for at in 0..places.len() {
         match tops.get(at) {
@@ -198,6 +204,7 @@ fn put_copy<W: World>(
 ) -> Result<(), W::Fault>
     ensures done { Runs W.Fault.means (W.state world.new) result (puts_copy W.profile tops.now (place_of place.now, top.number) (W.state world.old)) }
     ensures form { (W.state world.new).form ≡ (W.state world.old).form }
+    ensures calls { (W.state world.new).calls ≡ (W.state world.old).calls }
 {
     detach_some(world, place.replaces)?;
     detach_some(world, earlier_copy(tops, place.again))?;
@@ -207,6 +214,7 @@ fn put_copy<W: World>(
 fn detach_some<W: World>(world: &mut W, node: Option<NodeId>) -> Result<(), W::Fault>
     ensures done { Runs W.Fault.means (W.state world.new) result (Ok (without_one (option_map (λ n. n.number) node) (W.state world.old))) }
     ensures form { (W.state world.new).form ≡ (W.state world.old).form }
+    ensures calls { (W.state world.new).calls ≡ (W.state world.old).calls }
 {
     match node {
         None => Ok(()),

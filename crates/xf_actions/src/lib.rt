@@ -18,7 +18,7 @@ mod tell;
 mod work;
 mod world;
 
-pub use act::dispatch;
+pub use act::{dispatch, update};
 pub use acting::Acting;
 pub use fault::WorldFault;
 pub use fired::{Concluded, Ending, Fired, FiredList, Property, PropertyList};

@@ -19,6 +19,7 @@ use xf_name::Word;
 pub fn message<W: World>(world: &mut W, fired: &Fired, acting: &Acting) -> Result<(), W::Fault>
     ensures done { Runs W.Fault.means (W.state world.new) result (messages W.profile (acting_of fired.now acting.now) (W.state world.old)) }
     ensures form { (W.state world.new).form ≡ (W.state world.old).form }
+    ensures calls { (W.state world.new).calls ≡ (W.state world.old).calls }
 {
     let text = world.message(fired, acting)?;
     world.add_note(Note::Message(text))
@@ -28,6 +29,7 @@ pub fn message<W: World>(world: &mut W, fired: &Fired, acting: &Acting) -> Resul
 pub fn load<W: World>(world: &mut W, fired: &Fired, acting: &Acting) -> Result<(), W::Fault>
     ensures done { Runs W.Fault.means (W.state world.new) result (loads W.profile (acting_of fired.now acting.now) (resource_in (act_at (W.state world.old) acting.now.element)) (W.state world.old)) }
     ensures form { (W.state world.new).form ≡ (W.state world.old).form }
+    ensures calls { (W.state world.new).calls ≡ (W.state world.old).calls }
 {
     let text = loaded_text(world, fired, acting)?;
     world.add_note(Note::Load(text))
@@ -49,6 +51,7 @@ fn loaded_text<W: World>(world: &W, fired: &Fired, acting: &Acting) -> Result<Wo
 pub fn set_focus<W: World>(world: &mut W, control: u32) -> Result<(), W::Fault>
     ensures done { Runs W.Fault.means (W.state world.new) result (focuses W.profile control (W.state world.old)) }
     ensures form { (W.state world.new).form ≡ (W.state world.old).form }
+    ensures calls { (W.state world.new).calls ≡ (W.state world.old).calls }
 {
     match world.named_copy(control)? {
         None => Ok(()),

@@ -1,6 +1,6 @@
 //! The reset of a model (XForms 1.1, section 4.3.7).
 
-ghost use Rattle.std.specs.Prelude.{◌≡◌, [], Some};
+ghost use Rattle.std.specs.Prelude.{◌≡◌};
 ghost use Rattle.xf_form_machine.specs.Flow.{in_turn};
 ghost use Rattle.xf_form_machine.specs.Construct.{construct, put_back, reset as resets};
 ghost use Rattle.xf_actions.specs.Performs.{Runs};
@@ -12,6 +12,7 @@ use xf_doc::NodeList;
 pub fn reset<W: World>(world: &mut W, model: u32) -> Result<(), W::Fault>
     ensures done { Runs W.Fault.means (W.state world.new) result (resets W.profile model (W.state world.old)) }
     ensures form { (W.state world.new).form ≡ (W.state world.old).form }
+    ensures calls { (W.state world.new).calls ≡ (W.state world.old).calls }
 {
     let instances = world.instances(model)?;
     put_all_back(world, instances.as_slice())?;
@@ -20,8 +21,9 @@ pub fn reset<W: World>(world: &mut W, model: u32) -> Result<(), W::Fault>
 }
 
 fn put_all_back<W: World>(world: &mut W, instances: &[u32]) -> Result<(), W::Fault>
-    ensures done { Runs W.Fault.means (W.state world.new) result (in_turn (put_back W.profile (construct W.profile (W.state world.old).form (Some []))) instances.now (W.state world.old)) }
+    ensures done { Runs W.Fault.means (W.state world.new) result (in_turn (put_back W.profile (construct W.profile (W.state world.old).form)) instances.now (W.state world.old)) }
     ensures form { (W.state world.new).form ≡ (W.state world.old).form }
+    ensures calls { (W.state world.new).calls ≡ (W.state world.old).calls }
 {
     for instance in instances {
         world.put_back(*instance)?;

@@ -14,6 +14,7 @@ use xf_base::Items;
 pub fn begin_round<W: World>(world: &mut W) -> Result<FiredList, W::Fault>
     ensures done { Makes W.Fault.means (map fired_of) (W.state world.new) result (round_begun W.profile (W.state world.old)) }
     ensures form { (W.state world.new).form ≡ (W.state world.old).form }
+    ensures calls { (W.state world.new).calls ≡ (W.state world.old).calls }
 {
     world.spend()?;
     behave_all(world)?;
@@ -28,6 +29,7 @@ pub fn begin_round<W: World>(world: &mut W) -> Result<FiredList, W::Fault>
 fn behave_all<W: World>(world: &mut W) -> Result<(), W::Fault>
     ensures done { Runs W.Fault.means (W.state world.new) result (all_behaved W.profile (W.state world.old)) }
     ensures form { (W.state world.new).form ≡ (W.state world.old).form }
+    ensures calls { (W.state world.new).calls ≡ (W.state world.old).calls }
 {
     let count = world.model_count();
     for model in 0..count {
@@ -40,6 +42,7 @@ fn behave_all<W: World>(world: &mut W) -> Result<(), W::Fault>
 pub fn revalidate_due<W: World>(world: &mut W, model: u32) -> Result<(), W::Fault>
     ensures done { Runs W.Fault.means (W.state world.new) result (revalidates W.profile model (W.state world.old)) }
     ensures form { (W.state world.new).form ≡ (W.state world.old).form }
+    ensures calls { (W.state world.new).calls ≡ (W.state world.old).calls }
 {
     recalculate_due(world, model)?;
     if world.is_flagged(model, Flag::Revalidate) {
@@ -52,6 +55,7 @@ pub fn revalidate_due<W: World>(world: &mut W, model: u32) -> Result<(), W::Faul
 pub fn recalculate_due<W: World>(world: &mut W, model: u32) -> Result<(), W::Fault>
     ensures done { Runs W.Fault.means (W.state world.new) result (recalculates W.profile model (W.state world.old)) }
     ensures form { (W.state world.new).form ≡ (W.state world.old).form }
+    ensures calls { (W.state world.new).calls ≡ (W.state world.old).calls }
 {
     rebuild_due(world, model)?;
     if world.is_flagged(model, Flag::Recalculate) {
@@ -64,6 +68,7 @@ pub fn recalculate_due<W: World>(world: &mut W, model: u32) -> Result<(), W::Fau
 pub fn rebuild_due<W: World>(world: &mut W, model: u32) -> Result<(), W::Fault>
     ensures done { Runs W.Fault.means (W.state world.new) result (rebuilds W.profile model (W.state world.old)) }
     ensures form { (W.state world.new).form ≡ (W.state world.old).form }
+    ensures calls { (W.state world.new).calls ≡ (W.state world.old).calls }
 {
     if world.is_flagged(model, Flag::Rebuild) {
         world.rebuild(model)

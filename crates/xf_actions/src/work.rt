@@ -71,6 +71,7 @@ pub fn change<W: World>(
 ) -> Result<FiredList, W::Fault>
     ensures done { Makes W.Fault.means (map fired_of) (W.state world.new) result (changed W.profile (acting_of fired.now acting.now) (work_in (act_at (W.state world.old) acting.now.element)) (W.state world.old)) }
     ensures form { (W.state world.new).form ≡ (W.state world.old).form }
+    ensures calls { (W.state world.new).calls ≡ (W.state world.old).calls }
 {
     match which(world, acting.element) {
         Doing::Sets => {
@@ -105,6 +106,7 @@ pub fn change<W: World>(
 fn set_value<W: World>(world: &mut W, fired: &Fired, acting: &Acting) -> Result<(), W::Fault>
     ensures done { Runs W.Fault.means (W.state world.new) result (value_set W.profile (acting_of fired.now acting.now) (value_in (act_at (W.state world.old) acting.now.element)) (W.state world.old)) }
     ensures form { (W.state world.new).form ≡ (W.state world.old).form }
+    ensures calls { (W.state world.new).calls ≡ (W.state world.old).calls }
 {
     match world.bound(fired, acting)? {
         None => Ok(()),
@@ -125,6 +127,7 @@ fn set_node<W: World>(
 ) -> Result<(), W::Fault>
     ensures done { Runs W.Fault.means (W.state world.new) result (set_open W.profile (acting_of fired.now acting.now) (value_in (act_at (W.state world.old) acting.now.element)) node.number (W.state world.old)) }
     ensures form { (W.state world.new).form ≡ (W.state world.old).form }
+    ensures calls { (W.state world.new).calls ≡ (W.state world.old).calls }
 {
     world.may_set(node)?;
     let text = value_text(world, fired, acting, node)?;

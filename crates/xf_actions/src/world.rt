@@ -1,8 +1,10 @@
 //! What the form machine is asked for. Each call is one of its functions; each but a want of memory is told as it is.
 
-ghost use Rattle.std.specs.Prelude.{◌≡◌, List, [], map, length, get_or, slice_get, option_map, codes, Some, Ok};
+ghost use Rattle.std.specs.Prelude.{◌≡◌, List, [], map, length, get_or, slice_get, option_map, codes, IfErr, Some, Ok};
 ghost use Rattle.xf_lang.specs.Meaning.{meaning};
+ghost use Rattle.xf_store.specs.Called.{Called};
 ghost use Rattle.xf_ui.specs.Calls.{calls as called_by};
+ghost use Rattle.xf_form_machine.specs.Refusal.{budget};
 ghost use Rattle.xf_form_machine.specs.Surround.{interface, instance_holding as holding_instance};
 ghost use Rattle.xf_form_machine.specs.Tables.{insert_by};
 ghost use Rattle.xf_model.specs.Places.{planned_insert as insert_planned};
@@ -21,7 +23,7 @@ ghost use Rattle.xf_form_machine.specs.Events.{fired as fires, fired_at as fires
 ghost use Rattle.xf_form_machine.specs.Telling.{loaded_text};
 ghost use Rattle.xf_form_machine.specs.Behave.{model_at, rebuild as rebuilt, recalculate as recalculated, revalidate as revalidated};
 ghost use Rattle.xf_form_machine.specs.Update.{reindex as reindexed, is_due as due, is_refresh_due as refresh_is_due};
-ghost use Rattle.xf_actions.specs.Performs.{Runs, Makes, Leaves, Reads};
+ghost use Rattle.xf_actions.specs.Performs.{Runs, Makes, Reads, LeavesOver};
 ghost use Rattle.xf_actions.specs.Seen.{IsProgram, fired_of, acting_of, focus_of, place_of, concluded_of, ending_of};
 ghost use Rattle.xf_actions.specs.Told.{cleared_by, is_set, refreshed};
 ghost use Rattle.xf_actions.specs.TreeChanges.{instance_event};
@@ -38,6 +40,7 @@ use xf_ast::{ElementList, Expr, Form, InsertWork};
 use xf_doc::{NodeId, NodeList};
 use xf_form_machine::Note;
 use xf_name::Word;
+use xf_store::Store;
 use xf_ui::{CallList, Focus};
 
 /// A behaviour of a model (XForms 1.1, section 4.3).
@@ -68,10 +71,12 @@ pub trait World {
     fn turns(&self) -> u32
         ensures { result ≡ (state self.now).turns };
 
-    /// Spends a turn.
+    /// Spends a turn. It is refused where none is left, and for nothing else.
     fn spend(&mut self) -> Result<(), Self::Fault>
         ensures done { Runs Self.Fault.means (state self.new) result (spent (state self.old)) }
-        ensures form { (state self.new).form ≡ (state self.old).form };
+        ensures cause { IfErr result (λ fault. Self.Fault.means fault ≡ Some budget) }
+        ensures form { (state self.new).form ≡ (state self.old).form }
+        ensures calls { (state self.new).calls ≡ (state self.old).calls };
 
     /// The handlers that an event calls.
     fn calls(&self, fired: &Fired) -> Result<CallList, Self::Fault>
@@ -104,25 +109,30 @@ pub trait World {
 
     fn rebuild(&mut self, model: u32) -> Result<(), Self::Fault>
         ensures done { Runs Self.Fault.means (state self.new) result (rebuilt profile model (state self.old)) }
-        ensures form { (state self.new).form ≡ (state self.old).form };
+        ensures form { (state self.new).form ≡ (state self.old).form }
+        ensures calls { (state self.new).calls ≡ (state self.old).calls };
 
     fn recalculate(&mut self, model: u32) -> Result<(), Self::Fault>
         ensures done { Runs Self.Fault.means (state self.new) result (recalculated profile model (state self.old)) }
-        ensures form { (state self.new).form ≡ (state self.old).form };
+        ensures form { (state self.new).form ≡ (state self.old).form }
+        ensures calls { (state self.new).calls ≡ (state self.old).calls };
 
     fn revalidate(&mut self, model: u32) -> Result<(), Self::Fault>
         ensures done { Runs Self.Fault.means (state self.new) result (Ok (revalidated profile model (state self.old))) }
-        ensures form { (state self.new).form ≡ (state self.old).form };
+        ensures form { (state self.new).form ≡ (state self.old).form }
+        ensures calls { (state self.new).calls ≡ (state self.old).calls };
 
     /// Brings the indexes up to date and makes the controls afresh. The refresh of one model is done with that, or that of all. It gives what is
     /// told of the differences.
     fn refresh(&mut self, model: Option<u32>) -> Result<FiredList, Self::Fault>
         ensures done { Makes Self.Fault.means (map fired_of) (state self.new) result (refreshed profile (cleared_by model) (state self.old)) }
-        ensures form { (state self.new).form ≡ (state self.old).form };
+        ensures form { (state self.new).form ≡ (state self.old).form }
+        ensures calls { (state self.new).calls ≡ (state self.old).calls };
 
-    /// The submission of this number, up to the event that tells its end.
-    fn submit(&mut self, submission: u32) -> Result<Concluded, Self::Fault>
-        ensures done { Leaves Self.Fault.means (concluded_of (state self.old).form (state self.new)) (state self.new) result (submitted profile submission (slice_get (state self.old).form.submissions submission) (state self.old)) }
+    /// The submission of this number, up to the event that tells its end: the store is called once at most.
+    fn submit<S: Store>(&mut self, submission: u32, store: &mut S) -> Result<Concluded, Self::Fault>
+        ensures done { LeavesOver Self.Fault.means (concluded_of (state self.old).form (state self.new)) (state self.new) result (λ answers. submitted profile answers submission (slice_get (state self.old).form.submissions submission) (state self.old)) }
+        ensures store { Called (S.calls store.old, S.to_come store.old) (S.calls store.new, S.to_come store.new) (state self.old).calls (state self.new).calls }
         ensures form { (state self.new).form ≡ (state self.old).form };
 
     /// The instances of a model.
@@ -131,8 +141,9 @@ pub trait World {
 
     /// The document element of an instance as construction left it.
     fn put_back(&mut self, instance: u32) -> Result<(), Self::Fault>
-        ensures done { Runs Self.Fault.means (state self.new) result (instance_put_back profile (construct profile (state self.old).form (Some [])) instance (state self.old)) }
-        ensures form { (state self.new).form ≡ (state self.old).form };
+        ensures done { Runs Self.Fault.means (state self.new) result (instance_put_back profile (construct profile (state self.old).form) instance (state self.old)) }
+        ensures form { (state self.new).form ≡ (state self.old).form }
+        ensures calls { (state self.new).calls ≡ (state self.old).calls };
 
     /// The event that tells the end of a submission: none where there is no such submission.
     fn end_event(&self, ending: &Ending) -> Result<Option<Fired>, Self::Fault>
@@ -171,11 +182,13 @@ pub trait World {
 
     fn set_text(&mut self, node: NodeId, text: &str) -> Result<(), Self::Fault>
         ensures done { Runs Self.Fault.means (state self.new) result (text_set profile node.number text.now (state self.old)) }
-        ensures form { (state self.new).form ≡ (state self.old).form };
+        ensures form { (state self.new).form ≡ (state self.old).form }
+        ensures calls { (state self.new).calls ≡ (state self.old).calls };
 
     fn add_note(&mut self, note: Note) -> Result<(), Self::Fault>
         ensures done { Runs Self.Fault.means (state self.new) result (noted profile note (state self.old)) }
-        ensures form { (state self.new).form ≡ (state self.old).form };
+        ensures form { (state self.new).form ≡ (state self.old).form }
+        ensures calls { (state self.new).calls ≡ (state self.old).calls };
 
     // ---- elements by their numbers
 
@@ -216,20 +229,20 @@ pub trait World {
     /// The index of a repeat is set, which flags the refresh of the model.
     fn set_index(&mut self, model: u32, repeat: u32, index: u64) -> Result<(), Self::Fault>
         ensures done { Runs Self.Fault.means (state self.new) result (index_set profile model repeat index (state self.old)) }
-        ensures form { (state self.new).form ≡ (state self.old).form };
+        ensures form { (state self.new).form ≡ (state self.old).form }
+        ensures calls { (state self.new).calls ≡ (state self.old).calls };
 
     /// The place of the case that is selected in the switch of this number.
     fn selected(&self, switch: u32) -> usize
         ensures { result ≡ get_or (state self.now).cases switch 0 };
 
-    fn set_case(&mut self, switch: u32, place: usize) -> Result<(), Self::Fault>
-        ensures done { Runs Self.Fault.means (state self.new) result (Ok (case_set switch place (state self.old))) }
-        ensures form { (state self.new).form ≡ (state self.old).form };
+    /// Another case of the switch of this number is selected: of one that is not there none is.
+    fn set_case(&mut self, switch: u32, place: usize)
+        ensures { state self.new ≡ case_set switch place (state self.old) };
 
-    /// The refresh of a model is due.
-    fn flag_refresh(&mut self, model: u32) -> Result<(), Self::Fault>
-        ensures done { Runs Self.Fault.means (state self.new) result (Ok (in_model refresh_due model (state self.old))) }
-        ensures form { (state self.new).form ≡ (state self.old).form };
+    /// The refresh of a model is due: of one that is not there none is.
+    fn flag_refresh(&mut self, model: u32)
+        ensures { state self.new ≡ in_model refresh_due model (state self.old) };
 
     // ---- what actions read
 
@@ -329,22 +342,26 @@ pub trait World {
     /// A copy of a tree comes as a detached one.
     fn copy(&mut self, node: NodeId) -> Result<NodeId, Self::Fault>
         ensures done { Makes Self.Fault.means (λ n. n.number) (state self.new) result (copied profile node.number (state self.old)) }
-        ensures form { (state self.new).form ≡ (state self.old).form };
+        ensures form { (state self.new).form ≡ (state self.old).form }
+        ensures calls { (state self.new).calls ≡ (state self.old).calls };
 
     /// A detached tree comes below a parent, behind so many children.
     fn attach(&mut self, node: NodeId, parent: NodeId, place: usize) -> Result<(), Self::Fault>
         ensures done { Runs Self.Fault.means (state self.new) result (attached profile node.number parent.number place (state self.old)) }
-        ensures form { (state self.new).form ≡ (state self.old).form };
+        ensures form { (state self.new).form ≡ (state self.old).form }
+        ensures calls { (state self.new).calls ≡ (state self.old).calls };
 
     /// A tree is cut off its parent.
     fn detach(&mut self, node: NodeId) -> Result<(), Self::Fault>
         ensures done { Runs Self.Fault.means (state self.new) result (Ok (detached node.number (state self.old))) }
-        ensures form { (state self.new).form ≡ (state self.old).form };
+        ensures form { (state self.new).form ≡ (state self.old).form }
+        ensures calls { (state self.new).calls ≡ (state self.old).calls };
 
     /// The indexes are brought up to date where these nodes were just inserted.
     fn reindex(&mut self, added: &NodeList) -> Result<(), Self::Fault>
         ensures done { Runs Self.Fault.means (state self.new) result (reindexed profile added.now (state self.old)) }
-        ensures form { (state self.new).form ≡ (state self.old).form };
+        ensures form { (state self.new).form ≡ (state self.old).form }
+        ensures calls { (state self.new).calls ≡ (state self.old).calls };
 
     // ---- events
 
@@ -375,7 +392,7 @@ pub trait World {
         set: &NodeList,
         at: Option<i64>,
     ) -> Result<Fired, Self::Fault>
-        ensures { Reads Self.Fault.means fired_of (state self.now) result (Ok (instance_event (codes "xforms-delete") (delete_told (state self.now) nodes.now (delete_location profile.decimals set.now at)) instance (state self.now))) };
+        ensures { Reads Self.Fault.means fired_of (state self.now) result (Ok (instance_event (codes "xforms-delete") (delete_told (state self.now) nodes.now (delete_location (state self.now).form.decimals set.now at)) instance (state self.now))) };
 
     /// An event to an element in the indexed rows.
     fn event_at(&self, name: &str, target: u32) -> Result<Fired, Self::Fault>

@@ -1,4 +1,7 @@
-use Rattle.std.proofs.Common.{◌≡◌, ◌+◌, ◌-◌, ◌*◌, ◌^◌, true, false, drop, map, is_some}
+use Rattle.std.proofs.Common.{◌≡◌, ◌+◌, ◌-◌, ◌*◌, ◌^◌, true, false, List, drop, map, is_some}
+use Rattle.xf_store.specs.declared.answers.Answer.{Answer}
+use Rattle.xf_store.specs.Replay.{Covers}
+use Rattle.xf_store.specs.Called.{Called}
 use Rattle.xf_form_machine.specs.Flow.{in_turn}
 use Rattle.xf_form_machine.specs.Acting.{act_at}
 use Rattle.xf_form_machine.specs.Act.{act_within}
@@ -46,44 +49,57 @@ decreases-handle_all g l = l.depth * 2 ^ 80 + 2 ^ 79 + 1
 abbrev pub decreases-handle : goal.decreases-handle
 decreases-handle g l = l.depth * 2 ^ 80 + 2 ^ 79
 
--- ---- loops: what is left from here gives what the whole gives
+-- ---- loops: what is left from here gives what the whole gives, over all answers that cover the calls so far
 
 abbrev pub invariant-handle_all-loop-handler : goal.invariant-handle_all-loop-handler
 invariant-handle_all-loop-handler g l =
-    let run = handle g.W.World.profile (dispatch g.W.World.profile l.depth) l.is_idle (fired_of l.fired) in record {
-      rest : in_turn run l.handlers (g.W.World.state l.initial.world) ≡ in_turn run (drop l.handler-index l.handlers) (g.W.World.state l.world);
+    let run = λ (answers : List Answer). handle g.W.World.profile (dispatch g.W.World.profile answers l.depth) l.is_idle (fired_of l.fired) in record {
+      rest : (answers : List Answer) → Covers answers (g.W.World.state l.world).calls
+          → in_turn (run answers) l.handlers (g.W.World.state l.initial.world) ≡ in_turn (run answers) (drop l.handler-index l.handlers) (g.W.World.state l.world);
+      store : Called (g.S.Store.calls l.initial.store, g.S.Store.to_come l.initial.store) (g.S.Store.calls l.store, g.S.Store.to_come l.store) (g.W.World.state l.initial.world).calls (g.W.World.state l.world).calls;
       form : (g.W.World.state l.world).form ≡ (g.W.World.state l.initial.world).form;
     }
 
 abbrev pub invariant-act_all-loop-part : goal.invariant-act_all-loop-part
 invariant-act_all-loop-part g l =
-    let run = act_within l.left g.W.World.profile (dispatch g.W.World.profile l.depth false) (fired_of l.fired) in record {
-      rest : in_turn run l.parts (g.W.World.state l.initial.world) ≡ in_turn run (drop l.part-index l.parts) (g.W.World.state l.world);
+    let run = λ (answers : List Answer). act_within l.left g.W.World.profile (dispatch g.W.World.profile answers l.depth false) (fired_of l.fired) in record {
+      rest : (answers : List Answer) → Covers answers (g.W.World.state l.world).calls
+          → in_turn (run answers) l.parts (g.W.World.state l.initial.world) ≡ in_turn (run answers) (drop l.part-index l.parts) (g.W.World.state l.world);
+      store : Called (g.S.Store.calls l.initial.store, g.S.Store.to_come l.initial.store) (g.S.Store.calls l.store, g.S.Store.to_come l.store) (g.W.World.state l.initial.world).calls (g.W.World.state l.world).calls;
       form : (g.W.World.state l.world).form ≡ (g.W.World.state l.initial.world).form;
     }
 
 abbrev pub invariant-tell_all-loop-fired : goal.invariant-tell_all-loop-fired
 invariant-tell_all-loop-fired g l =
-    let run = dispatch g.W.World.profile l.depth l.is_idle in record {
-      rest : in_turn run (map fired_of l.events) (g.W.World.state l.initial.world) ≡ in_turn run (drop l.fired-index (map fired_of l.events)) (g.W.World.state l.world);
+    let run = λ (answers : List Answer). dispatch g.W.World.profile answers l.depth l.is_idle in record {
+      rest : (answers : List Answer) → Covers answers (g.W.World.state l.world).calls
+          → in_turn (run answers) (map fired_of l.events) (g.W.World.state l.initial.world)
+          ≡ in_turn (run answers) (drop l.fired-index (map fired_of l.events)) (g.W.World.state l.world);
+      store : Called (g.S.Store.calls l.initial.store, g.S.Store.to_come l.initial.store) (g.S.Store.calls l.store, g.S.Store.to_come l.store) (g.W.World.state l.initial.world).calls (g.W.World.state l.world).calls;
       form : (g.W.World.state l.world).form ≡ (g.W.World.state l.initial.world).form;
     }
 
 abbrev pub invariant-update-loop-round : goal.invariant-update-loop-round
 invariant-update-loop-round g l =
-    let tell = dispatch g.W.World.profile l.depth false in record {
-      rest : update g.W.World.profile tell (g.W.World.state l.initial.world) ≡ rounds (l.most - l.round) (round g.W.World.profile tell) (g.W.World.state l.world);
+    let tell = λ (answers : List Answer). dispatch g.W.World.profile answers l.depth false in record {
+      rest : (answers : List Answer) → Covers answers (g.W.World.state l.world).calls
+          → update g.W.World.profile (tell answers) (g.W.World.state l.initial.world)
+          ≡ rounds (l.most - l.round) (round g.W.World.profile (tell answers)) (g.W.World.state l.world);
+      store : Called (g.S.Store.calls l.initial.store, g.S.Store.to_come l.initial.store) (g.S.Store.calls l.store, g.S.Store.to_come l.store) (g.W.World.state l.initial.world).calls (g.W.World.state l.world).calls;
       form : (g.W.World.state l.world).form ≡ (g.W.World.state l.initial.world).form;
     }
 
 abbrev pub invariant-repeat-loop-test : goal.invariant-repeat-loop-test
 invariant-repeat-loop-test g l =
     let p = g.W.World.profile in
-    let tell = dispatch p l.depth false in
+    let tell = λ (answers : List Answer). dispatch p answers l.depth false in
+    let inner = λ (answers : List Answer). act_within l.left p (tell answers) (fired_of l.fired) in
     let x = acting_of l.fired l.acting in
-    let a = act_at (g.W.World.state l.initial.world) l.acting.element in
-    let once = once_done p tell (act_within l.left p tell (fired_of l.fired)) x a in record {
-      rest : acted p tell (act_within l.left p tell (fired_of l.fired)) x a (g.W.World.state l.initial.world) ≡ tested (l.most - l.test) p x (repetition_in a) once (g.W.World.state l.world);
+    let a = act_at (g.W.World.state l.initial.world) l.acting.element in record {
+      rest : (answers : List Answer) → Covers answers (g.W.World.state l.world).calls
+          → acted p (tell answers) (inner answers) x a (g.W.World.state l.initial.world)
+          ≡ tested (l.most - l.test) p x (repetition_in a) (once_done p (tell answers) (inner answers) x a) (g.W.World.state l.world);
       written : is_some (repetition_in a) ≡ true;
+      store : Called (g.S.Store.calls l.initial.store, g.S.Store.to_come l.initial.store) (g.S.Store.calls l.store, g.S.Store.to_come l.store) (g.W.World.state l.initial.world).calls (g.W.World.state l.world).calls;
       form : (g.W.World.state l.world).form ≡ (g.W.World.state l.initial.world).form;
     }

@@ -5,8 +5,8 @@ use Rattle.xf_actions.proofs.Trees.{deleted-none, deleted-some}
 use Rattle.xf_actions.proofs.delete.deleted.Goals as goal
 
 pub returns-in-None-clause-done : goal.returns-in-None-clause-done
-returns-in-None-clause-done g c = deleted-none g.W.World.profile (location_of g.W.World.profile.decimals c.args.set.now c.args.at) c.args.nodes.now (g.W.World.state c.args.world.now) (sym c.in-None.ensures) ∙ (search rules)
+returns-in-None-clause-done g c = deleted-none g.W.World.profile (location_of (g.W.World.state c.args.world.now).form.decimals c.args.set.now c.args.at) c.args.nodes.now (g.W.World.state c.args.world.now) (sym c.in-None.ensures) ∙ (search rules)
 
 pub returns-in-Some-clause-done : goal.returns-in-Some-clause-done
 returns-in-Some-clause-done g c =
-    same-makes _ _ _ _ _ _ (deleted-some g.W.World.profile (location_of g.W.World.profile.decimals c.args.set.now c.args.at) c.args.nodes.now c.in-Some.first.number (g.W.World.state c.args.world.now) (sym c.in-Some.ensures)) c.deleted_from.ensures.done
+    same-makes _ _ _ _ _ _ (deleted-some g.W.World.profile (location_of (g.W.World.state c.args.world.now).form.decimals c.args.set.now c.args.at) c.args.nodes.now c.in-Some.first.number (g.W.World.state c.args.world.now) (sym c.in-Some.ensures)) c.deleted_from.ensures.done

@@ -12,4 +12,5 @@ pub loop-node-preserved : goal.loop-node-preserved
 loop-node-preserved g c = record {
   rest = c.loop-node.invariant.rest ∙ cut-step (λ n. n.number) c.args.nodes.now c.loop-node.node-index _ (g.W.World.state c.loop-node.world) (g.W.World.state c.detach.new.self) (omega arith) c.in_ok-detach.ensures.done;
   form = c.in_ok-detach.ensures.form ∙ c.loop-node.invariant.form;
+  calls = c.in_ok-detach.ensures.calls ∙ c.loop-node.invariant.calls;
 }

@@ -12,4 +12,5 @@ invariant-loop-place g l =
       rest : copies_of g.W.World.profile origins (g.W.World.state l.initial.world)
           ≡ copies_of g.W.World.profile (drop l.place-index origins) (g.W.World.state l.world) >>= behind l.tops;
       form : (g.W.World.state l.world).form ≡ (g.W.World.state l.initial.world).form;
+      calls : (g.W.World.state l.world).calls ≡ (g.W.World.state l.initial.world).calls;
     }
