@@ -4,7 +4,7 @@ use Rattle.xf_form_machine.specs.Construct.{construct}
 use Rattle.xf_loader.specs.declared.loaded.Loaded.{Loaded}
 use Rattle.xf_small_world.specs.declared.world.SmallWorld.{SmallWorld}
 use Rattle.xf_small_world.specs.Small.{is_small}
-use Rattle.xf_small_world.specs.Formed.{profile, program_in}
+use Rattle.xf_processor.specs.Formed.{profile, program_in}
 use Rattle.xf_small_world.specs.State.{state_of}
 
 abbrev pub IsBegun : Loaded → Option SmallWorld → Type 0
