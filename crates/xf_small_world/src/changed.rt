@@ -10,7 +10,7 @@ ghost use Rattle.xf_actions.specs.Performs.{Reads};
 ghost use Rattle.xf_actions.specs.Seen.{fired_of, place_of, told_of};
 ghost use Rattle.xf_small_world.specs.Fault.{means};
 ghost use Rattle.xf_small_forest.specs.Numbers.{number};
-ghost use Rattle.xf_small_world.specs.Formed.{profile};
+ghost use Rattle.xf_processor.specs.Formed.{profile};
 ghost use Rattle.xf_small_world.specs.State.{state_of};
 ghost use Rattle.xf_small_world.specs.Telling.{deleted_told, inserted_told, location_in};
 

@@ -10,7 +10,8 @@ ghost use Rattle.xf_form_machine.specs.Surround.{interface};
 ghost use Rattle.xf_form_machine.specs.Update as update;
 ghost use Rattle.xf_form_machine.specs.Update.{no_refresh};
 ghost use Rattle.xf_machine_laws.specs.Quiet.{Quiet};
-ghost use Rattle.xf_work.specs.Does.{Does, profile};
+ghost use Rattle.xf_processor.specs.Formed.{profile};
+ghost use Rattle.xf_work.specs.Does.{Does};
 ghost use Rattle.xf_work.specs.Flags.{flag_of};
 ghost use Rattle.xf_work.specs.Standing.{state_of};
 
