@@ -5,7 +5,7 @@ ghost use Rattle.xf_num.specs.Number.{size_limit};
 ghost use Rattle.xf_num.specs.Written.{is_empty, leading_digits, after_digits, units_of};
 ghost use Rattle.xf_dates.specs.Decimals.{decimals_at, past_decimals};
 
-use xf_num::{DECIMALS, after_digits, digits_onto, with_decimals};
+use xf_num::{Decimals, after_digits, digits_onto, with_decimals};
 use xf_types::{begins_with, cut, past_first};
 
 /// The digits that a text begins with.
@@ -40,12 +40,12 @@ pub fn past_decimals(text: &[u8]) -> &[u8]
 }
 
 /// The units that decimals write; those after the last that counts are dropped.
-pub fn decimal_units(digits: &[u8]) -> u64
+pub fn decimal_units(digits: &[u8], decimals: Decimals) -> u64
     requires { is_empty (after_digits digits.now) ≡ true }
-    ensures value { result ≡ units_of DECIMALS 0 digits.now }
+    ensures value { result ≡ units_of decimals 0 digits.now }
     ensures size { result < size_limit }
 {
-    match with_decimals(0, digits, DECIMALS).units() {
+    match with_decimals(0, digits, decimals).units() {
         Some(units) => units.unsigned_abs() as u64,
         None => unreachable!(),
     }

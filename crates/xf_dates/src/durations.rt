@@ -6,26 +6,29 @@ ghost use Rattle.xf_types.specs.Numerals.{signed_size};
 ghost use Rattle.xf_dates.specs.Durations.{part_value, months_units, seconds_units, duration_in, duration};
 
 use crate::decimals::{decimal_units, decimals_at};
-use xf_num::{DECIMALS, Num, after_digits, digits_onto, trimmed, units_in_one};
+use xf_num::{Decimals, Num, after_digits, digits_onto, trimmed};
 use xf_types::{begins_with, is_duration, past_first, past_minus, past_part, past_parts};
 
 /// The months and the seconds of a duration, each NaN where it is out of range; none where a text is no duration.
-pub fn duration(text: &str) -> Option<(Num, Num)>
-    ensures { result ≡ duration DECIMALS text.now }
+pub fn duration(text: &str, decimals: Decimals) -> Option<(Num, Num)>
+    ensures { result ≡ duration decimals text.now }
 {
-    duration_in(trimmed(text.as_bytes()))
+    duration_in(trimmed(text.as_bytes()), decimals)
 }
 
 /// The same, of a text without white space at its ends.
-fn duration_in(text: &[u8]) -> Option<(Num, Num)>
-    ensures { result ≡ duration_in DECIMALS text.now }
+fn duration_in(text: &[u8], decimals: Decimals) -> Option<(Num, Num)>
+    ensures { result ≡ duration_in decimals text.now }
 {
     if !is_duration(text) {
         return None;
     }
     let minus = begins_with(b'-', text);
     let parts = past_first(past_minus(text));
-    Some((months(minus, parts), seconds(minus, parts)))
+    Some((
+        months(minus, parts, decimals),
+        seconds(minus, parts, decimals),
+    ))
 }
 
 /// The number that the digits before a designator write, at most 10^18, and 0 where there is no such part.
@@ -39,17 +42,22 @@ fn part_value(designator: u8, text: &[u8]) -> u64
 }
 
 /// The months of the years and months of a duration.
-fn months(minus: bool, parts: &[u8]) -> Num
-    ensures { result ≡ in_range (signed_size minus (months_units DECIMALS parts.now)) }
+fn months(minus: bool, parts: &[u8], decimals: Decimals) -> Num
+    ensures { result ≡ in_range (signed_size minus (months_units decimals parts.now)) }
 {
     let years = part_value(b'Y', parts);
     let months = part_value(b'M', past_part(b'Y', parts));
-    with_sign(minus, 12 * u128::from(years) + u128::from(months), 0)
+    with_sign(
+        minus,
+        12 * u128::from(years) + u128::from(months),
+        0,
+        decimals,
+    )
 }
 
 /// The seconds of the days and the time of a duration.
-fn seconds(minus: bool, parts: &[u8]) -> Num
-    ensures { result ≡ in_range (signed_size minus (seconds_units DECIMALS parts.now)) }
+fn seconds(minus: bool, parts: &[u8], decimals: Decimals) -> Num
+    ensures { result ≡ in_range (signed_size minus (seconds_units decimals parts.now)) }
 {
     let days = part_value(b'D', past_parts(b"YM", parts));
     let time = past_first(past_parts(b"YMD", parts));
@@ -61,15 +69,16 @@ fn seconds(minus: bool, parts: &[u8]) -> Num
         + 3_600 * u128::from(hours)
         + 60 * u128::from(minutes)
         + u128::from(whole);
-    with_sign(minus, total, decimal_units(decimals_at(after_digits(last))))
+    let units = decimal_units(decimals_at(after_digits(last)), decimals);
+    with_sign(minus, total, units, decimals)
 }
 
 /// So many wholes and so many units of the last decimal, with their sign, as a number.
-fn with_sign(minus: bool, whole: u128, decimals: u64) -> Num
+fn with_sign(minus: bool, whole: u128, units: u64, decimals: Decimals) -> Num
     requires whole { whole < 2 ^ 90 }
-    requires decimals { decimals < size_limit }
-    ensures { result ≡ in_range (signed_size minus (whole * scale DECIMALS + decimals)) }
+    requires units { units < size_limit }
+    ensures { result ≡ in_range (signed_size minus (whole * scale decimals + units)) }
 {
-    let size = (whole * u128::from(units_in_one(DECIMALS)) + u128::from(decimals)) as i128;
+    let size = (whole * u128::from(decimals.units_in_one()) + u128::from(units)) as i128;
     Num::of_units(if minus { -size } else { size })
 }

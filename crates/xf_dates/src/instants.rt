@@ -6,32 +6,33 @@ ghost use Rattle.xf_dates.specs.Instants.{seconds_in, seconds_of};
 
 use crate::days::second_at;
 use crate::decimals::{decimal_units, decimals_at};
-use xf_num::{DECIMALS, Num, trimmed, units_in_one};
+use xf_num::{Decimals, Num, trimmed};
 use xf_types::{cut, is_date_time};
 
 /// The seconds from 1970-01-01T00:00:00Z to a dateTime, where one without a zone is in UTC; NaN where a text is none.
-pub fn seconds_of(text: &str) -> Num
-    ensures { result ≡ seconds_of DECIMALS text.now }
+pub fn seconds_of(text: &str, decimals: Decimals) -> Num
+    ensures { result ≡ seconds_of decimals text.now }
 {
-    seconds_in(trimmed(text.as_bytes()))
+    seconds_in(trimmed(text.as_bytes()), decimals)
 }
 
 /// The same, of a text without white space at its ends.
-fn seconds_in(text: &[u8]) -> Num
-    ensures { result ≡ seconds_in DECIMALS text.now }
+fn seconds_in(text: &[u8], decimals: Decimals) -> Num
+    ensures { result ≡ seconds_in decimals text.now }
 {
     if !is_date_time(text) {
         return Num::nan();
     }
-    number_of(second_at(text), decimal_units(decimals_at(cut(text, 19).1)))
+    let units = decimal_units(decimals_at(cut(text, 19).1), decimals);
+    number_of(second_at(text), units, decimals)
 }
 
 /// So many whole seconds and so many units of the last decimal, as a number.
-fn number_of(second: i64, decimals: u64) -> Num
+fn number_of(second: i64, units: u64, decimals: Decimals) -> Num
     requires second { unsigned_abs second < 2 ^ 50 }
-    requires decimals { decimals < size_limit }
-    ensures { result ≡ in_range (second *ℤ pos (scale DECIMALS) +ℤ pos decimals) }
+    requires units { units < size_limit }
+    ensures { result ≡ in_range (second *ℤ pos (scale decimals) +ℤ pos units) }
 {
-    let one = i128::from(units_in_one(DECIMALS));
-    Num::of_units(i128::from(second) * one + i128::from(decimals))
+    let one = i128::from(decimals.units_in_one());
+    Num::of_units(i128::from(second) * one + i128::from(units))
 }

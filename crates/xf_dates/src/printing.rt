@@ -8,16 +8,16 @@ use jiff_core::civil::{Date, DateTime, Time};
 use jiff_fmt::temporal::DateTimePrinter;
 use std::alloc::{AllocError, Global};
 use xf_name::Word;
-use xf_num::{DECIMALS, Num, units_in_one};
+use xf_num::{Decimals, Num};
 
 /// The first year that a date is written in.
 const FIRST_YEAR: i16 = 1;
 
 /// The date that is so many days, rounded, after 1970-01-01; empty for NaN and outside the years 0001 to 9999.
-pub fn date_of(alloc: Global, day: Num) -> Result<Word, AllocError>
-    ensures { IfOk result (λ word. word ≡ date_of DECIMALS day) }
+pub fn date_of(alloc: Global, day: Num, decimals: Decimals) -> Result<Word, AllocError>
+    ensures { IfOk result (λ word. word ≡ date_of decimals day) }
 {
-    let Some(whole) = nearest_whole(day) else {
+    let Some(whole) = nearest_whole(day, decimals) else {
         return Ok(Word::new(alloc));
     };
     let Some(date) = civil_date(whole) else {
@@ -28,10 +28,10 @@ pub fn date_of(alloc: Global, day: Num) -> Result<Word, AllocError>
 
 /// The dateTime in UTC that is so many seconds, rounded, after 1970-01-01T00:00:00Z; empty for NaN and outside the
 /// years 0001 to 9999.
-pub fn moment_of(alloc: Global, seconds: Num) -> Result<Word, AllocError>
-    ensures { IfOk result (λ word. word ≡ moment_of DECIMALS seconds) }
+pub fn moment_of(alloc: Global, seconds: Num, decimals: Decimals) -> Result<Word, AllocError>
+    ensures { IfOk result (λ word. word ≡ moment_of decimals seconds) }
 {
-    let Some(whole) = nearest_whole(seconds) else {
+    let Some(whole) = nearest_whole(seconds, decimals) else {
         return Ok(Word::new(alloc));
     };
     let Some(date) = civil_date(whole.div_euclid(DAY)) else {
@@ -45,11 +45,11 @@ pub fn moment_of(alloc: Global, seconds: Num) -> Result<Word, AllocError>
 }
 
 /// The whole number nearest to a number, of two the greater; none for NaN.
-fn nearest_whole(number: Num) -> Option<i64>
-    ensures { result ≡ nearest_whole DECIMALS number }
+fn nearest_whole(number: Num, decimals: Decimals) -> Option<i64>
+    ensures { result ≡ nearest_whole decimals number }
 {
-    match number.round().units() {
-        Some(units) => Some(units.div_euclid(i128::from(units_in_one(DECIMALS))) as i64),
+    match number.round(decimals).units() {
+        Some(units) => Some(units.div_euclid(i128::from(decimals.units_in_one())) as i64),
         None => None,
     }
 }

@@ -12,14 +12,20 @@ use crate::fault::FuncFault;
 use crate::given::number_at;
 use crate::numbers::power;
 use std::alloc::Global;
+use xf_num::Decimals;
 use xf_plain_values::Plain;
 use xf_table::functions::rows;
 
 /// The value of a function on plain values, which is known by its code in the table of functions, at these arguments.
-pub fn call(alloc: Global, code: u16, given: &[Plain]) -> Result<Plain, FuncFault>
-    ensures { GivesBounded FuncFault.Memory FuncFault.Long (λ value. value) result (called (Some string_limit) 6 code given.now) }
+pub fn call(
+    alloc: Global,
+    code: u16,
+    given: &[Plain],
+    decimals: Decimals,
+) -> Result<Plain, FuncFault>
+    ensures { GivesBounded FuncFault.Memory FuncFault.Long (λ value. value) result (called (Some string_limit) decimals code given.now) }
 {
-    by_name(alloc, name_of(code), given)
+    by_name(alloc, name_of(code), given, decimals)
 }
 
 /// The name of the function with the code.
@@ -32,20 +38,27 @@ fn name_of(code: u16) -> &'static str
     }
 }
 
-fn by_name(alloc: Global, name: &str, given: &[Plain]) -> Result<Plain, FuncFault>
-    ensures { GivesBounded FuncFault.Memory FuncFault.Long (λ value. value) result (by_name (Some string_limit) 6 name.now given.now) }
+fn by_name(
+    alloc: Global,
+    name: &str,
+    given: &[Plain],
+    decimals: Decimals,
+) -> Result<Plain, FuncFault>
+    ensures { GivesBounded FuncFault.Memory FuncFault.Long (λ value. value) result (by_name (Some string_limit) decimals name.now given.now) }
 {
     if name == "round" {
-        return Ok(Plain::Number(number_at(given, 0).round()));
+        return Ok(Plain::Number(number_at(given, 0, decimals).round(decimals)));
     }
     if name == "floor" {
-        return Ok(Plain::Number(number_at(given, 0).floor()));
+        return Ok(Plain::Number(number_at(given, 0, decimals).floor(decimals)));
     }
     if name == "ceiling" {
-        return Ok(Plain::Number(number_at(given, 0).ceiling()));
+        return Ok(Plain::Number(number_at(given, 0, decimals).ceiling(decimals)));
     }
     if name == "power" {
-        return Ok(Plain::Number(power(number_at(given, 0), number_at(given, 1))));
+        let number = number_at(given, 0, decimals);
+        let exponent = number_at(given, 1, decimals);
+        return Ok(Plain::Number(power(number, exponent, decimals)));
     }
-    by_dates(alloc, name, given)
+    by_dates(alloc, name, given, decimals)
 }

@@ -10,47 +10,51 @@ ghost use Rattle.xf_funcs.specs.Given.{string_of};
 use crate::fault::FuncFault;
 use std::alloc::Global;
 use std::borrow::CowStr;
-use xf_num::Num;
+use xf_num::{Decimals, Num};
 use xf_plain_values::Plain;
 
 /// No string of an evaluation has more bytes.
 pub const STRING_LIMIT: usize = 4_194_304;
 
-/// The units in one.
-pub const ONE: u64 = 1_000_000;
-
 /// The value as a number.
-pub fn number_of(value: &Plain) -> Num
-    ensures { result ≡ number_in 6 value.now }
+pub fn number_of(value: &Plain, decimals: Decimals) -> Num
+    ensures { result ≡ number_in decimals value.now }
 {
     match value {
-        Plain::Text(text) => Num::read(text.as_str()),
+        Plain::Text(text) => Num::read(text.as_str(), decimals),
         Plain::Number(number) => *number,
-        Plain::Truth(truth) => number_of_truth(*truth),
+        Plain::Truth(truth) => number_of_truth(*truth, decimals),
     }
 }
 
-fn number_of_truth(truth: bool) -> Num
-    ensures { result ≡ number_of_truth 6 truth }
+fn number_of_truth(truth: bool, decimals: Decimals) -> Num
+    ensures { result ≡ number_of_truth decimals truth }
 {
-    if truth { whole(1) } else { whole(0) }
+    if truth {
+        whole(1, decimals)
+    } else {
+        whole(0, decimals)
+    }
 }
 
 /// A whole number.
-#[tactic(auto, unfolding(xf_num::specs::Number::scale))]
-pub fn whole(count: usize) -> Num
-    ensures { result ≡ whole 6 count }
+pub fn whole(count: usize, decimals: Decimals) -> Num
+    ensures { result ≡ whole decimals count }
 {
-    Num::of_units(i128::from(count as u64) * i128::from(ONE))
+    Num::of_units(i128::from(count as u64) * i128::from(decimals.units_in_one()))
 }
 
 /// The string of a value, which is copied only where it has to be made.
-pub fn string_of<'a>(alloc: Global, value: &'a Plain) -> Result<CowStr<'a, Global>, FuncFault>
-    ensures { GivesBounded FuncFault.Memory FuncFault.Long cow_str_bytes result (string_of (Some string_limit) 6 value.now) }
+pub fn string_of<'a>(
+    alloc: Global,
+    value: &'a Plain,
+    decimals: Decimals,
+) -> Result<CowStr<'a, Global>, FuncFault>
+    ensures { GivesBounded FuncFault.Memory FuncFault.Long cow_str_bytes result (string_of (Some string_limit) decimals value.now) }
 {
     match value {
         Plain::Text(text) => capped(CowStr::Borrowed(text.as_str())),
-        Plain::Number(number) => capped(CowStr::Owned(number.print(alloc)?)),
+        Plain::Number(number) => capped(CowStr::Owned(number.print(alloc, decimals)?)),
         Plain::Truth(truth) => capped(CowStr::Borrowed(text_of_truth(*truth))),
     }
 }

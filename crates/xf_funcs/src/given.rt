@@ -10,7 +10,7 @@ use crate::conversions::{number_of, string_of};
 use crate::fault::FuncFault;
 use std::alloc::Global;
 use std::borrow::CowStr;
-use xf_num::Num;
+use xf_num::{Decimals, Num};
 use xf_plain_values::Plain;
 
 /// The string of the argument at a place from 0.
@@ -18,21 +18,22 @@ pub fn string_at<'a>(
     alloc: Global,
     given: &'a [Plain],
     at: usize,
+    decimals: Decimals,
 ) -> Result<CowStr<'a, Global>, FuncFault>
-    ensures { GivesBounded FuncFault.Memory FuncFault.Long cow_str_bytes result (string_at (Some string_limit) 6 given.now at) }
+    ensures { GivesBounded FuncFault.Memory FuncFault.Long cow_str_bytes result (string_at (Some string_limit) decimals given.now at) }
 {
     match given.get(at) {
-        Some(value) => string_of(alloc, value),
+        Some(value) => string_of(alloc, value, decimals),
         None => Ok(CowStr::Borrowed("")),
     }
 }
 
 /// The argument at a place as a number.
-pub fn number_at(given: &[Plain], at: usize) -> Num
-    ensures { result ≡ number_at 6 given.now at }
+pub fn number_at(given: &[Plain], at: usize, decimals: Decimals) -> Num
+    ensures { result ≡ number_at decimals given.now at }
 {
     match given.get(at) {
-        Some(value) => number_of(value),
+        Some(value) => number_of(value, decimals),
         None => Num::nan(),
     }
 }

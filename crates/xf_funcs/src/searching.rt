@@ -6,10 +6,7 @@ ghost use Rattle.xf_funcs.specs.Searching.{begins_with, contains, before, after,
 
 use crate::conversions::whole;
 use std::cmp::Ordering;
-use xf_num::Num;
-
-/// The units of -1.
-const MINUS_ONE: i128 = -1_000_000;
+use xf_num::{Decimals, Num};
 
 pub fn begins_with(text: &str, front: &str) -> bool
     ensures { result ≡ begins_with text.now front.now }
@@ -44,13 +41,13 @@ pub fn after<'a>(text: &'a str, part: &str) -> &'a str
 }
 
 /// How two texts stand, by the codes of their characters: -1, 0 or 1.
-pub fn compared(left: &str, right: &str) -> Num
-    ensures { result ≡ order_number 6 (order_of_texts left.now right.now) }
+pub fn compared(left: &str, right: &str, decimals: Decimals) -> Num
+    ensures { result ≡ order_number decimals (order_of_texts left.now right.now) }
 {
     match order_of_texts(left, right) {
-        Ordering::Less => Num::of_units(MINUS_ONE),
-        Ordering::Equal => whole(0),
-        Ordering::Greater => whole(1),
+        Ordering::Less => Num::of_whole(-1, decimals),
+        Ordering::Equal => whole(0, decimals),
+        Ordering::Greater => whole(1, decimals),
     }
 }
 

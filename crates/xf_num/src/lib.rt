@@ -10,6 +10,6 @@ mod text;
 
 pub use number::Num;
 pub use reading::{digits_onto, with_decimals};
-pub use scales::{DECIMALS, units_in_one};
+pub use scales::Decimals;
 pub use steps::Steps;
 pub use text::{after_digits, all_digits, is_digit, is_space, trimmed};

@@ -6,18 +6,18 @@ ghost use Rattle.xf_num.specs.Number.{scale, size_limit, in_range};
 ghost use Rattle.xf_num.specs.Written.{negated, read_at, with_sign_at, without_sign_at, from_parts, units_of, is_space, is_digit, is_empty, leading_digits, after_digits, without_leading, without_trailing};
 
 use crate::number::Num;
-use crate::scales::{DECIMALS, units_in_one};
+use crate::scales::{Decimals, units_for};
 use crate::text::{all_digits, is_digit, trimmed};
 
 /// The size at which a number is out of range, in units.
 const TOO_LARGE: u64 = 1_000_000_000_000_000_000;
 
 impl Num {
-    /// Reads a text as a number: NaN where it is none, or out of range. Decimals after the sixth are dropped.
-    pub fn read(text: &str) -> Num
-        ensures { result ≡ read_at DECIMALS text.now }
+    /// Reads a text as a number: NaN where it is none, or out of range. Decimals after the last that counts are dropped.
+    pub fn read(text: &str, decimals: Decimals) -> Num
+        ensures { result ≡ read_at decimals text.now }
     {
-        with_sign(trimmed(text.as_bytes()), DECIMALS)
+        with_sign(trimmed(text.as_bytes()), decimals)
     }
 
     /// The number with the other sign.
@@ -32,8 +32,7 @@ impl Num {
 }
 
 /// Reads an optional minus and the digits after it.
-fn with_sign(text: &[u8], decimals: u8) -> Num
-    requires { decimals ≤ 9 }
+fn with_sign(text: &[u8], decimals: Decimals) -> Num
     ensures { result ≡ with_sign_at decimals text.now }
 {
     match text {
@@ -43,8 +42,7 @@ fn with_sign(text: &[u8], decimals: u8) -> Num
 }
 
 /// Reads digits with an optional point.
-fn without_sign(text: &[u8], decimals: u8) -> Num
-    requires { decimals ≤ 9 }
+fn without_sign(text: &[u8], decimals: Decimals) -> Num
     ensures { result ≡ without_sign_at decimals text.now }
 {
     let (whole, count) = digits_onto(0, text);
@@ -52,16 +50,15 @@ fn without_sign(text: &[u8], decimals: u8) -> Num
 }
 
 /// Reads what follows the digits before a point: nothing, or a point and digits.
-fn with_rest(whole: u64, has_whole: bool, rest: &[u8], decimals: u8) -> Num
-    requires decimals { decimals ≤ 9 }
-    requires whole { whole ≤ size_limit }
+fn with_rest(whole: u64, has_whole: bool, rest: &[u8], decimals: Decimals) -> Num
+    requires { whole ≤ size_limit }
     ensures { result ≡ from_parts decimals whole has_whole rest.now }
 {
     let [point, digits @ ..] = rest else {
         if !has_whole {
             return Num::nan();
         }
-        return scaled(whole, decimals);
+        return scaled(whole, decimals.count());
     };
     if *point != b'.' {
         return Num::nan();
@@ -76,18 +73,17 @@ fn with_rest(whole: u64, has_whole: bool, rest: &[u8], decimals: u8) -> Num
 }
 
 /// The number of a size in whole units and the digits after its point.
-pub fn with_decimals(whole: u64, digits: &[u8], decimals: u8) -> Num
-    requires decimals { decimals ≤ 9 }
+pub fn with_decimals(whole: u64, digits: &[u8], decimals: Decimals) -> Num
     requires whole { whole ≤ size_limit }
     requires digits { is_empty (after_digits digits.now) ≡ true }
     ensures { result ≡ in_range (pos (units_of decimals whole digits.now)) }
 {
-    let most = decimals as usize;
-    if digits.len() < most {
+    let most = decimals.count();
+    if digits.len() < most as usize {
         let (size, _) = digits_onto(whole, digits);
-        return scaled(size, decimals - digits.len() as u8);
+        return scaled(size, most - digits.len() as u8);
     }
-    let (size, _) = digits_onto(whole, &digits[..most]);
+    let (size, _) = digits_onto(whole, &digits[..most as usize]);
     scaled(size, 0)
 }
 
@@ -96,7 +92,7 @@ fn scaled(size: u64, missing: u8) -> Num
     requires { missing ≤ 9 }
     ensures { result ≡ in_range (pos (size * scale missing)) }
 {
-    Num::of_units(i128::from(size) * i128::from(units_in_one(missing)))
+    Num::of_units(i128::from(size) * i128::from(units_for(missing)))
 }
 
 /// The number that the leading digits write after those of the start, at most 10^18, and how many they are.

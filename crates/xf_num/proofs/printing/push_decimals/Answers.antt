@@ -22,13 +22,13 @@ pub overflow_cast-rest : goal.overflow_cast-rest
 overflow_cast-rest c =
     let t = c.places-test.true in
     let one = one_decimal c.places.left c.places.rest (omega arith) c.places.invariant.below_one in
-    rw c.units_in_one-unit.ensures.value (search (rules, one.digit))
+    rw c.units_for-unit.ensures.value (search (rules, one.digit))
 
 pub overflow_add-rest : goal.overflow_add-rest
 overflow_add-rest c =
     let t = c.places-test.true in
     let one = one_decimal c.places.left c.places.rest (omega arith) c.places.invariant.below_one in
-    rw c.units_in_one-unit.ensures.value (search (rules, one.digit))
+    rw c.units_for-unit.ensures.value (search (rules, one.digit))
 
 pub places-smaller : goal.places-smaller
 places-smaller c =
@@ -41,14 +41,14 @@ places-preserved c =
     let some : 0 < c.places.rest = omega (arith, t) in
     let below = c.places.invariant.below_one in
     let one = one_decimal c.places.left c.places.rest some below in
-    let unit = c.units_in_one-unit.ensures.value in
-    let digit : c.places.rest / c.units_in_one-unit.result < 10 = rw unit one.digit in
+    let unit = c.units_for-unit.ensures.value in
+    let digit : c.places.rest / c.units_for-unit.result < 10 = rw unit one.digit in
     record {
       few = omega arith;
       below_one = rw unit one.below;
       so_far = pushed (string_bytes c.places.text) (string_bytes c.push-in-places.new.self) _
-          (decimals_of (c.places.left - 1) (c.places.rest % c.units_in_one-unit.result)) (decimals_of c.places.left c.places.rest) c.from.result
+          (decimals_of (c.places.left - 1) (c.places.rest % c.units_for-unit.result)) (decimals_of c.places.left c.places.rest) c.from.result
           c.in_ok-push-2.ensures.bytes (c.in_ok-push-2.ensures.ascii (omega (arith, digit)))
-          (next_decimal c.places.left c.places.rest c.units_in_one-unit.result c.from.result some below unit c.from.ensures)
+          (next_decimal c.places.left c.places.rest c.units_for-unit.result c.from.result some below unit c.from.ensures)
           ∙ c.places.invariant.so_far;
     }
