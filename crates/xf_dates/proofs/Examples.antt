@@ -56,7 +56,15 @@ no_decimals : seconds_of 0 (codes "1970-01-01T00:00:01.9") ≡ Some (pos 1)
 unfolding seconds_in scale days_from_civil day_count days_of_years days_of_months
 no_decimals = refl
 
--- with nine decimals the year 9999 is out of range
+-- with nine decimals the last number is in the year 2001, and what comes later is out of range
+last_billionth : seconds_of 9 (codes "2001-09-09T01:46:39.999999999Z") ≡ Some (pos 999999999999999999)
+unfolding seconds_in scale days_from_civil day_count days_of_years days_of_months
+last_billionth = refl
+
+new_year_out_of_range : seconds_of 9 (codes "2002-01-01T00:00:00Z") ≡ None
+unfolding seconds_in scale days_from_civil day_count days_of_years days_of_months
+new_year_out_of_range = refl
+
 out_of_range : seconds_of 9 (codes "9999-01-01T00:00:00") ≡ None
 unfolding seconds_in scale days_from_civil day_count days_of_years days_of_months
 out_of_range = refl
@@ -66,6 +74,11 @@ out_of_range = refl
 row_of_seconds : duration 6 (codes "P3DT10H30M1.5S") ≡ Some (Some (pos 0), Some (pos 297001500000))
 unfolding duration_in months_units seconds_units scale
 row_of_seconds = refl
+
+-- the same without decimals
+row_of_whole_seconds : duration 0 (codes "P3DT10H30M1.5S") ≡ Some (Some (pos 0), Some (pos 297001))
+unfolding duration_in months_units seconds_units scale
+row_of_whole_seconds = refl
 
 row_of_months : duration 6 (codes "P1Y2M") ≡ Some (Some (pos 14000000), Some (pos 0))
 unfolding duration_in months_units seconds_units scale

@@ -45,6 +45,9 @@ pub fn decimal_units(digits: &[u8], decimals: Decimals) -> u64
     ensures value { result ≡ units_of decimals 0 digits.now }
     ensures size { result < size_limit }
 {
+    let most = decimals.count();
+    // So few decimals write less than 10^18 units.
+    prove!(most <= 9);
     match with_decimals(0, digits, decimals).units() {
         Some(units) => units.unsigned_abs() as u64,
         None => unreachable!(),

@@ -59,6 +59,11 @@ thousand : power 6 (Some (pos 2000000)) (Some (pos 10000000)) ≡ Some (pos 1024
 unfolding scale
 thousand = refl
 
+-- the same without decimals
+whole_thousand : power 0 (Some (pos 2)) (Some (pos 10)) ≡ Some (pos 1024)
+unfolding scale
+whole_thousand = refl
+
 eighth : power 6 (Some (negsuc 499999)) (Some (pos 3000000)) ≡ Some (negsuc 124999)
 unfolding scale
 eighth = refl
@@ -94,6 +99,11 @@ starts_with_called = refl
 compare_called : called (Some 4194304) 6 5 (Text (codes "a") ∷ Text (codes "b") ∷ []) ≡ Some (Number (Some (negsuc 999999)))
 unfolding function_entries chars scale
 compare_called = refl
+
+-- -1 with nine decimals
+compare_in_billionths : called None 9 5 (Text (codes "a") ∷ Text (codes "b") ∷ []) ≡ Some (Number (Some (negsuc 999999999)))
+unfolding function_entries chars scale
+compare_in_billionths = refl
 
 -- a string of at most 3 bytes
 string_too_long : called (Some 3) 6 6 (Text (codes "ab") ∷ Text (codes "cd") ∷ []) ≡ None

@@ -34,21 +34,21 @@ is_long bytes h = elim (cases_lt string_limit (length bytes)) as (λ _. string_l
 
 -- ---- concatenation
 
-abbrev concatenated : List Plain → List ℕ
-concatenated given = flat_map (text_in 6) given
+abbrev concatenated : ℕ → List Plain → List ℕ
+concatenated d given = flat_map (text_in d) given
 
-long_with : (given : List Plain) (i : ℕ) (value : Plain) → i < length given → value ≡ get_or given i value → string_limit < length (concatenated (take i given)) + length (text_in 6 value) → concat_of (Some string_limit) 6 given ≡ None
-long_with given i value l e h =
-    let more = length-flat_map-take (text_in 6) given i value l in
-    let same : length (text_in 6 (get_or given i value)) ≡ length (text_in 6 value) = ap (λ v. length (text_in 6 v)) (sym e) in
-    ap text (too_long (concatenated given) (omega arith))
+long_with : (d : ℕ) (given : List Plain) (i : ℕ) (value : Plain) → i < length given → value ≡ get_or given i value → string_limit < length (concatenated d (take i given)) + length (text_in d value) → concat_of (Some string_limit) d given ≡ None
+long_with d given i value l e h =
+    let more = length-flat_map-take (text_in d) given i value l in
+    let same : length (text_in d (get_or given i value)) ≡ length (text_in d value) = ap (λ v. length (text_in d v)) (sym e) in
+    ap text (too_long (concatenated d given) (omega arith))
 
-pub concat_fault : (given : List Plain) (i : ℕ) (value : Plain) (fault : FuncFault) → i < length given → value ≡ get_or given i value → (fault ≡ Memory) ⊎ ((fault ≡ Long) × (string_of (Some string_limit) 6 value ≡ None)) → (fault ≡ Memory) ⊎ ((fault ≡ Long) × (concat_of (Some string_limit) 6 given ≡ None))
-concat_fault given i value fault l e (inl memory) = inl memory
-concat_fault given i value fault l e (inr refused) =
-    let long = is_long (text_in 6 value) refused.1 in
-    inr (refused.0, long_with given i value l e (omega (arith, long)))
+pub concat_fault : (d : ℕ) (given : List Plain) (i : ℕ) (value : Plain) (fault : FuncFault) → i < length given → value ≡ get_or given i value → (fault ≡ Memory) ⊎ ((fault ≡ Long) × (string_of (Some string_limit) d value ≡ None)) → (fault ≡ Memory) ⊎ ((fault ≡ Long) × (concat_of (Some string_limit) d given ≡ None))
+concat_fault d given i value fault l e (inl memory) = inl memory
+concat_fault d given i value fault l e (inr refused) =
+    let long = is_long (text_in d value) refused.1 in
+    inr (refused.0, long_with d given i value l e (omega (arith, long)))
 
-pub concat_long : (given : List Plain) (i : ℕ) (value : Plain) (made string : List ℕ) → i < length given → value ≡ get_or given i value → made ≡ concatenated (take i given) → string_of (Some string_limit) 6 value ≡ Some string → string_limit < length made + length string → concat_of (Some string_limit) 6 given ≡ None
-concat_long given i value made string l e m s h =
-    long_with given i value l e (omega (arith, ap length m, ap length (is_kept (text_in 6 value) string s)))
+pub concat_long : (d : ℕ) (given : List Plain) (i : ℕ) (value : Plain) (made string : List ℕ) → i < length given → value ≡ get_or given i value → made ≡ concatenated d (take i given) → string_of (Some string_limit) d value ≡ Some string → string_limit < length made + length string → concat_of (Some string_limit) d given ≡ None
+concat_long d given i value made string l e m s h =
+    long_with d given i value l e (omega (arith, ap length m, ap length (is_kept (text_in d value) string s)))

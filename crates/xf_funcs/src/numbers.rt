@@ -8,7 +8,7 @@ use crate::conversions::whole;
 use xf_num::{Decimals, Num};
 
 /// The greatest exponent.
-const EXPoneNT_LIMIT: u64 = 64;
+const EXPONENT_LIMIT: u64 = 64;
 
 /// 1 multiplied by a number so many times; NaN where that is no whole number from 0 to 64.
 pub fn power(number: Num, exponent: Num, decimals: Decimals) -> Num
@@ -43,7 +43,7 @@ fn exponent_in(units: i128, decimals: Decimals) -> Option<u8>
     if size % one != 0 {
         return None;
     }
-    if size / one > EXPoneNT_LIMIT {
+    if size / one > EXPONENT_LIMIT {
         return None;
     }
     Some((size / one) as u8)

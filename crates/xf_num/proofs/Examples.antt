@@ -13,7 +13,7 @@ product_cut : product 6 (Some (pos 3)) (Some (negsuc 499999)) ≡ Some (negsuc 0
 unfolding scale
 product_cut = refl
 
--- 1 div 3, with six decimals and with none
+-- 1 div 3, with six decimals, with none, with two and with nine
 third : quotient 6 (Some (pos 1000000)) (Some (pos 3000000)) ≡ Some (pos 333333)
 unfolding scale
 third = refl
@@ -21,6 +21,37 @@ third = refl
 third_whole : quotient 0 (Some (pos 1)) (Some (pos 3)) ≡ Some (pos 0)
 unfolding scale
 third_whole = refl
+
+third_in_hundredths : quotient 2 (Some (pos 100)) (Some (pos 300)) ≡ Some (pos 33)
+unfolding scale
+third_in_hundredths = refl
+
+third_in_billionths : quotient 9 (Some (pos 1000000000)) (Some (pos 3000000000)) ≡ Some (pos 333333333)
+unfolding scale
+third_in_billionths = refl
+
+-- with two decimals 1.239 times 1 is 1.23, and 0.05 times 0.05 is 0
+third_decimal_dropped : printed 2 (product 2 (read_at 2 (codes "1.239")) (read_at 2 (codes "1"))) ≡ codes "1.23"
+unfolding scale digits
+third_decimal_dropped = refl
+
+small_product : printed 2 (product 2 (read_at 2 (codes "0.05")) (read_at 2 (codes "0.05"))) ≡ codes "0"
+unfolding scale digits
+small_product = refl
+
+-- with none 2.9 and 1 are 3
+whole_sum : printed 0 (sum (read_at 0 (codes "2.9")) (read_at 0 (codes "1"))) ≡ codes "3"
+unfolding scale digits
+whole_sum = refl
+
+-- with nine 999999999.999999999 is the greatest number
+greatest : read_at 9 (codes "999999999.999999999") ≡ Some (pos 999999999999999999)
+unfolding scale
+greatest = refl
+
+past_the_greatest : sum (read_at 9 (codes "999999999.999999999")) (read_at 9 (codes "0.000000001")) ≡ None
+unfolding scale
+past_the_greatest = refl
 
 by_zero : quotient 6 (Some (pos 1)) (Some (pos 0)) ≡ None
 by_zero = refl

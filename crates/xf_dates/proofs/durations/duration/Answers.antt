@@ -4,4 +4,4 @@ use Rattle.xf_dates.specs.Durations.{duration_in}
 use Rattle.xf_dates.proofs.durations.duration.Goals as goal
 
 pub returns : goal.returns
-returns c = c.duration_in.ensures ∙ ap (duration_in 6) (c.trimmed.ensures ∙ ap trimmed c.as_bytes.ensures.value)
+returns c = c.duration_in.ensures ∙ ap (duration_in c.args.decimals) (c.trimmed.ensures ∙ ap trimmed c.as_bytes.ensures.value)

@@ -5,7 +5,7 @@ use Rattle.xf_dates.proofs.durations.duration_in.Goals as goal
 
 pub returns : goal.returns
 returns c =
-    duration_is 6 c.args.text.now c.past_first-parts.result.now c.begins_with-minus.result c.months.result c.seconds.result
+    duration_is c.args.decimals c.args.text.now c.past_first-parts.result.now c.begins_with-minus.result c.months.result c.seconds.result
     c.if-not-is_duration.ensures
     c.begins_with-minus.ensures
     (c.past_first-parts.ensures ∙ ap past_first c.past_minus.ensures)
@@ -13,4 +13,4 @@ returns c =
     c.seconds.ensures
 
 pub returns-then-not-is_duration : goal.returns-then-not-is_duration
-returns-then-not-is_duration c = no_duration 6 c.args.text.now c.if-not-is_duration.ensures
+returns-then-not-is_duration c = no_duration c.args.decimals c.args.text.now c.if-not-is_duration.ensures

@@ -12,11 +12,11 @@ returns c =
     let time = c.past_first-time.ensures ∙ ap past_first c.past_parts-2.ensures in
     let last = c.past_parts-last.ensures ∙ ap (past_parts (codes "HM")) time in
     c.with_sign.ensures
-    ∙ seconds_are 6 c.args.minus c.args.parts.now c.part_value-days.result c.part_value-hours.result c.part_value-minutes.result c.digits_onto-whole.result.0
-    (86400 * c.from.result + 3600 * c.from-2.result + 60 * c.from-3.result + c.from-4.result) c.decimal_units.result
+    ∙ seconds_are c.args.decimals c.args.minus c.args.parts.now c.part_value-days.result c.part_value-hours.result c.part_value-minutes.result c.digits_onto-whole.result.0
+    (86400 * c.from.result + 3600 * c.from-2.result + 60 * c.from-3.result + c.from-4.result) c.decimal_units-units.result
     (c.part_value-days.ensures ∙ ap (λ t. capped (part_value 68 t)) c.past_parts.ensures)
     (c.part_value-hours.ensures ∙ ap (λ t. capped (part_value 72 t)) time)
     (c.part_value-minutes.ensures ∙ ap (λ t. capped (part_value 77 t)) (c.past_part.ensures ∙ ap (past_part 72) time))
     (c.digits_onto-whole.ensures.size ∙ ap (λ t. capped (digits_value 10 (leading_digits t))) last)
     (omega (arith, c.from.ensures, c.from-2.ensures, c.from-3.ensures, c.from-4.ensures))
-    (c.decimal_units.ensures.value ∙ ap (units_of 6 0) (c.decimals_at.ensures.value ∙ ap decimals_at (c.after_digits.ensures ∙ ap after_digits last)))
+    (c.decimal_units-units.ensures.value ∙ ap (units_of c.args.decimals 0) (c.decimals_at.ensures.value ∙ ap decimals_at (c.after_digits.ensures ∙ ap after_digits last)))

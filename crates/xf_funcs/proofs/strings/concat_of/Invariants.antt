@@ -4,4 +4,4 @@ use Rattle.xf_plain_values.specs.Conversions.{text_in}
 use Rattle.xf_funcs.proofs.strings.concat_of.Given as goal
 
 abbrev pub invariant-loop-value : goal.invariant-loop-value
-invariant-loop-value l = (l.made ≡ flat_map (text_in 6) (take l.value-index l.given)) × (length l.made ≤ string_limit)
+invariant-loop-value l = (l.made ≡ flat_map (text_in l.fn.decimals) (take l.value-index l.given)) × (length l.made ≤ string_limit)

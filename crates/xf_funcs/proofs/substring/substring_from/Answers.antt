@@ -9,12 +9,12 @@ pub returns-in-Some : goal.returns-in-Some
 returns-in-Some c =
     let text = chars c.args.text.now in
     let first = c.in-Some.first in
-    let is : Some first ≡ least_place 6 (rounded 6 c.args.start) = c.in-Some.ensures ∙ ap (least_place 6) c.round.ensures in
+    let is : Some first ≡ least_place c.args.decimals (rounded c.args.decimals c.args.start) = c.in-Some.ensures ∙ ap (least_place c.args.decimals) c.round.ensures in
     let count : c.max.result - 1 ≡ first - 1 = omega arith in
-    c.past.ensures.value ∙ ap (λ n. encode_utf8_all (drop n text)) count ∙ ap encode_utf8_all (sym (from_number 6 text (rounded 6 c.args.start) first is))
+    c.past.ensures.value ∙ ap (λ n. encode_utf8_all (drop n text)) count ∙ ap encode_utf8_all (sym (from_number c.args.decimals text (rounded c.args.decimals c.args.start) first is))
 
 pub returns-in-None : goal.returns-in-None
 returns-in-None c =
     let text = chars c.args.text.now in
-    let is : None ≡ least_place 6 (rounded 6 c.args.start) = c.in-None.ensures ∙ ap (least_place 6) c.round.ensures in
-    ap encode_utf8_all (sym (from_nothing 6 text (rounded 6 c.args.start) is))
+    let is : None ≡ least_place c.args.decimals (rounded c.args.decimals c.args.start) = c.in-None.ensures ∙ ap (least_place c.args.decimals) c.round.ensures in
+    ap encode_utf8_all (sym (from_nothing c.args.decimals text (rounded c.args.decimals c.args.start) is))

@@ -7,12 +7,13 @@ pub places-init : goal.places-init
 places-init c =
     let some : 0 < c.args.units = omega (arith, c.if-units-eq0.false) in
     let decimals = decimals_of c.args.decimals c.args.units in
-    record {
-      few = c.requires.decimals;
-      below_one = c.requires.below_one;
+    let many = c.count-left.ensures.value in
+    rw many (record {
+      few = rw many at c.count-left.ensures.most;
+      below_one = c.requires;
       so_far = pushed (string_bytes c.args.text.now) (string_bytes c.push.new.self) _ decimals (after_point decimals) 46
-          c.in_ok-push.ensures.bytes (c.in_ok-push.ensures.ascii (lit< tt)) (point_before c.args.decimals c.args.units some c.requires.below_one);
-    }
+          c.in_ok-push.ensures.bytes (c.in_ok-push.ensures.ascii (lit< tt)) (point_before c.args.decimals c.args.units some c.requires);
+    })
 
 pub overflow_sub-left : goal.overflow_sub-left
 overflow_sub-left c =
