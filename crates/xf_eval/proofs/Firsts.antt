@@ -92,6 +92,9 @@ plain-none s = made-none (plain_of s)
 pub string-alike : (s : Setting) (v w : Value) → first_alone v ≡ first_alone w → string_of s v ≡ string_of s w
 string-alike s v w e = ap (λ m. m >>= λ p. capped s.most (text_in s.given.decimals p)) (plain-alike s v w e)
 
+pub string-made : (s : Setting) (m : Option Value) (v : Value) → option_map (counted true) m ≡ Some (counted true v) → (m >>= string_of s) ≡ string_of s v
+string-made s = made-first (string_of s) (string-alike s)
+
 -- ---- functions
 
 content-first : (nodes : List Node) (v : Value) → first_content nodes (nodes_of (first_alone v)) ≡ first_content nodes (nodes_of v)

@@ -12,7 +12,6 @@ use Rattle.xf_lang.specs.declared.value.Value.{Value}
 use Rattle.xf_lang.specs.declared.value.Value.TheVariants.{Nodes, Text}
 use Rattle.xf_lang.specs.Binding.{as_list, bound_nodes}
 use Rattle.xf_doc.specs.Shape.{shape_of}
-use Rattle.xf_lang.specs.Reads.{shape_setting}
 use Rattle.xf_lang.specs.Conversions.{nodes_of, string_of}
 use Rattle.xf_lang.specs.Functions.{called, instance_id, set_of, text_value}
 use Rattle.xf_lang.specs.Given.{Given, document_of}

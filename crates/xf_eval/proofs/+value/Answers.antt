@@ -6,9 +6,9 @@ use Rattle.xf_ast.specs.declared.expr.Link.{size-Link}
 use Rattle.xf_ast.specs.declared.expr.Step.{size-Step}
 use Rattle.xf_funcs.specs.Called.{called}
 use Rattle.xf_lang.specs.declared.fault.EvalFault.TheVariants.{Long, Memory}
-use Rattle.xf_lang.specs.declared.value.Value.TheVariants.{Nodes, Truth}
+use Rattle.xf_lang.specs.declared.value.Value.TheVariants.{Nodes, Text, Truth}
 use Rattle.xf_lang.specs.Comparisons.{compared}
-use Rattle.xf_lang.specs.Conversions.{truth_of}
+use Rattle.xf_lang.specs.Conversions.{string_of, truth_of}
 use Rattle.xf_lang.specs.Functions.{branched, plain_arguments}
 use Rattle.xf_lang.specs.Binding.{as_list}
 use Rattle.xf_lang.specs.Meaning.{focus_of, meaning, meaning_of_link, setting_of, walk_of}
@@ -25,7 +25,7 @@ use Rattle.xf_eval.specs.Answered.{answered, decides}
 use Rattle.xf_eval.specs.First.{counted, first_node, leads}
 use Rattle.xf_eval.specs.declared.kinds.Kind.TheVariants as kind
 use Rattle.xf_eval.specs.ByKind.{argument_or, by_kind, of_own_argument}
-use Rattle.xf_eval.specs.OfOne.{one_worth, own_worth}
+use Rattle.xf_eval.specs.OfOne.{one_worth, own_worth, plain_worth}
 use Rattle.xf_eval.specs.Sides.{value_in}
 use Rattle.xf_eval.specs.Worth.{seen, setting_in}
 use Rattle.xf_eval.proofs.Arguments.{branched-long, branched-then, branched-else, one_plain, plain-long, plain-of-value, plains-done, plains-more, plains-stuck}
@@ -38,7 +38,7 @@ use Rattle.xf_eval.proofs.Parts.{argument-past, argument-within, by-other, by-ow
 use Rattle.xf_eval.proofs.Runs.{added}
 use Rattle.xf_eval.proofs.WayLaws.{empty-is, way-more, way-stuck, way-walks}
 use Rattle.xf_eval.proofs.Bounded.{gives-same, part-long}
-use Rattle.xf_eval.proofs.Firsts.{chain-made, chain-meaning, map-none, most-take, one-made, own-made, taken-first, walked-last, walked-part}
+use Rattle.xf_eval.proofs.Firsts.{chain-made, chain-meaning, map-none, most-take, one-made, own-made, string-made, taken-first, walked-last, walked-part}
 use Rattle.xf_eval.proofs.+value.Goals as goal
 use Rattle.xf_eval.proofs.+value.Goals.{calls::branched-then-truth_of, calls::branched-else-truth_of, steps::asked_of_each-then-is_true_at+in_ok-push, steps::asked_of_each-else-is_true_at}
 
@@ -99,7 +99,7 @@ calls::call_value-returns-in_ok-value-in_default-clause-value g t c =
     ∙ one-made given.decimals c.args.kind context.model given nodes (argument_or 0 [] ms (setting_of called given nodes context) (focus_of context)) c.in_ok-value-in_default.value
     (subst (λ b. option_map (counted b) (argument_or 0 [] ms (setting_of called given nodes context) (focus_of context)) ≡ Some (counted b c.in_ok-value-in_default.value)) c.takes_plain-plain.ensures c.in_ok-value-in_default.ensures.value) in
     gives-same Memory Long (λ v. v) c.of_one.result _ _
-    (ap (λ d. one_worth d c.args.kind context.model given nodes c.in_ok-value-in_default.value) c.decimals.ensures ∙ sym worth) c.of_one.ensures.value
+    (ap (λ d. one_worth d c.args.kind context.model given nodes c.in_ok-value-in_default.value) c.decimals-decimals.ensures ∙ sym worth) c.of_one.ensures.value
 
 pub calls::call_value-returns-in_ok-value-in-Owning-clause-value : goal.calls::call_value-returns-in_ok-value-in-Owning-clause-value
 calls::call_value-returns-in_ok-value-in-Owning-clause-value g t c =
@@ -127,9 +127,38 @@ calls::call_value-returns-in_ok-value-in-Owning-clause-value g t c =
       ]
     ] in
     gives-same Memory Long (λ v. v) c.of_own.result _ _
-    (ap (λ d. own_worth d k code given nodes c.in_ok-value-in-Owning.value) c.decimals.ensures
+    (ap (λ d. own_worth d k code given nodes c.in_ok-value-in-Owning.value) c.decimals-decimals.ensures
     ∙ sym (own ∙ own-made given.decimals k code given nodes (argument_or 0 (context.node.number ∷ []) ms (setting_of called given nodes context) (focus_of context)) c.in_ok-value-in-Owning.value c.in_ok-value-in-Owning.ensures.value))
     c.of_own.ensures.value
+
+pub calls::call_value-returns-in_ok-given-in-Asking-clause-value : goal.calls::call_value-returns-in_ok-given-in-Asking-clause-value
+calls::call_value-returns-in_ok-given-in-Asking-clause-value g t c =
+    let given = g.A.Around.given c.args.around.now in
+    let nodes = c.args.forest.now.forest.nodes in
+    let context = c.args.context.now in
+    let ms = map meaning c.args.arguments.now in
+    let code = c.args.code in
+    let plains = c.in_ok-given-in-Asking.given.items in
+    let worth : by_kind c.args.kind code given nodes context ms ≡ plain_worth given.decimals code plains =
+    elim c.in-Asking.is [
+      | inl i ↦ ap (λ k. by_kind k code given nodes context ms) i ∙ ap (λ m. m >>= plain_worth given.decimals code) c.in_ok-given-in-Asking.ensures
+      | inr i ↦ ap (λ k. by_kind k code given nodes context ms) i ∙ ap (λ m. m >>= plain_worth given.decimals code) c.in_ok-given-in-Asking.ensures
+    ] in
+    gives-same Memory Long (λ v. v) c.called_plainly.result _ _
+    (ap (plain_worth c.decimals-decimals.result code) c.as_slice.ensures.value ∙ ap (λ d. plain_worth d code plains) c.decimals-decimals.ensures ∙ sym worth)
+    c.called_plainly.ensures.value
+
+pub calls::call_value-returns-in_ok-text_of-in-Branching-clause-value : goal.calls::call_value-returns-in_ok-text_of-in-Branching-clause-value
+calls::call_value-returns-in_ok-text_of-in-Branching-clause-value g t c =
+    let given = g.A.Around.given c.args.around.now in
+    let nodes = c.args.forest.now.forest.nodes in
+    let context = c.args.context.now in
+    let ms = map meaning c.args.arguments.now in
+    let value = c.in_ok-value-in-Branching.value in
+    ap (λ k. by_kind k c.args.code given nodes context ms) c.in-Branching.is
+    ∙ ap (option_map Text)
+    (string-made (setting_in given.decimals nodes) (branched ms (setting_of called given nodes context) (focus_of context)) value c.in_ok-value-in-Branching.ensures.value
+    ∙ ap (λ d. string_of (setting_in d nodes) value) (sym c.decimals-decimals.ensures) ∙ c.in_ok-text_of-in-Branching.ensures)
 
 pub calls::plain_arguments-loop-argument-init : goal.calls::plain_arguments-loop-argument-init
 calls::plain_arguments-loop-argument-init g t c =
@@ -402,7 +431,7 @@ operand::compared_with-returns-in_err-truth-clause-value g t c =
     let p = err_from_is_err_and c.from_residual-in_err-truth.result c.from_residual-in_err-truth.ensures.1 in
     rw (p.1, p.2) (part-long Memory Long _ _ (chained (meaning_of_link link ∷ []) left (setting_of called given nodes context) (focus_of context)) c.in_err-truth.ensures
     (λ h. link-compared link left right given nodes context (focus_of context) c.requires.compares c.in_ok-right.ensures.value
-    ∙ ap (λ d. option_map Truth (compared (setting_in d nodes) link.operator left right)) (sym c.decimals.ensures) ∙ ap (option_map Truth) h))
+    ∙ ap (λ d. option_map Truth (compared (setting_in d nodes) link.operator left right)) (sym c.decimals-decimals.ensures) ∙ ap (option_map Truth) h))
 
 pub operand::compared_with-returns-clause-value : goal.operand::compared_with-returns-clause-value
 operand::compared_with-returns-clause-value g t c =
@@ -413,7 +442,7 @@ operand::compared_with-returns-clause-value g t c =
     let left = value_in c.args.left.now in
     let right = value_in c.in_ok-right.right in
     link-compared link left right given nodes context (focus_of context) c.requires.compares c.in_ok-right.ensures.value
-    ∙ ap (λ d. option_map Truth (compared (setting_in d nodes) link.operator left right)) (sym c.decimals.ensures) ∙ ap (option_map Truth) c.in_ok-truth.ensures
+    ∙ ap (λ d. option_map Truth (compared (setting_in d nodes) link.operator left right)) (sym c.decimals-decimals.ensures) ∙ ap (option_map Truth) c.in_ok-truth.ensures
 
 -- ---- steps
 
@@ -461,7 +490,7 @@ steps::asked_of_each-loop-at-preserved g t c =
       live = live-is nodes kept (live-added c.loop-at.kept n c.is_true_at.result nodes c.loop-at.invariant.live live);
       left = ap (λ l. onto l (kept_from s m c.in-Ok.size (suc (c.loop-at.at + 1)) (drop (c.loop-at.at + 1) ns))) kept
           ∙ kept-counted s m c.in-Ok.size c.loop-at.at n c.loop-at.kept ns c.in_ok-value.value c.is_true_at.result c.loop-at.invariant.left within c.at-node.ensures c.in_ok-value.ensures.value
-          (ap (λ d. is_true_at d (c.loop-at.at + 1) c.in_ok-value.value) (sym c.decimals.ensures) ∙ sym c.is_true_at.ensures);
+          (ap (λ d. is_true_at d (c.loop-at.at + 1) c.in_ok-value.value) (sym c.decimals-decimals.ensures) ∙ sym c.is_true_at.ensures);
     }
 
 pub steps::kept_by-returns-in-Number-clause-value : goal.steps::kept_by-returns-in-Number-clause-value
@@ -478,7 +507,7 @@ steps::from_one-returns-in_ok-first-in-Some-clause-value g t c =
     let ps = c.as_slice-predicates.result.now in
     let ns = reached c.args.axis step.test s.all c.args.node.number in
     gives-same Memory Long (λ v. v) c.kept_by_all.result _ _
-    (first-asked c.decimals.result c.in-Some.number ps s ns c.in_ok-first-in-Some.first c.in-Some.ensures c.in_ok-first-in-Some.ensures.value c.decimals.ensures ∙ ap (λ es. kept_by_all s (map meaning es) ns) c.as_slice-predicates.ensures)
+    (first-asked c.decimals-decimals.result c.in-Some.number ps s ns c.in_ok-first-in-Some.first c.in-Some.ensures c.in_ok-first-in-Some.ensures.value c.decimals-decimals.ensures ∙ ap (λ es. kept_by_all s (map meaning es) ns) c.as_slice-predicates.ensures)
     c.kept_by_all.ensures.value
 
 pub steps::walked-returns-in_err-nodes-clause-value : goal.steps::walked-returns-in_err-nodes-clause-value
