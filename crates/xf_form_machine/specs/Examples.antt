@@ -141,6 +141,5 @@ form parts rules repeats switches document = record {
   submission_elements = [];
   bindings = no_bindings;
   decimals = 6;
-  decimals = 6;
   documents = document ∷ [];
 }

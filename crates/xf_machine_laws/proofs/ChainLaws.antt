@@ -21,7 +21,7 @@ use Rattle.xf_form_machine.specs.Profile.{Profile}
 use Rattle.xf_form_machine.specs.State.{Model, State}
 use Rattle.xf_form_machine.specs.Refusal.{Refused, word_of, unless_passed, if_over}
 use Rattle.xf_form_machine.specs.Flow.{◌>>=◌}
-use Rattle.xf_form_machine.specs.Surround.{interface, scope, all_in, model_holding, quiet}
+use Rattle.xf_form_machine.specs.Surround.{interface, bind_scope, all_in, model_holding, quiet}
 use Rattle.xf_form_machine.specs.Primitives.{spent_from, changed_at, in_model, in_some_model, all_due, texts_due, refresh_due, with_text_mark, with_list_mark, list_changed, with_forest, with_indexes, grown, grown_to, over_made, is_other_text, if_other, set_text, detach, add_note}
 use Rattle.xf_form_machine.specs.Behave.{no_model, model_at, asked_by_all, rebuilt_with, unless_cycle, no_cycle, by_applied, changes_of, with_contents, recalculated_with, settled_in, evaluated_more, recalculate, is_invalid, revalidated_with, revalidate}
 use Rattle.xf_form_machine.specs.Update.{with_brought}
@@ -114,10 +114,10 @@ applied-chained : (p : Profile) (model : ℕ) (r : Result (List Entry) Exception
     → AreChained s → by_applied p model r s ≡ Ok t → AreChained t
 applied-chained p model (Err x) s t h e = cc
 applied-chained p model (Ok entries) s t h e =
-    let change = rebuilt_with entries (edge_count (scope p s model) (shape_of s.forest.nodes) entries) in
+    let change = rebuilt_with entries (edge_count (bind_scope p s model) (shape_of s.forest.nodes) entries) in
     let after = in_model change model s in
     edges-chained p model entries (if_over (nat_lt p.edges (asked_by_all after)) Edges) after t
-    (changed-chained change model s.models (rebuilt-chained entries (edge_count (scope p s model) (shape_of s.forest.nodes) entries)) h) e
+    (changed-chained change model s.models (rebuilt-chained entries (edge_count (bind_scope p s model) (shape_of s.forest.nodes) entries)) h) e
 
 recalculated-chained : (values : List Valued) (m : Model) → m.flags.rebuild ≡ false → Chained m → Chained (recalculated_with values m)
 recalculated-chained values m q c = record { rebuild = λ h. cc; recalculate = λ h. cc; revalidate = c.revalidate }
@@ -150,10 +150,10 @@ recalculate-chained : (p : Profile) (model : ℕ) (s t : State)
 recalculate-chained p model s t q h e =
     let m = model_at s model in
     let made = length (calculates m.entries) in
-    let count = pertinent_count (scope p s model) (shape (all_in s)) m.entries (changes_of m) in
-    let contents = settled_contents p.bounds (scope p s model) m.entries (all_in s) in
-    let values = values_over p.bounds (scope p s model) m.entries (visits (with_contents s.forest.next contents s.forest.nodes)) in
-    settled-chained (map word_of (passed p.bounds (scope p s model) m.entries (all_in s)) ++ over_made p (s.made + made)) s t
+    let count = pertinent_count (bind_scope p s model) (shape (all_in s)) m.entries (changes_of m) in
+    let contents = settled_contents p.bounds (bind_scope p s model) m.entries (all_in s) in
+    let values = values_over p.bounds (bind_scope p s model) m.entries (visits (with_contents s.forest.next contents s.forest.nodes)) in
+    settled-chained (map word_of (passed p.bounds (bind_scope p s model) m.entries (all_in s)) ++ over_made p (s.made + made)) s t
     (λ u. evaluated_more made count (settled_in p model m.entries contents u))
     (known-chained (recalculated_with values) model s.models (recalculated-chained values m q) h) e
 
@@ -172,7 +172,7 @@ chain_laws p = record {
   add_note = λ note s t h e. note-chained p note s t h e;
   refresh_due = λ model s t h e. ends (in_model refresh_due model s) (changed-chained refresh_due model s.models refresh_due-chained h) e;
   reindex = λ added s t h e. brought-chained (brought_up p.passes (interface s) (quiet p s) added s.indexes) s t h e;
-  rebuild = λ model s t h e. applied-chained p model (applied (scope p s model) s.forest.nodes) s t h e;
+  rebuild = λ model s t h e. applied-chained p model (applied (bind_scope p s model) s.forest.nodes) s t h e;
   recalculate = λ model s t q h e. recalculate-chained p model s t q h e;
   revalidate = λ model s t q h e. ends (revalidate p model s) (revalidate-chained p model s q.recalculate h) e;
 }

@@ -7,7 +7,7 @@ use Rattle.xf_json.specs.Element.{lit_in}
 use Rattle.xf_store.specs.declared.answers.Answer.{Answer}
 use Rattle.xf_store.specs.declared.answers.Answer.TheVariants.{PutDone, Failed, Found, Absent, TooLong}
 use Rattle.xf_store.specs.declared.call.Asked.{Asked}
-use Rattle.xf_store.specs.Replay.{reply}
+use Rattle.xf_store.specs.Replay.{fits, answer_at}
 use Rattle.xf_ast.specs.declared.form.Replace.{Replace}
 use Rattle.xf_ast.specs.declared.form.Replace.TheVariants as instead
 use Rattle.xf_ast.specs.declared.form.Submission.{Submission}
@@ -20,7 +20,7 @@ use Rattle.xf_form_machine.specs.Events.{Tell}
 use Rattle.xf_form_machine.specs.Properties.{relevant_in, valid_in}
 use Rattle.xf_form_machine.specs.Surround.{scope}
 use Rattle.xf_form_machine.specs.Submit.{failed, Sending, then_done, target_by, takes_tree, takes_text, put_tree, put_text, on_target, has_fault, with_tree, with_text, respond, answered}
-use Rattle.xf_form_machine.specs.Exchange.{fits, with_call, unless_many, asked_by, is_store_name, selected}
+use Rattle.xf_form_machine.specs.Exchange.{with_call, unless_many, asked_by, is_store_name, selected}
 use Rattle.xf_machine_laws.specs.Failed.{KeepsAllButCalls, FailedKeeps}
 
 -- ---- what is done does not fail, and what fails is as it was
@@ -87,11 +87,11 @@ Keeps s r = (error : List ℕ) (t : State) → r ≡ Ok (failed error t) → Kee
 same-keeps : (s : State) (other : List ℕ) → Keeps s (Ok (failed other s))
 same-keeps s other error t h = let q : t ≡ s = same-fails error other s t h in subst (λ (u : State). KeepsAllButCalls s u) (sym q) refl
 
-call-keeps : (p : Profile) (tell : Tell) (sub : Submission) (n : ℕ) (asked : Asked) (b : Bool) (s : State)
-    → Keeps s (unless_many b s >>= λ t. let answer = reply (fits asked) t.to_come in answered p tell sub n (with_call sub.resource asked answer t) answer)
-call-keeps p tell sub n asked true s error t h = cc
-call-keeps p tell sub n asked false s error t h =
-    let answer = reply (fits asked) s.to_come in
+call-keeps : (p : Profile) (answers : List Answer) (tell : Tell) (sub : Submission) (n : ℕ) (asked : Asked) (b : Bool) (s : State)
+    → Keeps s (unless_many b s >>= λ t. let answer = answer_at (fits asked) answers (length t.calls) in answered p tell sub n (with_call sub.resource asked answer t) answer)
+call-keeps p answers tell sub n asked true s error t h = cc
+call-keeps p answers tell sub n asked false s error t h =
+    let answer = answer_at (fits asked) answers (length s.calls) in
     let q : t ≡ with_call sub.resource asked answer s = answered-fails p tell sub n error (with_call sub.resource asked answer s) t answer h in
     subst (λ (u : State). KeepsAllButCalls s u) (sym q) refl
 
@@ -99,17 +99,17 @@ if-keeps : (s : State) (b : Bool) (x y : Sending) → Keeps s x → Keeps s y �
 if-keeps s true x y f g = f
 if-keeps s false x y f g = g
 
-selected-keeps : (p : Profile) (tell : Tell) (sub : Submission) (s : State) (found : Submitted) → Keeps s (selected p tell sub s found)
-selected-keeps p tell sub s no_data = same-keeps s _
-selected-keeps p tell sub s (invalid n) = same-keeps s _
-selected-keeps p tell sub s (left n kept) =
+selected-keeps : (p : Profile) (answers : List Answer) (tell : Tell) (sub : Submission) (s : State) (found : Submitted) → Keeps s (selected p answers tell sub s found)
+selected-keeps p answers tell sub s no_data = same-keeps s _
+selected-keeps p answers tell sub s (invalid n) = same-keeps s _
+selected-keeps p answers tell sub s (left n kept) =
     if-keeps s (is_store_name sub.resource) _ _
-    (call-keeps p tell sub n (asked_by sub n kept s sub.method) (nat_le p.sends (length s.calls)) s) (same-keeps s _)
+    (call-keeps p answers tell sub n (asked_by sub n kept s sub.method) (nat_le p.sends (length s.calls)) s) (same-keeps s _)
 
-long-keeps : (p : Profile) (tell : Tell) (sub : Submission) (s : State) (o : Option Submitted) → Keeps s (or_long s o >>= selected p tell sub s)
-long-keeps p tell sub s None error t h = cc
-long-keeps p tell sub s (Some found) error t h = selected-keeps p tell sub s found error t h
+long-keeps : (p : Profile) (answers : List Answer) (tell : Tell) (sub : Submission) (s : State) (o : Option Submitted) → Keeps s (or_long s o >>= selected p answers tell sub s)
+long-keeps p answers tell sub s None error t h = cc
+long-keeps p answers tell sub s (Some found) error t h = selected-keeps p answers tell sub s found error t h
 
 pub failed_keeps : FailedKeeps
-failed_keeps p tell sub s t error h =
-    long-keeps p tell sub s (submitted (scope p s sub.model) (relevant_in s) (valid_in s) s.forest.nodes sub) error t h
+failed_keeps p answers tell sub s t error h =
+    long-keeps p answers tell sub s (submitted (Some p.bounds.string) (scope p s sub.model) (relevant_in s) (valid_in s) s.forest.nodes sub) error t h

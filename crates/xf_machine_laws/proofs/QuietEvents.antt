@@ -1,6 +1,7 @@
 -- Where nothing is heard, telling an event spends a turn and does no more.
 use Rattle.std.proofs.Common.{ℕ, zero, suc, ◌≡◌, Bool, true, false, not, ◌&&◌, List, [], ◌∷◌, ◌++◌, map, filter, find, bytes_eq, codes, Option, Some, None, Result, Ok, refl, ap, ◌∙◌, if◌then◌else◌}
 use Rattle.std.specs.List.{list_any}
+use Rattle.xf_store.specs.declared.answers.Answer.{Answer}
 use Rattle.xf_ast.specs.declared.action.Handler.{Handler}
 use Rattle.xf_ast.specs.declared.action.Phase.{Phase}
 use Rattle.xf_ast.specs.declared.action.Phase.TheVariants.{Capture, Default}
@@ -83,15 +84,15 @@ when-not : (b : Bool) (run : Run) (s : State) → b ≡ false → when b run s �
 when-not true run s h = cc
 when-not false run s h = refl
 
-role-idle : (p : Profile) (tell : Tell) (name : List ℕ) (i : Idle name) (r : Role) (s : State) → of_role p tell name r s ≡ Ok s
-role-idle p tell name i (role.model k) s =
+role-idle : (p : Profile) (answers : List Answer) (tell : Tell) (name : List ℕ) (i : Idle name) (r : Role) (s : State) → of_role p answers tell name r s ≡ Ok s
+role-idle p answers tell name i (role.model k) s =
     ap (λ (run : Run). run s) (if-not _ _ _ i.rebuild ∙ if-not _ _ _ i.recalculate ∙ if-not _ _ _ i.revalidate ∙ if-not _ _ _ i.refresh ∙ if-not _ _ _ i.reset)
-role-idle p tell name i (role.submission k) s = when-not _ _ s i.submit
-role-idle p tell name i (role.submit target) s = when-not _ _ s i.activate
-role-idle p tell name i (role.action a) s = refl
-role-idle p tell name i role.entry s = refl
-role-idle p tell name i role.trigger s = refl
-role-idle p tell name i role.other s = refl
+role-idle p answers tell name i (role.submission k) s = when-not _ _ s i.submit
+role-idle p answers tell name i (role.submit target) s = when-not _ _ s i.activate
+role-idle p answers tell name i (role.action a) s = refl
+role-idle p answers tell name i role.entry s = refl
+role-idle p answers tell name i role.trigger s = refl
+role-idle p answers tell name i role.other s = refl
 
 -- ---- one event
 
@@ -104,24 +105,24 @@ pub spent-then : {X : Type 0} (k : ℕ) (s : State) (f g : State → Result X Re
 spent-then zero s f g h = refl
 spent-then (suc k) s f g h = h k
 
-handled-idle : (p : Profile) (further : Further) (b : Bool) (e : Fired) (s : State) → handlers (interface s) ≡ [] → Idle e.event.name
-    → handled p further b e s ≡ when b (update p (further false)) s
-handled-idle p further b e s h i =
-    ap (λ called. in_turn (handle p further b e) called.handlers s >>= when called.with_default (after_all p further b e)) (quiet-calls (interface s) h e.event)
-    ∙ ap (λ r. r >>= when b (update p (further false))) (role-idle p (further b) e.event.name i (role_at s.form e.event.target) s)
+handled-idle : (p : Profile) (answers : List Answer) (further : Further) (b : Bool) (e : Fired) (s : State) → handlers (interface s) ≡ [] → Idle e.event.name
+    → handled p answers further b e s ≡ when b (update p (further false)) s
+handled-idle p answers further b e s h i =
+    ap (λ called. in_turn (handle p further b e) called.handlers s >>= when called.with_default (after_all p answers further b e)) (quiet-calls (interface s) h e.event)
+    ∙ ap (λ r. r >>= when b (update p (further false))) (role-idle p answers (further b) e.event.name i (role_at s.form e.event.target) s)
 
-pub told-inside : (p : Profile) (left : ℕ) (e : Fired) (s : State) → handlers (interface s) ≡ [] → Idle e.event.name → dispatch p (suc left) false e s ≡ spend s
-told-inside p left e s h i = spent-same s.turns s (handled p (dispatch p left) false e) (λ t. handled-idle p (dispatch p left) false e (record s { turns = t }) h i)
+pub told-inside : (p : Profile) (answers : List Answer) (left : ℕ) (e : Fired) (s : State) → handlers (interface s) ≡ [] → Idle e.event.name → dispatch p answers (suc left) false e s ≡ spend s
+told-inside p answers left e s h i = spent-same s.turns s (handled p answers (dispatch p answers left) false e) (λ t. handled-idle p answers (dispatch p answers left) false e (record s { turns = t }) h i)
 
 update-none : (p : Profile) (tell : Tell) (s : State) → is_due s ≡ false → update p tell s ≡ Ok s
 update-none p tell s d = when-not (is_due s) _ s d
 
 -- from outside, where nothing is due
-pub told-outside : (p : Profile) (left : ℕ) (e : Fired) (s : State) → handlers (interface s) ≡ [] → Idle e.event.name → is_due s ≡ false
-    → dispatch p (suc left) true e s ≡ spend s
-told-outside p left e s h i d =
-    spent-same s.turns s (handled p (dispatch p left) true e)
-    (λ t. handled-idle p (dispatch p left) true e (record s { turns = t }) h i ∙ update-none p (dispatch p left false) (record s { turns = t }) d)
+pub told-outside : (p : Profile) (answers : List Answer) (left : ℕ) (e : Fired) (s : State) → handlers (interface s) ≡ [] → Idle e.event.name → is_due s ≡ false
+    → dispatch p answers (suc left) true e s ≡ spend s
+told-outside p answers left e s h i d =
+    spent-same s.turns s (handled p answers (dispatch p answers left) true e)
+    (λ t. handled-idle p answers (dispatch p answers left) true e (record s { turns = t }) h i ∙ update-none p (dispatch p answers left false) (record s { turns = t }) d)
 
 -- ---- what a refresh tells
 
@@ -191,12 +192,12 @@ pub notifications-idle : (before now : List Copy) → AreIdle (notifications bef
 notifications-idle before [] = tt
 notifications-idle before (c ∷ cs) = both-idle _ _ (since-idle (find (is_same_copy c) before) c) (notifications-idle before cs)
 
-pub told-all : (p : Profile) (left : ℕ) (ns : List Notification) (s : State) → handlers (interface s) ≡ [] → AreIdle ns
-    → in_turn (λ n. dispatch p (suc left) false (told_by n)) ns s ≡ spend_for ns s
-told-all p left [] s h i = refl
-told-all p left (n ∷ ns) s h i =
-    ap (λ r. r >>= in_turn (λ m. dispatch p (suc left) false (told_by m)) ns) (told-inside p left (told_by n) s h i.0)
-    ∙ spent-then s.turns s _ _ (λ t. told-all p left ns (record s { turns = t }) h i.1)
+pub told-all : (p : Profile) (answers : List Answer) (left : ℕ) (ns : List Notification) (s : State) → handlers (interface s) ≡ [] → AreIdle ns
+    → in_turn (λ n. dispatch p answers (suc left) false (told_by n)) ns s ≡ spend_for ns s
+told-all p answers left [] s h i = refl
+told-all p answers left (n ∷ ns) s h i =
+    ap (λ r. r >>= in_turn (λ m. dispatch p answers (suc left) false (told_by m)) ns) (told-inside p answers left (told_by n) s h i.0)
+    ∙ spent-then s.turns s _ _ (λ t. told-all p answers left ns (record s { turns = t }) h i.1)
 
 pub constructing : Idle (codes "xforms-model-construct")
 constructing = record { rebuild = refl; recalculate = refl; revalidate = refl; refresh = refl; reset = refl; submit = refl; activate = refl }

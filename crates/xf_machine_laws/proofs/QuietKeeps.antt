@@ -15,7 +15,7 @@ use Rattle.xf_form_machine.specs.Profile.{Profile}
 use Rattle.xf_form_machine.specs.State.{Flags, Model, State}
 use Rattle.xf_form_machine.specs.Refusal.{Refused, unless_passed, if_over}
 use Rattle.xf_form_machine.specs.Flow.{Run, ◌>>=◌, when, in_turn}
-use Rattle.xf_form_machine.specs.Surround.{scope}
+use Rattle.xf_form_machine.specs.Surround.{bind_scope}
 use Rattle.xf_form_machine.specs.Primitives.{changed_at, in_model, in_some_model, spend, spent_from, with_forest, grown, grown_to, over_made, set_text}
 use Rattle.xf_form_machine.specs.Behave.{asked_by_all, no_flags, no_model, rebuilt_with, recalculated_with, revalidated_with, unless_cycle, no_cycle, by_applied, rebuild, recalculate, revalidate}
 use Rattle.xf_form_machine.specs.Update.{due_rebuild, due_recalculation, due_revalidation, has_flag, is_due}
@@ -91,7 +91,7 @@ applied-like p model (Err x) s t e = cc
 applied-like p model (Ok entries) s t e = like-then s _ t (model-like _ model s) (edges-like p model entries _ _ t e)
 
 pub rebuild-keeps : (p : Profile) (model : ℕ) → KeepsLike (rebuild p model)
-rebuild-keeps p model s t e = applied-like p model (applied (scope p s model) s.forest.nodes) s t e
+rebuild-keeps p model s t e = applied-like p model (applied (bind_scope p s model) s.forest.nodes) s t e
 
 passed-like : (words : List LimitWord) (s t : State) (after : State → State) → Like s (after s) → unless_passed s words s >>= (λ u. Ok (after u)) ≡ Ok t → Like s t
 passed-like [] s t after h e = ends s t (after s) h e
@@ -206,7 +206,7 @@ edges-none p model entries (word ∷ words) u t h e = cc
 applied-none : (p : Profile) (model : ℕ) (r : Result (List Entry) Exception) (s t : State) → NoneDue s → by_applied p model r s ≡ Ok t → NoneDue t
 applied-none p model (Err x) s t h e = cc
 applied-none p model (Ok entries) s t h e =
-    let change = rebuilt_with entries (edge_count (scope p s model) (shape_of s.forest.nodes) entries) in
+    let change = rebuilt_with entries (edge_count (bind_scope p s model) (shape_of s.forest.nodes) entries) in
     let after = in_model change model s in
     edges-none p model entries (if_over (nat_lt p.edges (asked_by_all after)) Edges) after t
     (none-changed change model s.models (λ m q. ap {A = Flags} (λ f. record f { rebuild = false }) q) h) e
@@ -218,7 +218,7 @@ passed-none (word ∷ words) s t after h e = cc
 pub build-none : (p : Profile) (model : ℕ) → KeepsNone (build_model p model)
 build-none p model s t h e =
     none-then (rebuild p model s >>= recalculate p model) _ t
-    (λ u q. none-then (rebuild p model s) (recalculate p model) u (λ v r. applied-none p model (applied (scope p s model) s.forest.nodes) s v h r)
+    (λ u q. none-then (rebuild p model s) (recalculate p model) u (λ v r. applied-none p model (applied (bind_scope p s model) s.forest.nodes) s v h r)
     (λ v w k r. passed-none _ v w _ (none-changed (recalculated_with _) model v.models (λ m i. ap {A = Flags} (λ f. record f { recalculate = false }) i) k) r) q)
     (λ u v k q. none-ends v (revalidate p model u) (none-changed (revalidated_with _) model u.models (λ m i. ap {A = Flags} (λ f. record f { revalidate = false }) i) k) q) e
 

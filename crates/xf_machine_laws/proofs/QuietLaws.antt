@@ -22,12 +22,12 @@ use Rattle.xf_form_machine.specs.Primitives.{spend, spent_from, with_indexes}
 use Rattle.xf_form_machine.specs.Choose.{set_index}
 use Rattle.xf_form_machine.specs.Events.{fired_at, model_element, told_by}
 use Rattle.xf_form_machine.specs.Construct.{unbuilt, plant_document, build_model, start_indexes, first_shown, construct}
-use Rattle.xf_form_machine.specs.Start.{tell_model, tell_models}
+use Rattle.xf_form_machine.specs.Start.{tell_model, tell_models, readied}
 use Rattle.xf_form_machine.specs.Cycles.{counted_from}
 use Rattle.xf_form_machine.specs.Update.{no_refresh, with_brought, reindex, shown, refresh, all_cleared, is_due, is_refresh_due, due_revalidation, round, rounds, update}
 use Rattle.xf_form_machine.specs.Dispatch.{dispatch}
 use Rattle.xf_form_machine.specs.Targets.{model_around, is_copy_at, or_no_target, copy_named, unless, take_rows}
-use Rattle.xf_form_machine.specs.Step.{settle, set_bound, try_set}
+use Rattle.xf_form_machine.specs.Step.{settle, set_bound, try_set, fresh}
 use Rattle.xf_machine_laws.specs.Quiet.{IsQuiet, Quiet, HasSteps, spend_for, refresh_quietly, round_quietly, update_quietly, copy_at, UpdatesQuietly, SetsQuietly, spend_by_model, construct_quietly, ConstructsQuietly, StartsQuietly, QuietLaws}
 use Rattle.xf_machine_laws.proofs.QuietEvents.{Idle, told-all, told-outside, spent-then, notifications-idle, constructing, constructed, ready}
 use Rattle.xf_machine_laws.proofs.QuietKeeps.{Like, KeepsLike, keeps-then, keeps-when, keeps-turn, like-same, spend-keeps, due-keeps, bound-keeps, document-keeps, build-keeps, NoneDue, is-due-none, none-then, none-turn, spend-none, build-none, document-none, first-none}
@@ -66,19 +66,19 @@ pub then-same : {A : Type 0} (r : Result A Refused) (f g : A → Result State Re
 then-same (Err e) f g h = refl
 then-same (Ok x) f g h = h x refl
 
-refresh-same : (p : Profile) (left : ℕ) (s : State) → HasSteps p → Quiet s → refresh p all_cleared (dispatch p (suc left) false) s ≡ refresh_quietly p s
-refresh-same p left s st q =
-    ap (λ r. r >>= λ t. shown p t >>= λ list. in_turn (λ n. dispatch p (suc left) false (told_by n)) (notifications t.controls list) (all_cleared (record t { controls = list }))) (reindex-none p s st q)
-    ∙ then-same (shown p s) _ _ (λ list e. told-all p left (notifications s.controls list) (all_cleared (record s { controls = list })) q.form.unheard (notifications-idle s.controls list))
+refresh-same : (p : Profile) (answers : List Answer) (left : ℕ) (s : State) → HasSteps p → Quiet s → refresh p all_cleared (dispatch p answers (suc left) false) s ≡ refresh_quietly p s
+refresh-same p answers left s st q =
+    ap (λ r. r >>= λ t. shown p t >>= λ list. in_turn (λ n. dispatch p answers (suc left) false (told_by n)) (notifications t.controls list) (all_cleared (record t { controls = list }))) (reindex-none p s st q)
+    ∙ then-same (shown p s) _ _ (λ list e. told-all p answers left (notifications s.controls list) (all_cleared (record s { controls = list })) q.form.unheard (notifications-idle s.controls list))
 
 when-same : (b : Bool) (f g : Run) (s : State) → f s ≡ g s → when b f s ≡ when b g s
 when-same true f g s h = h
 when-same false f g s h = refl
 
-round-same : (p : Profile) (left : ℕ) (s : State) → HasSteps p → Quiet s → round p (dispatch p (suc left) false) s ≡ round_quietly p s
-round-same p left s st q =
+round-same : (p : Profile) (answers : List Answer) (left : ℕ) (s : State) → HasSteps p → Quiet s → round p (dispatch p answers (suc left) false) s ≡ round_quietly p s
+round-same p answers left s st q =
     then-same (in_turn (due_revalidation p) (counted_from 0 (length s.models)) s) _ _
-    (λ t e. when-same (is_refresh_due t) _ _ t (refresh-same p left t st (quiet-like s t q (keeps-turn (due_revalidation p) _ (due-keeps p) s t e))))
+    (λ t e. when-same (is_refresh_due t) _ _ t (refresh-same p answers left t st (quiet-like s t q (keeps-turn (due_revalidation p) _ (due-keeps p) s t e))))
 
 spend-for-keeps : {X : Type 0} (xs : List X) → KeepsLike (spend_for xs)
 spend-for-keeps xs = keeps-turn (λ x. spend) xs (λ x. spend-keeps)
@@ -123,9 +123,9 @@ pub update-keeps : (p : Profile) → KeepsLike (update_quietly p)
 update-keeps p s t e = rounds-keep (suc s.turns) (round_quietly p) (round-keeps p) s t e
 
 pub updates_quietly : UpdatesQuietly
-updates_quietly p s st q =
-    ap (λ d. update p (dispatch p d false) s) st.depth
-    ∙ rounds-same (suc s.turns) (round p (dispatch p (suc st.left) false)) (round_quietly p) (λ t h. round-same p st.left t st h) (round-keeps p) s q
+updates_quietly p answers s st q =
+    ap (λ d. update p (dispatch p answers d false) s) st.depth
+    ∙ rounds-same (suc s.turns) (round p (dispatch p answers (suc st.left) false)) (round_quietly p) (λ t h. round-same p answers st.left t st h) (round-keeps p) s q
 
 -- ---- a text that is set
 
@@ -156,11 +156,11 @@ tried-is false false true s t e = cc
 tried-is false false false s t e = let q : s ≡ t = cc in subst (λ (x : State). Like s x) q (like-same s)
 
 pub sets_quietly : SetsQuietly
-sets_quietly p n rows text s st q =
+sets_quietly p answers n rows text s st q =
     swap (copy_named p s n rows) (or_no_target s (copy_at n rows s)) _ _ (copy-same p s n rows q)
-    (λ c e. swap _ _ (settle p) (update_quietly p)
+    (λ c e. swap _ _ (settle p answers) (update_quietly p)
     (ap (λ r. r >>= set_bound p text c.node) (tried-then _ _ _ s (take_rows p n rows) (take-none p n rows s q)))
-    (λ t k. updates_quietly p t st (quiet-like s t q
+    (λ t k. updates_quietly p answers t st (quiet-like s t q
     (keeps-then (try_set n c text s) (set_bound p text c.node) s t (λ u r. tried-is _ _ _ s u r) (bound-keeps p text c.node) k))))
 
 -- ---- the start
@@ -179,23 +179,23 @@ cases-none : (s : State) → Quiet s → s.cases ≡ [] → record s { cases = f
 cases-none s q h = ap (λ ks. record s { cases = map (λ n. place_of_case (interface s) n (first_case (interface s) n)) ks }) q.form.switches ∙ ap (λ cs. record s { cases = cs }) (sym h)
 
 -- what stands before the indexes
-abbrev built_of : Profile → Program → Option (List Answer) → Result State Refused
-built_of p form answers = in_turn (plant_document p) form.documents (unbuilt p form answers) >>= λ s. in_turn (build_model p) (counted_from 0 (length s.models)) s
+abbrev built_of : Profile → Program → Result State Refused
+built_of p form = in_turn (plant_document p) form.documents (unbuilt p form) >>= λ s. in_turn (build_model p) (counted_from 0 (length s.models)) s
 
-built-like : (p : Profile) (form : Program) (answers : Option (List Answer)) (t : State) → built_of p form answers ≡ Ok t → Like (unbuilt p form answers) t
-built-like p form answers t e =
-    keeps-then _ (λ s. in_turn (build_model p) (counted_from 0 (length s.models)) s) (unbuilt p form answers) t
-    (λ u r. keeps-turn (plant_document p) form.documents (document-keeps p) (unbuilt p form answers) u r)
+built-like : (p : Profile) (form : Program) (t : State) → built_of p form ≡ Ok t → Like (unbuilt p form) t
+built-like p form t e =
+    keeps-then _ (λ s. in_turn (build_model p) (counted_from 0 (length s.models)) s) (unbuilt p form) t
+    (λ u r. keeps-turn (plant_document p) form.documents (document-keeps p) (unbuilt p form) u r)
     (λ u v r. keeps-turn (build_model p) (counted_from 0 (length u.models)) (build-keeps p) u v r) e
 
-built-none : (p : Profile) (form : Program) (answers : Option (List Answer)) (t : State) → built_of p form answers ≡ Ok t → NoneDue t
-built-none p form answers t e =
+built-none : (p : Profile) (form : Program) (t : State) → built_of p form ≡ Ok t → NoneDue t
+built-none p form t e =
     none-then _ (λ s. in_turn (build_model p) (counted_from 0 (length s.models)) s) t
-    (λ u r. none-turn (plant_document p) form.documents (document-none p) (unbuilt p form answers) u (first-none form.model_elements) r)
+    (λ u r. none-turn (plant_document p) form.documents (document-none p) (unbuilt p form) u (first-none form.model_elements) r)
     (λ u v h r. none-turn (build_model p) (counted_from 0 (length u.models)) (build-none p) u v h r) e
 
-unbuilt-quiet : (p : Profile) (form : Program) (answers : Option (List Answer)) → IsQuiet form.interface → Quiet (unbuilt p form answers)
-unbuilt-quiet p form answers q = record { form = q; indexes = refl }
+unbuilt-quiet : (p : Profile) (form : Program) → IsQuiet form.interface → Quiet (unbuilt p form)
+unbuilt-quiet p form q = record { form = q; indexes = refl }
 
 builds_in : Profile → Run
 builds_in p s = in_turn (build_model p) (counted_from 0 (length s.models)) s
@@ -206,12 +206,12 @@ shows p t = start_indexes p (record t { cases = first_cases (interface t) }) >>=
 
 pub constructs_quietly : ConstructsQuietly
 unfolding builds_in shows
-constructs_quietly p form answers st q =
-    let planted = in_turn (plant_document p) form.documents (unbuilt p form answers) in
+constructs_quietly p form st q =
+    let planted = in_turn (plant_document p) form.documents (unbuilt p form) in
     sym (bind-assoc planted (builds_in p) (shows p))
-    ∙ then-same (built_of p form answers) (shows p) (first_shown p)
-    (λ t e. let l = built-like p form answers t e in
-    let k = quiet-like (unbuilt p form answers) t (unbuilt-quiet p form answers q) l in
+    ∙ then-same (built_of p form) (shows p) (first_shown p)
+    (λ t e. let l = built-like p form t e in
+    let k = quiet-like (unbuilt p form) t (unbuilt-quiet p form q) l in
     ap (λ r. r >>= first_shown p) (ap (start_indexes p) (cases-none t k l.cases) ∙ starts-none p t st k))
     ∙ bind-assoc planted (builds_in p) (first_shown p)
 
@@ -233,28 +233,28 @@ built-rests : (r : Result State Refused) (p : Profile) (t : State) → ((u : Sta
 built-rests (Err x) p t h e = cc
 built-rests (Ok u) p t h e = shown-rests (shown p u) u t (h u refl).0 (h u refl).1 e
 
-pub constructed-rests : (p : Profile) (form : Program) (answers : Option (List Answer)) → IsQuiet form.interface → (t : State)
-    → construct_quietly p form answers ≡ Ok t → Quiet t × NoneDue t
+pub constructed-rests : (p : Profile) (form : Program) → IsQuiet form.interface → (t : State)
+    → construct_quietly p form ≡ Ok t → Quiet t × NoneDue t
 unfolding builds_in
-constructed-rests p form answers q t e =
-    built-rests (built_of p form answers) p t
-    (λ u r. (quiet-like (unbuilt p form answers) u (unbuilt-quiet p form answers q) (built-like p form answers u r), built-none p form answers u r))
-    (bind-assoc (in_turn (plant_document p) form.documents (unbuilt p form answers)) (builds_in p) (first_shown p) ∙ e)
+constructed-rests p form q t e =
+    built-rests (built_of p form) p t
+    (λ u r. (quiet-like (unbuilt p form) u (unbuilt-quiet p form q) (built-like p form u r), built-none p form u r))
+    (bind-assoc (in_turn (plant_document p) form.documents (unbuilt p form)) (builds_in p) (first_shown p) ∙ e)
 
-pub tells-same : (p : Profile) (name : List ℕ) (ms : List ℕ) (s : State) → HasSteps p → Idle name → handlers (interface s) ≡ [] → NoneDue s
-    → in_turn (tell_model p name) ms s ≡ spend_for ms s
-tells-same p name [] s st i h n = refl
-tells-same p name (m ∷ ms) s st i h n =
-    ap (λ d. dispatch p d true (fired_at s name [] (model_element s m)) s >>= in_turn (tell_model p name) ms) st.depth
-    ∙ ap (λ r. r >>= in_turn (tell_model p name) ms) (told-outside p st.left (fired_at s name [] (model_element s m)) s h i (is-due-none s n))
-    ∙ spent-then s.turns s _ _ (λ t. tells-same p name ms (record s { turns = t }) st i h n)
+pub tells-same : (p : Profile) (answers : List Answer) (name : List ℕ) (ms : List ℕ) (s : State) → HasSteps p → Idle name → handlers (interface s) ≡ [] → NoneDue s
+    → in_turn (tell_model p answers name) ms s ≡ spend_for ms s
+tells-same p answers name [] s st i h n = refl
+tells-same p answers name (m ∷ ms) s st i h n =
+    ap (λ d. dispatch p answers d true (fired_at s name [] (model_element s m)) s >>= in_turn (tell_model p answers name) ms) st.depth
+    ∙ ap (λ r. r >>= in_turn (tell_model p answers name) ms) (told-outside p answers st.left (fired_at s name [] (model_element s m)) s h i (is-due-none s n))
+    ∙ spent-then s.turns s _ _ (λ t. tells-same p answers name ms (record s { turns = t }) st i h n)
 
 -- a run whose result has still nothing due and the same form
 abbrev pub Rests : Result State Refused → Type 0
 Rests r = (t : State) → r ≡ Ok t → Quiet t × NoneDue t
 
-pub told-model : (p : Profile) (name : List ℕ) → HasSteps p → Idle name → (r : Result State Refused) → Rests r → r >>= tell_models p name ≡ r >>= spend_by_model
-told-model p name st i r h = then-same r _ _ (λ t e. tells-same p name (counted_from 0 (length t.models)) t st i ((h t e).0).form.unheard (h t e).1)
+pub told-model : (p : Profile) (answers : List Answer) (name : List ℕ) → HasSteps p → Idle name → (r : Result State Refused) → Rests r → r >>= tell_models p answers name ≡ r >>= spend_by_model
+told-model p answers name st i r h = then-same r _ _ (λ t e. tells-same p answers name (counted_from 0 (length t.models)) t st i ((h t e).0).form.unheard (h t e).1)
 
 pub spends-rest : (r : Result State Refused) → Rests r → Rests (r >>= spend_by_model)
 spends-rest (Err x) h t e = cc
@@ -262,13 +262,21 @@ spends-rest (Ok s) h t e =
     let k = h s refl in
     (quiet-like s t k.0 (spend-for-keeps (counted_from 0 (length s.models)) s t e), none-turn (λ x. spend) (counted_from 0 (length s.models)) (λ x. spend-none) s t k.1 e)
 
+-- the events of the start, from a state in which nothing is due
+pub readied-same : (p : Profile) (answers : List Answer) (s : State) → HasSteps p → Quiet s → NoneDue s
+    → readied p answers s ≡ spend_by_model (fresh p s) >>= spend_by_model >>= spend_by_model
+readied-same p answers s st q n =
+    let c = fine (fresh p s) in
+    let rest : Rests c = λ t e. rests-ends (fresh p s) t (record { form = q.form; indexes = q.indexes }) n e in
+    ap (λ r. r >>= tell_models p answers (codes "xforms-model-construct-done") >>= tell_models p answers (codes "xforms-ready"))
+    (told-model p answers _ st constructing c rest)
+    ∙ ap (λ r. r >>= tell_models p answers (codes "xforms-ready")) (told-model p answers _ st constructed (c >>= spend_by_model) (spends-rest c rest))
+    ∙ told-model p answers _ st ready (c >>= spend_by_model >>= spend_by_model) (spends-rest (c >>= spend_by_model) (spends-rest c rest))
+
 pub starts_quietly : StartsQuietly
 starts_quietly p form answers st q =
-    let c = construct p form (Some answers) in
-    let rest : Rests c = λ t e. constructed-rests p form (Some answers) q t (sym (constructs_quietly p form (Some answers) st q) ∙ e) in
-    ap (λ r. r >>= tell_models p (codes "xforms-model-construct-done") >>= tell_models p (codes "xforms-ready")) (told-model p _ st constructing c rest)
-    ∙ ap (λ r. r >>= tell_models p (codes "xforms-ready")) (told-model p _ st constructed (c >>= spend_by_model) (spends-rest c rest))
-    ∙ told-model p _ st ready (c >>= spend_by_model >>= spend_by_model) (spends-rest (c >>= spend_by_model) (spends-rest c rest))
+    then-same (construct p form) (readied p answers) _
+    (λ t e. let rest = constructed-rests p form q t (sym (constructs_quietly p form st q) ∙ e) in readied-same p answers t st rest.0 rest.1)
 
 pub quiet_laws : QuietLaws
 quiet_laws = record { updates = updates_quietly; sets = sets_quietly; constructs = constructs_quietly; starts = starts_quietly }

@@ -30,7 +30,6 @@ turns-same left s t h = record {
   made = h.made;
   evaluated = h.evaluated;
   calls = h.calls;
-  to_come = h.to_come;
 }
 
 spent-same : (k : ℕ) (s t : State) → IsSame s t → AreSame (spent_from k s) (spent_from k t)
@@ -57,7 +56,6 @@ notes-same notes s t h = record {
   made = h.made;
   evaluated = h.evaluated;
   calls = h.calls;
-  to_come = h.to_come;
 }
 
 passed-same : (words : List LimitWord) (s t u v : State) → IsSame s t → IsSame u v → AreSame (unless_passed s words u) (unless_passed t words v)
@@ -92,7 +90,6 @@ case-same switch place s t h = record {
   made = h.made;
   evaluated = h.evaluated;
   calls = h.calls;
-  to_come = h.to_come;
 }
 
 changed-map : (f change : Model → Model) (k : ℕ) (ms : List Model)
@@ -119,7 +116,6 @@ model-same change k s t h e = record {
   made = h.made;
   evaluated = h.evaluated;
   calls = h.calls;
-  to_come = h.to_come;
 }
 
 -- ---- all of them

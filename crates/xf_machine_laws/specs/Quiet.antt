@@ -1,6 +1,6 @@
 -- A form in which no event is heard and nothing comes in rows: it has no handlers, no repeats and no switches. Its updates tell events of which
 -- each spends a turn and does no more, so that what its events from outside and its start do is said without dispatch.
-use Rattle.std.specs.Prelude.{ℕ, suc, ◌≡◌, false, List, [], ◌∷◌, length, find, Option, Some, None, Result}
+use Rattle.std.specs.Prelude.{ℕ, suc, ◌≡◌, false, List, [], ◌∷◌, length, find, Option, None, Result}
 use Rattle.xf_ui.specs.Interface.{Interface}
 use Rattle.xf_ui.specs.Elements.{is_repeat}
 use Rattle.xf_ui.specs.Calls.{handlers}
@@ -19,7 +19,7 @@ use Rattle.xf_form_machine.specs.Construct.{unbuilt, plant_document, build_model
 use Rattle.xf_form_machine.specs.Update.{shown, all_cleared, is_refresh_due, due_revalidation, rounds, update}
 use Rattle.xf_form_machine.specs.Dispatch.{dispatch}
 use Rattle.xf_form_machine.specs.Targets.{is_copy_at, or_no_target}
-use Rattle.xf_form_machine.specs.Step.{set_bound, try_set, set}
+use Rattle.xf_form_machine.specs.Step.{set_bound, try_set, set, fresh}
 use Rattle.xf_form_machine.specs.Start.{started}
 
 pub record IsQuiet (f : Interface) : Type 0 where
@@ -67,30 +67,32 @@ set_quietly p n rows text s =
 -- ---- the laws
 
 abbrev pub UpdatesQuietly : Type 0
-UpdatesQuietly = (p : Profile) (s : State) → HasSteps p → Quiet s → update p (dispatch p p.depth false) s ≡ update_quietly p s
+UpdatesQuietly = (p : Profile) (answers : List Answer) (s : State) → HasSteps p → Quiet s → update p (dispatch p answers p.depth false) s ≡ update_quietly p s
 
 abbrev pub SetsQuietly : Type 0
-SetsQuietly = (p : Profile) (n : ℕ) (rows text : List ℕ) (s : State) → HasSteps p → Quiet s → set p n rows text s ≡ set_quietly p n rows text s
+SetsQuietly =
+    (p : Profile) (answers : List Answer) (n : ℕ) (rows text : List ℕ) (s : State) → HasSteps p → Quiet s → set p answers n rows text s ≡ set_quietly p n rows text s
 
 -- where nothing is due, each model that is told of its construction spends a turn
 abbrev pub spend_by_model : Run
 spend_by_model s = spend_for (counted_from 0 (length s.models)) s
 
-abbrev pub started_quietly : Profile → Program → List Answer → Result State Refused
-started_quietly p form answers = construct p form (Some answers) >>= spend_by_model >>= spend_by_model >>= spend_by_model
+-- three times, with a whole budget
+abbrev pub started_quietly : Profile → Program → Result State Refused
+started_quietly p form = construct p form >>= λ s. spend_by_model (fresh p s) >>= spend_by_model >>= spend_by_model
 
 abbrev pub StartsQuietly : Type 0
-StartsQuietly = (p : Profile) (form : Program) (answers : List Answer) → HasSteps p → IsQuiet form.interface → started p form answers ≡ started_quietly p form answers
+StartsQuietly = (p : Profile) (form : Program) (answers : List Answer) → HasSteps p → IsQuiet form.interface → started p form answers ≡ started_quietly p form
 
 -- indexes and cases are none
-abbrev pub construct_quietly : Profile → Program → Option (List Answer) → Result State Refused
-construct_quietly p form answers =
-    in_turn (plant_document p) form.documents (unbuilt p form answers)
+abbrev pub construct_quietly : Profile → Program → Result State Refused
+construct_quietly p form =
+    in_turn (plant_document p) form.documents (unbuilt p form)
     >>= λ s. in_turn (build_model p) (counted_from 0 (length s.models)) s
     >>= first_shown p
 
 abbrev pub ConstructsQuietly : Type 0
-ConstructsQuietly = (p : Profile) (form : Program) (answers : Option (List Answer)) → HasSteps p → IsQuiet form.interface → construct p form answers ≡ construct_quietly p form answers
+ConstructsQuietly = (p : Profile) (form : Program) → HasSteps p → IsQuiet form.interface → construct p form ≡ construct_quietly p form
 
 pub record QuietLaws : Type 0 where
   pub updates : UpdatesQuietly

@@ -10,7 +10,7 @@ use Rattle.xf_line.specs.declared.event.Event.TheVariants.{Set, Activate, Index,
 use Rattle.xf_store.specs.declared.answers.Answer.{Answer}
 use Rattle.xf_store.specs.declared.answers.Answer.TheVariants.{PutDone, Failed, Found, Absent, TooLong}
 use Rattle.xf_store.specs.declared.call.Asked.{Asked}
-use Rattle.xf_store.specs.Replay.{reply}
+use Rattle.xf_store.specs.Replay.{fits, answer_at}
 use Rattle.xf_ast.specs.declared.form.Replace.{Replace}
 use Rattle.xf_ast.specs.declared.form.Replace.TheVariants as instead
 use Rattle.xf_ast.specs.declared.form.Submission.{Submission}
@@ -38,7 +38,7 @@ use Rattle.xf_form_machine.specs.Events.{Fired, Tell, fired, fired_at, plainly, 
 use Rattle.xf_form_machine.specs.Acting.{Acting, act_at, acting, truth_for}
 use Rattle.xf_form_machine.specs.Construct.{replace, reset}
 use Rattle.xf_form_machine.specs.Submit.{Ended, done, failed, Sending, then_done, behave_all, put_tree, put_text, takes_tree, takes_text, target_by, on_target, has_fault, with_tree, with_text, respond, answered}
-use Rattle.xf_form_machine.specs.Exchange.{done_told, failed_told, fits, with_call, unless_many, exchange, asked_by, is_store_name, selected, attempt, told_end, submit_by, submit}
+use Rattle.xf_form_machine.specs.Exchange.{done_told, failed_told, with_call, unless_many, exchange, asked_by, is_store_name, selected, attempt, told_end, submit_by, submit}
 use Rattle.xf_form_machine.specs.Choose.{named_copy, set_index, act_send}
 use Rattle.xf_form_machine.specs.Act.{if_true, while_true, repeated, done_by, begun, act_within, act}
 use Rattle.xf_form_machine.specs.Default.{nothing, recalculate_now, revalidate_now, refresh_now, of_model, of_role, default}
@@ -59,7 +59,7 @@ abbrev Ends : (State → Type 0) → Ended → Type 0
 Ends P (done s) = P s
 Ends P (failed error s) = P s
 
-module _ (p : Profile) (P : State → Type 0) (k : KeepsEach p P) where
+module _ (p : Profile) (answers : List Answer) (P : State → Type 0) (k : KeepsEach p P) where
   -- ---- submissions
 
   behave-keeps : (tell : Tell) → Telling P tell → (model : ℕ) → Keeping P (behave_all p tell model)
@@ -130,34 +130,34 @@ module _ (p : Profile) (P : State → Type 0) (k : KeepsEach p P) where
   many-keeps true s h = tt
   many-keeps false s h = h
 
-  exchange-keeps : (tell : Tell) → Telling P tell → (sub : Submission) (n : ℕ) (asked : Asked) (s : State) → P s → Held (Ends P) (exchange p tell sub n asked s)
+  exchange-keeps : (tell : Tell) → Telling P tell → (sub : Submission) (n : ℕ) (asked : Asked) (s : State) → P s → Held (Ends P) (exchange p answers tell sub n asked s)
   exchange-keeps tell t sub n asked s h =
       held-then P (Ends P) (unless_many (nat_le p.sends (length s.calls)) s) _ (many-keeps (nat_le p.sends (length s.calls)) s h)
-      (λ u i. let answer = reply (fits asked) u.to_come in
+      (λ u i. let answer = answer_at (fits asked) answers (length u.calls) in
       answered-keeps tell t sub n (with_call sub.resource asked answer u) answer (k.calls sub.resource asked answer u i))
 
-  selected-keeps : (tell : Tell) → Telling P tell → (sub : Submission) (s : State) (found : Submitted) → P s → Held (Ends P) (selected p tell sub s found)
+  selected-keeps : (tell : Tell) → Telling P tell → (sub : Submission) (s : State) (found : Submitted) → P s → Held (Ends P) (selected p answers tell sub s found)
   selected-keeps tell t sub s no_data h = h
   selected-keeps tell t sub s (invalid n) h = h
   selected-keeps tell t sub s (left n kept) h =
-      held-if (Ends P) (is_store_name sub.resource) (exchange p tell sub n (asked_by sub n kept s sub.method) s) (Ok (failed (codes "resource-error") s)) (exchange-keeps tell t sub n (asked_by sub n kept s sub.method) s h) h
+      held-if (Ends P) (is_store_name sub.resource) (exchange p answers tell sub n (asked_by sub n kept s sub.method) s) (Ok (failed (codes "resource-error") s)) (exchange-keeps tell t sub n (asked_by sub n kept s sub.method) s h) h
 
-  attempt-keeps : (tell : Tell) → Telling P tell → (sub : Submission) (s : State) → P s → Held (Ends P) (attempt p tell sub s)
+  attempt-keeps : (tell : Tell) → Telling P tell → (sub : Submission) (s : State) → P s → Held (Ends P) (attempt p answers tell sub s)
   attempt-keeps tell t sub s h =
-      held-any (Ends P) (or_long s (submitted (scope p s sub.model) (relevant_in s) (valid_in s) s.forest.nodes sub)) (selected p tell sub s) (λ found. selected-keeps tell t sub s found h)
+      held-any (Ends P) (or_long s (submitted (Some p.bounds.string) (scope p s sub.model) (relevant_in s) (valid_in s) s.forest.nodes sub)) (selected p answers tell sub s) (λ found. selected-keeps tell t sub s found h)
 
   end-keeps : (tell : Tell) → Telling P tell → (place : ℕ) (sub : Submission) (ended : Ended) → Ends P ended → Held P (told_end tell place sub ended)
   end-keeps tell t place sub (done s) h = t (fired_at s (codes "xforms-submit-done") (done_told sub) (submission_element s place)) s h
   end-keeps tell t place sub (failed error s) h = t (fired_at s (codes "xforms-submit-error") (failed_told sub error) (submission_element s place)) s h
 
-  submit-by-keeps : (tell : Tell) → Telling P tell → (place : ℕ) (sub : Submission) → Keeping P (submit_by p tell place sub)
+  submit-by-keeps : (tell : Tell) → Telling P tell → (place : ℕ) (sub : Submission) → Keeping P (submit_by p answers tell place sub)
   submit-by-keeps tell t place sub s h =
-      held-then (Ends P) P (due_revalidation p sub.model s >>= attempt p tell sub) (told_end tell place sub)
-      (held-then P (Ends P) (due_revalidation p sub.model s) (attempt p tell sub) (due-revalidation-keeps p P k sub.model s h) (attempt-keeps tell t sub))
+      held-then (Ends P) P (due_revalidation p sub.model s >>= attempt p answers tell sub) (told_end tell place sub)
+      (held-then P (Ends P) (due_revalidation p sub.model s) (attempt p answers tell sub) (due-revalidation-keeps p P k sub.model s h) (attempt-keeps tell t sub))
       (end-keeps tell t place sub)
 
-  submit-keeps : (tell : Tell) → Telling P tell → (place : ℕ) → Keeping P (submit p tell place)
-  submit-keeps tell t place s h = held-some P (slice_get s.form.submissions place) (submit_by p tell place) s h (λ sub. submit-by-keeps tell t place sub s h)
+  submit-keeps : (tell : Tell) → Telling P tell → (place : ℕ) → Keeping P (submit p answers tell place)
+  submit-keeps tell t place s h = held-some P (slice_get s.form.submissions place) (submit_by p answers tell place) s h (λ sub. submit-by-keeps tell t place sub s h)
 
   -- ---- actions
 
@@ -240,16 +240,16 @@ module _ (p : Profile) (P : State → Type 0) (k : KeepsEach p P) where
       (choose-keeps (bytes_eq name (codes "xforms-refresh")) (refresh_now p tell model) (reset_or nothing) (refresh-now-keeps tell t model)
       (choose-keeps (bytes_eq name (codes "xforms-reset")) (reset p model) nothing (reset-keeps p P k model) (λ s h. h)))))
 
-  role-keeps : (tell : Tell) → Telling P tell → (name : List ℕ) (role : Role) → Keeping P (of_role p tell name role)
+  role-keeps : (tell : Tell) → Telling P tell → (name : List ℕ) (role : Role) → Keeping P (of_role p answers tell name role)
   role-keeps tell t name (program.model place) s h = of-model-keeps tell t place name s h
-  role-keeps tell t name (program.submission place) s h = held-when P (bytes_eq name (codes "xforms-submit")) (submit p tell place) s h (submit-keeps tell t place s h)
+  role-keeps tell t name (program.submission place) s h = held-when P (bytes_eq name (codes "xforms-submit")) (submit p answers tell place) s h (submit-keeps tell t place s h)
   role-keeps tell t name (program.submit target) s h = held-when P (bytes_eq name (codes "DOMActivate")) (act_send tell target) s h (act-send-keeps p P k tell t target s h)
   role-keeps tell t name (program.action a) s h = h
   role-keeps tell t name program.entry s h = h
   role-keeps tell t name program.trigger s h = h
   role-keeps tell t name program.other s h = h
 
-  default-keeps : (tell : Tell) → Telling P tell → (e : Fired) → Keeping P (default p tell e)
+  default-keeps : (tell : Tell) → Telling P tell → (e : Fired) → Keeping P (default p answers tell e)
   default-keeps tell t e s h = role-keeps tell t e.event.name (role_at s.form e.event.target) s h
 
   -- ---- dispatch
@@ -259,32 +259,32 @@ module _ (p : Profile) (P : State → Type 0) (k : KeepsEach p P) where
       held-then P P (act p (further false) e n s) _ (act-keeps (further false) (t false) e n s h)
       (λ u i. held-when P is_idle (update p (further false)) u i (update-keeps p P k (further false) (t false) u i))
 
-  after-keeps : (further : Further) → ((b : Bool) → Telling P (further b)) → (is_idle : Bool) (e : Fired) → Keeping P (after_all p further is_idle e)
+  after-keeps : (further : Further) → ((b : Bool) → Telling P (further b)) → (is_idle : Bool) (e : Fired) → Keeping P (after_all p answers further is_idle e)
   after-keeps further t is_idle e s h =
-      held-then P P (default p (further is_idle) e s) _ (default-keeps (further is_idle) (t is_idle) e s h)
+      held-then P P (default p answers (further is_idle) e s) _ (default-keeps (further is_idle) (t is_idle) e s h)
       (λ u i. held-when P is_idle (update p (further false)) u i (update-keeps p P k (further false) (t false) u i))
 
-  handled-keeps : (further : Further) → ((b : Bool) → Telling P (further b)) → (is_idle : Bool) (e : Fired) → Keeping P (handled p further is_idle e)
+  handled-keeps : (further : Further) → ((b : Bool) → Telling P (further b)) → (is_idle : Bool) (e : Fired) → Keeping P (handled p answers further is_idle e)
   handled-keeps further t is_idle e s h =
       let called = calls (interface s) e.event in
       held-then P P (in_turn (handle p further is_idle e) called.handlers s) _ (held-turn P (handle p further is_idle e) called.handlers (handle-keeps further t is_idle e) s h)
-      (λ u i. held-when P called.with_default (after_all p further is_idle e) u i (after-keeps further t is_idle e u i))
+      (λ u i. held-when P called.with_default (after_all p answers further is_idle e) u i (after-keeps further t is_idle e u i))
 
-  pub dispatch-keeps : (most : ℕ) (is_idle : Bool) → Telling P (dispatch p most is_idle)
+  pub dispatch-keeps : (most : ℕ) (is_idle : Bool) → Telling P (dispatch p answers most is_idle)
   dispatch-keeps zero is_idle e s h = held-then P P (spend s) (refused depth) (spend-keeps p P k s h) (λ u i. tt)
   dispatch-keeps (suc most) is_idle e s h =
-      held-then P P (spend s) (handled p (dispatch p most) is_idle e) (spend-keeps p P k s h) (handled-keeps (dispatch p most) (dispatch-keeps most) is_idle e)
+      held-then P P (spend s) (handled p answers (dispatch p answers most) is_idle e) (spend-keeps p P k s h) (handled-keeps (dispatch p answers most) (dispatch-keeps most) is_idle e)
 
   -- ---- events from outside
 
-  settle-keeps : Keeping P (settle p)
-  settle-keeps s h = update-keeps p P k (dispatch p p.depth false) (dispatch-keeps p.depth false) s h
+  settle-keeps : Keeping P (settle p answers)
+  settle-keeps s h = update-keeps p P k (dispatch p answers p.depth false) (dispatch-keeps p.depth false) s h
 
-  pub tell-keeps : (e : Fired) → Keeping P (tell p e)
+  pub tell-keeps : (e : Fired) → Keeping P (tell p answers e)
   tell-keeps e s h = dispatch-keeps p.depth true e s h
 
-  pub models-keep : (name : List ℕ) → Keeping P (tell_models p name)
-  models-keep name s h = held-turn P (tell_model p name) (counted_from 0 (length s.models)) (λ model t i. tell-keeps (fired_at t name [] (model_element t model)) t i) s h
+  pub models-keep : (name : List ℕ) → Keeping P (tell_models p answers name)
+  models-keep name s h = held-turn P (tell_model p answers name) (counted_from 0 (length s.models)) (λ model t i. tell-keeps (fired_at t name [] (model_element t model)) t i) s h
 
   unless-keeps : (b : Bool) (why : Refusal) → Keeping P (unless b why)
   unless-keeps true why s h = tt
@@ -304,33 +304,33 @@ module _ (p : Profile) (P : State → Type 0) (k : KeepsEach p P) where
       held-turn P (λ q t. set_index p (model_around (interface t) q.0) q.0 q.1 t) (zip (repeats_around (interface s) n) rows)
       (λ q t i. set-index-keeps p P k (model_around (interface t) q.0) q.0 q.1 t i) s h
 
-  set-keeps : (n : ℕ) (rows text : List ℕ) → Keeping P (set p n rows text)
+  set-keeps : (n : ℕ) (rows text : List ℕ) → Keeping P (set p answers n rows text)
   set-keeps n rows text s h =
       held-any P (copy_named p s n rows) _
-      (λ c. held-then P P (try_set n c text s >>= take_rows p n rows >>= set_bound p text c.node) (settle p)
+      (λ c. held-then P P (try_set n c text s >>= take_rows p n rows >>= set_bound p text c.node) (settle p answers)
       (held-then P P (try_set n c text s >>= take_rows p n rows) (set_bound p text c.node)
       (held-then P P (try_set n c text s) (take_rows p n rows) (try-keeps n c text s h) (rows-keep n rows)) (bound-keeps text c.node)) settle-keeps)
 
-  activate-keeps : (n : ℕ) (rows : List ℕ) → Keeping P (activate p n rows)
+  activate-keeps : (n : ℕ) (rows : List ℕ) → Keeping P (activate p answers n rows)
   activate-keeps n rows s h =
       held-any P (copy_named p s n rows) _
-      (λ c. held-then P P (unless (not c.enabled) disabled s >>= take_rows p n rows >>= settle p) _
-      (held-then P P (unless (not c.enabled) disabled s >>= take_rows p n rows) (settle p)
+      (λ c. held-then P P (unless (not c.enabled) disabled s >>= take_rows p n rows >>= settle p answers) _
+      (held-then P P (unless (not c.enabled) disabled s >>= take_rows p n rows) (settle p answers)
       (held-then P P (unless (not c.enabled) disabled s) (take_rows p n rows) (unless-keeps (not c.enabled) disabled s h) (rows-keep n rows)) settle-keeps) (tell-keeps (plainly (codes "DOMActivate") n c.rows)))
 
-  index-keeps : (r n : ℕ) → Keeping P (index p r n)
+  index-keeps : (r n : ℕ) → Keeping P (index p answers r n)
   index-keeps r n s h =
       held-any P (or_long s (rows_now (interface s) (quiet p s) s.indexes r)) _
       (λ rows. let bad = not (is_row rows n) in
-      held-then P P (unless bad bad_index s >>= set_index p (model_around (interface s) r) r n) (settle p)
+      held-then P P (unless bad bad_index s >>= set_index p (model_around (interface s) r) r n) (settle p answers)
       (held-then P P (unless bad bad_index s) (set_index p (model_around (interface s) r) r n) (unless-keeps bad bad_index s h)
       (set-index-keeps p P k (model_around (interface s) r) r n)) settle-keeps)
 
-  element-keeps : (name : List ℕ) (n : ℕ) → Keeping P (to_element p name n)
+  element-keeps : (name : List ℕ) (n : ℕ) → Keeping P (to_element p answers name n)
   element-keeps name n s h =
-      held-some P (named_copy s n) (λ rows t. tell p (fired name true true [] n rows) t) s h (λ rows. tell-keeps (fired name true true [] n rows) s h)
+      held-some P (named_copy s n) (λ rows t. tell p answers (fired name true true [] n rows) t) s h (λ rows. tell-keeps (fired name true true [] n rows) s h)
 
-  pub changed-keeps : (event : Event) → Keeping P (changed_by p event)
+  pub changed-keeps : (event : Event) → Keeping P (changed_by p answers event)
   changed-keeps (Set id rows text) s h = held-any P (or_no_target s (element_named s (by_role s is_entry) id)) _ (λ n. set-keeps n rows text s h)
   changed-keeps (Activate id rows) s h = held-any P (or_no_target s (element_named s (by_role s is_trigger) id)) _ (λ n. activate-keeps n rows s h)
   changed-keeps (Index id n) s h = held-any P (or_no_target s (element_named s (is_repeat_in s) id)) _ (λ r. index-keeps r n s h)

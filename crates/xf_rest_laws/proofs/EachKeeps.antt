@@ -71,7 +71,7 @@ pub record KeepsEach (p : Profile) (P : State → Type 0) : Type 0 where
   pub cleared : (model : ℕ) (s : State) → CalmAt model s → P s → P (refresh_cleared model s)
   pub all_cleared : (s : State) → AllOf IsCalm s.models → P s → P (all_cleared s)
   -- what a reset puts back has no empty texts
-  pub first : (place : ℕ) (s : State) → P s → are_filled (first_contents (construct p s.form (Some [])) place) ≡ true
+  pub first : (place : ℕ) (s : State) → P s → are_filled (first_contents (construct p s.form) place) ≡ true
 
 abbrev pub Keeping : (State → Type 0) → Run → Type 0
 Keeping P run = (s : State) → P s → Held P (run s)
@@ -234,7 +234,7 @@ module _ (p : Profile) (P : State → Type 0) (k : KeepsEach p P) where
   delete-at-keeps : (tell : Tell) → Telling P tell → (x : Acting) (w : DeleteBy) (c : setting.Focus) → Keeping P (delete.delete_at p tell x w c)
   delete-at-keeps tell t x w c s h =
       held-any P (set_asked p x c s) _ (λ set. held-any P (delete.at_asked p x w.at set s) _
-      (λ at. deleted-keeps tell t (delete.location_of p.decimals set at) (planned_delete s.forest.nodes (delete.asked_with s set at)) s h))
+      (λ at. deleted-keeps tell t (delete.location_of s.form.decimals set at) (planned_delete s.forest.nodes (delete.asked_with s set at)) s h))
 
   pub delete-keeps : (tell : Tell) → Telling P tell → (x : Acting) (w : DeleteBy) → Keeping P (delete.delete p tell x w)
   delete-keeps tell t x w s h =
@@ -318,6 +318,6 @@ module _ (p : Profile) (P : State → Type 0) (k : KeepsEach p P) where
 
   pub reset-keeps : (model : ℕ) → Keeping P (reset p model)
   reset-keeps model s h =
-      let first = construct p s.form (Some []) in
+      let first = construct p s.form in
       held-then P P (in_turn (put_back p first) (instances_of s model) s) (reindex p [])
       (held-turn P (put_back p first) (instances_of s model) (λ place. put-back-keeps first place (k.first place s h)) s h) (reindex-keeps [])

@@ -29,7 +29,7 @@ one = silent (element_at 0 (codes "d") ∷ text_at 1 (codes "1") ∷ [])
 
 abbrev state_of : Outcome → State
 state_of (accepted s posted) = s
-state_of (refused why calls) = unbuilt profile one None
+state_of (refused why calls) = unbuilt profile one
 
 abbrev begun : State
 begun = state_of (start profile one [])

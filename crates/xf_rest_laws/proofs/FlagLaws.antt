@@ -15,7 +15,7 @@ use Rattle.xf_form_machine.specs.Profile.{Profile}
 use Rattle.xf_form_machine.specs.State.{Model, State}
 use Rattle.xf_form_machine.specs.Refusal.{word_of, unless_passed, if_over}
 use Rattle.xf_form_machine.specs.Flow.{◌>>=◌, when, in_turn}
-use Rattle.xf_form_machine.specs.Surround.{scope, all_in}
+use Rattle.xf_form_machine.specs.Surround.{bind_scope, all_in}
 use Rattle.xf_form_machine.specs.Primitives.{changed_at, in_model, over_made}
 use Rattle.xf_form_machine.specs.Cycles.{counted_from, reported_cycle}
 use Rattle.xf_form_machine.specs.Behave.{no_model, model_at, asked_by_all, changes_of, with_contents, is_invalid, within_edges, rebuilt_with, unless_cycle, no_cycle, by_applied, rebuild, recalculated_with, settled_in, evaluated_more, recalculate, revalidated_with, revalidate}
@@ -88,38 +88,38 @@ applied-held : (P : State → Type 0) (p : Profile) (model : ℕ) (r : Result (L
     → Held P (by_applied p model r s)
 applied-held P p model (Err x) s k = tt
 applied-held P p model (Ok entries) s k =
-    let asked = edge_count (scope p s model) (shape_of s.forest.nodes) entries in
+    let asked = edge_count (bind_scope p s model) (shape_of s.forest.nodes) entries in
     let after = in_model (rebuilt_with entries asked) model s in
     held-then P P (within_edges p after) (no_cycle p model entries)
     (over-held P (nat_lt p.edges (asked_by_all after)) Edges after after (k entries asked))
-    (λ t h. let readers = calculated (scope p t model) (shape_of t.forest.nodes) entries in
+    (λ t h. let readers = calculated (bind_scope p t model) (shape_of t.forest.nodes) entries in
     cycle-held P t readers (reported_cycle (dependents (shape_of t.forest.nodes) readers)) t h)
 
 pub rebuild-held : (P : State → Type 0) (p : Profile) (model : ℕ) (s : State)
     → ((entries : List Entry) (asked : ℕ) → nat_lt p.edges (asked_by_all (in_model (rebuilt_with entries asked) model s)) ≡ false → P (in_model (rebuilt_with entries asked) model s))
     → Held P (rebuild p model s)
-rebuild-held P p model s k = applied-held P p model (applied (scope p s model) s.forest.nodes) s k
+rebuild-held P p model s k = applied-held P p model (applied (bind_scope p s model) s.forest.nodes) s k
 
 words-held : (P : State → Type 0) (words : List LimitWord) (s : State) (after : State → State) → P (after s) → Held P (unless_passed s words s >>= λ t. Ok (after t))
 words-held P [] s after h = h
 words-held P (word ∷ words) s after h = tt
 
 pub recalculate-held : (P : State → Type 0) (p : Profile) (model : ℕ) (s : State)
-    → ((made count : ℕ) → P (evaluated_more made count (settled_in p model (model_at s model).entries (settled_contents p.bounds (scope p s model) (model_at s model).entries (all_in s)) s)))
+    → ((made count : ℕ) → P (evaluated_more made count (settled_in p model (model_at s model).entries (settled_contents p.bounds (bind_scope p s model) (model_at s model).entries (all_in s)) s)))
     → Held P (recalculate p model s)
 recalculate-held P p model s k =
     let m = model_at s model in
     let made = length (calculates m.entries) in
-    let count = pertinent_count (scope p s model) (shape (all_in s)) m.entries (changes_of m) in
-    words-held P (map word_of (passed p.bounds (scope p s model) m.entries (all_in s)) ++ over_made p (s.made + made)) s
-    (λ t. evaluated_more made count (settled_in p model m.entries (settled_contents p.bounds (scope p s model) m.entries (all_in s)) t)) (k made count)
+    let count = pertinent_count (bind_scope p s model) (shape (all_in s)) m.entries (changes_of m) in
+    words-held P (map word_of (passed p.bounds (bind_scope p s model) m.entries (all_in s)) ++ over_made p (s.made + made)) s
+    (λ t. evaluated_more made count (settled_in p model m.entries (settled_contents p.bounds (bind_scope p s model) m.entries (all_in s)) t)) (k made count)
 
 -- the values that a recalculation finds, and the nodes that a revalidation does
 abbrev pub settled_values_in : Profile → ℕ → State → List Valued
 settled_values_in p model s =
     let entries = (model_at s model).entries in
-    values_over p.bounds (scope p s model) entries
-    (visits (with_contents s.forest.next (settled_contents p.bounds (scope p s model) entries (all_in s)) s.forest.nodes))
+    values_over p.bounds (bind_scope p s model) entries
+    (visits (with_contents s.forest.next (settled_contents p.bounds (bind_scope p s model) entries (all_in s)) s.forest.nodes))
 
 abbrev pub invalid_in : Profile → ℕ → State → List ℕ
 invalid_in p model s = map (λ x. x.number) (filter (is_invalid p model s) (all_in s))

@@ -3,7 +3,6 @@ use Rattle.std.proofs.Common.{◌≡◌, ℕ, suc, ◌+◌, Bool, true, false, n
 use Rattle.std.specs.Prelude.{fold}
 use Rattle.std.specs.List.{list_all}
 use Rattle.std.proofs.lemmas.Bool.Decides.{nat_tests}
-use Rattle.xf_store.specs.declared.answers.Answer.{Answer}
 use Rattle.xf_doc.specs.declared.content.Content.{Content}
 use Rattle.xf_doc.specs.declared.fault.TreeFault.{TreeFault}
 use Rattle.xf_doc.specs.Forest.{Forest, tree_of}
@@ -54,8 +53,8 @@ none-asked sum (n ∷ ns) = let q : sum + 0 ≡ sum = omega arith in none-asked 
 zero-most : (n : ℕ) → nat_le 0 n ≡ true
 zero-most n = grind (arith, nat_tests)
 
-unbuilt-stands : (p : Profile) (form : Program) (answers : Option (List Answer)) → Stands p form 0 (unbuilt p form answers)
-unbuilt-stands p form answers = record {
+unbuilt-stands : (p : Profile) (form : Program) → Stands p form 0 (unbuilt p form)
+unbuilt-stands p form = record {
   models = record {
     chained = none-chained form.model_elements;
     marked = none-marked form.model_elements;
@@ -146,12 +145,12 @@ shown-built : (p : Profile) (form : Program) (s : State) → Built p form s → 
 shown-built p form s h =
     held-any (Built p form) (shown p s) _ (λ list. (record { models = h.0.models; nodes = h.0.nodes; form = h.0.form; accepted = h.0.accepted }, h.1))
 
-pub constructed : (p : Profile) (form : Program) (answers : Option (List Answer)) → is_filled form ≡ true → Held (Built p form) (construct p form answers)
-constructed p form answers f =
+pub constructed : (p : Profile) (form : Program) → is_filled form ≡ true → Held (Built p form) (construct p form)
+constructed p form f =
     let B = Built p form in
     let shown_after : State → Result State Refused = λ t. start_indexes p (record t { cases = first_cases (interface t) }) >>= first_shown p in
-    held-then B B (in_turn (plant_document p) form.documents (unbuilt p form answers)) (λ s. in_turn (build_model p) (counted_from 0 (length s.models)) s >>= shown_after)
-    (documents-stand p form form.documents f (unbuilt p form answers) (unbuilt-stands p form answers, first-none form.model_elements))
+    held-then B B (in_turn (plant_document p) form.documents (unbuilt p form)) (λ s. in_turn (build_model p) (counted_from 0 (length s.models)) s >>= shown_after)
+    (documents-stand p form form.documents f (unbuilt p form) (unbuilt-stands p form, first-none form.model_elements))
     (λ s h. held-then B B (in_turn (build_model p) (counted_from 0 (length s.models)) s) shown_after (all-built p form (counted_from 0 (length s.models)) s h)
     (λ t i. let u : State = record t { cases = first_cases (interface t) } in
     held-then B B (start_indexes p u) (first_shown p)
@@ -167,5 +166,5 @@ first-by : (p : Profile) (form : Program) (r : Result State Refused) (place : �
 first-by p form (Err refusal) place h = refl
 first-by p form (Ok first) place h = under-filled p form first (document_at first place) h.0
 
-pub first-filled : (p : Profile) (form : Program) → is_filled form ≡ true → (place : ℕ) → are_filled (first_contents (construct p form (Some [])) place) ≡ true
-first-filled p form f place = first-by p form (construct p form (Some [])) place (constructed p form (Some []) f)
+pub first-filled : (p : Profile) (form : Program) → is_filled form ≡ true → (place : ℕ) → are_filled (first_contents (construct p form) place) ≡ true
+first-filled p form f place = first-by p form (construct p form) place (constructed p form f)

@@ -16,7 +16,7 @@ use Rattle.xf_form_machine.specs.Behave.{no_model, model_at}
 use Rattle.xf_form_machine.specs.Update.{has_flag}
 use Rattle.xf_form_machine.specs.Construct.{construct, first_contents}
 use Rattle.xf_form_machine.specs.Step.{Posted, posted, Outcome, accepted, refused, outcome, fresh, at_end, one_more, changed_by, step}
-use Rattle.xf_form_machine.specs.Start.{tell_models, started, start}
+use Rattle.xf_form_machine.specs.Start.{tell_models, readied, started, start}
 use Rattle.xf_form_machine.specs.Run.{Item, line, are_those_of, if_exact, take_item, run_from, run}
 use Rattle.xf_form_machine.specs.AtRest.{RestsModel, IsAtRest}
 use Rattle.xf_machine_laws.specs.Chain.{IsChained}
@@ -52,7 +52,7 @@ keeps-each p form count f = record {
   revalidate = revalidate-stands p form count;
   cleared = cleared-stands p form count;
   all_cleared = all-cleared-stands p form count;
-  first = λ place s h. subst (λ (x : Program). are_filled (first_contents (construct p x (Some [])) place) ≡ true) (sym h.form) (first-filled p form f place);
+  first = λ place s h. subst (λ (x : Program). are_filled (first_contents (construct p x) place) ≡ true) (sym h.form) (first-filled p form f place);
 }
 
 within-stands : (p : Profile) (s : State) → Within p s → Stands p s.form s.accepted s
@@ -76,12 +76,12 @@ stands-within p form count s h = record {
   texts = h.nodes.texts;
 }
 
-changed-stands : (p : Profile) (form : Program) (count : ℕ) (event : Event) (s : State) → is_filled form ≡ true → Stands p form count s → Held (Stands p form count) (changed_by p event s)
-changed-stands p form count event s f h = changed-keeps p (Stands p form count) (keeps-each p form count f) event s h
+changed-stands : (p : Profile) (answers : List Answer) (form : Program) (count : ℕ) (event : Event) (s : State) → is_filled form ≡ true → Stands p form count s → Held (Stands p form count) (changed_by p answers event s)
+changed-stands p answers form count event s f h = changed-keeps p answers (Stands p form count) (keeps-each p form count f) event s h
 
 changes_within : (p : Profile) → ChangesWithin p
-changes_within p event s t f h e =
-    stands-within p s.form s.accepted t (held-is (Stands p s.form s.accepted) (changed_by p event s) t (changed-stands p s.form s.accepted event s f (within-stands p s h)) e)
+changes_within p answers event s t f h e =
+    stands-within p s.form s.accepted t (held-is (Stands p s.form s.accepted) (changed_by p answers event s) t (changed-stands p answers s.form s.accepted event s f (within-stands p s h)) e)
 
 -- ---- where nothing is due
 
@@ -113,8 +113,8 @@ marked-where : (ms : List Model) → AllOf IsUnmarked ms → AllOf IsMarkedDue m
 marked-where [] h = tt
 marked-where (m ∷ ms) h = (λ i. h.0, marked-where ms h.1)
 
-rests-stands : (p : Profile) (answers : List Answer) (s : State) → Rests p s → Stands p s.form s.accepted (fresh p answers s)
-rests-stands p answers s h = record {
+rests-stands : (p : Profile) (s : State) → Rests p s → Stands p s.form s.accepted (fresh p s)
+rests-stands p s h = record {
   models = record { chained = chained-where s.models h.is_due; marked = marked-where s.models h.unmarked; count = h.model_count; edges = h.edges };
   nodes = record { filled = h.filled; texts = h.texts };
   form = refl;
@@ -152,7 +152,7 @@ outcome-held P end (Ok u) t q h e = let same : end u ≡ t = cc in subst P same 
 steps_rest : (p : Profile) → StepsRest p
 steps_rest p event answers s t posted f h e =
     let P = Stands p s.form s.accepted in
-    let r = changed_by p event (fresh p answers s) in
+    let r = changed_by p answers event (fresh p s) in
     outcome-held (Steps p s) (λ u. one_more (at_end p u)) r t posted
     (held-more (λ u. P u × NotDue u) (λ u. Steps p s (one_more (at_end p u))) r
     (λ u i. let n = ended p s.form s.accepted u i.0 i.1 in
@@ -161,27 +161,30 @@ steps_rest p event answers s t posted f h e =
       form = i.0.form;
       accepted = ap suc i.0.accepted;
     })
-    (held-both P NotDue r (changed-stands p s.form s.accepted event (fresh p answers s) f (rests-stands p answers s h)) (changed-rests p event (fresh p answers s) h.is_due))) e
+    (held-both P NotDue r (changed-stands p answers s.form s.accepted event (fresh p s) f (rests-stands p s h)) (changed-rests p answers event (fresh p s) h.is_due))) e
 
 -- ---- a start
 
-told-both : (p : Profile) (form : Program) (name : List ℕ) (s : State) → is_filled form ≡ true → Stands p form 0 s × NotDue s
-    → Held (λ t. Stands p form 0 t × NotDue t) (tell_models p name s)
-told-both p form name s f h =
-    held-both (Stands p form 0) NotDue (tell_models p name s) (models-keep p (Stands p form 0) (keeps-each p form 0 f) name s h.0) (models-told p name s h.1)
+told-both : (p : Profile) (answers : List Answer) (form : Program) (name : List ℕ) (s : State) → is_filled form ≡ true → Stands p form 0 s × NotDue s
+    → Held (λ t. Stands p form 0 t × NotDue t) (tell_models p answers name s)
+told-both p answers form name s f h =
+    held-both (Stands p form 0) NotDue (tell_models p answers name s) (models-keep p answers (Stands p form 0) (keeps-each p form 0 f) name s h.0) (models-told p answers name s h.1)
+
+readied-both : (p : Profile) (answers : List Answer) (form : Program) (s : State) → is_filled form ≡ true → Stands p form 0 s × NotDue s
+    → Held (λ t. Stands p form 0 t × NotDue t) (readied p answers s)
+readied-both p answers form s f h =
+    let B : State → Type 0 = λ t. Stands p form 0 t × NotDue t in
+    let one = tell_models p answers (codes "xforms-model-construct") (fresh p s) in
+    held-then B B (one >>= tell_models p answers (codes "xforms-model-construct-done")) (tell_models p answers (codes "xforms-ready"))
+    (held-then B B one (tell_models p answers (codes "xforms-model-construct-done"))
+    (told-both p answers form (codes "xforms-model-construct") (fresh p s) f
+    (record { models = h.0.models; nodes = h.0.nodes; form = h.0.form; accepted = h.0.accepted }, h.1))
+    (λ t i. told-both p answers form (codes "xforms-model-construct-done") t f i)) (λ t i. told-both p answers form (codes "xforms-ready") t f i)
 
 started-both : (p : Profile) (form : Program) (answers : List Answer) → is_filled form ≡ true → Held (λ t. Stands p form 0 t × NotDue t) (started p form answers)
 started-both p form answers f =
-    let B : State → Type 0 = λ t. Stands p form 0 t × NotDue t in
-    let one = construct p form (Some answers) in
-    let two = one >>= tell_models p (codes "xforms-model-construct") in
-    let three = two >>= tell_models p (codes "xforms-model-construct-done") in
-    held-then B B three (tell_models p (codes "xforms-ready"))
-    (held-then B B two (tell_models p (codes "xforms-model-construct-done"))
-    (held-then B B one (tell_models p (codes "xforms-model-construct"))
-    (held-more (Built p form) B one (λ s h. (h.0, is-due-none s h.1)) (constructed p form (Some answers) f))
-    (λ s h. told-both p form (codes "xforms-model-construct") s f h)) (λ s h. told-both p form (codes "xforms-model-construct-done") s f h))
-    (λ s h. told-both p form (codes "xforms-ready") s f h)
+    held-then (Built p form) (λ t. Stands p form 0 t × NotDue t) (construct p form) (readied p answers) (constructed p form f)
+    (λ s h. readied-both p answers form s f (h.0, is-due-none s h.1))
 
 starts_rest : (p : Profile) → StartsRest p
 starts_rest p form answers s posted f e =

@@ -27,7 +27,7 @@ use Rattle.xf_form_machine.specs.Profile.{Profile}
 use Rattle.xf_form_machine.specs.Program.{Program}
 use Rattle.xf_form_machine.specs.State.{Model, State}
 use Rattle.xf_form_machine.specs.Refusal.{unless_passed}
-use Rattle.xf_form_machine.specs.Surround.{scope, all_in, model_holding}
+use Rattle.xf_form_machine.specs.Surround.{bind_scope, all_in, model_holding}
 use Rattle.xf_form_machine.specs.Primitives.{changed_at, in_model, in_some_model, all_due, texts_due, refresh_due, with_text_mark, with_list_mark, list_changed, with_forest, grown, grown_to, grown_by, over_made, is_other_text, if_other, set_text, copy, plant, attach, detach}
 use Rattle.xf_form_machine.specs.Behave.{no_model, model_at, asked_by_all, rebuilt_with, rebuild, recalculated_with, with_contents, recalculate, revalidated_with, revalidate}
 use Rattle.xf_form_machine.specs.Update.{no_refresh, refresh_cleared, all_cleared}
@@ -354,11 +354,11 @@ module _ (p : Profile) (form : Program) (count : ℕ) where
   pub recalculate-stands : (model : ℕ) (s : State) → NoRebuild model s → P s → Held P (recalculate p model s)
   recalculate-stands model s q h = recalculate-held P p model s (λ made count.
       let entries = (model_at s model).entries in
-      let contents = settled_contents p.bounds (scope p s model) entries (all_in s) in
+      let contents = settled_contents p.bounds (bind_scope p s model) entries (all_in s) in
       let values = settled_values_in p model s in
       record {
         models = models-changed p form (recalculated_with values) model s.models (recalculated-change values (model_at s model) q) (λ m. refl) h.models;
-        nodes = settled-stand p s.forest.next contents s.forest.nodes (rounds-short p.bounds (scope p s model) entries (all_in s) (length (calculates entries)) [] tt) h.nodes;
+        nodes = settled-stand p s.forest.next contents s.forest.nodes (rounds-short p.bounds (bind_scope p s model) entries (all_in s) (length (calculates entries)) [] tt) h.nodes;
         form = h.form;
         accepted = h.accepted;
       })

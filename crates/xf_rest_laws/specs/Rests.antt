@@ -50,7 +50,7 @@ pub record Rests (p : Profile) (s : State) : Type 0 where
   pub attached : in_instances s.forest.nodes ≡ s.forest.nodes
   pub filled : list_any is_empty_text s.forest.nodes ≡ false
   pub texts : has_long_text p.bounds.limits.text s.forest.nodes ≡ false
-  pub is_fresh : fresh p [] s ≡ s
+  pub is_fresh : fresh p s ≡ s
 
 -- ---- the data of a form
 
@@ -67,7 +67,7 @@ is_filled form = list_all are_filled form.documents
 -- ---- the laws
 
 abbrev pub ChangesWithin : Profile → Type 0
-ChangesWithin p = (event : Event) (s t : State) → is_filled s.form ≡ true → Within p s → changed_by p event s ≡ Ok t → Within p t
+ChangesWithin p = (answers : List Answer) (event : Event) (s t : State) → is_filled s.form ≡ true → Within p s → changed_by p answers event s ≡ Ok t → Within p t
 
 -- an accepted event counts as one more
 pub record Steps (p : Profile) (s t : State) : Type 0 where

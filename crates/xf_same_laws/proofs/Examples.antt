@@ -24,7 +24,7 @@ silent = Examples.form (element None (1 ∷ []) sort.host role.other ∷ model (
 
 abbrev state_of : Outcome → State
 state_of (accepted s posted) = s
-state_of (refused why calls) = unbuilt profile silent None
+state_of (refused why calls) = unbuilt profile silent
 
 abbrev begun : State
 begun = state_of (start profile silent [])

@@ -52,15 +52,14 @@ images_same f second s same texts = record {
   made = refl;
   evaluated = refl;
   calls = refl;
-  to_come = refl;
 }
 
 plus-none : (n : ℕ) → n ≡ n + 0
 plus-none n = omega arith
 
 same_images : SameAreImages
-same_images p answers s t h =
-    let r : State = fresh p answers t in
+same_images p s t h =
+    let r : State = fresh p t in
     ap (λ x. record r { form = x }) (sym h.form)
     ∙ ap (λ x. record r { form = s.form; forest = record { nodes = x; next = t.forest.next } }) (sym h.nodes)
     ∙ ap (λ x. record r { form = s.form; forest = record { nodes = map (renumbered h.by) s.forest.nodes; next = x } }) (plus-none t.forest.next)

@@ -24,14 +24,14 @@ use Rattle.xf_form_machine.specs.State.{State}
 use Rattle.xf_form_machine.specs.Refusal.{Refused, circular, unless_passed, if_over}
 use Rattle.xf_form_machine.specs.Refusal as refusal
 use Rattle.xf_form_machine.specs.Flow.{◌>>=◌}
-use Rattle.xf_form_machine.specs.Surround.{scope}
+use Rattle.xf_form_machine.specs.Surround.{bind_scope}
 use Rattle.xf_form_machine.specs.Primitives.{in_model}
 use Rattle.xf_form_machine.specs.Properties.{path_in}
 use Rattle.xf_form_machine.specs.Cycles.{reported_cycle}
 use Rattle.xf_form_machine.specs.Behave.{asked_by_all, within_edges, rebuilt_with, unless_cycle, no_cycle, by_applied, rebuild}
 use Rattle.xf_same_laws.specs.Going.{Runs, image, Counts, imaged, CountsAfter}
 use Rattle.xf_same_laws.specs.Behaving.{HasTables, Behaves}
-use Rattle.xf_same_laws.proofs.ScopeGoes.{asked-same, scope-is, path-goes, rules-go}
+use Rattle.xf_same_laws.proofs.ScopeGoes.{asked-same, bind_scope-is, path-goes, rules-go}
 use Rattle.xf_same_laws.proofs.GoingLaws.{in-model-goes}
 
 -- ---- the nodes of a cycle
@@ -68,11 +68,11 @@ module _ (p : Profile) (f : ℕ → ℕ) (first second : ℕ) (r : Runs p f firs
   no-cycle-goes entries s tables =
       let t = image f second s in
       let others = map (renumbered_entry f) entries in
-      let sc = scope p s model in
+      let sc = bind_scope p s model in
       let all = shape_of s.forest.nodes in
       let goes = rules-go p f r.renumbers s tables model in
       let told : Scope → List Visit → Result State Refused = λ x v. unless_cycle t (calculated x v others) (reported_cycle (dependents v (calculated x v others))) t in
-      ap (λ x. told x (shape_of (map (renumbered f) s.forest.nodes))) (scope-is f r.renumbers second s p model)
+      ap (λ x. told x (shape_of (map (renumbered f) s.forest.nodes))) (bind_scope-is f r.renumbers second s p model)
       ∙ ap (told (renumbered_scope f sc)) (shape_of-renumbered f r.renumbers r.keeps_texts s.forest.nodes)
       ∙ ap (λ g. unless_cycle t (calculated (renumbered_scope f sc) (map (renumbered_visit f) all) others) (reported_cycle g) t) (graph-renumbered f r.renumbers sc goes all entries)
       ∙ ap (λ rs. unless_cycle t rs (reported_cycle (graph_over sc all entries)) t) (calculated-renumbered f r.renumbers sc goes all entries)
@@ -96,11 +96,11 @@ module _ (p : Profile) (f : ℕ → ℕ) (first second : ℕ) (r : Runs p f firs
   applied-goes s tables (Ok entries) =
       let t = image f second s in
       let others = map (renumbered_entry f) entries in
-      let sc = scope p s model in
+      let sc = bind_scope p s model in
       let all = shape_of s.forest.nodes in
       let asked = edge_count sc all entries in
-      let is_asked : edge_count (scope p t model) (shape_of (map (renumbered f) s.forest.nodes)) others ≡ asked =
-      ap (λ x. edge_count x (shape_of (map (renumbered f) s.forest.nodes)) others) (scope-is f r.renumbers second s p model)
+      let is_asked : edge_count (bind_scope p t model) (shape_of (map (renumbered f) s.forest.nodes)) others ≡ asked =
+      ap (λ x. edge_count x (shape_of (map (renumbered f) s.forest.nodes)) others) (bind_scope-is f r.renumbers second s p model)
       ∙ ap (λ v. edge_count (renumbered_scope f sc) v others) (shape_of-renumbered f r.renumbers r.keeps_texts s.forest.nodes)
       ∙ edges-renumbered f r.renumbers sc (rules-go p f r.renumbers s tables model) all entries in
       ap (λ n. within_edges p (in_model (rebuilt_with others n) model t) >>= no_cycle p model others) is_asked
@@ -115,22 +115,22 @@ module _ (p : Profile) (f : ℕ → ℕ) (first second : ℕ) (r : Runs p f firs
 
   edges-count : (words : List LimitWord) (entries : List Entry) (s : State) → Counts p first s → CountsAfter p first (unless_passed s words s >>= no_cycle p model entries)
   edges-count [] entries s c =
-      let readers = calculated (scope p s model) (shape_of s.forest.nodes) entries in
+      let readers = calculated (bind_scope p s model) (shape_of s.forest.nodes) entries in
       cycle-counts s s readers (reported_cycle (dependents (shape_of s.forest.nodes) readers)) c
   edges-count (word ∷ words) entries s c = tt
 
   applied-counts : (s : State) (a : Result (List Entry) Exception) → Counts p first s → CountsAfter p first (by_applied p model a s)
   applied-counts s (Err x) c = tt
   applied-counts s (Ok entries) c =
-      let after = in_model (rebuilt_with entries (edge_count (scope p s model) (shape_of s.forest.nodes) entries)) model s in
+      let after = in_model (rebuilt_with entries (edge_count (bind_scope p s model) (shape_of s.forest.nodes) entries)) model s in
       edges-count (if_over (nat_lt p.edges (asked_by_all after)) Edges) entries after (record { next = c.next; within = c.within })
 
   pub rebuild-goes : Behaves p f first second (rebuild p model)
   rebuild-goes s tables c =
-      let sc = scope p s model in
+      let sc = bind_scope p s model in
       let nodes = s.forest.nodes in
       record {
-        is = ap (λ x. by_applied p model (applied x (map (renumbered f) nodes)) (image f second s)) (scope-is f r.renumbers second s p model)
+        is = ap (λ x. by_applied p model (applied x (map (renumbered f) nodes)) (image f second s)) (bind_scope-is f r.renumbers second s p model)
             ∙ ap (λ a. by_applied p model a (image f second s))
             (applied-renumbered f r.renumbers r.keeps_texts sc (sets-go f s.form.rules (rules-go p f r.renumbers s tables model)) nodes)
             ∙ applied-goes s tables (applied sc nodes);

@@ -30,14 +30,14 @@ use Rattle.xf_form_machine.specs.Profile.{Profile}
 use Rattle.xf_form_machine.specs.State.{Model, State}
 use Rattle.xf_form_machine.specs.Refusal.{Refused, word_of, unless_passed}
 use Rattle.xf_form_machine.specs.Flow.{◌>>=◌}
-use Rattle.xf_form_machine.specs.Surround.{scope, all_in}
+use Rattle.xf_form_machine.specs.Surround.{bind_scope, all_in}
 use Rattle.xf_form_machine.specs.Primitives.{changed_at, in_model, over_made}
 use Rattle.xf_form_machine.specs.Behave.{model_at, changes_of, with_contents, truly, recalculated_with, settled_in, evaluated_more, recalculate}
 use Rattle.xf_form_machine.specs.Same.{renumbered_model}
 use Rattle.xf_same_laws.specs.Going.{Runs, image, Counts, imaged, CountsAfter}
 use Rattle.xf_same_laws.specs.Behaving.{HasTables, Behaves}
 use Rattle.xf_same_laws.proofs.ForestGoes.{map-length}
-use Rattle.xf_same_laws.proofs.ScopeGoes.{scope-is, rules-go, model-at}
+use Rattle.xf_same_laws.proofs.ScopeGoes.{bind_scope-is, rules-go, model-at}
 use Rattle.xf_same_laws.proofs.GoingLaws.{within-made}
 
 -- ---- texts that are settled
@@ -167,9 +167,9 @@ no-words (w ∷ ws) vs e = cc
 abbrev recalculated : Profile → ℕ → Model → State → Result State Refused
 recalculated p model m s =
     let made = length (calculates m.entries) in
-    let count = pertinent_count (scope p s model) (shape (all_in s)) m.entries (changes_of m) in
-    unless_passed s (map word_of (passed p.bounds (scope p s model) m.entries (all_in s)) ++ over_made p (s.made + made)) s
-    >>= λ t. Ok (evaluated_more made count (settled_in p model m.entries (settled_contents p.bounds (scope p s model) m.entries (all_in s)) t))
+    let count = pertinent_count (bind_scope p s model) (shape (all_in s)) m.entries (changes_of m) in
+    unless_passed s (map word_of (passed p.bounds (bind_scope p s model) m.entries (all_in s)) ++ over_made p (s.made + made)) s
+    >>= λ t. Ok (evaluated_more made count (settled_in p model m.entries (settled_contents p.bounds (bind_scope p s model) m.entries (all_in s)) t))
 
 module _ (p : Profile) (f : ℕ → ℕ) (first second : ℕ) (r : Runs p f first second) (model : ℕ) where
   plus : (a b c : ℕ) → (a + b) + c ≡ a + (b + c)
@@ -204,11 +204,11 @@ module _ (p : Profile) (f : ℕ → ℕ) (first second : ℕ) (r : Runs p f firs
   -- where no limit is passed
   settled-state : (s : State) (m : Model) → HasTables s.form → Counts p first s → s.made + length (calculates m.entries) ≤ p.made → (count : ℕ)
       → evaluated_more (length (calculates m.entries)) count
-      (settled_in p model (map (renumbered_entry f) m.entries) (renumbered_contents f (settled_contents p.bounds (scope p s model) m.entries (all_in s))) (image f second s))
-      ≡ image f second (evaluated_more (length (calculates m.entries)) count (settled_in p model m.entries (settled_contents p.bounds (scope p s model) m.entries (all_in s)) s))
+      (settled_in p model (map (renumbered_entry f) m.entries) (renumbered_contents f (settled_contents p.bounds (bind_scope p s model) m.entries (all_in s))) (image f second s))
+      ≡ image f second (evaluated_more (length (calculates m.entries)) count (settled_in p model m.entries (settled_contents p.bounds (bind_scope p s model) m.entries (all_in s)) s))
   settled-state s m tables c w count =
       let t = image f second s in
-      let sc = scope p s model in
+      let sc = bind_scope p s model in
       let made = length (calculates m.entries) in
       let entries = map (renumbered_entry f) m.entries in
       let contents = settled_contents p.bounds sc m.entries (all_in s) in
@@ -217,21 +217,21 @@ module _ (p : Profile) (f : ℕ → ℕ) (first second : ℕ) (r : Runs p f firs
       let size : length contents ≡ made = contents-length p.bounds sc m.entries (all_in s) in
       let written : with_contents (second + s.made) others (map (renumbered f) s.forest.nodes) ≡ map (renumbered f) ns =
       written-goes f r.renumbers s.forest.next (second + s.made) contents s.forest.nodes (subst (λ k. Continues f s.forest.next (second + s.made) k) (sym size) (continued s made c w)) in
-      let values : values_over p.bounds (scope p t model) entries (visits (map (renumbered f) ns)) ≡ map (renumbered_valued f) (values_over p.bounds sc m.entries (visits ns)) =
-      ap (λ x. values_over p.bounds x entries (visits (map (renumbered f) ns))) (scope-is f r.renumbers second s p model)
+      let values : values_over p.bounds (bind_scope p t model) entries (visits (map (renumbered f) ns)) ≡ map (renumbered_valued f) (values_over p.bounds sc m.entries (visits ns)) =
+      ap (λ x. values_over p.bounds x entries (visits (map (renumbered f) ns))) (bind_scope-is f r.renumbers second s p model)
       ∙ ap (values_over p.bounds (renumbered_scope f sc) entries) (visits-renumbered f r.renumbers ns)
       ∙ values-go f r.renumbers p.bounds sc (rules-go p f r.renumbers s tables model) m.entries (visits ns) in
       let next : (second + s.made) + length others ≡ second + (s.made + made) =
       ap (λ k. (second + s.made) + k) (map-length (λ (x : ℕ × List ℕ). (f x.0, x.1)) contents ∙ size) ∙ plus second s.made made in
-      ap (λ xs. left_with t ((second + s.made) + length others) xs (values_over p.bounds (scope p t model) entries (visits xs)) made count) written
-      ∙ ap (λ k. left_with t k (map (renumbered f) ns) (values_over p.bounds (scope p t model) entries (visits (map (renumbered f) ns))) made count) next
+      ap (λ xs. left_with t ((second + s.made) + length others) xs (values_over p.bounds (bind_scope p t model) entries (visits xs)) made count) written
+      ∙ ap (λ k. left_with t k (map (renumbered f) ns) (values_over p.bounds (bind_scope p t model) entries (visits (map (renumbered f) ns))) made count) next
       ∙ ap (λ vs. left_with t (second + (s.made + made)) (map (renumbered f) ns) vs made count) values
       ∙ left-goes s (s.forest.next + length contents) ns (values_over p.bounds sc m.entries (visits ns)) made count
 
   known-goes : (s : State) (m : Model) → HasTables s.form → Counts p first s → recalculated p model (renumbered_model f m) (image f second s) ≡ imaged f second (recalculated p model m s)
   known-goes s m tables c =
       let t = image f second s in
-      let sc = scope p s model in
+      let sc = bind_scope p s model in
       let entries = map (renumbered_entry f) m.entries in
       let all = all_in s in
       let goes = rules-go p f r.renumbers s tables model in
@@ -250,8 +250,8 @@ module _ (p : Profile) (f : ℕ → ℕ) (first second : ℕ) (r : Runs p f firs
       let contents = settled_contents p.bounds sc m.entries all in
       let last : List LimitWord → ℕ → Contents → Result State Refused = λ ws k cs. unless_passed t ws t >>= λ u. Ok (evaluated_more made k (settled_in p model entries cs u)) in
       let words = map word_of (passed p.bounds (renumbered_scope f sc) entries others) ++ over_made p (s.made + made) in
-      ap (λ k. asked (scope p t model) (all_in t) (shape (all_in t)) (changes_of (renumbered_model f m)) k) is_made
-      ∙ ap (λ x. asked x (all_in t) (shape (all_in t)) (changes_of (renumbered_model f m)) made) (scope-is f r.renumbers second s p model)
+      ap (λ k. asked (bind_scope p t model) (all_in t) (shape (all_in t)) (changes_of (renumbered_model f m)) k) is_made
+      ∙ ap (λ x. asked x (all_in t) (shape (all_in t)) (changes_of (renumbered_model f m)) made) (bind_scope-is f r.renumbers second s p model)
       ∙ ap (λ v. asked (renumbered_scope f sc) v (shape v) (changes_of (renumbered_model f m)) made) seen
       ∙ ap (λ w. asked (renumbered_scope f sc) others w (changes_of (renumbered_model f m)) made) shapes
       ∙ ap (λ x. asked (renumbered_scope f sc) others (map (renumbered_visit f) (shape all)) x made) changes
@@ -261,30 +261,30 @@ module _ (p : Profile) (f : ℕ → ℕ) (first second : ℕ) (r : Runs p f firs
       (ap (map word_of) (passed-renumbered f r.renumbers r.keeps_texts p.bounds sc goes m.entries all) ∙ words-go f (passed p.bounds sc m.entries all))
       ∙ by (map word_of (passed p.bounds sc m.entries all) ++ over_made p (s.made + made)) refl count
     where
-      by : (words : List LimitWord) → map word_of (passed p.bounds (scope p s model) m.entries (all_in s)) ++ over_made p (s.made + length (calculates m.entries)) ≡ words → (count : ℕ)
+      by : (words : List LimitWord) → map word_of (passed p.bounds (bind_scope p s model) m.entries (all_in s)) ++ over_made p (s.made + length (calculates m.entries)) ≡ words → (count : ℕ)
           → (unless_passed (image f second s) words (image f second s) >>= λ u. Ok (evaluated_more (length (calculates m.entries)) count
-          (settled_in p model (map (renumbered_entry f) m.entries) (renumbered_contents f (settled_contents p.bounds (scope p s model) m.entries (all_in s))) u)))
-          ≡ imaged f second (unless_passed s words s >>= λ u. Ok (evaluated_more (length (calculates m.entries)) count (settled_in p model m.entries (settled_contents p.bounds (scope p s model) m.entries (all_in s)) u)))
+          (settled_in p model (map (renumbered_entry f) m.entries) (renumbered_contents f (settled_contents p.bounds (bind_scope p s model) m.entries (all_in s))) u)))
+          ≡ imaged f second (unless_passed s words s >>= λ u. Ok (evaluated_more (length (calculates m.entries)) count (settled_in p model m.entries (settled_contents p.bounds (bind_scope p s model) m.entries (all_in s)) u)))
       by [] e count =
-          let none : over_made p (s.made + length (calculates m.entries)) ≡ [] = no-words (map word_of (passed p.bounds (scope p s model) m.entries (all_in s))) (over_made p (s.made + length (calculates m.entries))) e in
+          let none : over_made p (s.made + length (calculates m.entries)) ≡ [] = no-words (map word_of (passed p.bounds (bind_scope p s model) m.entries (all_in s))) (over_made p (s.made + length (calculates m.entries))) e in
           ap Ok (settled-state s m tables c (within-made p (s.made + length (calculates m.entries)) none) count)
       by (word ∷ words) e count = refl
 
   known-counts : (s : State) (m : Model) → Counts p first s → CountsAfter p first (recalculated p model m s)
-  known-counts s m c = by (map word_of (passed p.bounds (scope p s model) m.entries (all_in s)) ++ over_made p (s.made + length (calculates m.entries))) refl
+  known-counts s m c = by (map word_of (passed p.bounds (bind_scope p s model) m.entries (all_in s)) ++ over_made p (s.made + length (calculates m.entries))) refl
     where
       made : ℕ
       made = length (calculates m.entries)
 
       contents : Contents
-      contents = settled_contents p.bounds (scope p s model) m.entries (all_in s)
+      contents = settled_contents p.bounds (bind_scope p s model) m.entries (all_in s)
 
-      by : (words : List LimitWord) → map word_of (passed p.bounds (scope p s model) m.entries (all_in s)) ++ over_made p (s.made + made) ≡ words
-          → CountsAfter p first (unless_passed s words s >>= λ t. Ok (evaluated_more made (pertinent_count (scope p s model) (shape (all_in s)) m.entries (changes_of m)) (settled_in p model m.entries contents t)))
+      by : (words : List LimitWord) → map word_of (passed p.bounds (bind_scope p s model) m.entries (all_in s)) ++ over_made p (s.made + made) ≡ words
+          → CountsAfter p first (unless_passed s words s >>= λ t. Ok (evaluated_more made (pertinent_count (bind_scope p s model) (shape (all_in s)) m.entries (changes_of m)) (settled_in p model m.entries contents t)))
       by [] e =
-          let none : over_made p (s.made + made) ≡ [] = no-words (map word_of (passed p.bounds (scope p s model) m.entries (all_in s))) (over_made p (s.made + made)) e in
+          let none : over_made p (s.made + made) ≡ [] = no-words (map word_of (passed p.bounds (bind_scope p s model) m.entries (all_in s))) (over_made p (s.made + made)) e in
           record {
-            next = ap (λ k. s.forest.next + k) (contents-length p.bounds (scope p s model) m.entries (all_in s)) ∙ ap (λ k. k + made) c.next ∙ plus first s.made made;
+            next = ap (λ k. s.forest.next + k) (contents-length p.bounds (bind_scope p s model) m.entries (all_in s)) ∙ ap (λ k. k + made) c.next ∙ plus first s.made made;
             within = within-made p (s.made + made) none;
           }
       by (word ∷ words) e = tt

@@ -14,7 +14,7 @@ use Rattle.xf_doc.proofs.RenumberChanges.{root_of-renumbered}
 use Rattle.xf_lang.specs.Given.{Document}
 use Rattle.xf_lang.specs.Same.{renumbered_document}
 use Rattle.xf_model.specs.Pertinent.{AllOf}
-use Rattle.xf_model.specs.Rules.{Rule, Scope}
+use Rattle.xf_model.specs.Rules.{Rule, Scope, for_binds}
 use Rattle.xf_model.specs.Same.{renumbered_scope}
 use Rattle.xf_model.proofs.RenumberEntries.{RuleGoes, ScopeGoes, scope-goes}
 use Rattle.xf_ui.specs.Elements.{element_at}
@@ -22,7 +22,7 @@ use Rattle.xf_ui.specs.Index.{Index, unset, number_of, index_of, if_named, named
 use Rattle.xf_ui.specs.Interface.{Interface}
 use Rattle.xf_form_machine.specs.Profile.{Profile}
 use Rattle.xf_form_machine.specs.State.{Model, State}
-use Rattle.xf_form_machine.specs.Surround.{interface, all_in, instances_in, instance_holding, document_under, document_at, document_in, documents, given, scope}
+use Rattle.xf_form_machine.specs.Surround.{interface, all_in, instances_in, instance_holding, document_under, document_at, document_in, documents, given, scope, bind_scope}
 use Rattle.xf_form_machine.specs.Behave.{no_model}
 use Rattle.xf_form_machine.specs.Properties.{before_path, path_in}
 use Rattle.xf_form_machine.specs.Same.{renumbered_model, renumbered_index}
@@ -79,9 +79,12 @@ module _ (f : ℕ → ℕ) (same : IsRenumbering f) (second : ℕ) (s : State) w
   pub scope-is : (p : Profile) (model : ℕ) → scope p (image f second s) model ≡ renumbered_scope f (scope p s model)
   scope-is p model =
       let sc = scope p s model in
-      let g = given p s None in
+      let g = given s None in
       ap {A = List Document} {B = Scope} (λ ds. record sc { given = record g { documents = ds; indexes = named_indexes (interface s) (map (renumbered_index f) s.indexes) } }) (all-go (numbered_from 0 (instances_in s)))
       ∙ ap {A = List (List ℕ × ℕ)} {B = Scope} (λ is. record sc { given = record g { documents = map (renumbered_document f) (documents s); indexes = is } }) (named-goes f (interface s) s.indexes (interface s).repeats)
+
+  pub bind_scope-is : (p : Profile) (model : ℕ) → bind_scope p (image f second s) model ≡ renumbered_scope f (bind_scope p s model)
+  bind_scope-is p model = ap for_binds (scope-is p model)
 
   pub path-goes : (n : ℕ) → path_in (image f second s) (f n) ≡ path_in s n
   path-goes n =
@@ -89,8 +92,8 @@ module _ (f : ℕ → ℕ) (same : IsRenumbering f) (second : ℕ) (s : State) w
       ∙ ap (λ all. before_path s (instance_holding s n) ++ path_of (f n) all) (visits-renumbered f same s.forest.nodes)
       ∙ ap (λ text. before_path s (instance_holding s n) ++ text) (path_of-renumbered f same n (all_in s))
 
-pub rules-go : (p : Profile) (f : ℕ → ℕ) → IsRenumbering f → (s : State) → HasTables s.form → (model : ℕ) → ScopeGoes f (scope p s model)
-rules-go p f same s tables model = subst (λ (rs : List Rule). AllOf (RuleGoes f) rs) (sym tables.1) (scope-goes f same p.functions (given p s None) tables.0 model)
+pub rules-go : (p : Profile) (f : ℕ → ℕ) → IsRenumbering f → (s : State) → HasTables s.form → (model : ℕ) → ScopeGoes f (bind_scope p s model)
+rules-go p f same s tables model = subst (λ (rs : List Rule). AllOf (RuleGoes f) rs) (sym tables.1) (scope-goes f same p.functions (bind_scope p s model).given tables.0 model)
 
 pub model-at : (f : ℕ → ℕ) (k : ℕ) (ms : List Model) → get_or (map (renumbered_model f) ms) k no_model ≡ renumbered_model f (get_or ms k no_model)
 model-at f zero [] = refl

@@ -33,13 +33,13 @@ use Rattle.xf_ui.specs.Elements.{element_at, no_element}
 use Rattle.xf_ui.specs.Interface.{Interface, bound_of, selected_of, sent_of, binding_of, sort_of_control, sort_of, element_of}
 use Rattle.xf_form_machine.specs.Profile.{Profile}
 use Rattle.xf_form_machine.specs.State.{Model, State}
-use Rattle.xf_form_machine.specs.Surround.{Told, all_in, scope, around}
+use Rattle.xf_form_machine.specs.Surround.{Told, all_in, bind_scope, around}
 use Rattle.xf_form_machine.specs.Properties.{values_of, values_in, relevant_in, readonly_in, valid_in, marks_in}
 use Rattle.xf_form_machine.specs.Same.{renumbered_model}
 use Rattle.xf_same_laws.specs.Going.{image}
 use Rattle.xf_same_laws.specs.Behaving.{HasTables}
 use Rattle.xf_same_laws.specs.Controls.{GoesAround, HasForm}
-use Rattle.xf_same_laws.proofs.ScopeGoes.{scope-is, rules-go}
+use Rattle.xf_same_laws.proofs.ScopeGoes.{scope-is, bind_scope-is, rules-go}
 use Rattle.xf_same_laws.proofs.RevalidateGoes.{values-go}
 use Rattle.xf_same_laws.proofs.AroundGoes.{BoundGoes}
 use Rattle.xf_same_laws.proofs.LabelsGo.{MeaningGoes, SortGoes, ElementGoes}
@@ -116,12 +116,12 @@ pub tables-of : (s : State) → HasForm s.form → HasTables s.form
 tables-of s h = (h.form.tables, h.rules)
 
 module _ (p : Profile) (f : ℕ → ℕ) (same : IsRenumbering f) (second : ℕ) (s : State) (h : HasForm s.form) where
-  nested-goes : (k : ℕ) → nested (Some p.bounds.string) (scope p (image f second s) 0) (visits (map (renumbered f) s.forest.nodes)) k
-      ≡ option_map (map f) (nested (Some p.bounds.string) (scope p s 0) (all_in s) k)
+  nested-goes : (k : ℕ) → nested (Some p.bounds.string) (bind_scope p (image f second s) 0) (visits (map (renumbered f) s.forest.nodes)) k
+      ≡ option_map (map f) (nested (Some p.bounds.string) (bind_scope p s 0) (all_in s) k)
   nested-goes k =
-      let sc = scope p s 0 in
+      let sc = bind_scope p s 0 in
       let most : Option ℕ = Some p.bounds.string in
-      ap (λ x. nested most x (visits (map (renumbered f) s.forest.nodes)) k) (scope-is f same second s p 0)
+      ap (λ x. nested most x (visits (map (renumbered f) s.forest.nodes)) k) (bind_scope-is f same second s p 0)
       ∙ ap (λ v. nested most (renumbered_scope f sc) v k) (visits-renumbered f same s.forest.nodes)
       ∙ nested-renumbered f same most sc (all_in s) k (got f (chains sc) k (all-chains_go f sc (sets-go f s.form.rules (rules-go p f same s (tables-of s h) 0))))
 

@@ -190,7 +190,7 @@ module _ (p : Profile) (f : ℕ → ℕ) (same : IsRenumbering f) (second : ℕ)
       ∙ ap (λ l. flat_map (instance_lines s) places ++ flat_map (repeat_line p s) repeats ++ flat_map (switch_line s) cases ++ l ++ codes "end\n") (copies-same s.controls)
 
 pub text_stays : TextStays
-text_stays p s t h q = ap (state_text p) (changes_go.same p [] s t q) ∙ text-goes p q.by q.renumbers t.forest.next (fresh p [] s) h
+text_stays p s t h q = ap (state_text p) (changes_go.same p s t q) ∙ text-goes p q.by q.renumbers t.forest.next (fresh p s) h
 
 -- ---- the data
 
@@ -219,7 +219,7 @@ module _ (f : ℕ → ℕ) (same : IsRenumbering f) (second : ℕ) (s : State) w
 
 -- the budget of an event does not count, so that any profile will do
 pub data_stay : DataStay
-data_stay s t q = ap data_of (changes_go.same profile [] s t q) ∙ data-goes q.by q.renumbers t.forest.next (fresh profile [] s)
+data_stay s t q = ap data_of (changes_go.same profile s t q) ∙ data-goes q.by q.renumbers t.forest.next (fresh profile s)
 
 pub texts_go : TextLaws
 texts_go = record { text = text_stays; kept = data_stay }

@@ -1,7 +1,6 @@
 -- A state and the same one with other numbers of nodes: what a change makes of the second is what it makes of the first, with other numbers.
 -- One renumbering runs through an event, through the numbers too that it has given and those that it may yet give.
 use Rattle.std.specs.Prelude.{ℕ, ◌≡◌, ◌+◌, ◌^◌, ◌<◌, ◌≤◌, List, map, Result, Ok, Err}
-use Rattle.xf_store.specs.declared.answers.Answer.{Answer}
 use Rattle.xf_doc.specs.declared.content.Content.{Content}
 use Rattle.xf_doc.specs.Same.{IsRenumbering, KeepsTexts, renumbered}
 use Rattle.xf_ui.specs.Index.{Index}
@@ -76,7 +75,7 @@ ImagesAreSame = (f : ℕ → ℕ) (second : ℕ) (s : State) → IsRenumbering f
 
 -- before an event no node is made
 abbrev pub SameAreImages : Type 0
-SameAreImages = (p : Profile) (answers : List Answer) (s t : State) (h : IsSame s t) → fresh p answers t ≡ image h.by t.forest.next (fresh p answers s)
+SameAreImages = (p : Profile) (s t : State) (h : IsSame s t) → fresh p t ≡ image h.by t.forest.next (fresh p s)
 
 -- ---- the renumbering of an event
 

@@ -130,9 +130,9 @@ module _ (e : Two) where
       (choose-goes (bytes_eq name (codes "xforms-refresh")) (refresh_now e.p tell model) (reset_or nothing) (refresh-goes tell t model)
       (choose-goes (bytes_eq name (codes "xforms-reset")) (reset e.p model) nothing (reset-alike e model) (λ s h. record { is = refl; fits = h })))))
 
-  role-goes : (tell : Tell) → Tells e tell → (name : List ℕ) (role : Role) → Goes e (of_role e.p tell name role) (of_role e.p tell name role)
+  role-goes : (tell : Tell) → Tells e tell → (name : List ℕ) (role : Role) → Goes e (of_role e.p e.answers tell name role) (of_role e.p e.answers tell name role)
   role-goes tell t name (program.model k) s h = model-goes tell t k name s h
-  role-goes tell t name (program.submission k) s h = let b = bytes_eq name (codes "xforms-submit") in when-alike e b b (submit e.p tell k) (submit e.p tell k) s refl h (submit-alike e tell t k s h)
+  role-goes tell t name (program.submission k) s h = let b = bytes_eq name (codes "xforms-submit") in when-alike e b b (submit e.p e.answers tell k) (submit e.p e.answers tell k) s refl h (submit-alike e tell t k s h)
   role-goes tell t name (program.submit target) s h = let b = bytes_eq name (codes "DOMActivate") in when-alike e b b (act_send tell target) (act_send tell target) s refl h (act-send-alike e tell t target s h)
   role-goes tell t name (program.action a) s h = record { is = refl; fits = h }
   role-goes tell t name program.entry s h = record { is = refl; fits = h }
@@ -150,25 +150,25 @@ module _ (e : Two) where
       then-alike e (act e.p (further false) z n s) (act e.p (further false) (renumbered_fired e.f z) n (other e s)) last last (act-goes (further false) (t false) z n s h)
       (λ u k. when-alike e is_idle is_idle (update e.p (further false)) (update e.p (further false)) u refl k (update-alike e (further false) (t false) u k))
 
-  after-goes : (further : Further) → Furthers further → (is_idle : Bool) (z : Fired) → Goes e (after_all e.p further is_idle z) (after_all e.p further is_idle (renumbered_fired e.f z))
+  after-goes : (further : Further) → Furthers further → (is_idle : Bool) (z : Fired) → Goes e (after_all e.p e.answers further is_idle z) (after_all e.p e.answers further is_idle (renumbered_fired e.f z))
   after-goes further t is_idle z s h =
       let last : Run = when is_idle (update e.p (further false)) in
-      then-alike e (default e.p (further is_idle) z s) (default e.p (further is_idle) (renumbered_fired e.f z) (other e s)) last last
+      then-alike e (default e.p e.answers (further is_idle) z s) (default e.p e.answers (further is_idle) (renumbered_fired e.f z) (other e s)) last last
       (role-goes (further is_idle) (t is_idle) z.event.name (role_at s.form z.event.target) s h)
       (λ u k. when-alike e is_idle is_idle (update e.p (further false)) (update e.p (further false)) u refl k (update-alike e (further false) (t false) u k))
 
-  handled-goes : (further : Further) → Furthers further → (is_idle : Bool) (z : Fired) → Goes e (handled e.p further is_idle z) (handled e.p further is_idle (renumbered_fired e.f z))
+  handled-goes : (further : Further) → Furthers further → (is_idle : Bool) (z : Fired) → Goes e (handled e.p e.answers further is_idle z) (handled e.p e.answers further is_idle (renumbered_fired e.f z))
   handled-goes further t is_idle z s h =
       let called = calls (interface s) z.event in
       let one : Fired → ℕ → Run = handle e.p further is_idle in
-      let last : Fired → Run = λ y. when called.with_default (after_all e.p further is_idle y) in
+      let last : Fired → Run = λ y. when called.with_default (after_all e.p e.answers further is_idle y) in
       then-alike e (in_turn (one z) called.handlers s) (in_turn (one (renumbered_fired e.f z)) called.handlers (other e s)) (last z) (last (renumbered_fired e.f z))
       (kept-turn e (one z) (one (renumbered_fired e.f z)) called.handlers (handle-goes further t is_idle z) s h)
-      (λ u k. when-alike e called.with_default called.with_default (after_all e.p further is_idle z) (after_all e.p further is_idle (renumbered_fired e.f z)) u refl k (after-goes further t is_idle z u k))
+      (λ u k. when-alike e called.with_default called.with_default (after_all e.p e.answers further is_idle z) (after_all e.p e.answers further is_idle (renumbered_fired e.f z)) u refl k (after-goes further t is_idle z u k))
 
-  pub dispatch-goes : (most : ℕ) → Furthers (dispatch e.p most)
+  pub dispatch-goes : (most : ℕ) → Furthers (dispatch e.p e.answers most)
   dispatch-goes zero is_idle z s h =
       then-alike e (spend s) (spend (other e s)) (refused depth) (refused depth) (spend-alike e s h) (λ u k. record { is = refl; fits = tt })
   dispatch-goes (suc most) is_idle z s h =
-      then-alike e (spend s) (spend (other e s)) (handled e.p (dispatch e.p most) is_idle z) (handled e.p (dispatch e.p most) is_idle (renumbered_fired e.f z)) (spend-alike e s h)
-      (handled-goes (dispatch e.p most) (dispatch-goes most) is_idle z)
+      then-alike e (spend s) (spend (other e s)) (handled e.p e.answers (dispatch e.p e.answers most) is_idle z) (handled e.p e.answers (dispatch e.p e.answers most) is_idle (renumbered_fired e.f z)) (spend-alike e s h)
+      (handled-goes (dispatch e.p e.answers most) (dispatch-goes most) is_idle z)

@@ -1,5 +1,6 @@
 -- What a change makes of a state and of the same state with other numbers, and how such changes follow one another.
 use Rattle.std.proofs.Common.{◌≡◌, ℕ, Bool, true, false, List, [], ◌∷◌, map, Option, Some, None, option_map, Result, Ok, Err, refl, ap, ◌∙◌, if◌then◌else◌}
+use Rattle.xf_store.specs.declared.answers.Answer.{Answer}
 use Rattle.xf_form_machine.specs.Profile.{Profile}
 use Rattle.xf_form_machine.specs.State.{State}
 use Rattle.xf_form_machine.specs.Refusal.{Refusal, Refused, refused, or_long}
@@ -8,9 +9,10 @@ use Rattle.xf_same_laws.specs.Going.{Runs, image, Counts, imaged, CountsAfter, G
 use Rattle.xf_rest_laws.proofs.Holds.{Held}
 use Rattle.xf_step_laws.specs.Steps.{IsOfForm}
 
--- a renumbering, through the numbers from these on
+-- a renumbering, through the numbers from these on, in an event over these answers of the store
 pub record Two : Type 0 where
   pub p : Profile
+  pub answers : List Answer
   pub f : ℕ → ℕ
   pub first : ℕ
   pub second : ℕ

@@ -77,19 +77,19 @@ module _ (e : Two) where
       let y = renumbered_acting e x in
       let u = other e s in
       let last : State → List ℕ → Option ℤ → Result State Refused = λ v set at.
-      delete.deleted e.p tell (delete.location_of e.p.decimals set at) (planned_delete v.forest.nodes (delete.asked_with v set at)) v in
+      delete.deleted e.p tell (delete.location_of v.form.decimals set at) (planned_delete v.forest.nodes (delete.asked_with v set at)) v in
       eval-alike e (map e.f) (set_asked e.p x c s) (set_asked e.p y (renumbered_focus e.f c) u) (λ set. delete.at_asked e.p x w.at set s >>= last s set) (λ set. delete.at_asked e.p y w.at set u >>= last u set)
       (set-goes e x c s h)
       (λ set. kept-alike e (delete.at_asked e.p x w.at set s) (delete.at_asked e.p y w.at (map e.f set) u) (last s set) (last u (map e.f set)) (delete-at-goes e x w.at r.at set s h)
       (λ at. let asked = delete.asked_with s set at in
       let ns = planned_delete s.forest.nodes asked in
-      same-alike e (last s set at) (delete.deleted e.p tell (delete.location_of e.p.decimals set at) (map e.f ns) u) (last u (map e.f set) at)
+      same-alike e (last s set at) (delete.deleted e.p tell (delete.location_of s.form.decimals set at) (map e.f ns) u) (last u (map e.f set) at)
       (ap (λ l. delete.deleted e.p tell l (planned_delete (map (renumbered e.f) s.forest.nodes) (delete.asked_with u (map e.f set) at)) u) (place at set)
-      ∙ ap (λ closed. delete.deleted e.p tell (delete.location_of e.p.decimals set at) (planned_delete (map (renumbered e.f) s.forest.nodes) (record (renumbered_delete e.f asked) { closed = closed })) u) (closed-goes e s)
-      ∙ ap (λ ms. delete.deleted e.p tell (delete.location_of e.p.decimals set at) ms u) (planned_delete-renumbered e.f e.runs.renumbers s.forest.nodes asked))
-      (deleted-alike tell t (delete.location_of e.p.decimals set at) ns s h)))
+      ∙ ap (λ closed. delete.deleted e.p tell (delete.location_of s.form.decimals set at) (planned_delete (map (renumbered e.f) s.forest.nodes) (record (renumbered_delete e.f asked) { closed = closed })) u) (closed-goes e s)
+      ∙ ap (λ ms. delete.deleted e.p tell (delete.location_of s.form.decimals set at) ms u) (planned_delete-renumbered e.f e.runs.renumbers s.forest.nodes asked))
+      (deleted-alike tell t (delete.location_of s.form.decimals set at) ns s h)))
     where
-      place : (at : Option ℤ) (set : List ℕ) → delete.location_of e.p.decimals (map e.f set) at ≡ delete.location_of e.p.decimals set at
+      place : (at : Option ℤ) (set : List ℕ) → delete.location_of s.form.decimals (map e.f set) at ≡ delete.location_of s.form.decimals set at
       place None set = refl
       place (Some k) set = rw (map-length e.f set) refl
 
@@ -237,7 +237,7 @@ module _ (e : Two) where
 
   pub reset-alike : (model : ℕ) → Goes e (reset e.p model) (reset e.p model)
   reset-alike model s h =
-      let first = construct e.p s.form (Some []) in
+      let first = construct e.p s.form in
       let all = in_turn (put_back e.p first) (instances_of s model) in
       then-alike e (all s) (all (other e s)) (reindex e.p []) (reindex e.p [])
       (kept-turn e (put_back e.p first) (put_back e.p first) (instances_of s model) (back-alike first) s h) (reindex-alike e [])

@@ -243,7 +243,7 @@ module _ (e : Two) where
   whole-goes x s h c m r =
       let a = surroundings e.p x s in
       let b = surroundings e.p (renumbered_acting x) (other e s) in
-      let last : State → Around → ℕ → Value → Result (Option ℤ) Refused = λ t y n value. or_long t (number_of (setting y x.model n) value) >>= λ k. Ok (whole_of e.p.decimals k) in
+      let last : State → Around → ℕ → Value → Result (Option ℤ) Refused = λ t y n value. or_long t (number_of (setting y x.model n) value) >>= λ k. Ok (whole_of t.form.decimals k) in
       ap (λ o. o >>= last (other e s) b (e.f c.node)) (value-goes x s h c m r) ∙ by (value_for e.p x s c m)
     where
       same-number : (v : Value) → number_of (setting (surroundings e.p (renumbered_acting x) (other e s)) x.model (e.f c.node)) (renumbered_value e.f v) ≡ number_of (setting (surroundings e.p x s) x.model c.node) v
@@ -254,9 +254,9 @@ module _ (e : Two) where
           ∙ number_of-renumbered e.f e.runs.renumbers (setting a x.model c.node) (strings e.f e.runs.renumbers a b (seen-goes x s h)) (strings-go e.f e.runs.renumbers a b (seen-goes x s h) x.model c.node) v
 
       by : (o : Result Value Refused)
-          → (mapped e (renumbered_value e.f) o >>= λ value. or_long (other e s) (number_of (setting (surroundings e.p (renumbered_acting x) (other e s)) x.model (e.f c.node)) value) >>= λ k. Ok (whole_of e.p.decimals k))
-          ≡ (o >>= λ value. or_long s (number_of (setting (surroundings e.p x s) x.model c.node) value) >>= λ k. Ok (whole_of e.p.decimals k))
+          → (mapped e (renumbered_value e.f) o >>= λ value. or_long (other e s) (number_of (setting (surroundings e.p (renumbered_acting x) (other e s)) x.model (e.f c.node)) value) >>= λ k. Ok (whole_of s.form.decimals k))
+          ≡ (o >>= λ value. or_long s (number_of (setting (surroundings e.p x s) x.model c.node) value) >>= λ k. Ok (whole_of s.form.decimals k))
       by (Err refusal) = refl
       by (Ok v) =
-          ap (λ o. or_long (other e s) o >>= λ k. Ok (whole_of e.p.decimals k)) (same-number v)
-          ∙ ap (λ o. o >>= λ k. Ok (whole_of e.p.decimals k)) (long-same e s (number_of (setting (surroundings e.p x s) x.model c.node) v))
+          ap (λ o. or_long (other e s) o >>= λ k. Ok (whole_of s.form.decimals k)) (same-number v)
+          ∙ ap (λ o. o >>= λ k. Ok (whole_of s.form.decimals k)) (long-same e s (number_of (setting (surroundings e.p x s) x.model c.node) v))

@@ -20,7 +20,7 @@ use Rattle.xf_same_laws.specs.Going.{image}
 
 abbrev state_of : Outcome → State
 state_of (accepted s posted) = s
-state_of (refused why calls) = unbuilt profile rows None
+state_of (refused why calls) = unbuilt profile rows
 
 abbrev begun : State
 begun = state_of (start profile rows [])

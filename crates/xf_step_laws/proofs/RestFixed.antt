@@ -20,7 +20,7 @@ use Rattle.xf_model.proofs.RenumberSettled.{edges-renumbered}
 use Rattle.xf_form_machine.specs.Profile.{Profile}
 use Rattle.xf_form_machine.specs.Program.{Program}
 use Rattle.xf_form_machine.specs.State.{Flags, Model, State}
-use Rattle.xf_form_machine.specs.Surround.{scope, all_in, model_holding}
+use Rattle.xf_form_machine.specs.Surround.{bind_scope, all_in, model_holding}
 use Rattle.xf_form_machine.specs.Cycles.{counted_from}
 use Rattle.xf_form_machine.specs.Behave.{no_flags, no_model, model_at, truly, is_model, is_invalid}
 use Rattle.xf_form_machine.specs.Properties.{value_from, values_of}
@@ -31,7 +31,7 @@ use Rattle.xf_form_machine.specs.AtRest.{RestsModel, IsAtRest}
 use Rattle.xf_same_laws.specs.Going.{image}
 use Rattle.xf_same_laws.specs.Controls.{renumbered_list}
 use Rattle.xf_same_laws.proofs.ForestGoes.{model-goes}
-use Rattle.xf_same_laws.proofs.ScopeGoes.{scope-is, rules-go}
+use Rattle.xf_same_laws.proofs.ScopeGoes.{bind_scope-is, rules-go}
 use Rattle.xf_same_laws.proofs.RecalculateGoes.{values-go, each-truly}
 use Rattle.xf_same_laws.proofs.RevalidateGoes as valid
 use Rattle.xf_same_laws.proofs.StateGoes.{tables-of}
@@ -101,48 +101,48 @@ module _ (p : Profile) (f : ℕ → ℕ) (same : IsRenumbering f) (texts : Keeps
     abbrev two : Model
     two = model_at t k
 
-    scopes : scope p (with_data t) k ≡ renumbered_scope f (scope p s k)
-    scopes = scope-is f same 0 s p k
+    scopes : bind_scope p (with_data t) k ≡ renumbered_scope f (bind_scope p s k)
+    scopes = bind_scope-is f same 0 s p k
 
     entries-are : map (renumbered_entry f) one.entries ≡ two.entries
     entries-are = ok-same
         (sym (ap (renumbered_applied f) h.entries)
-        ∙ sym (applied-renumbered f same texts (scope p s k) (sets-go f s.form.rules (rules-go p f same s (tables-of s (has-form s form)) k)) s.forest.nodes)
+        ∙ sym (applied-renumbered f same texts (bind_scope p s k) (sets-go f s.form.rules (rules-go p f same s (tables-of s (has-form s form)) k)) s.forest.nodes)
         ∙ ap (λ x. applied x (map (renumbered f) s.forest.nodes)) (sym scopes) ∙ q.entries)
 
     asked-are : one.asked ≡ two.asked
     asked-are =
-        h.asked ∙ sym (edges-renumbered f same (scope p s k) (rules-go p f same s (tables-of s (has-form s form)) k) (shape_of s.forest.nodes) one.entries)
+        h.asked ∙ sym (edges-renumbered f same (bind_scope p s k) (rules-go p f same s (tables-of s (has-form s form)) k) (shape_of s.forest.nodes) one.entries)
         ∙ ap (λ x. edge_count x (map (renumbered_visit f) (shape_of s.forest.nodes)) (map (renumbered_entry f) one.entries)) (sym scopes)
-        ∙ ap (λ v. edge_count (scope p (with_data t) k) v (map (renumbered_entry f) one.entries)) (sym (shape_of-renumbered f same texts s.forest.nodes))
-        ∙ ap (edge_count (scope p (with_data t) k) (shape_of (map (renumbered f) s.forest.nodes))) entries-are ∙ sym q.asked
+        ∙ ap (λ v. edge_count (bind_scope p (with_data t) k) v (map (renumbered_entry f) one.entries)) (sym (shape_of-renumbered f same texts s.forest.nodes))
+        ∙ ap (edge_count (bind_scope p (with_data t) k) (shape_of (map (renumbered f) s.forest.nodes))) entries-are ∙ sym q.asked
 
     stood-are : map (renumbered_valued f) one.stood ≡ two.stood
     stood-are =
         let made : Scope → List Entry → List Visit → List Valued = λ x es v. map truly (values_over p.bounds x es v) in
-        ap (map (renumbered_valued f)) h.values ∙ sym (each-truly f (values_over p.bounds (scope p s k) one.entries (all_in s)))
-        ∙ ap (map truly) (sym (values-go f same p.bounds (scope p s k) (rules-go p f same s (tables-of s (has-form s form)) k) one.entries (all_in s)))
+        ap (map (renumbered_valued f)) h.values ∙ sym (each-truly f (values_over p.bounds (bind_scope p s k) one.entries (all_in s)))
+        ∙ ap (map truly) (sym (values-go f same p.bounds (bind_scope p s k) (rules-go p f same s (tables-of s (has-form s form)) k) one.entries (all_in s)))
         ∙ ap (λ x. made x (map (renumbered_entry f) one.entries) (map (renumbered_visit f) (all_in s))) (sym scopes)
-        ∙ ap (made (scope p (with_data t) k) (map (renumbered_entry f) one.entries)) (sym (visits-renumbered f same s.forest.nodes))
-        ∙ ap (λ es. made (scope p (with_data t) k) es (visits (map (renumbered f) s.forest.nodes))) entries-are ∙ sym q.values
+        ∙ ap (made (bind_scope p (with_data t) k) (map (renumbered_entry f) one.entries)) (sym (visits-renumbered f same s.forest.nodes))
+        ∙ ap (λ es. made (bind_scope p (with_data t) k) es (visits (map (renumbered f) s.forest.nodes))) entries-are ∙ sym q.values
 
     values-are : values_of two ≡ map (renumbered_valued f) (values_of one)
     values-are =
         ap (λ st. map (value_from st) (filter is_computed two.entries)) (sym stood-are)
         ∙ ap (λ es. map (value_from (map (renumbered_valued f) one.stood)) (filter is_computed es)) (sym entries-are) ∙ valid.values-go f same one
 
-    valid-are : (n : ℕ) → is_valid p.meets (scope p (with_data t) k) (visits (map (renumbered f) s.forest.nodes)) two.entries (values_of two) (f n)
-        ≡ is_valid p.meets (scope p s k) (all_in s) one.entries (values_of one) n
+    valid-are : (n : ℕ) → is_valid p.meets (bind_scope p (with_data t) k) (visits (map (renumbered f) s.forest.nodes)) two.entries (values_of two) (f n)
+        ≡ is_valid p.meets (bind_scope p s k) (all_in s) one.entries (values_of one) n
     valid-are n =
-        ap (λ vs. is_valid p.meets (scope p (with_data t) k) (visits (map (renumbered f) s.forest.nodes)) two.entries vs (f n)) values-are
-        ∙ ap (λ es. is_valid p.meets (scope p (with_data t) k) (visits (map (renumbered f) s.forest.nodes)) es (map (renumbered_valued f) (values_of one)) (f n)) (sym entries-are)
+        ap (λ vs. is_valid p.meets (bind_scope p (with_data t) k) (visits (map (renumbered f) s.forest.nodes)) two.entries vs (f n)) values-are
+        ∙ ap (λ es. is_valid p.meets (bind_scope p (with_data t) k) (visits (map (renumbered f) s.forest.nodes)) es (map (renumbered_valued f) (values_of one)) (f n)) (sym entries-are)
         ∙ ap (λ x. is_valid p.meets x (visits (map (renumbered f) s.forest.nodes)) (map (renumbered_entry f) one.entries) (map (renumbered_valued f) (values_of one)) (f n)) scopes
-        ∙ ap (λ v. is_valid p.meets (renumbered_scope f (scope p s k)) v (map (renumbered_entry f) one.entries) (map (renumbered_valued f) (values_of one)) (f n)) (visits-renumbered f same s.forest.nodes)
-        ∙ is_valid-renumbered f same (values_of one) p.meets (scope p s k) (all_in s) one.entries n
+        ∙ ap (λ v. is_valid p.meets (renumbered_scope f (bind_scope p s k)) v (map (renumbered_entry f) one.entries) (map (renumbered_valued f) (values_of one)) (f n)) (visits-renumbered f same s.forest.nodes)
+        ∙ is_valid-renumbered f same (values_of one) p.meets (bind_scope p s k) (all_in s) one.entries n
 
     each-is : (x : Visit) → is_invalid p k (with_data t) (renumbered_visit f x) ≡ is_invalid p k s x
     each-is x =
-        ap (λ o. is_model k o && not (is_valid p.meets (scope p (with_data t) k) (visits (map (renumbered f) s.forest.nodes)) two.entries (values_of two) (f x.number))) (model-goes f same 0 s x.number)
+        ap (λ o. is_model k o && not (is_valid p.meets (bind_scope p (with_data t) k) (visits (map (renumbered f) s.forest.nodes)) two.entries (values_of two) (f x.number))) (model-goes f same 0 s x.number)
         ∙ ap (λ b. is_model k (model_holding s x.number) && not b) (valid-are x.number)
 
     invalid-are : map f one.invalid ≡ two.invalid
@@ -183,7 +183,7 @@ module _ (p : Profile) (f : ℕ → ℕ) (same : IsRenumbering f) (texts : Keeps
       ∙ ap (λ x. shown p (record u { cases = x })) cases ∙ ap (λ x. shown p (record u { cases = t.cases; calls = x })) calls
       ∙ ap (λ x. shown p (record u { cases = t.cases; calls = t.calls; models = x })) (models-are t h q) ∙ q.controls)
 
-fresh-calls : (p : Profile) (s : State) → fresh p [] s ≡ s → [] ≡ s.calls
+fresh-calls : (p : Profile) (s : State) → fresh p s ≡ s → [] ≡ s.calls
 fresh-calls p s q = ap (λ (x : State). x.calls) q
 
 pub rest_is_fixed : RestIsFixed
@@ -210,7 +210,6 @@ rest_is_fixed p f s t form d h q =
       made = ap (λ (x : State). x.made) (sym h.is_fresh) ∙ ap (λ (x : State). x.made) q.is_fresh;
       evaluated = ap (λ (x : State). x.evaluated) (sym h.is_fresh) ∙ ap (λ (x : State). x.evaluated) q.is_fresh;
       calls = calls;
-      to_come = ap (λ (x : State). x.to_come) (sym h.is_fresh) ∙ ap (λ (x : State). x.to_come) q.is_fresh;
     }
 
 -- by the renumbering that is given

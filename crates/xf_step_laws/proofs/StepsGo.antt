@@ -42,10 +42,10 @@ use Rattle.xf_step_laws.proofs.ChoicesAlike.{named-goes, set-index-alike}
 use Rattle.xf_step_laws.proofs.ActsAlike.{dispatch-goes}
 
 module _ (e : Two) where
-  settle-goes : Goes e (settle e.p) (settle e.p)
-  settle-goes s h = update-alike e (dispatch e.p e.p.depth false) (dispatch-goes e e.p.depth false) s h
+  settle-goes : Goes e (settle e.p e.answers) (settle e.p e.answers)
+  settle-goes s h = update-alike e (dispatch e.p e.answers e.p.depth false) (dispatch-goes e e.p.depth false) s h
 
-  tell-goes : (x : Fired) → Goes e (tell e.p x) (tell e.p (renumbered_fired e.f x))
+  tell-goes : (x : Fired) → Goes e (tell e.p e.answers x) (tell e.p e.answers (renumbered_fired e.f x))
   tell-goes x s h = dispatch-goes e e.p.depth true x s h
 
   -- ---- copies that are named
@@ -133,44 +133,44 @@ module _ (e : Two) where
       let run : ℕ → Run = λ n. set_node e.p n text in
       some-alike e e.f o (option_map e.f o) run run s refl h (λ n. set-node-alike e n text s h)
 
-  set-goes : (n : ℕ) (rows text : List ℕ) → Goes e (set e.p n rows text) (set e.p n rows text)
+  set-goes : (n : ℕ) (rows text : List ℕ) → Goes e (set e.p e.answers n rows text) (set e.p e.answers n rows text)
   set-goes n rows text s h =
       let t = other e s in
-      let last : State → Copy → Result State Refused = λ u c. try_set n c text u >>= take_rows e.p n rows >>= set_bound e.p text c.node >>= settle e.p in
+      let last : State → Copy → Result State Refused = λ u c. try_set n c text u >>= take_rows e.p n rows >>= set_bound e.p text c.node >>= settle e.p e.answers in
       eval-alike e (renumbered_copy e.f) (copy_named e.p s n rows) (copy_named e.p t n rows) (last s) (last t) (copy-goes n rows s h)
       (λ c. let d = renumbered_copy e.f c in
-      then-alike e (try_set n c text s >>= take_rows e.p n rows >>= set_bound e.p text c.node) (try_set n d text t >>= take_rows e.p n rows >>= set_bound e.p text d.node) (settle e.p) (settle e.p)
+      then-alike e (try_set n c text s >>= take_rows e.p n rows >>= set_bound e.p text c.node) (try_set n d text t >>= take_rows e.p n rows >>= set_bound e.p text d.node) (settle e.p e.answers) (settle e.p e.answers)
       (then-alike e (try_set n c text s >>= take_rows e.p n rows) (try_set n d text t >>= take_rows e.p n rows) (set_bound e.p text c.node) (set_bound e.p text d.node)
       (then-alike e (try_set n c text s) (try_set n d text t) (take_rows e.p n rows) (take_rows e.p n rows) (try-goes n c text s h) (rows-goes n rows)) (bound-goes text c.node)) settle-goes)
 
-  activate-goes : (n : ℕ) (rows : List ℕ) → Goes e (activate e.p n rows) (activate e.p n rows)
+  activate-goes : (n : ℕ) (rows : List ℕ) → Goes e (activate e.p e.answers n rows) (activate e.p e.answers n rows)
   activate-goes n rows s h =
       let t = other e s in
-      let last : State → Copy → Result State Refused = λ u c. unless (not c.enabled) disabled u >>= take_rows e.p n rows >>= settle e.p >>= tell e.p (plainly (codes "DOMActivate") n c.rows) in
+      let last : State → Copy → Result State Refused = λ u c. unless (not c.enabled) disabled u >>= take_rows e.p n rows >>= settle e.p e.answers >>= tell e.p e.answers (plainly (codes "DOMActivate") n c.rows) in
       eval-alike e (renumbered_copy e.f) (copy_named e.p s n rows) (copy_named e.p t n rows) (last s) (last t) (copy-goes n rows s h)
       (λ c. let x = plainly (codes "DOMActivate") n c.rows in
       let one : Run = unless (not c.enabled) disabled in
-      then-alike e (one s >>= take_rows e.p n rows >>= settle e.p) (one t >>= take_rows e.p n rows >>= settle e.p) (tell e.p x) (tell e.p (renumbered_fired e.f x))
-      (then-alike e (one s >>= take_rows e.p n rows) (one t >>= take_rows e.p n rows) (settle e.p) (settle e.p)
+      then-alike e (one s >>= take_rows e.p n rows >>= settle e.p e.answers) (one t >>= take_rows e.p n rows >>= settle e.p e.answers) (tell e.p e.answers x) (tell e.p e.answers (renumbered_fired e.f x))
+      (then-alike e (one s >>= take_rows e.p n rows) (one t >>= take_rows e.p n rows) (settle e.p e.answers) (settle e.p e.answers)
       (then-alike e (one s) (one t) (take_rows e.p n rows) (take_rows e.p n rows) (unless-goes (not c.enabled) disabled s h) (rows-goes n rows)) settle-goes) (tell-goes x))
 
-  index-goes : (r k : ℕ) → Goes e (index e.p r k) (index e.p r k)
+  index-goes : (r k : ℕ) → Goes e (index e.p e.answers r k) (index e.p e.answers r k)
   index-goes r k s h =
       let t = other e s in
       let model = model_around (interface s) r in
       let found = rows_now (interface s) (quiet e.p s) s.indexes r in
-      let last : State → List ℕ → Result State Refused = λ u rows. unless (not (is_row rows k)) bad_index u >>= set_index e.p model r k >>= settle e.p in
+      let last : State → List ℕ → Result State Refused = λ u rows. unless (not (is_row rows k)) bad_index u >>= set_index e.p model r k >>= settle e.p e.answers in
       eval-alike e (map e.f) (or_long s found) (or_long t (rows_now (interface s) (quiet e.p t) t.indexes r)) (last s) (last t)
       (ap (or_long t) (now-goes e.f e.runs.renumbers (interface s) (bindings s h) (quiet e.p s) (quiet e.p t) (quiet-goes s h) s.indexes r) ∙ long-mapped e (map e.f) s found)
       (λ rows. let bad = not (is_row rows k) in
-      same-alike e (last s rows) (unless bad bad_index t >>= set_index e.p model r k >>= settle e.p) (last t (map e.f rows))
-      (ap (λ n. unless (not (nat_le 1 k && nat_le k n)) bad_index t >>= set_index e.p model r k >>= settle e.p) (map-length e.f rows))
-      (then-alike e (unless bad bad_index s >>= set_index e.p model r k) (unless bad bad_index t >>= set_index e.p model r k) (settle e.p) (settle e.p)
+      same-alike e (last s rows) (unless bad bad_index t >>= set_index e.p model r k >>= settle e.p e.answers) (last t (map e.f rows))
+      (ap (λ n. unless (not (nat_le 1 k && nat_le k n)) bad_index t >>= set_index e.p model r k >>= settle e.p e.answers) (map-length e.f rows))
+      (then-alike e (unless bad bad_index s >>= set_index e.p model r k) (unless bad bad_index t >>= set_index e.p model r k) (settle e.p e.answers) (settle e.p e.answers)
       (then-alike e (unless bad bad_index s) (unless bad bad_index t) (set_index e.p model r k) (set_index e.p model r k) (unless-goes bad bad_index s h) (set-index-alike e model r k)) settle-goes))
 
-  element-goes : (name : List ℕ) (n : ℕ) → Goes e (to_element e.p name n) (to_element e.p name n)
+  element-goes : (name : List ℕ) (n : ℕ) → Goes e (to_element e.p e.answers name n) (to_element e.p e.answers name n)
   element-goes name n s h =
-      let run : List ℕ → Run = λ rows t. tell e.p (fired name true true [] n rows) t in
+      let run : List ℕ → Run = λ rows t. tell e.p e.answers (fired name true true [] n rows) t in
       some-alike e (map e.f) (named_copy s n) (named_copy (other e s) n) run run s (named-goes e s n) h (λ rows. tell-goes (fired name true true [] n rows) s h)
 
   named-alike : (o : Option ℕ) (run : ℕ → Run) → ((n : ℕ) → Goes e (run n) (run n)) → (s : State) → Fits e s
@@ -178,13 +178,13 @@ module _ (e : Two) where
   named-alike o run k s h =
       kept-alike e (or_no_target s o) (or_no_target (other e s) o) (λ n. run n s) (λ n. run n (other e s)) (target-same s o) (λ n. k n s h)
 
-  changed-goes : (event : Event) → Goes e (changed_by e.p event) (changed_by e.p event)
-  changed-goes (Set id rows text) s h = named-alike (element_named s (by_role s is_entry) id) (λ n. set e.p n rows text) (λ n. set-goes n rows text) s h
-  changed-goes (Activate id rows) s h = named-alike (element_named s (by_role s is_trigger) id) (λ n. activate e.p n rows) (λ n. activate-goes n rows) s h
-  changed-goes (Index id k) s h = named-alike (element_named s (is_repeat_in s) id) (λ r. index e.p r k) (λ r. index-goes r k) s h
-  changed-goes (Send id) s h = named-alike (element_named s (by_role s is_submission) id) (to_element e.p (codes "xforms-submit")) (element-goes (codes "xforms-submit")) s h
-  changed-goes (Dispatch name id) s h = named-alike (element_named s (λ n. true) id) (to_element e.p name) (element-goes name) s h
-  changed-goes (Reset id) s h = named-alike (model_named s id) (to_element e.p (codes "xforms-reset")) (element-goes (codes "xforms-reset")) s h
+  changed-goes : (event : Event) → Goes e (changed_by e.p e.answers event) (changed_by e.p e.answers event)
+  changed-goes (Set id rows text) s h = named-alike (element_named s (by_role s is_entry) id) (λ n. set e.p e.answers n rows text) (λ n. set-goes n rows text) s h
+  changed-goes (Activate id rows) s h = named-alike (element_named s (by_role s is_trigger) id) (λ n. activate e.p e.answers n rows) (λ n. activate-goes n rows) s h
+  changed-goes (Index id k) s h = named-alike (element_named s (is_repeat_in s) id) (λ r. index e.p e.answers r k) (λ r. index-goes r k) s h
+  changed-goes (Send id) s h = named-alike (element_named s (by_role s is_submission) id) (to_element e.p e.answers (codes "xforms-submit")) (element-goes (codes "xforms-submit")) s h
+  changed-goes (Dispatch name id) s h = named-alike (element_named s (λ n. true) id) (to_element e.p e.answers name) (element-goes name) s h
+  changed-goes (Reset id) s h = named-alike (model_named s id) (to_element e.p e.answers (codes "xforms-reset")) (element-goes (codes "xforms-reset")) s h
 
   -- ---- the step
 
@@ -205,7 +205,6 @@ module _ (e : Two) where
     made = refl;
     evaluated = refl;
     calls = refl;
-    to_come = refl;
   }
 
   outcomes : (x : Result State Refused) → AreSameOutcomes (outcome (λ t. one_more (at_end e.p t)) x) (outcome (λ t. one_more (at_end e.p t)) (imaged e.f e.second x))
@@ -214,11 +213,11 @@ module _ (e : Two) where
 
 pub steps_go : StepsGo
 steps_go p event answers s t h form r =
-    let e : Two = record { p = p; f = h.by; first = s.forest.next; second = t.forest.next; runs = r } in
-    let begun = fresh p answers s in
+    let e : Two = record { p = p; answers = answers; f = h.by; first = s.forest.next; second = t.forest.next; runs = r } in
+    let begun = fresh p s in
     let plain : s.forest.next ≡ s.forest.next + 0 = omega arith in
     let fits : Fits e begun = record { counts = record { next = plain; within = omega arith }; form = form } in
     let end : State → State = λ u. one_more (at_end p u) in
-    let first = changed_by p event begun in
-    subst (λ x. AreSameOutcomes (outcome end first) (outcome end (changed_by p event x))) (sym (changes_go.same p answers s t h))
+    let first = changed_by p answers event begun in
+    subst (λ x. AreSameOutcomes (outcome end first) (outcome end (changed_by p answers event x))) (sym (changes_go.same p s t h))
     (subst (λ x. AreSameOutcomes (outcome end first) (outcome end x)) (sym (changed-goes e event begun fits).is) (outcomes e first))

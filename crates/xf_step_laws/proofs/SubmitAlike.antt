@@ -17,7 +17,7 @@ use Rattle.xf_store.specs.declared.answers.Answer.{Answer}
 use Rattle.xf_store.specs.declared.answers.Answer.TheVariants.{PutDone, Failed, Found, Absent, TooLong}
 use Rattle.xf_store.specs.declared.call.Asked.{Asked}
 use Rattle.xf_store.specs.declared.call.Asked.TheVariants as store
-use Rattle.xf_store.specs.Replay.{reply}
+use Rattle.xf_store.specs.Replay.{fits, answer_at}
 use Rattle.xf_doc.specs.Forest.{is_element}
 use Rattle.xf_doc.specs.Plant.{contents_of}
 use Rattle.xf_doc.specs.Same.{renumbered, renumbered_visit}
@@ -40,7 +40,7 @@ use Rattle.xf_form_machine.specs.Update.{refresh, refresh_cleared, reindex, due_
 use Rattle.xf_form_machine.specs.Events.{Tell, fired_at, submission_element}
 use Rattle.xf_form_machine.specs.Construct.{replace}
 use Rattle.xf_form_machine.specs.Submit.{Ended, done, failed, Sending, then_done, target_by, is_element_in, takes_tree, takes_text, behave_all, put_tree, put_text, on_target, has_fault, with_tree, with_text, respond, answered}
-use Rattle.xf_form_machine.specs.Exchange.{fits, with_call, unless_many, exchange, sent_bytes, asked_by, is_store_name, selected, attempt, done_told, failed_told, told_end, submit_by, submit}
+use Rattle.xf_form_machine.specs.Exchange.{with_call, unless_many, exchange, sent_bytes, asked_by, is_store_name, selected, attempt, done_told, failed_told, told_end, submit_by, submit}
 use Rattle.xf_same_laws.proofs.ForestGoes.{holding-goes, model-goes}
 use Rattle.xf_same_laws.proofs.ScopeGoes.{document-goes, scope-is, rules-go}
 use Rattle.xf_same_laws.proofs.StateGoes.{tables-of, relevant-goes, readonly-goes, valid-goes}
@@ -198,12 +198,12 @@ module _ (e : Two) where
   many-alike true s h = record { is = refl; fits = tt }
   many-alike false s h = record { is = refl; fits = h }
 
-  exchange-ends : (tell : Tell) → Tells e tell → (sub : Submission) (n : ℕ) (asked : Asked) (s : State) → Fits e s → Ends (exchange e.p tell sub n asked s) (exchange e.p tell sub (e.f n) asked (other e s))
+  exchange-ends : (tell : Tell) → Tells e tell → (sub : Submission) (n : ℕ) (asked : Asked) (s : State) → Fits e s → Ends (exchange e.p e.answers tell sub n asked s) (exchange e.p e.answers tell sub (e.f n) asked (other e s))
   exchange-ends tell t sub n asked s h =
       let many = nat_le e.p.sends (length s.calls) in
-      let last : ℕ → State → Sending = λ m u. let answer = reply (fits asked) u.to_come in answered e.p tell sub m (with_call sub.resource asked answer u) answer in
+      let last : ℕ → State → Sending = λ m u. let answer = answer_at (fits asked) e.answers (length u.calls) in answered e.p tell sub m (with_call sub.resource asked answer u) answer in
       then-ends (unless_many many s) (unless_many many (other e s)) (last n) (last (e.f n)) (many-alike many s h)
-      (λ u k. let answer = reply (fits asked) u.to_come in
+      (λ u k. let answer = answer_at (fits asked) e.answers (length u.calls) in
       answered-ends tell t sub n (with_call sub.resource asked answer u) (record { counts = record { next = k.counts.next; within = k.counts.within }; form = k.form }) answer)
 
   asked-goes : (sub : Submission) (n : ℕ) (kept : List ℕ) (s : State) (m : Method) → asked_by sub (e.f n) (map e.f kept) (other e s) m ≡ asked_by sub n kept s m
@@ -214,26 +214,26 @@ module _ (e : Two) where
       by Post q = ap store.Put q
       by Get q = refl
 
-  selected-ends : (tell : Tell) → Tells e tell → (sub : Submission) (s : State) → Fits e s → (found : Submitted) → Ends (selected e.p tell sub s found) (selected e.p tell sub (other e s) (renumbered_submitted e.f found))
+  selected-ends : (tell : Tell) → Tells e tell → (sub : Submission) (s : State) → Fits e s → (found : Submitted) → Ends (selected e.p e.answers tell sub s found) (selected e.p e.answers tell sub (other e s) (renumbered_submitted e.f found))
   selected-ends tell t sub s h no_data = record { is = refl; fits = h }
   selected-ends tell t sub s h (invalid n) = record { is = refl; fits = h }
   selected-ends tell t sub s h (left n kept) =
       let fail : State → Sending = λ u. Ok (failed (codes "resource-error") u) in
       let asked = asked_by sub n kept s sub.method in
       let asked_too = asked_by sub (e.f n) (map e.f kept) (other e s) sub.method in
-      if-ends (is_store_name sub.resource) (is_store_name sub.resource) (exchange e.p tell sub n asked s) (exchange e.p tell sub (e.f n) asked_too (other e s)) (fail s) (fail (other e s)) refl
-      (same-ends (exchange e.p tell sub n asked s) (exchange e.p tell sub (e.f n) asked (other e s)) (exchange e.p tell sub (e.f n) asked_too (other e s))
-      (ap (λ a. exchange e.p tell sub (e.f n) a (other e s)) (asked-goes sub n kept s sub.method)) (exchange-ends tell t sub n asked s h)) (record { is = refl; fits = h })
+      if-ends (is_store_name sub.resource) (is_store_name sub.resource) (exchange e.p e.answers tell sub n asked s) (exchange e.p e.answers tell sub (e.f n) asked_too (other e s)) (fail s) (fail (other e s)) refl
+      (same-ends (exchange e.p e.answers tell sub n asked s) (exchange e.p e.answers tell sub (e.f n) asked (other e s)) (exchange e.p e.answers tell sub (e.f n) asked_too (other e s))
+      (ap (λ a. exchange e.p e.answers tell sub (e.f n) a (other e s)) (asked-goes sub n kept s sub.method)) (exchange-ends tell t sub n asked s h)) (record { is = refl; fits = h })
 
-  attempt-ends : (tell : Tell) → Tells e tell → (sub : Submission) (s : State) → Fits e s → Ends (attempt e.p tell sub s) (attempt e.p tell sub (other e s))
+  attempt-ends : (tell : Tell) → Tells e tell → (sub : Submission) (s : State) → Fits e s → Ends (attempt e.p e.answers tell sub s) (attempt e.p e.answers tell sub (other e s))
   attempt-ends tell t sub s h =
       let u = other e s in
       let sc = scope e.p s sub.model in
-      let found = submitted sc (relevant_in s) (valid_in s) s.forest.nodes sub in
-      eval-ends (renumbered_submitted e.f) (or_long s found) (or_long u (submitted (scope e.p u sub.model) (relevant_in u) (valid_in u) (map (renumbered e.f) s.forest.nodes) sub))
-      (selected e.p tell sub s) (selected e.p tell sub u)
-      (ap (λ x. or_long u (submitted x (relevant_in u) (valid_in u) (map (renumbered e.f) s.forest.nodes) sub)) (scope-is e.f e.runs.renumbers e.second s e.p sub.model)
-      ∙ ap (or_long u) (submitted-renumbered e.f e.runs.renumbers sc (rules-go e.p e.f e.runs.renumbers s (tables-of s (has-form s h.form)) sub.model) (relevant_in s) (relevant_in u) (valid_in s) (valid_in u)
+      let found = submitted (Some e.p.bounds.string) sc (relevant_in s) (valid_in s) s.forest.nodes sub in
+      eval-ends (renumbered_submitted e.f) (or_long s found) (or_long u (submitted (Some e.p.bounds.string) (scope e.p u sub.model) (relevant_in u) (valid_in u) (map (renumbered e.f) s.forest.nodes) sub))
+      (selected e.p e.answers tell sub s) (selected e.p e.answers tell sub u)
+      (ap (λ x. or_long u (submitted (Some e.p.bounds.string) x (relevant_in u) (valid_in u) (map (renumbered e.f) s.forest.nodes) sub)) (scope-is e.f e.runs.renumbers e.second s e.p sub.model)
+      ∙ ap (or_long u) (submitted-renumbered e.f e.runs.renumbers (Some e.p.bounds.string) sc (rules-go e.p e.f e.runs.renumbers s (tables-of s (has-form s h.form)) sub.model) (relevant_in s) (relevant_in u) (valid_in s) (valid_in u)
       (relevant-goes e.f e.runs.renumbers e.second s) (valid-goes e.f e.runs.renumbers e.second s) s.forest.nodes sub)
       ∙ long-mapped e (renumbered_submitted e.f) s found)
       (selected-ends tell t sub s h)
@@ -248,12 +248,12 @@ module _ (e : Two) where
       same-alike e (tell x s) (tell (renumbered_fired e.f x) (other e s)) (told_end tell k sub (failed error (other e s)))
       (ap (λ y. tell y (other e s)) (fired-is e s (codes "xforms-submit-error") (failed_told sub error) (submission_element s k))) (t x s h)
 
-  submit-by-alike : (tell : Tell) → Tells e tell → (k : ℕ) (sub : Submission) → Goes e (submit_by e.p tell k sub) (submit_by e.p tell k sub)
+  submit-by-alike : (tell : Tell) → Tells e tell → (k : ℕ) (sub : Submission) → Goes e (submit_by e.p e.answers tell k sub) (submit_by e.p e.answers tell k sub)
   submit-by-alike tell t k sub s h =
-      end-alike (due_revalidation e.p sub.model s >>= attempt e.p tell sub) (due_revalidation e.p sub.model (other e s) >>= attempt e.p tell sub) (told_end tell k sub)
-      (then-ends (due_revalidation e.p sub.model s) (due_revalidation e.p sub.model (other e s)) (attempt e.p tell sub) (attempt e.p tell sub) (due-revalidation-alike e sub.model s h) (attempt-ends tell t sub))
+      end-alike (due_revalidation e.p sub.model s >>= attempt e.p e.answers tell sub) (due_revalidation e.p sub.model (other e s) >>= attempt e.p e.answers tell sub) (told_end tell k sub)
+      (then-ends (due_revalidation e.p sub.model s) (due_revalidation e.p sub.model (other e s)) (attempt e.p e.answers tell sub) (attempt e.p e.answers tell sub) (due-revalidation-alike e sub.model s h) (attempt-ends tell t sub))
       (told-alike tell t k sub)
 
-  pub submit-alike : (tell : Tell) → Tells e tell → (k : ℕ) → Goes e (submit e.p tell k) (submit e.p tell k)
+  pub submit-alike : (tell : Tell) → Tells e tell → (k : ℕ) → Goes e (submit e.p e.answers tell k) (submit e.p e.answers tell k)
   submit-alike tell t k s h =
-      kept-some e (slice_get s.form.submissions k) (submit_by e.p tell k) (submit_by e.p tell k) s h (λ sub. submit-by-alike tell t k sub s h)
+      kept-some e (slice_get s.form.submissions k) (submit_by e.p e.answers tell k) (submit_by e.p e.answers tell k) s h (λ sub. submit-by-alike tell t k sub s h)
