@@ -1,5 +1,5 @@
 -- What an insert and a delete change (XForms 1.1, sections 10.3 and 10.4), and the event that then tells the instance.
-use Rattle.std.specs.Prelude.{ℕ, Bool, List, [], ◌∷◌, map, zip, Option, get_or, codes, Result, Ok}
+use Rattle.std.specs.Prelude.{ℕ, Bool, List, [], ◌∷◌, map, zip, Option, get_or, codes, Ok}
 use Rattle.xf_model.specs.Places.{Place}
 use Rattle.xf_model.specs.Taken.{planned_delete}
 use Rattle.xf_lang.specs.Setting.{Focus}

@@ -1,4 +1,4 @@
-use Rattle.std.proofs.Common.{◌≡◌, ℕ, true, false, is_some, refl, ◌∙◌, arith, rules}
+use Rattle.std.proofs.Common.{ℕ, false, refl, ◌∙◌, arith, rules}
 use Rattle.xf_store.proofs.CalledLaws.{called-none}
 use Rattle.xf_form_machine.specs.Act.{act_within}
 use Rattle.xf_form_machine.specs.Update.{round}
@@ -348,8 +348,7 @@ repeat-returns-then-not-is_repeated-clause-done g t c answers h =
 
 pub repeat-loop-test-init : goal.repeat-loop-test-init
 repeat-loop-test-init g t c =
-    let written : is_some (repetition_in (act_at (g.W.World.state c.args.world.now) c.args.acting.now.element)) ≡ true = search rules in
-    record { rest = λ answers h. acted-begins g.W.World.profile (dispatch g.W.World.profile answers c.args.depth false) (act_within c.args.left g.W.World.profile (dispatch g.W.World.profile answers c.args.depth false) (fired_of c.args.fired.now)) (acting_of c.args.fired.now c.args.acting.now) (act_at (g.W.World.state c.args.world.now) c.args.acting.now.element) (g.W.World.state c.args.world.now) _ written (omega arith); written = written; store = called-none _ _; form = refl }
+    record { rest = λ answers h. acted-begins g.W.World.profile (dispatch g.W.World.profile answers c.args.depth false) (act_within c.args.left g.W.World.profile (dispatch g.W.World.profile answers c.args.depth false) (fired_of c.args.fired.now)) (acting_of c.args.fired.now c.args.acting.now) (act_at (g.W.World.state c.args.world.now) c.args.acting.now.element) (g.W.World.state c.args.world.now) _ (search rules) (omega arith); written = search rules; store = called-none _ _; form = refl }
 
 pub repeat-returns-in_err-spend-clause-done : goal.repeat-returns-in_err-spend-clause-done
 repeat-returns-in_err-spend-clause-done g t c answers h =
