@@ -87,29 +87,29 @@ is_built_by bytes loaded h = unless_large (nat_lt form_limit (length bytes)) (li
 
 -- ---- an element that is built
 
-by-class : (b : Bindings) (all : List Seen) (place : ℕ) (r : Seen) (first : Option ℕ) (known : List Shown) (t : Tag) → r.tag ≡ t
-    → kind_by_class b all place r first known ≡ cond (is_counted t) (kind.Control (control_place all place) (control_of all place t first known)) (kind.Action (action_of b all r first known))
-by-class b all place r first known t e =
-    ap (λ x. cond (is_counted x) (kind.Control (control_place all place) (control_of all place x first known)) (kind.Action (action_of b all r first known))) e
+by-class : (d : ℕ) (b : Bindings) (all : List Seen) (place : ℕ) (r : Seen) (first : Option ℕ) (known : List Shown) (t : Tag) → r.tag ≡ t
+    → kind_by_class d b all place r first known ≡ cond (is_counted t) (kind.Control (control_place all place) (control_of all place t first known)) (kind.Action (action_of d b all r first known))
+by-class d b all place r first known t e =
+    ap (λ x. cond (is_counted x) (kind.Control (control_place all place) (control_of all place x first known)) (kind.Action (action_of d b all r first known))) e
 
 output-simple : (all : List Seen) (place : ℕ) (r : Seen) (value : Option Expr) (c : Bool)
     → is_simple (cond c (kind.Output value) (kind.Control (control_place all place) (control.Output value))) ≡ true
 output-simple all place r value true = refl
 output-simple all place r value false = refl
 
-tag-simple : (b : Bindings) (all : List Seen) (place : ℕ) (r : Seen) (first : Option ℕ) (known : List Shown) (t : Tag) → r.tag ≡ t
-    → is_built t ≡ true → is_passed_over t ≡ false → is_simple (kind_by b all place r first known t) ≡ true
-tag-simple b all place r first known tag.Host e h p = refl
-tag-simple b all place r first known tag.Model e h p = refl
-tag-simple b all place r first known tag.Instance e h p = refl
-tag-simple b all place r first known tag.Bind e h p = refl
-tag-simple b all place r first known tag.Input e h p = ap is_simple (by-class b all place r first known tag.Input e)
-tag-simple b all place r first known tag.Secret e h p = ap is_simple (by-class b all place r first known tag.Secret e)
-tag-simple b all place r first known tag.Textarea e h p = ap is_simple (by-class b all place r first known tag.Textarea e)
-tag-simple b all place r first known tag.Output e h p = output-simple all place r _ (is_inline r)
-tag-simple b all place r first known tag.Group e h p = ap is_simple (by-class b all place r first known tag.Group e)
-tag-simple b all place r first known tag.Label e h p = refl
-tag-simple b all place r first known t e h p = cc
+tag-simple : (d : ℕ) (b : Bindings) (all : List Seen) (place : ℕ) (r : Seen) (first : Option ℕ) (known : List Shown) (t : Tag) → r.tag ≡ t
+    → is_built t ≡ true → is_passed_over t ≡ false → is_simple (kind_by d b all place r first known t) ≡ true
+tag-simple d b all place r first known tag.Host e h p = refl
+tag-simple d b all place r first known tag.Model e h p = refl
+tag-simple d b all place r first known tag.Instance e h p = refl
+tag-simple d b all place r first known tag.Bind e h p = refl
+tag-simple d b all place r first known tag.Input e h p = ap is_simple (by-class d b all place r first known tag.Input e)
+tag-simple d b all place r first known tag.Secret e h p = ap is_simple (by-class d b all place r first known tag.Secret e)
+tag-simple d b all place r first known tag.Textarea e h p = ap is_simple (by-class d b all place r first known tag.Textarea e)
+tag-simple d b all place r first known tag.Output e h p = output-simple all place r _ (is_inline r)
+tag-simple d b all place r first known tag.Group e h p = ap is_simple (by-class d b all place r first known tag.Group e)
+tag-simple d b all place r first known tag.Label e h p = refl
+tag-simple d b all place r first known t e h p = cc
 
 not-true : (a b : Bool) → a ≡ true → a && not b ≡ false → b ≡ true
 not-true true true h q = refl
@@ -120,11 +120,11 @@ not-false : (b : Bool) → not b ≡ true → b ≡ false
 not-false false h = refl
 not-false true h = cc
 
-row-simple : (b : Bindings) (all : List Seen) (place : ℕ) (r : Seen) → is_unbuilt r ≡ false → is_of class.Numbered r ≡ true → is_simple (element_at b all place r).kind ≡ true
-row-simple b all place r h numbered =
+row-simple : (d : ℕ) (b : Bindings) (all : List Seen) (place : ℕ) (r : Seen) → is_unbuilt r ≡ false → is_of class.Numbered r ≡ true → is_simple (element_at d b all place r).kind ≡ true
+row-simple d b all place r h numbered =
     let kept = and_parts (is_numbered r) true numbered in
     let outside = and_parts (is_outside r.standing.zone) (not (is_passed_over r.tag)) kept.0 in
-    tag-simple b all place r _ (known_in b r.attributes) r.tag refl (not-true (is_outside r.standing.zone) (is_built r.tag) outside.0 h) (not-false (is_passed_over r.tag) outside.1)
+    tag-simple d b all place r _ (known_in b r.attributes) r.tag refl (not-true (is_outside r.standing.zone) (is_built r.tag) outside.0 h) (not-false (is_passed_over r.tag) outside.1)
 
 -- ---- all of them
 
@@ -136,12 +136,12 @@ joined : (c : Bool) (x : written.Element) (rest : List written.Element) → (c �
 joined true x rest one more = and_from (is_simple x.kind) (are_simple rest) (one refl) more
 joined false x rest one more = more
 
-rows-simple : (b : Bindings) (all : List Seen) (place : ℕ) (rs : List Seen) → unbuilt_from place rs ≡ None → are_simple (each_from class.Numbered (element_at b all) place rs) ≡ true
-rows-simple b all place [] h = refl
-rows-simple b all place (r ∷ rs) h =
+rows-simple : (d : ℕ) (b : Bindings) (all : List Seen) (place : ℕ) (rs : List Seen) → unbuilt_from place rs ≡ None → are_simple (each_from class.Numbered (element_at d b all) place rs) ≡ true
+rows-simple d b all place [] h = refl
+rows-simple d b all place (r ∷ rs) h =
     let parts = unless-first (is_unbuilt r) place (unbuilt_from (suc place) rs) h in
-    joined (is_of class.Numbered r) (element_at b all place r) (each_from class.Numbered (element_at b all) (suc place) rs) (row-simple b all place r parts.0)
-    (rows-simple b all (suc place) rs parts.1)
+    joined (is_of class.Numbered r) (element_at d b all place r) (each_from class.Numbered (element_at d b all) (suc place) rs) (row-simple d b all place r parts.0)
+    (rows-simple d b all (suc place) rs parts.1)
 
-pub elements-simple : (b : Bindings) (all : List Seen) → first_unbuilt all ≡ None → are_simple (elements_of b all) ≡ true
-elements-simple b all h = rows-simple b all 0 all h
+pub elements-simple : (d : ℕ) (b : Bindings) (all : List Seen) → first_unbuilt all ≡ None → are_simple (elements_of d b all) ≡ true
+elements-simple d b all h = rows-simple d b all 0 all h

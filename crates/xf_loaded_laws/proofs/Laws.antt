@@ -1,5 +1,6 @@
 -- A form that is loaded is plain and quiet.
 use Rattle.std.proofs.Common.{◌≡◌, true, ℕ, List, Ok, ap, ◌∙◌}
+use Rattle.xf_refusals.specs.Decimals.{decimals_of}
 use Rattle.xf_refusals.specs.Walk.{rows_of}
 use Rattle.xf_loader.specs.declared.loaded.Loaded.{Loaded}
 use Rattle.xf_loader.specs.Loading.{loaded_in}
@@ -12,7 +13,7 @@ use Rattle.xf_loaded_laws.proofs.Simple.{are_simple, simple-plain, simple-quiet}
 all-simple : (bytes : List ℕ) (loaded : Loaded) → loaded_in bytes ≡ Ok loaded → are_simple loaded.form.elements ≡ true
 all-simple bytes loaded h =
     let came = came_by bytes loaded h in
-    ap (λ f. are_simple f.elements) came.form ∙ elements-simple loaded.prefixes (rows_of loaded.prefixes loaded.lit) (is_built_by bytes loaded h)
+    ap (λ f. are_simple f.elements) came.form ∙ elements-simple (decimals_of loaded.prefixes (rows_of loaded.prefixes loaded.lit)) loaded.prefixes (rows_of loaded.prefixes loaded.lit) (is_built_by bytes loaded h)
 
 pub loaded-plain : LoadedPlain
 loaded-plain bytes loaded h = simple-plain loaded.form (loaded_ordered bytes loaded h) (all-simple bytes loaded h)

@@ -17,7 +17,8 @@ use Rattle.xf_name.specs.declared.lit.LitElement.{LitElement}
 use Rattle.xf_refusals.specs.declared.classes.Class.TheVariants as class
 use Rattle.xf_refusals.specs.declared.standing.Standing.{Standing}
 use Rattle.xf_refusals.specs.Classes.{is_of, is_switch}
-use Rattle.xf_refusals.specs.Refusals.{refusal_at, own_refusal, lacks_model, is_misplaced, is_element, is_case_in, first_from, first_refusal, has_model}
+use Rattle.xf_refusals.specs.Decimals.{decimals_of}
+use Rattle.xf_refusals.specs.Refusals.{refusal_at, own_refusal, lacks_model, is_misplaced, is_element, is_case_in, first_from, first_refusal, first_model}
 use Rattle.xf_refusals.specs.Rows.{Seen, is_numbered}
 use Rattle.xf_refusals.specs.Standing.{is_outside, is_instance, at_root}
 use Rattle.xf_refusals.specs.Tally.{one_where}
@@ -243,15 +244,15 @@ true_from : (c : Bool) → not c ≡ false → c ≡ true
 true_from true h = refl
 true_from false h = cc
 
-row_document : (b : Bindings) (form : Lit) (all : List Seen) (m : Bool) (place : ℕ) (r : Seen) → refusal_at b all m place r ≡ None → is_of class.Instance r ≡ true → PartsLead form all r.parts → HasDocument form (instance_of all place r)
-row_document b form all m place r none holds led =
+row_document : (d : ℕ) (b : Bindings) (form : Lit) (all : List Seen) (m : Option ℕ) (place : ℕ) (r : Seen) → refusal_at d b all m place r ≡ None → is_of class.Instance r ≡ true → PartsLead form all r.parts → HasDocument form (instance_of all place r)
+row_document d b form all m place r none holds led =
     let known = known_in b r.attributes in
     let kind = and_parts (is_numbered r) (is_instance r.tag) holds in
     let outside = and_parts (is_outside r.standing.zone) _ kind.0 in
-    let own : own_refusal b all m place r ≡ None = sym (cond-true (is_outside r.standing.zone) (own_refusal b all m place r) None outside.0) ∙ unless_none _ _ none in
+    let own : own_refusal d b all m place r ≡ None = sym (cond-true (is_outside r.standing.zone) (own_refusal d b all m place r) None outside.0) ∙ unless_none _ _ none in
     let model = if_none (lacks_model all m place r) 6 _ own in
-    let good = if_none (list_any (is_bad_expression b r.tag) known) 7 _ model.1 in
-    let still = if_none (list_any (is_moving_expression b r.tag) known) 8 _ good.1 in
+    let good = if_none (list_any (is_bad_expression d b r.tag) known) 7 _ model.1 in
+    let still = if_none (list_any (is_moving_expression d b r.tag) known) 8 _ good.1 in
     let placed = if_none (is_misplaced all r) 9 _ still.1 in
     let outer = or_parts (not (may_stand r.tag r.standing.around) || (is_instance r.tag && not (count_by is_element r.parts == 1))) (is_switch r.tag && not (list_any (is_case_in all) r.parts)) placed.0 in
     let inner = or_parts (not (may_stand r.tag r.standing.around)) (is_instance r.tag && not (count_by is_element r.parts == 1)) outer.0 in
@@ -263,12 +264,12 @@ joined : (form : Lit) (c : Bool) (x : Instance) (rest : List Instance) → (c �
 joined form true x rest one more = (one refl, more)
 joined form false x rest one more = more
 
-documents : (b : Bindings) (form : Lit) (all : List Seen) (m : Bool) (place : ℕ) (rs : List Seen) → first_from b all m place rs ≡ None → RowsLead form all rs → HaveDocuments form (each_from class.Instance (instance_of all) place rs)
-documents b form all m place [] none led = tt
-documents b form all m place (r ∷ rs) none led =
-    let parts = later_none place (refusal_at b all m place r) (first_from b all m (suc place) rs) none in
-    joined form (is_of class.Instance r) (instance_of all place r) (each_from class.Instance (instance_of all) (suc place) rs) (λ holds. row_document b form all m place r parts.0 holds led.0)
-    (documents b form all m (suc place) rs parts.1 led.1)
+documents : (d : ℕ) (b : Bindings) (form : Lit) (all : List Seen) (m : Option ℕ) (place : ℕ) (rs : List Seen) → first_from d b all m place rs ≡ None → RowsLead form all rs → HaveDocuments form (each_from class.Instance (instance_of all) place rs)
+documents d b form all m place [] none led = tt
+documents d b form all m place (r ∷ rs) none led =
+    let parts = later_none place (refusal_at d b all m place r) (first_from d b all m (suc place) rs) none in
+    joined form (is_of class.Instance r) (instance_of all place r) (each_from class.Instance (instance_of all) (suc place) rs) (λ holds. row_document d b form all m place r parts.0 holds led.0)
+    (documents d b form all m (suc place) rs parts.1 led.1)
 
 pub loaded_documents : LoadedDocuments
 loaded_documents bytes loaded is =
@@ -276,4 +277,4 @@ loaded_documents bytes loaded is =
     let b = loaded.prefixes in
     let all = rows_of b loaded.lit in
     subst (λ f. HaveDocuments loaded.lit f.tables.instances) (sym came.form)
-    (documents b loaded.lit all (has_model all) 0 all (none_said all (first_refusal b all) came.unrefused) (of_lit b loaded.lit all refl (leads b loaded.lit)))
+    (documents (decimals_of b all) b loaded.lit all (first_model all) 0 all (none_said all (first_refusal b all) came.unrefused) (of_lit b loaded.lit all refl (leads b loaded.lit)))

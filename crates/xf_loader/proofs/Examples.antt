@@ -118,7 +118,7 @@ output_in_a_label = refl
 output_control : output_of all 10 (plain tag.Output tag.Host (Some 0) 2 []) None ≡ kind.Control 2 (control.Output None)
 output_control = refl
 
-bound_by_id : binding_at no_bindings all tag.Input ((at.BIND, codes "b") ∷ []) ≡ binding.Bind 0
+bound_by_id : binding_at 6 no_bindings all tag.Input ((at.BIND, codes "b") ∷ []) ≡ binding.Bind 0
 bound_by_id = refl
 
 start_at_twelve : start_of (codes "12") ≡ 12
@@ -130,7 +130,7 @@ start_at_twelve = refl
 handled : handler_of all setvalue ((at.EVENT, codes "DOMActivate") ∷ (at.PROPAGATE, codes "stop") ∷ []) ≡ Some (record { event = codes "DOMActivate"; observer = Some 9; target = None; phase = phase.Default; stops = true; cancels = false })
 handled = refl
 
-set_to_nothing : work_of no_bindings all tag.SetValue None [] ≡ work.SetValue None
+set_to_nothing : work_of 6 no_bindings all tag.SetValue None [] ≡ work.SetValue None
 set_to_nothing = refl
 
 -- ---- data: an element with an attribute, a declaration and a text is three nodes

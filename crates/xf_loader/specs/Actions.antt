@@ -45,16 +45,16 @@ handler_of all r known = if is_handler r then Some (handler all r known) else No
 
 -- ---- what they do
 
-abbrev pub insert_of : Bindings → List Shown → InsertWork
-insert_of b known = record {
-  context = expr_at b known at.CONTEXT;
-  origin = expr_at b known at.ORIGIN;
-  at = expr_at b known at.AT;
+abbrev pub insert_of : ℕ → Bindings → List Shown → InsertWork
+insert_of d b known = record {
+  context = expr_at d b known at.CONTEXT;
+  origin = expr_at d b known at.ORIGIN;
+  at = expr_at d b known at.AT;
   is_before = is_text known at.POSITION (codes "before");
 }
 
-abbrev pub delete_of : Bindings → List Shown → DeleteWork
-delete_of b known = record { context = expr_at b known at.CONTEXT; at = expr_at b known at.AT }
+abbrev pub delete_of : ℕ → Bindings → List Shown → DeleteWork
+delete_of d b known = record { context = expr_at d b known at.CONTEXT; at = expr_at d b known at.AT }
 
 -- `targetid` goes before `target`
 abbrev pub dispatch_of : List Seen → List Shown → DispatchWork
@@ -69,32 +69,32 @@ dispatch_of all known = record {
 abbrev pub submission_at : List Seen → Option ℕ → List Shown → Option ℕ
 submission_at all first known = or_else (named_at class.Submission all known at.SUBMISSION) first
 
-abbrev pub set_index_of : Bindings → List Seen → List Shown → Work
-set_index_of b all known = work.SetIndex (unwrap_or (named_at class.Repeat all known at.REPEAT) 0) (expr_of b (word_at known at.INDEX))
+abbrev pub set_index_of : ℕ → Bindings → List Seen → List Shown → Work
+set_index_of d b all known = work.SetIndex (unwrap_or (named_at class.Repeat all known at.REPEAT) 0) (expr_of d b (word_at known at.INDEX))
 
 -- by what the element is; the first submission of its model in scope stands where none is named
-abbrev pub work_of : Bindings → List Seen → Tag → Option ℕ → List Shown → Work
-work_of b all tag.SetValue first known = work.SetValue (expr_at b known at.VALUE)
-work_of b all tag.Insert first known = work.Insert (insert_of b known)
-work_of b all tag.Delete first known = work.Delete (delete_of b known)
-work_of b all tag.SetIndex first known = set_index_of b all known
-work_of b all tag.Dispatch first known = work.Dispatch (dispatch_of all known)
-work_of b all tag.Load first known = work.Load (word_at known at.RESOURCE)
-work_of b all tag.Toggle first known = work.Toggle (unwrap_or (named_at class.Numbered all known at.CASE) 0)
-work_of b all tag.SetFocus first known = work.SetFocus (unwrap_or (named_at class.Numbered all known at.CONTROL) 0)
-work_of b all tag.Send first known = work.Send (submission_at all first known)
-work_of b all tag.Message first known = work.Message
-work_of b all tag.Reset first known = work.Reset
-work_of b all tag.Rebuild first known = work.Rebuild
-work_of b all tag.Recalculate first known = work.Recalculate
-work_of b all tag.Revalidate first known = work.Revalidate
-work_of b all tag.Refresh first known = work.Refresh
-work_of b all t first known = work.Action
+abbrev pub work_of : ℕ → Bindings → List Seen → Tag → Option ℕ → List Shown → Work
+work_of d b all tag.SetValue first known = work.SetValue (expr_at d b known at.VALUE)
+work_of d b all tag.Insert first known = work.Insert (insert_of d b known)
+work_of d b all tag.Delete first known = work.Delete (delete_of d b known)
+work_of d b all tag.SetIndex first known = set_index_of d b all known
+work_of d b all tag.Dispatch first known = work.Dispatch (dispatch_of all known)
+work_of d b all tag.Load first known = work.Load (word_at known at.RESOURCE)
+work_of d b all tag.Toggle first known = work.Toggle (unwrap_or (named_at class.Numbered all known at.CASE) 0)
+work_of d b all tag.SetFocus first known = work.SetFocus (unwrap_or (named_at class.Numbered all known at.CONTROL) 0)
+work_of d b all tag.Send first known = work.Send (submission_at all first known)
+work_of d b all tag.Message first known = work.Message
+work_of d b all tag.Reset first known = work.Reset
+work_of d b all tag.Rebuild first known = work.Rebuild
+work_of d b all tag.Recalculate first known = work.Recalculate
+work_of d b all tag.Revalidate first known = work.Revalidate
+work_of d b all tag.Refresh first known = work.Refresh
+work_of d b all t first known = work.Action
 
-abbrev pub action_of : Bindings → List Seen → Seen → Option ℕ → List Shown → Action
-action_of b all r first known = record {
+abbrev pub action_of : ℕ → Bindings → List Seen → Seen → Option ℕ → List Shown → Action
+action_of d b all r first known = record {
   handler = handler_of all r known;
-  condition = expr_at b known at.IF;
-  repetition = expr_at b known at.WHILE;
-  work = work_of b all r.tag first known;
+  condition = expr_at d b known at.IF;
+  repetition = expr_at d b known at.WHILE;
+  work = work_of d b all r.tag first known;
 }

@@ -1,4 +1,5 @@
--- The computed expressions of a form (XForms 1.1, section 6.1): each is the expression that a text is, and static.
+-- The computed expressions of a form (XForms 1.1, section 6.1): each is the expression that a text is, and static. d is the number of
+-- decimals.
 use Rattle.std.specs.Prelude.{◌≡◌, ℕ, List, [], ◌∷◌, Option, Some, None, Ok}
 use Rattle.xf_ast.specs.declared.expr.Expr.{Expr}
 use Rattle.xf_ast.specs.declared.form.Bind.{Bind}
@@ -9,22 +10,22 @@ use Rattle.xf_loader.specs.declared.loaded.Loaded.{Loaded}
 use Rattle.xf_loader.specs.Loading.{loaded_in}
 
 -- the expression, if there is one, was read from a text, and is static
-abbrev pub IsReadStatic : Bindings → Option Expr → Type 0
-IsReadStatic b None = Unit {0}
-IsReadStatic b (Some expr) = (text : List ℕ) × (parsed 6 b text ≡ Ok expr) × (static_fault expr ≡ None)
+abbrev pub IsReadStatic : ℕ → Bindings → Option Expr → Type 0
+IsReadStatic d b None = Unit {0}
+IsReadStatic d b (Some expr) = (text : List ℕ) × (parsed d b text ≡ Ok expr) × (static_fault expr ≡ None)
 
-pub record AreReadStatic (b : Bindings) (bind : Bind) : Type 0 where
-  pub node_set : IsReadStatic b (Some bind.node_set)
-  pub calculate : IsReadStatic b bind.properties.calculate
-  pub relevant : IsReadStatic b bind.properties.relevant
-  pub readonly : IsReadStatic b bind.properties.readonly
-  pub required : IsReadStatic b bind.properties.required
-  pub constraint : IsReadStatic b bind.properties.constraint
+pub record AreReadStatic (d : ℕ) (b : Bindings) (bind : Bind) : Type 0 where
+  pub node_set : IsReadStatic d b (Some bind.node_set)
+  pub calculate : IsReadStatic d b bind.properties.calculate
+  pub relevant : IsReadStatic d b bind.properties.relevant
+  pub readonly : IsReadStatic d b bind.properties.readonly
+  pub required : IsReadStatic d b bind.properties.required
+  pub constraint : IsReadStatic d b bind.properties.constraint
 
-abbrev pub AllReadStatic : Bindings → List Bind → Type 0
-AllReadStatic b [] = Unit {0}
-AllReadStatic b (bind ∷ binds) = AreReadStatic b bind × AllReadStatic b binds
+abbrev pub AllReadStatic : ℕ → Bindings → List Bind → Type 0
+AllReadStatic d b [] = Unit {0}
+AllReadStatic d b (bind ∷ binds) = AreReadStatic d b bind × AllReadStatic d b binds
 
 -- so it is in a form that is loaded
 abbrev pub LoadedStatic : Type 0
-LoadedStatic = (bytes : List ℕ) (loaded : Loaded) → loaded_in bytes ≡ Ok loaded → AllReadStatic loaded.prefixes loaded.form.tables.binds
+LoadedStatic = (bytes : List ℕ) (loaded : Loaded) → loaded_in bytes ≡ Ok loaded → AllReadStatic loaded.form.decimals loaded.prefixes loaded.form.tables.binds

@@ -46,25 +46,25 @@ abbrev pub by_nodes : Option Expr → Binding
 by_nodes None = binding.Absent
 by_nodes (Some expr) = binding.Nodes expr
 
-abbrev pub nodes_at : Bindings → List Shown → ℕ → Binding
-nodes_at b known code = by_nodes (expr_at b known code)
+abbrev pub nodes_at : ℕ → Bindings → List Shown → ℕ → Binding
+nodes_at d b known code = by_nodes (expr_at d b known code)
 
-abbrev pub nodes_of : Bindings → Tag → List Shown → Binding
-nodes_of b t known = if is_expression t at.REF then nodes_at b known at.REF else (if is_expression t at.NODESET then nodes_at b known at.NODESET else binding.Absent)
+abbrev pub nodes_of : ℕ → Bindings → Tag → List Shown → Binding
+nodes_of d b t known = if is_expression t at.REF then nodes_at d b known at.REF else (if is_expression t at.NODESET then nodes_at d b known at.NODESET else binding.Absent)
 
 -- `bind` goes before `ref` and `nodeset`
-abbrev pub binding_by : Bindings → List Seen → Tag → List Shown → Option (List ℕ) → Binding
-binding_by b all t known (Some id) = binding.Bind (named class.Bind all id)
-binding_by b all t known None = nodes_of b t known
+abbrev pub binding_by : ℕ → Bindings → List Seen → Tag → List Shown → Option (List ℕ) → Binding
+binding_by d b all t known (Some id) = binding.Bind (named class.Bind all id)
+binding_by d b all t known None = nodes_of d b t known
 
-abbrev pub binding_at : Bindings → List Seen → Tag → List Shown → Binding
-binding_at b all t known = binding_by b all t known (id_at t known at.BIND)
+abbrev pub binding_at : ℕ → Bindings → List Seen → Tag → List Shown → Binding
+binding_at d b all t known = binding_by d b all t known (id_at t known at.BIND)
 
 -- what a bind and a submission select stands in their tables
-abbrev pub binding_of : Bindings → List Seen → Tag → List Shown → Binding
-binding_of b all tag.Bind known = binding.Absent
-binding_of b all tag.Submission known = binding.Absent
-binding_of b all t known = binding_at b all t known
+abbrev pub binding_of : ℕ → Bindings → List Seen → Tag → List Shown → Binding
+binding_of d b all tag.Bind known = binding.Absent
+binding_of d b all tag.Submission known = binding.Absent
+binding_of d b all t known = binding_at d b all t known
 
 -- ---- controls
 
@@ -103,35 +103,35 @@ output_of all place r value = if is_inline r then kind.Output value else kind.Co
 
 -- ---- what it is
 
-abbrev pub kind_by_class : Bindings → List Seen → ℕ → Seen → Option ℕ → List Shown → Kind
-kind_by_class b all place r first known =
-    if is_counted r.tag then kind.Control (control_place all place) (control_of all place r.tag first known) else kind.Action (action_of b all r first known)
+abbrev pub kind_by_class : ℕ → Bindings → List Seen → ℕ → Seen → Option ℕ → List Shown → Kind
+kind_by_class d b all place r first known =
+    if is_counted r.tag then kind.Control (control_place all place) (control_of all place r.tag first known) else kind.Action (action_of d b all r first known)
 
-abbrev pub kind_by : Bindings → List Seen → ℕ → Seen → Option ℕ → List Shown → Tag → Kind
-kind_by b all place r first known tag.Host = kind.Host
-kind_by b all place r first known tag.Unknown = kind.Host
-kind_by b all place r first known tag.Model = kind.Model (number_among class.Model all place)
-kind_by b all place r first known tag.Instance = kind.Instance (number_among class.Instance all place)
-kind_by b all place r first known tag.Bind = kind.Bind (number_among class.Bind all place)
-kind_by b all place r first known tag.Submission = kind.Submission (number_among class.Submission all place)
-kind_by b all place r first known tag.Item = kind.Item
-kind_by b all place r first known tag.Itemset = kind.Itemset
-kind_by b all place r first known tag.Choices = kind.Choices
-kind_by b all place r first known tag.Label = kind.Label
-kind_by b all place r first known tag.Value = kind.Value (expr_at b known at.VALUE)
-kind_by b all place r first known tag.Output = output_of all place r (expr_at b known at.VALUE)
-kind_by b all place r first known t = kind_by_class b all place r first known
+abbrev pub kind_by : ℕ → Bindings → List Seen → ℕ → Seen → Option ℕ → List Shown → Tag → Kind
+kind_by d b all place r first known tag.Host = kind.Host
+kind_by d b all place r first known tag.Unknown = kind.Host
+kind_by d b all place r first known tag.Model = kind.Model (number_among class.Model all place)
+kind_by d b all place r first known tag.Instance = kind.Instance (number_among class.Instance all place)
+kind_by d b all place r first known tag.Bind = kind.Bind (number_among class.Bind all place)
+kind_by d b all place r first known tag.Submission = kind.Submission (number_among class.Submission all place)
+kind_by d b all place r first known tag.Item = kind.Item
+kind_by d b all place r first known tag.Itemset = kind.Itemset
+kind_by d b all place r first known tag.Choices = kind.Choices
+kind_by d b all place r first known tag.Label = kind.Label
+kind_by d b all place r first known tag.Value = kind.Value (expr_at d b known at.VALUE)
+kind_by d b all place r first known tag.Output = output_of all place r (expr_at d b known at.VALUE)
+kind_by d b all place r first known t = kind_by_class d b all place r first known
 
 -- an element, by the first submission of its model in scope
-abbrev pub element_by : Bindings → List Seen → ℕ → Seen → Option ℕ → List Shown → Element
-element_by b all place r first known = record {
+abbrev pub element_by : ℕ → Bindings → List Seen → ℕ → Seen → Option ℕ → List Shown → Element
+element_by d b all place r first known = record {
   id = id_of r;
   parent = option_map (number_of all) r.standing.parent;
   parts = parts_of all r.parts;
   model = or_else (own_model all place r) (option_map (named class.Model all) (id_at r.tag known at.MODEL));
-  binding = binding_of b all r.tag known;
-  kind = kind_by b all place r first known r.tag;
+  binding = binding_of d b all r.tag known;
+  kind = kind_by d b all place r first known r.tag;
 }
 
-abbrev pub element_of : Bindings → List Seen → Option ℕ → ℕ → Seen → Element
-element_of b all first place r = element_by b all place r first (known_in b r.attributes)
+abbrev pub element_of : ℕ → Bindings → List Seen → Option ℕ → ℕ → Seen → Element
+element_of d b all first place r = element_by d b all place r first (known_in b r.attributes)

@@ -61,14 +61,14 @@ instance_of all place r = instance_by all place r (document_in r.parts)
 
 -- ---- binds
 
-abbrev pub properties_of : Bindings → List Shown → Properties
-properties_of b known = record {
+abbrev pub properties_of : ℕ → Bindings → List Shown → Properties
+properties_of d b known = record {
   kind = option_and_then (type_of b) (text_in at.TYPE known);
-  calculate = expr_at b known at.CALCULATE;
-  relevant = expr_at b known at.RELEVANT;
-  readonly = expr_at b known at.READONLY;
-  required = expr_at b known at.REQUIRED;
-  constraint = expr_at b known at.CONSTRAINT;
+  calculate = expr_at d b known at.CALCULATE;
+  relevant = expr_at d b known at.RELEVANT;
+  readonly = expr_at d b known at.READONLY;
+  required = expr_at d b known at.REQUIRED;
+  constraint = expr_at d b known at.CONSTRAINT;
 }
 
 -- the bind in which one stands
@@ -76,14 +76,14 @@ abbrev pub bind_around : List Seen → Tag → Option ℕ → Option ℕ
 bind_around all tag.Bind parent = option_map (number_among class.Bind all) parent
 bind_around all around parent = None
 
-abbrev pub bind_by : Bindings → List Seen → ℕ → Seen → List Shown → Bind
-bind_by b all place r known = record {
+abbrev pub bind_by : ℕ → Bindings → List Seen → ℕ → Seen → List Shown → Bind
+bind_by d b all place r known = record {
   model = model_around all place;
   id = id_of r;
   around = bind_around all r.standing.around r.standing.parent;
-  node_set = expr_of b (unwrap_or (text_in at.NODESET known) (codes "."));
-  properties = properties_of b known;
+  node_set = expr_of d b (unwrap_or (text_in at.NODESET known) (codes "."));
+  properties = properties_of d b known;
 }
 
-abbrev pub bind_of : Bindings → List Seen → ℕ → Seen → Bind
-bind_of b all place r = bind_by b all place r (known_in b r.attributes)
+abbrev pub bind_of : ℕ → Bindings → List Seen → ℕ → Seen → Bind
+bind_of d b all place r = bind_by d b all place r (known_in b r.attributes)

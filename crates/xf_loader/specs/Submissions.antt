@@ -24,8 +24,8 @@ selection_by all None (Some expr) = selection.Ref expr
 selection_by all None None = selection.Whole
 
 -- `bind` goes before `ref`
-abbrev pub selection_of : Bindings → List Seen → List Shown → Selection
-selection_of b all known = selection_by all (text_in at.BIND known) (expr_at b known at.REF)
+abbrev pub selection_of : ℕ → Bindings → List Seen → List Shown → Selection
+selection_of d b all known = selection_by all (text_in at.BIND known) (expr_at d b known at.REF)
 
 abbrev pub truth_or : Bool → Option (List ℕ) → Bool
 truth_or other None = other
@@ -50,23 +50,23 @@ replace_of known =
 abbrev pub is_serialized : List Shown → Bool
 is_serialized known = not (is_text known at.SERIALIZATION (codes "none"))
 
-abbrev pub submission_by : Bindings → List Seen → ℕ → Seen → List Shown → Submission
-submission_by b all place r known = record {
+abbrev pub submission_by : ℕ → Bindings → List Seen → ℕ → Seen → List Shown → Submission
+submission_by d b all place r known = record {
   model = model_around all place;
   id = id_of r;
-  selection = selection_of b all known;
+  selection = selection_of d b all known;
   is_relevant = truth_or (is_serialized known) (text_in at.RELEVANT known);
   is_validated = truth_or (is_serialized known) (text_in at.VALIDATE known);
   resource = resource_of known;
   method = method_of known;
   replace = replace_of known;
   instance = named_at class.Instance all known at.INSTANCE;
-  target = expr_at b known at.TARGET_REF;
+  target = expr_at d b known at.TARGET_REF;
   is_serialized = is_serialized known;
 }
 
-abbrev pub submission_of : Bindings → List Seen → ℕ → Seen → Submission
-submission_of b all place r = submission_by b all place r (known_in b r.attributes)
+abbrev pub submission_of : ℕ → Bindings → List Seen → ℕ → Seen → Submission
+submission_of d b all place r = submission_by d b all place r (known_in b r.attributes)
 
 -- ---- the first of a model
 

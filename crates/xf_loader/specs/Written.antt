@@ -1,4 +1,4 @@
--- What the attributes of an element say, which are known by their numbers.
+-- What the attributes of an element say, which are known by their numbers. d is the number of decimals.
 use Rattle.std.specs.Prelude.{ℕ, Bool, false, not, List, [], bytes_eq, codes, is_some, Option, Some, None, option_map, unwrap_or, Result, Ok, Err, if◌then◌else◌}
 use Rattle.xf_ast.specs.declared.expr.Expr.{Expr}
 use Rattle.xf_ast.specs.declared.expr.Expr.TheVariants as e
@@ -21,13 +21,13 @@ abbrev pub expr_or_here : Result Expr ParseFault → Expr
 expr_or_here (Ok expr) = expr
 expr_or_here (Err fault) = here
 
--- the expression that a text is
-abbrev pub expr_of : Bindings → List ℕ → Expr
-expr_of b text = expr_or_here (parsed 6 b text)
+-- the expression that a text is, with numbers of so many decimals
+abbrev pub expr_of : ℕ → Bindings → List ℕ → Expr
+expr_of d b text = expr_or_here (parsed d b text)
 
 -- the expression that an attribute is, where it is written
-abbrev pub expr_at : Bindings → List Shown → ℕ → Option Expr
-expr_at b known code = option_map (expr_of b) (text_in code known)
+abbrev pub expr_at : ℕ → Bindings → List Shown → ℕ → Option Expr
+expr_at d b known code = option_map (expr_of d b) (text_in code known)
 
 -- ---- texts
 

@@ -9,9 +9,8 @@ ghost use Rattle.xf_loader.specs.Plan.{IsPlan};
 
 use crate::plan::{Plan, element_at, number_of, repeat_at, submission_at};
 use crate::written::{expr_at, expr_of, is_text, is_true, word_at};
-use std::alloc::{AllocError, Global};
+use std::alloc::AllocError;
 use xf_ast::{Action, DeleteWork, DispatchWork, Handler, InsertWork, Phase, Work};
-use xf_name::Prefixes;
 use xf_refusals::{Row, is_handler};
 use xf_vocabulary::{Known, Tag, attribute as at, text_of};
 
@@ -23,12 +22,12 @@ pub fn action_of(
     known: &[Known<'_>],
 ) -> Result<Action, AllocError>
     requires { IsPlan plan.now }
-    ensures { IfOk result (λ action. action ≡ actions.action_of plan.now.prefixes.now (map shown plan.now.rows.now) (shown row.now) first (map attributes.shown known.now)) }
+    ensures { IfOk result (λ action. action ≡ actions.action_of plan.now.decimals plan.now.prefixes.now (map shown plan.now.rows.now) (shown row.now) first (map attributes.shown known.now)) }
 {
     Ok(Action {
         handler: handler_of(plan, row, known)?,
-        condition: expr_at(plan.alloc, plan.prefixes, known, at::IF)?,
-        repetition: expr_at(plan.alloc, plan.prefixes, known, at::WHILE)?,
+        condition: expr_at(plan, known, at::IF)?,
+        repetition: expr_at(plan, known, at::WHILE)?,
         work: work_of(plan, row.tag, first, known)?,
     })
 }
@@ -96,12 +95,12 @@ fn work_of(
     known: &[Known<'_>],
 ) -> Result<Work, AllocError>
     requires { IsPlan plan.now }
-    ensures { IfOk result (λ work. work ≡ actions.work_of plan.now.prefixes.now (map shown plan.now.rows.now) tag first (map attributes.shown known.now)) }
+    ensures { IfOk result (λ work. work ≡ actions.work_of plan.now.decimals plan.now.prefixes.now (map shown plan.now.rows.now) tag first (map attributes.shown known.now)) }
 {
     match tag {
-        Tag::SetValue => Ok(Work::SetValue(expr_at(plan.alloc, plan.prefixes, known, at::VALUE)?)),
-        Tag::Insert => Ok(Work::Insert(insert_of(plan.alloc, plan.prefixes, known)?)),
-        Tag::Delete => Ok(Work::Delete(delete_of(plan.alloc, plan.prefixes, known)?)),
+        Tag::SetValue => Ok(Work::SetValue(expr_at(plan, known, at::VALUE)?)),
+        Tag::Insert => Ok(Work::Insert(insert_of(plan, known)?)),
+        Tag::Delete => Ok(Work::Delete(delete_of(plan, known)?)),
         Tag::SetIndex => set_index_of(plan, known),
         Tag::Dispatch => Ok(Work::Dispatch(dispatch_of(plan, known)?)),
         Tag::Load => Ok(Work::Load(word_at(plan.alloc, known, at::RESOURCE)?)),
@@ -118,41 +117,33 @@ fn work_of(
     }
 }
 
-fn insert_of(
-    alloc: Global,
-    prefixes: &Prefixes,
-    known: &[Known<'_>],
-) -> Result<InsertWork, AllocError>
-    ensures { IfOk result (λ work. work ≡ actions.insert_of prefixes.now (map attributes.shown known.now)) }
+fn insert_of(plan: &Plan<'_, '_>, known: &[Known<'_>]) -> Result<InsertWork, AllocError>
+    ensures { IfOk result (λ work. work ≡ actions.insert_of plan.now.decimals plan.now.prefixes.now (map attributes.shown known.now)) }
 {
     Ok(InsertWork {
-        context: expr_at(alloc, prefixes, known, at::CONTEXT)?,
-        origin: expr_at(alloc, prefixes, known, at::ORIGIN)?,
-        at: expr_at(alloc, prefixes, known, at::AT)?,
+        context: expr_at(plan, known, at::CONTEXT)?,
+        origin: expr_at(plan, known, at::ORIGIN)?,
+        at: expr_at(plan, known, at::AT)?,
         is_before: is_text(known, at::POSITION, "before"),
     })
 }
 
-fn delete_of(
-    alloc: Global,
-    prefixes: &Prefixes,
-    known: &[Known<'_>],
-) -> Result<DeleteWork, AllocError>
-    ensures { IfOk result (λ work. work ≡ actions.delete_of prefixes.now (map attributes.shown known.now)) }
+fn delete_of(plan: &Plan<'_, '_>, known: &[Known<'_>]) -> Result<DeleteWork, AllocError>
+    ensures { IfOk result (λ work. work ≡ actions.delete_of plan.now.decimals plan.now.prefixes.now (map attributes.shown known.now)) }
 {
     Ok(DeleteWork {
-        context: expr_at(alloc, prefixes, known, at::CONTEXT)?,
-        at: expr_at(alloc, prefixes, known, at::AT)?,
+        context: expr_at(plan, known, at::CONTEXT)?,
+        at: expr_at(plan, known, at::AT)?,
     })
 }
 
 fn set_index_of(plan: &Plan<'_, '_>, known: &[Known<'_>]) -> Result<Work, AllocError>
     requires { IsPlan plan.now }
-    ensures { IfOk result (λ work. work ≡ actions.set_index_of plan.now.prefixes.now (map shown plan.now.rows.now) (map attributes.shown known.now)) }
+    ensures { IfOk result (λ work. work ≡ actions.set_index_of plan.now.decimals plan.now.prefixes.now (map shown plan.now.rows.now) (map attributes.shown known.now)) }
 {
     let repeat = repeat_at(plan, known, at::REPEAT).unwrap_or(0);
     let index = text_of(known, at::INDEX).unwrap_or("");
-    Ok(Work::SetIndex(repeat, expr_of(plan.alloc, plan.prefixes, index)?))
+    Ok(Work::SetIndex(repeat, expr_of(plan, index)?))
 }
 
 fn dispatch_of(plan: &Plan<'_, '_>, known: &[Known<'_>]) -> Result<DispatchWork, AllocError>

@@ -8,15 +8,14 @@ ghost use Rattle.xf_loader.specs.Plan.{IsPlan};
 
 use crate::plan::{Plan, counts_named};
 use crate::written::{expr_at, id_at};
-use std::alloc::{AllocError, Global};
+use std::alloc::AllocError;
 use xf_ast::Binding;
-use xf_name::Prefixes;
 use xf_vocabulary::{Known, Tag, attribute as at, is_expression};
 
 /// What an element of this kind binds. What a bind and a submission select stands in their tables.
 pub fn binding_of(plan: &Plan<'_, '_>, tag: Tag, known: &[Known<'_>]) -> Result<Binding, AllocError>
     requires { IsPlan plan.now }
-    ensures { IfOk result (λ binding. binding ≡ elements.binding_of plan.now.prefixes.now (map shown plan.now.rows.now) tag (map attributes.shown known.now)) }
+    ensures { IfOk result (λ binding. binding ≡ elements.binding_of plan.now.decimals plan.now.prefixes.now (map shown plan.now.rows.now) tag (map attributes.shown known.now)) }
 {
     match tag {
         Tag::Bind => Ok(Binding::Absent),
@@ -27,40 +26,30 @@ pub fn binding_of(plan: &Plan<'_, '_>, tag: Tag, known: &[Known<'_>]) -> Result<
 
 fn binding_by(plan: &Plan<'_, '_>, tag: Tag, known: &[Known<'_>]) -> Result<Binding, AllocError>
     requires { IsPlan plan.now }
-    ensures { IfOk result (λ binding. binding ≡ elements.binding_at plan.now.prefixes.now (map shown plan.now.rows.now) tag (map attributes.shown known.now)) }
+    ensures { IfOk result (λ binding. binding ≡ elements.binding_at plan.now.decimals plan.now.prefixes.now (map shown plan.now.rows.now) tag (map attributes.shown known.now)) }
 {
     match id_at(tag, known, at::BIND) {
         Some(id) => Ok(Binding::Bind(counts_named(plan, id).binds)),
-        None => nodes_of(plan.alloc, plan.prefixes, tag, known),
+        None => nodes_of(plan, tag, known),
     }
 }
 
-fn nodes_of(
-    alloc: Global,
-    prefixes: &Prefixes,
-    tag: Tag,
-    known: &[Known<'_>],
-) -> Result<Binding, AllocError>
-    ensures { IfOk result (λ binding. binding ≡ elements.nodes_of prefixes.now tag (map attributes.shown known.now)) }
+fn nodes_of(plan: &Plan<'_, '_>, tag: Tag, known: &[Known<'_>]) -> Result<Binding, AllocError>
+    ensures { IfOk result (λ binding. binding ≡ elements.nodes_of plan.now.decimals plan.now.prefixes.now tag (map attributes.shown known.now)) }
 {
     if is_expression(tag, at::REF) {
-        return nodes_at(alloc, prefixes, known, at::REF);
+        return nodes_at(plan, known, at::REF);
     }
     if is_expression(tag, at::NODESET) {
-        return nodes_at(alloc, prefixes, known, at::NODESET);
+        return nodes_at(plan, known, at::NODESET);
     }
     Ok(Binding::Absent)
 }
 
-fn nodes_at(
-    alloc: Global,
-    prefixes: &Prefixes,
-    known: &[Known<'_>],
-    code: u16,
-) -> Result<Binding, AllocError>
-    ensures { IfOk result (λ binding. binding ≡ elements.nodes_at prefixes.now (map attributes.shown known.now) code) }
+fn nodes_at(plan: &Plan<'_, '_>, known: &[Known<'_>], code: u16) -> Result<Binding, AllocError>
+    ensures { IfOk result (λ binding. binding ≡ elements.nodes_at plan.now.decimals plan.now.prefixes.now (map attributes.shown known.now) code) }
 {
-    match expr_at(alloc, prefixes, known, code)? {
+    match expr_at(plan, known, code)? {
         Some(expr) => Ok(Binding::Nodes(expr)),
         None => Ok(Binding::Absent),
     }

@@ -32,7 +32,7 @@ pub fn element_of(
     row: &Row<'_>,
 ) -> Result<Element, AllocError>
     requires { IsPlan plan.now }
-    ensures { IfOk result (λ element. element ≡ elements.element_of plan.now.prefixes.now (map shown plan.now.rows.now) first place (shown row.now)) }
+    ensures { IfOk result (λ element. element ≡ elements.element_of plan.now.decimals plan.now.prefixes.now (map shown plan.now.rows.now) first place (shown row.now)) }
 {
     let element = row.element;
     let known = known_of(plan.alloc, plan.prefixes, element.attributes.as_slice())?;
@@ -47,7 +47,7 @@ fn element_by(
     known: &[Known<'_>],
 ) -> Result<Element, AllocError>
     requires { IsPlan plan.now }
-    ensures { IfOk result (λ element. element ≡ elements.element_by plan.now.prefixes.now (map shown plan.now.rows.now) place (shown row.now) first (map attributes.shown known.now)) }
+    ensures { IfOk result (λ element. element ≡ elements.element_by plan.now.decimals plan.now.prefixes.now (map shown plan.now.rows.now) place (shown row.now) first (map attributes.shown known.now)) }
 {
     let own = own_model(plan.numbers, plan.rows, place, row);
     Ok(Element {

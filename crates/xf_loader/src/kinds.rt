@@ -24,7 +24,7 @@ pub fn kind_of(
     known: &[Known<'_>],
 ) -> Result<Kind, AllocError>
     requires { IsPlan plan.now }
-    ensures { IfOk result (λ kind. kind ≡ elements.kind_by plan.now.prefixes.now (map shown plan.now.rows.now) place (shown row.now) first (map attributes.shown known.now) row.now.tag) }
+    ensures { IfOk result (λ kind. kind ≡ elements.kind_by plan.now.decimals plan.now.prefixes.now (map shown plan.now.rows.now) place (shown row.now) first (map attributes.shown known.now) row.now.tag) }
 {
     match row.tag {
         Tag::Host => Ok(Kind::Host),
@@ -37,9 +37,9 @@ pub fn kind_of(
         Tag::Itemset => Ok(Kind::Itemset),
         Tag::Choices => Ok(Kind::Choices),
         Tag::Label => Ok(Kind::Label),
-        Tag::Value => Ok(Kind::Value(expr_at(plan.alloc, plan.prefixes, known, at::VALUE)?)),
+        Tag::Value => Ok(Kind::Value(expr_at(plan, known, at::VALUE)?)),
         Tag::Output => {
-            let value = expr_at(plan.alloc, plan.prefixes, known, at::VALUE)?;
+            let value = expr_at(plan, known, at::VALUE)?;
             output_of(plan, place, row, value)
         }
         _ => kind_by_class(plan, place, row, first, known),
@@ -69,7 +69,7 @@ fn kind_by_class(
     known: &[Known<'_>],
 ) -> Result<Kind, AllocError>
     requires { IsPlan plan.now }
-    ensures { IfOk result (λ kind. kind ≡ elements.kind_by_class plan.now.prefixes.now (map shown plan.now.rows.now) place (shown row.now) first (map attributes.shown known.now)) }
+    ensures { IfOk result (λ kind. kind ≡ elements.kind_by_class plan.now.decimals plan.now.prefixes.now (map shown plan.now.rows.now) place (shown row.now) first (map attributes.shown known.now)) }
 {
     if is_counted(row.tag) {
         return Ok(Kind::Control(

@@ -117,7 +117,7 @@ fn push_places(
 /// The bind that the element at a place is.
 pub fn bind_of(plan: &Plan<'_, '_>, place: u32, row: &Row<'_>) -> Result<Bind, AllocError>
     requires { IsPlan plan.now }
-    ensures { IfOk result (λ bind. bind ≡ models.bind_of plan.now.prefixes.now (map shown plan.now.rows.now) place (shown row.now)) }
+    ensures { IfOk result (λ bind. bind ≡ models.bind_of plan.now.decimals plan.now.prefixes.now (map shown plan.now.rows.now) place (shown row.now)) }
 {
     let element = row.element;
     let known = known_of(plan.alloc, plan.prefixes, element.attributes.as_slice())?;
@@ -131,18 +131,14 @@ fn bind_by(
     known: &[Known<'_>],
 ) -> Result<Bind, AllocError>
     requires { IsPlan plan.now }
-    ensures { IfOk result (λ bind. bind ≡ models.bind_by plan.now.prefixes.now (map shown plan.now.rows.now) place (shown row.now) (map attributes.shown known.now)) }
+    ensures { IfOk result (λ bind. bind ≡ models.bind_by plan.now.decimals plan.now.prefixes.now (map shown plan.now.rows.now) place (shown row.now) (map attributes.shown known.now)) }
 {
     Ok(Bind {
         model: model_around(plan, place),
         id: id_of(plan.alloc, row)?,
         around: bind_around(plan, row.standing.around, row.standing.parent),
-        node_set: expr_of(
-            plan.alloc,
-            plan.prefixes,
-            text_of(known, at::NODESET).unwrap_or("."),
-        )?,
-        properties: properties_of(plan.alloc, plan.prefixes, known)?,
+        node_set: expr_of(plan, text_of(known, at::NODESET).unwrap_or("."))?,
+        properties: properties_of(plan, known)?,
     })
 }
 
@@ -159,20 +155,16 @@ fn bind_around(plan: &Plan<'_, '_>, around: Tag, parent: Option<u32>) -> Option<
     }
 }
 
-fn properties_of(
-    alloc: Global,
-    prefixes: &Prefixes,
-    known: &[Known<'_>],
-) -> Result<Properties, AllocError>
-    ensures { IfOk result (λ properties. properties ≡ models.properties_of prefixes.now (map attributes.shown known.now)) }
+fn properties_of(plan: &Plan<'_, '_>, known: &[Known<'_>]) -> Result<Properties, AllocError>
+    ensures { IfOk result (λ properties. properties ≡ models.properties_of plan.now.decimals plan.now.prefixes.now (map attributes.shown known.now)) }
 {
     Ok(Properties {
-        kind: type_at(prefixes, text_of(known, at::TYPE))?,
-        calculate: expr_at(alloc, prefixes, known, at::CALCULATE)?,
-        relevant: expr_at(alloc, prefixes, known, at::RELEVANT)?,
-        readonly: expr_at(alloc, prefixes, known, at::READONLY)?,
-        required: expr_at(alloc, prefixes, known, at::REQUIRED)?,
-        constraint: expr_at(alloc, prefixes, known, at::CONSTRAINT)?,
+        kind: type_at(plan.prefixes, text_of(known, at::TYPE))?,
+        calculate: expr_at(plan, known, at::CALCULATE)?,
+        relevant: expr_at(plan, known, at::RELEVANT)?,
+        readonly: expr_at(plan, known, at::READONLY)?,
+        required: expr_at(plan, known, at::REQUIRED)?,
+        constraint: expr_at(plan, known, at::CONSTRAINT)?,
     })
 }
 

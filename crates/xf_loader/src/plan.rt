@@ -14,6 +14,7 @@ use crate::scopes::model_at;
 use crate::targets::{Targets, place_named};
 use std::alloc::Global;
 use xf_name::Prefixes;
+use xf_num::Decimals;
 use xf_refusals::Row;
 use xf_vocabulary::{Known, text_of};
 
@@ -26,6 +27,7 @@ pub struct Plan<'s, 'a> {
     pub numbers: &'s Numbers,
     pub targets: &'s Targets<'a>,
     pub models: &'s [u32],
+    pub decimals: Decimals,
 }
 
 /// The counts before the element at a place.

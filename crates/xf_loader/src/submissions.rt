@@ -25,7 +25,7 @@ pub fn submission_of(
     row: &Row<'_>,
 ) -> Result<Submission, AllocError>
     requires { IsPlan plan.now }
-    ensures { IfOk result (λ one. one ≡ submissions.submission_of plan.now.prefixes.now (map shown plan.now.rows.now) place (shown row.now)) }
+    ensures { IfOk result (λ one. one ≡ submissions.submission_of plan.now.decimals plan.now.prefixes.now (map shown plan.now.rows.now) place (shown row.now)) }
 {
     let element = row.element;
     let known = known_of(plan.alloc, plan.prefixes, element.attributes.as_slice())?;
@@ -39,7 +39,7 @@ fn submission_by(
     known: &[Known<'_>],
 ) -> Result<Submission, AllocError>
     requires { IsPlan plan.now }
-    ensures { IfOk result (λ one. one ≡ submissions.submission_by plan.now.prefixes.now (map shown plan.now.rows.now) place (shown row.now) (map attributes.shown known.now)) }
+    ensures { IfOk result (λ one. one ≡ submissions.submission_by plan.now.decimals plan.now.prefixes.now (map shown plan.now.rows.now) place (shown row.now) (map attributes.shown known.now)) }
 {
     let is_serialized = is_serialized(known);
     Ok(Submission {
@@ -52,7 +52,7 @@ fn submission_by(
         method: method_of(known),
         replace: replace_of(known),
         instance: instance_at(plan, known, at::INSTANCE),
-        target: expr_at(plan.alloc, plan.prefixes, known, at::TARGET_REF)?,
+        target: expr_at(plan, known, at::TARGET_REF)?,
         is_serialized,
     })
 }
@@ -65,12 +65,12 @@ fn is_serialized(known: &[Known<'_>]) -> bool
 
 fn selection_of(plan: &Plan<'_, '_>, known: &[Known<'_>]) -> Result<Selection, AllocError>
     requires { IsPlan plan.now }
-    ensures { IfOk result (λ selection. selection ≡ submissions.selection_of plan.now.prefixes.now (map shown plan.now.rows.now) (map attributes.shown known.now)) }
+    ensures { IfOk result (λ selection. selection ≡ submissions.selection_of plan.now.decimals plan.now.prefixes.now (map shown plan.now.rows.now) (map attributes.shown known.now)) }
 {
     if let Some(id) = text_of(known, at::BIND) {
         return Ok(Selection::Bind(counts_named(plan, id).binds));
     }
-    match expr_at(plan.alloc, plan.prefixes, known, at::REF)? {
+    match expr_at(plan, known, at::REF)? {
         Some(expr) => Ok(Selection::Ref(expr)),
         None => Ok(Selection::Whole),
     }

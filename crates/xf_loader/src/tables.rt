@@ -21,7 +21,7 @@ use xf_ast::{
 };
 use xf_base::Items;
 use xf_name::Prefixes;
-use xf_refusals::{Class, Row, is_of, small};
+use xf_refusals::{Class, Row, decimals_of, is_of, small};
 
 /// The tables of a form that is not refused.
 pub fn form_of(alloc: Global, prefixes: &Prefixes, rows: &[Row<'_>]) -> Result<Form, AllocError>
@@ -30,6 +30,7 @@ pub fn form_of(alloc: Global, prefixes: &Prefixes, rows: &[Row<'_>]) -> Result<F
     let numbers = numbers_of(alloc, rows)?;
     let targets = targets_of(alloc, rows)?;
     let models = models_of(alloc, rows, &numbers)?;
+    let decimals = decimals_of(alloc, prefixes, rows)?;
     let plan = Plan {
         alloc,
         prefixes,
@@ -37,17 +38,19 @@ pub fn form_of(alloc: Global, prefixes: &Prefixes, rows: &[Row<'_>]) -> Result<F
         numbers: &numbers,
         targets: &targets,
         models: &models,
+        decimals,
     };
     form_by(&plan)
 }
 
 fn form_by(plan: &Plan<'_, '_>) -> Result<Form, AllocError>
     requires { IsPlan plan.now }
-    ensures { IfOk result (λ form. form ≡ tables.form_of plan.now.prefixes.now (map shown plan.now.rows.now)) }
+    ensures { IfOk result (λ form. form ≡ tables.form_with plan.now.decimals plan.now.prefixes.now (map shown plan.now.rows.now)) }
 {
     let tables = tables_of(plan)?;
     let elements = all_elements(plan, tables.submissions.as_slice())?;
     Ok(Form {
+        decimals: plan.decimals,
         tables,
         elements,
         models: listed(plan, Class::Model)?,
@@ -61,7 +64,7 @@ fn form_by(plan: &Plan<'_, '_>) -> Result<Form, AllocError>
 
 fn tables_of(plan: &Plan<'_, '_>) -> Result<Tables, AllocError>
     requires { IsPlan plan.now }
-    ensures { IfOk result (λ all. all ≡ tables.tables_of plan.now.prefixes.now (map shown plan.now.rows.now)) }
+    ensures { IfOk result (λ all. all ≡ tables.tables_of plan.now.decimals plan.now.prefixes.now (map shown plan.now.rows.now)) }
 {
     Ok(Tables {
         models: count_models(plan.rows)?,
@@ -92,7 +95,7 @@ fn instances_of(plan: &Plan<'_, '_>) -> Result<InstanceList, AllocError>
 
 fn binds_of(plan: &Plan<'_, '_>) -> Result<BindList, AllocError>
     requires { IsPlan plan.now }
-    ensures { IfOk result (λ all. all ≡ tables.binds_of plan.now.prefixes.now (map shown plan.now.rows.now)) }
+    ensures { IfOk result (λ all. all ≡ tables.binds_of plan.now.decimals plan.now.prefixes.now (map shown plan.now.rows.now)) }
 {
     let mut all = Items::new(plan.alloc);
     for (place, row) in plan.rows.iter().enumerate() {
@@ -105,7 +108,7 @@ fn binds_of(plan: &Plan<'_, '_>) -> Result<BindList, AllocError>
 
 fn submissions_of(plan: &Plan<'_, '_>) -> Result<SubmissionList, AllocError>
     requires { IsPlan plan.now }
-    ensures { IfOk result (λ all. all ≡ tables.submissions_of plan.now.prefixes.now (map shown plan.now.rows.now)) }
+    ensures { IfOk result (λ all. all ≡ tables.submissions_of plan.now.decimals plan.now.prefixes.now (map shown plan.now.rows.now)) }
 {
     let mut all = Items::new(plan.alloc);
     for (place, row) in plan.rows.iter().enumerate() {
@@ -134,8 +137,8 @@ fn listed(plan: &Plan<'_, '_>, class: Class) -> Result<ElementList, AllocError>
 
 fn all_elements(plan: &Plan<'_, '_>, submissions: &[Submission]) -> Result<Elements, AllocError>
     requires plan { IsPlan plan.now }
-    requires submissions { submissions.now ≡ tables.submissions_of plan.now.prefixes.now (map shown plan.now.rows.now) }
-    ensures { IfOk result (λ all. all ≡ tables.elements_of plan.now.prefixes.now (map shown plan.now.rows.now)) }
+    requires submissions { submissions.now ≡ tables.submissions_of plan.now.decimals plan.now.prefixes.now (map shown plan.now.rows.now) }
+    ensures { IfOk result (λ all. all ≡ tables.elements_of plan.now.decimals plan.now.prefixes.now (map shown plan.now.rows.now)) }
 {
     let scopes = scopes_of(plan)?;
     let firsts = firsts_of(plan.alloc, submissions)?;
@@ -145,8 +148,8 @@ fn all_elements(plan: &Plan<'_, '_>, submissions: &[Submission]) -> Result<Eleme
 // The first submission of the model in scope.
 fn first_at(plan: &Plan<'_, '_>, scopes: &[u32], firsts: &Firsts, place: u32) -> Option<u32>
     requires scopes { scopes.now ≡ scope.scopes_of plan.now.prefixes.now (map shown plan.now.rows.now) }
-    requires firsts { AreFirsts firsts.now (tables.submissions_of plan.now.prefixes.now (map shown plan.now.rows.now)) }
-    ensures { result ≡ tables.first_at plan.now.prefixes.now (map shown plan.now.rows.now) place }
+    requires firsts { AreFirsts firsts.now (tables.submissions_of plan.now.decimals plan.now.prefixes.now (map shown plan.now.rows.now)) }
+    ensures { result ≡ tables.first_at plan.now.decimals plan.now.prefixes.now (map shown plan.now.rows.now) place }
 {
     first_of(firsts, model_at(scopes, place))
 }
@@ -154,8 +157,8 @@ fn first_at(plan: &Plan<'_, '_>, scopes: &[u32], firsts: &Firsts, place: u32) ->
 fn elements_of(plan: &Plan<'_, '_>, scopes: &[u32], firsts: &Firsts) -> Result<Elements, AllocError>
     requires plan { IsPlan plan.now }
     requires scopes { scopes.now ≡ scope.scopes_of plan.now.prefixes.now (map shown plan.now.rows.now) }
-    requires firsts { AreFirsts firsts.now (tables.submissions_of plan.now.prefixes.now (map shown plan.now.rows.now)) }
-    ensures { IfOk result (λ all. all ≡ tables.elements_of plan.now.prefixes.now (map shown plan.now.rows.now)) }
+    requires firsts { AreFirsts firsts.now (tables.submissions_of plan.now.decimals plan.now.prefixes.now (map shown plan.now.rows.now)) }
+    ensures { IfOk result (λ all. all ≡ tables.elements_of plan.now.decimals plan.now.prefixes.now (map shown plan.now.rows.now)) }
 {
     let mut all = Items::new(plan.alloc);
     for (place, row) in plan.rows.iter().enumerate() {

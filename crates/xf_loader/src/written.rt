@@ -4,10 +4,11 @@ ghost use Rattle.std.specs.Prelude.{◌≡◌, IfOk, map, option_map};
 ghost use Rattle.xf_vocabulary.specs.Attributes.{shown};
 ghost use Rattle.xf_loader.specs.Written as written;
 
+use crate::plan::Plan;
 use std::alloc::{AllocError, Global};
 use xf_ast::{Expr, Start};
 use xf_base::Items;
-use xf_name::{Prefixes, Word};
+use xf_name::Word;
 use xf_path::{ParseFault, parse};
 use xf_vocabulary::{Known, Tag, text_of, wanted_of};
 
@@ -19,27 +20,26 @@ fn here(alloc: Global) -> Expr
 }
 
 /// The expression that a text is, or the context node.
-pub fn expr_of(alloc: Global, prefixes: &Prefixes, text: &str) -> Result<Expr, AllocError>
-    ensures { IfOk result (λ expr. expr ≡ written.expr_of prefixes.now text.now) }
+pub fn expr_of(plan: &Plan<'_, '_>, text: &str) -> Result<Expr, AllocError>
+    ensures { IfOk result (λ expr. expr ≡ written.expr_of plan.now.decimals plan.now.prefixes.now text.now) }
 {
-    match parse(alloc, text, prefixes) {
+    match parse(plan.alloc, text, plan.prefixes, plan.decimals) {
         Ok(expr) => Ok(expr),
         Err(ParseFault::Memory) => Err(AllocError),
-        Err(ParseFault::Expr(_, _)) => Ok(here(alloc)),
+        Err(ParseFault::Expr(_, _)) => Ok(here(plan.alloc)),
     }
 }
 
 /// The expression that an attribute is, where it is written.
 pub fn expr_at(
-    alloc: Global,
-    prefixes: &Prefixes,
+    plan: &Plan<'_, '_>,
     known: &[Known<'_>],
     code: u16,
 ) -> Result<Option<Expr>, AllocError>
-    ensures { IfOk result (λ expr. expr ≡ written.expr_at prefixes.now (map shown known.now) code) }
+    ensures { IfOk result (λ expr. expr ≡ written.expr_at plan.now.decimals plan.now.prefixes.now (map shown known.now) code) }
 {
     match text_of(known, code) {
-        Some(text) => Ok(Some(expr_of(alloc, prefixes, text)?)),
+        Some(text) => Ok(Some(expr_of(plan, text)?)),
         None => Ok(None),
     }
 }

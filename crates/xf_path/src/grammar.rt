@@ -23,6 +23,7 @@ use std::alloc::Global;
 use xf_ast::{Axis, Expr, ExprList, Link, LinkList, Start, Step, StepList};
 use xf_base::{Boxed, Items};
 use xf_name::Prefixes;
+use xf_num::Decimals;
 use xf_table::find;
 use xf_table::functions::rows;
 
@@ -32,16 +33,26 @@ const MOST_DEPTH: u32 = 64;
 /// How many ranks of operators there are, the union among them.
 const RANKS: u32 = 7;
 
-/// The expression that a text is.
+/// The expression that a text is, with numbers of so many decimals.
 #[tactic(auto, unfolding(crate::specs::Grammar::side))]
-pub fn parse(alloc: Global, text: &str, prefixes: &Prefixes) -> Result<Expr, ParseFault>
-    ensures { Gives ParseFault.Memory (λ tree. tree) result (spec.parsed 6 prefixes.now text.now) }
+pub fn parse(
+    alloc: Global,
+    text: &str,
+    prefixes: &Prefixes,
+    decimals: Decimals,
+) -> Result<Expr, ParseFault>
+    ensures { Gives ParseFault.Memory (λ tree. tree) result (spec.parsed decimals prefixes.now text.now) }
 {
     if text.len() > MOST_BYTES {
         return Err(ParseFault::Expr(0, ExprKind::Long));
     }
     let mut tokens = Tokens::new(text);
-    let tree = Grammar { alloc, prefixes }.side(&mut tokens, RANKS, MOST_DEPTH)?;
+    let grammar = Grammar {
+        alloc,
+        prefixes,
+        decimals,
+    };
+    let tree = grammar.side(&mut tokens, RANKS, MOST_DEPTH)?;
     match tokens.kind() {
         Kind::End => Ok(tree),
         _ => Err(tokens.fault(ExprKind::Syntax)),
@@ -53,6 +64,7 @@ pub fn parse(alloc: Global, text: &str, prefixes: &Prefixes) -> Result<Expr, Par
 struct Grammar<'a> {
     alloc: Global,
     prefixes: &'a Prefixes,
+    decimals: Decimals,
 }
 
 impl<'a> Grammar<'a> {
@@ -61,7 +73,7 @@ impl<'a> Grammar<'a> {
     /// What stands beside an operator of a rank: an expression of tighter operators alone.
     #[cycle(rules)]
     fn side(&self, tokens: &mut Tokens<'_>, rank: u32, depth: u32) -> Result<Expr, ParseFault>
-        ensures { Reads (spec.side 6 self.now.prefixes.now depth rank tokens.old) result tokens.new }
+        ensures { Reads (spec.side self.now.decimals self.now.prefixes.now depth rank tokens.old) result tokens.new }
     {
         if rank == 0 {
             return self.operand(tokens, depth);
@@ -83,7 +95,7 @@ impl<'a> Grammar<'a> {
     /// The operators of a rank that follow, with their right sides.
     #[cycle(rules)]
     fn links(&self, tokens: &mut Tokens<'_>, rank: u32, depth: u32) -> Result<LinkList, ParseFault>
-        ensures { Reads (operator.more_links (spec.side 6 self.now.prefixes.now depth rank) rank MOST_BYTES [] tokens.old) result tokens.new }
+        ensures { Reads (operator.more_links (spec.side self.now.decimals self.now.prefixes.now depth rank) rank MOST_BYTES [] tokens.old) result tokens.new }
     {
         let mut found = Items::new(self.alloc);
         // A text has no more operators than bytes.
@@ -109,7 +121,7 @@ impl<'a> Grammar<'a> {
     #[cycle(rules)]
     #[tactic(auto, unfolding(crate::specs::Grammar::unary_by))]
     fn unary(&self, tokens: &mut Tokens<'_>, depth: u32) -> Result<Expr, ParseFault>
-        ensures { Reads (spec.unary_by (spec.signed 6 self.now.prefixes.now depth) tokens.old) result tokens.new }
+        ensures { Reads (spec.unary_by (spec.signed self.now.decimals self.now.prefixes.now depth) tokens.old) result tokens.new }
     {
         match tokens.kind() {
             Kind::Minus => {
@@ -124,7 +136,7 @@ impl<'a> Grammar<'a> {
     /// The number of signs, and the union behind them.
     #[cycle(rules)]
     fn signed(&self, tokens: &mut Tokens<'_>, depth: u32) -> Result<(u32, Expr), ParseFault>
-        ensures reads { Reads (spec.signed 6 self.now.prefixes.now depth tokens.old) result tokens.new }
+        ensures reads { Reads (spec.signed self.now.decimals self.now.prefixes.now depth tokens.old) result tokens.new }
         ensures within { IfOk result (λ found. found.0 ≤ depth) }
     {
         match tokens.kind() {
@@ -147,7 +159,7 @@ impl<'a> Grammar<'a> {
     #[cycle(rules)]
     #[tactic(auto, unfolding(crate::specs::Operators::chain, crate::specs::Grammar::side))]
     fn union(&self, tokens: &mut Tokens<'_>, depth: u32) -> Result<Expr, ParseFault>
-        ensures { Reads (operator.chain (spec.side 6 self.now.prefixes.now depth 0) 0 tokens.old) result tokens.new }
+        ensures { Reads (operator.chain (spec.side self.now.decimals self.now.prefixes.now depth 0) 0 tokens.old) result tokens.new }
     {
         let first = self.operand(tokens, depth)?;
         if operator_at(0, tokens.kind(), tokens.text()).is_none() {
@@ -162,7 +174,7 @@ impl<'a> Grammar<'a> {
     /// A primary expression with predicates and steps behind it, or a location path.
     #[cycle(rules)]
     fn operand(&self, tokens: &mut Tokens<'_>, depth: u32) -> Result<Expr, ParseFault>
-        ensures { Reads (spec.operand 6 self.now.prefixes.now depth tokens.old) result tokens.new }
+        ensures { Reads (spec.operand self.now.decimals self.now.prefixes.now depth tokens.old) result tokens.new }
     {
         if !begins_primary(tokens.kind(), tokens.text()) {
             return self.path(tokens, depth);
@@ -175,7 +187,7 @@ impl<'a> Grammar<'a> {
     #[cycle(rules)]
     #[tactic(auto, unfolding(crate::specs::Primary::filtered))]
     fn filtered(&self, tokens: &mut Tokens<'_>, depth: u32) -> Result<Expr, ParseFault>
-        ensures { Reads (primary.filtered 6 (spec.nested 6 self.now.prefixes.now depth) (spec.called 6 self.now.prefixes.now depth) tokens.old) result tokens.new }
+        ensures { Reads (primary.filtered self.now.decimals (spec.nested self.now.decimals self.now.prefixes.now depth) (spec.called self.now.decimals self.now.prefixes.now depth) tokens.old) result tokens.new }
     {
         let first = self.primary(tokens, depth)?;
         let found = self.predicates(tokens, depth)?;
@@ -186,7 +198,7 @@ impl<'a> Grammar<'a> {
     #[cycle(rules)]
     #[tactic(auto, unfolding(crate::specs::Primary::onward))]
     fn onward(&self, tokens: &mut Tokens<'_>, first: Expr, depth: u32) -> Result<Expr, ParseFault>
-        ensures { Reads (primary.onward self.now.prefixes.now (spec.nested 6 self.now.prefixes.now depth) first tokens.old) result tokens.new }
+        ensures { Reads (primary.onward self.now.prefixes.now (spec.nested self.now.decimals self.now.prefixes.now depth) first tokens.old) result tokens.new }
     {
         let Some(is_below) = separator(tokens.kind()) else {
             return Ok(first);
@@ -200,11 +212,11 @@ impl<'a> Grammar<'a> {
     #[cycle(rules)]
     #[tactic(auto, unfolding(crate::specs::Primary::primary))]
     fn primary(&self, tokens: &mut Tokens<'_>, depth: u32) -> Result<Expr, ParseFault>
-        ensures { Reads (primary.primary 6 (spec.nested 6 self.now.prefixes.now depth) (spec.called 6 self.now.prefixes.now depth) tokens.old) result tokens.new }
+        ensures { Reads (primary.primary self.now.decimals (spec.nested self.now.decimals self.now.prefixes.now depth) (spec.called self.now.decimals self.now.prefixes.now depth) tokens.old) result tokens.new }
     {
         match tokens.kind() {
             Kind::Open => self.grouped(tokens, depth),
-            Kind::Number => Ok(number(tokens)),
+            Kind::Number => Ok(number(tokens, self.decimals)),
             Kind::Literal => literal(self.alloc, tokens),
             _ => self.call(tokens, depth),
         }
@@ -216,7 +228,7 @@ impl<'a> Grammar<'a> {
     #[cycle(rules)]
     #[tactic(auto, unfolding(crate::specs::Primary::grouped))]
     fn grouped(&self, tokens: &mut Tokens<'_>, depth: u32) -> Result<Expr, ParseFault>
-        ensures { Reads (primary.grouped (spec.nested 6 self.now.prefixes.now depth) tokens.old) result tokens.new }
+        ensures { Reads (primary.grouped (spec.nested self.now.decimals self.now.prefixes.now depth) tokens.old) result tokens.new }
     {
         let inner = self.nested(tokens, depth)?;
         close(tokens)?;
@@ -227,7 +239,7 @@ impl<'a> Grammar<'a> {
     #[cycle(rules)]
     #[tactic(auto, unfolding(crate::specs::Grammar::nested))]
     fn nested(&self, tokens: &mut Tokens<'_>, depth: u32) -> Result<Expr, ParseFault>
-        ensures { Reads (spec.nested 6 self.now.prefixes.now depth tokens.old) result tokens.new }
+        ensures { Reads (spec.nested self.now.decimals self.now.prefixes.now depth tokens.old) result tokens.new }
     {
         open_bracket(tokens, depth)?;
         self.inside(tokens, depth)
@@ -236,7 +248,7 @@ impl<'a> Grammar<'a> {
     /// What stands in a bracket that is open.
     #[cycle(rules)]
     fn inside(&self, tokens: &mut Tokens<'_>, depth: u32) -> Result<Expr, ParseFault>
-        ensures { Reads (spec.inside 6 self.now.prefixes.now depth tokens.old) result tokens.new }
+        ensures { Reads (spec.inside self.now.decimals self.now.prefixes.now depth tokens.old) result tokens.new }
     {
         if depth == 0 {
             return Err(tokens.fault(ExprKind::Deep));
@@ -249,7 +261,7 @@ impl<'a> Grammar<'a> {
     /// A call of a function.
     #[cycle(rules)]
     fn call(&self, tokens: &mut Tokens<'_>, depth: u32) -> Result<Expr, ParseFault>
-        ensures { Reads (spec.called 6 self.now.prefixes.now depth tokens.old) result tokens.new }
+        ensures { Reads (spec.called self.now.decimals self.now.prefixes.now depth tokens.old) result tokens.new }
     {
         match find(rows(), tokens.text()) {
             Some(code) => self.called(tokens, code, depth),
@@ -261,7 +273,7 @@ impl<'a> Grammar<'a> {
     #[cycle(rules)]
     #[tactic(auto, unfolding(crate::specs::Calls::called))]
     fn called(&self, tokens: &mut Tokens<'_>, code: u16, depth: u32) -> Result<Expr, ParseFault>
-        ensures { Reads (call.called (open_bracket depth) (spec.inside 6 self.now.prefixes.now depth) (place_of tokens.old) code tokens.old) result tokens.new }
+        ensures { Reads (call.called (open_bracket depth) (spec.inside self.now.decimals self.now.prefixes.now depth) (place_of tokens.old) code tokens.old) result tokens.new }
     {
         let place = tokens.place();
         tokens.take();
@@ -277,7 +289,7 @@ impl<'a> Grammar<'a> {
     #[cycle(rules)]
     #[tactic(auto, unfolding(crate::specs::Calls::arguments))]
     fn arguments(&self, tokens: &mut Tokens<'_>, depth: u32) -> Result<ExprList, ParseFault>
-        ensures { Reads (call.arguments (spec.inside 6 self.now.prefixes.now depth) tokens.old) result tokens.new }
+        ensures { Reads (call.arguments (spec.inside self.now.decimals self.now.prefixes.now depth) tokens.old) result tokens.new }
     {
         match tokens.kind() {
             Kind::Close => {
@@ -302,7 +314,7 @@ impl<'a> Grammar<'a> {
         found: ExprList,
         depth: u32,
     ) -> Result<ExprList, ParseFault>
-        ensures { Reads (call.more_arguments (spec.inside 6 self.now.prefixes.now depth) MOST_BYTES found tokens.old) result tokens.new }
+        ensures { Reads (call.more_arguments (spec.inside self.now.decimals self.now.prefixes.now depth) MOST_BYTES found tokens.old) result tokens.new }
     {
         let mut found = found;
         // A text has no more arguments than bytes.
@@ -322,7 +334,7 @@ impl<'a> Grammar<'a> {
     #[cycle(rules)]
     #[tactic(auto, unfolding(crate::specs::Paths::path))]
     fn path(&self, tokens: &mut Tokens<'_>, depth: u32) -> Result<Expr, ParseFault>
-        ensures { Reads (path.path self.now.prefixes.now (spec.nested 6 self.now.prefixes.now depth) tokens.old) result tokens.new }
+        ensures { Reads (path.path self.now.prefixes.now (spec.nested self.now.decimals self.now.prefixes.now depth) tokens.old) result tokens.new }
     {
         let place = tokens.place();
         match tokens.kind() {
@@ -355,7 +367,7 @@ impl<'a> Grammar<'a> {
         is_below: bool,
         depth: u32,
     ) -> Result<StepList, ParseFault>
-        ensures { Reads (path.steps self.now.prefixes.now (spec.nested 6 self.now.prefixes.now depth) is_below tokens.old) result tokens.new }
+        ensures { Reads (path.steps self.now.prefixes.now (spec.nested self.now.decimals self.now.prefixes.now depth) is_below tokens.old) result tokens.new }
     {
         let mut found = Items::new(self.alloc);
         let first = self.step(tokens, is_below, depth)?;
@@ -375,7 +387,7 @@ impl<'a> Grammar<'a> {
     #[cycle(rules)]
     #[tactic(auto, unfolding(crate::specs::Steps::step))]
     fn step(&self, tokens: &mut Tokens<'_>, is_below: bool, depth: u32) -> Result<Step, ParseFault>
-        ensures { Reads (step.step self.now.prefixes.now (spec.nested 6 self.now.prefixes.now depth) is_below tokens.old) result tokens.new }
+        ensures { Reads (step.step self.now.prefixes.now (spec.nested self.now.decimals self.now.prefixes.now depth) is_below tokens.old) result tokens.new }
     {
         match tokens.kind() {
             Kind::Dot => Ok(abbreviated(self.alloc, tokens, is_below, Axis::Self_)),
@@ -393,7 +405,7 @@ impl<'a> Grammar<'a> {
         is_below: bool,
         depth: u32,
     ) -> Result<Step, ParseFault>
-        ensures { Reads (step.written self.now.prefixes.now (spec.nested 6 self.now.prefixes.now depth) is_below tokens.old) result tokens.new }
+        ensures { Reads (step.written self.now.prefixes.now (spec.nested self.now.decimals self.now.prefixes.now depth) is_below tokens.old) result tokens.new }
     {
         let place = tokens.place();
         let axis = axis(tokens)?;
@@ -412,7 +424,7 @@ impl<'a> Grammar<'a> {
     /// The predicates that follow, if any.
     #[cycle(rules)]
     fn predicates(&self, tokens: &mut Tokens<'_>, depth: u32) -> Result<ExprList, ParseFault>
-        ensures { Reads (step.more_predicates (spec.nested 6 self.now.prefixes.now depth) MOST_BYTES [] tokens.old) result tokens.new }
+        ensures { Reads (step.more_predicates (spec.nested self.now.decimals self.now.prefixes.now depth) MOST_BYTES [] tokens.old) result tokens.new }
     {
         if !opens_predicate(tokens.kind()) {
             return Ok(Items::new(self.alloc));
@@ -423,7 +435,7 @@ impl<'a> Grammar<'a> {
     /// The predicates that follow, one after another.
     #[cycle(rules)]
     fn some_predicates(&self, tokens: &mut Tokens<'_>, depth: u32) -> Result<ExprList, ParseFault>
-        ensures { Reads (step.more_predicates (spec.nested 6 self.now.prefixes.now depth) MOST_BYTES [] tokens.old) result tokens.new }
+        ensures { Reads (step.more_predicates (spec.nested self.now.decimals self.now.prefixes.now depth) MOST_BYTES [] tokens.old) result tokens.new }
     {
         let mut found = Items::new(self.alloc);
         // A text has no more predicates than bytes.
@@ -440,7 +452,7 @@ impl<'a> Grammar<'a> {
     #[cycle(rules)]
     #[tactic(auto, unfolding(crate::specs::Steps::predicate))]
     fn predicate(&self, tokens: &mut Tokens<'_>, depth: u32) -> Result<Expr, ParseFault>
-        ensures { Reads (step.predicate (spec.nested 6 self.now.prefixes.now depth) tokens.old) result tokens.new }
+        ensures { Reads (step.predicate (spec.nested self.now.decimals self.now.prefixes.now depth) tokens.old) result tokens.new }
     {
         let inner = self.nested(tokens, depth)?;
         close_square(tokens)?;

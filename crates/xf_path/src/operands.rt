@@ -13,14 +13,14 @@ use std::alloc::{AllocError, Global};
 use xf_ast::{Expr, ExprList, LinkList};
 use xf_base::Boxed;
 use xf_name::Word;
-use xf_num::Num;
+use xf_num::{Decimals, Num};
 
 #[tactic(auto, unfolding(crate::specs::Primary::number))]
-pub fn number(tokens: &mut Tokens<'_>) -> Expr
-    ensures { primary.number 6 tokens.old ≡ Ok (result, tokens.new) }
+pub fn number(tokens: &mut Tokens<'_>, decimals: Decimals) -> Expr
+    ensures { primary.number decimals tokens.old ≡ Ok (result, tokens.new) }
 {
     let place = tokens.place();
-    let value = Num::read(tokens.text());
+    let value = Num::read(tokens.text(), decimals);
     tokens.take();
     Expr::Number(place, value)
 }

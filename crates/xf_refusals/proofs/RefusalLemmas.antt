@@ -1,5 +1,5 @@
 -- Refusals, by the calls that tell them.
-use Rattle.std.proofs.Common.{◌≡◌, ℕ, suc, ◌+◌, ◌<◌, List, [], ◌∷◌, ◌++◌, map, drop, length, get_or, Bool, false, nat_lt, nat_le, nat_eq, cond, Some, None, sym, ap, ◌∙◌, append_assoc, add-one}
+use Rattle.std.proofs.Common.{◌≡◌, ℕ, suc, ◌+◌, ◌<◌, List, [], ◌∷◌, ◌++◌, map, drop, length, get_or, false, nat_lt, nat_le, nat_eq, cond, Some, None, sym, ap, ◌∙◌, append_assoc, add-one}
 use Rattle.std.specs.declared.option.Option.{Option}
 use Rattle.std.specs.Prelude.{codes, count_by}
 use Rattle.std.proofs.lemmas.Bool.{lt-leb}
@@ -23,11 +23,11 @@ pub missing_by : (all : List Seen) (w : Wanted) (o : Option Wanted) (id : List �
 missing_by all w o id c k told is counted = ap (λ n. nat_eq n 0) (counted ∙ ap (λ x. count_called x all id) is) ∙ ap (λ x. is_missing all x id) told
 
 -- one element more without a refusal
-pub first_more : (b : Bindings) (all : List Seen) (m : Bool) (rows : List Row) (i : ℕ) (r : Row) → i < length rows → r ≡ get_or rows i r → refusal_at b all m i (shown r) ≡ None
-    → first_from b all m i (map shown (drop i rows)) ≡ first_from b all m (i + 1) (map shown (drop (i + 1) rows))
-first_more b all m rows i r h e none =
-    ap (λ xs. first_from b all m i (map shown xs)) (drop_more rows i r h ∙ ap (λ x. x ∷ drop (i + 1) rows) (sym e))
-    ∙ ap (λ o. or_later i o (first_from b all m (suc i) (map shown (drop (i + 1) rows)))) none ∙ ap (λ k. first_from b all m k (map shown (drop (i + 1) rows))) (sym (add-one i))
+pub first_more : (d : ℕ) (b : Bindings) (all : List Seen) (m : Option ℕ) (rows : List Row) (i : ℕ) (r : Row) → i < length rows → r ≡ get_or rows i r → refusal_at d b all m i (shown r) ≡ None
+    → first_from d b all m i (map shown (drop i rows)) ≡ first_from d b all m (i + 1) (map shown (drop (i + 1) rows))
+first_more d b all m rows i r h e none =
+    ap (λ xs. first_from d b all m i (map shown xs)) (drop_more rows i r h ∙ ap (λ x. x ∷ drop (i + 1) rows) (sym e))
+    ∙ ap (λ o. or_later i o (first_from d b all m (suc i) (map shown (drop (i + 1) rows)))) none ∙ ap (λ k. first_from d b all m k (map shown (drop (i + 1) rows))) (sym (add-one i))
 
 over_one : (k : ℕ) → 1 < k → nat_le k 1 ≡ false
 over_one k h = lt-leb k 1 h

@@ -3,6 +3,7 @@ pub mod Rows
 pub mod Walk
 pub mod Classes
 pub mod Tally
+pub mod Decimals
 pub mod Refusals
 pub mod Paths
 pub mod Limits

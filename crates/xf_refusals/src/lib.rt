@@ -3,6 +3,7 @@
 
 mod built;
 mod classes;
+mod decimals;
 mod ids;
 mod limits;
 mod paths;
@@ -13,6 +14,7 @@ mod standing;
 mod walk;
 
 pub use classes::{Class, is_of};
+pub use decimals::decimals_of;
 pub use refusals::{refusal_of, unbuilt_of};
 pub use rows::{Row, id_in, is_control_row, is_handler, is_inline, is_numbered};
 pub use standing::{Standing, Zone, is_outside};

@@ -3,6 +3,7 @@
 ghost use Rattle.std.specs.Prelude.{◌≡◌, IfOk, map, count_by};
 ghost use Rattle.std.specs.List.{list_any};
 ghost use Rattle.xf_vocabulary.specs.Attributes as attributes;
+ghost use Rattle.xf_vocabulary.specs.Faults as faults;
 ghost use Rattle.xf_refusals.specs.Classes.{is_called};
 ghost use Rattle.xf_refusals.specs.Refusals as refusals;
 ghost use Rattle.xf_refusals.specs.Refused as refused;
@@ -11,6 +12,7 @@ ghost use Rattle.xf_refusals.specs.Tally.{HasCounts};
 
 use crate::built::first_unbuilt;
 use crate::classes::{Class, class_of, is_case, is_model, is_of, is_switch};
+use crate::decimals::decimals_of;
 use crate::ids::{Ids, called, ids_of};
 use crate::limits::limit_of;
 use crate::paths::path_of;
@@ -19,6 +21,7 @@ use crate::standing::{is_instance, is_outside};
 use std::alloc::{AllocError, Global};
 use xf_ast::Part;
 use xf_name::{NameFault, Prefixes, Word};
+use xf_num::Decimals;
 use xf_vocabulary::{
     Known, Tag, has_bad_expression, has_bad_text, has_bad_type, has_moving_expression, known_of,
     lacks, may_stand, wanted_of,
@@ -82,10 +85,10 @@ fn count_elements(parts: &[Part]) -> usize
 // ---- refusals of an element
 
 /// Whether there is no model, at the root, or the element is a model without an instance.
-fn lacks_model(rows: &[Row<'_>], row: &Row<'_>, place: usize, has_model: bool) -> bool
-    ensures { result ≡ refusals.lacks_model (map shown rows.now) has_model place (shown row.now) }
+fn lacks_model(rows: &[Row<'_>], row: &Row<'_>, place: usize, first: Option<usize>) -> bool
+    ensures { result ≡ refusals.lacks_model (map shown rows.now) first place (shown row.now) }
 {
-    (place == 0 && !has_model) || (is_model(row.tag) && !has_instance(rows, &row.parts))
+    (place == 0 && first.is_none()) || (is_model(row.tag) && !has_instance(rows, &row.parts))
 }
 
 fn is_misplaced(rows: &[Row<'_>], row: &Row<'_>) -> bool
@@ -101,6 +104,22 @@ fn has_bad_attribute(row: &Row<'_>, known: &[Known<'_>]) -> bool
 {
     let handles = is_handler(row);
     has_bad_text(row.tag, handles, known) || lacks(row.tag, handles, known)
+}
+
+fn is_at(first: Option<usize>, place: usize) -> bool
+    ensures { result ≡ refusals.is_at first place }
+{
+    match first {
+        Some(first) => first == place,
+        None => false,
+    }
+}
+
+/// Whether it is a model behind the first, whose texts choose nothing.
+fn is_later_model(first: Option<usize>, row: &Row<'_>, place: usize) -> bool
+    ensures { result ≡ refusals.is_later_model first place (shown row.now) }
+{
+    is_model(row.tag) && !is_at(first, place)
 }
 
 fn shares_id(ids: &Ids<'_>, rows: &[Row<'_>], row: &Row<'_>) -> bool
@@ -144,7 +163,41 @@ pub struct Search<'s, 'a> {
     pub prefixes: &'s Prefixes,
     pub rows: &'s [Row<'a>],
     pub ids: &'s Ids<'a>,
-    pub has_model: bool,
+    /// The place of the first model.
+    pub first_model: Option<usize>,
+    pub decimals: Decimals,
+}
+
+fn has_bad_expression_in(
+    search: Search<'_, '_>,
+    row: &Row<'_>,
+    known: &[Known<'_>],
+) -> Result<bool, AllocError>
+    ensures { IfOk result (λ found. found ≡ list_any (faults.is_bad_expression search.entry.decimals search.entry.prefixes.now row.now.tag) (map attributes.shown known.now)) }
+{
+    has_bad_expression(
+        search.alloc,
+        search.prefixes,
+        row.tag,
+        known,
+        search.decimals,
+    )
+}
+
+fn has_moving_expression_in(
+    search: Search<'_, '_>,
+    row: &Row<'_>,
+    known: &[Known<'_>],
+) -> Result<bool, AllocError>
+    ensures { IfOk result (λ found. found ≡ list_any (faults.is_moving_expression search.entry.decimals search.entry.prefixes.now row.now.tag) (map attributes.shown known.now)) }
+{
+    has_moving_expression(
+        search.alloc,
+        search.prefixes,
+        row.tag,
+        known,
+        search.decimals,
+    )
 }
 
 /// The least refusal of an element outside instances, but for those of its names.
@@ -154,23 +207,23 @@ fn own_refusal(
     place: usize,
 ) -> Result<Option<u8>, AllocError>
     requires { HasCounts search.ids.now (map shown search.rows.now) }
-    ensures { IfOk result (λ number. number ≡ refusals.own_refusal search.entry.prefixes.now (map shown search.entry.rows.now) search.entry.has_model place (shown row.now)) }
+    ensures { IfOk result (λ number. number ≡ refusals.own_refusal search.entry.decimals search.entry.prefixes.now (map shown search.entry.rows.now) search.entry.first_model place (shown row.now)) }
 {
     let element = row.element;
     let known = known_of(search.alloc, search.prefixes, element.attributes.as_slice())?;
-    if lacks_model(search.rows, row, place, search.has_model) {
+    if lacks_model(search.rows, row, place, search.first_model) {
         return Ok(Some(6));
     }
-    if has_bad_expression(search.alloc, search.prefixes, row.tag, &known)? {
+    if has_bad_expression_in(search, row, &known)? {
         return Ok(Some(7));
     }
-    if has_moving_expression(search.alloc, search.prefixes, row.tag, &known)? {
+    if has_moving_expression_in(search, row, &known)? {
         return Ok(Some(8));
     }
     if is_misplaced(search.rows, row) {
         return Ok(Some(9));
     }
-    if has_bad_attribute(row, &known) {
+    if !is_later_model(search.first_model, row, place) && has_bad_attribute(row, &known) {
         return Ok(Some(10));
     }
     if shares_id(search.ids, search.rows, row) {
@@ -197,7 +250,7 @@ fn number_of_fault(fault: NameFault) -> u8
 /// The least refusal of an element.
 fn refusal_at(search: Search<'_, '_>, row: &Row<'_>, place: usize) -> Result<Option<u8>, AllocError>
     requires { HasCounts search.ids.now (map shown search.rows.now) }
-    ensures { IfOk result (λ number. number ≡ refusals.refusal_at search.entry.prefixes.now (map shown search.entry.rows.now) search.entry.has_model place (shown row.now)) }
+    ensures { IfOk result (λ number. number ≡ refusals.refusal_at search.entry.decimals search.entry.prefixes.now (map shown search.entry.rows.now) search.entry.first_model place (shown row.now)) }
 {
     if let Some(fault) = search.prefixes.fault_of(row.element)? {
         return Ok(Some(number_of_fault(fault)));
@@ -208,15 +261,16 @@ fn refusal_at(search: Search<'_, '_>, row: &Row<'_>, place: usize) -> Result<Opt
     own_refusal(search, row, place)
 }
 
-fn has_model(rows: &[Row<'_>]) -> bool
-    ensures { result ≡ refusals.has_model (map shown rows.now) }
+/// The place of the first model.
+fn first_model(rows: &[Row<'_>]) -> Option<usize>
+    ensures { result ≡ refusals.first_model (map shown rows.now) }
 {
-    for row in rows {
+    for (place, row) in rows.iter().enumerate() {
         if is_of(Class::Model, row) {
-            return true;
+            return Some(place);
         }
     }
-    false
+    None
 }
 
 /// The first refusal of the form's elements.
@@ -233,7 +287,8 @@ fn first_refusal(
         prefixes,
         rows,
         ids: &ids,
-        has_model: has_model(rows),
+        first_model: first_model(rows),
+        decimals: decimals_of(alloc, prefixes, rows)?,
     };
     for (place, row) in rows.iter().enumerate() {
         if let Some(number) = refusal_at(search, row, place)? {

@@ -26,6 +26,7 @@ elements =
 
 abbrev form : List written.Element → List ℕ → Form
 form all repeats = record {
+  decimals = 6;
   tables = record { models = 1; instances = []; binds = []; submissions = [] };
   elements = all;
   models = 1 ∷ [];

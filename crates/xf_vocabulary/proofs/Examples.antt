@@ -14,7 +14,7 @@ use Rattle.xf_vocabulary.specs.Needs.{lacks}
 use Rattle.xf_vocabulary.specs.Placement.{may_stand}
 use Rattle.xf_vocabulary.specs.Rules.{is_expression, is_computed, choice_of, wanted_of}
 use Rattle.xf_vocabulary.specs.Tags.{tag_by, forms_uri}
-use Rattle.xf_vocabulary.specs.Texts.{allows}
+use Rattle.xf_vocabulary.specs.Texts.{allows, decimals_in}
 
 abbrev b : Bindings
 b = record { spaces = forms_uri ∷ codes "urn:u" ∷ []; prefixes = (codes "xf", 1) ∷ (codes "u", 2) ∷ [] }
@@ -78,6 +78,18 @@ observer_of_handler = refl
 
 ten_digits : allows choice.Count (codes "0123456789") ≡ false
 ten_digits = refl
+
+two_decimals : is_bad_text tag.Model false (at.DECIMALS, codes "2") ≡ false
+two_decimals = refl
+
+ten_decimals : is_bad_text tag.Model false (at.DECIMALS, codes "10") ≡ true
+ten_decimals = refl
+
+no_decimals : is_bad_text tag.Model false (at.DECIMALS, []) ≡ true
+no_decimals = refl
+
+nine_decimals : decimals_in (codes "9") ≡ Some 9
+nine_decimals = refl
 
 selected_maybe : is_bad_text tag.Case false (at.SELECTED, codes "maybe") ≡ true
 selected_maybe = refl

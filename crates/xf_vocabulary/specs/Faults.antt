@@ -1,5 +1,5 @@
 -- The faults of an attribute that it has by itself: an expression that cannot be read or is not static where it has to be, a text
--- outside its list, a type that there is not.
+-- outside its list, a type that there is not. d is the number of decimals.
 use Rattle.std.specs.Prelude.{ℕ, Bool, false, not, ◌&&◌, ◌==◌, List, [], Option, Some, None, is_some, is_none, is_ok, unwrap_or, Result, Ok, Err}
 use Rattle.xf_ast.specs.declared.expr.Expr.{Expr}
 use Rattle.xf_name.specs.Bindings.{Bindings, resolved, text_of_space}
@@ -20,22 +20,22 @@ use Rattle.xf_vocabulary.specs.Texts.{allows}
 
 -- ---- expressions
 
-abbrev pub is_readable : Bindings → List ℕ → Bool
-is_readable b text = is_ok (parsed 6 b text)
+abbrev pub is_readable : ℕ → Bindings → List ℕ → Bool
+is_readable d b text = is_ok (parsed d b text)
 
-abbrev pub is_bad_expression : Bindings → Tag → Shown → Bool
-is_bad_expression b t k = is_expression t k.0 && not (is_readable b k.1)
+abbrev pub is_bad_expression : ℕ → Bindings → Tag → Shown → Bool
+is_bad_expression d b t k = is_expression t k.0 && not (is_readable d b k.1)
 
 abbrev pub is_moving_by : Result Expr ParseFault → Bool
 is_moving_by (Ok expr) = is_some (static_fault expr)
 is_moving_by (Err fault) = false
 
 -- an expression that is not static
-abbrev pub is_moving : Bindings → List ℕ → Bool
-is_moving b text = is_moving_by (parsed 6 b text)
+abbrev pub is_moving : ℕ → Bindings → List ℕ → Bool
+is_moving d b text = is_moving_by (parsed d b text)
 
-abbrev pub is_moving_expression : Bindings → Tag → Shown → Bool
-is_moving_expression b t k = is_computed t k.0 && is_moving b k.1
+abbrev pub is_moving_expression : ℕ → Bindings → Tag → Shown → Bool
+is_moving_expression d b t k = is_computed t k.0 && is_moving d b k.1
 
 -- ---- texts
 

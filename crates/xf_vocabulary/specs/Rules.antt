@@ -71,6 +71,7 @@ choice_by_tag tag.Case code = when (code == at.SELECTED) choice.Truth
 choice_by_tag tag.Select code = when (code == at.SELECTION) choice.Selection
 choice_by_tag tag.SelectOne code = when (code == at.SELECTION) choice.Selection
 choice_by_tag tag.Repeat code = when (code == at.START_INDEX) choice.Count
+choice_by_tag tag.Model code = when (code == at.DECIMALS) choice.Decimals
 choice_by_tag tag.Insert code = when (code == at.POSITION) choice.Position
 choice_by_tag tag.Dispatch code = choice_of_dispatch code
 choice_by_tag tag.Submission code = choice_of_submission code

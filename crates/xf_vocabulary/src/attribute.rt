@@ -31,75 +31,77 @@ pub const CONTEXT: u16 = 8;
 
 pub const CONTROL: u16 = 9;
 
-pub const DEFAULT_ACTION: u16 = 74;
+pub const DECIMALS: u16 = 10;
 
-pub const DELAY: u16 = 11;
+pub const DEFAULT_ACTION: u16 = 75;
 
-pub const EVENT: u16 = 76;
+pub const DELAY: u16 = 12;
 
-pub const ID: u16 = 13;
+pub const EVENT: u16 = 77;
 
-pub const IF: u16 = 14;
+pub const ID: u16 = 14;
 
-pub const INDEX: u16 = 15;
+pub const IF: u16 = 15;
 
-pub const INSTANCE: u16 = 16;
+pub const INDEX: u16 = 16;
 
-pub const METHOD: u16 = 17;
+pub const INSTANCE: u16 = 17;
 
-pub const MODEL: u16 = 18;
+pub const METHOD: u16 = 18;
 
-pub const NAME: u16 = 19;
+pub const MODEL: u16 = 19;
 
-pub const NODESET: u16 = 20;
+pub const NAME: u16 = 20;
 
-pub const OBSERVER: u16 = 85;
+pub const NODESET: u16 = 21;
 
-pub const ORIGIN: u16 = 22;
+pub const OBSERVER: u16 = 86;
 
-pub const PHASE: u16 = 87;
+pub const ORIGIN: u16 = 23;
 
-pub const POSITION: u16 = 24;
+pub const PHASE: u16 = 88;
 
-pub const PROPAGATE: u16 = 89;
+pub const POSITION: u16 = 25;
 
-pub const READONLY: u16 = 26;
+pub const PROPAGATE: u16 = 90;
 
-pub const REF: u16 = 27;
+pub const READONLY: u16 = 27;
 
-pub const RELEVANT: u16 = 28;
+pub const REF: u16 = 28;
 
-pub const REPEAT: u16 = 29;
+pub const RELEVANT: u16 = 29;
 
-pub const REPLACE: u16 = 30;
+pub const REPEAT: u16 = 30;
 
-pub const REQUIRED: u16 = 31;
+pub const REPLACE: u16 = 31;
 
-pub const RESOURCE: u16 = 32;
+pub const REQUIRED: u16 = 32;
 
-pub const SELECTED: u16 = 33;
+pub const RESOURCE: u16 = 33;
 
-pub const SELECTION: u16 = 34;
+pub const SELECTED: u16 = 34;
 
-pub const SERIALIZATION: u16 = 35;
+pub const SELECTION: u16 = 35;
 
-pub const START_INDEX: u16 = 36;
+pub const SERIALIZATION: u16 = 36;
 
-pub const SUBMISSION: u16 = 37;
+pub const START_INDEX: u16 = 37;
 
-pub const TARGET: u16 = 38;
+pub const SUBMISSION: u16 = 38;
+
+pub const TARGET: u16 = 39;
 
 /// The `target` of XML Events.
-pub const EVENT_TARGET: u16 = 102;
+pub const EVENT_TARGET: u16 = 103;
 
-pub const TARGET_ID: u16 = 39;
+pub const TARGET_ID: u16 = 40;
 
-pub const TARGET_REF: u16 = 40;
+pub const TARGET_REF: u16 = 41;
 
-pub const TYPE: u16 = 41;
+pub const TYPE: u16 = 42;
 
-pub const VALIDATE: u16 = 42;
+pub const VALIDATE: u16 = 43;
 
-pub const VALUE: u16 = 43;
+pub const VALUE: u16 = 44;
 
-pub const WHILE: u16 = 44;
+pub const WHILE: u16 = 45;

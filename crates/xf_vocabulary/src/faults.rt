@@ -13,15 +13,21 @@ use crate::tag::Tag;
 use crate::texts::allows;
 use std::alloc::{AllocError, Global};
 use xf_name::{NameFault, Prefixes};
+use xf_num::Decimals;
 use xf_path::{ParseFault, parse, static_fault};
 use xf_types::{SimpleType, named};
 
 // ---- expressions
 
-fn is_readable(alloc: Global, prefixes: &Prefixes, text: &str) -> Result<bool, AllocError>
-    ensures { IfOk result (λ reads. reads ≡ faults.is_readable prefixes.now text.now) }
+fn is_readable(
+    alloc: Global,
+    prefixes: &Prefixes,
+    text: &str,
+    decimals: Decimals,
+) -> Result<bool, AllocError>
+    ensures { IfOk result (λ reads. reads ≡ faults.is_readable decimals prefixes.now text.now) }
 {
-    match parse(alloc, text, prefixes) {
+    match parse(alloc, text, prefixes, decimals) {
         Ok(_) => Ok(true),
         Err(ParseFault::Memory) => Err(AllocError),
         Err(ParseFault::Expr(_, _)) => Ok(false),
@@ -34,11 +40,12 @@ pub fn has_bad_expression(
     prefixes: &Prefixes,
     tag: Tag,
     known: &[Known<'_>],
+    decimals: Decimals,
 ) -> Result<bool, AllocError>
-    ensures { IfOk result (λ found. found ≡ list_any (faults.is_bad_expression prefixes.now tag) (map shown known.now)) }
+    ensures { IfOk result (λ found. found ≡ list_any (faults.is_bad_expression decimals prefixes.now tag) (map shown known.now)) }
 {
     for one in known {
-        if is_expression(tag, one.code) && !is_readable(alloc, prefixes, one.text)? {
+        if is_expression(tag, one.code) && !is_readable(alloc, prefixes, one.text, decimals)? {
             return Ok(true);
         }
     }
@@ -46,10 +53,15 @@ pub fn has_bad_expression(
 }
 
 /// Whether the text is an expression that is not static.
-fn is_moving(alloc: Global, prefixes: &Prefixes, text: &str) -> Result<bool, AllocError>
-    ensures { IfOk result (λ found. found ≡ faults.is_moving prefixes.now text.now) }
+fn is_moving(
+    alloc: Global,
+    prefixes: &Prefixes,
+    text: &str,
+    decimals: Decimals,
+) -> Result<bool, AllocError>
+    ensures { IfOk result (λ found. found ≡ faults.is_moving decimals prefixes.now text.now) }
 {
-    match parse(alloc, text, prefixes) {
+    match parse(alloc, text, prefixes, decimals) {
         Ok(expr) => Ok(static_fault(&expr).is_some()),
         Err(ParseFault::Memory) => Err(AllocError),
         Err(ParseFault::Expr(_, _)) => Ok(false),
@@ -62,11 +74,12 @@ pub fn has_moving_expression(
     prefixes: &Prefixes,
     tag: Tag,
     known: &[Known<'_>],
+    decimals: Decimals,
 ) -> Result<bool, AllocError>
-    ensures { IfOk result (λ found. found ≡ list_any (faults.is_moving_expression prefixes.now tag) (map shown known.now)) }
+    ensures { IfOk result (λ found. found ≡ list_any (faults.is_moving_expression decimals prefixes.now tag) (map shown known.now)) }
 {
     for one in known {
-        if is_computed(tag, one.code) && is_moving(alloc, prefixes, one.text)? {
+        if is_computed(tag, one.code) && is_moving(alloc, prefixes, one.text, decimals)? {
             return Ok(true);
         }
     }

@@ -110,6 +110,7 @@ pub fn choice_of(tag: Tag, is_handler: bool, code: u16) -> Option<Choice>
         Tag::Select => when(code == at::SELECTION, Choice::Selection),
         Tag::SelectOne => when(code == at::SELECTION, Choice::Selection),
         Tag::Repeat => when(code == at::START_INDEX, Choice::Count),
+        Tag::Model => when(code == at::DECIMALS, Choice::Decimals),
         Tag::Insert => when(code == at::POSITION, Choice::Position),
         Tag::Dispatch => choice_of_dispatch(code),
         Tag::Submission => choice_of_submission(code),

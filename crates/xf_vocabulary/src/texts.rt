@@ -4,6 +4,8 @@ ghost use Rattle.std.specs.Prelude.{◌≡◌};
 ghost use Rattle.std.specs.List.{list_all};
 ghost use Rattle.xf_vocabulary.specs.Texts as texts;
 
+use xf_num::Decimals;
+
 /// The texts of an attribute that may not have any.
 #[derive(Clone, Copy, Debug, PartialEq, Eq)]
 pub enum Choice {
@@ -27,6 +29,8 @@ pub enum Choice {
     Delay,
     /// One to nine digits.
     Count,
+    /// One digit.
+    Decimals,
 }
 
 /// Whether it is one of the texts.
@@ -44,6 +48,7 @@ pub fn allows(choice: Choice, text: &str) -> bool
         Choice::DefaultAction => text == "cancel" || text == "perform",
         Choice::Delay => text == "0",
         Choice::Count => is_count(text),
+        Choice::Decimals => decimals_in(text).is_some(),
     }
 }
 
@@ -52,6 +57,25 @@ pub fn is_count(text: &str) -> bool
     ensures { result ≡ texts.is_count text.now }
 {
     !text.is_empty() && text.len() <= 9 && are_digits(text.as_bytes())
+}
+
+/// How many decimals a text chooses, which is one digit.
+pub fn decimals_in(text: &str) -> Option<Decimals>
+    ensures { result ≡ texts.decimals_in text.now }
+{
+    match text.as_bytes() {
+        [byte] => decimals_of_byte(*byte),
+        _ => None,
+    }
+}
+
+fn decimals_of_byte(byte: u8) -> Option<Decimals>
+    ensures { result ≡ texts.decimals_of_byte byte }
+{
+    match byte.checked_sub(b'0') {
+        Some(count) => Decimals::new(count),
+        None => None,
+    }
 }
 
 fn are_digits(bytes: &[u8]) -> bool

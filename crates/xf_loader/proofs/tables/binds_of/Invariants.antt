@@ -8,4 +8,4 @@ use Rattle.xf_loader.proofs.tables.binds_of.Given as goal
 abbrev pub invariant-loop-place : goal.invariant-loop-place
 invariant-loop-place l =
     let all = map shown l.plan.rows.now in
-    l.all ++ each_from class.Bind (bind_of l.plan.prefixes.now all) l.place (map shown (drop l.place l.plan.rows.now)) ≡ each_from class.Bind (bind_of l.plan.prefixes.now all) 0 all
+    l.all ++ each_from class.Bind (bind_of l.plan.decimals l.plan.prefixes.now all) l.place (map shown (drop l.place l.plan.rows.now)) ≡ each_from class.Bind (bind_of l.plan.decimals l.plan.prefixes.now all) 0 all

@@ -7,5 +7,5 @@ use Rattle.xf_loader.proofs.tables.first_at.Goals as goal
 
 pub returns : goal.returns
 returns c =
-    let all = submissions_of c.args.plan.now.prefixes.now (map shown c.args.plan.now.rows.now) in
+    let all = submissions_of c.args.plan.now.decimals c.args.plan.now.prefixes.now (map shown c.args.plan.now.rows.now) in
     c.first_of.ensures all c.requires.firsts ∙ ap (first_from 0 all) (c.model_at.ensures ∙ ap (λ l. unwrap_or (slice_get l c.args.place) 0) c.requires.scopes)

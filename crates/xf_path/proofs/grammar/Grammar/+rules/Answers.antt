@@ -22,22 +22,22 @@ use Rattle.xf_path.proofs.grammar.Grammar.+rules.Goals as goal
 pub side-returns-then-rank-eq0 : goal.side-returns-then-rank-eq0
 side-returns-then-rank-eq0 t c =
     let none : c.args.rank ≡ 0 = omega arith in
-    Reads-same _ _ c.operand.result c.operand.new.tokens (side_zero 6 c.args.self.now.prefixes.now c.args.depth c.args.rank c.args.tokens.now none) c.operand.ensures
+    Reads-same _ _ c.operand.result c.operand.new.tokens (side_zero c.args.self.now.decimals c.args.self.now.prefixes.now c.args.depth c.args.rank c.args.tokens.now none) c.operand.ensures
 
 pub side-returns-in_err-tree : goal.side-returns-in_err-tree
 side-returns-in_err-tree t c =
     let some : 0 < c.args.rank = omega arith in
-    let e = side_climbs 6 c.args.self.now.prefixes.now c.args.depth c.args.rank c.args.tokens.now some in
+    let e = side_climbs c.args.self.now.decimals c.args.self.now.prefixes.now c.args.depth c.args.rank c.args.tokens.now some in
     first_of (search rules, grind (arith, common_steps))
 
 pub side-loop-next-init : goal.side-loop-next-init
 side-loop-next-init t c =
     let some : 0 < c.args.rank = omega arith in
-    let read : unary_by (signed 6 c.args.self.now.prefixes.now c.args.depth) c.args.tokens.now ≡ Ok (c.in_ok-tree.tree, c.unary.new.tokens) = search rules in
+    let read : unary_by (signed c.args.self.now.decimals c.args.self.now.prefixes.now c.args.depth) c.args.tokens.now ≡ Ok (c.in_ok-tree.tree, c.unary.new.tokens) = search rules in
     record {
       least = omega arith;
-      read = side_climbs 6 c.args.self.now.prefixes.now c.args.depth c.args.rank c.args.tokens.now some
-          ∙ ap (λ o. and_then o (climb (side 6 c.args.self.now.prefixes.now c.args.depth) 1 (c.args.rank - 1))) read;
+      read = side_climbs c.args.self.now.decimals c.args.self.now.prefixes.now c.args.depth c.args.rank c.args.tokens.now some
+          ∙ ap (λ o. and_then o (climb (side c.args.self.now.decimals c.args.self.now.prefixes.now c.args.depth) 1 (c.args.rank - 1))) read;
     }
 
 pub side-returns-in_err-found : goal.side-returns-in_err-found
@@ -45,16 +45,16 @@ side-returns-in_err-found t c =
     let next : option_map rank_of (operator_of (kind_of c.loop-next.tokens) (text_of c.loop-next.tokens)) ≡ Some c.in-Some.next = search rules in
     let above : c.loop-next.least ≤ c.in-Some.next = omega arith in
     let below : c.in-Some.next < c.args.rank = omega arith in
-    let on = c.loop-next.invariant.read ∙ climb_on (side 6 c.args.self.now.prefixes.now c.args.depth) c.loop-next.least c.args.rank c.in-Some.next c.loop-next.tree c.loop-next.tokens next above below in
+    let on = c.loop-next.invariant.read ∙ climb_on (side c.args.self.now.decimals c.args.self.now.prefixes.now c.args.depth) c.loop-next.least c.args.rank c.in-Some.next c.loop-next.tree c.loop-next.tokens next above below in
     first_of (search rules, grind (arith, common_steps))
 
 pub side-loop-next-preserved : goal.side-loop-next-preserved
 side-loop-next-preserved t c =
-    let rule = side 6 c.args.self.now.prefixes.now c.args.depth in
+    let rule = side c.args.self.now.decimals c.args.self.now.prefixes.now c.args.depth in
     let next : option_map rank_of (operator_of (kind_of c.loop-next.tokens) (text_of c.loop-next.tokens)) ≡ Some c.in-Some.next = search rules in
     let above : c.loop-next.least ≤ c.in-Some.next = omega arith in
     let below : c.in-Some.next < c.args.rank = omega arith in
-    let found : more_links (side 6 c.args.self.now.prefixes.now c.args.depth c.in-Some.next) c.in-Some.next 4096 [] c.loop-next.tokens ≡ Ok (c.in_ok-found.found, c.links.new.tokens) = search rules in
+    let found : more_links (side c.args.self.now.decimals c.args.self.now.prefixes.now c.args.depth c.in-Some.next) c.in-Some.next 4096 [] c.loop-next.tokens ≡ Ok (c.in_ok-found.found, c.links.new.tokens) = search rules in
     let tree : c.in_ok-tree-2.tree ≡ chain_of c.loop-next.tree c.in_ok-found.found = search rules in
     record {
       least = omega arith;
@@ -66,7 +66,7 @@ side-loop-next-preserved t c =
 
 pub side-returns : goal.side-returns
 side-returns t c =
-    let rule = side 6 c.args.self.now.prefixes.now c.args.depth in
+    let rule = side c.args.self.now.decimals c.args.self.now.prefixes.now c.args.depth in
     elim c.match-next_rank.branch [
       | side-in-Some+then-next-least w ↦
           (let next : option_map rank_of (operator_of (kind_of c.loop-next.tokens) (text_of c.loop-next.tokens)) ≡ Some w.in-Some.next = search rules in
@@ -88,92 +88,92 @@ unfolding unary_by
 unary-returns-in_default t c =
     let b = c.args.self.now.prefixes.now in
     let ts = c.args.tokens.now in
-    let plain : sign_by (behind_sign 6 c.args.self.now.prefixes.now c.args.depth) (chain (side 6 c.args.self.now.prefixes.now c.args.depth 0) 0) (kind_of c.args.tokens.now) c.args.tokens.now
-    ≡ and_then {A = Expr} {B = ℕ × Expr} (chain (side 6 c.args.self.now.prefixes.now c.args.depth 0) 0 c.args.tokens.now) (λ inner. pure (0, inner)) = search rules in
+    let plain : sign_by (behind_sign c.args.self.now.decimals c.args.self.now.prefixes.now c.args.depth) (chain (side c.args.self.now.decimals c.args.self.now.prefixes.now c.args.depth 0) 0) (kind_of c.args.tokens.now) c.args.tokens.now
+    ≡ and_then {A = Expr} {B = ℕ × Expr} (chain (side c.args.self.now.decimals c.args.self.now.prefixes.now c.args.depth 0) 0 c.args.tokens.now) (λ inner. pure (0, inner)) = search rules in
     Reads-same _ _ c.union.result c.union.new.tokens
-    (ap (λ o. and_then o (λ found. pure (negated (place_of ts) found.0 found.1))) (signed_is 6 b c.args.depth ts ∙ plain)
-    ∙ no_sign (place_of ts) (chain (side 6 b c.args.depth 0) 0 ts))
+    (ap (λ o. and_then o (λ found. pure (negated (place_of ts) found.0 found.1))) (signed_is c.args.self.now.decimals b c.args.depth ts ∙ plain)
+    ∙ no_sign (place_of ts) (chain (side c.args.self.now.decimals b c.args.depth 0) 0 ts))
     c.union.ensures
 
 pub union-returns-then-is_none : goal.union-returns-then-is_none
 union-returns-then-is_none t c =
-    let read : spec.operand 6 c.args.self.now.prefixes.now c.args.depth c.args.tokens.now ≡ Ok (c.in_ok-first.first, c.operand.new.tokens) = search rules in
+    let read : spec.operand c.args.self.now.decimals c.args.self.now.prefixes.now c.args.depth c.args.tokens.now ≡ Ok (c.in_ok-first.first, c.operand.new.tokens) = search rules in
     let none : operator_at 0 (kind_of c.operand.new.tokens) (text_of c.operand.new.tokens) ≡ None = first_of (search (rules, tests), grind (arith, common_steps)) in
-    chain_alone (side 6 c.args.self.now.prefixes.now c.args.depth 0) 0 c.args.tokens.now c.operand.new.tokens c.in_ok-first.first
-    (side_zero 6 c.args.self.now.prefixes.now c.args.depth 0 c.args.tokens.now refl ∙ read) none
+    chain_alone (side c.args.self.now.decimals c.args.self.now.prefixes.now c.args.depth 0) 0 c.args.tokens.now c.operand.new.tokens c.in_ok-first.first
+    (side_zero c.args.self.now.decimals c.args.self.now.prefixes.now c.args.depth 0 c.args.tokens.now refl ∙ read) none
 
 -- ---- brackets
 
 pub inside-returns-then-depth-eq0 : goal.inside-returns-then-depth-eq0
 inside-returns-then-depth-eq0 t c =
     let none : c.args.depth ≡ 0 = omega arith in
-    let e = inside_none 6 c.args.self.now.prefixes.now c.args.depth c.args.tokens.now none in
+    let e = inside_none c.args.self.now.decimals c.args.self.now.prefixes.now c.args.depth c.args.tokens.now none in
     first_of (search rules, grind (arith, common_steps))
 
 pub inside-returns : goal.inside-returns
 inside-returns t c =
     let some : 0 < c.args.depth = omega arith in
-    Reads-same _ _ c.side.result c.side.new.tokens (inside_some 6 c.args.self.now.prefixes.now c.args.depth c.args.tokens.now some) c.side.ensures
+    Reads-same _ _ c.side.result c.side.new.tokens (inside_some c.args.self.now.decimals c.args.self.now.prefixes.now c.args.depth c.args.tokens.now some) c.side.ensures
 
 -- ---- operands
 
 pub operand-returns-then-not-begins_primary : goal.operand-returns-then-not-begins_primary
 operand-returns-then-not-begins_primary t c =
     let no : begins_primary (kind_of c.args.tokens.now) (text_of c.args.tokens.now) ≡ false = search rules in
-    Reads-same _ _ c.path.result c.path.new.tokens (operand_path 6 c.args.self.now.prefixes.now c.args.depth c.args.tokens.now no) c.path.ensures
+    Reads-same _ _ c.path.result c.path.new.tokens (operand_path c.args.self.now.decimals c.args.self.now.prefixes.now c.args.depth c.args.tokens.now no) c.path.ensures
 
 pub operand-returns-in_err-first : goal.operand-returns-in_err-first
 operand-returns-in_err-first t c =
     let yes : begins_primary (kind_of c.args.tokens.now) (text_of c.args.tokens.now) ≡ true = search rules in
-    let e = operand_primary 6 c.args.self.now.prefixes.now c.args.depth c.args.tokens.now yes in
+    let e = operand_primary c.args.self.now.decimals c.args.self.now.prefixes.now c.args.depth c.args.tokens.now yes in
     first_of (search rules, grind (arith, common_steps))
 
 pub operand-returns : goal.operand-returns
 operand-returns t c =
     let yes : begins_primary (kind_of c.args.tokens.now) (text_of c.args.tokens.now) ≡ true = search rules in
-    let e = operand_primary 6 c.args.self.now.prefixes.now c.args.depth c.args.tokens.now yes in
-    let read : filtered 6 (nested 6 c.args.self.now.prefixes.now c.args.depth) (spec.called 6 c.args.self.now.prefixes.now c.args.depth) c.args.tokens.now ≡ Ok (c.in_ok-first.first, c.filtered.new.tokens) = search rules in
-    Reads-same _ _ c.onward.result c.onward.new.tokens (e ∙ ap (λ o. and_then o (onward c.args.self.now.prefixes.now (nested 6 c.args.self.now.prefixes.now c.args.depth))) read) c.onward.ensures
+    let e = operand_primary c.args.self.now.decimals c.args.self.now.prefixes.now c.args.depth c.args.tokens.now yes in
+    let read : filtered c.args.self.now.decimals (nested c.args.self.now.decimals c.args.self.now.prefixes.now c.args.depth) (spec.called c.args.self.now.decimals c.args.self.now.prefixes.now c.args.depth) c.args.tokens.now ≡ Ok (c.in_ok-first.first, c.filtered.new.tokens) = search rules in
+    Reads-same _ _ c.onward.result c.onward.new.tokens (e ∙ ap (λ o. and_then o (onward c.args.self.now.prefixes.now (nested c.args.self.now.decimals c.args.self.now.prefixes.now c.args.depth))) read) c.onward.ensures
 
 -- ---- calls
 
 pub call-returns-in-Some : goal.call-returns-in-Some
 call-returns-in-Some t c =
     let found : code_of (text_of c.args.tokens.now) function_entries ≡ Some c.in-Some.code = first_of (cc, search rules, grind (arith, common_steps)) in
-    Reads-same _ _ c.called.result c.called.new.tokens (call_some 6 c.args.self.now.prefixes.now c.args.depth c.in-Some.code c.args.tokens.now found) c.called.ensures
+    Reads-same _ _ c.called.result c.called.new.tokens (call_some c.args.self.now.decimals c.args.self.now.prefixes.now c.args.depth c.in-Some.code c.args.tokens.now found) c.called.ensures
 
 pub call-returns-in-None : goal.call-returns-in-None
 call-returns-in-None t c =
     let found : code_of (text_of c.args.tokens.now) function_entries ≡ None = first_of (cc, search rules, grind (arith, common_steps)) in
-    Reads-fault _ _ _ c.unknown.result c.args.tokens.now (call_none 6 c.args.self.now.prefixes.now c.args.depth c.args.tokens.now found) c.unknown.ensures
+    Reads-fault _ _ _ c.unknown.result c.args.tokens.now (call_none c.args.self.now.decimals c.args.self.now.prefixes.now c.args.depth c.args.tokens.now found) c.unknown.ensures
 
 -- ---- links
 
 pub links-returns-in_default : goal.links-returns-in_default
 links-returns-in_default t c =
-    let e = one_turn (λ n. more_links (side 6 c.args.self.now.prefixes.now c.args.depth c.args.rank) c.args.rank n c.loop-turn.found c.loop-turn.tokens) 4096 c.loop-turn._turn c.loop-turn-test.true c.loop-turn.invariant in
+    let e = one_turn (λ n. more_links (side c.args.self.now.decimals c.args.self.now.prefixes.now c.args.depth c.args.rank) c.args.rank n c.loop-turn.found c.loop-turn.tokens) 4096 c.loop-turn._turn c.loop-turn-test.true c.loop-turn.invariant in
     let none : operator_at c.args.rank (kind_of c.loop-turn.tokens) (text_of c.loop-turn.tokens) ≡ None = search rules in
-    let ends = e ∙ links_end (side 6 c.args.self.now.prefixes.now c.args.depth c.args.rank) c.args.rank (4096 - (c.loop-turn._turn + 1)) c.loop-turn.found c.loop-turn.tokens none in
+    let ends = e ∙ links_end (side c.args.self.now.decimals c.args.self.now.prefixes.now c.args.depth c.args.rank) c.args.rank (4096 - (c.loop-turn._turn + 1)) c.loop-turn.found c.loop-turn.tokens none in
     first_of (search rules, grind (arith, common_steps))
 
 pub links-returns-in_err-right : goal.links-returns-in_err-right
 links-returns-in_err-right t c =
-    let e = one_turn (λ n. more_links (side 6 c.args.self.now.prefixes.now c.args.depth c.args.rank) c.args.rank n c.loop-turn.found c.loop-turn.tokens) 4096 c.loop-turn._turn c.loop-turn-test.true c.loop-turn.invariant in
+    let e = one_turn (λ n. more_links (side c.args.self.now.decimals c.args.self.now.prefixes.now c.args.depth c.args.rank) c.args.rank n c.loop-turn.found c.loop-turn.tokens) 4096 c.loop-turn._turn c.loop-turn-test.true c.loop-turn.invariant in
     let some : operator_at c.args.rank (kind_of c.loop-turn.tokens) (text_of c.loop-turn.tokens) ≡ Some c.in-Some.operator = search rules in
-    let goes = e ∙ links_go_on (side 6 c.args.self.now.prefixes.now c.args.depth c.args.rank) c.args.rank (4096 - (c.loop-turn._turn + 1)) c.loop-turn.found c.loop-turn.tokens c.in-Some.operator some in
+    let goes = e ∙ links_go_on (side c.args.self.now.decimals c.args.self.now.prefixes.now c.args.depth c.args.rank) c.args.rank (4096 - (c.loop-turn._turn + 1)) c.loop-turn.found c.loop-turn.tokens c.in-Some.operator some in
     first_of (search rules, grind (arith, common_steps))
 
 pub links-loop-turn-preserved : goal.links-loop-turn-preserved
 links-loop-turn-preserved t c =
-    let e = one_turn (λ n. more_links (side 6 c.args.self.now.prefixes.now c.args.depth c.args.rank) c.args.rank n c.loop-turn.found c.loop-turn.tokens) 4096 c.loop-turn._turn c.loop-turn-test.true c.loop-turn.invariant in
+    let e = one_turn (λ n. more_links (side c.args.self.now.decimals c.args.self.now.prefixes.now c.args.depth c.args.rank) c.args.rank n c.loop-turn.found c.loop-turn.tokens) 4096 c.loop-turn._turn c.loop-turn-test.true c.loop-turn.invariant in
     let some : operator_at c.args.rank (kind_of c.loop-turn.tokens) (text_of c.loop-turn.tokens) ≡ Some c.in-Some.operator = search rules in
-    let goes = e ∙ links_go_on (side 6 c.args.self.now.prefixes.now c.args.depth c.args.rank) c.args.rank (4096 - (c.loop-turn._turn + 1)) c.loop-turn.found c.loop-turn.tokens c.in-Some.operator some in
+    let goes = e ∙ links_go_on (side c.args.self.now.decimals c.args.self.now.prefixes.now c.args.depth c.args.rank) c.args.rank (4096 - (c.loop-turn._turn + 1)) c.loop-turn.found c.loop-turn.tokens c.in-Some.operator some in
     first_of (search rules, grind (arith, common_steps))
 
 pub links-returns : goal.links-returns
 unfolding more_links
 links-returns t c =
-    let e = no_turn (λ n. more_links (side 6 c.args.self.now.prefixes.now c.args.depth c.args.rank) c.args.rank n c.loop-turn.found c.loop-turn.tokens) 4096 c.loop-turn._turn c.loop-turn-test.false c.loop-turn.invariant in
+    let e = no_turn (λ n. more_links (side c.args.self.now.decimals c.args.self.now.prefixes.now c.args.depth c.args.rank) c.args.rank n c.loop-turn.found c.loop-turn.tokens) 4096 c.loop-turn._turn c.loop-turn-test.false c.loop-turn.invariant in
     first_of (search rules, grind (arith, common_steps))
 
 -- ---- predicates
@@ -181,34 +181,34 @@ links-returns t c =
 pub predicates-returns-then-not-opens_predicate : goal.predicates-returns-then-not-opens_predicate
 predicates-returns-then-not-opens_predicate t c =
     let test : opens_predicate (kind_of c.args.tokens.now) ≡ false = search rules in
-    let ends = predicates_end (nested 6 c.args.self.now.prefixes.now c.args.depth) 4095 [] c.args.tokens.now test in
+    let ends = predicates_end (nested c.args.self.now.decimals c.args.self.now.prefixes.now c.args.depth) 4095 [] c.args.tokens.now test in
     first_of (search rules, grind (arith, common_steps))
 
 pub some_predicates-returns-then-not-opens_predicate : goal.some_predicates-returns-then-not-opens_predicate
 some_predicates-returns-then-not-opens_predicate t c =
-    let e = one_turn (λ n. more_predicates (nested 6 c.args.self.now.prefixes.now c.args.depth) n c.loop-turn.found c.loop-turn.tokens) 4096 c.loop-turn._turn c.loop-turn-test.true c.loop-turn.invariant in
+    let e = one_turn (λ n. more_predicates (nested c.args.self.now.decimals c.args.self.now.prefixes.now c.args.depth) n c.loop-turn.found c.loop-turn.tokens) 4096 c.loop-turn._turn c.loop-turn-test.true c.loop-turn.invariant in
     let test : opens_predicate (kind_of c.loop-turn.tokens) ≡ false = search rules in
-    let goes = e ∙ predicates_end (nested 6 c.args.self.now.prefixes.now c.args.depth) (4096 - (c.loop-turn._turn + 1)) c.loop-turn.found c.loop-turn.tokens test in
+    let goes = e ∙ predicates_end (nested c.args.self.now.decimals c.args.self.now.prefixes.now c.args.depth) (4096 - (c.loop-turn._turn + 1)) c.loop-turn.found c.loop-turn.tokens test in
     first_of (search rules, grind (arith, common_steps))
 
 pub some_predicates-returns-in_err-next : goal.some_predicates-returns-in_err-next
 some_predicates-returns-in_err-next t c =
-    let e = one_turn (λ n. more_predicates (nested 6 c.args.self.now.prefixes.now c.args.depth) n c.loop-turn.found c.loop-turn.tokens) 4096 c.loop-turn._turn c.loop-turn-test.true c.loop-turn.invariant in
+    let e = one_turn (λ n. more_predicates (nested c.args.self.now.decimals c.args.self.now.prefixes.now c.args.depth) n c.loop-turn.found c.loop-turn.tokens) 4096 c.loop-turn._turn c.loop-turn-test.true c.loop-turn.invariant in
     let test : opens_predicate (kind_of c.loop-turn.tokens) ≡ true = search rules in
-    let goes = e ∙ predicates_go_on (nested 6 c.args.self.now.prefixes.now c.args.depth) (4096 - (c.loop-turn._turn + 1)) c.loop-turn.found c.loop-turn.tokens test in
+    let goes = e ∙ predicates_go_on (nested c.args.self.now.decimals c.args.self.now.prefixes.now c.args.depth) (4096 - (c.loop-turn._turn + 1)) c.loop-turn.found c.loop-turn.tokens test in
     first_of (search rules, grind (arith, common_steps))
 
 pub some_predicates-loop-turn-preserved : goal.some_predicates-loop-turn-preserved
 some_predicates-loop-turn-preserved t c =
-    let e = one_turn (λ n. more_predicates (nested 6 c.args.self.now.prefixes.now c.args.depth) n c.loop-turn.found c.loop-turn.tokens) 4096 c.loop-turn._turn c.loop-turn-test.true c.loop-turn.invariant in
+    let e = one_turn (λ n. more_predicates (nested c.args.self.now.decimals c.args.self.now.prefixes.now c.args.depth) n c.loop-turn.found c.loop-turn.tokens) 4096 c.loop-turn._turn c.loop-turn-test.true c.loop-turn.invariant in
     let test : opens_predicate (kind_of c.loop-turn.tokens) ≡ true = search rules in
-    let goes = e ∙ predicates_go_on (nested 6 c.args.self.now.prefixes.now c.args.depth) (4096 - (c.loop-turn._turn + 1)) c.loop-turn.found c.loop-turn.tokens test in
+    let goes = e ∙ predicates_go_on (nested c.args.self.now.decimals c.args.self.now.prefixes.now c.args.depth) (4096 - (c.loop-turn._turn + 1)) c.loop-turn.found c.loop-turn.tokens test in
     first_of (search rules, grind (arith, common_steps))
 
 pub some_predicates-returns : goal.some_predicates-returns
 unfolding more_predicates
 some_predicates-returns t c =
-    let e = no_turn (λ n. more_predicates (nested 6 c.args.self.now.prefixes.now c.args.depth) n c.loop-turn.found c.loop-turn.tokens) 4096 c.loop-turn._turn c.loop-turn-test.false c.loop-turn.invariant in
+    let e = no_turn (λ n. more_predicates (nested c.args.self.now.decimals c.args.self.now.prefixes.now c.args.depth) n c.loop-turn.found c.loop-turn.tokens) 4096 c.loop-turn._turn c.loop-turn-test.false c.loop-turn.invariant in
     first_of (search rules, grind (arith, common_steps))
 
 -- ---- steps
@@ -216,54 +216,54 @@ some_predicates-returns t c =
 pub steps-returns-in_default : goal.steps-returns-in_default
 unfolding more_steps
 steps-returns-in_default t c =
-    let e = one_turn (λ n. more_steps c.args.self.now.prefixes.now (nested 6 c.args.self.now.prefixes.now c.args.depth) n c.loop-turn.found c.loop-turn.tokens) 4096 c.loop-turn._turn c.loop-turn-test.true c.loop-turn.invariant in
+    let e = one_turn (λ n. more_steps c.args.self.now.prefixes.now (nested c.args.self.now.decimals c.args.self.now.prefixes.now c.args.depth) n c.loop-turn.found c.loop-turn.tokens) 4096 c.loop-turn._turn c.loop-turn-test.true c.loop-turn.invariant in
     first_of (search rules, grind (arith, common_steps))
 
 pub steps-returns-in_err-next : goal.steps-returns-in_err-next
 unfolding more_steps
 steps-returns-in_err-next t c =
-    let e = one_turn (λ n. more_steps c.args.self.now.prefixes.now (nested 6 c.args.self.now.prefixes.now c.args.depth) n c.loop-turn.found c.loop-turn.tokens) 4096 c.loop-turn._turn c.loop-turn-test.true c.loop-turn.invariant in
+    let e = one_turn (λ n. more_steps c.args.self.now.prefixes.now (nested c.args.self.now.decimals c.args.self.now.prefixes.now c.args.depth) n c.loop-turn.found c.loop-turn.tokens) 4096 c.loop-turn._turn c.loop-turn-test.true c.loop-turn.invariant in
     first_of (search rules, grind (arith, common_steps))
 
 pub steps-loop-turn-preserved : goal.steps-loop-turn-preserved
 unfolding more_steps
 steps-loop-turn-preserved t c =
-    let e = one_turn (λ n. more_steps c.args.self.now.prefixes.now (nested 6 c.args.self.now.prefixes.now c.args.depth) n c.loop-turn.found c.loop-turn.tokens) 4096 c.loop-turn._turn c.loop-turn-test.true c.loop-turn.invariant in
+    let e = one_turn (λ n. more_steps c.args.self.now.prefixes.now (nested c.args.self.now.decimals c.args.self.now.prefixes.now c.args.depth) n c.loop-turn.found c.loop-turn.tokens) 4096 c.loop-turn._turn c.loop-turn-test.true c.loop-turn.invariant in
     first_of (search rules, grind (arith, common_steps))
 
 pub steps-returns : goal.steps-returns
 unfolding more_steps
 steps-returns t c =
-    let e = no_turn (λ n. more_steps c.args.self.now.prefixes.now (nested 6 c.args.self.now.prefixes.now c.args.depth) n c.loop-turn.found c.loop-turn.tokens) 4096 c.loop-turn._turn c.loop-turn-test.false c.loop-turn.invariant in
+    let e = no_turn (λ n. more_steps c.args.self.now.prefixes.now (nested c.args.self.now.decimals c.args.self.now.prefixes.now c.args.depth) n c.loop-turn.found c.loop-turn.tokens) 4096 c.loop-turn._turn c.loop-turn-test.false c.loop-turn.invariant in
     first_of (search rules, grind (arith, common_steps))
 
 -- ---- more_arguments
 
 pub more_arguments-returns-then-not-is_comma : goal.more_arguments-returns-then-not-is_comma
 more_arguments-returns-then-not-is_comma t c =
-    let e = one_turn (λ n. more_arguments (inside 6 c.args.self.now.prefixes.now c.args.depth) n c.loop-turn.found c.loop-turn.tokens) 4096 c.loop-turn._turn c.loop-turn-test.true c.loop-turn.invariant in
+    let e = one_turn (λ n. more_arguments (inside c.args.self.now.decimals c.args.self.now.prefixes.now c.args.depth) n c.loop-turn.found c.loop-turn.tokens) 4096 c.loop-turn._turn c.loop-turn-test.true c.loop-turn.invariant in
     let test : is_comma (kind_of c.loop-turn.tokens) ≡ false = search rules in
-    let goes = e ∙ arguments_end (inside 6 c.args.self.now.prefixes.now c.args.depth) (4096 - (c.loop-turn._turn + 1)) c.loop-turn.found c.loop-turn.tokens test in
+    let goes = e ∙ arguments_end (inside c.args.self.now.decimals c.args.self.now.prefixes.now c.args.depth) (4096 - (c.loop-turn._turn + 1)) c.loop-turn.found c.loop-turn.tokens test in
     first_of (search rules, grind (arith, common_steps))
 
 pub more_arguments-returns-in_err-next : goal.more_arguments-returns-in_err-next
 more_arguments-returns-in_err-next t c =
-    let e = one_turn (λ n. more_arguments (inside 6 c.args.self.now.prefixes.now c.args.depth) n c.loop-turn.found c.loop-turn.tokens) 4096 c.loop-turn._turn c.loop-turn-test.true c.loop-turn.invariant in
+    let e = one_turn (λ n. more_arguments (inside c.args.self.now.decimals c.args.self.now.prefixes.now c.args.depth) n c.loop-turn.found c.loop-turn.tokens) 4096 c.loop-turn._turn c.loop-turn-test.true c.loop-turn.invariant in
     let test : is_comma (kind_of c.loop-turn.tokens) ≡ true = search rules in
-    let goes = e ∙ arguments_go_on (inside 6 c.args.self.now.prefixes.now c.args.depth) (4096 - (c.loop-turn._turn + 1)) c.loop-turn.found c.loop-turn.tokens test in
+    let goes = e ∙ arguments_go_on (inside c.args.self.now.decimals c.args.self.now.prefixes.now c.args.depth) (4096 - (c.loop-turn._turn + 1)) c.loop-turn.found c.loop-turn.tokens test in
     first_of (search rules, grind (arith, common_steps))
 
 pub more_arguments-loop-turn-preserved : goal.more_arguments-loop-turn-preserved
 more_arguments-loop-turn-preserved t c =
-    let e = one_turn (λ n. more_arguments (inside 6 c.args.self.now.prefixes.now c.args.depth) n c.loop-turn.found c.loop-turn.tokens) 4096 c.loop-turn._turn c.loop-turn-test.true c.loop-turn.invariant in
+    let e = one_turn (λ n. more_arguments (inside c.args.self.now.decimals c.args.self.now.prefixes.now c.args.depth) n c.loop-turn.found c.loop-turn.tokens) 4096 c.loop-turn._turn c.loop-turn-test.true c.loop-turn.invariant in
     let test : is_comma (kind_of c.loop-turn.tokens) ≡ true = search rules in
-    let goes = e ∙ arguments_go_on (inside 6 c.args.self.now.prefixes.now c.args.depth) (4096 - (c.loop-turn._turn + 1)) c.loop-turn.found c.loop-turn.tokens test in
+    let goes = e ∙ arguments_go_on (inside c.args.self.now.decimals c.args.self.now.prefixes.now c.args.depth) (4096 - (c.loop-turn._turn + 1)) c.loop-turn.found c.loop-turn.tokens test in
     first_of (search rules, grind (arith, common_steps))
 
 pub more_arguments-returns : goal.more_arguments-returns
 unfolding more_arguments
 more_arguments-returns t c =
-    let e = no_turn (λ n. more_arguments (inside 6 c.args.self.now.prefixes.now c.args.depth) n c.loop-turn.found c.loop-turn.tokens) 4096 c.loop-turn._turn c.loop-turn-test.false c.loop-turn.invariant in
+    let e = no_turn (λ n. more_arguments (inside c.args.self.now.decimals c.args.self.now.prefixes.now c.args.depth) n c.loop-turn.found c.loop-turn.tokens) 4096 c.loop-turn._turn c.loop-turn-test.false c.loop-turn.invariant in
     first_of (search rules, grind (arith, common_steps))
 
 -- ---- signs
@@ -271,30 +271,30 @@ more_arguments-returns t c =
 pub signed-returns-then-depth-eq0-clause-reads : goal.signed-returns-then-depth-eq0-clause-reads
 signed-returns-then-depth-eq0-clause-reads t c =
     let none : c.args.depth ≡ 0 = omega arith in
-    let e = signed_is 6 c.args.self.now.prefixes.now c.args.depth c.args.tokens.now in
-    let f = ap (λ n. behind_sign 6 c.args.self.now.prefixes.now n) none in
+    let e = signed_is c.args.self.now.decimals c.args.self.now.prefixes.now c.args.depth c.args.tokens.now in
+    let f = ap (λ n. behind_sign c.args.self.now.decimals c.args.self.now.prefixes.now n) none in
     first_of (search rules, grind (arith, common_steps))
 
 pub signed-returns-in_err-signs-in-Minus-clause-reads : goal.signed-returns-in_err-signs-in-Minus-clause-reads
 signed-returns-in_err-signs-in-Minus-clause-reads t c =
     let some : 0 < c.args.depth = omega arith in
-    let e = signed_is 6 c.args.self.now.prefixes.now c.args.depth c.args.tokens.now in
-    let f = deeper (λ n. behind_sign 6 c.args.self.now.prefixes.now n) c.args.depth some in
+    let e = signed_is c.args.self.now.decimals c.args.self.now.prefixes.now c.args.depth c.args.tokens.now in
+    let f = deeper (λ n. behind_sign c.args.self.now.decimals c.args.self.now.prefixes.now n) c.args.depth some in
     first_of (search rules, grind (arith, common_steps))
 
 pub signed-returns-in_ok-signs-in-Minus-clause-reads : goal.signed-returns-in_ok-signs-in-Minus-clause-reads
 signed-returns-in_ok-signs-in-Minus-clause-reads t c =
     let some : 0 < c.args.depth = omega arith in
-    let e = signed_is 6 c.args.self.now.prefixes.now c.args.depth c.args.tokens.now in
-    let f = deeper (λ n. behind_sign 6 c.args.self.now.prefixes.now n) c.args.depth some in
+    let e = signed_is c.args.self.now.decimals c.args.self.now.prefixes.now c.args.depth c.args.tokens.now in
+    let f = deeper (λ n. behind_sign c.args.self.now.decimals c.args.self.now.prefixes.now n) c.args.depth some in
     first_of (search rules, grind (arith, common_steps))
 
 pub signed-returns-in_err-inner-in_default : goal.signed-returns-in_err-inner-in_default
 signed-returns-in_err-inner-in_default t c =
-    let e = signed_is 6 c.args.self.now.prefixes.now c.args.depth c.args.tokens.now in
+    let e = signed_is c.args.self.now.decimals c.args.self.now.prefixes.now c.args.depth c.args.tokens.now in
     first_of (search rules, grind (arith, common_steps))
 
 pub signed-returns-in_ok-inner-in_default : goal.signed-returns-in_ok-inner-in_default
 signed-returns-in_ok-inner-in_default t c =
-    let e = signed_is 6 c.args.self.now.prefixes.now c.args.depth c.args.tokens.now in
+    let e = signed_is c.args.self.now.decimals c.args.self.now.prefixes.now c.args.depth c.args.tokens.now in
     first_of (search rules, grind (arith, common_steps))

@@ -84,7 +84,7 @@ decreases-unary l = 128 * l.depth + 20
 abbrev pub invariant-side-loop-next : goal.invariant-side-loop-next
 invariant-side-loop-next l = record {
   least : l.least ≤ l.rank;
-  read : side 6 l.self.prefixes.now l.depth l.rank l.fn.tokens ≡ climb (side 6 l.self.prefixes.now l.depth) l.least (l.rank - l.least) l.tree l.tokens;
+  read : side l.self.decimals l.self.prefixes.now l.depth l.rank l.fn.tokens ≡ climb (side l.self.decimals l.self.prefixes.now l.depth) l.least (l.rank - l.least) l.tree l.tokens;
 }
 
 abbrev pub decreases-side-loop-next : goal.decreases-side-loop-next
@@ -92,20 +92,20 @@ decreases-side-loop-next l = l.rank - l.least
 
 abbrev pub invariant-links-loop-turn : goal.invariant-links-loop-turn
 invariant-links-loop-turn l =
-    more_links (side 6 l.self.prefixes.now l.depth l.rank) l.rank 4096 [] l.fn.tokens
-    ≡ more_links (side 6 l.self.prefixes.now l.depth l.rank) l.rank (4096 - l._turn) l.found l.tokens
+    more_links (side l.self.decimals l.self.prefixes.now l.depth l.rank) l.rank 4096 [] l.fn.tokens
+    ≡ more_links (side l.self.decimals l.self.prefixes.now l.depth l.rank) l.rank (4096 - l._turn) l.found l.tokens
 
 abbrev pub invariant-some_predicates-loop-turn : goal.invariant-some_predicates-loop-turn
 invariant-some_predicates-loop-turn l =
-    more_predicates (nested 6 l.self.prefixes.now l.depth) 4096 [] l.fn.tokens
-    ≡ more_predicates (nested 6 l.self.prefixes.now l.depth) (4096 - l._turn) l.found l.tokens
+    more_predicates (nested l.self.decimals l.self.prefixes.now l.depth) 4096 [] l.fn.tokens
+    ≡ more_predicates (nested l.self.decimals l.self.prefixes.now l.depth) (4096 - l._turn) l.found l.tokens
 
 abbrev pub invariant-more_arguments-loop-turn : goal.invariant-more_arguments-loop-turn
 invariant-more_arguments-loop-turn l =
-    more_arguments (inside 6 l.self.prefixes.now l.depth) 4096 l.fn.found l.fn.tokens
-    ≡ more_arguments (inside 6 l.self.prefixes.now l.depth) (4096 - l._turn) l.found l.tokens
+    more_arguments (inside l.self.decimals l.self.prefixes.now l.depth) 4096 l.fn.found l.fn.tokens
+    ≡ more_arguments (inside l.self.decimals l.self.prefixes.now l.depth) (4096 - l._turn) l.found l.tokens
 
 abbrev pub invariant-steps-loop-turn : goal.invariant-steps-loop-turn
 invariant-steps-loop-turn l =
-    steps l.self.prefixes.now (nested 6 l.self.prefixes.now l.depth) l.fn.is_below l.fn.tokens
-    ≡ more_steps l.self.prefixes.now (nested 6 l.self.prefixes.now l.depth) (4096 - l._turn) l.found l.tokens
+    steps l.self.prefixes.now (nested l.self.decimals l.self.prefixes.now l.depth) l.fn.is_below l.fn.tokens
+    ≡ more_steps l.self.prefixes.now (nested l.self.decimals l.self.prefixes.now l.depth) (4096 - l._turn) l.found l.tokens
