@@ -1,17 +1,35 @@
-"""Numbers as Python's decimal has them: NaN (None), or a size below 10^12 with six decimals, cut toward zero."""
+"""Numbers as Python's decimal has them: NaN (None), or less than 10^18 units of the last decimal in size, cut toward zero.
 
+There are six decimals, and as many as it says in a block `with having(count)`.
+"""
+
+import contextlib
 import re
 from decimal import ROUND_DOWN, Context, Decimal
 
 EXACT = Context(prec=80, rounding=ROUND_DOWN)
 SPACE = " \t\r\n"
 NUMBER = re.compile(r"-?([0-9]+(\.[0-9]*)?|\.[0-9]+)\Z")
+places = 6
+
+
+@contextlib.contextmanager
+def having(count):
+    global places
+    before, places = places, count
+    yield
+    places = before
+
+
+def of_units(units):
+    """So many units of the last decimal, exactly."""
+    return Decimal(units).scaleb(-places, EXACT)
 
 
 def held(value):
     """The number that stands for an exact value."""
-    cut = value.quantize(Decimal("0.000001"), context=EXACT)
-    return None if abs(value) >= 10**12 else cut
+    cut = value.quantize(of_units(1), context=EXACT)
+    return None if abs(cut) >= of_units(10**18) else cut
 
 
 def read(text):

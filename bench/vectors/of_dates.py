@@ -32,9 +32,9 @@ def zone_seconds(zone):
 
 
 def clock_seconds(hour, minute, second, part):
-    """The seconds of a clock, with the digits after the point cut to six, and None where there is no such time."""
+    """The seconds of a clock, with as many digits after the point as numbers have, and None where there is no such time."""
     hour, minute, second = int(hour), int(minute), int(second)
-    part = Decimal("0" + (part or "")[:7]) if part else Decimal(0)
+    part = Decimal("0" + part[:1 + d.places]) if part else Decimal(0)
     if hour == 24 and minute == 0 and second == 0:
         return None
     return None if hour > 23 or minute > 59 or second > 59 else hour * 3600 + minute * 60 + second + part
@@ -115,11 +115,11 @@ def duration(text):
     sign, years, months, days, hours, minutes, seconds = found
     whole, _, after = (seconds or "0").partition(".")
     exact = int(days or 0) * 86400 + int(hours or 0) * 3600 + int(minutes or 0) * 60 + int(whole)
-    micros = exact * 10**6 + int((after + "000000")[:6])
+    units = exact * 10**d.places + int((after.ljust(d.places, "0"))[:d.places] or "0")
     count = int(years or 0) * 12 + int(months or 0)
     spelled = []
-    for units in (sign * count * 10**6, sign * micros):
-        spelled.append("NaN" if abs(units) >= 10**18 else d.shown(Decimal(units).scaleb(-6, d.EXACT)))
+    for size in (count * 10**d.places, units):
+        spelled.append("NaN" if size >= 10**18 else d.shown(d.of_units(sign * size)))
     return " ".join(spelled)
 
 
@@ -190,3 +190,23 @@ def cases():
     for _ in range(400):
         text = duration_text(draw)
         yield ["duration", text, duration(text)]
+    draw = random.Random(22)
+    for places in range(10):
+        with d.having(places):
+            made = list(scaled(draw))
+        yield from made
+
+
+def scaled(draw):
+    """Some cases of each call that has numbers, which have as many decimals as they have now."""
+    places = str(d.places)
+    for _ in range(12):
+        text = moment_text(draw)
+        yield ["seconds_of", places, text, seconds_of(text)]
+        text = duration_text(draw)
+        yield ["duration", places, text, duration(text)]
+        day = draw.randint(-800000, 3000000)
+        text = str(day) + draw.choice(["", ".4", ".5", ".499999999"])
+        yield ["date_of", places, text, date_of(text)]
+        text = str(day * 86400 + draw.randint(0, 86399)) + draw.choice(["", ".4", ".5", ".499999999"])
+        yield ["moment_of", places, text, moment_of(text)]

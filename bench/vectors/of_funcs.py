@@ -109,3 +109,18 @@ def cases():
             if name == "power" and draw.random() < 0.6:
                 values[1] = d.Decimal(draw.randint(0, 66))
             yield [name.strip(), *map(spelled, values), spelled(function(*values))]
+    draw = random.Random(24)
+    for places in range(10):
+        with d.having(places):
+            made = list(scaled(draw))
+        yield from made
+
+
+def scaled(draw):
+    """Some cases of each call, over numbers of as many decimals as they have now."""
+    for name, (kinds, function) in CALLS.items():
+        for _ in range(4):
+            values = [value_at(draw, kind) for kind in kinds]
+            if name == "power":
+                values[1] = d.Decimal(draw.randint(0, 20))
+            yield [name.strip(), str(d.places), *map(spelled, values), spelled(function(*values))]

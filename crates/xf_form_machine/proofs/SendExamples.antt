@@ -144,6 +144,18 @@ third_call name =
 refused_before_it_is_made : third_call (codes "o") ≡ Some None
 refused_before_it_is_made = refl
 
+-- the second call gets the second answer, be the first one that of no put
+abbrev second_call : List Answer → Option (Option (List ℕ))
+second_call answers =
+    let sub = sending Put replace.Nothing (codes "o") in
+    seen (λ s. ended_by (attempt profile answers (λ e t. Ok t) sub (record s { calls = a_call ∷ [] }))) (start profile (submitting sub [] one) [])
+
+by_its_place : second_call (answer.Absent ∷ answer.PutDone ∷ []) ≡ Some (Some (codes "done"))
+by_its_place = refl
+
+none_at_its_place : second_call (answer.PutDone ∷ []) ≡ Some (Some (codes "resource-error"))
+none_at_its_place = refl
+
 -- but a name that is none is found first
 the_name_first : third_call (codes ".o") ≡ Some (Some (codes "resource-error"))
 the_name_first = refl

@@ -240,7 +240,7 @@ looked look (Err refusal) = None
 looked look (Ok s) = Some (look s)
 
 abbrev used : {X : Type 0} → (State → X) → Option (Option X)
-used look = seen (λ s. looked look (changed_by profile (Set (codes "q") [] (codes "2")) (fresh profile [] s))) (start profile worked [])
+used look = seen (λ s. looked look (changed_by profile [] (Set (codes "q") [] (codes "2")) (fresh profile s))) (start profile worked [])
 
 -- two rounds, and two events that are told, spend a turn each
 four_turns : used (λ s. s.turns) ≡ Some (Some (profile.turns - 4))

@@ -3,6 +3,7 @@
 use crate::{dates, functions, graphs, json, names, numbers, tables, trees, types};
 use std::alloc::{AllocError, Global};
 use xf_name::Word;
+use xf_num::Decimals;
 
 /// The text of an answer, or none where no such call takes so many arguments.
 pub type Answer = Result<Option<String>, AllocError>;
@@ -21,6 +22,30 @@ pub fn answer(alloc: Global, name: &str, call: &str, given: &[Word]) -> Answer {
         "xf_line" => json::line_answer(alloc, call, given),
         "xf_graph" => graphs::answer(alloc, call, given),
         _ => Ok(None),
+    }
+}
+
+/// So many decimals as a text says, none where it says no number from 0 to 9.
+pub fn decimals_of(text: &str) -> Option<Decimals> {
+    match text.parse::<u8>() {
+        Ok(count) => Decimals::new(count),
+        Err(_) => None,
+    }
+}
+
+/// How many decimals the numbers of a call of so many arguments have: as the first text says where one more stands, and otherwise six.
+pub fn decimals_before(given: &[Word], count: usize) -> Option<Decimals> {
+    match given {
+        [first, ..] if given.len() > count => decimals_of(first.as_str()),
+        _ => Some(Decimals::usual()),
+    }
+}
+
+/// The arguments of a call of so many, without the number of decimals before them.
+pub fn arguments(given: &[Word], count: usize) -> &[Word] {
+    match given {
+        [_, rest @ ..] if given.len() > count => rest,
+        _ => given,
     }
 }
 

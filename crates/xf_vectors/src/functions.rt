@@ -1,10 +1,11 @@
-//! The calls of xf_funcs, which are the names of functions. `#` stands before a number, `?` before a truth, `'` before a text.
+//! The calls of xf_funcs, which are the names of functions. `#` stands before a number, `?` before a truth, `'` before a text;
+//! what begins with none of these and stands before all is how many decimals numbers have.
 
-use crate::calls::Answer;
+use crate::calls::{Answer, decimals_of};
 use std::alloc::{AllocError, Global};
 use xf_funcs::{FuncFault, Plain, call, is_served};
 use xf_name::Word;
-use xf_num::Num;
+use xf_num::{Decimals, Num};
 use xf_table::find;
 use xf_table::functions::rows;
 
@@ -16,18 +17,33 @@ pub fn answer(alloc: Global, name: &str, given: &[Word]) -> Answer {
 }
 
 fn answer_of(alloc: Global, code: u16, given: &[Word]) -> Answer {
+    let [first, rest @ ..] = given else {
+        return Ok(None);
+    };
+    match decimals_of(first.as_str()) {
+        Some(decimals) => answer_with(alloc, code, rest, decimals),
+        None => answer_with(alloc, code, given, Decimals::usual()),
+    }
+}
+
+fn answer_with(alloc: Global, code: u16, given: &[Word], decimals: Decimals) -> Answer {
     let mut values = Vec::new(alloc);
-    if push_values(alloc, &mut values, given)? {
-        called(alloc, code, &values)
+    if push_values(alloc, &mut values, given, decimals)? {
+        called(alloc, code, &values, decimals)
     } else {
         Ok(None)
     }
 }
 
 /// Appends the values that texts spell, and answers whether each spells one.
-fn push_values(alloc: Global, values: &mut Vec<Plain>, given: &[Word]) -> Result<bool, AllocError> {
+fn push_values(
+    alloc: Global,
+    values: &mut Vec<Plain>,
+    given: &[Word],
+    decimals: Decimals,
+) -> Result<bool, AllocError> {
     for text in given {
-        match value_of(alloc, text.as_str())? {
+        match value_of(alloc, text.as_str(), decimals)? {
             Some(value) => values.push(value)?,
             None => return Ok(false),
         }
@@ -35,20 +51,20 @@ fn push_values(alloc: Global, values: &mut Vec<Plain>, given: &[Word]) -> Result
     Ok(true)
 }
 
-fn called(alloc: Global, code: u16, values: &[Plain]) -> Answer {
+fn called(alloc: Global, code: u16, values: &[Plain], decimals: Decimals) -> Answer {
     if !is_served(code, values.len()) {
         return Ok(None);
     }
-    match call(alloc, code, values) {
-        Ok(value) => spelled(alloc, &value),
+    match call(alloc, code, values, decimals) {
+        Ok(value) => spelled(alloc, &value, decimals),
         Err(FuncFault::Long) => Ok(Some(String::from_str(alloc, "Long")?)),
         Err(FuncFault::Memory) => Err(AllocError),
     }
 }
 
-fn value_of(alloc: Global, text: &str) -> Result<Option<Plain>, AllocError> {
+fn value_of(alloc: Global, text: &str, decimals: Decimals) -> Result<Option<Plain>, AllocError> {
     if let Some(number) = text.strip_prefix('#') {
-        return Ok(Some(Plain::Number(Num::read(number))));
+        return Ok(Some(Plain::Number(Num::read(number, decimals))));
     }
     if let Some(truth) = text.strip_prefix('?') {
         return Ok(Some(Plain::Truth(truth == "true")));
@@ -59,10 +75,10 @@ fn value_of(alloc: Global, text: &str) -> Result<Option<Plain>, AllocError> {
     }
 }
 
-fn spelled(alloc: Global, value: &Plain) -> Answer {
+fn spelled(alloc: Global, value: &Plain, decimals: Decimals) -> Answer {
     match value {
         Plain::Text(text) => marked(alloc, "'", text.as_str()),
-        Plain::Number(number) => marked(alloc, "#", number.print(alloc)?.as_str()),
+        Plain::Number(number) => marked(alloc, "#", number.print(alloc, decimals)?.as_str()),
         Plain::Truth(truth) => marked(alloc, "?", if *truth { "true" } else { "false" }),
     }
 }
