@@ -156,7 +156,7 @@ module _ (tops : List ℕ) where
       b : Bool
       b = is_under tops before x
 
-      by : trees_from tops b (with_attribute_text n text xs) ≡ trees_from tops b xs → 
+      by : trees_from tops b (with_attribute_text n text xs) ≡ trees_from tops b xs →
           (c : Bool) → (x.number == n) ≡ c → trees_from tops before (cond c (record x { content = with_value text x.content }) x ∷ with_attribute_text n text xs) ≡ trees_from tops before (x ∷ xs)
       by rest true e =
           let out : b ≡ false = head-out n b x (trees_from tops b xs) h e in

@@ -24,8 +24,8 @@ use std::marker::Model;
 use xf_ast::Form;
 use xf_binds::Table;
 use xf_controls::{ControlCopy, KnownList, Shown, control_of};
-use xf_loader::Loaded;
 use xf_form_machine::Refusal;
+use xf_loader::Loaded;
 use xf_undo::Draft;
 
 /// What an engine works on. Contracts see the states at the end of the last event and as it stands, and how many models are built.
