@@ -227,7 +227,7 @@ module _ (p : ℕ → Bool) (scope : Scope) (documents : List Document) (h : Has
       let sets = unwrap_or (sets_of None scope all r) [] in
       let inside = joined-in sets (unwrapped (sets_of None scope all r) a.told) in (
         ap (λ m. entries_on bind (unwrap_or m []) (properties_of r) (in_order (kept p all) (joined (unwrap_or m [])))) a.same
-        ∙ ap (entries_on bind sets (properties_of r)) (ordered-same p all (joined sets) inside),
+            ∙ ap (entries_on bind sets (properties_of r)) (ordered-same p all (joined sets) inside),
         on-in bind sets (properties_of r) (in_order all (joined sets)) (ordered-in p all (joined sets) inside),
       )
 
@@ -238,7 +238,7 @@ module _ (p : ℕ → Bool) (scope : Scope) (documents : List Document) (h : Has
       let one = bind-entries bind (rule_of x) (around-known p (chains scope) x.around known) (trace-keeps p x.node_set) in
       let rest = from-entries (suc bind) xs known in (
         ap (λ es. (if x.model == scope.model then es else []) ++ entries_from S (kept p all) (suc bind) (map rule_of xs)) one.0
-        ∙ ap (λ l. (if x.model == scope.model then entries_by scope all bind (rule_of x) else []) ++ l) rest.0,
+            ∙ ap (λ l. (if x.model == scope.model then entries_by scope all bind (rule_of x) else []) ++ l) rest.0,
         each-append InPart (if x.model == scope.model then entries_by scope all bind (rule_of x) else []) (entries_from scope all (suc bind) (map rule_of xs)) (by (x.model == scope.model) one.1) rest.1,
       )
     where

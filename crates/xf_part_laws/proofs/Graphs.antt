@@ -47,7 +47,7 @@ module _ (p : ℕ → Bool) (functions : Functions) (given : Given) (tables : Ta
       by None t = (refl, tt)
       by (Some x) t = (
         ap (λ s. reads_in x.trace s (focus_of e)) (setting-small p large documents h all whole None e.node)
-        ∙ reads-same p x.trace t (setting_for None large all e.node) (λ m. string_value m (kept p all)) documents (setting-sees p large documents h all whole None e.node i) (focus_of e) i,
+            ∙ reads-same p x.trace t (setting_for None large all e.node) (λ m. string_value m (kept p all)) documents (setting-sees p large documents h all whole None e.node i) (focus_of e) i,
         reads-inside p x.trace t (setting_for None large all e.node) (λ m. string_value m (kept p all)) documents (setting-sees p large documents h all whole None e.node i) (focus_of e) i,
       )
 
@@ -58,7 +58,7 @@ module _ (p : ℕ → Bool) (functions : Functions) (given : Given) (tables : Ta
       by None t = (refl, tt)
       by (Some x) t = (
         ap (λ s. looks_in x.trace s (focus_of e)) (setting-small p large documents h all whole None e.node)
-        ∙ looks-same p x.trace t (setting_for None large all e.node) (λ m. string_value m (kept p all)) documents (setting-sees p large documents h all whole None e.node i) (focus_of e) i,
+            ∙ looks-same p x.trace t (setting_for None large all e.node) (λ m. string_value m (kept p all)) documents (setting-sees p large documents h all whole None e.node i) (focus_of e) i,
         looks-inside p x.trace t (setting_for None large all e.node) (λ m. string_value m (kept p all)) documents (setting-sees p large documents h all whole None e.node i) (focus_of e) i,
       )
 
