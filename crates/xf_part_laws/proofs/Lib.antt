@@ -2,11 +2,3 @@ pub mod Trees
 pub mod Own
 pub mod Stays
 pub mod Grown
-pub mod Within
-pub mod Seen
-pub mod Asks
-pub mod Seats
-pub mod Shapes
-pub mod Binds
-pub mod Graphs
-pub mod Settling
