@@ -10,10 +10,10 @@ returns-in-Circular c =
     let old = string_bytes c.args.text.now in
     then-ok c.push_named-in-Circular.result (λ e. e ∙ ap (λ r. old ++ line_of (codes "form F15 Circular" ++ details r)) c.in-Circular.is ∙ sym (ap (λ r. old ++ construct_text r) c.in-Circular.is)) c.push_named-in-Circular.ensures
 
-pub returns-in-OnParent : goal.returns-in-OnParent
-returns-in-OnParent c =
+pub returns-in-CalculateOnParent : goal.returns-in-CalculateOnParent
+returns-in-CalculateOnParent c =
     let old = string_bytes c.args.text.now in
-    then-ok c.push_named-in-OnParent.result (λ e. e ∙ ap (λ r. old ++ line_of (codes "form F16 CalculateOnParent" ++ details r)) c.in-OnParent.is ∙ sym (ap (λ r. old ++ construct_text r) c.in-OnParent.is)) c.push_named-in-OnParent.ensures
+    then-ok c.push_named-in-CalculateOnParent.result (λ e. e ∙ ap (λ r. old ++ line_of (codes "form F16 CalculateOnParent" ++ details r)) c.in-CalculateOnParent.is ∙ sym (ap (λ r. old ++ construct_text r) c.in-CalculateOnParent.is)) c.push_named-in-CalculateOnParent.ensures
 
 pub returns-in-Limit : goal.returns-in-Limit
 returns-in-Limit c =
