@@ -13,7 +13,6 @@ use Rattle.xf_lang.specs.Meaning.{text_worth}
 use Rattle.xf_lang.specs.Conversions.{nodes_of}
 use Rattle.xf_model.specs.Rules.{scope_of}
 use Rattle.xf_model.specs.Nested.{nested}
-use Rattle.xf_eval.specs.Worth.{with_six}
 use Rattle.xf_nested.specs.StandIns.{stand_ins_of}
 use Rattle.xf_ui.specs.Around.{Around, alone}
 
@@ -21,9 +20,9 @@ abbrev pub around_in : Given → Tables → List Node → Around
 around_in given tables nodes = record {
   functions = called;
   most = Some string_limit;
-  given = with_six given;
+  given = given;
   all = visits nodes;
-  bound = λ k. nested (Some string_limit) (scope_of called (with_six given) tables 0) (visits nodes) k;
+  bound = λ k. nested (Some string_limit) (scope_of called given tables 0) (visits nodes) k;
 }
 
 -- outside an event, and without indexes of repeats
@@ -39,7 +38,7 @@ first_stand nodes (n ∷ ns) = first_of (stand_ins_of (visits nodes) n)
 
 abbrev pub first_from : Given → List Node → ℕ → Meaning → ℕ → Option (Option ℕ)
 first_from given nodes model m n =
-    option_map (λ v. first_stand nodes (nodes_of v)) (m (setting_over called (Some string_limit) (with_six given) (visits nodes) model n) (alone n))
+    option_map (λ v. first_stand nodes (nodes_of v)) (m (setting_over called (Some string_limit) given (visits nodes) model n) (alone n))
 
 -- ---- texts
 
@@ -50,4 +49,4 @@ abbrev pub printed_from : Given → List Node → ℕ → Option Meaning → Opt
 printed_from given nodes model None focus = Some None
 printed_from given nodes model (Some m) None = Some None
 printed_from given nodes model (Some m) (Some n) =
-    option_map Some (text_worth m (setting_over called (Some string_limit) (with_six given) (visits nodes) model n) (alone n))
+    option_map Some (text_worth m (setting_over called (Some string_limit) given (visits nodes) model n) (alone n))

@@ -129,5 +129,5 @@ fn value_printed<A: Around>(
         return Ok(None);
     };
     let value = value_at(alloc, forest, around, expr, &context_at(model, focus))?;
-    Ok(Some(text_of(alloc, forest, &value)?))
+    Ok(Some(text_of(alloc, forest, &value, around.decimals())?))
 }

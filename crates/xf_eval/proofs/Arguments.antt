@@ -4,16 +4,17 @@ use Rattle.std.proofs.lemmas.List.{at_drop_more, at_drop_all}
 use Rattle.xf_ast.specs.declared.expr.Expr.{Expr}
 use Rattle.xf_doc.specs.declared.content.Node.{Node}
 use Rattle.xf_plain_values.specs.declared.plain.Plain.{Plain}
+use Rattle.xf_funcs.specs.Called.{called}
 use Rattle.xf_lang.specs.declared.context.Context.{Context}
 use Rattle.xf_lang.specs.declared.value.Value.{Value}
 use Rattle.xf_lang.specs.Given.{Given}
 use Rattle.xf_lang.specs.Setting.{Focus, Meaning, Setting, ◌>>=◌, each}
 use Rattle.xf_lang.specs.Conversions.{plain_of, truth_of}
 use Rattle.xf_lang.specs.Functions.{argument, branch, branched, plain_arguments}
-use Rattle.xf_lang.specs.Meaning.{focus_of, meaning}
+use Rattle.xf_lang.specs.Meaning.{focus_of, meaning, setting_of}
 use Rattle.xf_eval.specs.ByKind.{argument_or}
 use Rattle.xf_eval.specs.First.{counted}
-use Rattle.xf_eval.specs.Worth.{setting_at, setting_in}
+use Rattle.xf_eval.specs.Worth.{bare_setting}
 use Rattle.xf_eval.proofs.Called.{argument-none}
 use Rattle.xf_eval.proofs.Firsts.{branch-made, branch-none, plain-made, plain-none}
 use Rattle.xf_eval.proofs.Lists.{onto, onto-end, onto-more, onto-none}
@@ -44,13 +45,13 @@ abbrev left : Setting → Focus → List Plain → List Expr → Option (List Pl
 left s c done es = onto done (each (one_plain s c) (map meaning es))
 
 -- one argument, of which the first node counts
-pub plain-long : (given : Given) (nodes : List Node) (context : Context) (e : Expr) → option_map (counted true) (meaning e (setting_at given nodes context) (focus_of context)) ≡ None →
-    one_plain (setting_at given nodes context) (focus_of context) (meaning e) ≡ None
-plain-long given nodes context e h = plain-none (setting_at given nodes context) (meaning e (setting_at given nodes context) (focus_of context)) h
+pub plain-long : (given : Given) (nodes : List Node) (context : Context) (e : Expr) → option_map (counted true) (meaning e (setting_of called given nodes context) (focus_of context)) ≡ None →
+    one_plain (setting_of called given nodes context) (focus_of context) (meaning e) ≡ None
+plain-long given nodes context e h = plain-none (setting_of called given nodes context) (meaning e (setting_of called given nodes context) (focus_of context)) h
 
-pub plain-of-value : (given : Given) (nodes : List Node) (context : Context) (e : Expr) (v : Value) → option_map (counted true) (meaning e (setting_at given nodes context) (focus_of context)) ≡ Some (counted true v) →
-    one_plain (setting_at given nodes context) (focus_of context) (meaning e) ≡ plain_of (setting_in nodes) v
-plain-of-value given nodes context e v h = plain-made (setting_at given nodes context) (meaning e (setting_at given nodes context) (focus_of context)) v h ∙ plain-same given nodes context v
+pub plain-of-value : (given : Given) (nodes : List Node) (context : Context) (e : Expr) (v : Value) → option_map (counted true) (meaning e (setting_of called given nodes context) (focus_of context)) ≡ Some (counted true v) →
+    one_plain (setting_of called given nodes context) (focus_of context) (meaning e) ≡ plain_of (bare_setting nodes) v
+plain-of-value given nodes context e v h = plain-made (setting_of called given nodes context) (meaning e (setting_of called given nodes context) (focus_of context)) v h ∙ plain-same given nodes context v
 
 -- one that is none is none of the whole
 pub plains-stuck : (s : Setting) (c : Focus) (done : List Plain) (es : List Expr) (i : ℕ) (d : Expr) → left s c done (drop i es) ≡ each (one_plain s c) (map meaning es) → i < length es →

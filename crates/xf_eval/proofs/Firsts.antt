@@ -19,6 +19,7 @@ use Rattle.xf_doc.specs.Texts.{Keeping}
 use Rattle.xf_doc.specs.WellFormed.{AreTrees}
 use Rattle.xf_plain_values.specs.Bounded.{capped}
 use Rattle.xf_plain_values.specs.Conversions.{Decimal, number_in, text_in}
+use Rattle.xf_funcs.specs.Called.{called}
 use Rattle.xf_lang.specs.declared.context.Context.{Context}
 use Rattle.xf_lang.specs.declared.value.Value.{Value}
 use Rattle.xf_lang.specs.declared.value.Value.TheVariants.{Nodes, Text, Number, Truth}
@@ -26,7 +27,7 @@ use Rattle.xf_lang.specs.Binding.{as_list}
 use Rattle.xf_lang.specs.Given.{Given, beside, document_of, property_of}
 use Rattle.xf_lang.specs.Conversions.{nodes_of, number_of, plain_of, string_of, truth_of}
 use Rattle.xf_lang.specs.Functions.{branch, index_number}
-use Rattle.xf_lang.specs.Meaning.{focus_of, meaning, meaning_of_link, walk_of}
+use Rattle.xf_lang.specs.Meaning.{focus_of, meaning, meaning_of_link, setting_of, walk_of}
 use Rattle.xf_lang.specs.Operators.{and_then, chained, combined, computed, linked, or_else}
 use Rattle.xf_lang.specs.Setting.{Focus, Meaning, Setting, ◌>>=◌, in_order}
 use Rattle.xf_lang.specs.Steps.{from_one, reached, walked}
@@ -38,7 +39,7 @@ use Rattle.xf_eval.specs.OfNodes.{first_content, name_part, name_worth}
 use Rattle.xf_eval.specs.OfOne.{one_worth, own_worth, plain_worth}
 use Rattle.xf_eval.specs.First.{converts, counted, first_alone, first_node, leads, takes_plain}
 use Rattle.xf_eval.specs.Taken.{taken}
-use Rattle.xf_eval.specs.Worth.{seen, setting_at, setting_in}
+use Rattle.xf_eval.specs.Worth.{bare_setting, seen, setting_in}
 use Rattle.xf_eval.proofs.Ordered.{forward-in_order, taken-one}
 use Rattle.xf_eval.proofs.Runs.{chain-goes}
 
@@ -91,6 +92,9 @@ plain-none s = made-none (plain_of s)
 pub string-alike : (s : Setting) (v w : Value) → first_alone v ≡ first_alone w → string_of s v ≡ string_of s w
 string-alike s v w e = ap (λ m. m >>= λ p. capped s.most (text_in s.given.decimals p)) (plain-alike s v w e)
 
+pub string-made : (s : Setting) (m : Option Value) (v : Value) → option_map (counted true) m ≡ Some (counted true v) → (m >>= string_of s) ≡ string_of s v
+string-made s = made-first (string_of s) (string-alike s)
+
 -- ---- functions
 
 content-first : (nodes : List Node) (v : Value) → first_content nodes (nodes_of (first_alone v)) ≡ first_content nodes (nodes_of v)
@@ -105,27 +109,27 @@ name-alike k bindings nodes v w e =
     ap (λ c. option_map Text (capped (Some string_limit) (name_part k bindings (option_and_then name_in c))))
     (sym (content-first nodes v) ∙ ap (λ u. first_content nodes (nodes_of u)) e ∙ content-first nodes w)
 
-own-alike : (k : Kind) (code : ℕ) (given : Given) (nodes : List Node) (v w : Value) → first_alone v ≡ first_alone w → own_worth k code given nodes v ≡ own_worth k code given nodes w
-own-alike kind.Number code given nodes v w e = ap (option_map Number) (number-alike (setting_in nodes) v w e)
-own-alike kind.Text code given nodes v w e = ap (option_map Text) (string-alike (setting_in nodes) v w e)
-own-alike kind.Owning code given nodes v w e = ap (λ m. m >>= λ p. plain_worth code (p ∷ [])) (plain-alike (setting_in nodes) v w e)
-own-alike other code given nodes v w e = name-alike other given.bindings nodes v w e
+own-alike : (d : ℕ) (k : Kind) (code : ℕ) (given : Given) (nodes : List Node) (v w : Value) → first_alone v ≡ first_alone w → own_worth d k code given nodes v ≡ own_worth d k code given nodes w
+own-alike d kind.Number code given nodes v w e = ap (option_map Number) (number-alike (setting_in d nodes) v w e)
+own-alike d kind.Text code given nodes v w e = ap (option_map Text) (string-alike (setting_in d nodes) v w e)
+own-alike d kind.Owning code given nodes v w e = ap (λ m. m >>= λ p. plain_worth d code (p ∷ [])) (plain-alike (bare_setting nodes) v w e)
+own-alike d other code given nodes v w e = name-alike other given.bindings nodes v w e
 
-pub own-made : (k : Kind) (code : ℕ) (given : Given) (nodes : List Node) (m : Option Value) (v : Value) → option_map (counted true) m ≡ Some (counted true v) → (m >>= own_worth k code given nodes) ≡ own_worth k code given nodes v
-own-made k code given nodes = made-first (own_worth k code given nodes) (own-alike k code given nodes)
+pub own-made : (d : ℕ) (k : Kind) (code : ℕ) (given : Given) (nodes : List Node) (m : Option Value) (v : Value) → option_map (counted true) m ≡ Some (counted true v) → (m >>= own_worth d k code given nodes) ≡ own_worth d k code given nodes v
+own-made d k code given nodes = made-first (own_worth d k code given nodes) (own-alike d k code given nodes)
 
-one-alike : (k : Kind) (model : ℕ) (given : Given) (nodes : List Node) (v w : Value) → counted (takes_plain k) v ≡ counted (takes_plain k) w → one_worth k model given nodes v ≡ one_worth k model given nodes w
-one-alike kind.Boolean model given nodes v w e = ap (λ b. Some (Truth b)) (truth-alike v w e)
-one-alike kind.Not model given nodes v w e = ap (λ b. Some (Truth (not b))) (truth-alike v w e)
-one-alike kind.Event model given nodes v w e = ap (option_map (λ name. unwrap_or (property_of name given.event) (Nodes []))) (string-alike (setting_in nodes) v w e)
-one-alike kind.Index model given nodes v w e = ap (option_map (λ id. Number (index_number 6 (beside id given.indexes)))) (string-alike (setting_in nodes) v w e)
-one-alike kind.Instance model given nodes v w e = ap (option_map (λ id. Nodes (as_list (document_of model id given.documents)))) (string-alike (setting_in nodes) v w e)
-one-alike other model given nodes v w e = ap (one_worth other model given nodes) e
+one-alike : (d : ℕ) (k : Kind) (model : ℕ) (given : Given) (nodes : List Node) (v w : Value) → counted (takes_plain k) v ≡ counted (takes_plain k) w → one_worth d k model given nodes v ≡ one_worth d k model given nodes w
+one-alike d kind.Boolean model given nodes v w e = ap (λ b. Some (Truth b)) (truth-alike v w e)
+one-alike d kind.Not model given nodes v w e = ap (λ b. Some (Truth (not b))) (truth-alike v w e)
+one-alike d kind.Event model given nodes v w e = ap (option_map (λ name. unwrap_or (property_of name given.event) (Nodes []))) (string-alike (setting_in d nodes) v w e)
+one-alike d kind.Index model given nodes v w e = ap (option_map (λ id. Number (index_number d (beside id given.indexes)))) (string-alike (setting_in d nodes) v w e)
+one-alike d kind.Instance model given nodes v w e = ap (option_map (λ id. Nodes (as_list (document_of model id given.documents)))) (string-alike (setting_in d nodes) v w e)
+one-alike d other model given nodes v w e = ap (one_worth d other model given nodes) e
 
-pub one-made : (k : Kind) (model : ℕ) (given : Given) (nodes : List Node) (m : Option Value) (v : Value) → option_map (counted (takes_plain k)) m ≡ Some (counted (takes_plain k) v) →
-    (m >>= one_worth k model given nodes) ≡ one_worth k model given nodes v
-one-made k model given nodes None v e = cc e
-one-made k model given nodes (Some w) v e = let i : counted (takes_plain k) w ≡ counted (takes_plain k) v = cc e in one-alike k model given nodes w v i
+pub one-made : (d : ℕ) (k : Kind) (model : ℕ) (given : Given) (nodes : List Node) (m : Option Value) (v : Value) → option_map (counted (takes_plain k)) m ≡ Some (counted (takes_plain k) v) →
+    (m >>= one_worth d k model given nodes) ≡ one_worth d k model given nodes v
+one-made d k model given nodes None v e = cc e
+one-made d k model given nodes (Some w) v e = let i : counted (takes_plain k) w ≡ counted (takes_plain k) v = cc e in one-alike d k model given nodes w v i
 
 -- the branch that a condition chooses
 pub branch-made : (ms : List Meaning) (s : Setting) (c : Focus) (m : Option Value) (v : Value) → option_map (counted true) m ≡ Some (counted true v) →
@@ -255,7 +259,7 @@ taken-first axis t s n found k sound all forward e =
 
 module _ (given : Given) (nodes : List Node) (context : Context) where
   abbrev setting : Setting
-  setting = setting_at given nodes context
+  setting = setting_of called given nodes context
 
   abbrev focus : Focus
   focus = focus_of context

@@ -4,16 +4,17 @@ use Rattle.xf_doc.specs.declared.content.Node.{Node}
 use Rattle.xf_ast.specs.declared.expr.Link.{Link}
 use Rattle.xf_ast.specs.declared.expr.Operator.{Operator}
 use Rattle.xf_ast.specs.declared.expr.Operator.TheVariants.{Or, And, Equal, NotEqual, Less, LessOrEqual, Greater, GreaterOrEqual, Add, Subtract, Multiply, Divide, Modulo, Union}
+use Rattle.xf_funcs.specs.Called.{called}
 use Rattle.xf_lang.specs.declared.context.Context.{Context}
 use Rattle.xf_lang.specs.declared.value.Value.{Value}
 use Rattle.xf_lang.specs.declared.value.Value.TheVariants.{Truth}
 use Rattle.xf_lang.specs.Comparisons.{compared}
 use Rattle.xf_lang.specs.Given.{Given}
 use Rattle.xf_lang.specs.Setting.{Focus, Meaning, Setting, ◌>>=◌}
-use Rattle.xf_lang.specs.Meaning.{meaning, meaning_of_link}
+use Rattle.xf_lang.specs.Meaning.{meaning, meaning_of_link, setting_of}
 use Rattle.xf_lang.specs.Operators.{chained, linked}
 use Rattle.xf_eval.specs.Answered.{compares}
-use Rattle.xf_eval.specs.Worth.{setting_at, setting_in}
+use Rattle.xf_eval.specs.Worth.{setting_in}
 use Rattle.xf_eval.proofs.Runs.{chain-goes}
 use Rattle.xf_eval.proofs.Settings.{compared-same}
 
@@ -41,10 +42,10 @@ pub link-compares : (link : Link) (left : Value) (s : Setting) (c : Focus) → c
     chained (meaning_of_link link ∷ []) left s c ≡ (meaning link.right s c >>= λ right. option_map Truth (compared s link.operator left right))
 link-compares link left s c h = chain-goes s c link [] left ∙ itself (linked link.operator left (meaning link.right) s c) ∙ linked-compares link.operator left (meaning link.right) s c h
 
-pub link-compared : (link : Link) (left right : Value) (given : Given) (nodes : List Node) (context : Context) (c : Focus) → compares link.operator ≡ true → meaning link.right (setting_at given nodes context) c ≡ Some right →
-    chained (meaning_of_link link ∷ []) left (setting_at given nodes context) c ≡ option_map Truth (compared (setting_in nodes) link.operator left right)
+pub link-compared : (link : Link) (left right : Value) (given : Given) (nodes : List Node) (context : Context) (c : Focus) → compares link.operator ≡ true → meaning link.right (setting_of called given nodes context) c ≡ Some right →
+    chained (meaning_of_link link ∷ []) left (setting_of called given nodes context) c ≡ option_map Truth (compared (setting_in given.decimals nodes) link.operator left right)
 link-compared link left right given nodes context c h e =
-    let s = setting_at given nodes context in
+    let s = setting_of called given nodes context in
     link-compares link left s c h ∙ ap (λ m. m >>= λ r. option_map Truth (compared s link.operator left r)) e ∙ ap (option_map Truth) (compared-same given nodes context link.operator left right)
 
 -- a right side that is too long

@@ -4,10 +4,10 @@ use Rattle.xf_doc.specs.declared.content.Node.{Node}
 use Rattle.xf_plain_values.specs.declared.plain.Plain.{Plain}
 use Rattle.xf_plain_values.specs.declared.plain.Plain.TheVariants.{Text}
 use Rattle.xf_lang.specs.Conversions.{string_of_node}
-use Rattle.xf_eval.specs.Worth.{setting_in}
+use Rattle.xf_eval.specs.Worth.{bare_setting}
 
 abbrev pub text_made : List Node → ℕ → Option (List ℕ)
-text_made nodes n = string_of_node (setting_in nodes) n
+text_made nodes n = string_of_node (bare_setting nodes) n
 
 abbrev pub plain_made : List Node → ℕ → Option Plain
 plain_made nodes n = option_map Text (text_made nodes n)

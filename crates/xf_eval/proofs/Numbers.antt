@@ -12,15 +12,15 @@ use Rattle.xf_eval.specs.declared.kinds.Kind.{Kind}
 use Rattle.xf_eval.specs.declared.kinds.Kind.TheVariants as kind
 use Rattle.xf_eval.specs.OfNodes.{set_worth}
 use Rattle.xf_eval.specs.Texts.{combined, number_at}
-use Rattle.xf_eval.specs.Worth.{setting_in}
+use Rattle.xf_eval.specs.Worth.{bare_setting, setting_in}
 use Rattle.xf_eval.proofs.Lists.{each-mapped}
 
-pub numbers-made : (made : List Decimal → Decimal) (nodes : List Node) (ns : List ℕ) → of_numbers (setting_in nodes) made ns ≡ option_map Number (option_map made (each (number_at nodes) ns))
-numbers-made made nodes ns =
-    by (strings_of (setting_in nodes) ns)
-    ∙ ap (λ m. option_map Number (option_map made m)) (sym (each-mapped (string_of_node (setting_in nodes)) (read_at 6) ns))
+pub numbers-made : (d : ℕ) (made : List Decimal → Decimal) (nodes : List Node) (ns : List ℕ) → of_numbers (setting_in d nodes) made ns ≡ option_map Number (option_map made (each (number_at d nodes) ns))
+numbers-made d made nodes ns =
+    by (strings_of (bare_setting nodes) ns)
+    ∙ ap (λ m. option_map Number (option_map made m)) (sym (each-mapped (string_of_node (bare_setting nodes)) (read_at d) ns))
   where
-    by : (m : Option (List (List ℕ))) → option_map (λ texts. Number (made (map (read_at 6) texts))) m ≡ option_map Number (option_map made (option_map (map (read_at 6)) m))
+    by : (m : Option (List (List ℕ))) → option_map (λ texts. Number (made (map (read_at d) texts))) m ≡ option_map Number (option_map made (option_map (map (read_at d)) m))
     by None = refl
     by (Some texts) = refl
 
@@ -33,12 +33,12 @@ each-length {B = B} made (n ∷ ns) ks e = by (made n) (each made ns) (each-leng
     by (Some y) None f i = cc i
     by (Some y) (Some ys) f i = let j : y ∷ ys ≡ ks = cc i in ap length (sym j) ∙ ap suc (f ys refl)
 
-pub average-made : (m : Option (List Decimal)) (count : ℕ) (sum : Decimal) → ((ks : List Decimal) → m ≡ Some ks → length ks ≡ count) → option_map total m ≡ Some sum → option_map (average 6) m ≡ Some (quotient 6 sum (whole 6 count))
-average-made None count sum f e = cc e
-average-made (Some ks) count sum f e = let i : total ks ≡ sum = cc e in ap Some (ap (λ k. quotient 6 k (whole 6 (length ks))) i ∙ ap (λ n. quotient 6 sum (whole 6 n)) (f ks refl))
+pub average-made : (d : ℕ) (m : Option (List Decimal)) (count : ℕ) (sum : Decimal) → ((ks : List Decimal) → m ≡ Some ks → length ks ≡ count) → option_map total m ≡ Some sum → option_map (average d) m ≡ Some (quotient d sum (whole d count))
+average-made d None count sum f e = cc e
+average-made d (Some ks) count sum f e = let i : total ks ≡ sum = cc e in ap Some (ap (λ k. quotient d k (whole d (length ks))) i ∙ ap (λ n. quotient d sum (whole d n)) (f ks refl))
 
-pub average-of : (nodes : List Node) (ns : List ℕ) (sum : Decimal) → option_map total (each (number_at nodes) ns) ≡ Some sum → option_map (average 6) (each (number_at nodes) ns) ≡ Some (quotient 6 sum (whole 6 (length ns)))
-average-of nodes ns sum = average-made (each (number_at nodes) ns) (length ns) sum (each-length (number_at nodes) ns)
+pub average-of : (d : ℕ) (nodes : List Node) (ns : List ℕ) (sum : Decimal) → option_map total (each (number_at d nodes) ns) ≡ Some sum → option_map (average d) (each (number_at d nodes) ns) ≡ Some (quotient d sum (whole d (length ns)))
+average-of d nodes ns sum = average-made d (each (number_at d nodes) ns) (length ns) sum (each-length (number_at d nodes) ns)
 
 -- where one is too long
 pub none-made : {A B C : Type 0} (f : A → B) (g : A → C) (m : Option A) → option_map f m ≡ None → option_map g m ≡ None
@@ -47,18 +47,18 @@ none-made f g (Some x) e = cc e
 
 -- ---- by the function
 
-pub adding-worth : (k : Kind) (nodes : List Node) (ns : List ℕ) → k ≡ kind.Adding → set_worth k (setting_in nodes) ns ≡ option_map Number (option_map total (each (number_at nodes) ns))
-adding-worth k nodes ns e = ap (λ f. set_worth f (setting_in nodes) ns) e ∙ numbers-made total nodes ns
+pub adding-worth : (d : ℕ) (k : Kind) (nodes : List Node) (ns : List ℕ) → k ≡ kind.Adding → set_worth k (setting_in d nodes) ns ≡ option_map Number (option_map total (each (number_at d nodes) ns))
+adding-worth d k nodes ns e = ap (λ f. set_worth f (setting_in d nodes) ns) e ∙ numbers-made d total nodes ns
 
-pub averaging-worth : (k : Kind) (nodes : List Node) (ns : List ℕ) → k ≡ kind.Averaging → set_worth k (setting_in nodes) ns ≡ option_map Number (option_map (average 6) (each (number_at nodes) ns))
-averaging-worth k nodes ns e = ap (λ f. set_worth f (setting_in nodes) ns) e ∙ numbers-made (average 6) nodes ns
+pub averaging-worth : (d : ℕ) (k : Kind) (nodes : List Node) (ns : List ℕ) → k ≡ kind.Averaging → set_worth k (setting_in d nodes) ns ≡ option_map Number (option_map (average d) (each (number_at d nodes) ns))
+averaging-worth d k nodes ns e = ap (λ f. set_worth f (setting_in d nodes) ns) e ∙ numbers-made d (average d) nodes ns
 
-pub greatest-worth : (k : Kind) (nodes : List Node) (ns : List ℕ) → k ≡ kind.Greatest → set_worth k (setting_in nodes) ns ≡ option_map Number (option_map (extreme (combined k)) (each (number_at nodes) ns))
-greatest-worth k nodes ns e =
-    ap (λ f. set_worth f (setting_in nodes) ns) e ∙ numbers-made (extreme greater) nodes ns
-    ∙ ap (λ f. option_map Number (option_map (extreme (combined f)) (each (number_at nodes) ns))) (sym e)
+pub greatest-worth : (d : ℕ) (k : Kind) (nodes : List Node) (ns : List ℕ) → k ≡ kind.Greatest → set_worth k (setting_in d nodes) ns ≡ option_map Number (option_map (extreme (combined k)) (each (number_at d nodes) ns))
+greatest-worth d k nodes ns e =
+    ap (λ f. set_worth f (setting_in d nodes) ns) e ∙ numbers-made d (extreme greater) nodes ns
+    ∙ ap (λ f. option_map Number (option_map (extreme (combined f)) (each (number_at d nodes) ns))) (sym e)
 
-pub least-worth : (k : Kind) (nodes : List Node) (ns : List ℕ) → k ≡ kind.Least → set_worth k (setting_in nodes) ns ≡ option_map Number (option_map (extreme (combined k)) (each (number_at nodes) ns))
-least-worth k nodes ns e =
-    ap (λ f. set_worth f (setting_in nodes) ns) e ∙ numbers-made (extreme lesser) nodes ns
-    ∙ ap (λ f. option_map Number (option_map (extreme (combined f)) (each (number_at nodes) ns))) (sym e)
+pub least-worth : (d : ℕ) (k : Kind) (nodes : List Node) (ns : List ℕ) → k ≡ kind.Least → set_worth k (setting_in d nodes) ns ≡ option_map Number (option_map (extreme (combined k)) (each (number_at d nodes) ns))
+least-worth d k nodes ns e =
+    ap (λ f. set_worth f (setting_in d nodes) ns) e ∙ numbers-made d (extreme lesser) nodes ns
+    ∙ ap (λ f. option_map Number (option_map (extreme (combined f)) (each (number_at d nodes) ns))) (sym e)

@@ -31,7 +31,7 @@ use Rattle.xf_eval.specs.ByKind.{argument_or, by_kind, of_own_argument}
 use Rattle.xf_eval.specs.First.{converts, counted}
 use Rattle.xf_eval.specs.OfOne.{one_worth}
 use Rattle.xf_eval.specs.Taken.{taken}
-use Rattle.xf_eval.specs.Worth.{negated_worth, setting_at, setting_in}
+use Rattle.xf_eval.specs.Worth.{negated_worth, setting_in}
 use Rattle.xf_eval.proofs.Called.{by-kind}
 use Rattle.xf_eval.proofs.Firsts.{map-none, right-made}
 use Rattle.xf_eval.proofs.Settings.{answered-same, number-same}
@@ -78,30 +78,30 @@ linked-each other left m s c h = refl
 
 -- both sides are evaluated, the right one as far as it counts
 pub linked-both : (o : Operator) (left right : Value) (m : Meaning) (given : Given) (nodes : List Node) (context : Context) (c : Focus) → decides o (truth_of left) ≡ false →
-    option_map (counted (converts o)) (m (setting_at given nodes context) c) ≡ Some (counted (converts o) right) → linked o left m (setting_at given nodes context) c ≡ answered o (setting_in nodes) left right
+    option_map (counted (converts o)) (m (setting_of called given nodes context) c) ≡ Some (counted (converts o) right) → linked o left m (setting_of called given nodes context) c ≡ answered o (setting_in given.decimals nodes) left right
 linked-both o left right m given nodes context c h e =
-    linked-each o left m (setting_at given nodes context) c h ∙ right-made o (setting_at given nodes context) left right (m (setting_at given nodes context) c) e ∙ answered-same given nodes context o left right
+    linked-each o left m (setting_of called given nodes context) c h ∙ right-made o (setting_of called given nodes context) left right (m (setting_of called given nodes context) c) e ∙ answered-same given nodes context o left right
 
 -- a side that is too long
 pub linked-long : (o : Operator) (left : Value) (m : Meaning) (s : Setting) (c : Focus) → decides o (truth_of left) ≡ false → option_map (counted (converts o)) (m s c) ≡ None → linked o left m s c ≡ None
 linked-long o left m s c h e = linked-each o left m s c h ∙ ap (λ x. x >>= answered o s left) (map-none (counted (converts o)) (m s c) e)
 
 pub negated-is : (place signs : ℕ) (operand : Expr) (given : Given) (nodes : List Node) (context : Context) →
-    meaning (expr.Negated place signs operand) (setting_at given nodes context) (focus_of context) ≡ negated_worth signs nodes (meaning operand (setting_at given nodes context) (focus_of context))
+    meaning (expr.Negated place signs operand) (setting_of called given nodes context) (focus_of context) ≡ negated_worth given.decimals signs nodes (meaning operand (setting_of called given nodes context) (focus_of context))
 negated-is place signs operand given nodes context =
-    ap (λ m. m (setting_at given nodes context) (focus_of context)) (meaning-Negated place signs operand) ∙ by (meaning operand (setting_at given nodes context) (focus_of context))
+    ap (λ m. m (setting_of called given nodes context) (focus_of context)) (meaning-Negated place signs operand) ∙ by (meaning operand (setting_of called given nodes context) (focus_of context))
   where
-    by : (m : Option Value) → option_map (λ k. Number (signed signs k)) (m >>= number_of (setting_at given nodes context)) ≡ negated_worth signs nodes m
+    by : (m : Option Value) → option_map (λ k. Number (signed signs k)) (m >>= number_of (setting_of called given nodes context)) ≡ negated_worth given.decimals signs nodes m
     by None = refl
     by (Some v) = ap (option_map (λ k. Number (signed signs k))) (number-same given nodes context v)
 
 -- ---- calls
 
 pub call-worth : (place code : ℕ) (arguments : List Expr) (k : Kind) (given : Given) (nodes : List Node) (context : Context) → function_in k ≡ function_at code →
-    meaning (expr.Call place code arguments) (setting_at given nodes context) (focus_of context) ≡ by_kind k code given nodes context (map meaning arguments)
+    meaning (expr.Call place code arguments) (setting_of called given nodes context) (focus_of context) ≡ by_kind k code given nodes context (map meaning arguments)
 call-worth place code arguments k given nodes context h =
-    ap (λ m. m (setting_at given nodes context) (focus_of context)) (meaning-Call place code arguments)
-    ∙ ap (λ f. functions.called f code (map meaning arguments) (setting_at given nodes context) (focus_of context)) (sym h)
+    ap (λ m. m (setting_of called given nodes context) (focus_of context)) (meaning-Call place code arguments)
+    ∙ ap (λ f. functions.called f code (map meaning arguments) (setting_of called given nodes context) (focus_of context)) (sym h)
     ∙ by-kind k code given nodes context (map meaning arguments)
 
 -- a function that stands for the context node where no argument is written
@@ -113,7 +113,7 @@ by-own k j code given nodes context ms i h =
 -- a function of one argument
 pub by-other : (k : Kind) (code : ℕ) (given : Given) (nodes : List Node) (context : Context) (ms : List Meaning) →
     (k ≡ kind.Asking → ⊥) → (k ≡ kind.Plainly → ⊥) → (k ≡ kind.Owning → ⊥) → ((b : Bool) → k ≡ kind.Truth b → ⊥) → (k ≡ kind.Choosing → ⊥) → (k ≡ kind.Branching → ⊥) → (k ≡ kind.LocalName → ⊥) → (k ≡ kind.Name → ⊥) → (k ≡ kind.Namespace → ⊥) → (k ≡ kind.Number → ⊥) → (k ≡ kind.Text → ⊥) → (k ≡ kind.Current → ⊥) → (k ≡ kind.Last → ⊥) → (k ≡ kind.Position → ⊥) →
-    by_kind k code given nodes context ms ≡ (argument_or 0 [] ms (setting_at given nodes context) (focus_of context) >>= one_worth k context.model given nodes)
+    by_kind k code given nodes context ms ≡ (argument_or 0 [] ms (setting_of called given nodes context) (focus_of context) >>= one_worth given.decimals k context.model given nodes)
 by-other kind.Asking code given nodes context ms a b c d e f g h i j k l m n = absurd (a refl)
 by-other kind.Plainly code given nodes context ms a b c d e f g h i j k l m n = absurd (b refl)
 by-other kind.Owning code given nodes context ms a b c d e f g h i j k l m n = absurd (c refl)
@@ -153,10 +153,6 @@ argument-past (e ∷ es) zero own s c h = absurd (omega arith)
 argument-past (e ∷ es) (suc at) own s c h = argument-past es at own s c (omega arith)
 
 -- ---- a whole expression
-
--- where numbers have six decimals, that is the setting
-pub six-setting : (given : Given) (nodes : List Node) (context : Context) → given.decimals ≡ 6 → setting_at given nodes context ≡ setting_of called given nodes context
-six-setting given nodes context h = ap (λ d. setting_of called (record given { decimals = d }) nodes context) (sym h)
 
 pub bounded-gives : (r : Result Value EvalFault) (m : Option Value) → GivesBounded Memory Long (λ v. v) r m → Gives Memory (λ v. v) r (or_long m)
 bounded-gives (Ok v) m h = ap or_long h

@@ -92,8 +92,8 @@ kept-stuck s m size position n ns kept h = ap (λ given. onto kept (given >>= λ
 
 -- ---- numbers of nodes
 
-fold-goes : (kind : Kind) (nodes : List Node) → Goes (λ (ids : List NodeId) (at : Decimal). folded kind nodes at (map (λ (i : NodeId). i.number) ids)) (λ id at. option_map (combined kind at) (number_at nodes id.number))
-fold-goes kind nodes id ids at = by (number_at nodes id.number) (each (number_at nodes) (map (λ (i : NodeId). i.number) ids))
+fold-goes : (decimals : ℕ) (kind : Kind) (nodes : List Node) → Goes (λ (ids : List NodeId) (at : Decimal). folded decimals kind nodes at (map (λ (i : NodeId). i.number) ids)) (λ id at. option_map (combined kind at) (number_at decimals nodes id.number))
+fold-goes decimals kind nodes id ids at = by (number_at decimals nodes id.number) (each (number_at decimals nodes) (map (λ (i : NodeId). i.number) ids))
   where
     by : (m : Option Decimal) (rest : Option (List Decimal)) →
         option_map (fold (combined kind) at) (m >>= λ y. rest >>= λ ys. Some (y ∷ ys)) ≡ (option_map (combined kind at) m >>= λ next. option_map (fold (combined kind) next) rest)
@@ -101,20 +101,20 @@ fold-goes kind nodes id ids at = by (number_at nodes id.number) (each (number_at
     by (Some y) None = refl
     by (Some y) (Some ys) = refl
 
-pub fold-stuck : (kind : Kind) (nodes : List Node) (ids : List NodeId) (i : ℕ) (d : NodeId) (at : Decimal) (worth : Option Decimal) →
-    folded kind nodes at (map (λ (i : NodeId). i.number) (drop i ids)) ≡ worth → i < length ids → number_at nodes (get_or ids i d).number ≡ None → worth ≡ None
-fold-stuck kind nodes ids i d at worth inv l h =
-    run-stuck (λ (ids : List NodeId) (at : Decimal). folded kind nodes at (map (λ (i : NodeId). i.number) ids)) (λ id at. option_map (combined kind at) (number_at nodes id.number)) (fold-goes kind nodes) ids i d at worth inv l (ap (option_map (combined kind at)) h)
+pub fold-stuck : (decimals : ℕ) (kind : Kind) (nodes : List Node) (ids : List NodeId) (i : ℕ) (d : NodeId) (at : Decimal) (worth : Option Decimal) →
+    folded decimals kind nodes at (map (λ (i : NodeId). i.number) (drop i ids)) ≡ worth → i < length ids → number_at decimals nodes (get_or ids i d).number ≡ None → worth ≡ None
+fold-stuck decimals kind nodes ids i d at worth inv l h =
+    run-stuck (λ (ids : List NodeId) (at : Decimal). folded decimals kind nodes at (map (λ (i : NodeId). i.number) ids)) (λ id at. option_map (combined kind at) (number_at decimals nodes id.number)) (fold-goes decimals kind nodes) ids i d at worth inv l (ap (option_map (combined kind at)) h)
 
-pub fold-more : (kind : Kind) (nodes : List Node) (ids : List NodeId) (i : ℕ) (d : NodeId) (at next : Decimal) (worth : Option Decimal) →
-    folded kind nodes at (map (λ (i : NodeId). i.number) (drop i ids)) ≡ worth → i < length ids → number_at nodes (get_or ids i d).number ≡ Some next →
-    folded kind nodes (combined kind at next) (map (λ (i : NodeId). i.number) (drop (i + 1) ids)) ≡ worth
-fold-more kind nodes ids i d at next worth inv l h =
-    run-more (λ (ids : List NodeId) (at : Decimal). folded kind nodes at (map (λ (i : NodeId). i.number) ids)) (λ id at. option_map (combined kind at) (number_at nodes id.number)) (fold-goes kind nodes) ids i d at (combined kind at next) worth inv l (ap (option_map (combined kind at)) h)
+pub fold-more : (decimals : ℕ) (kind : Kind) (nodes : List Node) (ids : List NodeId) (i : ℕ) (d : NodeId) (at next : Decimal) (worth : Option Decimal) →
+    folded decimals kind nodes at (map (λ (i : NodeId). i.number) (drop i ids)) ≡ worth → i < length ids → number_at decimals nodes (get_or ids i d).number ≡ Some next →
+    folded decimals kind nodes (combined kind at next) (map (λ (i : NodeId). i.number) (drop (i + 1) ids)) ≡ worth
+fold-more decimals kind nodes ids i d at next worth inv l h =
+    run-more (λ (ids : List NodeId) (at : Decimal). folded decimals kind nodes at (map (λ (i : NodeId). i.number) ids)) (λ id at. option_map (combined kind at) (number_at decimals nodes id.number)) (fold-goes decimals kind nodes) ids i d at (combined kind at next) worth inv l (ap (option_map (combined kind at)) h)
 
-pub fold-done : (kind : Kind) (nodes : List Node) (ids : List NodeId) (i : ℕ) (at : Decimal) (worth : Option Decimal) →
-    folded kind nodes at (map (λ (i : NodeId). i.number) (drop i ids)) ≡ worth → length ids ≤ i → worth ≡ Some at
-fold-done kind nodes ids i at worth inv l = run-done (λ (ids : List NodeId) (at : Decimal). folded kind nodes at (map (λ (i : NodeId). i.number) ids)) ids i at worth inv l
+pub fold-done : (decimals : ℕ) (kind : Kind) (nodes : List Node) (ids : List NodeId) (i : ℕ) (at : Decimal) (worth : Option Decimal) →
+    folded decimals kind nodes at (map (λ (i : NodeId). i.number) (drop i ids)) ≡ worth → length ids ≤ i → worth ≡ Some at
+fold-done decimals kind nodes ids i at worth inv l = run-done (λ (ids : List NodeId) (at : Decimal). folded decimals kind nodes at (map (λ (i : NodeId). i.number) ids)) ids i at worth inv l
 
 -- ---- chains of operators
 

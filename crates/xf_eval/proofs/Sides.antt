@@ -13,7 +13,7 @@ use Rattle.xf_lang.specs.Comparisons.{compared, holds, pairs_hold, plains_of, so
 use Rattle.xf_eval.specs.declared.compare.Side.{Side}
 use Rattle.xf_eval.specs.declared.compare.Side.TheVariants as side
 use Rattle.xf_eval.specs.Sides.{holds_for_some, plain_on, some_beside}
-use Rattle.xf_eval.specs.Worth.{setting_in}
+use Rattle.xf_eval.specs.Worth.{bare_setting, setting_in}
 
 any-map : {X Y : Type 0} (p : Y → Bool) (f : X → Y) (xs : List X) → list_any p (map f xs) ≡ list_any (λ x. p (f x)) xs
 any-map p f [] = refl
@@ -25,40 +25,40 @@ or-none false = refl
 
 -- ---- a set on the left
 
-pairs-left : (o : Operator) (texts : List (List ℕ)) (rights : List Side) → some_pair (holds 6 o) (map plain.Text texts) (map plain_on rights) ≡ some_beside o true rights texts
-pairs-left o [] rights = refl
-pairs-left o (t ∷ ts) rights =
-    ap (λ b. b || some_pair (holds 6 o) (map plain.Text ts) (map plain_on rights)) (any-map (holds 6 o (plain.Text t)) plain_on rights)
-    ∙ ap (λ b. list_any (λ (right : Side). holds 6 o (plain.Text t) (plain_on right)) rights || b) (pairs-left o ts rights)
+pairs-left : (d : ℕ) (o : Operator) (texts : List (List ℕ)) (rights : List Side) → some_pair (holds d o) (map plain.Text texts) (map plain_on rights) ≡ some_beside d o true rights texts
+pairs-left d o [] rights = refl
+pairs-left d o (t ∷ ts) rights =
+    ap (λ b. b || some_pair (holds d o) (map plain.Text ts) (map plain_on rights)) (any-map (holds d o (plain.Text t)) plain_on rights)
+    ∙ ap (λ b. list_any (λ (right : Side). holds d o (plain.Text t) (plain_on right)) rights || b) (pairs-left d o ts rights)
 
-pub set-left : (nodes : List Node) (o : Operator) (ns : List ℕ) (right : Value) (sides : List Side) → plains_of (setting_in nodes) right ≡ Some (map plain_on sides) →
-    option_map (some_beside o true sides) (strings_of (setting_in nodes) ns) ≡ pairs_hold (setting_in nodes) o (Nodes ns) right
-set-left nodes o ns right sides h =
-    by (strings_of (setting_in nodes) ns) ∙ sym (ap (λ m. plains_of (setting_in nodes) (Nodes ns) >>= λ lefts. m >>= λ rights. Some (some_pair (holds 6 o) lefts rights)) h)
+pub set-left : (d : ℕ) (nodes : List Node) (o : Operator) (ns : List ℕ) (right : Value) (sides : List Side) → plains_of (setting_in d nodes) right ≡ Some (map plain_on sides) →
+    option_map (some_beside d o true sides) (strings_of (bare_setting nodes) ns) ≡ pairs_hold (setting_in d nodes) o (Nodes ns) right
+set-left d nodes o ns right sides h =
+    by (strings_of (bare_setting nodes) ns) ∙ sym (ap (λ m. plains_of (setting_in d nodes) (Nodes ns) >>= λ lefts. m >>= λ rights. Some (some_pair (holds d o) lefts rights)) h)
   where
-    by : (m : Option (List (List ℕ))) → option_map (some_beside o true sides) m ≡ (option_map (map plain.Text) m >>= λ lefts. Some (some_pair (holds 6 o) lefts (map plain_on sides)))
+    by : (m : Option (List (List ℕ))) → option_map (some_beside d o true sides) m ≡ (option_map (map plain.Text) m >>= λ lefts. Some (some_pair (holds d o) lefts (map plain_on sides)))
     by None = refl
-    by (Some texts) = ap Some (sym (pairs-left o texts sides))
+    by (Some texts) = ap Some (sym (pairs-left d o texts sides))
 
 -- a set on the right that is too long
-pub set-long : (nodes : List Node) (o : Operator) (ns ms : List ℕ) → plains_of (setting_in nodes) (Nodes ms) ≡ None → pairs_hold (setting_in nodes) o (Nodes ns) (Nodes ms) ≡ None
-set-long nodes o ns ms h =
-    ap (λ m. plains_of (setting_in nodes) (Nodes ns) >>= λ lefts. m >>= λ rights. Some (some_pair (holds 6 o) lefts rights)) h ∙ by (plains_of (setting_in nodes) (Nodes ns))
+pub set-long : (d : ℕ) (nodes : List Node) (o : Operator) (ns ms : List ℕ) → plains_of (setting_in d nodes) (Nodes ms) ≡ None → pairs_hold (setting_in d nodes) o (Nodes ns) (Nodes ms) ≡ None
+set-long d nodes o ns ms h =
+    ap (λ m. plains_of (setting_in d nodes) (Nodes ns) >>= λ lefts. m >>= λ rights. Some (some_pair (holds d o) lefts rights)) h ∙ by (plains_of (setting_in d nodes) (Nodes ns))
   where
-    by : (m : Option (List Plain)) → (m >>= λ lefts. None >>= λ rights. Some (some_pair (holds 6 o) lefts rights)) ≡ None
+    by : (m : Option (List Plain)) → (m >>= λ lefts. None >>= λ rights. Some (some_pair (holds d o) lefts rights)) ≡ None
     by None = refl
     by (Some lefts) = refl
 
 -- ---- a plain value on the left
 
-one-right : (o : Operator) (lefts : List Side) (right : Plain) → some_pair (holds 6 o) (map plain_on lefts) (right ∷ []) ≡ holds_for_some o false lefts right
-one-right o [] right = refl
-one-right o (l ∷ ls) right =
-    ap (λ b. b || some_pair (holds 6 o) (map plain_on ls) (right ∷ [])) (or-none (holds 6 o (plain_on l) right)) ∙ ap (λ b. holds 6 o (plain_on l) right || b) (one-right o ls right)
+one-right : (d : ℕ) (o : Operator) (lefts : List Side) (right : Plain) → some_pair (holds d o) (map plain_on lefts) (right ∷ []) ≡ holds_for_some d o false lefts right
+one-right d o [] right = refl
+one-right d o (l ∷ ls) right =
+    ap (λ b. b || some_pair (holds d o) (map plain_on ls) (right ∷ [])) (or-none (holds d o (plain_on l) right)) ∙ ap (λ b. holds d o (plain_on l) right || b) (one-right d o ls right)
 
-none-right : (o : Operator) (lefts : List Plain) → some_pair (holds 6 o) lefts [] ≡ false
-none-right o [] = refl
-none-right o (l ∷ ls) = none-right o ls
+none-right : (d : ℕ) (o : Operator) (lefts : List Plain) → some_pair (holds d o) lefts [] ≡ false
+none-right d o [] = refl
+none-right d o (l ∷ ls) = none-right d o ls
 
 or-across : (a b c d : Bool) → ((a || b) || (c || d)) ≡ ((a || c) || (b || d))
 or-across true b c d = refl
@@ -67,56 +67,56 @@ or-across false true false d = refl
 or-across false false true d = refl
 or-across false false false d = refl
 
-more-right : (o : Operator) (lefts : List Plain) (right : Plain) (rights : List Plain) →
-    some_pair (holds 6 o) lefts (right ∷ rights) ≡ (some_pair (holds 6 o) lefts (right ∷ []) || some_pair (holds 6 o) lefts rights)
-more-right o [] right rights = refl
-more-right o (l ∷ ls) right rights =
-    ap (λ b. (holds 6 o l right || list_any (holds 6 o l) rights) || b) (more-right o ls right rights)
-    ∙ or-across (holds 6 o l right) (list_any (holds 6 o l) rights) (some_pair (holds 6 o) ls (right ∷ [])) (some_pair (holds 6 o) ls rights)
-    ∙ ap (λ b. (b || some_pair (holds 6 o) ls (right ∷ [])) || (list_any (holds 6 o l) rights || some_pair (holds 6 o) ls rights)) (sym (or-none (holds 6 o l right)))
+more-right : (d : ℕ) (o : Operator) (lefts : List Plain) (right : Plain) (rights : List Plain) →
+    some_pair (holds d o) lefts (right ∷ rights) ≡ (some_pair (holds d o) lefts (right ∷ []) || some_pair (holds d o) lefts rights)
+more-right d o [] right rights = refl
+more-right d o (l ∷ ls) right rights =
+    ap (λ b. (holds d o l right || list_any (holds d o l) rights) || b) (more-right d o ls right rights)
+    ∙ or-across (holds d o l right) (list_any (holds d o l) rights) (some_pair (holds d o) ls (right ∷ [])) (some_pair (holds d o) ls rights)
+    ∙ ap (λ b. (b || some_pair (holds d o) ls (right ∷ [])) || (list_any (holds d o l) rights || some_pair (holds d o) ls rights)) (sym (or-none (holds d o l right)))
 
-pairs-right : (o : Operator) (lefts : List Side) (texts : List (List ℕ)) → some_pair (holds 6 o) (map plain_on lefts) (map plain.Text texts) ≡ some_beside o false lefts texts
-pairs-right o lefts [] = none-right o (map plain_on lefts)
-pairs-right o lefts (t ∷ ts) =
-    more-right o (map plain_on lefts) (plain.Text t) (map plain.Text ts)
-    ∙ ap (λ b. b || some_pair (holds 6 o) (map plain_on lefts) (map plain.Text ts)) (one-right o lefts (plain.Text t))
-    ∙ ap (λ b. holds_for_some o false lefts (plain.Text t) || b) (pairs-right o lefts ts)
+pairs-right : (d : ℕ) (o : Operator) (lefts : List Side) (texts : List (List ℕ)) → some_pair (holds d o) (map plain_on lefts) (map plain.Text texts) ≡ some_beside d o false lefts texts
+pairs-right d o lefts [] = none-right d o (map plain_on lefts)
+pairs-right d o lefts (t ∷ ts) =
+    more-right d o (map plain_on lefts) (plain.Text t) (map plain.Text ts)
+    ∙ ap (λ b. b || some_pair (holds d o) (map plain_on lefts) (map plain.Text ts)) (one-right d o lefts (plain.Text t))
+    ∙ ap (λ b. holds_for_some d o false lefts (plain.Text t) || b) (pairs-right d o lefts ts)
 
-pub set-right : (nodes : List Node) (o : Operator) (lefts : List Side) (left : Value) (ns : List ℕ) → plains_of (setting_in nodes) left ≡ Some (map plain_on lefts) →
-    option_map (some_beside o false lefts) (strings_of (setting_in nodes) ns) ≡ pairs_hold (setting_in nodes) o left (Nodes ns)
-set-right nodes o lefts left ns h =
-    by (strings_of (setting_in nodes) ns) ∙ sym (ap (λ m. m >>= λ ls. plains_of (setting_in nodes) (Nodes ns) >>= λ rights. Some (some_pair (holds 6 o) ls rights)) h)
+pub set-right : (d : ℕ) (nodes : List Node) (o : Operator) (lefts : List Side) (left : Value) (ns : List ℕ) → plains_of (setting_in d nodes) left ≡ Some (map plain_on lefts) →
+    option_map (some_beside d o false lefts) (strings_of (bare_setting nodes) ns) ≡ pairs_hold (setting_in d nodes) o left (Nodes ns)
+set-right d nodes o lefts left ns h =
+    by (strings_of (bare_setting nodes) ns) ∙ sym (ap (λ m. m >>= λ ls. plains_of (setting_in d nodes) (Nodes ns) >>= λ rights. Some (some_pair (holds d o) ls rights)) h)
   where
-    by : (m : Option (List (List ℕ))) → option_map (some_beside o false lefts) m ≡ (option_map (map plain.Text) m >>= λ rights. Some (some_pair (holds 6 o) (map plain_on lefts) rights))
+    by : (m : Option (List (List ℕ))) → option_map (some_beside d o false lefts) m ≡ (option_map (map plain.Text) m >>= λ rights. Some (some_pair (holds d o) (map plain_on lefts) rights))
     by None = refl
-    by (Some texts) = ap Some (sym (pairs-right o lefts texts))
+    by (Some texts) = ap Some (sym (pairs-right d o lefts texts))
 
 -- ---- plain values on both sides
 
-one-one : (o : Operator) (left right : Plain) → Some (some_pair (holds 6 o) (left ∷ []) (right ∷ [])) ≡ Some (holds 6 o left right)
-one-one o left right = ap Some (or-none (holds 6 o left right || false) ∙ or-none (holds 6 o left right))
+one-one : (d : ℕ) (o : Operator) (left right : Plain) → Some (some_pair (holds d o) (left ∷ []) (right ∷ [])) ≡ Some (holds d o left right)
+one-one d o left right = ap Some (or-none (holds d o left right || false) ∙ or-none (holds d o left right))
 
-pub plain-plain : (nodes : List Node) (o : Operator) (left right : Plain) → compared (setting_in nodes) o (value_of_plain left) (value_of_plain right) ≡ Some (holds 6 o left right)
-plain-plain nodes o (plain.Text t) (plain.Text u) = one-one o (plain.Text t) (plain.Text u)
-plain-plain nodes o (plain.Text t) (plain.Number k) = one-one o (plain.Text t) (plain.Number k)
-plain-plain nodes o (plain.Text t) (plain.Truth b) = one-one o (plain.Text t) (plain.Truth b)
-plain-plain nodes o (plain.Number j) (plain.Text u) = one-one o (plain.Number j) (plain.Text u)
-plain-plain nodes o (plain.Number j) (plain.Number k) = one-one o (plain.Number j) (plain.Number k)
-plain-plain nodes o (plain.Number j) (plain.Truth b) = one-one o (plain.Number j) (plain.Truth b)
-plain-plain nodes o (plain.Truth a) (plain.Text u) = one-one o (plain.Truth a) (plain.Text u)
-plain-plain nodes o (plain.Truth a) (plain.Number k) = one-one o (plain.Truth a) (plain.Number k)
-plain-plain nodes o (plain.Truth a) (plain.Truth b) = one-one o (plain.Truth a) (plain.Truth b)
+pub plain-plain : (d : ℕ) (nodes : List Node) (o : Operator) (left right : Plain) → compared (setting_in d nodes) o (value_of_plain left) (value_of_plain right) ≡ Some (holds d o left right)
+plain-plain d nodes o (plain.Text t) (plain.Text u) = one-one d o (plain.Text t) (plain.Text u)
+plain-plain d nodes o (plain.Text t) (plain.Number k) = one-one d o (plain.Text t) (plain.Number k)
+plain-plain d nodes o (plain.Text t) (plain.Truth b) = one-one d o (plain.Text t) (plain.Truth b)
+plain-plain d nodes o (plain.Number j) (plain.Text u) = one-one d o (plain.Number j) (plain.Text u)
+plain-plain d nodes o (plain.Number j) (plain.Number k) = one-one d o (plain.Number j) (plain.Number k)
+plain-plain d nodes o (plain.Number j) (plain.Truth b) = one-one d o (plain.Number j) (plain.Truth b)
+plain-plain d nodes o (plain.Truth a) (plain.Text u) = one-one d o (plain.Truth a) (plain.Text u)
+plain-plain d nodes o (plain.Truth a) (plain.Number k) = one-one d o (plain.Truth a) (plain.Number k)
+plain-plain d nodes o (plain.Truth a) (plain.Truth b) = one-one d o (plain.Truth a) (plain.Truth b)
 
 -- ---- a set beside a side that is no truth
 
-pub side-right : (nodes : List Node) (o : Operator) (ns : List ℕ) (right : Side) → ((b : Bool) → right ≡ side.Truth b → ⊥) →
-    option_map (some_beside o true (right ∷ [])) (strings_of (setting_in nodes) ns) ≡ compared (setting_in nodes) o (Nodes ns) (value_of_plain (plain_on right))
-side-right nodes o ns (side.Text text) h = set-left nodes o ns (value_of_plain (plain_on (side.Text text))) (side.Text text ∷ []) refl
-side-right nodes o ns (side.Number k) h = set-left nodes o ns (Number k) (side.Number k ∷ []) refl
-side-right nodes o ns (side.Truth b) h = absurd (h b refl)
+pub side-right : (d : ℕ) (nodes : List Node) (o : Operator) (ns : List ℕ) (right : Side) → ((b : Bool) → right ≡ side.Truth b → ⊥) →
+    option_map (some_beside d o true (right ∷ [])) (strings_of (bare_setting nodes) ns) ≡ compared (setting_in d nodes) o (Nodes ns) (value_of_plain (plain_on right))
+side-right d nodes o ns (side.Text text) h = set-left d nodes o ns (value_of_plain (plain_on (side.Text text))) (side.Text text ∷ []) refl
+side-right d nodes o ns (side.Number k) h = set-left d nodes o ns (Number k) (side.Number k ∷ []) refl
+side-right d nodes o ns (side.Truth b) h = absurd (h b refl)
 
-pub side-left : (nodes : List Node) (o : Operator) (ns : List ℕ) (left : Side) → ((b : Bool) → left ≡ side.Truth b → ⊥) →
-    option_map (some_beside o false (left ∷ [])) (strings_of (setting_in nodes) ns) ≡ compared (setting_in nodes) o (value_of_plain (plain_on left)) (Nodes ns)
-side-left nodes o ns (side.Text text) h = set-right nodes o (side.Text text ∷ []) (value_of_plain (plain_on (side.Text text))) ns refl
-side-left nodes o ns (side.Number k) h = set-right nodes o (side.Number k ∷ []) (Number k) ns refl
-side-left nodes o ns (side.Truth b) h = absurd (h b refl)
+pub side-left : (d : ℕ) (nodes : List Node) (o : Operator) (ns : List ℕ) (left : Side) → ((b : Bool) → left ≡ side.Truth b → ⊥) →
+    option_map (some_beside d o false (left ∷ [])) (strings_of (bare_setting nodes) ns) ≡ compared (setting_in d nodes) o (value_of_plain (plain_on left)) (Nodes ns)
+side-left d nodes o ns (side.Text text) h = set-right d nodes o (side.Text text ∷ []) (value_of_plain (plain_on (side.Text text))) ns refl
+side-left d nodes o ns (side.Number k) h = set-right d nodes o (side.Number k ∷ []) (Number k) ns refl
+side-left d nodes o ns (side.Truth b) h = absurd (h b refl)

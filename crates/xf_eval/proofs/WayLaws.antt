@@ -4,18 +4,19 @@ use Rattle.xf_name.specs.declared.axis.Axis.{Axis}
 use Rattle.xf_name.specs.declared.axis.Axis.TheVariants.{Child, Attribute, Self_, Parent, Ancestor, AncestorOrSelf, Descendant, DescendantOrSelf, FollowingSibling, PrecedingSibling}
 use Rattle.xf_ast.specs.declared.expr.Step.{Step}
 use Rattle.xf_doc.specs.declared.content.Node.{Node}
+use Rattle.xf_funcs.specs.Called.{called}
 use Rattle.xf_lang.specs.declared.context.Context.{Context}
 use Rattle.xf_lang.specs.Given.{Given}
 use Rattle.xf_eval.specs.declared.ways.Way.{Way}
 use Rattle.xf_doc.specs.Texts.{Keeping}
 use Rattle.xf_doc.specs.WellFormed.{AreTrees}
 use Rattle.xf_lang.specs.Agree.{AreVisits}
-use Rattle.xf_lang.specs.Meaning.{meaning, walk_of}
+use Rattle.xf_lang.specs.Meaning.{meaning, setting_of, walk_of}
 use Rattle.xf_lang.specs.Setting.{Setting}
 use Rattle.xf_lang.specs.Steps.{begun_at, walked}
 use Rattle.xf_eval.specs.Taken.{taken}
 use Rattle.xf_eval.specs.Ways.{IsWay, is_child}
-use Rattle.xf_eval.specs.Worth.{seen, setting_at}
+use Rattle.xf_eval.specs.Worth.{seen}
 use Rattle.xf_eval.proofs.Below.{seen-visits, taken-below}
 use Rattle.xf_eval.proofs.Parts.{step-taken}
 use Rattle.xf_eval.proofs.Runs.{walked-more, walked-stuck}
@@ -56,7 +57,7 @@ straight-down k step (n ∷ []) sound below axis none one s all =
 
 module _ (given : Given) (nodes : List Node) (context : Context) where
   abbrev setting : Setting
-  setting = setting_at given nodes context
+  setting = setting_of called given nodes context
 
   pub way-walks : (step : Step) (from start : List ℕ) (way : Way) → IsWay step nodes from way → start ≡ begun_at way.is_below (seen nodes) from →
       walk_of step setting from ≡ taken way.axis step.test (map meaning step.predicates) setting start

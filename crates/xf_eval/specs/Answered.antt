@@ -1,5 +1,5 @@
 -- An operator whose sides are both evaluated, `or` and `and` among them where the left side did not decide (XPath 1.0, sections 3.3 to 3.5).
-use Rattle.std.specs.Prelude.{Bool, true, false, not, Option, Some}
+use Rattle.std.specs.Prelude.{ℕ, Bool, true, false, not, Option, Some}
 use Rattle.xf_num.specs.Number.{sum, difference, product, quotient, remainder}
 use Rattle.xf_ast.specs.declared.expr.Operator.{Operator}
 use Rattle.xf_ast.specs.declared.expr.Operator.TheVariants.{Or, And, Add, Subtract, Multiply, Divide, Equal, NotEqual, Less, LessOrEqual, Greater, GreaterOrEqual}
@@ -31,10 +31,10 @@ compares Greater = true
 compares GreaterOrEqual = true
 compares other = false
 
--- of six decimals
-abbrev pub arithmetic : Operator → Decimal → Decimal → Decimal
-arithmetic Add j k = sum j k
-arithmetic Subtract j k = difference j k
-arithmetic Multiply j k = product 6 j k
-arithmetic Divide j k = quotient 6 j k
-arithmetic other j k = remainder j k
+-- of d decimals
+abbrev pub arithmetic : ℕ → Operator → Decimal → Decimal → Decimal
+arithmetic d Add j k = sum j k
+arithmetic d Subtract j k = difference j k
+arithmetic d Multiply j k = product d j k
+arithmetic d Divide j k = quotient d j k
+arithmetic d other j k = remainder j k

@@ -9,10 +9,11 @@ use Rattle.xf_lang.specs.Given.{Given}
 use Rattle.xf_lang.specs.Setting.{Meaning, ◌>>=◌}
 use Rattle.xf_lang.specs.Conversions.{string_of}
 use Rattle.xf_lang.specs.Functions.{branched, plain_arguments}
-use Rattle.xf_lang.specs.Meaning.{focus_of}
+use Rattle.xf_lang.specs.Meaning.{focus_of, setting_of}
+use Rattle.xf_funcs.specs.Called.{called}
 use Rattle.xf_eval.specs.declared.kinds.Kind.{Kind}
 use Rattle.xf_eval.specs.declared.kinds.Kind.TheVariants as kind
-use Rattle.xf_eval.specs.Worth.{setting_at, setting_in}
+use Rattle.xf_eval.specs.Worth.{setting_in}
 use Rattle.xf_eval.specs.OfOne.{one_worth, own_worth, plain_worth}
 
 -- the argument at a place from 0; where none is written, these nodes
@@ -24,21 +25,21 @@ argument_or (suc at) own (m ∷ ms) s c = argument_or at own ms s c
 -- of the argument of a function that stands for the context node where none is written
 abbrev pub of_own_argument : Kind → ℕ → Given → List Node → Context → List Meaning → Option Value
 of_own_argument k code given nodes context ms =
-    argument_or 0 (context.node.number ∷ []) ms (setting_at given nodes context) (focus_of context) >>= own_worth k code given nodes
+    argument_or 0 (context.node.number ∷ []) ms (setting_of called given nodes context) (focus_of context) >>= own_worth given.decimals k code given nodes
 
 abbrev pub by_kind : Kind → ℕ → Given → List Node → Context → List Meaning → Option Value
-by_kind kind.Asking code given nodes context ms = plain_arguments ms (setting_at given nodes context) (focus_of context) >>= plain_worth code
-by_kind kind.Plainly code given nodes context ms = plain_arguments ms (setting_at given nodes context) (focus_of context) >>= plain_worth code
+by_kind kind.Asking code given nodes context ms = plain_arguments ms (setting_of called given nodes context) (focus_of context) >>= plain_worth given.decimals code
+by_kind kind.Plainly code given nodes context ms = plain_arguments ms (setting_of called given nodes context) (focus_of context) >>= plain_worth given.decimals code
 by_kind (kind.Truth b) code given nodes context ms = Some (Truth b)
 by_kind kind.Current code given nodes context ms = Some (Nodes (context.current.number ∷ []))
-by_kind kind.Last code given nodes context ms = Some (Number (whole 6 context.size))
-by_kind kind.Position code given nodes context ms = Some (Number (whole 6 context.position))
-by_kind kind.Choosing code given nodes context ms = branched ms (setting_at given nodes context) (focus_of context)
-by_kind kind.Branching code given nodes context ms = option_map Text (branched ms (setting_at given nodes context) (focus_of context) >>= string_of (setting_in nodes))
+by_kind kind.Last code given nodes context ms = Some (Number (whole given.decimals context.size))
+by_kind kind.Position code given nodes context ms = Some (Number (whole given.decimals context.position))
+by_kind kind.Choosing code given nodes context ms = branched ms (setting_of called given nodes context) (focus_of context)
+by_kind kind.Branching code given nodes context ms = option_map Text (branched ms (setting_of called given nodes context) (focus_of context) >>= string_of (setting_in given.decimals nodes))
 by_kind kind.Owning code given nodes context ms = of_own_argument kind.Owning code given nodes context ms
 by_kind kind.Number code given nodes context ms = of_own_argument kind.Number code given nodes context ms
 by_kind kind.Text code given nodes context ms = of_own_argument kind.Text code given nodes context ms
 by_kind kind.LocalName code given nodes context ms = of_own_argument kind.LocalName code given nodes context ms
 by_kind kind.Name code given nodes context ms = of_own_argument kind.Name code given nodes context ms
 by_kind kind.Namespace code given nodes context ms = of_own_argument kind.Namespace code given nodes context ms
-by_kind other code given nodes context ms = argument_or 0 [] ms (setting_at given nodes context) (focus_of context) >>= one_worth other context.model given nodes
+by_kind other code given nodes context ms = argument_or 0 [] ms (setting_of called given nodes context) (focus_of context) >>= one_worth given.decimals other context.model given nodes

@@ -16,9 +16,9 @@ constant k = λ s c. Some (Number k)
 abbrev pub BeginsWith : Decimal → List Expr → Type 0
 BeginsWith k predicates = map meaning predicates ≡ constant k ∷ map meaning (drop 1 predicates)
 
--- a number is a position, and no other one; 0 stands for none
-abbrev pub IsPosition : Decimal → ℕ → Type 0
-IsPosition k place = (position : ℕ) → is_same_number k (whole 6 (suc position)) ≡ (suc position == place)
+-- a number of d decimals is a position, and no other one; 0 stands for none
+abbrev pub IsPosition : ℕ → Decimal → ℕ → Type 0
+IsPosition d k place = (position : ℕ) → is_same_number k (whole d (suc position)) ≡ (suc position == place)
 
 -- the node at a position
 abbrev pub at_position : List ℕ → ℕ → Option ℕ
@@ -26,5 +26,5 @@ at_position ns zero = None
 at_position ns (suc at) = slice_get ns at
 
 -- what this number keeps of these nodes, however many they were
-abbrev pub Keeps : Decimal → List ℕ → List ℕ → Type 0
-Keeps k ns kept = (s : Setting) (size : ℕ) → s.given.decimals ≡ 6 → kept_from s (constant k) size 1 ns ≡ Some kept
+abbrev pub Keeps : ℕ → Decimal → List ℕ → List ℕ → Type 0
+Keeps d k ns kept = (s : Setting) (size : ℕ) → d ≡ s.given.decimals → kept_from s (constant k) size 1 ns ≡ Some kept

@@ -23,13 +23,13 @@ plain_on (Number k) = plain.Number k
 plain_on (Truth b) = plain.Truth b
 
 -- the operator holds between one, which is the left side or the right one, and some of the others
-abbrev pub holds_for_some : Operator → Bool → List Side → Plain → Bool
-holds_for_some operator true others one = list_any (λ other. holds 6 operator one (plain_on other)) others
-holds_for_some operator false others one = list_any (λ other. holds 6 operator (plain_on other) one) others
+abbrev pub holds_for_some : ℕ → Operator → Bool → List Side → Plain → Bool
+holds_for_some d operator true others one = list_any (λ other. holds d operator one (plain_on other)) others
+holds_for_some d operator false others one = list_any (λ other. holds d operator (plain_on other) one) others
 
 -- so it does for some of these texts
-abbrev pub some_beside : Operator → Bool → List Side → List (List ℕ) → Bool
-some_beside operator is_left others texts = list_any (λ text. holds_for_some operator is_left others (plain.Text text)) texts
+abbrev pub some_beside : ℕ → Operator → Bool → List Side → List (List ℕ) → Bool
+some_beside d operator is_left others texts = list_any (λ text. holds_for_some d operator is_left others (plain.Text text)) texts
 
 -- the value on one side
 abbrev pub value_in : Operand → Value

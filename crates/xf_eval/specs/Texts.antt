@@ -11,16 +11,16 @@ use Rattle.xf_eval.specs.declared.kinds.Kind.{Kind}
 use Rattle.xf_eval.specs.declared.kinds.Kind.TheVariants as kind
 use Rattle.xf_eval.specs.declared.texts.StringValue.{StringValue}
 use Rattle.xf_eval.specs.declared.texts.StringValue.TheVariants.{Lent, Made}
-use Rattle.xf_eval.specs.Worth.{setting_in}
+use Rattle.xf_eval.specs.Worth.{bare_setting}
 
 -- the characters of a string value
 abbrev pub characters : StringValue → List ℕ
 characters (Lent text) = text.now
 characters (Made text) = text
 
--- the number that the string value of a node is
-abbrev pub number_at : List Node → ℕ → Option Decimal
-number_at nodes n = option_map (read_at 6) (string_of_node (setting_in nodes) n)
+-- the number of d decimals that the string value of a node is
+abbrev pub number_at : ℕ → List Node → ℕ → Option Decimal
+number_at d nodes n = option_map (read_at d) (string_of_node (bare_setting nodes) n)
 
 -- what a function of numbers makes of one that came and the next one
 abbrev pub combined : Kind → Decimal → Decimal → Decimal
@@ -29,5 +29,5 @@ combined kind.Least j k = lesser j k
 combined other j k = sum j k
 
 -- what it makes of a first number and of those of these nodes
-abbrev pub folded : Kind → List Node → Decimal → List ℕ → Option Decimal
-folded kind nodes first ns = option_map (fold (combined kind) first) (each (number_at nodes) ns)
+abbrev pub folded : ℕ → Kind → List Node → Decimal → List ℕ → Option Decimal
+folded d kind nodes first ns = option_map (fold (combined kind) first) (each (number_at d nodes) ns)

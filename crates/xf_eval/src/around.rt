@@ -6,9 +6,10 @@ ghost use Rattle.xf_lang.specs.Given.{document_of, beside, property_of};
 use xf_doc::NodeId;
 use xf_lang::Value;
 use xf_name::Prefixes;
+use xf_num::Decimals;
 
 /// What surrounds an expression (XForms 1.1, section 7): the instances of the form, the indexes of its repeats, the event that is
-/// handled, and the form's namespaces. Contracts see it as the record of these.
+/// handled, and the form's namespaces and decimals. Contracts see it as the record of these.
 pub trait Around {
     ghost use Rattle.xf_lang.specs.Given.{Given};
 
@@ -30,6 +31,7 @@ pub trait Around {
     fn prefixes(&self) -> &Prefixes
         ensures { result.now ≡ (given self.now).bindings };
 
-    /// Numbers have six decimals.
-    ghost six: { (x : Self) → (given x).decimals ≡ 6 };
+    /// How many decimals numbers have.
+    fn decimals(&self) -> Decimals
+        ensures { result ≡ (given self.now).decimals };
 }

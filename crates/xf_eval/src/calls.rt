@@ -2,18 +2,18 @@
 
 ghost use Rattle.std.specs.Prelude.{◌≡◌, [], IfOk, map, option_map};
 ghost use Rattle.xf_plain_values.specs.Bounded.{GivesBounded};
+ghost use Rattle.xf_funcs.specs.Called.{called};
 ghost use Rattle.xf_lang.specs.Conversions.{nodes_of, value_of_plain};
 ghost use Rattle.xf_lang.specs.Binding.{as_list};
 ghost use Rattle.xf_lang.specs.Functions.{branched, plain_arguments};
-ghost use Rattle.xf_lang.specs.Meaning.{focus_of, meaning};
+ghost use Rattle.xf_lang.specs.Meaning.{focus_of, meaning, setting_of};
 ghost use Rattle.xf_eval.specs.Live.{AllLive, AroundStands, IsReady};
-ghost use Rattle.xf_eval.specs.Worth.{setting_at};
 ghost use Rattle.xf_eval.specs.OfOne.{one_worth, own_worth, plain_worth};
 ghost use Rattle.xf_eval.specs.ByKind.{argument_or, by_kind};
 ghost use Rattle.xf_eval.specs.First.{counted};
 
 use crate::around::Around;
-use crate::convert::{number_of, plain_of, text_of, truth_of, whole};
+use crate::convert::{number_of, place_in, plain_of, text_of, truth_of, whole};
 use crate::first::{asked_at, takes_plain};
 use crate::kinds::Kind;
 use crate::of_nodes::{name_of, of_nodes};
@@ -23,7 +23,7 @@ use xf_ast::Expr;
 use xf_doc::{NodeId, NodeList};
 use xf_funcs::{FuncFault, call};
 use xf_lang::{Context, EvalFault, Value};
-use xf_num::Num;
+use xf_num::{Decimals, Num};
 use xf_plain_values::Plain;
 use xf_tree::Forest;
 
@@ -42,30 +42,31 @@ pub(crate) fn call_value<A: Around>(
     ensures value { GivesBounded EvalFault.Memory EvalFault.Long (λ value. value) result (by_kind kind code (A.given around.now) forest.now.forest.nodes context.now (map meaning arguments.now)) }
     ensures live { IfOk result (λ value. AllLive (nodes_of value) forest.now.forest.nodes) }
 {
+    let decimals = around.decimals();
     match kind {
         Kind::Asking | Kind::Plainly => {
             let given = plain_arguments(alloc, forest, around, arguments, context)?;
-            called_plainly(alloc, code, given.as_slice())
+            called_plainly(alloc, code, given.as_slice(), decimals)
         }
         Kind::Truth(truth) => Ok(Value::Truth(truth)),
         Kind::Current => Ok(Value::Nodes(single(alloc, context.current)?)),
-        Kind::Last => Ok(Value::Number(whole(context.size as usize))),
-        Kind::Position => Ok(Value::Number(whole(context.position as usize))),
+        Kind::Last => Ok(Value::Number(place_in(around, context.size))),
+        Kind::Position => Ok(Value::Number(place_in(around, context.position))),
         Kind::Choosing => branched(alloc, forest, around, false, arguments, context),
         Kind::Branching => {
             let value = branched(alloc, forest, around, true, arguments, context)?;
-            Ok(Value::Text(text_of(alloc, forest, &value)?))
+            Ok(Value::Text(text_of(alloc, forest, &value, decimals)?))
         }
         Kind::Owning | Kind::Number | Kind::Text | Kind::LocalName | Kind::Name | Kind::Namespace =>
             {
                 let own = Some(context.node);
                 let value = argument(alloc, forest, around, true, arguments, 0, own, context)?;
-                of_own(alloc, forest, around, kind, code, value)
+                of_own(alloc, forest, around, kind, code, value, decimals)
             }
         _ => {
             let plain = takes_plain(kind);
             let value = argument(alloc, forest, around, plain, arguments, 0, None, context)?;
-            of_one(alloc, forest, around, kind, context.model, value)
+            of_one(alloc, forest, around, kind, context.model, value, decimals)
         }
     }
 }
@@ -85,7 +86,7 @@ fn argument<A: Around>(
 ) -> Result<Value, EvalFault>
     requires ready { IsReady (A.given around.now) forest.now.forest.nodes context.now }
     requires own { AllLive (as_list (option_map (λ n. n.number) own)) forest.now.forest.nodes }
-    ensures value { GivesBounded EvalFault.Memory EvalFault.Long (counted is_converted) result (option_map (counted is_converted) (argument_or at (as_list (option_map (λ n. n.number) own)) (map meaning arguments.now) (setting_at (A.given around.now) forest.now.forest.nodes context.now) (focus_of context.now))) }
+    ensures value { GivesBounded EvalFault.Memory EvalFault.Long (counted is_converted) result (option_map (counted is_converted) (argument_or at (as_list (option_map (λ n. n.number) own)) (map meaning arguments.now) (setting_of called (A.given around.now) forest.now.forest.nodes context.now) (focus_of context.now))) }
     ensures live { IfOk result (λ value. AllLive (nodes_of value) forest.now.forest.nodes) }
 {
     match arguments.get(at) {
@@ -104,7 +105,7 @@ fn plain_arguments<A: Around>(
     context: &Context,
 ) -> Result<Vec<Plain>, EvalFault>
     requires { IsReady (A.given around.now) forest.now.forest.nodes context.now }
-    ensures { GivesBounded EvalFault.Memory EvalFault.Long (λ given. given.items) result (plain_arguments (map meaning arguments.now) (setting_at (A.given around.now) forest.now.forest.nodes context.now) (focus_of context.now)) }
+    ensures { GivesBounded EvalFault.Memory EvalFault.Long (λ given. given.items) result (plain_arguments (map meaning arguments.now) (setting_of called (A.given around.now) forest.now.forest.nodes context.now) (focus_of context.now)) }
 {
     let mut given = Vec::new(alloc);
     for argument in arguments {
@@ -126,7 +127,7 @@ fn branched<A: Around>(
     context: &Context,
 ) -> Result<Value, EvalFault>
     requires { IsReady (A.given around.now) forest.now.forest.nodes context.now }
-    ensures value { GivesBounded EvalFault.Memory EvalFault.Long (counted is_converted) result (option_map (counted is_converted) (branched (map meaning arguments.now) (setting_at (A.given around.now) forest.now.forest.nodes context.now) (focus_of context.now))) }
+    ensures value { GivesBounded EvalFault.Memory EvalFault.Long (counted is_converted) result (option_map (counted is_converted) (branched (map meaning arguments.now) (setting_of called (A.given around.now) forest.now.forest.nodes context.now) (focus_of context.now))) }
     ensures live { IfOk result (λ value. AllLive (nodes_of value) forest.now.forest.nodes) }
 {
     let condition = argument(alloc, forest, around, true, arguments, 0, None, context)?;
@@ -151,18 +152,19 @@ fn of_own<A: Around>(
     kind: Kind,
     code: u16,
     value: Value,
+    decimals: Decimals,
 ) -> Result<Value, EvalFault>
     requires around { AroundStands (A.given around.now) forest.now.forest.nodes }
     requires value { AllLive (nodes_of value) forest.now.forest.nodes }
-    ensures value { GivesBounded EvalFault.Memory EvalFault.Long (λ value. value) result (own_worth kind code (A.given around.now) forest.now.forest.nodes value) }
+    ensures value { GivesBounded EvalFault.Memory EvalFault.Long (λ value. value) result (own_worth decimals kind code (A.given around.now) forest.now.forest.nodes value) }
     ensures live { IfOk result (λ value. AllLive (nodes_of value) forest.now.forest.nodes) }
 {
     match kind {
-        Kind::Number => Ok(Value::Number(number_of(alloc, forest, &value)?)),
-        Kind::Text => Ok(Value::Text(text_of(alloc, forest, &value)?)),
+        Kind::Number => Ok(Value::Number(number_of(alloc, forest, &value, decimals)?)),
+        Kind::Text => Ok(Value::Text(text_of(alloc, forest, &value, decimals)?)),
         Kind::Owning => {
             let given = [plain_of(alloc, forest, value)?];
-            called_plainly(alloc, code, &given)
+            called_plainly(alloc, code, &given, decimals)
         }
         kind => name_of(alloc, forest, around, kind, &nodes_in(alloc, value)),
     }
@@ -176,43 +178,49 @@ fn of_one<A: Around>(
     kind: Kind,
     model: u32,
     value: Value,
+    decimals: Decimals,
 ) -> Result<Value, EvalFault>
     requires around { AroundStands (A.given around.now) forest.now.forest.nodes }
     requires value { AllLive (nodes_of value) forest.now.forest.nodes }
-    ensures value { GivesBounded EvalFault.Memory EvalFault.Long (λ value. value) result (one_worth kind model (A.given around.now) forest.now.forest.nodes value) }
+    ensures value { GivesBounded EvalFault.Memory EvalFault.Long (λ value. value) result (one_worth decimals kind model (A.given around.now) forest.now.forest.nodes value) }
     ensures live { IfOk result (λ value. AllLive (nodes_of value) forest.now.forest.nodes) }
 {
     match kind {
         Kind::Boolean => Ok(Value::Truth(truth_of(&value))),
         Kind::Not => Ok(Value::Truth(!truth_of(&value))),
         Kind::Event => {
-            let name = text_of(alloc, forest, &value)?;
+            let name = text_of(alloc, forest, &value, decimals)?;
             match around.event(name.as_str()) {
                 Some(property) => Ok(copied(alloc, property)?),
                 None => Ok(Value::Nodes(NodeList::new(alloc))),
             }
         }
         Kind::Index => {
-            let id = text_of(alloc, forest, &value)?;
+            let id = text_of(alloc, forest, &value, decimals)?;
             match around.index(id.as_str()) {
-                Some(index) => Ok(Value::Number(whole(index as usize))),
+                Some(index) => Ok(Value::Number(whole(index as usize, decimals))),
                 None => Ok(Value::Number(Num::nan())),
             }
         }
         Kind::Instance => {
-            let id = text_of(alloc, forest, &value)?;
+            let id = text_of(alloc, forest, &value, decimals)?;
             Ok(Value::Nodes(listed(alloc, around.instance(model, id.as_str()))?))
         }
-        kind => of_nodes(alloc, forest, kind, &nodes_in(alloc, value)),
+        kind => of_nodes(alloc, forest, kind, &nodes_in(alloc, value), decimals),
     }
 }
 
 /// The value of a function on plain values.
-fn called_plainly(alloc: Global, code: u16, given: &[Plain]) -> Result<Value, EvalFault>
-    ensures value { GivesBounded EvalFault.Memory EvalFault.Long (λ value. value) result (plain_worth code given.now) }
+fn called_plainly(
+    alloc: Global,
+    code: u16,
+    given: &[Plain],
+    decimals: Decimals,
+) -> Result<Value, EvalFault>
+    ensures value { GivesBounded EvalFault.Memory EvalFault.Long (λ value. value) result (plain_worth decimals code given.now) }
     ensures live { IfOk result (λ value. nodes_of value ≡ []) }
 {
-    match call(alloc, code, given) {
+    match call(alloc, code, given, decimals) {
         Ok(plain) => Ok(value_of(plain)),
         Err(FuncFault::Long) => Err(EvalFault::Long),
         Err(FuncFault::Memory) => Err(EvalFault::Memory),

@@ -10,7 +10,7 @@ ghost use Rattle.xf_lang.specs.Conversions.{nodes_of, strings_of, value_of_plain
 ghost use Rattle.xf_lang.specs.Comparisons.{are_equal, compared, holds, order_in};
 ghost use Rattle.xf_eval.specs.Live.{AllLive};
 ghost use Rattle.xf_eval.specs.Sides.{holds_for_some, plain_on, some_beside, value_in};
-ghost use Rattle.xf_eval.specs.Worth.{setting_in};
+ghost use Rattle.xf_eval.specs.Worth.{bare_setting, setting_in};
 
 use crate::convert::{is_not_zero, number_of_truth};
 use crate::texts::{StringValue, value_of_node};
@@ -20,7 +20,7 @@ use std::slice;
 use xf_ast::Operator;
 use xf_doc::NodeList;
 use xf_lang::{EvalFault, Value};
-use xf_num::Num;
+use xf_num::{Decimals, Num};
 use xf_tree::Forest;
 
 /// One side of a comparison: a plain value, its text lent or made.
@@ -57,14 +57,15 @@ pub(crate) fn compared(
     operator: Operator,
     left: &Operand<'_>,
     right: &Operand<'_>,
+    decimals: Decimals,
 ) -> Result<bool, EvalFault>
     requires left { AllLive (nodes_of (value_in left.now)) forest.now.forest.nodes }
     requires right { AllLive (nodes_of (value_in right.now)) forest.now.forest.nodes }
-    ensures { GivesBounded EvalFault.Memory EvalFault.Long (λ truth. truth) result (compared (setting_in forest.now.forest.nodes) operator (value_in left.now) (value_in right.now)) }
+    ensures { GivesBounded EvalFault.Memory EvalFault.Long (λ truth. truth) result (compared (setting_in decimals forest.now.forest.nodes) operator (value_in left.now) (value_in right.now)) }
 {
     match left {
-        Operand::Nodes(nodes) => set_beside(alloc, forest, operator, nodes, right),
-        Operand::Plain(side) => plain_beside(alloc, forest, operator, side, right),
+        Operand::Nodes(nodes) => set_beside(alloc, forest, operator, nodes, right, decimals),
+        Operand::Plain(side) => plain_beside(alloc, forest, operator, side, right, decimals),
     }
 }
 
@@ -75,14 +76,15 @@ pub(crate) fn compared_values(
     operator: Operator,
     left: Value,
     right: Value,
+    decimals: Decimals,
 ) -> Result<bool, EvalFault>
     requires left { AllLive (nodes_of left) forest.now.forest.nodes }
     requires right { AllLive (nodes_of right) forest.now.forest.nodes }
-    ensures { GivesBounded EvalFault.Memory EvalFault.Long (λ truth. truth) result (compared (setting_in forest.now.forest.nodes) operator left right) }
+    ensures { GivesBounded EvalFault.Memory EvalFault.Long (λ truth. truth) result (compared (setting_in decimals forest.now.forest.nodes) operator left right) }
 {
     let one = operand_of(left);
     let other = operand_of(right);
-    compared(alloc, forest, operator, &one, &other)
+    compared(alloc, forest, operator, &one, &other, decimals)
 }
 
 /// A set on the left.
@@ -92,19 +94,36 @@ fn set_beside(
     operator: Operator,
     nodes: &NodeList,
     right: &Operand<'_>,
+    decimals: Decimals,
 ) -> Result<bool, EvalFault>
     requires left { AllLive nodes.now forest.now.forest.nodes }
     requires right { AllLive (nodes_of (value_in right.now)) forest.now.forest.nodes }
-    ensures { GivesBounded EvalFault.Memory EvalFault.Long (λ truth. truth) result (compared (setting_in forest.now.forest.nodes) operator (Nodes nodes.now) (value_in right.now)) }
+    ensures { GivesBounded EvalFault.Memory EvalFault.Long (λ truth. truth) result (compared (setting_in decimals forest.now.forest.nodes) operator (Nodes nodes.now) (value_in right.now)) }
 {
     match right {
         Operand::Nodes(others) => {
             let sides = sides_of(alloc, forest, others)?;
-            some_beside(alloc, forest, operator, true, nodes, sides.as_slice())
+            some_beside(
+                alloc,
+                forest,
+                operator,
+                true,
+                nodes,
+                sides.as_slice(),
+                decimals,
+            )
         }
         Operand::Plain(side) => match side {
-            Side::Truth(_) => Ok(holds(operator, &Side::Truth(!nodes.is_empty()), side)),
-            _ => some_beside(alloc, forest, operator, true, nodes, slice::from_ref(side)),
+            Side::Truth(_) => Ok(holds(operator, &Side::Truth(!nodes.is_empty()), side, decimals)),
+            _ => some_beside(
+                alloc,
+                forest,
+                operator,
+                true,
+                nodes,
+                slice::from_ref(side),
+                decimals,
+            ),
         },
     }
 }
@@ -116,15 +135,24 @@ fn plain_beside(
     operator: Operator,
     left: &Side<'_>,
     right: &Operand<'_>,
+    decimals: Decimals,
 ) -> Result<bool, EvalFault>
     requires { AllLive (nodes_of (value_in right.now)) forest.now.forest.nodes }
-    ensures { GivesBounded EvalFault.Memory EvalFault.Long (λ truth. truth) result (compared (setting_in forest.now.forest.nodes) operator (value_of_plain (plain_on left.now)) (value_in right.now)) }
+    ensures { GivesBounded EvalFault.Memory EvalFault.Long (λ truth. truth) result (compared (setting_in decimals forest.now.forest.nodes) operator (value_of_plain (plain_on left.now)) (value_in right.now)) }
 {
     match right {
-        Operand::Plain(side) => Ok(holds(operator, left, side)),
+        Operand::Plain(side) => Ok(holds(operator, left, side, decimals)),
         Operand::Nodes(nodes) => match left {
-            Side::Truth(_) => Ok(holds(operator, left, &Side::Truth(!nodes.is_empty()))),
-            _ => some_beside(alloc, forest, operator, false, nodes, slice::from_ref(left)),
+            Side::Truth(_) => Ok(holds(operator, left, &Side::Truth(!nodes.is_empty()), decimals)),
+            _ => some_beside(
+                alloc,
+                forest,
+                operator,
+                false,
+                nodes,
+                slice::from_ref(left),
+                decimals,
+            ),
         },
     }
 }
@@ -136,7 +164,7 @@ fn sides_of<'a>(
     nodes: &NodeList,
 ) -> Result<Vec<Side<'a>>, EvalFault>
     requires { AllLive nodes.now forest.now.forest.nodes }
-    ensures { GivesBounded EvalFault.Memory EvalFault.Long (λ sides. map plain_on sides.items) result (option_map (map plain.Text) (strings_of (setting_in forest.now.forest.nodes) nodes.now)) }
+    ensures { GivesBounded EvalFault.Memory EvalFault.Long (λ sides. map plain_on sides.items) result (option_map (map plain.Text) (strings_of (bare_setting forest.now.forest.nodes) nodes.now)) }
 {
     let mut sides = Vec::with_capacity(alloc, nodes.len())?;
     for node in nodes.as_slice() {
@@ -153,55 +181,76 @@ fn some_beside(
     is_left: bool,
     nodes: &NodeList,
     others: &[Side<'_>],
+    decimals: Decimals,
 ) -> Result<bool, EvalFault>
     requires { AllLive nodes.now forest.now.forest.nodes }
-    ensures { GivesBounded EvalFault.Memory EvalFault.Long (λ truth. truth) result (option_map (some_beside operator is_left others.now) (strings_of (setting_in forest.now.forest.nodes) nodes.now)) }
+    ensures { GivesBounded EvalFault.Memory EvalFault.Long (λ truth. truth) result (option_map (some_beside decimals operator is_left others.now) (strings_of (bare_setting forest.now.forest.nodes) nodes.now)) }
 {
     let mut found = false;
     for node in nodes.as_slice() {
         // Behind a hit too a string that is too long refuses the whole.
         let side = Side::Text(value_of_node(alloc, forest, *node)?);
-        found = found || holds_for_some(operator, is_left, &side, others);
+        found = found || holds_for_some(operator, is_left, &side, others, decimals);
     }
     Ok(found)
 }
 
-fn holds_for_some(operator: Operator, is_left: bool, side: &Side<'_>, others: &[Side<'_>]) -> bool
-    ensures { result ≡ holds_for_some operator is_left others.now (plain_on side.now) }
+fn holds_for_some(
+    operator: Operator,
+    is_left: bool,
+    side: &Side<'_>,
+    others: &[Side<'_>],
+    decimals: Decimals,
+) -> bool
+    ensures { result ≡ holds_for_some decimals operator is_left others.now (plain_on side.now) }
 {
     if is_left {
-        is_before_some(operator, side, others)
+        is_before_some(operator, side, others, decimals)
     } else {
-        is_behind_some(operator, side, others)
+        is_behind_some(operator, side, others, decimals)
     }
 }
 
-fn is_before_some(operator: Operator, side: &Side<'_>, others: &[Side<'_>]) -> bool
-    ensures { result ≡ list_any (λ other. holds 6 operator (plain_on side.now) (plain_on other)) others.now }
+fn is_before_some(
+    operator: Operator,
+    side: &Side<'_>,
+    others: &[Side<'_>],
+    decimals: Decimals,
+) -> bool
+    ensures { result ≡ list_any (λ other. holds decimals operator (plain_on side.now) (plain_on other)) others.now }
 {
-    others.iter().any(|other| holds(operator, side, other))
+    others
+        .iter()
+        .any(|other| holds(operator, side, other, decimals))
 }
 
-fn is_behind_some(operator: Operator, side: &Side<'_>, others: &[Side<'_>]) -> bool
-    ensures { result ≡ list_any (λ other. holds 6 operator (plain_on other) (plain_on side.now)) others.now }
+fn is_behind_some(
+    operator: Operator,
+    side: &Side<'_>,
+    others: &[Side<'_>],
+    decimals: Decimals,
+) -> bool
+    ensures { result ≡ list_any (λ other. holds decimals operator (plain_on other) (plain_on side.now)) others.now }
 {
-    others.iter().any(|other| holds(operator, other, side))
+    others
+        .iter()
+        .any(|other| holds(operator, other, side, decimals))
 }
 
 /// The operators of equality, and those of order, which compare numbers.
-fn holds(operator: Operator, left: &Side<'_>, right: &Side<'_>) -> bool
-    ensures { result ≡ holds 6 operator (plain_on left.now) (plain_on right.now) }
+fn holds(operator: Operator, left: &Side<'_>, right: &Side<'_>, decimals: Decimals) -> bool
+    ensures { result ≡ holds decimals operator (plain_on left.now) (plain_on right.now) }
 {
     match operator {
-        Operator::Equal => are_equal(left, right),
-        Operator::NotEqual => !are_equal(left, right),
-        Operator::Less => order_in(left, right) == Some(Ordering::Less),
-        Operator::Greater => order_in(left, right) == Some(Ordering::Greater),
-        Operator::LessOrEqual => match order_in(left, right) {
+        Operator::Equal => are_equal(left, right, decimals),
+        Operator::NotEqual => !are_equal(left, right, decimals),
+        Operator::Less => order_in(left, right, decimals) == Some(Ordering::Less),
+        Operator::Greater => order_in(left, right, decimals) == Some(Ordering::Greater),
+        Operator::LessOrEqual => match order_in(left, right, decimals) {
             Some(Ordering::Less) | Some(Ordering::Equal) => true,
             _ => false,
         },
-        Operator::GreaterOrEqual => match order_in(left, right) {
+        Operator::GreaterOrEqual => match order_in(left, right, decimals) {
             Some(Ordering::Greater) | Some(Ordering::Equal) => true,
             _ => false,
         },
@@ -210,22 +259,22 @@ fn holds(operator: Operator, left: &Side<'_>, right: &Side<'_>) -> bool
 }
 
 /// As truths where one is a truth, else as numbers where one is a number, else as texts.
-fn are_equal(left: &Side<'_>, right: &Side<'_>) -> bool
-    ensures { result ≡ are_equal 6 (plain_on left.now) (plain_on right.now) }
+fn are_equal(left: &Side<'_>, right: &Side<'_>, decimals: Decimals) -> bool
+    ensures { result ≡ are_equal decimals (plain_on left.now) (plain_on right.now) }
 {
     match (left, right) {
         (Side::Truth(_), _) | (_, Side::Truth(_)) => truth_in(left) == truth_in(right),
         (Side::Number(_), _) | (_, Side::Number(_)) => {
-            order_in(left, right) == Some(Ordering::Equal)
+            order_in(left, right, decimals) == Some(Ordering::Equal)
         }
         (Side::Text(one), Side::Text(other)) => one.as_str() == other.as_str(),
     }
 }
 
-fn order_in(left: &Side<'_>, right: &Side<'_>) -> Option<Ordering>
-    ensures { result ≡ order_in 6 (plain_on left.now) (plain_on right.now) }
+fn order_in(left: &Side<'_>, right: &Side<'_>, decimals: Decimals) -> Option<Ordering>
+    ensures { result ≡ order_in decimals (plain_on left.now) (plain_on right.now) }
 {
-    number_in(left).order(number_in(right))
+    number_in(left, decimals).order(number_in(right, decimals))
 }
 
 fn truth_in(side: &Side<'_>) -> bool
@@ -238,12 +287,12 @@ fn truth_in(side: &Side<'_>) -> bool
     }
 }
 
-fn number_in(side: &Side<'_>) -> Num
-    ensures { result ≡ number_in 6 (plain_on side.now) }
+fn number_in(side: &Side<'_>, decimals: Decimals) -> Num
+    ensures { result ≡ number_in decimals (plain_on side.now) }
 {
     match side {
-        Side::Text(text) => Num::read(text.as_str()),
+        Side::Text(text) => Num::read(text.as_str(), decimals),
         Side::Number(number) => *number,
-        Side::Truth(truth) => number_of_truth(*truth),
+        Side::Truth(truth) => number_of_truth(*truth, decimals),
     }
 }

@@ -7,19 +7,17 @@ ghost use Rattle.xf_plain_values.specs.Bounded.{GivesBounded, capped};
 ghost use Rattle.xf_plain_values.specs.Conversions.{is_not_zero, number_of_truth, text_of_truth, whole};
 ghost use Rattle.xf_lang.specs.Conversions.{nodes_of, truth_of, string_of_node, first_string, plain_of};
 ghost use Rattle.xf_eval.specs.Live.{AllLive};
-ghost use Rattle.xf_eval.specs.Worth.{setting_in, text_worth, number_worth};
+ghost use Rattle.xf_eval.specs.Worth.{bare_setting, text_worth, number_worth};
 
+use crate::around::Around;
 use crate::texts::{STRING_LIMIT, first_value};
 use std::alloc::Global;
 use xf_doc::{NodeId, NodeList};
 use xf_lang::{EvalFault, Value};
 use xf_name::Word;
-use xf_num::Num;
+use xf_num::{Decimals, Num};
 use xf_plain_values::Plain;
 use xf_tree::Forest;
-
-/// The units in one.
-pub(crate) const ONE: u64 = 1_000_000;
 
 /// The value as a truth (XPath 1.0, section 4.3).
 pub fn truth_of(value: &Value) -> bool
@@ -44,14 +42,19 @@ pub(crate) fn is_not_zero(number: Num) -> bool
 }
 
 /// The value as a text (XPath 1.0, section 4.2); `Long` exactly where it has more than 4 MiB.
-pub fn text_of(alloc: Global, forest: &Forest, value: &Value) -> Result<Word, EvalFault>
+pub fn text_of(
+    alloc: Global,
+    forest: &Forest,
+    value: &Value,
+    decimals: Decimals,
+) -> Result<Word, EvalFault>
     requires { AllLive (nodes_of value.now) forest.now.forest.nodes }
-    ensures { GivesBounded EvalFault.Memory EvalFault.Long (λ text. text) result (text_worth forest.now.forest.nodes value.now) }
+    ensures { GivesBounded EvalFault.Memory EvalFault.Long (λ text. text) result (text_worth decimals forest.now.forest.nodes value.now) }
 {
     match value {
         Value::Nodes(nodes) => first_string(alloc, forest, nodes),
         Value::Text(text) => kept_text(alloc, text.as_str()),
-        Value::Number(number) => kept(Word::from_string(number.print(alloc)?)),
+        Value::Number(number) => kept(Word::from_string(number.print(alloc, decimals)?)),
         Value::Truth(truth) => kept_text(alloc, text_of_truth(*truth)),
     }
 }
@@ -89,7 +92,7 @@ pub(crate) fn string_of_node(
     node: NodeId,
 ) -> Result<Word, EvalFault>
     requires { IsLive node.number forest.now.forest }
-    ensures { GivesBounded EvalFault.Memory EvalFault.Long (λ text. text) result (string_of_node (setting_in forest.now.forest.nodes) node.number) }
+    ensures { GivesBounded EvalFault.Memory EvalFault.Long (λ text. text) result (string_of_node (bare_setting forest.now.forest.nodes) node.number) }
 {
     match forest.whole_value(node) {
         Some(text) => kept_text(alloc, text),
@@ -103,7 +106,7 @@ pub(crate) fn string_of_node(
 /// The string value of the first node, empty where there is none.
 fn first_string(alloc: Global, forest: &Forest, nodes: &NodeList) -> Result<Word, EvalFault>
     requires { AllLive nodes.now forest.now.forest.nodes }
-    ensures { GivesBounded EvalFault.Memory EvalFault.Long (λ text. text) result (first_string (setting_in forest.now.forest.nodes) nodes.now) }
+    ensures { GivesBounded EvalFault.Memory EvalFault.Long (λ text. text) result (first_string (bare_setting forest.now.forest.nodes) nodes.now) }
 {
     match nodes.get(0) {
         Some(node) => string_of_node(alloc, forest, node),
@@ -112,36 +115,54 @@ fn first_string(alloc: Global, forest: &Forest, nodes: &NodeList) -> Result<Word
 }
 
 /// The value as a number (XPath 1.0, section 4.4); `Long` exactly where a string that is asked has more than 4 MiB.
-pub fn number_of(alloc: Global, forest: &Forest, value: &Value) -> Result<Num, EvalFault>
+pub fn number_of(
+    alloc: Global,
+    forest: &Forest,
+    value: &Value,
+    decimals: Decimals,
+) -> Result<Num, EvalFault>
     requires { AllLive (nodes_of value.now) forest.now.forest.nodes }
-    ensures { GivesBounded EvalFault.Memory EvalFault.Long (λ number. number) result (number_worth forest.now.forest.nodes value.now) }
+    ensures { GivesBounded EvalFault.Memory EvalFault.Long (λ number. number) result (number_worth decimals forest.now.forest.nodes value.now) }
 {
     match value {
-        Value::Nodes(nodes) => Ok(Num::read(first_value(alloc, forest, nodes)?.as_str())),
-        Value::Text(text) => Ok(Num::read(text.as_str())),
+        Value::Nodes(nodes) => {
+            let text = first_value(alloc, forest, nodes)?;
+            Ok(Num::read(text.as_str(), decimals))
+        }
+        Value::Text(text) => Ok(Num::read(text.as_str(), decimals)),
         Value::Number(number) => Ok(*number),
-        Value::Truth(truth) => Ok(number_of_truth(*truth)),
+        Value::Truth(truth) => Ok(number_of_truth(*truth, decimals)),
     }
 }
 
-pub(crate) fn number_of_truth(truth: bool) -> Num
-    ensures { result ≡ number_of_truth 6 truth }
+pub(crate) fn number_of_truth(truth: bool, decimals: Decimals) -> Num
+    ensures { result ≡ number_of_truth decimals truth }
 {
-    if truth { whole(1) } else { whole(0) }
+    if truth {
+        whole(1, decimals)
+    } else {
+        whole(0, decimals)
+    }
 }
 
 /// A whole number.
-#[tactic(auto, unfolding(xf_num::specs::Number::scale))]
-pub(crate) fn whole(count: usize) -> Num
-    ensures { result ≡ whole 6 count }
+pub(crate) fn whole(count: usize, decimals: Decimals) -> Num
+    ensures { result ≡ whole decimals count }
 {
-    Num::of_units(i128::from(count as u64) * i128::from(ONE))
+    Num::of_units(i128::from(count as u64) * i128::from(decimals.units_in_one()))
+}
+
+/// A place among nodes, or how many they are, as a number of the form.
+pub(crate) fn place_in<A: Around>(around: &A, place: u32) -> Num
+    ensures { result ≡ whole (A.given around.now).decimals place }
+{
+    whole(place as usize, around.decimals())
 }
 
 /// The plain value that stands for a value.
 pub(crate) fn plain_of(alloc: Global, forest: &Forest, value: Value) -> Result<Plain, EvalFault>
     requires { AllLive (nodes_of value) forest.now.forest.nodes }
-    ensures { GivesBounded EvalFault.Memory EvalFault.Long (λ plain. plain) result (plain_of (setting_in forest.now.forest.nodes) value) }
+    ensures { GivesBounded EvalFault.Memory EvalFault.Long (λ plain. plain) result (plain_of (bare_setting forest.now.forest.nodes) value) }
 {
     match value {
         Value::Nodes(nodes) => Ok(Plain::Text(first_string(alloc, forest, &nodes)?)),

@@ -6,9 +6,9 @@ ghost use Rattle.xf_plain_values.specs.Bounded.{GivesBounded};
 ghost use Rattle.xf_funcs.specs.Called.{called};
 ghost use Rattle.xf_lang.specs.Conversions.{nodes_of};
 ghost use Rattle.xf_lang.specs.Operators.{signed};
-ghost use Rattle.xf_lang.specs.Meaning.{focus_of, meaning, value_of};
+ghost use Rattle.xf_lang.specs.Meaning.{focus_of, meaning, setting_of, value_of};
 ghost use Rattle.xf_eval.specs.Live.{AllLive, IsReady};
-ghost use Rattle.xf_eval.specs.Worth.{negated_worth, setting_at};
+ghost use Rattle.xf_eval.specs.Worth.{negated_worth};
 
 use crate::around::Around;
 use crate::calls::call_value;
@@ -55,7 +55,7 @@ pub fn value_at<A: Around>(
     context: &Context,
 ) -> Result<Value, EvalFault>
     requires { IsReady (A.given around.now) forest.now.forest.nodes context.now }
-    ensures value { GivesBounded EvalFault.Memory EvalFault.Long (λ value. value) result (meaning expr.now (setting_at (A.given around.now) forest.now.forest.nodes context.now) (focus_of context.now)) }
+    ensures value { GivesBounded EvalFault.Memory EvalFault.Long (λ value. value) result (meaning expr.now (setting_of called (A.given around.now) forest.now.forest.nodes context.now) (focus_of context.now)) }
     ensures live { IfOk result (λ value. AllLive (nodes_of value) forest.now.forest.nodes) }
 {
     match expr {
@@ -112,11 +112,11 @@ fn negated<A: Around>(
     context: &Context,
 ) -> Result<Value, EvalFault>
     requires { IsReady (A.given around.now) forest.now.forest.nodes context.now }
-    ensures value { GivesBounded EvalFault.Memory EvalFault.Long (λ value. value) result (negated_worth signs forest.now.forest.nodes (meaning operand.now (setting_at (A.given around.now) forest.now.forest.nodes context.now) (focus_of context.now))) }
+    ensures value { GivesBounded EvalFault.Memory EvalFault.Long (λ value. value) result (negated_worth (A.given around.now).decimals signs forest.now.forest.nodes (meaning operand.now (setting_of called (A.given around.now) forest.now.forest.nodes context.now) (focus_of context.now))) }
     ensures live { IfOk result (λ value. AllLive (nodes_of value) forest.now.forest.nodes) }
 {
     let value = asked_at(alloc, forest, around, true, operand, context)?;
-    let number = number_of(alloc, forest, &value)?;
+    let number = number_of(alloc, forest, &value, around.decimals())?;
     Ok(Value::Number(signed(signs, number)))
 }
 

@@ -4,12 +4,12 @@
 ghost use Rattle.std.specs.Prelude.{◌≡◌, ◌∷◌, [], IfOk, map, option_map};
 ghost use Rattle.xf_doc.specs.Forest.{IsLive};
 ghost use Rattle.xf_plain_values.specs.Bounded.{GivesBounded};
+ghost use Rattle.xf_funcs.specs.Called.{called};
 ghost use Rattle.xf_lang.specs.Conversions.{nodes_of};
 ghost use Rattle.xf_lang.specs.Steps.{walked};
-ghost use Rattle.xf_lang.specs.Meaning.{focus_of, meaning, walk_of};
+ghost use Rattle.xf_lang.specs.Meaning.{focus_of, meaning, setting_of, walk_of};
 ghost use Rattle.xf_eval.specs.First.{converts, counted, first_node, leads, takes_plain};
 ghost use Rattle.xf_eval.specs.Live.{AllLive, IsReady};
-ghost use Rattle.xf_eval.specs.Worth.{setting_at};
 
 use crate::around::Around;
 use crate::expression::value_at;
@@ -35,7 +35,7 @@ pub(crate) fn asked_at<A: Around>(
     context: &Context,
 ) -> Result<Value, EvalFault>
     requires { IsReady (A.given around.now) forest.now.forest.nodes context.now }
-    ensures value { GivesBounded EvalFault.Memory EvalFault.Long (counted is_converted) result (option_map (counted is_converted) (meaning expr.now (setting_at (A.given around.now) forest.now.forest.nodes context.now) (focus_of context.now))) }
+    ensures value { GivesBounded EvalFault.Memory EvalFault.Long (counted is_converted) result (option_map (counted is_converted) (meaning expr.now (setting_of called (A.given around.now) forest.now.forest.nodes context.now) (focus_of context.now))) }
     ensures live { IfOk result (λ value. AllLive (nodes_of value) forest.now.forest.nodes) }
 {
     if !is_converted {
@@ -70,7 +70,7 @@ fn first_from<A: Around>(
 ) -> Result<NodeList, EvalFault>
     requires ready { IsReady (A.given around.now) forest.now.forest.nodes context.now }
     requires node { IsLive node.number forest.now.forest }
-    ensures value { GivesBounded EvalFault.Memory EvalFault.Long first_node result (option_map first_node (walked (setting_at (A.given around.now) forest.now.forest.nodes context.now) (map walk_of steps.now) (node.number ∷ []))) }
+    ensures value { GivesBounded EvalFault.Memory EvalFault.Long first_node result (option_map first_node (walked (setting_of called (A.given around.now) forest.now.forest.nodes context.now) (map walk_of steps.now) (node.number ∷ []))) }
     ensures live { IfOk result (λ found. AllLive found forest.now.forest.nodes) }
 {
     let count = steps.len();
@@ -96,7 +96,7 @@ fn first_stepped<A: Around>(
 ) -> Result<NodeList, EvalFault>
     requires ready { IsReady (A.given around.now) forest.now.forest.nodes context.now }
     requires node { IsLive node.number forest.now.forest }
-    ensures value { GivesBounded EvalFault.Memory EvalFault.Long first_node result (option_map first_node (walk_of step.now (setting_at (A.given around.now) forest.now.forest.nodes context.now) (node.number ∷ []))) }
+    ensures value { GivesBounded EvalFault.Memory EvalFault.Long first_node result (option_map first_node (walk_of step.now (setting_of called (A.given around.now) forest.now.forest.nodes context.now) (node.number ∷ []))) }
     ensures live { IfOk result (λ found. AllLive found forest.now.forest.nodes) }
 {
     forest.are_trees();
@@ -121,7 +121,7 @@ fn first_walked<A: Around>(
 ) -> Result<NodeList, EvalFault>
     requires ready { IsReady (A.given around.now) forest.now.forest.nodes context.now }
     requires from { AllLive from forest.now.forest.nodes }
-    ensures value { GivesBounded EvalFault.Memory EvalFault.Long first_node result (option_map first_node (walked (setting_at (A.given around.now) forest.now.forest.nodes context.now) (map walk_of steps.now) from)) }
+    ensures value { GivesBounded EvalFault.Memory EvalFault.Long first_node result (option_map first_node (walked (setting_of called (A.given around.now) forest.now.forest.nodes context.now) (map walk_of steps.now) from)) }
     ensures live { IfOk result (λ found. AllLive found forest.now.forest.nodes) }
 {
     let count = steps.len();
@@ -144,7 +144,7 @@ fn first_taken<A: Around>(
 ) -> Result<NodeList, EvalFault>
     requires ready { IsReady (A.given around.now) forest.now.forest.nodes context.now }
     requires from { AllLive from forest.now.forest.nodes }
-    ensures value { GivesBounded EvalFault.Memory EvalFault.Long first_node result (option_map first_node (walk_of step.now (setting_at (A.given around.now) forest.now.forest.nodes context.now) from)) }
+    ensures value { GivesBounded EvalFault.Memory EvalFault.Long first_node result (option_map first_node (walk_of step.now (setting_of called (A.given around.now) forest.now.forest.nodes context.now) from)) }
     ensures live { IfOk result (λ found. AllLive found forest.now.forest.nodes) }
 {
     forest.are_trees();

@@ -11,7 +11,7 @@ ghost use Rattle.xf_lang.specs.Setting.{each};
 ghost use Rattle.xf_eval.specs.Live.{AllLive};
 ghost use Rattle.xf_eval.specs.OfNodes.{better, name_worth, set_worth};
 ghost use Rattle.xf_eval.specs.Texts.{combined, folded, number_at};
-ghost use Rattle.xf_eval.specs.Worth.{setting_in};
+ghost use Rattle.xf_eval.specs.Worth.{bare_setting, setting_in};
 ghost use Rattle.xf_slots.specs.Seen.{seen_content};
 
 use crate::around::Around;
@@ -23,7 +23,7 @@ use std::cmp::Ordering;
 use xf_doc::{Name, NodeId, NodeList};
 use xf_lang::{EvalFault, Value};
 use xf_name::Word;
-use xf_num::Num;
+use xf_num::{Decimals, Num};
 use xf_tree::{Forest, Seen};
 
 /// What a function makes of these nodes.
@@ -32,24 +32,30 @@ pub(crate) fn of_nodes(
     forest: &Forest,
     kind: Kind,
     nodes: &NodeList,
+    decimals: Decimals,
 ) -> Result<Value, EvalFault>
     requires { AllLive nodes.now forest.now.forest.nodes }
-    ensures { GivesBounded EvalFault.Memory EvalFault.Long (λ value. value) result (set_worth kind (setting_in forest.now.forest.nodes) nodes.now) }
+    ensures { GivesBounded EvalFault.Memory EvalFault.Long (λ value. value) result (set_worth kind (setting_in decimals forest.now.forest.nodes) nodes.now) }
 {
     match kind {
-        Kind::CountingFilled => Ok(Value::Number(filled_count(alloc, forest, nodes)?)),
-        Kind::Adding => Ok(Value::Number(total(alloc, forest, nodes)?)),
-        Kind::Averaging => Ok(Value::Number(average(alloc, forest, nodes)?)),
-        Kind::Greatest => Ok(Value::Number(extreme(alloc, forest, kind, nodes)?)),
-        Kind::Least => Ok(Value::Number(extreme(alloc, forest, kind, nodes)?)),
-        _ => Ok(Value::Number(whole(nodes.len()))),
+        Kind::CountingFilled => Ok(Value::Number(filled_count(alloc, forest, nodes, decimals)?)),
+        Kind::Adding => Ok(Value::Number(total(alloc, forest, nodes, decimals)?)),
+        Kind::Averaging => Ok(Value::Number(average(alloc, forest, nodes, decimals)?)),
+        Kind::Greatest => Ok(Value::Number(extreme(alloc, forest, kind, nodes, decimals)?)),
+        Kind::Least => Ok(Value::Number(extreme(alloc, forest, kind, nodes, decimals)?)),
+        _ => Ok(Value::Number(whole(nodes.len(), decimals))),
     }
 }
 
 /// How many of the nodes have a string value that is not empty.
-fn filled_count(alloc: Global, forest: &Forest, nodes: &NodeList) -> Result<Num, EvalFault>
+fn filled_count(
+    alloc: Global,
+    forest: &Forest,
+    nodes: &NodeList,
+    decimals: Decimals,
+) -> Result<Num, EvalFault>
     requires { AllLive nodes.now forest.now.forest.nodes }
-    ensures { GivesBounded EvalFault.Memory EvalFault.Long (λ count. count) result (option_map (λ texts. whole 6 (length (filter is_filled texts))) (strings_of (setting_in forest.now.forest.nodes) nodes.now)) }
+    ensures { GivesBounded EvalFault.Memory EvalFault.Long (λ count. count) result (option_map (λ texts. whole decimals (length (filter is_filled texts))) (strings_of (bare_setting forest.now.forest.nodes) nodes.now)) }
 {
     let mut count: usize = 0;
     for node in nodes.as_slice() {
@@ -57,13 +63,18 @@ fn filled_count(alloc: Global, forest: &Forest, nodes: &NodeList) -> Result<Num,
             count += 1;
         }
     }
-    Ok(whole(count))
+    Ok(whole(count, decimals))
 }
 
 /// The sum of the numbers of the nodes.
-fn total(alloc: Global, forest: &Forest, nodes: &NodeList) -> Result<Num, EvalFault>
+fn total(
+    alloc: Global,
+    forest: &Forest,
+    nodes: &NodeList,
+    decimals: Decimals,
+) -> Result<Num, EvalFault>
     requires { AllLive nodes.now forest.now.forest.nodes }
-    ensures { GivesBounded EvalFault.Memory EvalFault.Long (λ sum. sum) result (option_map total (each (number_at forest.now.forest.nodes) nodes.now)) }
+    ensures { GivesBounded EvalFault.Memory EvalFault.Long (λ sum. sum) result (option_map total (each (number_at decimals forest.now.forest.nodes) nodes.now)) }
 {
     folded(
         alloc,
@@ -71,28 +82,40 @@ fn total(alloc: Global, forest: &Forest, nodes: &NodeList) -> Result<Num, EvalFa
         Kind::Adding,
         Num::of_units(0),
         nodes.as_slice(),
+        decimals,
     )
 }
 
 /// Their sum, divided by how many they are.
-fn average(alloc: Global, forest: &Forest, nodes: &NodeList) -> Result<Num, EvalFault>
+fn average(
+    alloc: Global,
+    forest: &Forest,
+    nodes: &NodeList,
+    decimals: Decimals,
+) -> Result<Num, EvalFault>
     requires { AllLive nodes.now forest.now.forest.nodes }
-    ensures { GivesBounded EvalFault.Memory EvalFault.Long (λ average. average) result (option_map (average 6) (each (number_at forest.now.forest.nodes) nodes.now)) }
+    ensures { GivesBounded EvalFault.Memory EvalFault.Long (λ average. average) result (option_map (average decimals) (each (number_at decimals forest.now.forest.nodes) nodes.now)) }
 {
-    let sum = total(alloc, forest, nodes)?;
-    Ok(sum.div(whole(nodes.len())))
+    let sum = total(alloc, forest, nodes, decimals)?;
+    Ok(sum.div(whole(nodes.len(), decimals), decimals))
 }
 
 /// The greatest of their numbers, or the least; NaN where there is none, or one of them is NaN.
-fn extreme(alloc: Global, forest: &Forest, kind: Kind, nodes: &NodeList) -> Result<Num, EvalFault>
+fn extreme(
+    alloc: Global,
+    forest: &Forest,
+    kind: Kind,
+    nodes: &NodeList,
+    decimals: Decimals,
+) -> Result<Num, EvalFault>
     requires { AllLive nodes.now forest.now.forest.nodes }
-    ensures { GivesBounded EvalFault.Memory EvalFault.Long (λ best. best) result (option_map (extreme (combined kind)) (each (number_at forest.now.forest.nodes) nodes.now)) }
+    ensures { GivesBounded EvalFault.Memory EvalFault.Long (λ best. best) result (option_map (extreme (combined kind)) (each (number_at decimals forest.now.forest.nodes) nodes.now)) }
 {
     let Some((first, rest)) = nodes.as_slice().split_first() else {
         return Ok(Num::nan());
     };
-    let best = number_of_node(alloc, forest, *first)?;
-    folded(alloc, forest, kind, best, rest)
+    let best = number_of_node(alloc, forest, *first, decimals)?;
+    folded(alloc, forest, kind, best, rest, decimals)
 }
 
 /// What a function makes of a first number and of those of these nodes, from left to right.
@@ -102,13 +125,14 @@ fn folded(
     kind: Kind,
     first: Num,
     nodes: &[NodeId],
+    decimals: Decimals,
 ) -> Result<Num, EvalFault>
     requires { AllLive (map (λ n. n.number) nodes.now) forest.now.forest.nodes }
-    ensures { GivesBounded EvalFault.Memory EvalFault.Long (λ number. number) result (folded kind forest.now.forest.nodes first (map (λ n. n.number) nodes.now)) }
+    ensures { GivesBounded EvalFault.Memory EvalFault.Long (λ number. number) result (folded decimals kind forest.now.forest.nodes first (map (λ n. n.number) nodes.now)) }
 {
     let mut number = first;
     for node in nodes {
-        let next = number_of_node(alloc, forest, *node)?;
+        let next = number_of_node(alloc, forest, *node, decimals)?;
         number = combined(kind, number, next);
     }
     Ok(number)

@@ -2,17 +2,17 @@
 
 ghost use Rattle.std.specs.Prelude.{◌≡◌, ◌∷◌, [], true, IfOk, IfSome};
 ghost use Rattle.xf_plain_values.specs.Bounded.{GivesBounded};
+ghost use Rattle.xf_funcs.specs.Called.{called};
 ghost use Rattle.xf_lang.specs.Conversions.{nodes_of};
-ghost use Rattle.xf_lang.specs.Meaning.{focus_of, meaning, meaning_of_link};
+ghost use Rattle.xf_lang.specs.Meaning.{focus_of, meaning, meaning_of_link, setting_of};
 ghost use Rattle.xf_lang.specs.Operators.{chained};
 ghost use Rattle.xf_eval.specs.Live.{AllLive, IsReady};
 ghost use Rattle.xf_eval.specs.Sides.{value_in};
 ghost use Rattle.xf_eval.specs.Answered.{compares};
-ghost use Rattle.xf_eval.specs.Worth.{setting_at};
 
 use crate::around::Around;
 use crate::compare::{Operand, Side, compared, operand_of};
-use crate::convert::whole;
+use crate::convert::place_in;
 use crate::expression::value_at;
 use crate::kinds::{Kind, kind_of};
 use crate::steps::{begun, walked_from};
@@ -59,11 +59,12 @@ pub(crate) fn compared_with<A: Around>(
     requires ready { IsReady (A.given around.now) forest.now.forest.nodes context.now }
     requires left { AllLive (nodes_of (value_in left.now)) forest.now.forest.nodes }
     requires compares { compares link.now.operator ≡ true }
-    ensures value { GivesBounded EvalFault.Memory EvalFault.Long (λ value. value) result (chained (meaning_of_link link.now ∷ []) (value_in left.now) (setting_at (A.given around.now) forest.now.forest.nodes context.now) (focus_of context.now)) }
+    ensures value { GivesBounded EvalFault.Memory EvalFault.Long (λ value. value) result (chained (meaning_of_link link.now ∷ []) (value_in left.now) (setting_of called (A.given around.now) forest.now.forest.nodes context.now) (focus_of context.now)) }
     ensures live { IfOk result (λ value. AllLive (nodes_of value) forest.now.forest.nodes) }
 {
     let right = operand_at(alloc, forest, around, &link.right, context)?;
-    let truth = compared(alloc, forest, link.operator, left, &right)?;
+    let decimals = around.decimals();
+    let truth = compared(alloc, forest, link.operator, left, &right, decimals)?;
     Ok(Value::Truth(truth))
 }
 
@@ -77,7 +78,7 @@ pub(crate) fn operand_at<'a, A: Around>(
     context: &Context,
 ) -> Result<Operand<'a>, EvalFault>
     requires { IsReady (A.given around.now) forest.now.forest.nodes context.now }
-    ensures value { GivesBounded EvalFault.Memory EvalFault.Long value_in result (meaning expr.now (setting_at (A.given around.now) forest.now.forest.nodes context.now) (focus_of context.now)) }
+    ensures value { GivesBounded EvalFault.Memory EvalFault.Long value_in result (meaning expr.now (setting_of called (A.given around.now) forest.now.forest.nodes context.now) (focus_of context.now)) }
     ensures live { IfOk result (λ operand. AllLive (nodes_of (value_in operand)) forest.now.forest.nodes) }
 {
     match expr {
@@ -89,8 +90,8 @@ pub(crate) fn operand_at<'a, A: Around>(
             Ok(Operand::Nodes(nodes))
         }
         Expr::Call(_, code, _) => match kind_of(*code) {
-            Kind::Last => Ok(Operand::Plain(Side::Number(whole(context.size as usize)))),
-            Kind::Position => Ok(Operand::Plain(Side::Number(whole(context.position as usize)))),
+            Kind::Last => Ok(Operand::Plain(Side::Number(place_in(around, context.size)))),
+            Kind::Position => Ok(Operand::Plain(Side::Number(place_in(around, context.position)))),
             _ => Ok(operand_of(value_at(alloc, forest, around, expr, context)?)),
         },
         _ => Ok(operand_of(value_at(alloc, forest, around, expr, context)?)),

@@ -5,9 +5,10 @@ ghost use Rattle.xf_doc.specs.Order.{in_order};
 ghost use Rattle.xf_plain_values.specs.Bounded.{GivesBounded};
 ghost use Rattle.xf_lang.specs.Conversions.{nodes_of};
 ghost use Rattle.xf_lang.specs.Operators.{chained, linked};
-ghost use Rattle.xf_lang.specs.Meaning.{focus_of, meaning, meaning_of_link};
+ghost use Rattle.xf_lang.specs.Meaning.{focus_of, meaning, meaning_of_link, setting_of};
+ghost use Rattle.xf_funcs.specs.Called.{called};
 ghost use Rattle.xf_eval.specs.Live.{AllLive, IsReady};
-ghost use Rattle.xf_eval.specs.Worth.{seen, setting_at, setting_in};
+ghost use Rattle.xf_eval.specs.Worth.{seen, setting_in};
 ghost use Rattle.xf_eval.specs.Answered.{answered, arithmetic, decides};
 
 use crate::around::Around;
@@ -19,7 +20,7 @@ use std::alloc::{AllocError, Global};
 use xf_ast::{Link, Operator};
 use xf_doc::NodeList;
 use xf_lang::{Context, EvalFault, Value};
-use xf_num::Num;
+use xf_num::{Decimals, Num};
 use xf_tree::Forest;
 
 /// A chain of operators from left to right.
@@ -34,7 +35,7 @@ pub(crate) fn chained<A: Around>(
 ) -> Result<Value, EvalFault>
     requires ready { IsReady (A.given around.now) forest.now.forest.nodes context.now }
     requires left { AllLive (nodes_of first) forest.now.forest.nodes }
-    ensures value { GivesBounded EvalFault.Memory EvalFault.Long (λ value. value) result (chained (map meaning_of_link links.now) first (setting_at (A.given around.now) forest.now.forest.nodes context.now) (focus_of context.now)) }
+    ensures value { GivesBounded EvalFault.Memory EvalFault.Long (λ value. value) result (chained (map meaning_of_link links.now) first (setting_of called (A.given around.now) forest.now.forest.nodes context.now) (focus_of context.now)) }
     ensures live { IfOk result (λ value. AllLive (nodes_of value) forest.now.forest.nodes) }
 {
     let mut left = first;
@@ -56,7 +57,7 @@ fn linked<A: Around>(
 ) -> Result<Value, EvalFault>
     requires ready { IsReady (A.given around.now) forest.now.forest.nodes context.now }
     requires left { AllLive (nodes_of left) forest.now.forest.nodes }
-    ensures value { GivesBounded EvalFault.Memory EvalFault.Long (λ value. value) result (linked link.now.operator left (meaning link.now.right) (setting_at (A.given around.now) forest.now.forest.nodes context.now) (focus_of context.now)) }
+    ensures value { GivesBounded EvalFault.Memory EvalFault.Long (λ value. value) result (linked link.now.operator left (meaning link.now.right) (setting_of called (A.given around.now) forest.now.forest.nodes context.now) (focus_of context.now)) }
     ensures live { IfOk result (λ value. AllLive (nodes_of value) forest.now.forest.nodes) }
 {
     if decides(link.operator, truth_of(&left)) {
@@ -64,7 +65,7 @@ fn linked<A: Around>(
     }
     let is_converted = converts(link.operator);
     let right = asked_at(alloc, forest, around, is_converted, &link.right, context)?;
-    combined(alloc, forest, link.operator, left, right)
+    combined(alloc, forest, link.operator, left, right, around.decimals())
 }
 
 /// Whether the left side alone decides.
@@ -84,10 +85,11 @@ fn combined(
     operator: Operator,
     left: Value,
     right: Value,
+    decimals: Decimals,
 ) -> Result<Value, EvalFault>
     requires left { AllLive (nodes_of left) forest.now.forest.nodes }
     requires right { AllLive (nodes_of right) forest.now.forest.nodes }
-    ensures value { GivesBounded EvalFault.Memory EvalFault.Long (λ value. value) result (answered operator (setting_in forest.now.forest.nodes) left right) }
+    ensures value { GivesBounded EvalFault.Memory EvalFault.Long (λ value. value) result (answered operator (setting_in decimals forest.now.forest.nodes) left right) }
     ensures live { IfOk result (λ value. AllLive (nodes_of value) forest.now.forest.nodes) }
 {
     match operator {
@@ -98,22 +100,22 @@ fn combined(
         | Operator::Multiply
         | Operator::Divide
         | Operator::Modulo => {
-            let one = number_of(alloc, forest, &left)?;
-            let other = number_of(alloc, forest, &right)?;
-            Ok(Value::Number(computed(operator, one, other)))
+            let one = number_of(alloc, forest, &left, decimals)?;
+            let other = number_of(alloc, forest, &right, decimals)?;
+            Ok(Value::Number(computed(operator, one, other, decimals)))
         }
-        _ => Ok(Value::Truth(compared_values(alloc, forest, operator, left, right)?)),
+        _ => Ok(Value::Truth(compared_values(alloc, forest, operator, left, right, decimals)?)),
     }
 }
 
-fn computed(operator: Operator, left: Num, right: Num) -> Num
-    ensures { result ≡ arithmetic operator left right }
+fn computed(operator: Operator, left: Num, right: Num, decimals: Decimals) -> Num
+    ensures { result ≡ arithmetic decimals operator left right }
 {
     match operator {
         Operator::Add => left.add(right),
         Operator::Subtract => left.sub(right),
-        Operator::Multiply => left.mul(right),
-        Operator::Divide => left.div(right),
+        Operator::Multiply => left.mul(right, decimals),
+        Operator::Divide => left.div(right, decimals),
         _ => left.rem(right),
     }
 }

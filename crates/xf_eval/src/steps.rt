@@ -4,10 +4,11 @@ ghost use Rattle.std.specs.Prelude.{◌≡◌, ◌∷◌, [], ◌++◌, IfOk, dr
 ghost use Rattle.xf_doc.specs.Forest.{IsLive};
 ghost use Rattle.xf_plain_values.specs.Bounded.{GivesBounded};
 ghost use Rattle.xf_plain_values.specs.Conversions.{whole};
+ghost use Rattle.xf_funcs.specs.Called.{called};
 ghost use Rattle.xf_lang.specs.Steps.{begun, from_one, is_true_at, kept_from, kept_by_all, walked};
-ghost use Rattle.xf_lang.specs.Meaning.{focus_of, meaning, walk_of};
+ghost use Rattle.xf_lang.specs.Meaning.{focus_of, meaning, setting_of, walk_of};
 ghost use Rattle.xf_eval.specs.Live.{AllLive, IsReady};
-ghost use Rattle.xf_eval.specs.Worth.{setting_at, setting_in};
+ghost use Rattle.xf_eval.specs.Worth.{bare_setting};
 ghost use Rattle.xf_eval.specs.Taken.{taken};
 
 use crate::around::Around;
@@ -23,6 +24,7 @@ use xf_ast::{Expr, Start, Step};
 use xf_doc::{NodeId, NodeList};
 use xf_lang::{Context, EvalFault, Value};
 use xf_name::Axis;
+use xf_num::Decimals;
 use xf_tree::Forest;
 
 /// The nodes that a chain of steps reaches from these.
@@ -37,7 +39,7 @@ pub(crate) fn walked<A: Around>(
 ) -> Result<NodeList, EvalFault>
     requires ready { IsReady (A.given around.now) forest.now.forest.nodes context.now }
     requires from { AllLive from forest.now.forest.nodes }
-    ensures value { GivesBounded EvalFault.Memory EvalFault.Long (λ found. found) result (walked (setting_at (A.given around.now) forest.now.forest.nodes context.now) (map walk_of steps.now) from) }
+    ensures value { GivesBounded EvalFault.Memory EvalFault.Long (λ found. found) result (walked (setting_of called (A.given around.now) forest.now.forest.nodes context.now) (map walk_of steps.now) from) }
     ensures live { IfOk result (λ found. AllLive found forest.now.forest.nodes) }
 {
     let mut nodes = from;
@@ -61,7 +63,7 @@ pub(crate) fn walked_from<A: Around>(
 ) -> Result<NodeList, EvalFault>
     requires ready { IsReady (A.given around.now) forest.now.forest.nodes context.now }
     requires node { IsLive node.number forest.now.forest }
-    ensures value { GivesBounded EvalFault.Memory EvalFault.Long (λ found. found) result (walked (setting_at (A.given around.now) forest.now.forest.nodes context.now) (map walk_of steps.now) (node.number ∷ [])) }
+    ensures value { GivesBounded EvalFault.Memory EvalFault.Long (λ found. found) result (walked (setting_of called (A.given around.now) forest.now.forest.nodes context.now) (map walk_of steps.now) (node.number ∷ [])) }
     ensures live { IfOk result (λ found. AllLive found forest.now.forest.nodes) }
 {
     let Some((first, behind)) = steps.split_first() else {
@@ -83,7 +85,7 @@ pub(crate) fn stepped<A: Around>(
 ) -> Result<NodeList, EvalFault>
     requires ready { IsReady (A.given around.now) forest.now.forest.nodes context.now }
     requires node { IsLive node.number forest.now.forest }
-    ensures value { GivesBounded EvalFault.Memory EvalFault.Long (λ found. found) result (walk_of step.now (setting_at (A.given around.now) forest.now.forest.nodes context.now) (node.number ∷ [])) }
+    ensures value { GivesBounded EvalFault.Memory EvalFault.Long (λ found. found) result (walk_of step.now (setting_of called (A.given around.now) forest.now.forest.nodes context.now) (node.number ∷ [])) }
     ensures live { IfOk result (λ found. AllLive found forest.now.forest.nodes) }
 {
     let way = way_of_one(forest, step, node);
@@ -107,7 +109,7 @@ fn taken_from<A: Around>(
 ) -> Result<NodeList, EvalFault>
     requires ready { IsReady (A.given around.now) forest.now.forest.nodes context.now }
     requires node { IsLive node.number forest.now.forest }
-    ensures value { GivesBounded EvalFault.Memory EvalFault.Long (λ found. found) result (taken axis step.now.test (map meaning step.now.predicates) (setting_at (A.given around.now) forest.now.forest.nodes context.now) (node.number ∷ [])) }
+    ensures value { GivesBounded EvalFault.Memory EvalFault.Long (λ found. found) result (taken axis step.now.test (map meaning step.now.predicates) (setting_of called (A.given around.now) forest.now.forest.nodes context.now) (node.number ∷ [])) }
     ensures live { IfOk result (λ found. AllLive found forest.now.forest.nodes) }
 {
     forest.are_trees();
@@ -133,7 +135,7 @@ pub(crate) fn taken<A: Around>(
 ) -> Result<NodeList, EvalFault>
     requires ready { IsReady (A.given around.now) forest.now.forest.nodes context.now }
     requires from { AllLive from.now forest.now.forest.nodes }
-    ensures value { GivesBounded EvalFault.Memory EvalFault.Long (λ found. found) result (taken axis step.now.test (map meaning step.now.predicates) (setting_at (A.given around.now) forest.now.forest.nodes context.now) from.now) }
+    ensures value { GivesBounded EvalFault.Memory EvalFault.Long (λ found. found) result (taken axis step.now.test (map meaning step.now.predicates) (setting_of called (A.given around.now) forest.now.forest.nodes context.now) from.now) }
     ensures live { IfOk result (λ found. AllLive found forest.now.forest.nodes) }
 {
     if from.len() == 1 {
@@ -166,7 +168,7 @@ fn take<A: Around>(
 ) -> Result<(), EvalFault>
     requires ready { IsReady (A.given around.now) forest.now.forest.nodes context.now }
     requires node { IsLive node.number forest.now.forest }
-    ensures value { GivesBounded EvalFault.Memory EvalFault.Long (λ _. found.new) result (option_map (λ kept. found.old ++ kept) (from_one axis step.now.test (map meaning step.now.predicates) (setting_at (A.given around.now) forest.now.forest.nodes context.now) node.number)) }
+    ensures value { GivesBounded EvalFault.Memory EvalFault.Long (λ _. found.new) result (option_map (λ kept. found.old ++ kept) (from_one axis step.now.test (map meaning step.now.predicates) (setting_of called (A.given around.now) forest.now.forest.nodes context.now) node.number)) }
 {
     // Most nodes below which `//` begins have nothing to ask.
     if !reaches_any(forest, node, axis, &step.test) {
@@ -190,13 +192,14 @@ fn from_one<A: Around>(
 ) -> Result<NodeList, EvalFault>
     requires ready { IsReady (A.given around.now) forest.now.forest.nodes context.now }
     requires node { IsLive node.number forest.now.forest }
-    ensures value { GivesBounded EvalFault.Memory EvalFault.Long (λ kept. kept) result (from_one axis step.now.test (map meaning step.now.predicates) (setting_at (A.given around.now) forest.now.forest.nodes context.now) node.number) }
+    ensures value { GivesBounded EvalFault.Memory EvalFault.Long (λ kept. kept) result (from_one axis step.now.test (map meaning step.now.predicates) (setting_of called (A.given around.now) forest.now.forest.nodes context.now) node.number) }
     ensures live { IfOk result (λ kept. AllLive kept forest.now.forest.nodes) }
 {
     let predicates = step.predicates.as_slice();
     match number_first(predicates) {
         Some(number) => {
-            let first = reached_placed(alloc, forest, node, axis, &step.test, number)?;
+            let decimals = around.decimals();
+            let first = reached_placed(alloc, forest, node, axis, &step.test, number, decimals)?;
             kept_by_all(alloc, forest, around, predicates, 1, first, context)
         }
         None => {
@@ -219,7 +222,7 @@ pub(crate) fn kept_by_all<A: Around>(
 ) -> Result<NodeList, EvalFault>
     requires ready { IsReady (A.given around.now) forest.now.forest.nodes context.now }
     requires from { AllLive nodes forest.now.forest.nodes }
-    ensures value { GivesBounded EvalFault.Memory EvalFault.Long (λ found. found) result (kept_by_all (setting_at (A.given around.now) forest.now.forest.nodes context.now) (map meaning (drop asked predicates.now)) nodes) }
+    ensures value { GivesBounded EvalFault.Memory EvalFault.Long (λ found. found) result (kept_by_all (setting_of called (A.given around.now) forest.now.forest.nodes context.now) (map meaning (drop asked predicates.now)) nodes) }
     ensures live { IfOk result (λ found. AllLive found forest.now.forest.nodes) }
 {
     let mut left = nodes;
@@ -241,11 +244,11 @@ fn kept_by<A: Around>(
 ) -> Result<NodeList, EvalFault>
     requires ready { IsReady (A.given around.now) forest.now.forest.nodes context.now }
     requires from { AllLive nodes.now forest.now.forest.nodes }
-    ensures value { GivesBounded EvalFault.Memory EvalFault.Long (λ found. found) result (kept_from (setting_at (A.given around.now) forest.now.forest.nodes context.now) (meaning predicate.now) (length nodes.now) 1 nodes.now) }
+    ensures value { GivesBounded EvalFault.Memory EvalFault.Long (λ found. found) result (kept_from (setting_of called (A.given around.now) forest.now.forest.nodes context.now) (meaning predicate.now) (length nodes.now) 1 nodes.now) }
     ensures live { IfOk result (λ found. AllLive found forest.now.forest.nodes) }
 {
     if let Expr::Number(_, number) = predicate {
-        return Ok(placed(alloc, nodes, *number)?);
+        return Ok(placed(alloc, nodes, *number, around.decimals())?);
     }
     asked_of_each(alloc, forest, around, predicate, nodes, context)
 }
@@ -262,13 +265,14 @@ fn asked_of_each<A: Around>(
 ) -> Result<NodeList, EvalFault>
     requires ready { IsReady (A.given around.now) forest.now.forest.nodes context.now }
     requires from { AllLive nodes.now forest.now.forest.nodes }
-    ensures value { GivesBounded EvalFault.Memory EvalFault.Long (λ found. found) result (kept_from (setting_at (A.given around.now) forest.now.forest.nodes context.now) (meaning predicate.now) (length nodes.now) 1 nodes.now) }
+    ensures value { GivesBounded EvalFault.Memory EvalFault.Long (λ found. found) result (kept_from (setting_of called (A.given around.now) forest.now.forest.nodes context.now) (meaning predicate.now) (length nodes.now) 1 nodes.now) }
     ensures live { IfOk result (λ found. AllLive found forest.now.forest.nodes) }
 {
     // No memory holds a list that a position cannot count.
     let Ok(size) = u32::try_from(nodes.len()) else {
         return Err(EvalFault::Memory);
     };
+    let decimals = around.decimals();
     let mut kept = NodeList::new(alloc);
     for at in 0..size {
         let node = nodes.at(at as usize);
@@ -280,7 +284,7 @@ fn asked_of_each<A: Around>(
             current: context.current,
         };
         let value = asked_at(alloc, forest, around, true, predicate, &place)?;
-        if is_true_at(&value, at + 1) {
+        if is_true_at(&value, at + 1, decimals) {
             kept.push(node)?;
         }
     }
@@ -288,11 +292,13 @@ fn asked_of_each<A: Around>(
 }
 
 /// Whether a predicate with this value keeps the node at a position: a number is true at its own (XPath 1.0, section 2.4).
-pub fn is_true_at(value: &Value, position: u32) -> bool
-    ensures { result ≡ is_true_at 6 position value.now }
+pub fn is_true_at(value: &Value, position: u32, decimals: Decimals) -> bool
+    ensures { result ≡ is_true_at decimals position value.now }
 {
     match value {
-        Value::Number(number) => number.order(whole(position as usize)) == Some(Ordering::Equal),
+        Value::Number(number) => {
+            number.order(whole(position as usize, decimals)) == Some(Ordering::Equal)
+        }
         _ => truth_of(value),
     }
 }
@@ -300,7 +306,7 @@ pub fn is_true_at(value: &Value, position: u32) -> bool
 /// Where a path begins: at the top of the context node's tree, or at the context node.
 pub(crate) fn begun(forest: &Forest, start: Start, context: &Context) -> NodeId
     requires node { IsLive context.now.node.number forest.now.forest }
-    ensures value { result.number ∷ [] ≡ begun start (setting_in forest.now.forest.nodes) (focus_of context.now) }
+    ensures value { result.number ∷ [] ≡ begun start (bare_setting forest.now.forest.nodes) (focus_of context.now) }
     ensures live { IsLive result.number forest.now.forest }
 {
     match start {

@@ -6,14 +6,14 @@ ghost use Rattle.xf_doc.specs.Forest.{IsLive};
 ghost use Rattle.xf_plain_values.specs.Bounded.{GivesBounded, capped};
 ghost use Rattle.xf_lang.specs.Conversions.{first_string, string_of_node};
 ghost use Rattle.xf_eval.specs.Live.{AllLive};
-ghost use Rattle.xf_eval.specs.Worth.{setting_in};
+ghost use Rattle.xf_eval.specs.Worth.{bare_setting};
 ghost use Rattle.xf_eval.specs.Texts.{characters, number_at};
 
 use std::alloc::Global;
 use xf_doc::{NodeId, NodeList};
 use xf_lang::EvalFault;
 use xf_name::Word;
-use xf_num::Num;
+use xf_num::{Decimals, Num};
 use xf_tree::Forest;
 
 /// No string of an evaluation has more bytes.
@@ -45,7 +45,7 @@ pub(crate) fn value_of_node<'a>(
     node: NodeId,
 ) -> Result<StringValue<'a>, EvalFault>
     requires { IsLive node.number forest.now.forest }
-    ensures { GivesBounded EvalFault.Memory EvalFault.Long characters result (string_of_node (setting_in forest.now.forest.nodes) node.number) }
+    ensures { GivesBounded EvalFault.Memory EvalFault.Long characters result (string_of_node (bare_setting forest.now.forest.nodes) node.number) }
 {
     match forest.whole_value(node) {
         Some(text) => lent(text),
@@ -73,7 +73,7 @@ pub(crate) fn first_value<'a>(
     nodes: &NodeList,
 ) -> Result<StringValue<'a>, EvalFault>
     requires { AllLive nodes.now forest.now.forest.nodes }
-    ensures { GivesBounded EvalFault.Memory EvalFault.Long characters result (first_string (setting_in forest.now.forest.nodes) nodes.now) }
+    ensures { GivesBounded EvalFault.Memory EvalFault.Long characters result (first_string (bare_setting forest.now.forest.nodes) nodes.now) }
 {
     match nodes.get(0) {
         Some(node) => value_of_node(alloc, forest, node),
@@ -82,10 +82,15 @@ pub(crate) fn first_value<'a>(
 }
 
 /// The number that the string value of a node is (XPath 1.0, section 4.4).
-pub(crate) fn number_of_node(alloc: Global, forest: &Forest, node: NodeId) -> Result<Num, EvalFault>
+pub(crate) fn number_of_node(
+    alloc: Global,
+    forest: &Forest,
+    node: NodeId,
+    decimals: Decimals,
+) -> Result<Num, EvalFault>
     requires { IsLive node.number forest.now.forest }
-    ensures { GivesBounded EvalFault.Memory EvalFault.Long (λ number. number) result (number_at forest.now.forest.nodes node.number) }
+    ensures { GivesBounded EvalFault.Memory EvalFault.Long (λ number. number) result (number_at decimals forest.now.forest.nodes node.number) }
 {
     let value = value_of_node(alloc, forest, node)?;
-    Ok(Num::read(value.as_str()))
+    Ok(Num::read(value.as_str(), decimals))
 }

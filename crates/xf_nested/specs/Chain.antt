@@ -9,11 +9,10 @@ use Rattle.xf_lang.specs.Setting.{each, in_order, joined}
 use Rattle.xf_lang.specs.Asked.{Trace}
 use Rattle.xf_model.specs.Rules.{Scope, chains, rule_of}
 use Rattle.xf_model.specs.Nested.{begun, reached_through, set_from}
-use Rattle.xf_eval.specs.Worth.{with_six}
 
--- the scope of a model's expressions, with numbers of six decimals
+-- the scope of a model's expressions
 abbrev pub scope_in : Given → List Bind → ℕ → Scope
-scope_in given binds model = record { functions = called; given = with_six given; model = model; rules = map rule_of binds }
+scope_in given binds model = record { functions = called; given = given; model = model; rules = map rule_of binds }
 
 -- what a node set selects from nodes
 abbrev pub selected : Scope → List Visit → Trace → List ℕ → Option (List ℕ)

@@ -9,7 +9,6 @@ ghost use Rattle.xf_lang.specs.Reads.{trace};
 ghost use Rattle.xf_model.specs.Rules.{model_or, rule_of, scope_of};
 ghost use Rattle.xf_model.specs.Nested.{begun, nested};
 ghost use Rattle.xf_eval.specs.Live.{AllLive, AroundStands};
-ghost use Rattle.xf_eval.specs.Worth.{with_six};
 ghost use Rattle.xf_nested.specs.Chain.{outer_in, scope_in, selected, through};
 
 use crate::bound::bound_nodes;
@@ -29,7 +28,7 @@ pub fn nested<A: Around>(
     around: &A,
 ) -> Result<NodeList, EvalFault>
     requires { AroundStands (A.given around.now) forest.now.forest.nodes }
-    ensures value { GivesBounded EvalFault.Memory EvalFault.Long (λ found. found) result (nested (Some string_limit) (scope_of called (with_six (A.given around.now)) tables.now 0) (visits forest.now.forest.nodes) bind) }
+    ensures value { GivesBounded EvalFault.Memory EvalFault.Long (λ found. found) result (nested (Some string_limit) (scope_of called (A.given around.now) tables.now 0) (visits forest.now.forest.nodes) bind) }
     ensures live { IfOk result (λ found. AllLive found forest.now.forest.nodes) }
 {
     let binds = tables.binds.as_slice();

@@ -24,7 +24,6 @@ use Rattle.xf_lang.proofs.VisitFacts.{no, none-some, some-same}
 use Rattle.xf_eval.specs.declared.kinds.Kind.{Kind}
 use Rattle.xf_eval.specs.declared.kinds.Kind.TheVariants as kind
 use Rattle.xf_eval.specs.Kinds.{function_in}
-use Rattle.xf_eval.specs.Worth.{with_six}
 use Rattle.xf_shape.specs.Bound.{document_by, literal_id}
 use Rattle.xf_shape.specs.Fixed.{Fixed, all_fixed, begins_literal, call_fixed, fixed_of, is_fixed}
 use Rattle.xf_shape.specs.Over.{shape_at}
@@ -44,10 +43,6 @@ given-nodes : (m : Option Value) (ns : List ℕ) → option_map nodes_of m ≡ S
 given-nodes None ns h = none-some h
 given-nodes (Some v) ns h = some-same h
 
-document-six : (given : Given) (model : ℕ) (m : Option (List ℕ)) → document_by (with_six given) model m ≡ document_by given model m
-document-six given model None = refl
-document-six given model (Some id) = refl
-
 module _ (given : Given) (nodes : List Node) (context : Context) where
   abbrev s : Setting
   s = shape_at given nodes context
@@ -62,8 +57,7 @@ module _ (given : Given) (nodes : List Node) (context : Context) where
       ap (λ ms. nodes_if (called of.instance code ms s c)) (traced-meanings arguments)
       ∙ ap (λ g. nodes_if (called g code (map meaning arguments) s c)) f
       ∙ ap (λ (m : Meaning). nodes_if (m s c)) (sym (meaning-Call place code arguments))
-      ∙ given-nodes (meaning (e.Call place code arguments) s c) _ (call-are given nodes context kind.Instance place code arguments f h (as_list (document_by (with_six given) context.model (literal_id arguments))) refl)
-      ∙ ap as_list (document-six given context.model (literal_id arguments))
+      ∙ given-nodes (meaning (e.Call place code arguments) s c) _ (call-are given nodes context kind.Instance place code arguments f h (as_list (document_by given context.model (literal_id arguments))) refl)
 
   pub way-asks : (k : Kind) (place code : ℕ) (arguments : List Expr) → function_in k ≡ function_at code → is_fixed (e.Call place code arguments) ≡ true →
       call_asked (function_at code) code (map trace arguments) s c ≡ asked_by (way_in k) given context arguments s c

@@ -17,8 +17,7 @@ use Rattle.xf_lang.proofs.TraceKeeps.{meaning-of_trace}
 use Rattle.xf_model.specs.Rules.{computed_of}
 use Rattle.xf_model.specs.Nested.{setting_for}
 use Rattle.xf_model.specs.Entries.{expression_of, text_of, value_by, value_of}
-use Rattle.xf_eval.specs.Worth.{setting_at, setting_in}
-use Rattle.xf_eval.proofs.Parts.{six-setting}
+use Rattle.xf_eval.specs.Worth.{setting_in}
 use Rattle.xf_eval.proofs.Settings.{string-same}
 use Rattle.xf_binds.specs.declared.entry.Entry.{Entry}
 use Rattle.xf_binds.specs.Held.{entry_of}
@@ -27,22 +26,21 @@ use Rattle.xf_settle.specs.Settles.{scope_in}
 abbrev pub context_of : ℕ → Entry → Context
 context_of model e = record { model = model; node = e.node; position = e.position; size = e.size; current = e.node }
 
-module _ (given : Given) (six : given.decimals ≡ 6) (tables : Tables) (model : ℕ) (nodes : List Node) (e : Entry) where
+module _ (given : Given) (tables : Tables) (model : ℕ) (nodes : List Node) (e : Entry) where
   pub value-some : (expr : Expr) → Some (computed_of expr) ≡ expression_of (scope_in given tables model) (entry_of e) →
-      meaning expr (setting_at given nodes (context_of model e)) (focus_of (context_of model e)) ≡ value_of (Some string_limit) (scope_in given tables model) (visits nodes) (entry_of e)
+      meaning expr (setting_of called given nodes (context_of model e)) (focus_of (context_of model e)) ≡ value_of (Some string_limit) (scope_in given tables model) (visits nodes) (entry_of e)
   value-some expr h =
-      ap (λ s. meaning expr s (focus_of (context_of model e))) (six-setting given nodes (context_of model e) six)
-      ∙ ap (λ m. m (setting_of called given nodes (context_of model e)) (focus_of (context_of model e))) (sym (meaning-of_trace expr))
+      ap (λ m. m (setting_of called given nodes (context_of model e)) (focus_of (context_of model e))) (sym (meaning-of_trace expr))
       ∙ ap (value_by (Some string_limit) (scope_in given tables model) (visits nodes) (entry_of e)) h
 
   pub value-none : None ≡ expression_of (scope_in given tables model) (entry_of e) → value_of (Some string_limit) (scope_in given tables model) (visits nodes) (entry_of e) ≡ Some (Nodes [])
   value-none h = ap (value_by (Some string_limit) (scope_in given tables model) (visits nodes) (entry_of e)) (sym h)
 
-  pub text-some : (v : Value) → value_of (Some string_limit) (scope_in given tables model) (visits nodes) (entry_of e) ≡ Some v →
-      string_of (setting_in nodes) v ≡ text_of (Some string_limit) (scope_in given tables model) (visits nodes) (entry_of e)
-  text-some v h =
-      sym (string-same given nodes (context_of model e) v)
-      ∙ ap (λ s. string_of s v) (six-setting given nodes (context_of model e) six)
+  pub text-some : (d : ℕ) (v : Value) → d ≡ given.decimals → value_of (Some string_limit) (scope_in given tables model) (visits nodes) (entry_of e) ≡ Some v →
+      string_of (setting_in d nodes) v ≡ text_of (Some string_limit) (scope_in given tables model) (visits nodes) (entry_of e)
+  text-some d v same h =
+      ap (λ (k : ℕ). string_of (setting_in k nodes) v) same
+      ∙ sym (string-same given nodes (context_of model e) v)
       ∙ sym (ap (λ o. o >>= string_of (setting_for (Some string_limit) (scope_in given tables model) (visits nodes) e.node.number)) h)
 
   pub text-none : value_of (Some string_limit) (scope_in given tables model) (visits nodes) (entry_of e) ≡ None → text_of (Some string_limit) (scope_in given tables model) (visits nodes) (entry_of e) ≡ None

@@ -43,7 +43,7 @@ pub(crate) fn evaluated_entry<A: Around>(
 {
     let value = entry_value(alloc, tables, forest, model, entry, around)?;
     let truth = truth_of(&value);
-    let text = text_of(alloc, forest, &value)?;
+    let text = text_of(alloc, forest, &value, around.decimals())?;
     Ok(Evaluated { text, truth })
 }
 

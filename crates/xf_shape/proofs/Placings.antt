@@ -17,7 +17,7 @@ use Rattle.xf_lang.specs.Agree.{untexted}
 use Rattle.xf_lang.specs.Asked.{Trace, LinkTrace, WalkTrace}
 use Rattle.xf_lang.specs.Exact.{Facts, is_union, call_facts, links_placed}
 use Rattle.xf_lang.specs.Given.{Given}
-use Rattle.xf_lang.specs.Meaning.{meaning}
+use Rattle.xf_lang.specs.Meaning.{meaning, setting_of}
 use Rattle.xf_lang.specs.Operators.{chained, signed}
 use Rattle.xf_lang.specs.Reads.{meaning_in, link_meaning_in, expr_trace, link_trace, step_trace, trace}
 use Rattle.xf_lang.specs.Setting.{Setting, Meaning, LinkMeaning, ◌>>=◌}
@@ -33,7 +33,6 @@ use Rattle.xf_lang.proofs.PlacedLaws.{Placed, at, numbers, texts, mapped, chaine
 use Rattle.xf_lang.proofs.TraceKeeps.{meaning-of_trace}
 use Rattle.xf_lang.proofs.UntextedLaws.{itself}
 use Rattle.xf_lang.proofs.VisitFacts.{no, some-same, none-some}
-use Rattle.xf_eval.specs.Worth.{setting_at}
 use Rattle.xf_shape.specs.Fixed.{Fixed, LinkFixed, told, link_told, expr_fixed, link_fixed, step_fixed, fixed_of, is_placed}
 use Rattle.xf_shape.specs.Over.{shape_at}
 use Rattle.xf_shape.specs.Told.{IsTold}
@@ -120,7 +119,7 @@ of-given {P = P} x (both p) e = subst P (some-same e) p
 
 module _ (forest : Forest) (sound : Sound forest) (given : Given) (context : Context) where
   abbrev pub over : Setting
-  over = setting_at given forest.nodes context
+  over = setting_of called given forest.nodes context
 
   bare-frame : Frame (untexted (whole forest sound)) (untexted (real forest sound))
   bare-frame = subst (λ l. Frame (untexted (whole forest sound)) l) (same-bare forest sound) (itself (whole forest sound) (whole-visits forest sound))
@@ -138,8 +137,8 @@ module _ (forest : Forest) (sound : Sound forest) (given : Given) (context : Con
     shape_documents = given.documents;
     shape_indexes = given.indexes;
     shape_event = given.event;
-    functions = called None 6;
-    extend = λ code ps p e. within_a_limit (Some string_limit) 6 code ps p e;
+    functions = called None given.decimals;
+    extend = λ code ps p e. within_a_limit (Some string_limit) given.decimals code ps p e;
     visits = real-visits forest sound;
     other_visits = real-visits forest sound;
     shape_visits = whole-visits forest sound;
@@ -148,7 +147,7 @@ module _ (forest : Forest) (sound : Sound forest) (given : Given) (context : Con
   }
 
   pub predicate-told : (e : Expr) → is_placed e ≡ true → (n position size : ℕ) (v : Value) → meaning e over (record { node = n; position = position; size = size }) ≡ Some v →
-      IsTold (shape_at given forest.nodes context) (meaning e) position size (is_true_at 6 position v)
+      IsTold (shape_at given forest.nodes context) (meaning e) position size (is_true_at given.decimals position v)
   predicate-told e h n position size v i =
       let j : (trace e).meaning over (at n position size) ≡ Some v = ap (λ m. m over (at n position size)) (meaning-of_trace e) ∙ i in
       (v, (λ k. ap (λ m. m (shape_at given forest.nodes context) (at k position size)) (sym (meaning-of_trace e)) ∙ (of-given v (placed-law beside e h n n k position size) j).0), refl)

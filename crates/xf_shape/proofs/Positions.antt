@@ -38,8 +38,8 @@ placed-none spots place l e = sym (ap as_list (before-place (numbers_at spots) p
 
 -- ---- the same nodes
 
-pub keeps-same : (k : Decimal) (ns ms kept left : List ℕ) → ns ≡ ms → left ≡ kept → Keeps k ns kept → Keeps k ms left
-keeps-same k ns ms kept left e i h = λ s size d. ap (kept_from s (constant k) size 1) (sym e) ∙ h s size d ∙ ap Some (sym i)
+pub keeps-same : (d : ℕ) (k : Decimal) (ns ms kept left : List ℕ) → ns ≡ ms → left ≡ kept → Keeps d k ns kept → Keeps d k ms left
+keeps-same d k ns ms kept left e i h = λ s size same. ap (kept_from s (constant k) size 1) (sym e) ∙ h s size same ∙ ap Some (sym i)
 
 -- ---- what is kept is some of them
 
@@ -55,17 +55,17 @@ kept-all s k size position p (n ∷ ns) kept e h = by (kept_from s (constant k) 
     by None below i = none-some i
     by (Some rest) below i = ap (list_all p) (sym (some-same i)) ∙ first (is_true_at s.given.decimals position (Number k)) rest (below rest refl (and-true _ _ h).1)
 
-pub keeps-all : (k : Decimal) (p : ℕ → Bool) (ns kept : List ℕ) → Keeps k ns kept → list_all p ns ≡ true → list_all p kept ≡ true
-keeps-all k p ns kept h i = kept-all (setting_in []) k 0 1 p ns kept (h (setting_in []) 0 refl) i
+pub keeps-all : (d : ℕ) (k : Decimal) (p : ℕ → Bool) (ns kept : List ℕ) → Keeps d k ns kept → list_all p ns ≡ true → list_all p kept ≡ true
+keeps-all d k p ns kept h i = kept-all (setting_in d []) k 0 1 p ns kept (h (setting_in d []) 0 refl) i
 
 -- ---- the literal as a predicate
 
-pub number-kept : (s : Setting) (predicate : Expr) (place : ℕ) (k : Decimal) (size : ℕ) (ns kept : List ℕ) → predicate ≡ expr.Number place k → Keeps k ns kept → s.given.decimals ≡ 6 →
+pub number-kept : (d : ℕ) (s : Setting) (predicate : Expr) (place : ℕ) (k : Decimal) (size : ℕ) (ns kept : List ℕ) → predicate ≡ expr.Number place k → Keeps d k ns kept → d ≡ s.given.decimals →
     kept_from s (meaning predicate) size 1 ns ≡ Some kept
-number-kept s predicate place k size ns kept e h d = ap (λ m. kept_from s m size 1 ns) (ap meaning e ∙ meaning-Number place k) ∙ h s size d
+number-kept d s predicate place k size ns kept e h same = ap (λ m. kept_from s m size 1 ns) (ap meaning e ∙ meaning-Number place k) ∙ h s size same
 
-pub number-first : (s : Setting) (predicates rest : List Expr) (place : ℕ) (k : Decimal) (ns kept : List ℕ) → predicates ≡ expr.Number place k ∷ rest → Keeps k ns kept → s.given.decimals ≡ 6 →
+pub number-first : (d : ℕ) (s : Setting) (predicates rest : List Expr) (place : ℕ) (k : Decimal) (ns kept : List ℕ) → predicates ≡ expr.Number place k ∷ rest → Keeps d k ns kept → d ≡ s.given.decimals →
     kept_by_all s (map meaning predicates) ns ≡ kept_by_all s (map meaning rest) kept
-number-first s predicates rest place k ns kept e h d =
+number-first d s predicates rest place k ns kept e h same =
     ap (λ es. kept_by_all s (map meaning es) ns) e
-    ∙ ap (λ m. m >>= kept_by_all s (map meaning rest)) (number-kept s (expr.Number place k) place k (length ns) ns kept refl h d)
+    ∙ ap (λ m. m >>= kept_by_all s (map meaning rest)) (number-kept d s (expr.Number place k) place k (length ns) ns kept refl h same)

@@ -12,8 +12,6 @@ use Rattle.xf_lang.specs.declared.value.Value.{Value}
 use Rattle.xf_lang.specs.declared.value.Value.TheVariants.{Nodes, Text}
 use Rattle.xf_lang.specs.Binding.{as_list, bound_nodes}
 use Rattle.xf_doc.specs.Shape.{shape_of}
-use Rattle.xf_funcs.specs.Called.{called as called_of}
-use Rattle.xf_lang.specs.Reads.{shape_setting}
 use Rattle.xf_lang.specs.Conversions.{nodes_of, string_of}
 use Rattle.xf_lang.specs.Functions.{called, instance_id, set_of, text_value}
 use Rattle.xf_lang.specs.Given.{Given, document_of}
@@ -35,7 +33,6 @@ use Rattle.xf_lang.proofs.VisitFacts.{no, some-same, none-some}
 use Rattle.xf_eval.specs.declared.kinds.Kind.{Kind}
 use Rattle.xf_eval.specs.declared.kinds.Kind.TheVariants as kind
 use Rattle.xf_eval.specs.Kinds.{function_in}
-use Rattle.xf_eval.specs.Worth.{with_six}
 use Rattle.xf_shape.specs.Fixed.{Fixed, LinkFixed, begins_literal, call_fixed, expr_fixed, fixed_of, is_fixed, link_fixed, step_fixed, told}
 use Rattle.xf_shape.proofs.FixedEquations.{fixed-Call, fixed-Literal, fixed-Negated, fixed-Number}
 use Rattle.xf_lang.proofs.WithoutLimit.{NoLimit, always}
@@ -44,7 +41,7 @@ use Rattle.xf_shape.specs.Over.{nodes_at, set_over, shape_at}
 use Rattle.xf_shape.proofs.Plainly.{plain-nodes}
 
 pub no-limit : (given : Given) (nodes : List Node) (context : Context) → NoLimit (shape_at given nodes context)
-no-limit given nodes context = record { limit = refl; total = λ code ps. without_a_limit 6 code ps }
+no-limit given nodes context = record { limit = refl; total = λ code ps. without_a_limit given.decimals code ps }
 
 pub has-value : (e : Expr) (given : Given) (nodes : List Node) (context : Context) (c : Focus) → is_some (meaning e (shape_at given nodes context) c) ≡ true
 has-value e given nodes context c = always e (shape_at given nodes context) (no-limit given nodes context) c
@@ -157,7 +154,7 @@ module _ (given : Given) (nodes : List Node) (context : Context) where
   set-nodes (Some n) = refl
 
   -- by kinds of functions
-  pub call-are : (k : Kind) (place code : ℕ) (arguments : List Expr) → function_in k ≡ function_at code → is_fixed (e.Call place code arguments) ≡ true → (ns : List ℕ) → CallGives k (with_six given) arguments context ns → NodesAre (e.Call place code arguments) ns
+  pub call-are : (k : Kind) (place code : ℕ) (arguments : List Expr) → function_in k ≡ function_at code → is_fixed (e.Call place code arguments) ≡ true → (ns : List ℕ) → CallGives k given arguments context ns → NodesAre (e.Call place code arguments) ns
   call-are k place code arguments f h ns g = by k f g
     where
       equation : nodes_at given nodes (e.Call place code arguments) context ≡ option_map nodes_of (called (function_at code) code (map meaning arguments) s c)
@@ -169,7 +166,7 @@ module _ (given : Given) (nodes : List Node) (context : Context) where
       plainly : (k : Kind) → function_in k ≡ function_at code → ((xs : List Facts) → (call_facts (function_in k) xs).is_plain ≡ true) → ns ≡ [] → NodesAre (e.Call place code arguments) ns
       plainly k f p i = plain-are (e.Call place code arguments) h (ap (λ (x : Fixed). x.is_plain) (fixed-Call place code arguments) ∙ ap (λ g. (call_facts g (map told (map fixed_of arguments))).is_plain) (sym f) ∙ p _) ∙ ap Some (sym i)
 
-      by : (k : Kind) → function_in k ≡ function_at code → CallGives k (with_six given) arguments context ns → NodesAre (e.Call place code arguments) ns
+      by : (k : Kind) → function_in k ≡ function_at code → CallGives k given arguments context ns → NodesAre (e.Call place code arguments) ns
       by kind.Current f i = equation ∙ ap (λ g. option_map nodes_of (called g code (map meaning arguments) s c)) (sym f) ∙ ap Some (sym i)
       by kind.Instance f i =
           let p = and-true (begins_literal (map fixed_of arguments)) _ (ap (λ g. call_fixed g (map fixed_of arguments)) f ∙ fixed) in
@@ -177,7 +174,7 @@ module _ (given : Given) (nodes : List Node) (context : Context) where
           equation
           ∙ ap (λ g. option_map nodes_of (called g code (map meaning arguments) s c)) (sym f)
           ∙ ap (λ m. option_map nodes_of (option_map (λ x. set_of (document_of s.model x s.given.documents)) m)) id.2
-          ∙ ap Some (set-nodes (document_of s.model id.0 s.given.documents) ∙ sym (i ∙ ap (λ m. as_list (document_by (with_six given) context.model m)) id.1))
+          ∙ ap Some (set-nodes (document_of s.model id.0 s.given.documents) ∙ sym (i ∙ ap (λ m. as_list (document_by given context.model m)) id.1))
       by kind.Event f i = no (ap (λ g. call_fixed g (map fixed_of arguments)) f ∙ fixed)
       by kind.Asking f i = plainly kind.Asking f (λ xs. refl) i
       by kind.Plainly f i = plainly kind.Plainly f (λ xs. refl) i
@@ -202,16 +199,9 @@ module _ (given : Given) (nodes : List Node) (context : Context) where
       by kind.Last f i = plainly kind.Last f (λ xs. refl) i
       by kind.Position f i = plainly kind.Position f (λ xs. refl) i
 
--- ---- what surrounds an expression, where numbers have six decimals
-
-pub six-same : (given : Given) → given.decimals ≡ 6 → given ≡ with_six given
-six-same given h = ap (λ d. record given { decimals = d }) h
-
 -- what a bind selects, by the nodes of its value
-pub set-of : (given : Given) (nodes : List Node) (x : Expr) (context : Context) (ns : List ℕ) → given.decimals ≡ 6 → nodes_at given nodes x context ≡ Some ns → set_over given nodes x context ≡ Some (bound_nodes (shape_of nodes) ns)
-set-of given nodes x context ns h i =
-    ap (λ g. option_map (λ v. bound_nodes (shape_of nodes) (nodes_of v)) (meaning x (shape_setting called_of g nodes context.model context.current.number) (focus_of context))) (six-same given h)
-    ∙ by (meaning x (shape_at given nodes context) (focus_of context)) i
+pub set-of : (given : Given) (nodes : List Node) (x : Expr) (context : Context) (ns : List ℕ) → nodes_at given nodes x context ≡ Some ns → set_over given nodes x context ≡ Some (bound_nodes (shape_of nodes) ns)
+set-of given nodes x context ns i = by (meaning x (shape_at given nodes context) (focus_of context)) i
   where
     by : (m : Option Value) → option_map nodes_of m ≡ Some ns → option_map (λ v. bound_nodes (shape_of nodes) (nodes_of v)) m ≡ Some (bound_nodes (shape_of nodes) ns)
     by None j = none-some j

@@ -1,4 +1,4 @@
--- What an expression means over the shape of a forest, with six decimals and the functions of a form: what the node set of a bind
+-- What an expression means over the shape of a forest, with the functions of a form: what the node set of a bind
 -- selects (XForms 1.1, sections 3.3.4 and 7.2), and the lists that it looks at.
 use Rattle.std.specs.Prelude.{ℕ, List, Option, option_map}
 use Rattle.xf_ast.specs.declared.expr.Expr.{Expr}
@@ -12,11 +12,10 @@ use Rattle.xf_lang.specs.Given.{Given}
 use Rattle.xf_lang.specs.Meaning.{focus_of, meaning}
 use Rattle.xf_lang.specs.Reads.{set_looks_in, shape_setting, trace}
 use Rattle.xf_lang.specs.Setting.{Setting}
-use Rattle.xf_eval.specs.Worth.{with_six}
 use Rattle.xf_plain_values.specs.Functions.{Functions}
 
 abbrev pub shape_at : Given → List Node → Context → Setting
-shape_at given nodes context = shape_setting called (with_six given) nodes context.model context.current.number
+shape_at given nodes context = shape_setting called given nodes context.model context.current.number
 
 -- the nodes of the value of an expression
 abbrev pub nodes_at : Given → List Node → Expr → Context → Option (List ℕ)

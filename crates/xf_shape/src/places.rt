@@ -16,15 +16,20 @@ use xf_ast::Test;
 use xf_doc::NodeId;
 use xf_eval::position_of;
 use xf_name::Axis;
-use xf_num::Num;
+use xf_num::{Decimals, Num};
 use xf_tree::Forest;
 
 /// Of these nodes the one at the position that a number is, alone, or none.
-pub(crate) fn placed(alloc: Global, spots: &[Spot], number: Num) -> Result<Vec<Spot>, AllocError>
-    ensures value { IfOk result (λ kept. Keeps number (numbers_at spots.now) (numbers_at kept.items)) }
+pub(crate) fn placed(
+    alloc: Global,
+    spots: &[Spot],
+    number: Num,
+    decimals: Decimals,
+) -> Result<Vec<Spot>, AllocError>
+    ensures value { IfOk result (λ kept. Keeps decimals number (numbers_at spots.now) (numbers_at kept.items)) }
     ensures spots { IfOk result (λ kept. (nodes : List Node) → AreSpots nodes spots.now → AreSpots nodes kept.items) }
 {
-    let place = position_of(number);
+    let place = position_of(number, decimals);
     let mut kept = Vec::new(alloc);
     if place == 0 {
         return Ok(kept);
@@ -43,18 +48,19 @@ pub(crate) fn reached_placed(
     axis: Axis,
     test: &Test,
     number: Num,
+    decimals: Decimals,
 ) -> Result<Vec<Spot>, AllocError>
     requires { is_spot forest.now.forest.nodes spot ≡ true }
-    ensures value { IfOk result (λ kept. Keeps number (reached axis test.now (shaped forest.now.forest.nodes) (number_at spot)) (numbers_at kept.items)) }
+    ensures value { IfOk result (λ kept. Keeps decimals number (reached axis test.now (shaped forest.now.forest.nodes) (number_at spot)) (numbers_at kept.items)) }
     ensures spots { IfOk result (λ kept. AreSpots forest.now.forest.nodes kept.items) }
 {
     match spot {
         Spot::Node(node) if !goes_to_texts(forest, node, axis, test) => {
-            plainly_placed(alloc, forest, node, axis, test, number)
+            plainly_placed(alloc, forest, node, axis, test, number, decimals)
         }
         _ => {
             let spots = reached(alloc, forest, spot, axis, test)?;
-            placed(alloc, &spots, number)
+            placed(alloc, &spots, number, decimals)
         }
     }
 }
@@ -67,13 +73,14 @@ fn plainly_placed(
     axis: Axis,
     test: &Test,
     number: Num,
+    decimals: Decimals,
 ) -> Result<Vec<Spot>, AllocError>
     requires spot { is_spot forest.now.forest.nodes (Spot.Node node) ≡ true }
     requires plain { (is_kind test.now && has_texts forest.now.forest.nodes node.number axis) ≡ false }
-    ensures value { IfOk result (λ kept. Keeps number (reached axis test.now (shaped forest.now.forest.nodes) node.number) (numbers_at kept.items)) }
+    ensures value { IfOk result (λ kept. Keeps decimals number (reached axis test.now (shaped forest.now.forest.nodes) node.number) (numbers_at kept.items)) }
     ensures spots { IfOk result (λ kept. AreSpots forest.now.forest.nodes kept.items) }
 {
     is_sound(forest);
-    let nodes = xf_eval::reached_placed(alloc, forest, node, axis, test, number)?;
+    let nodes = xf_eval::reached_placed(alloc, forest, node, axis, test, number, decimals)?;
     owned(alloc, &nodes)
 }

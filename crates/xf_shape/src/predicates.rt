@@ -57,7 +57,7 @@ fn kept_by<A: Around>(
     ensures spots { IfOk result (λ left. AreSpots forest.now.forest.nodes left.items) }
 {
     if let Expr::Number(_, number) = predicate {
-        return placed(alloc, spots, *number);
+        return placed(alloc, spots, *number, around.decimals());
     }
     // No memory holds a list that a position cannot count.
     let Ok(size) = u32::try_from(spots.len()) else {
@@ -95,7 +95,7 @@ fn is_true<A: Around>(
         current: context.current,
     };
     match value_at(alloc, forest, around, predicate, &place) {
-        Ok(value) => Ok(is_true_at(&value, position)),
+        Ok(value) => Ok(is_true_at(&value, position, around.decimals())),
         Err(_) => Err(AllocError),
     }
 }

@@ -135,7 +135,8 @@ fn from_one<A: Around>(
     ensures spots { IfOk result (λ found. AreSpots forest.now.forest.nodes found.items) }
 {
     if let [Expr::Number(_, number), rest @ ..] = predicates {
-        let first = reached_placed(alloc, forest, spot, axis, test, *number)?;
+        let decimals = around.decimals();
+        let first = reached_placed(alloc, forest, spot, axis, test, *number, decimals)?;
         return kept_by_all(alloc, forest, around, rest, first, context);
     }
     let nodes = reached(alloc, forest, spot, axis, test)?;

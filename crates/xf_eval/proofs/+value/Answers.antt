@@ -4,28 +4,30 @@ use Rattle.std.proofs.lemmas.Result.{err_from_is_err_and}
 use Rattle.xf_ast.specs.declared.expr.Expr.{size-Expr}
 use Rattle.xf_ast.specs.declared.expr.Link.{size-Link}
 use Rattle.xf_ast.specs.declared.expr.Step.{size-Step}
+use Rattle.xf_funcs.specs.Called.{called}
 use Rattle.xf_lang.specs.declared.fault.EvalFault.TheVariants.{Long, Memory}
-use Rattle.xf_lang.specs.declared.value.Value.TheVariants.{Nodes, Truth}
-use Rattle.xf_lang.specs.Conversions.{truth_of}
+use Rattle.xf_lang.specs.declared.value.Value.TheVariants.{Nodes, Text, Truth}
+use Rattle.xf_lang.specs.Comparisons.{compared}
+use Rattle.xf_lang.specs.Conversions.{string_of, truth_of}
 use Rattle.xf_lang.specs.Functions.{branched, plain_arguments}
 use Rattle.xf_lang.specs.Binding.{as_list}
-use Rattle.xf_lang.specs.Meaning.{focus_of, meaning, meaning_of_link, walk_of}
+use Rattle.xf_lang.specs.Meaning.{focus_of, meaning, meaning_of_link, setting_of, walk_of}
 use Rattle.xf_lang.specs.Operators.{chained, linked}
 use Rattle.xf_doc.specs.Axis.{is_reverse}
 use Rattle.xf_doc.specs.Forest.{has_number}
 use Rattle.xf_plain_values.specs.Bounded.{◌>>=◌}
-use Rattle.xf_lang.specs.Steps.{begun_at, from_one, kept_by_all, kept_from, reached, walked}
+use Rattle.xf_lang.specs.Steps.{begun_at, from_one, is_true_at, kept_by_all, kept_from, reached, walked}
 use Rattle.xf_lang.proofs.Equations.{meaning-Number}
 use Rattle.xf_eval.specs.Taken.{taken}
 use Rattle.xf_eval.proofs.Ordered.{alone-is, forward-in_order, taken-none, taken-one}
 use Rattle.xf_eval.proofs.Positions.{first-asked, live-placed}
-use Rattle.xf_eval.specs.Answered.{decides}
+use Rattle.xf_eval.specs.Answered.{answered, decides}
 use Rattle.xf_eval.specs.First.{counted, first_node, leads}
 use Rattle.xf_eval.specs.declared.kinds.Kind.TheVariants as kind
 use Rattle.xf_eval.specs.ByKind.{argument_or, by_kind, of_own_argument}
-use Rattle.xf_eval.specs.OfOne.{one_worth}
+use Rattle.xf_eval.specs.OfOne.{one_worth, own_worth, plain_worth}
 use Rattle.xf_eval.specs.Sides.{value_in}
-use Rattle.xf_eval.specs.Worth.{seen, setting_at}
+use Rattle.xf_eval.specs.Worth.{seen, setting_in}
 use Rattle.xf_eval.proofs.Arguments.{branched-long, branched-then, branched-else, one_plain, plain-long, plain-of-value, plains-done, plains-more, plains-stuck}
 use Rattle.xf_eval.proofs.Falls.{chain-falls, filter-falls, from-falls}
 use Rattle.xf_eval.proofs.Kept.{kept-counted, kept-long, live-added, none-kept, plain-taken, taken-done}
@@ -36,7 +38,7 @@ use Rattle.xf_eval.proofs.Parts.{argument-past, argument-within, by-other, by-ow
 use Rattle.xf_eval.proofs.Runs.{added}
 use Rattle.xf_eval.proofs.WayLaws.{empty-is, way-more, way-stuck, way-walks}
 use Rattle.xf_eval.proofs.Bounded.{gives-same, part-long}
-use Rattle.xf_eval.proofs.Firsts.{chain-made, chain-meaning, map-none, most-take, one-made, own-made, taken-first, walked-last, walked-part}
+use Rattle.xf_eval.proofs.Firsts.{chain-made, chain-meaning, map-none, most-take, one-made, own-made, string-made, taken-first, walked-last, walked-part}
 use Rattle.xf_eval.proofs.+value.Goals as goal
 use Rattle.xf_eval.proofs.+value.Goals.{calls::branched-then-truth_of, calls::branched-else-truth_of, steps::asked_of_each-then-is_true_at+in_ok-push, steps::asked_of_each-else-is_true_at}
 
@@ -44,7 +46,7 @@ use Rattle.xf_eval.proofs.+value.Goals.{calls::branched-then-truth_of, calls::br
 
 pub calls::argument-returns-in-Some-clause-value : goal.calls::argument-returns-in-Some-clause-value
 calls::argument-returns-in-Some-clause-value g t c =
-    let s = setting_at (g.A.Around.given c.args.around.now) c.args.forest.now.forest.nodes c.args.context.now in
+    let s = setting_of called (g.A.Around.given c.args.around.now) c.args.forest.now.forest.nodes c.args.context.now in
     let f = focus_of c.args.context.now in
     let es = c.args.arguments.now in
     let small : c.args.at < length es = search (rules, tests) in
@@ -54,7 +56,7 @@ calls::argument-returns-in-Some-clause-value g t c =
 
 pub calls::argument-returns-in_ok-listed-in-None-clause-value : goal.calls::argument-returns-in_ok-listed-in-None-clause-value
 calls::argument-returns-in_ok-listed-in-None-clause-value g t c =
-    let s = setting_at (g.A.Around.given c.args.around.now) c.args.forest.now.forest.nodes c.args.context.now in
+    let s = setting_of called (g.A.Around.given c.args.around.now) c.args.forest.now.forest.nodes c.args.context.now in
     let f = focus_of c.args.context.now in
     let large : length c.args.arguments.now ≤ c.args.at = omega (arith, c.in-None.ensures.lookup.3) in
     let b = c.args.is_converted in
@@ -62,7 +64,7 @@ calls::argument-returns-in_ok-listed-in-None-clause-value g t c =
 
 pub calls::branched-returns-in_err-condition-clause-value : goal.calls::branched-returns-in_err-condition-clause-value
 calls::branched-returns-in_err-condition-clause-value g t c =
-    let s = setting_at (g.A.Around.given c.args.around.now) c.args.forest.now.forest.nodes c.args.context.now in
+    let s = setting_of called (g.A.Around.given c.args.around.now) c.args.forest.now.forest.nodes c.args.context.now in
     let f = focus_of c.args.context.now in
     let ms = map meaning c.args.arguments.now in
     let p = err_from_is_err_and c.from_residual.result c.from_residual.ensures.1 in
@@ -71,7 +73,7 @@ calls::branched-returns-in_err-condition-clause-value g t c =
 
 pub calls::branched-returns-clause-value : goal.calls::branched-returns-clause-value
 calls::branched-returns-clause-value g t c =
-    let s = setting_at (g.A.Around.given c.args.around.now) c.args.forest.now.forest.nodes c.args.context.now in
+    let s = setting_of called (g.A.Around.given c.args.around.now) c.args.forest.now.forest.nodes c.args.context.now in
     let f = focus_of c.args.context.now in
     let ms = map meaning c.args.arguments.now in
     let chosen : branched ms s f ≡ argument_or c.if-truth_of.at [] ms s f =
@@ -91,12 +93,13 @@ calls::call_value-returns-in_ok-value-in_default-clause-value g t c =
     let context = c.args.context.now in
     let ms = map meaning c.args.arguments.now in
     let o = c.in_default in
-    let worth : by_kind c.args.kind c.args.code given nodes context ms ≡ one_worth c.args.kind context.model given nodes c.in_ok-value-in_default.value =
+    let worth : by_kind c.args.kind c.args.code given nodes context ms ≡ one_worth given.decimals c.args.kind context.model given nodes c.in_ok-value-in_default.value =
     by-other c.args.kind c.args.code given nodes context ms
     o.not-Asking o.not-Plainly o.not-Owning o.not-Truth o.not-Choosing o.not-Branching o.not-LocalName o.not-Name o.not-Namespace o.not-Number o.not-Text o.not-Current o.not-Last o.not-Position
-    ∙ one-made c.args.kind context.model given nodes (argument_or 0 [] ms (setting_at given nodes context) (focus_of context)) c.in_ok-value-in_default.value
-    (subst (λ b. option_map (counted b) (argument_or 0 [] ms (setting_at given nodes context) (focus_of context)) ≡ Some (counted b c.in_ok-value-in_default.value)) c.takes_plain-plain.ensures c.in_ok-value-in_default.ensures.value) in
-    gives-same Memory Long (λ v. v) c.of_one.result _ _ (sym worth) c.of_one.ensures.value
+    ∙ one-made given.decimals c.args.kind context.model given nodes (argument_or 0 [] ms (setting_of called given nodes context) (focus_of context)) c.in_ok-value-in_default.value
+    (subst (λ b. option_map (counted b) (argument_or 0 [] ms (setting_of called given nodes context) (focus_of context)) ≡ Some (counted b c.in_ok-value-in_default.value)) c.takes_plain-plain.ensures c.in_ok-value-in_default.ensures.value) in
+    gives-same Memory Long (λ v. v) c.of_one.result _ _
+    (ap (λ d. one_worth d c.args.kind context.model given nodes c.in_ok-value-in_default.value) c.decimals-decimals.ensures ∙ sym worth) c.of_one.ensures.value
 
 pub calls::call_value-returns-in_ok-value-in-Owning-clause-value : goal.calls::call_value-returns-in_ok-value-in-Owning-clause-value
 calls::call_value-returns-in_ok-value-in-Owning-clause-value g t c =
@@ -124,12 +127,42 @@ calls::call_value-returns-in_ok-value-in-Owning-clause-value g t c =
       ]
     ] in
     gives-same Memory Long (λ v. v) c.of_own.result _ _
-    (sym (own ∙ own-made k code given nodes (argument_or 0 (context.node.number ∷ []) ms (setting_at given nodes context) (focus_of context)) c.in_ok-value-in-Owning.value c.in_ok-value-in-Owning.ensures.value))
+    (ap (λ d. own_worth d k code given nodes c.in_ok-value-in-Owning.value) c.decimals-decimals.ensures
+    ∙ sym (own ∙ own-made given.decimals k code given nodes (argument_or 0 (context.node.number ∷ []) ms (setting_of called given nodes context) (focus_of context)) c.in_ok-value-in-Owning.value c.in_ok-value-in-Owning.ensures.value))
     c.of_own.ensures.value
+
+pub calls::call_value-returns-in_ok-given-in-Asking-clause-value : goal.calls::call_value-returns-in_ok-given-in-Asking-clause-value
+calls::call_value-returns-in_ok-given-in-Asking-clause-value g t c =
+    let given = g.A.Around.given c.args.around.now in
+    let nodes = c.args.forest.now.forest.nodes in
+    let context = c.args.context.now in
+    let ms = map meaning c.args.arguments.now in
+    let code = c.args.code in
+    let plains = c.in_ok-given-in-Asking.given.items in
+    let worth : by_kind c.args.kind code given nodes context ms ≡ plain_worth given.decimals code plains =
+    elim c.in-Asking.is [
+      | inl i ↦ ap (λ k. by_kind k code given nodes context ms) i ∙ ap (λ m. m >>= plain_worth given.decimals code) c.in_ok-given-in-Asking.ensures
+      | inr i ↦ ap (λ k. by_kind k code given nodes context ms) i ∙ ap (λ m. m >>= plain_worth given.decimals code) c.in_ok-given-in-Asking.ensures
+    ] in
+    gives-same Memory Long (λ v. v) c.called_plainly.result _ _
+    (ap (plain_worth c.decimals-decimals.result code) c.as_slice.ensures.value ∙ ap (λ d. plain_worth d code plains) c.decimals-decimals.ensures ∙ sym worth)
+    c.called_plainly.ensures.value
+
+pub calls::call_value-returns-in_ok-text_of-in-Branching-clause-value : goal.calls::call_value-returns-in_ok-text_of-in-Branching-clause-value
+calls::call_value-returns-in_ok-text_of-in-Branching-clause-value g t c =
+    let given = g.A.Around.given c.args.around.now in
+    let nodes = c.args.forest.now.forest.nodes in
+    let context = c.args.context.now in
+    let ms = map meaning c.args.arguments.now in
+    let value = c.in_ok-value-in-Branching.value in
+    ap (λ k. by_kind k c.args.code given nodes context ms) c.in-Branching.is
+    ∙ ap (option_map Text)
+    (string-made (setting_in given.decimals nodes) (branched ms (setting_of called given nodes context) (focus_of context)) value c.in_ok-value-in-Branching.ensures.value
+    ∙ ap (λ d. string_of (setting_in d nodes) value) (sym c.decimals-decimals.ensures) ∙ c.in_ok-text_of-in-Branching.ensures)
 
 pub calls::plain_arguments-loop-argument-init : goal.calls::plain_arguments-loop-argument-init
 calls::plain_arguments-loop-argument-init g t c =
-    let s = setting_at (g.A.Around.given c.args.around.now) c.args.forest.now.forest.nodes c.args.context.now in
+    let s = setting_of called (g.A.Around.given c.args.around.now) c.args.forest.now.forest.nodes c.args.context.now in
     let f = focus_of c.args.context.now in
     let ms = map meaning c.args.arguments.now in
     ap (λ l. onto l (plain_arguments ms s f)) c.new-given.ensures.items ∙ onto-start (plain_arguments ms s f)
@@ -138,7 +171,7 @@ pub calls::plain_arguments-returns-in_err-value : goal.calls::plain_arguments-re
 calls::plain_arguments-returns-in_err-value g t c =
     let given = g.A.Around.given c.args.around.now in
     let nodes = c.args.forest.now.forest.nodes in
-    let s = setting_at given nodes c.args.context.now in
+    let s = setting_of called given nodes c.args.context.now in
     let f = focus_of c.args.context.now in
     let es = c.args.arguments.now in
     let p = err_from_is_err_and c.from_residual.result c.from_residual.ensures.1 in
@@ -150,7 +183,7 @@ pub calls::plain_arguments-returns-in_err-plain_of : goal.calls::plain_arguments
 calls::plain_arguments-returns-in_err-plain_of g t c =
     let given = g.A.Around.given c.args.around.now in
     let nodes = c.args.forest.now.forest.nodes in
-    let s = setting_at given nodes c.args.context.now in
+    let s = setting_of called given nodes c.args.context.now in
     let f = focus_of c.args.context.now in
     let es = c.args.arguments.now in
     let p = err_from_is_err_and c.from_residual-in_err-plain_of.result c.from_residual-in_err-plain_of.ensures.1 in
@@ -162,7 +195,7 @@ pub calls::plain_arguments-loop-argument-preserved : goal.calls::plain_arguments
 calls::plain_arguments-loop-argument-preserved g t c =
     let given = g.A.Around.given c.args.around.now in
     let nodes = c.args.forest.now.forest.nodes in
-    let s = setting_at given nodes c.args.context.now in
+    let s = setting_of called given nodes c.args.context.now in
     let f = focus_of c.args.context.now in
     let es = c.args.arguments.now in
     ap (λ l. onto l (plain_arguments (map meaning (drop (c.loop-argument.argument-index + 1) es)) s f)) c.in_ok-push.ensures.items
@@ -171,7 +204,7 @@ calls::plain_arguments-loop-argument-preserved g t c =
 
 pub calls::plain_arguments-returns : goal.calls::plain_arguments-returns
 calls::plain_arguments-returns g t c =
-    let s = setting_at (g.A.Around.given c.args.around.now) c.args.forest.now.forest.nodes c.args.context.now in
+    let s = setting_of called (g.A.Around.given c.args.around.now) c.args.forest.now.forest.nodes c.args.context.now in
     plains-done s (focus_of c.args.context.now) c.loop-argument.given.items c.args.arguments.now c.loop-argument.argument-index c.loop-argument.invariant c.loop-argument-test.false
 
 -- ---- expressions
@@ -188,7 +221,7 @@ expression::value_at-returns-in_ok-left-in-Chain-2-clause-value g t c =
     let given = g.A.Around.given c.args.around.now in
     let nodes = c.args.forest.now.forest.nodes in
     let context = c.args.context.now in
-    let s = setting_at given nodes context in
+    let s = setting_of called given nodes context in
     let f = focus_of context in
     let ls = c.as_slice-behind.result.now in
     let left = c.in_ok-left-in-Chain-2.left in
@@ -219,7 +252,7 @@ expression::value_at-returns-in-Call-clause-value g t c =
     let given = g.A.Around.given c.args.around.now in
     let nodes = c.args.forest.now.forest.nodes in
     let context = c.args.context.now in
-    let s = setting_at given nodes context in
+    let s = setting_of called given nodes context in
     let f = focus_of context in
     gives-same Memory Long (λ v. v) c.call_value.result _ (meaning c.args.expr.now s f)
     (ap (λ es. by_kind c.kind_of-kind.result c.in-Call.code given nodes context (map meaning es)) c.as_slice-given.ensures
@@ -233,17 +266,18 @@ operators::linked-returns-clause-value g t c =
     let given = g.A.Around.given c.args.around.now in
     let nodes = c.args.forest.now.forest.nodes in
     let context = c.args.context.now in
-    let s = setting_at given nodes context in
+    let s = setting_of called given nodes context in
     let m = meaning c.args.link.now.right in
     let o = c.args.link.now.operator in
     let undecided : decides o (truth_of c.args.left) ≡ false = ap (decides o) (sym c.truth_of.ensures) ∙ sym c.decides.ensures ∙ c.if-decides.false in
     gives-same Memory Long (λ v. v) c.combined.result _ _
-    (sym (linked-both o c.args.left c.in_ok-right.right m given nodes context (focus_of context) undecided (subst (λ b. option_map (counted b) (m s (focus_of context)) ≡ Some (counted b c.in_ok-right.right)) c.converts-is_converted.ensures c.in_ok-right.ensures.value)))
+    (ap (λ d. answered o (setting_in d nodes) c.args.left c.in_ok-right.right) c.decimals.ensures
+    ∙ sym (linked-both o c.args.left c.in_ok-right.right m given nodes context (focus_of context) undecided (subst (λ b. option_map (counted b) (m s (focus_of context)) ≡ Some (counted b c.in_ok-right.right)) c.converts-is_converted.ensures c.in_ok-right.ensures.value)))
     c.combined.ensures.value
 
 pub operators::linked-returns-in_err-right-clause-value : goal.operators::linked-returns-in_err-right-clause-value
 operators::linked-returns-in_err-right-clause-value g t c =
-    let s = setting_at (g.A.Around.given c.args.around.now) c.args.forest.now.forest.nodes c.args.context.now in
+    let s = setting_of called (g.A.Around.given c.args.around.now) c.args.forest.now.forest.nodes c.args.context.now in
     let f = focus_of c.args.context.now in
     let m = meaning c.args.link.now.right in
     let o = c.args.link.now.operator in
@@ -271,7 +305,7 @@ first::first_walked-walked-requires g t c =
 
 pub first::first_walked-returns-in_err-nodes-clause-value : goal.first::first_walked-returns-in_err-nodes-clause-value
 first::first_walked-returns-in_err-nodes-clause-value g t c =
-    let s = setting_at (g.A.Around.given c.args.around.now) c.args.forest.now.forest.nodes c.args.context.now in
+    let s = setting_of called (g.A.Around.given c.args.around.now) c.args.forest.now.forest.nodes c.args.context.now in
     let ss = c.args.steps.now in
     let p = err_from_is_err_and c.from_residual.result c.from_residual.ensures.1 in
     rw (p.1, p.2) (part-long Memory Long _ _ (option_map first_node (walked s (map walk_of ss) c.args.from)) c.in_err-nodes.ensures.value
@@ -279,7 +313,7 @@ first::first_walked-returns-in_err-nodes-clause-value g t c =
 
 pub first::first_walked-returns-clause-value : goal.first::first_walked-returns-clause-value
 first::first_walked-returns-clause-value g t c =
-    let s = setting_at (g.A.Around.given c.args.around.now) c.args.forest.now.forest.nodes c.args.context.now in
+    let s = setting_of called (g.A.Around.given c.args.around.now) c.args.forest.now.forest.nodes c.args.context.now in
     let ss = c.args.steps.now in
     let k = length ss - 1 in
     let some : 0 < length ss = omega (arith, c.if-count-eq0.false) in
@@ -298,7 +332,7 @@ first::first_taken-returns-then-count-eq1-clause-value g t c =
     let given = g.A.Around.given c.args.around.now in
     let nodes = c.args.forest.now.forest.nodes in
     let context = c.args.context.now in
-    let s = setting_at given nodes context in
+    let s = setting_of called given nodes context in
     let step = c.args.step.now in
     let way = c.way_of-way.result in
     let n = c.at.result.number in
@@ -329,7 +363,7 @@ first::first_from-walked_from-requires g t c =
 
 pub first::first_from-returns-in_err-nodes-clause-value : goal.first::first_from-returns-in_err-nodes-clause-value
 first::first_from-returns-in_err-nodes-clause-value g t c =
-    let s = setting_at (g.A.Around.given c.args.around.now) c.args.forest.now.forest.nodes c.args.context.now in
+    let s = setting_of called (g.A.Around.given c.args.around.now) c.args.forest.now.forest.nodes c.args.context.now in
     let ss = c.args.steps.now in
     let from = c.args.node.number ∷ [] in
     let p = err_from_is_err_and c.from_residual-in_err-nodes.result c.from_residual-in_err-nodes.ensures.1 in
@@ -338,7 +372,7 @@ first::first_from-returns-in_err-nodes-clause-value g t c =
 
 pub first::first_from-returns-clause-value : goal.first::first_from-returns-clause-value
 first::first_from-returns-clause-value g t c =
-    let s = setting_at (g.A.Around.given c.args.around.now) c.args.forest.now.forest.nodes c.args.context.now in
+    let s = setting_of called (g.A.Around.given c.args.around.now) c.args.forest.now.forest.nodes c.args.context.now in
     let ss = c.args.steps.now in
     let k = length ss - 1 in
     let some : 0 < length ss = omega (arith, c.if-count-eq0.false) in
@@ -354,7 +388,7 @@ first::first_stepped-returns-then-not-way-clause-value g t c =
     let given = g.A.Around.given c.args.around.now in
     let nodes = c.args.forest.now.forest.nodes in
     let context = c.args.context.now in
-    let s = setting_at given nodes context in
+    let s = setting_of called given nodes context in
     let step = c.args.step.now in
     let way = c.way_of_one-way.result in
     let n = c.args.node.number in
@@ -378,7 +412,7 @@ first::first_stepped-returns-then-not-way-clause-live g t c =
 
 pub operand::compared_with-returns-in_err-right-clause-value : goal.operand::compared_with-returns-in_err-right-clause-value
 operand::compared_with-returns-in_err-right-clause-value g t c =
-    let s = setting_at (g.A.Around.given c.args.around.now) c.args.forest.now.forest.nodes c.args.context.now in
+    let s = setting_of called (g.A.Around.given c.args.around.now) c.args.forest.now.forest.nodes c.args.context.now in
     let f = focus_of c.args.context.now in
     let link = c.args.link.now in
     let left = value_in c.args.left.now in
@@ -395,8 +429,9 @@ operand::compared_with-returns-in_err-truth-clause-value g t c =
     let left = value_in c.args.left.now in
     let right = value_in c.in_ok-right.right in
     let p = err_from_is_err_and c.from_residual-in_err-truth.result c.from_residual-in_err-truth.ensures.1 in
-    rw (p.1, p.2) (part-long Memory Long _ _ (chained (meaning_of_link link ∷ []) left (setting_at given nodes context) (focus_of context)) c.in_err-truth.ensures
-    (λ h. link-compared link left right given nodes context (focus_of context) c.requires.compares c.in_ok-right.ensures.value ∙ ap (option_map Truth) h))
+    rw (p.1, p.2) (part-long Memory Long _ _ (chained (meaning_of_link link ∷ []) left (setting_of called given nodes context) (focus_of context)) c.in_err-truth.ensures
+    (λ h. link-compared link left right given nodes context (focus_of context) c.requires.compares c.in_ok-right.ensures.value
+    ∙ ap (λ d. option_map Truth (compared (setting_in d nodes) link.operator left right)) (sym c.decimals-decimals.ensures) ∙ ap (option_map Truth) h))
 
 pub operand::compared_with-returns-clause-value : goal.operand::compared_with-returns-clause-value
 operand::compared_with-returns-clause-value g t c =
@@ -406,7 +441,8 @@ operand::compared_with-returns-clause-value g t c =
     let link = c.args.link.now in
     let left = value_in c.args.left.now in
     let right = value_in c.in_ok-right.right in
-    link-compared link left right given nodes context (focus_of context) c.requires.compares c.in_ok-right.ensures.value ∙ ap (option_map Truth) c.in_ok-truth.ensures
+    link-compared link left right given nodes context (focus_of context) c.requires.compares c.in_ok-right.ensures.value
+    ∙ ap (λ d. option_map Truth (compared (setting_in d nodes) link.operator left right)) (sym c.decimals-decimals.ensures) ∙ ap (option_map Truth) c.in_ok-truth.ensures
 
 -- ---- steps
 
@@ -425,7 +461,7 @@ steps::asked_of_each-asked_at-requires g t c = λ κs h. (
 
 pub steps::asked_of_each-returns-in_err-value-clause-value : goal.steps::asked_of_each-returns-in_err-value-clause-value
 steps::asked_of_each-returns-in_err-value-clause-value g t c =
-    let s = setting_at (g.A.Around.given c.args.around.now) c.args.forest.now.forest.nodes c.args.context.now in
+    let s = setting_of called (g.A.Around.given c.args.around.now) c.args.forest.now.forest.nodes c.args.context.now in
     let m = meaning c.args.predicate.now in
     let ns = c.args.nodes.now in
     let all : c.in-Ok.size ≡ length ns = c.loop-at.invariant.all in
@@ -437,7 +473,7 @@ steps::asked_of_each-returns-in_err-value-clause-value g t c =
 pub steps::asked_of_each-loop-at-preserved : goal.steps::asked_of_each-loop-at-preserved
 steps::asked_of_each-loop-at-preserved g t c =
     let nodes = c.args.forest.now.forest.nodes in
-    let s = setting_at (g.A.Around.given c.args.around.now) nodes c.args.context.now in
+    let s = setting_of called (g.A.Around.given c.args.around.now) nodes c.args.context.now in
     let m = meaning c.args.predicate.now in
     let ns = c.args.nodes.now in
     let n = c.at-node.result.number in
@@ -453,24 +489,25 @@ steps::asked_of_each-loop-at-preserved g t c =
       all = all;
       live = live-is nodes kept (live-added c.loop-at.kept n c.is_true_at.result nodes c.loop-at.invariant.live live);
       left = ap (λ l. onto l (kept_from s m c.in-Ok.size (suc (c.loop-at.at + 1)) (drop (c.loop-at.at + 1) ns))) kept
-          ∙ kept-counted s m c.in-Ok.size c.loop-at.at n c.loop-at.kept ns c.in_ok-value.value c.is_true_at.result c.loop-at.invariant.left within c.at-node.ensures c.in_ok-value.ensures.value (sym c.is_true_at.ensures);
+          ∙ kept-counted s m c.in-Ok.size c.loop-at.at n c.loop-at.kept ns c.in_ok-value.value c.is_true_at.result c.loop-at.invariant.left within c.at-node.ensures c.in_ok-value.ensures.value
+          (ap (λ d. is_true_at d (c.loop-at.at + 1) c.in_ok-value.value) (sym c.decimals-decimals.ensures) ∙ sym c.is_true_at.ensures);
     }
 
 pub steps::kept_by-returns-in-Number-clause-value : goal.steps::kept_by-returns-in-Number-clause-value
 steps::kept_by-returns-in-Number-clause-value g t c =
-    let s = setting_at (g.A.Around.given c.args.around.now) c.args.forest.now.forest.nodes c.args.context.now in
+    let s = setting_of called (g.A.Around.given c.args.around.now) c.args.forest.now.forest.nodes c.args.context.now in
     let ns = c.args.nodes.now in
     ap (λ e. kept_from s (meaning e) (length ns) 1 ns) c.in-Number.is ∙ ap (λ m. kept_from s m (length ns) 1 ns) (meaning-Number c.in-Number.field-0 c.in-Number.number)
-    ∙ c.in_ok-placed.ensures.value s (length ns) refl
+    ∙ c.in_ok-placed.ensures.value s (length ns) c.decimals.ensures
 
 pub steps::from_one-returns-in_ok-first-in-Some-clause-value : goal.steps::from_one-returns-in_ok-first-in-Some-clause-value
 steps::from_one-returns-in_ok-first-in-Some-clause-value g t c =
-    let s = setting_at (g.A.Around.given c.args.around.now) c.args.forest.now.forest.nodes c.args.context.now in
+    let s = setting_of called (g.A.Around.given c.args.around.now) c.args.forest.now.forest.nodes c.args.context.now in
     let step = c.args.step.now in
     let ps = c.as_slice-predicates.result.now in
     let ns = reached c.args.axis step.test s.all c.args.node.number in
     gives-same Memory Long (λ v. v) c.kept_by_all.result _ _
-    (first-asked c.in-Some.number ps s ns c.in_ok-first-in-Some.first c.in-Some.ensures c.in_ok-first-in-Some.ensures.value refl ∙ ap (λ es. kept_by_all s (map meaning es) ns) c.as_slice-predicates.ensures)
+    (first-asked c.decimals-decimals.result c.in-Some.number ps s ns c.in_ok-first-in-Some.first c.in-Some.ensures c.in_ok-first-in-Some.ensures.value c.decimals-decimals.ensures ∙ ap (λ es. kept_by_all s (map meaning es) ns) c.as_slice-predicates.ensures)
     c.kept_by_all.ensures.value
 
 pub steps::walked-returns-in_err-nodes-clause-value : goal.steps::walked-returns-in_err-nodes-clause-value
@@ -480,7 +517,7 @@ steps::walked-returns-in_err-nodes-clause-value g t c =
     let context = c.args.context.now in
     let steps = c.args.steps.now in
     let p = err_from_is_err_and c.from_residual-in_err-nodes.result c.from_residual-in_err-nodes.ensures.1 in
-    rw (p.1, p.2) (part-long Memory Long _ _ (walked (setting_at given nodes context) (map walk_of steps) c.args.from) c.in_err-nodes.ensures.value
+    rw (p.1, p.2) (part-long Memory Long _ _ (walked (setting_of called given nodes context) (map walk_of steps) c.args.from) c.in_err-nodes.ensures.value
     (way-stuck given nodes context steps c.loop-step.step-index c.step-item.result c.loop-step.nodes c.in_ok-start.start c.way_of-way.result _
     c.loop-step.invariant.left c.loop-step-test.true c.step-item.is c.way_of-way.ensures c.in_ok-start.ensures.value))
 
@@ -506,18 +543,18 @@ steps::taken-take-requires g t c = λ κs h.
 
 pub steps::taken_from-ordered-requires-clause-forward : goal.steps::taken_from-ordered-requires-clause-forward
 steps::taken_from-ordered-requires-clause-forward g t c =
-    let s = setting_at (g.A.Around.given c.args.around.now) c.args.forest.now.forest.nodes c.args.context.now in
+    let s = setting_of called (g.A.Around.given c.args.around.now) c.args.forest.now.forest.nodes c.args.context.now in
     forward-in_order c.args.axis c.args.step.now.test [] s c.args.node.number c.in_ok-found.found c.args.forest.now c.are_trees.ensures refl (ap Some (sym c.in_ok-found.ensures.value))
 
 pub steps::taken_from-ordered-requires-2-clause-forward : goal.steps::taken_from-ordered-requires-2-clause-forward
 steps::taken_from-ordered-requires-2-clause-forward g t c =
-    let s = setting_at (g.A.Around.given c.args.around.now) c.args.forest.now.forest.nodes c.args.context.now in
+    let s = setting_of called (g.A.Around.given c.args.around.now) c.args.forest.now.forest.nodes c.args.context.now in
     let step = c.args.step.now in
     forward-in_order c.args.axis step.test (map meaning step.predicates) s c.args.node.number c.in_ok-kept.kept c.args.forest.now c.are_trees.ensures refl c.in_ok-kept.ensures.value
 
 pub steps::take-returns-then-not-reaches_any : goal.steps::take-returns-then-not-reaches_any
 steps::take-returns-then-not-reaches_any g t c =
-    let s = setting_at (g.A.Around.given c.args.around.now) c.args.forest.now.forest.nodes c.args.context.now in
+    let s = setting_of called (g.A.Around.given c.args.around.now) c.args.forest.now.forest.nodes c.args.context.now in
     let ms = map meaning c.args.step.now.predicates in
     let found = c.args.found.now in
     record {
@@ -527,7 +564,7 @@ steps::take-returns-then-not-reaches_any g t c =
 
 pub steps::taken_from-returns-in_err-kept-clause-value : goal.steps::taken_from-returns-in_err-kept-clause-value
 steps::taken_from-returns-in_err-kept-clause-value g t c =
-    let s = setting_at (g.A.Around.given c.args.around.now) c.args.forest.now.forest.nodes c.args.context.now in
+    let s = setting_of called (g.A.Around.given c.args.around.now) c.args.forest.now.forest.nodes c.args.context.now in
     let step = c.args.step.now in
     let ms = map meaning step.predicates in
     let p = err_from_is_err_and c.from_residual-in_err-kept.result c.from_residual-in_err-kept.ensures.1 in
@@ -536,14 +573,14 @@ steps::taken_from-returns-in_err-kept-clause-value g t c =
 
 pub steps::taken_from-returns-clause-value : goal.steps::taken_from-returns-clause-value
 steps::taken_from-returns-clause-value g t c =
-    let s = setting_at (g.A.Around.given c.args.around.now) c.args.forest.now.forest.nodes c.args.context.now in
+    let s = setting_of called (g.A.Around.given c.args.around.now) c.args.forest.now.forest.nodes c.args.context.now in
     let step = c.args.step.now in
     let ms = map meaning step.predicates in
     taken-one c.args.axis step.test ms s c.args.node.number c.in_ok-kept.kept c.in_ok-kept.ensures.value ∙ ap Some (sym c.in_ok-ordered-2.ensures.value)
 
 pub steps::taken-returns-then-len-eq1-clause-value : goal.steps::taken-returns-then-len-eq1-clause-value
 steps::taken-returns-then-len-eq1-clause-value g t c =
-    let s = setting_at (g.A.Around.given c.args.around.now) c.args.forest.now.forest.nodes c.args.context.now in
+    let s = setting_of called (g.A.Around.given c.args.around.now) c.args.forest.now.forest.nodes c.args.context.now in
     let step = c.args.step.now in
     let ms = map meaning step.predicates in
     let one : length c.args.from.now ≡ 1 = sym c.len.ensures ∙ c.if-len-eq1.true in
@@ -553,7 +590,7 @@ steps::taken-returns-then-len-eq1-clause-value g t c =
 pub steps::taken-returns-then-is_empty-clause-value : goal.steps::taken-returns-then-is_empty-clause-value
 steps::taken-returns-then-is_empty-clause-value g t c =
     let nodes = c.args.forest.now.forest.nodes in
-    let s = setting_at (g.A.Around.given c.args.around.now) nodes c.args.context.now in
+    let s = setting_of called (g.A.Around.given c.args.around.now) nodes c.args.context.now in
     let step = c.args.step.now in
     let none : map meaning step.predicates ≡ [] = ap (map meaning) (empty-is step.predicates (search (rules, tests, c.is_empty.ensures, c.if-is_empty.true, c.as_slice.ensures))) in
     plain-taken nodes c.args.axis step.test (map meaning step.predicates) s c.args.from.now c.in_ok-found.found c.in_ok-put_in_order.field-0 refl none c.in_ok-found.ensures c.in_ok-put_in_order.ensures
@@ -564,7 +601,7 @@ steps::taken-returns-then-is_empty-clause-live g t c = live-is c.args.forest.now
 pub steps::taken-returns-clause-value : goal.steps::taken-returns-clause-value
 steps::taken-returns-clause-value g t c =
     let nodes = c.args.forest.now.forest.nodes in
-    let s = setting_at (g.A.Around.given c.args.around.now) nodes c.args.context.now in
+    let s = setting_of called (g.A.Around.given c.args.around.now) nodes c.args.context.now in
     let step = c.args.step.now in
     taken-done nodes (from_one c.args.axis step.test (map meaning step.predicates) s) c.loop-node.found c.in_ok-put_in_order-2.field-0 c.args.from.now c.as_slice-node-items.result.now c.loop-node.node-index
     c.as_slice-node-items.ensures c.loop-node.invariant c.loop-node-test.false c.in_ok-put_in_order-2.ensures

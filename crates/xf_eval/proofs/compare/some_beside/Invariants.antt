@@ -7,5 +7,5 @@ use Rattle.xf_eval.proofs.compare.some_beside.Given as goal
 abbrev pub invariant-loop-node : goal.invariant-loop-node
 invariant-loop-node l =
     let made = text_made l.forest.forest.nodes in
-    let some = some_beside l.operator l.is_left l.others in
+    let some = some_beside l.decimals l.operator l.is_left l.others in
     option_map (λ texts. l.found || some texts) (each made (map (λ n. n.number) (drop l.node-index l.node-items))) ≡ option_map some (each made (map (λ n. n.number) l.node-items))

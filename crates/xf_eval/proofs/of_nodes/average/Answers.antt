@@ -7,4 +7,4 @@ use Rattle.xf_eval.proofs.of_nodes.average.Goals as goal
 pub returns : goal.returns
 returns c =
     let sum = c.in_ok-sum.sum in
-    average-of c.args.forest.now.forest.nodes c.args.nodes.now sum c.in_ok-sum.ensures ∙ ap Some (sym (c.div.ensures ∙ ap (quotient 6 sum) (c.whole.ensures ∙ ap (whole 6) c.len.ensures)))
+    average-of c.args.decimals c.args.forest.now.forest.nodes c.args.nodes.now sum c.in_ok-sum.ensures ∙ ap Some (sym (c.div.ensures ∙ ap (quotient c.args.decimals sum) (c.whole.ensures ∙ ap (whole c.args.decimals) c.len.ensures)))

@@ -12,5 +12,5 @@ pub loop-node-preserved : goal.loop-node-preserved
 loop-node-preserved c =
     let nodes = c.args.forest.now.forest.nodes in
     let ids = c.args.nodes.now in
-    ap (λ k. folded c.args.kind nodes k (map (λ (n : NodeId). n.number) (drop (c.loop-node.node-index + 1) ids))) c.combined-number.ensures
-    ∙ fold-more c.args.kind nodes ids c.loop-node.node-index _ c.loop-node.number c.in_ok-next.next _ c.loop-node.invariant c.loop-node-test.true c.in_ok-next.ensures
+    ap (λ k. folded c.args.decimals c.args.kind nodes k (map (λ (n : NodeId). n.number) (drop (c.loop-node.node-index + 1) ids))) c.combined-number.ensures
+    ∙ fold-more c.args.decimals c.args.kind nodes ids c.loop-node.node-index _ c.loop-node.number c.in_ok-next.next _ c.loop-node.invariant c.loop-node-test.true c.in_ok-next.ensures

@@ -7,14 +7,14 @@ use Rattle.xf_eval.proofs.places.placed.Goals as goal
 
 pub returns-then-place-eq0-clause-value : goal.returns-then-place-eq0-clause-value
 returns-then-place-eq0-clause-value c =
-    position-keeps c.args.number c.args.nodes.now c.new.result 0 (subst (IsPosition c.args.number) c.if-place-eq0.true c.position_of-place.ensures) c.new.ensures
+    position-keeps c.args.decimals c.args.number c.args.nodes.now c.new.result 0 (subst (IsPosition c.args.decimals c.args.number) c.if-place-eq0.true c.position_of-place.ensures) c.new.ensures
 
 pub returns-clause-value : goal.returns-clause-value
 returns-clause-value c =
     let ns = c.args.nodes.now in
     let place = c.position_of-place.result in
     let above : 0 < place = omega (arith, c.if-place-eq0.false) in
-    IfOk-weaker c.listed.result _ _ (λ kept h. position-keeps c.args.number ns kept place c.position_of-place.ensures (h ∙ ap as_list (c.get.ensures ∙ sym (before-place ns place above)))) c.listed.ensures
+    IfOk-weaker c.listed.result _ _ (λ kept h. position-keeps c.args.decimals c.args.number ns kept place c.position_of-place.ensures (h ∙ ap as_list (c.get.ensures ∙ sym (before-place ns place above)))) c.listed.ensures
 
 pub returns-clause-live : goal.returns-clause-live
 returns-clause-live c =

@@ -4,10 +4,10 @@ use Rattle.xf_reads.proofs.Wholes.{looks-are, reads-are}
 use Rattle.xf_reads.proofs.whole.asks.Goals as goal
 
 pub returns-clause-reads : goal.returns-clause-reads
-returns-clause-reads g c = c.in_ok-reads.ensures ∙ reads-are c.args.forest.now.forest c.is_sound.ensures (g.A.Around.given c.args.around.now) (g.met.A.Around.six c.args.around.now) c.args.expr.now c.args.context.now c.in_ok-told.told c.in_ok-told.ensures.tells c.in_ok-told.ensures.stands
+returns-clause-reads g c = c.in_ok-reads.ensures ∙ reads-are c.args.forest.now.forest c.is_sound.ensures (g.A.Around.given c.args.around.now) c.args.expr.now c.args.context.now c.in_ok-told.told c.in_ok-told.ensures.tells c.in_ok-told.ensures.stands
 
 pub returns-clause-looks : goal.returns-clause-looks
-returns-clause-looks g c = c.in_ok-looks.ensures ∙ looks-are c.args.forest.now.forest c.is_sound.ensures (g.A.Around.given c.args.around.now) (g.met.A.Around.six c.args.around.now) c.args.expr.now c.args.context.now c.in_ok-told.told c.in_ok-told.ensures.tells
+returns-clause-looks g c = c.in_ok-looks.ensures ∙ looks-are c.args.forest.now.forest c.is_sound.ensures (g.A.Around.given c.args.around.now) c.args.expr.now c.args.context.now c.in_ok-told.told c.in_ok-told.ensures.tells
 
 pub returns-clause-reads_live : goal.returns-clause-reads_live
 returns-clause-reads_live g c = let nodes = c.args.forest.now.forest.nodes in live-is nodes c.in_ok-reads.ensures (live-in_order c.in_ok-told.told.reads nodes)

@@ -6,7 +6,7 @@ use Rattle.xf_reads.proofs.whole.looks.Goals as goal
 
 pub returns-clause-value : goal.returns-clause-value
 returns-clause-value g c =
-    let same = looks-are c.args.forest.now.forest c.is_sound.ensures (g.A.Around.given c.args.around.now) (g.met.A.Around.six c.args.around.now) c.args.expr.now c.args.context.now c.in_ok-told.told c.in_ok-told.ensures.tells in
+    let same = looks-are c.args.forest.now.forest c.is_sound.ensures (g.A.Around.given c.args.around.now) c.args.expr.now c.args.context.now c.in_ok-told.told c.in_ok-told.ensures.tells in
     IfOk-weaker c.in_order.result _ _ (λ nodes h. h ∙ same) c.in_order.ensures
 
 pub returns-clause-live : goal.returns-clause-live

@@ -11,6 +11,6 @@ pub returns-in-Some-clause-value : goal.returns-in-Some-clause-value
 returns-in-Some-clause-value g c =
     let given = g.A.Around.given c.args.around.now in
     gives-same Memory Long (λ v. v) c.value_at.result _ _
-    (value-some given (g.met.A.Around.six c.args.around.now) c.args.tables.now c.args.model c.args.forest.now.forest.nodes c.args.entry c.in-Some.expr.now
+    (value-some given c.args.tables.now c.args.model c.args.forest.now.forest.nodes c.args.entry c.in-Some.expr.now
     (c.in-Some.ensures.value ∙ ap (λ bs. option_and_then (λ r. expression_in r c.args.entry.property) (slice_get (map rule_of bs) c.args.entry.bind)) c.as_slice.ensures))
     c.value_at.ensures.value

@@ -5,7 +5,6 @@ use Rattle.xf_ast.specs.declared.expr.Expr.{Expr, size-Expr}
 use Rattle.xf_ast.specs.declared.expr.Link.{Link, size-Link}
 use Rattle.xf_lang.specs.declared.value.Value.{Value}
 use Rattle.xf_lang.specs.Conversions.{nodes_of}
-use Rattle.xf_lang.specs.Given.{Given}
 use Rattle.xf_lang.specs.Meaning.{focus_of, meaning_of_link}
 use Rattle.xf_lang.specs.Operators.{chained, linked}
 use Rattle.xf_lang.specs.Setting.{LinkMeaning}
@@ -17,7 +16,7 @@ use Rattle.xf_shape.specs.Over.{nodes_at, shape_at}
 use Rattle.xf_shape.specs.Spots.{numbers_at}
 use Rattle.xf_shape.proofs.FixedEquations.{links-fixed, predicates-placed, path-fixed, from-fixed}
 use Rattle.xf_shape.proofs.Rounds.{chained-round, chained-end}
-use Rattle.xf_shape.proofs.Values.{call-are, chain-are, literal-are, negated-are, number-are, six-same}
+use Rattle.xf_shape.proofs.Values.{call-are, chain-are, literal-are, negated-are, number-are}
 use Rattle.xf_shape.proofs.nodes.+nodes.Goals as goal
 
 pub chained-loop-link-preserved : goal.chained-loop-link-preserved
@@ -67,8 +66,7 @@ nodes_at-returns-in-Call-clause-value g t c =
     IfOk-weaker c.call_nodes.result _ _
     (λ spots h. ap (λ e. nodes_at given nodes e context) c.in-Call.is
     ∙ call-are given nodes context k c.in-Call.field-0 c.in-Call.code c.in-Call.arguments c.kind_of-kind.ensures fixed (numbers_at spots.items)
-    (subst (λ (x : Given). CallGives k x c.in-Call.arguments context (numbers_at spots.items)) (six-same given (g.met.A.Around.six c.args.around.now))
-    (subst (λ (es : List Expr). CallGives k given es context (numbers_at spots.items)) c.as_slice.ensures h)))
+    (subst (λ (es : List Expr). CallGives k given es context (numbers_at spots.items)) c.as_slice.ensures h))
     c.call_nodes.ensures.value
 
 pub nodes_at-returns-in_ok-left-in-Chain-clause-value : goal.nodes_at-returns-in_ok-left-in-Chain-clause-value

@@ -18,7 +18,7 @@ returns-clause-value g c =
     let all : c.loop-spot.found ≡ flat_map (bound_at f.nodes) ns =
     c.loop-spot.invariant.so_far ∙ ap (λ l. flat_map (bound_at f.nodes) (numbers_at l)) (take_all c.loop-spot.spot-index c.deref-spot-items.result.now c.loop-spot-test.false ∙ c.deref-spot-items.ensures.value) in
     IfOk-weaker c.in_order.result _ _
-    (λ found h. set-of given f.nodes c.args.expr.now c.args.context.now ns (g.met.A.Around.six c.args.around.now) c.in_ok-spots.ensures.value
+    (λ found h. set-of given f.nodes c.args.expr.now c.args.context.now ns c.in_ok-spots.ensures.value
     ∙ ap Some (bound-set f.nodes ns ∙ ap (in_order (shaped f.nodes)) (sym all) ∙ sym (shown-order f c.is_sound.ensures c.loop-spot.found c.loop-spot.invariant.shown) ∙ sym h))
     c.in_order.ensures
 

@@ -9,14 +9,14 @@ use Rattle.xf_shape.proofs.places.placed.Goals.{in-Some+in_ok-push, in_default}
 
 pub returns-then-place-eq0-clause-value : goal.returns-then-place-eq0-clause-value
 returns-then-place-eq0-clause-value c =
-    position-keeps c.args.number (numbers_at c.args.spots.now) (numbers_at c.new-kept.result.items) 0 (subst (IsPosition c.args.number) c.if-place-eq0.true c.position_of-place.ensures) (ap numbers_at c.new-kept.ensures.items)
+    position-keeps c.args.decimals c.args.number (numbers_at c.args.spots.now) (numbers_at c.new-kept.result.items) 0 (subst (IsPosition c.args.decimals c.args.number) c.if-place-eq0.true c.position_of-place.ensures) (ap numbers_at c.new-kept.ensures.items)
 
 pub returns-clause-value : goal.returns-clause-value
 returns-clause-value c =
     let spots = c.args.spots.now in
     let place = c.position_of-place.result in
     let above : 0 < place = omega (arith, c.if-place-eq0.false) in
-    position-keeps c.args.number (numbers_at spots) (numbers_at c.match-get.kept.items) place c.position_of-place.ensures
+    position-keeps c.args.decimals c.args.number (numbers_at spots) (numbers_at c.match-get.kept.items) place c.position_of-place.ensures
     (elim c.match-get.branch [
       | in-Some+in_ok-push w ↦
           let spot = w.in-Some.spot.now in

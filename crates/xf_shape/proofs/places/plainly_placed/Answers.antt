@@ -17,7 +17,7 @@ returns-clause-value c =
     let n = c.args.node.number in
     let p = and-true (has_number n f.nodes) (stands f.nodes n) c.requires.spot in
     IfOk-weaker c.owned.result _ _
-    (λ spots h. keeps-same c.args.number (reached c.args.axis c.args.test.now (seen f.nodes) n) (reached c.args.axis c.args.test.now (shaped f.nodes) n) c.in_ok-nodes.nodes (numbers_at spots.items)
+    (λ spots h. keeps-same c.args.decimals c.args.number (reached c.args.axis c.args.test.now (seen f.nodes) n) (reached c.args.axis c.args.test.now (shaped f.nodes) n) c.in_ok-nodes.nodes (numbers_at spots.items)
     (plain-reached f c.is_sound.ensures n p.0 p.1 c.args.axis c.args.test.now c.requires.plain) h c.in_ok-nodes.ensures.value)
     c.owned.ensures.numbers
 
@@ -29,6 +29,6 @@ returns-clause-spots c =
     let same = plain-reached f c.is_sound.ensures n p.0 p.1 c.args.axis c.args.test.now c.requires.plain in
     ok-two c.owned.result _ _ _
     (λ spots a b. owned-spots f.nodes spots.items c.in_ok-nodes.nodes b a c.in_ok-nodes.ensures.live
-    (keeps-all c.args.number (stands f.nodes) (reached c.args.axis c.args.test.now (seen f.nodes) n) c.in_ok-nodes.nodes c.in_ok-nodes.ensures.value
+    (keeps-all c.args.decimals c.args.number (stands f.nodes) (reached c.args.axis c.args.test.now (seen f.nodes) n) c.in_ok-nodes.nodes c.in_ok-nodes.ensures.value
     (ap (list_all (stands f.nodes)) same ∙ reached-stands f.nodes c.args.axis c.args.test.now n)))
     c.owned.ensures.numbers c.owned.ensures.owned

@@ -10,7 +10,7 @@ pub returns-in-Node-clause-value : goal.returns-in-Node-clause-value
 returns-in-Node-clause-value c =
     let all = shaped c.args.forest.now.forest.nodes in
     IfOk-weaker c.plainly_placed.result _ _
-    (λ kept h. subst (λ s. Keeps c.args.number (reached c.args.axis c.args.test.now all (number_at s)) (numbers_at kept.items)) (sym c.in-Node.is) h)
+    (λ kept h. subst (λ s. Keeps c.args.decimals c.args.number (reached c.args.axis c.args.test.now all (number_at s)) (numbers_at kept.items)) (sym c.in-Node.is) h)
     c.plainly_placed.ensures.value
 
 pub returns-in_ok-spots-in_default-clause-spots : goal.returns-in_ok-spots-in_default-clause-spots
