@@ -1,5 +1,5 @@
 -- How a whole run ends.
-use Rattle.std.proofs.Common.{◌≡◌, ◌≤◌, ℕ, List, [], codes, string_bytes, Some, Result, Ok, Err, Contains, refl, ap, sym, subst, arith, inl, inr}
+use Rattle.std.proofs.Common.{◌≡◌, ◌≤◌, ℕ, List, [], string_bytes, Result, Ok, Err, Contains, refl, ap, sym, subst, arith, inl, inr}
 use Rattle.std.specs.declared.option.Option.{Option}
 use Rattle.std.specs.Io.KnownBytes.{Appends}
 use Rattle.std.proofs.KnownBytes.{Appends-nil, Appends-trans}
@@ -14,11 +14,10 @@ use Rattle.xf_form_machine.specs.Refusal.{Refused}
 use Rattle.xf_form_machine.specs.Flow.{◌>>=◌}
 use Rattle.xf_form_machine.specs.Construct.{construct}
 use Rattle.xf_form_machine.specs.FormReplies.{construct_texts}
-use Rattle.xf_form_machine.specs.Start.{start, tell_models}
+use Rattle.xf_form_machine.specs.Start.{start, readied}
 use Rattle.xf_form_machine.specs.Step.{outcome, at_end}
-use Rattle.xf_work.specs.Documents.{program_in}
+use Rattle.xf_processor.specs.Formed.{program_in, profile}
 use Rattle.xf_work.specs.Standing.{Standing, state_of}
-use Rattle.xf_work.specs.Does.{profile}
 use Rattle.xf_engine.specs.Stepped.{started, IsAccepted}
 use Rattle.xf_cli.specs.declared.status.Command.{Command}
 use Rattle.xf_cli.specs.declared.status.Command.TheVariants.{Try, Check}
@@ -30,12 +29,11 @@ use Rattle.xf_cli.specs.Finish.{IsRefusedWith, Says, Finishes, Runs, RunsLoaded,
 
 -- ---- a form that is constructed, and started
 
-start-same : (program : Program) (s : State) → construct profile program (Some []) ≡ Ok s → start profile program [] ≡ started s
+start-same : (program : Program) (s : State) → construct profile program ≡ Ok s → start profile program [] ≡ started s
 start-same program s e =
-    ap (λ (r : Result State Refused). outcome (at_end profile)
-    (r >>= tell_models profile (codes "xforms-model-construct") >>= tell_models profile (codes "xforms-model-construct-done") >>= tell_models profile (codes "xforms-ready"))) e
+    ap (λ (r : Result State Refused). outcome (at_end profile) (r >>= readied profile [])) e
 
-pub tried : (l : Loaded) (c : Standing) (s : Status) (events left before after : Option (List ℕ)) → construct profile (program_in l) (Some []) ≡ Ok (state_of c)
+pub tried : (l : Loaded) (c : Standing) (s : Status) (events left before after : Option (List ℕ)) → construct profile (program_in l) ≡ Ok (state_of c)
     → RunsConstructed (state_of c) events left before after s → RunsLoaded Try l events left before after s
 tried l c (status.Refused line) events left before after e h =
     let started : IsStartRefused (start profile (program_in l) []) (string_bytes line) = subst (λ o. IsStartRefused o (string_bytes line)) (sym (start-same (program_in l) (state_of c) e)) h.1 in
@@ -48,11 +46,11 @@ tried l c status.Usage events left before after e h = absurd h
 tried l c status.Unread events left before after e h = absurd h
 
 pub tried_by : (command : Command) (l : Loaded) (c : Standing) (s : Status) (events left before after : Option (List ℕ)) → command ≡ Try
-    → construct profile (program_in l) (Some []) ≡ Ok (state_of c) → RunsConstructed (state_of c) events left before after s → RunsLoaded command l events left before after s
+    → construct profile (program_in l) ≡ Ok (state_of c) → RunsConstructed (state_of c) events left before after s → RunsLoaded command l events left before after s
 tried_by command l c s events left before after is e h =
     subst (λ k. RunsLoaded k l events left before after s) (sym is) (tried l c s events left before after e h)
 
-pub refused_by : (command : Command) (l : Loaded) (line : List ℕ) → Contains (construct_texts (construct profile (program_in l) (Some []))) line → RefusesProgram command (program_in l) line
+pub refused_by : (command : Command) (l : Loaded) (line : List ℕ) → Contains (construct_texts (construct profile (program_in l))) line → RefusesProgram command (program_in l) line
 refused_by Try l line h = inl h
 refused_by Check l line h = h
 
@@ -65,7 +63,7 @@ from_form form l first count holds is a h = (l, first, count, is, a, h)
 refuses : (command : Command) (form : Option (List ℕ)) (l : Loaded) (line : List ℕ) → Give form (Ok l) → RefusesProgram command (program_in l) line → RefusesBytes command form line
 refuses command form l line is h = (Ok l, is, h)
 
-acceptable : (form : Option (List ℕ)) (l : Loaded) (s : State) → Give form (Ok l) → construct profile (program_in l) (Some []) ≡ Ok s → IsAcceptable form
+acceptable : (form : Option (List ℕ)) (l : Loaded) (s : State) → Give form (Ok l) → construct profile (program_in l) ≡ Ok s → IsAcceptable form
 acceptable form l s is e = (l, s, is, e)
 
 cause_of : (e : Ending) (outside : Outside) → (status.Answered e ≡ status.Answered ending.ReadFault → HasRisen outside.event_faults)

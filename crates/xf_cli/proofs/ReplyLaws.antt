@@ -29,7 +29,8 @@ use Rattle.xf_work.specs.Standing.{Standing, state_of}
 use Rattle.xf_report.specs.Answers.{IsAnswer}
 use Rattle.xf_work.specs.declared.fault.WorkFault.{WorkFault}
 use Rattle.xf_work.specs.declared.fault.WorkFault.TheVariants.{Refused}
-use Rattle.xf_work.specs.Does.{profile, IsRefused}
+use Rattle.xf_processor.specs.Formed.{profile}
+use Rattle.xf_work.specs.Does.{IsRefused}
 use Rattle.xf_engine.specs.Stepped.{is_of_form, IsConstructed, IsStarted, IsStepped, IsAccepted, as_result}
 use Rattle.xf_cli.specs.Written.{IsStartRefused}
 use Rattle.xf_cli.specs.Replies.{built_read, built_asked, event_reply, built_reply, Gives, IsReply}

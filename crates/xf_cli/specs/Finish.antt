@@ -10,9 +10,8 @@ use Rattle.xf_form_machine.specs.State.{State}
 use Rattle.xf_form_machine.specs.Construct.{construct}
 use Rattle.xf_form_machine.specs.Start.{start}
 use Rattle.xf_form_machine.specs.FormReplies.{construct_texts}
-use Rattle.xf_work.specs.Documents.{program_in}
+use Rattle.xf_processor.specs.Formed.{program_in, profile}
 use Rattle.xf_work.specs.Standing.{Standing, state_of}
-use Rattle.xf_work.specs.Does.{profile}
 use Rattle.xf_engine.specs.Stepped.{started, IsAccepted}
 use Rattle.xf_cli.specs.declared.begin.Begun.{Begun}
 use Rattle.xf_cli.specs.declared.begin.Begun.TheVariants as begun
@@ -71,8 +70,8 @@ GivesCommand words None = (command : Command) → ¬ Spells words command
 GivesCommand words (Some command) = Spells words command
 
 abbrev pub IsBegun : loader.Loaded → Begun → Type 0
-IsBegun l (begun.Constructed c) = construct profile (program_in l) (Some []) ≡ Ok (state_of c)
-IsBegun l (begun.Refused line) = Contains (construct_texts (construct profile (program_in l) (Some []))) (string_bytes line)
+IsBegun l (begun.Constructed c) = construct profile (program_in l) ≡ Ok (state_of c)
+IsBegun l (begun.Refused line) = Contains (construct_texts (construct profile (program_in l))) (string_bytes line)
 IsBegun l begun.NoRoom = Unit {0}
 
 abbrev pub IsStarted : State → Started → Type 0
@@ -90,7 +89,7 @@ pub record IsQuietly (events left before after : Option (List ℕ)) : Type 0 whe
 abbrev pub RunsLoaded : Command → loader.Loaded → Option (List ℕ) → Option (List ℕ) → Option (List ℕ) → Option (List ℕ) → Status → Type 0
 RunsLoaded command l events left before after (status.Refused line) = IsQuietly events left before after × RefusesProgram command (program_in l) (string_bytes line)
 RunsLoaded command l events left before after status.Checked =
-    IsQuietly events left before after × (command ≡ Check) × ((s : State) × (construct profile (program_in l) (Some []) ≡ Ok s))
+    IsQuietly events left before after × (command ≡ Check) × ((s : State) × (construct profile (program_in l) ≡ Ok s))
 RunsLoaded command l events left before after status.NoRoom = IsQuietly events left before after
 RunsLoaded command l events left before after (status.Answered e) =
     (command ≡ Try) × ((first : Standing) × (count : ℕ) × IsAccepted (start profile (program_in l) []) (state_of first) count × Answered Answers e first events left before after)

@@ -12,7 +12,7 @@ use Rattle.xf_line.specs.Line.{asked_by}
 use Rattle.xf_form_machine.specs.State.{State}
 use Rattle.xf_form_machine.specs.Replies.{Reply, without_event, reply_asked, reply_read, is_blank}
 use Rattle.xf_work.specs.Standing.{Standing, state_of}
-use Rattle.xf_work.specs.Does.{profile}
+use Rattle.xf_processor.specs.Formed.{profile}
 
 -- evaluations are not counted
 abbrev pub asked_reply : State → Asked → Reply

@@ -17,9 +17,8 @@ use Rattle.xf_form_machine.specs.Start.{start}
 use Rattle.xf_form_machine.specs.Step.{Outcome, accepted, refused}
 use Rattle.xf_form_machine.specs.FormReplies.{construct_texts, ready_text}
 use Rattle.xf_form_machine.specs.StateText.{line_of}
-use Rattle.xf_work.specs.Documents.{program_in}
+use Rattle.xf_processor.specs.Formed.{program_in, profile}
 use Rattle.xf_work.specs.Standing.{Standing, state_of}
-use Rattle.xf_work.specs.Does.{profile}
 use Rattle.xf_engine.specs.Stepped.{IsAccepted}
 use Rattle.xf_cli.specs.declared.status.Command.{Command}
 use Rattle.xf_cli.specs.declared.status.Command.TheVariants.{Try, Check}
@@ -79,8 +78,8 @@ RefusesStart (Err refusal) started line = ⊥
 -- the construction is refused, or the start where it is asked for
 abbrev pub RefusesProgram : Command → Program → List ℕ → Type 0
 RefusesProgram Try program line =
-    Contains (construct_texts (construct profile program (Some []))) line ⊎ RefusesStart (construct profile program (Some [])) (start profile program []) line
-RefusesProgram Check program line = Contains (construct_texts (construct profile program (Some []))) line
+    Contains (construct_texts (construct profile program)) line ⊎ RefusesStart (construct profile program) (start profile program []) line
+RefusesProgram Check program line = Contains (construct_texts (construct profile program)) line
 
 abbrev pub RefusesForm : Command → Result Loaded FormFault → List ℕ → Type 0
 RefusesForm command (Err (fault.Refused number place)) line = line ≡ refusal_line number place
@@ -106,7 +105,7 @@ RefusesBytes command form line = (given : Result Loaded FormFault) × Give form 
 
 -- they give a form that is constructed
 abbrev pub IsAcceptable : Known (List ℕ) → Type 0
-IsAcceptable form = (loaded : Loaded) × (s : State) × Give form (Ok loaded) × (construct profile (program_in loaded) (Some []) ≡ Ok s)
+IsAcceptable form = (loaded : Loaded) × (s : State) × Give form (Ok loaded) × (construct profile (program_in loaded) ≡ Ok s)
 
 -- they give a form from whose state after the start this holds
 abbrev pub FromForm : Known (List ℕ) → (Standing → Type 0) → Type 0

@@ -1,7 +1,7 @@
 //! How a form that is loaded begins.
 
 ghost use Rattle.xf_work.specs.Standing.{state_of};
-ghost use Rattle.xf_engine.specs.Stepped.{IsFromBytes};
+ghost use Rattle.xf_processor.specs.Formed.{IsFromBytes};
 ghost use Rattle.xf_cli.specs.Finish.{IsBegun, IsStarted};
 
 use crate::session::Session;

@@ -4,7 +4,7 @@ ghost use Rattle.std.specs.Prelude.{◌≡◌, ◌≤◌, [], map, string_bytes}
 ghost use Rattle.xf_base.specs.Faults.{Rose};
 ghost use Rattle.xf_answers.specs.Out.{IsOutOrFailed};
 ghost use Rattle.xf_work.specs.Standing.{state_of};
-ghost use Rattle.xf_engine.specs.Stepped.{IsFromBytes};
+ghost use Rattle.xf_processor.specs.Formed.{IsFromBytes};
 ghost use Rattle.xf_cli.specs.Written.{Ends, AppendsLine, status_code, status_line};
 ghost use Rattle.xf_cli.specs.Finish.{GivesCommand, Runs, RunsConstructed, RunsLoaded};
 

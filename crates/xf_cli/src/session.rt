@@ -14,8 +14,8 @@ use std::alloc::{AllocError, Global};
 use std::marker::Model;
 use xf_answers::Answering;
 use xf_engine::Engine;
-use xf_line::{Asked, Event, LineFault, read_line};
 use xf_form_machine::Refusal;
+use xf_line::{Asked, Event, LineFault, read_line};
 use xf_report::{push_ok, push_refusal};
 use xf_work::WorkFault;
 

@@ -7,6 +7,7 @@ use Rattle.xf_form_machine.specs.State.{State}
 use Rattle.xf_form_machine.specs.Refusal.{Refused}
 use Rattle.xf_form_machine.specs.Flow.{◌>>=◌}
 use Rattle.xf_form_machine.specs.Profile.{Profile}
+use Rattle.xf_form_machine.specs.Start.{readied}
 use Rattle.xf_form_machine.specs.Step.{Outcome, accepted, outcome, posted, at_end, fresh, one_more, step, changed_by, set, set_bound, try_set}
 use Rattle.xf_form_machine.specs.Targets.{or_no_target}
 use Rattle.xf_machine_laws.specs.Quiet.{Quiet, HasSteps, copy_at, update_quietly}
@@ -15,14 +16,15 @@ use Rattle.xf_machine_laws.proofs.QuietLaws.{sets_quietly, tried-is, update-keep
 use Rattle.xf_form_machine.specs.declared.refusal.Refusal.{Refusal}
 use Rattle.xf_work.specs.declared.fault.WorkFault.{WorkFault}
 use Rattle.xf_work.specs.declared.fault.WorkFault.TheVariants as fault
-use Rattle.xf_work.specs.Does.{Does, IsKept, IsRefused, Stage, Twin, profile}
+use Rattle.xf_processor.specs.Formed.{profile}
+use Rattle.xf_work.specs.Does.{Does, IsKept, IsRefused, Stage, Twin}
 use Rattle.xf_work.specs.Standing.{Standing, state_of}
 use Rattle.xf_engine.specs.Handled.{Handles, IsAtEnd, IsHandled}
 use Rattle.xf_engine.specs.Started.{told_quietly}
-use Rattle.xf_engine.specs.Stepped.{IsAccepted, IsStarted, IsStepped, as_result, begun, started}
+use Rattle.xf_engine.specs.Stepped.{IsAccepted, IsStarted, IsStepped, as_result, started}
 use Rattle.xf_engine.proofs.Flow.{Means, same-means}
 use Rattle.xf_engine.proofs.SetLaws.{steps}
-use Rattle.xf_engine.proofs.StartLaws.{begun-quietly}
+use Rattle.xf_engine.proofs.StartLaws.{readied-quietly}
 
 -- ---- what a text that is set leaves as it was
 
@@ -34,11 +36,11 @@ found-keeps p n text (Some c) s t e =
     (λ u q. keeps-then (try_set n c text s) (set_bound p text c.node) s u (λ v r. tried-is _ _ _ s v r) (bound-keeps p text c.node) q) (update-keeps p) e
 
 named-keeps : (p : Profile) (rows text : List ℕ) (o : Option ℕ) (s t : State) → HasSteps p → Quiet s
-    → or_no_target s o >>= (λ n. set p n rows text s) ≡ Ok t → Like s t
+    → or_no_target s o >>= (λ n. set p [] n rows text s) ≡ Ok t → Like s t
 named-keeps p rows text None s t st q e = cc
-named-keeps p rows text (Some n) s t st q e = found-keeps p n text (copy_at n rows s) s t (sym (sets_quietly p n rows text s st q) ∙ e)
+named-keeps p rows text (Some n) s t st q e = found-keeps p n text (copy_at n rows s) s t (sym (sets_quietly p [] n rows text s st q) ∙ e)
 
-changed-keeps : (p : Profile) (id rows text : List ℕ) (s t : State) → HasSteps p → Quiet s → changed_by p (Set id rows text) s ≡ Ok t → Like s t
+changed-keeps : (p : Profile) (id rows text : List ℕ) (s t : State) → HasSteps p → Quiet s → changed_by p [] (Set id rows text) s ≡ Ok t → Like s t
 changed-keeps p id rows text s t st q e = named-keeps p rows text _ s t st q e
 
 -- ---- it is counted
@@ -50,8 +52,8 @@ counted mid after e =
 
 -- after the change and its count
 pub handled : (before mid after : Standing) (id rows text : List ℕ) (count : ℕ) → Quiet (state_of before)
-    → changed_by profile (Set id rows text) (state_of before) ≡ Ok (state_of mid) → count ≡ mid.evaluated → after ≡ record mid { accepted = mid.accepted + 1 }
-    → IsHandled before after count (changed_by profile (Set id rows text) (state_of before))
+    → changed_by profile [] (Set id rows text) (state_of before) ≡ Ok (state_of mid) → count ≡ mid.evaluated → after ≡ record mid { accepted = mid.accepted + 1 }
+    → IsHandled before after count (changed_by profile [] (Set id rows text) (state_of before))
 handled before mid after id rows text count q e k a =
     let like = changed-keeps profile id rows text (state_of before) (state_of mid) steps q e in
     record {
@@ -83,24 +85,24 @@ accepted-by (Ok t) mid after count e k h =
     }
 
 -- the event begins with a whole budget
-step-is : (s : State) (event : Event) → fresh profile [] s ≡ s → step profile s event [] ≡ outcome (λ t. one_more (at_end profile t)) (changed_by profile event s)
-step-is s event e = ap (λ t. outcome (λ t. one_more (at_end profile t)) (changed_by profile event t)) e
+step-is : (s : State) (event : Event) → fresh profile s ≡ s → step profile s event [] ≡ outcome (λ t. one_more (at_end profile t)) (changed_by profile [] event s)
+step-is s event e = ap (λ t. outcome (λ t. one_more (at_end profile t)) (changed_by profile [] event t)) e
 
 pub stepped : (before mid after : Twin) (event : Event) (count : ℕ) → IsAtEnd before
-    → IsHandled before.now mid.now count (changed_by profile event (state_of before.now)) → IsKept mid after
+    → IsHandled before.now mid.now count (changed_by profile [] event (state_of before.now)) → IsKept mid after
     → IsStepped before.now (Ok count) after.now (step profile (state_of before.now) event [])
 stepped before mid after event count end h k = (
   subst (λ (o : Outcome). IsAccepted o (state_of after.now) count) (sym (step-is (state_of before.now) event end.fresh))
-      (accepted-by (changed_by profile event (state_of before.now)) mid.now after.now count h.is h.evaluated k.now),
+      (accepted-by (changed_by profile [] event (state_of before.now)) mid.now after.now count h.is h.evaluated k.now),
   ap (λ (s : State). s.accepted) k.now ∙ h.accepted,
 )
 
 pub unstepped : (before mid after : Twin) (event : Event) (e : WorkFault) → IsAtEnd before
-    → Handles before.now (Err e) mid.now (changed_by profile event (state_of before.now)) → mid.kept ≡ before.kept → after.now ≡ mid.kept.standing
+    → Handles before.now (Err e) mid.now (changed_by profile [] event (state_of before.now)) → mid.kept ≡ before.kept → after.now ≡ mid.kept.standing
     → IsStepped before.now (Err e) after.now (step profile (state_of before.now) event [])
 unstepped before mid after event (fault.Refused refusal) end h k r = (
   subst (λ (o : Outcome). IsRefused refusal (as_result o)) (sym (step-is (state_of before.now) event end.fresh))
-      (refused-outcome refusal (λ t. one_more (at_end profile t)) (changed_by profile event (state_of before.now)) h),
+      (refused-outcome refusal (λ t. one_more (at_end profile t)) (changed_by profile [] event (state_of before.now)) h),
   r ∙ ap (λ (s : Stage). s.standing) (k ∙ end.kept),
 )
 unstepped before mid after event fault.Memory end h k r = r ∙ ap (λ (s : Stage). s.standing) (k ∙ end.kept)
@@ -112,7 +114,7 @@ ended mid after room k =
     record {
       built = subst (λ n. n ≤ after.built) (sym count) (subst (λ n. length mid.now.models ≤ n) (sym k.built) room);
       kept = k.kept;
-      fresh = ap (fresh profile []) k.now ∙ sym k.now;
+      fresh = ap (fresh profile) k.now ∙ sym k.now;
     }
 
 -- so is what was kept, when it stands again
@@ -125,31 +127,36 @@ back before mid after end k now kept built =
     record {
       built = subst (λ (s : Standing). length s.models ≤ after.built) (sym same) (subst (λ n. length before.now.models ≤ n) (sym room) end.built);
       kept = kept ∙ stage ∙ ap (λ (s : Standing). record { standing = s; built = before.built }) (sym same) ∙ ap (λ n. record { standing = after.now; built = n }) (sym room);
-      fresh = subst (λ (s : Standing). fresh profile [] (state_of s) ≡ state_of s) (sym same) end.fresh;
+      fresh = subst (λ (s : Standing). fresh profile (state_of s) ≡ state_of s) (sym same) end.fresh;
     }
 
 -- ---- the start
 
-pub starts : (before mid after : Standing) → Quiet (state_of before) → NoneDue (state_of before) → told_quietly (state_of before) ≡ Ok (state_of mid)
-    → state_of after ≡ at_end profile (state_of mid) → IsStarted (Ok after) (started (state_of before))
-starts before mid after q n e k = (
+-- where the event of the start begins the models are told
+told-as : (before first : Standing) → Quiet (state_of before) → NoneDue (state_of before) → state_of first ≡ fresh profile (state_of before)
+    → readied profile [] (state_of before) ≡ told_quietly (state_of first)
+told-as before first q n f = readied-quietly (state_of before) q n ∙ ap told_quietly (sym f)
+
+pub starts : (before first mid after : Standing) → Quiet (state_of before) → NoneDue (state_of before) → state_of first ≡ fresh profile (state_of before)
+    → told_quietly (state_of first) ≡ Ok (state_of mid) → state_of after ≡ at_end profile (state_of mid) → IsStarted (Ok after) (started (state_of before))
+starts before first mid after q n f e k = (
   mid.evaluated,
   record {
     posted = posted (state_of mid);
-    is = ap (outcome (at_end profile)) (begun-quietly (state_of before) q n ∙ e) ∙ ap (λ x. accepted x (posted (state_of mid))) (sym k);
+    is = ap (outcome (at_end profile)) (told-as before first q n f ∙ e) ∙ ap (λ x. accepted x (posted (state_of mid))) (sym k);
     notes = refl;
     calls = refl;
     evaluated = refl;
   },
 )
 
-unstarted : (before : Standing) (e : WorkFault) → Quiet (state_of before) → NoneDue (state_of before) → Means e (told_quietly (state_of before))
-    → IsStarted (Err e) (started (state_of before))
-unstarted before (fault.Refused refusal) q n m =
-    refused-outcome refusal (at_end profile) (begun profile (state_of before)) (same-means (fault.Refused refusal) _ _ (begun-quietly (state_of before) q n) m)
-unstarted before fault.Memory q n m = tt
+unstarted : (before first : Standing) (e : WorkFault) → Quiet (state_of before) → NoneDue (state_of before) → state_of first ≡ fresh profile (state_of before)
+    → Means e (told_quietly (state_of first)) → IsStarted (Err e) (started (state_of before))
+unstarted before first (fault.Refused refusal) q n f m =
+    refused-outcome refusal (at_end profile) (readied profile [] (state_of before)) (same-means (fault.Refused refusal) _ _ (told-as before first q n f) m)
+unstarted before first fault.Memory q n f m = tt
 
-pub start-stops : (before after : Standing) (e : WorkFault) → Quiet (state_of before) → NoneDue (state_of before)
-    → Does {X = Unit {0}} (Err e) after (told_quietly (state_of before)) → IsStarted (Err e) (started (state_of before))
-start-stops before after (fault.Refused refusal) q n d = unstarted before (fault.Refused refusal) q n d
-start-stops before after fault.Memory q n d = tt
+pub start-stops : (before first after : Standing) (e : WorkFault) → Quiet (state_of before) → NoneDue (state_of before) → state_of first ≡ fresh profile (state_of before)
+    → Does {X = Unit {0}} (Err e) after (told_quietly (state_of first)) → IsStarted (Err e) (started (state_of before))
+start-stops before first after (fault.Refused refusal) q n f d = unstarted before first (fault.Refused refusal) q n f d
+start-stops before first after fault.Memory q n f d = tt

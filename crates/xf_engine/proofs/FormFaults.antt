@@ -1,6 +1,5 @@
 -- For which reasons a construction is refused: binds, or limits.
 use Rattle.std.proofs.Common.{ℕ, ◌≡◌, ◌+◌, nat_lt, Bool, true, false, List, [], ◌∷◌, length, Option, Some, None, Result, Ok, Err, refl, ap, sym, ◌∙◌, subst}
-use Rattle.xf_store.specs.declared.answers.Answer.{Answer}
 use Rattle.xf_doc.specs.declared.content.Content.{Content}
 use Rattle.xf_doc.specs.declared.fault.TreeFault.{TreeFault}
 use Rattle.xf_doc.specs.Forest.{Forest}
@@ -23,7 +22,7 @@ use Rattle.xf_form_machine.specs.Properties.{marks_in}
 use Rattle.xf_form_machine.specs.Refusal as machine
 use Rattle.xf_form_machine.specs.Refusal.{Refused, unless_passed, if_over, or_long}
 use Rattle.xf_form_machine.specs.State.{State}
-use Rattle.xf_form_machine.specs.Surround.{interface, quiet, scope}
+use Rattle.xf_form_machine.specs.Surround.{interface, quiet, bind_scope}
 use Rattle.xf_form_machine.specs.Update.{shown}
 use Rattle.xf_machine_laws.specs.Quiet.{IsQuiet, HasSteps, construct_quietly}
 use Rattle.xf_machine_laws.proofs.QuietLaws.{constructs_quietly}
@@ -108,7 +107,7 @@ of-cycle before readers (Some places) s = so _ refl
 of-applied : (p : Profile) (model : ℕ) (r : Result (List Entry) Exception) (s : State) → OfForm (by_applied p model r s)
 of-applied p model (Err x) s = of-exception p model x s
 of-applied p model (Ok entries) s =
-    let after = in_model (rebuilt_with entries (edge_count (scope p s model) (shape_of s.forest.nodes) entries)) model s in
+    let after = in_model (rebuilt_with entries (edge_count (bind_scope p s model) (shape_of s.forest.nodes) entries)) model s in
     of-then (unless_passed after (if_over (nat_lt p.edges (asked_by_all after)) Edges) after) (no_cycle p model entries) (of-passed after _ after) (λ t. of-cycle t _ _ t)
 
 passed-end : (words : List LimitWord) (s : State) (after : State → State) (r : Result State Refused)
@@ -122,7 +121,7 @@ of-recalculated p model s = passed-end _ s _ (recalculate p model s) refl
 of-built : (p : Profile) (model : ℕ) (s : State) → OfForm (build_model p model s)
 of-built p model s =
     of-then (rebuild p model s >>= recalculate p model) (λ t. Ok (revalidate p model t))
-    (of-then (rebuild p model s) (recalculate p model) (of-applied p model (applied (scope p s model) s.forest.nodes) s) (of-recalculated p model)) (λ t. so _ refl)
+    (of-then (rebuild p model s) (recalculate p model) (of-applied p model (applied (bind_scope p s model) s.forest.nodes) s) (of-recalculated p model)) (λ t. so _ refl)
 
 within-end : (o : Option (List Copy)) (s : State) (words : List Copy → List LimitWord) (r : Result (List Copy) Refused)
     → or_long s o >>= (λ list. unless_passed s (words list) list) ≡ r → OfForm r
@@ -136,10 +135,10 @@ of-shown p s =
 of-first-shown : (p : Profile) (s : State) → OfForm (first_shown p s)
 of-first-shown p s = of-then (shown p s) (λ list. Ok (record s { controls = list })) (of-shown p s) (λ list. so _ refl)
 
-of-constructed : (p : Profile) (form : Program) (answers : Option (List Answer)) → OfForm (construct_quietly p form answers)
-of-constructed p form answers =
-    of-then (in_turn (plant_document p) form.documents (unbuilt p form answers)) (λ s. in_turn (build_model p) (counted_from 0 (length s.models)) s >>= first_shown p)
-    (of-turn (plant_document p) form.documents (unbuilt p form answers) (of-planted p))
+of-constructed : (p : Profile) (form : Program) → OfForm (construct_quietly p form)
+of-constructed p form =
+    of-then (in_turn (plant_document p) form.documents (unbuilt p form)) (λ s. in_turn (build_model p) (counted_from 0 (length s.models)) s >>= first_shown p)
+    (of-turn (plant_document p) form.documents (unbuilt p form) (of-planted p))
     (λ s. of-then (in_turn (build_model p) (counted_from 0 (length s.models)) s) (first_shown p)
     (of-turn (build_model p) (counted_from 0 (length s.models)) s (of-built p)) (of-first-shown p))
 
@@ -147,8 +146,8 @@ refused-fault : {X : Type 0} (refusal : Refusal) (r : Result X Refused) → OfFo
 refused-fault refusal (Ok x) h q = absurd q
 refused-fault refusal (Err r) h q = told-fault refusal r.why q.0 h.is
 
-pub construct-fault : (p : Profile) (form : Program) (answers : Option (List Answer)) (refusal : Refusal) → HasSteps p → IsQuiet form.interface
-    → IsRefused refusal (construct p form answers) → is_of_form refusal ≡ true
-construct-fault p form answers refusal st q h =
-    refused-fault refusal (construct p form answers)
-    (subst (λ (r : Result State Refused). OfForm r) (sym (constructs_quietly p form answers st q)) (of-constructed p form answers)) h
+pub construct-fault : (p : Profile) (form : Program) (refusal : Refusal) → HasSteps p → IsQuiet form.interface
+    → IsRefused refusal (construct p form) → is_of_form refusal ≡ true
+construct-fault p form refusal st q h =
+    refused-fault refusal (construct p form)
+    (subst (λ (r : Result State Refused). OfForm r) (sym (constructs_quietly p form st q)) (of-constructed p form)) h

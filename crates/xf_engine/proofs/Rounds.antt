@@ -16,7 +16,8 @@ use Rattle.xf_work.specs.declared.fault.WorkFault.{WorkFault}
 use Rattle.xf_work.specs.declared.fault.WorkFault.TheVariants as fault
 use Rattle.xf_work.specs.Calls.{AreRefreshed, Refreshes}
 use Rattle.xf_work.specs.Standing.{Standing, state_of}
-use Rattle.xf_work.specs.Does.{Does, IsRefused, profile}
+use Rattle.xf_processor.specs.Formed.{profile}
+use Rattle.xf_work.specs.Does.{Does, IsRefused}
 use Rattle.xf_engine.specs.Rounds.{all_behaved, spend_times}
 use Rattle.xf_engine.proofs.Flow.{Means, means-then, same-means, then-next}
 

@@ -20,7 +20,8 @@ use Rattle.xf_machine_laws.proofs.QuietLaws.{sets_quietly}
 use Rattle.xf_form_machine.specs.declared.refusal.Refusal.TheVariants.{NoSuchTarget}
 use Rattle.xf_work.specs.declared.fault.WorkFault.{WorkFault}
 use Rattle.xf_work.specs.Standing.{Standing, state_of}
-use Rattle.xf_work.specs.Does.{IsRefused, profile}
+use Rattle.xf_processor.specs.Formed.{profile}
+use Rattle.xf_work.specs.Does.{IsRefused}
 use Rattle.xf_engine.specs.Entries.{entry_from}
 use Rattle.xf_engine.specs.Tried.{copy_tried, node_tried, set_plainly}
 use Rattle.xf_engine.proofs.Flow.{Means, means-then, same-means, then-next}
@@ -86,10 +87,10 @@ pub steps : HasSteps profile
 steps = record { left = 63; depth = refl; more = 63; passes = refl }
 
 pub set-named : (s : Standing) (id rows text : List ℕ) (n : ℕ) → Quiet (state_of s) → is_plain (interface (state_of s)) ≡ true
-    → entry_from id 0 s.form.elements ≡ Some n → changed_by profile (Set id rows text) (state_of s) ≡ set_plainly profile n rows text (state_of s)
+    → entry_from id 0 s.form.elements ≡ Some n → changed_by profile [] (Set id rows text) (state_of s) ≡ set_plainly profile n rows text (state_of s)
 set-named s id rows text n q h e =
-    ap (λ o. or_no_target (state_of s) o >>= λ m. set profile m rows text (state_of s)) (sym (entry-named s id) ∙ e)
-    ∙ sets_quietly profile n rows text (state_of s) steps q
+    ap (λ o. or_no_target (state_of s) o >>= λ m. set profile [] m rows text (state_of s)) (sym (entry-named s id) ∙ e)
+    ∙ sets_quietly profile [] n rows text (state_of s) steps q
     ∙ set-is profile n rows text (state_of s) h
 
 refused-none : (s : Standing) (o : Option ℕ) (next : ℕ → Result State Refused) → o ≡ None → IsRefused NoSuchTarget (or_no_target (state_of s) o >>= next)
@@ -97,8 +98,8 @@ refused-none s None next h = (refl, refl)
 refused-none s (Some n) next h = cc
 
 pub set-unnamed : (s : Standing) (id rows text : List ℕ)
-    → entry_from id 0 s.form.elements ≡ None → IsRefused NoSuchTarget (changed_by profile (Set id rows text) (state_of s))
-set-unnamed s id rows text e = refused-none s _ (λ m. set profile m rows text (state_of s)) (sym (entry-named s id) ∙ e)
+    → entry_from id 0 s.form.elements ≡ None → IsRefused NoSuchTarget (changed_by profile [] (Set id rows text) (state_of s))
+set-unnamed s id rows text e = refused-none s _ (λ m. set profile [] m rows text (state_of s)) (sym (entry-named s id) ∙ e)
 
 -- ---- the steps
 

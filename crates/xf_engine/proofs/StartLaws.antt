@@ -1,5 +1,5 @@
 -- The construction and the start of a form, step by step.
-use Rattle.std.proofs.Common.{◌≡◌, ◌≤◌, ℕ, List, [], length, codes, Some, Result, Ok, Err, ap, sym, ◌∙◌, subst}
+use Rattle.std.proofs.Common.{◌≡◌, ◌≤◌, ℕ, List, [], length, Result, Ok, Err, ap, sym, ◌∙◌}
 use Rattle.std.specs.Prelude.{OnOk}
 use Rattle.xf_ui.specs.Copies.{Copy}
 use Rattle.xf_form_machine.specs.State.{State}
@@ -8,22 +8,21 @@ use Rattle.xf_form_machine.specs.Flow.{◌>>=◌}
 use Rattle.xf_form_machine.specs.Construct.{construct, first_shown}
 use Rattle.xf_form_machine.specs.Cycles.{counted_from}
 use Rattle.xf_form_machine.specs.Primitives.{spend}
-use Rattle.xf_form_machine.specs.Start.{tell_models}
+use Rattle.xf_form_machine.specs.Start.{readied}
+use Rattle.xf_form_machine.specs.Step.{fresh}
 use Rattle.xf_form_machine.specs.Update.{shown}
 use Rattle.xf_loader.specs.declared.loaded.Loaded.{Loaded}
 use Rattle.xf_loaded_laws.proofs.Laws.{loaded-plain, loaded-quiet}
 use Rattle.xf_machine_laws.specs.Quiet.{IsQuiet, Quiet, spend_by_model}
-use Rattle.xf_machine_laws.proofs.QuietEvents.{constructing, constructed, ready}
 use Rattle.xf_machine_laws.proofs.QuietKeeps.{Like, KeepsLike, NoneDue, keeps-then, keeps-turn, spend-keeps}
-use Rattle.xf_machine_laws.proofs.QuietLaws.{Rests, constructed-rests, constructs_quietly, told-model, spends-rest}
+use Rattle.xf_machine_laws.proofs.QuietLaws.{constructed-rests, constructs_quietly, readied-same}
 use Rattle.xf_work.specs.declared.fault.WorkFault.{WorkFault}
 use Rattle.xf_work.specs.declared.fault.WorkFault.TheVariants as fault
-use Rattle.xf_work.specs.Documents.{program_in}
-use Rattle.xf_work.specs.Does.{Does, Twin, profile}
+use Rattle.xf_processor.specs.Formed.{program_in, profile, IsFromBytes}
+use Rattle.xf_work.specs.Does.{Does, Twin}
 use Rattle.xf_work.specs.Parts.{IsLoaded}
 use Rattle.xf_work.specs.Planting.{IsPlanted, planted_by}
 use Rattle.xf_work.specs.Standing.{Standing, state_of}
-use Rattle.xf_engine.specs.Stepped.{IsFromBytes, begun}
 use Rattle.xf_engine.specs.Started.{Builds, all_built, built_and_shown, told_quietly}
 use Rattle.xf_engine.proofs.Flow.{Means, means-then, same-does, same-means, then-next}
 use Rattle.xf_engine.proofs.FormFaults.{construct-fault}
@@ -32,23 +31,9 @@ use Rattle.xf_engine.proofs.SetLaws.{steps}
 
 -- ---- what the models are told
 
-abbrev fine : State → Result State Refused
-fine s = Ok s
-
-rests-ends : (s t : State) → Quiet s → NoneDue s → fine s ≡ Ok t → Quiet t × NoneDue t
-rests-ends s t q n e = let same : s ≡ t = cc in (subst (λ (x : State). Quiet x) same q, subst (λ (x : State). NoneDue x) same n)
-
-rests-now : (s : State) → Quiet s → NoneDue s → Rests (fine s)
-rests-now s q n t e = rests-ends s t q n e
-
--- where nothing is due, the models are told by turns alone
-pub begun-quietly : (s : State) → Quiet s → NoneDue s → begun profile s ≡ told_quietly s
-begun-quietly s q n =
-    let rest : Rests (fine s) = rests-now s q n in
-    ap (λ r. r >>= tell_models profile (codes "xforms-model-construct-done") >>= tell_models profile (codes "xforms-ready"))
-    (told-model profile (codes "xforms-model-construct") steps constructing (fine s) rest)
-    ∙ ap (λ r. r >>= tell_models profile (codes "xforms-ready")) (told-model profile _ steps constructed (fine s >>= spend_by_model) (spends-rest (fine s) rest))
-    ∙ told-model profile _ steps ready (fine s >>= spend_by_model >>= spend_by_model) (spends-rest (fine s >>= spend_by_model) (spends-rest (fine s) rest))
+-- where nothing is due, the models are told by turns alone: with a whole budget
+pub readied-quietly : (s : State) → Quiet s → NoneDue s → readied profile [] s ≡ told_quietly (fresh profile s)
+readied-quietly s q n = readied-same profile [] s steps q n
 
 -- ---- the construction
 
@@ -59,18 +44,18 @@ loaded-quietly l b = loaded-quiet b.0 l b.1
 pub loaded-whole : (l : Loaded) → IsFromBytes l → IsLoaded l
 loaded-whole l b = record { bytes = b.0; read = b.1; plain = loaded-plain b.0 l b.1 }
 
-constructed-as : (l : Loaded) → IsFromBytes l → construct profile (program_in l) (Some []) ≡ planted_by l >>= built_and_shown profile
-constructed-as l b = constructs_quietly profile (program_in l) (Some []) steps (loaded-quietly l b)
+constructed-as : (l : Loaded) → IsFromBytes l → construct profile (program_in l) ≡ planted_by l >>= built_and_shown profile
+constructed-as l b = constructs_quietly profile (program_in l) steps (loaded-quietly l b)
 
 -- what a fault of a step means of the whole
-pub stops : (l : Loaded) (e : WorkFault) → IsFromBytes l → Means e (construct profile (program_in l) (Some [])) → Builds (Err e) (construct profile (program_in l) (Some []))
-stops l (fault.Refused refusal) b m = (m, construct-fault profile (program_in l) (Some []) refusal steps (loaded-quietly l b) m)
+pub stops : (l : Loaded) (e : WorkFault) → IsFromBytes l → Means e (construct profile (program_in l)) → Builds (Err e) (construct profile (program_in l))
+stops l (fault.Refused refusal) b m = (m, construct-fault profile (program_in l) refusal steps (loaded-quietly l b) m)
 stops l fault.Memory b m = tt
 
-unplanted : (l : Loaded) (e : WorkFault) → IsFromBytes l → Means e (planted_by l) → Builds (Err e) (construct profile (program_in l) (Some []))
+unplanted : (l : Loaded) (e : WorkFault) → IsFromBytes l → Means e (planted_by l) → Builds (Err e) (construct profile (program_in l))
 unplanted l e b m = stops l e b (same-means e _ _ (constructed-as l b) (means-then e (planted_by l) (built_and_shown profile) m))
 
-pub planting-stops : (l : Loaded) (e : WorkFault) → IsFromBytes l → IsPlanted (Err e) (planted_by l) → Builds (Err e) (construct profile (program_in l) (Some []))
+pub planting-stops : (l : Loaded) (e : WorkFault) → IsFromBytes l → IsPlanted (Err e) (planted_by l) → Builds (Err e) (construct profile (program_in l))
 planting-stops l (fault.Refused refusal) b m = unplanted l (fault.Refused refusal) b m
 planting-stops l fault.Memory b m = tt
 
@@ -98,21 +83,21 @@ begins-built (Err e) mid after built room d same h = tt
 
 -- ---- the whole
 
-unbegun : (l : Loaded) (e : WorkFault) (s : State) → IsFromBytes l → planted_by l ≡ Ok s → Means e (built_and_shown profile s) → Builds (Err e) (construct profile (program_in l) (Some []))
+unbegun : (l : Loaded) (e : WorkFault) (s : State) → IsFromBytes l → planted_by l ≡ Ok s → Means e (built_and_shown profile s) → Builds (Err e) (construct profile (program_in l))
 unbegun l e s b p m = stops l e b (same-means e _ _ (constructed-as l b ∙ then-next (planted_by l) (built_and_shown profile) s p) m)
 
 pub beginning-stops : (l : Loaded) (e : WorkFault) (s after : Standing) → IsFromBytes l → planted_by l ≡ Ok (state_of s)
-    → Does {X = Unit {0}} (Err e) after (built_and_shown profile (state_of s)) → Builds (Err e) (construct profile (program_in l) (Some []))
+    → Does {X = Unit {0}} (Err e) after (built_and_shown profile (state_of s)) → Builds (Err e) (construct profile (program_in l))
 beginning-stops l (fault.Refused refusal) s after b p d = unbegun l (fault.Refused refusal) (state_of s) b p d
 beginning-stops l fault.Memory s after b p d = tt
 
 -- where all steps are done, it is constructed, and nothing is due
 pub constructs : (l : Loaded) (s : Standing) (w : Twin) → IsFromBytes l → planted_by l ≡ Ok (state_of s) → built_and_shown profile (state_of s) ≡ Ok (state_of w.now)
-    → length w.now.models ≤ w.built → Builds (Ok w) (construct profile (program_in l) (Some []))
+    → length w.now.models ≤ w.built → Builds (Ok w) (construct profile (program_in l))
 constructs l s w b p q k =
-    let quietly = constructs_quietly profile (program_in l) (Some []) steps (loaded-quietly l b) in
-    let is : construct profile (program_in l) (Some []) ≡ Ok (state_of w.now) = constructed-as l b ∙ then-next (planted_by l) (built_and_shown profile) (state_of s) p ∙ q in
-    let rests = constructed-rests profile (program_in l) (Some []) (loaded-quietly l b) (state_of w.now) (sym quietly ∙ is) in
+    let quietly = constructs_quietly profile (program_in l) steps (loaded-quietly l b) in
+    let is : construct profile (program_in l) ≡ Ok (state_of w.now) = constructed-as l b ∙ then-next (planted_by l) (built_and_shown profile) (state_of s) p ∙ q in
+    let rests = constructed-rests profile (program_in l) (loaded-quietly l b) (state_of w.now) (sym quietly ∙ is) in
     record { is = is; ready = record { built = k; rests = rests.1 } }
 
 -- ---- the start

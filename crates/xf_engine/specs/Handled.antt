@@ -7,7 +7,8 @@ use Rattle.xf_form_machine.specs.Step.{fresh, one_more}
 use Rattle.xf_work.specs.declared.fault.WorkFault.{WorkFault}
 use Rattle.xf_work.specs.declared.fault.WorkFault.TheVariants as fault
 use Rattle.xf_work.specs.Standing.{Standing, state_of}
-use Rattle.xf_work.specs.Does.{Twin, IsRefused, profile}
+use Rattle.xf_processor.specs.Formed.{profile}
+use Rattle.xf_work.specs.Does.{Twin, IsRefused}
 
 -- it is counted, and so many evaluations count
 pub record IsHandled (before after : Standing) (count : ℕ) (given : Result State Refused) : Type 0 where
@@ -25,4 +26,4 @@ Handles before (Err fault.Memory) after given = Unit {0}
 pub record IsAtEnd (w : Twin) : Type 0 where
   pub built : length w.now.models ≤ w.built
   pub kept : w.kept ≡ record { standing = w.now; built = w.built }
-  pub fresh : fresh profile [] (state_of w.now) ≡ state_of w.now
+  pub fresh : fresh profile (state_of w.now) ≡ state_of w.now

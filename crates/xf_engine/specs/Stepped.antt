@@ -1,26 +1,19 @@
 -- How the calls of an engine stand to the form machine: what they answer, what they leave, and what each refusal means. Only want of memory is
 -- free.
-use Rattle.std.specs.Prelude.{ℕ, Bool, true, false, ◌≡◌, ◌+◌, List, [], Result, Ok, Err, codes}
-use Rattle.xf_form_machine.specs.Profile.{Profile}
+use Rattle.std.specs.Prelude.{ℕ, Bool, true, false, ◌≡◌, ◌+◌, List, [], Result, Ok, Err}
 use Rattle.xf_form_machine.specs.State.{State}
 use Rattle.xf_form_machine.specs.Refusal as machine
-use Rattle.xf_form_machine.specs.Flow.{Run, ◌>>=◌}
-use Rattle.xf_form_machine.specs.Start.{tell_models}
+use Rattle.xf_form_machine.specs.Start.{readied}
 use Rattle.xf_form_machine.specs.Step.{Posted, Outcome, accepted, refused, outcome, at_end}
-use Rattle.xf_loader.specs.declared.loaded.Loaded.{Loaded}
-use Rattle.xf_loader.specs.Loading.{loaded_in}
 use Rattle.xf_form_machine.specs.declared.refusal.Refusal.{Refusal}
 use Rattle.xf_form_machine.specs.declared.refusal.Refusal.TheVariants as refusal
-use Rattle.xf_work.specs.Does.{IsRefused, profile}
+use Rattle.xf_processor.specs.Formed.{profile}
+use Rattle.xf_work.specs.Does.{IsRefused}
 use Rattle.xf_work.specs.Standing.{Standing, state_of}
 use Rattle.xf_work.specs.declared.fault.WorkFault.{WorkFault}
 use Rattle.xf_work.specs.declared.fault.WorkFault.TheVariants.{Refused, Memory}
 
 -- ---- construction
-
--- it was read from some bytes
-abbrev pub IsFromBytes : Loaded → Type 0
-IsFromBytes l = (bytes : List ℕ) × (loaded_in bytes ≡ Ok l)
 
 -- binds set a property twice, or a calculate where elements stand, or make a cycle; or a limit is passed
 abbrev pub is_of_form : Refusal → Bool
@@ -61,9 +54,6 @@ IsStarted (Ok s) given = (count : ℕ) × IsAccepted given (state_of s) count
 IsStarted (Err (Refused refusal)) given = IsRefused refusal (as_result given)
 IsStarted (Err Memory) given = Unit {0}
 
-abbrev pub begun : Profile → Run
-begun p s =
-    tell_models p (codes "xforms-model-construct") s >>= tell_models p (codes "xforms-model-construct-done") >>= tell_models p (codes "xforms-ready")
-
+-- no answer of the store is asked for
 abbrev pub started : State → Outcome
-started s = outcome (at_end profile) (begun profile s)
+started s = outcome (at_end profile) (readied profile [] s)

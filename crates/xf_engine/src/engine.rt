@@ -1,15 +1,14 @@
 //! A form at work.
 
-ghost use Rattle.std.specs.Prelude.{◌≡◌, ◌≤◌, ◌++◌, [], Some, length, string_bytes, OnOk};
+ghost use Rattle.std.specs.Prelude.{◌≡◌, ◌≤◌, ◌++◌, [], length, string_bytes, OnOk};
 ghost use Rattle.xf_line.specs.declared.event.Event.TheVariants.{Set};
 ghost use Rattle.xf_form_machine.specs.Construct.{construct};
 ghost use Rattle.xf_form_machine.specs.ControlText.{state_text};
 ghost use Rattle.xf_form_machine.specs.Step.{changed_by, step};
-ghost use Rattle.xf_work.specs.Documents.{program_in};
-ghost use Rattle.xf_work.specs.Does.{profile};
+ghost use Rattle.xf_processor.specs.Formed.{program_in, profile, IsFromBytes};
 ghost use Rattle.xf_work.specs.Standing.{state_of};
 ghost use Rattle.xf_engine.specs.Handled.{Handles};
-ghost use Rattle.xf_engine.specs.Stepped.{IsConstructed, IsFromBytes, IsStarted, IsStepped, started};
+ghost use Rattle.xf_engine.specs.Stepped.{IsConstructed, IsStarted, IsStepped, started};
 
 use crate::events::set;
 use crate::start::{constructed, tell_models};
@@ -63,19 +62,20 @@ impl Model for Engine {
 /// Constructs a form (XForms 1.1, section 4.2.1).
 pub fn construct(alloc: Global, loaded: Loaded) -> Result<Constructed, WorkFault>
     requires { IsFromBytes loaded }
-    ensures { IsConstructed result (construct profile (program_in loaded) (Some [])) }
+    ensures { IsConstructed result (construct profile (program_in loaded)) }
 {
     let work = constructed(alloc, loaded)?;
     Ok(Constructed { work })
 }
 
 impl Constructed {
-    /// Starts the form (XForms 1.1, section 4.2).
+    /// Starts the form (XForms 1.1, section 4.2): an event of its own, with a whole budget.
     pub fn start(self) -> Result<Engine, WorkFault>
         ensures { IsStarted result (started (state_of self)) }
     {
         let mut work = self.work;
         work.quiet();
+        work.begin_event();
         match tell_models(&mut work) {
             Ok(()) => {
                 work.commit();
@@ -125,7 +125,7 @@ impl Engine {
 /// Sets a text and counts the event. The answer is how many evaluations it made.
 fn handle(work: &mut Work, id: &str, rows: &[u64], text: &str) -> Result<u64, WorkFault>
     requires built { length work.old.now.models ≤ work.old.built }
-    ensures done { Handles work.old.now result work.new.now (changed_by profile (Set id.now rows.now text.now) (state_of work.old.now)) }
+    ensures done { Handles work.old.now result work.new.now (changed_by profile [] (Set id.now rows.now text.now) (state_of work.old.now)) }
     ensures kept { work.new.kept ≡ work.old.kept }
     ensures built { work.new.built ≡ work.old.built }
 {

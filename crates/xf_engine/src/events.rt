@@ -1,11 +1,12 @@
 //! A text that is set from outside.
 
-ghost use Rattle.std.specs.Prelude.{◌≡◌, ◌≤◌, length, option_map, IfOk};
+ghost use Rattle.std.specs.Prelude.{◌≡◌, ◌≤◌, [], length, option_map, IfOk};
 ghost use Rattle.xf_form_machine.specs.Targets.{is_entry};
 ghost use Rattle.xf_form_machine.specs.Tables.{role_of};
 ghost use Rattle.xf_line.specs.declared.event.Event.TheVariants.{Set};
 ghost use Rattle.xf_form_machine.specs.Step.{changed_by};
-ghost use Rattle.xf_work.specs.Does.{Does, Finds, profile};
+ghost use Rattle.xf_processor.specs.Formed.{profile};
+ghost use Rattle.xf_work.specs.Does.{Does, Finds};
 ghost use Rattle.xf_work.specs.Standing.{state_of};
 ghost use Rattle.xf_engine.specs.Entries.{entry_from, is_entry_named};
 ghost use Rattle.xf_engine.specs.Tried.{node_tried, set_plainly};
@@ -20,7 +21,7 @@ use xf_work::{Work, WorkFault};
 /// Sets the text of the control that has this id, and does what is due.
 pub(crate) fn set(work: &mut Work, id: &str, rows: &[u64], text: &str) -> Result<(), WorkFault>
     requires built { length work.old.now.models ≤ work.old.built }
-    ensures done { Does result work.new.now (changed_by profile (Set id.now rows.now text.now) (state_of work.old.now)) }
+    ensures done { Does result work.new.now (changed_by profile [] (Set id.now rows.now text.now) (state_of work.old.now)) }
     ensures kept { work.new.kept ≡ work.old.kept }
     ensures built { work.new.built ≡ work.old.built }
 {

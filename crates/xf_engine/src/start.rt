@@ -1,13 +1,12 @@
 //! How a form starts (XForms 1.1, section 4.2): its data are planted, its models built, its controls shown, and its models told so.
 
-ghost use Rattle.std.specs.Prelude.{◌≡◌, ◌<◌, ◌≤◌, ◌+◌, [], Some, length, OnOk};
+ghost use Rattle.std.specs.Prelude.{◌≡◌, ◌<◌, ◌≤◌, ◌+◌, length, OnOk};
 ghost use Rattle.xf_form_machine.specs.Construct.{build_model as builds, construct as constructs};
 ghost use Rattle.xf_machine_laws.specs.Quiet.{spend_by_model};
-ghost use Rattle.xf_work.specs.Documents.{program_in};
-ghost use Rattle.xf_work.specs.Does.{Does, profile};
+ghost use Rattle.xf_processor.specs.Formed.{program_in, profile, IsFromBytes};
+ghost use Rattle.xf_work.specs.Does.{Does};
 ghost use Rattle.xf_work.specs.Standing.{state_of};
 ghost use Rattle.xf_engine.specs.Started.{Builds, all_built, built_and_shown, told_quietly};
-ghost use Rattle.xf_engine.specs.Stepped.{IsFromBytes};
 
 use crate::updates::spend_times;
 use std::alloc::Global;
@@ -17,7 +16,7 @@ use xf_work::{Work, WorkFault, planted};
 /// Constructs a form.
 pub(crate) fn constructed(alloc: Global, loaded: Loaded) -> Result<Work, WorkFault>
     requires { IsFromBytes loaded }
-    ensures { Builds result (constructs profile (program_in loaded) (Some [])) }
+    ensures { Builds result (constructs profile (program_in loaded)) }
 {
     let mut work = planted(alloc, loaded)?;
     match begin(&mut work) {

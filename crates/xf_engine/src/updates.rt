@@ -3,7 +3,8 @@
 ghost use Rattle.std.specs.Prelude.{◌≡◌, ◌<◌, ◌≤◌, length};
 ghost use Rattle.xf_form_machine.specs.Update.{due_rebuild as rebuilds, due_recalculation as recalculates, due_revalidation as revalidates};
 ghost use Rattle.xf_machine_laws.specs.Quiet.{refresh_quietly, round_quietly, update_quietly};
-ghost use Rattle.xf_work.specs.Does.{Does, profile};
+ghost use Rattle.xf_processor.specs.Formed.{profile};
+ghost use Rattle.xf_work.specs.Does.{Does};
 ghost use Rattle.xf_work.specs.Standing.{state_of};
 ghost use Rattle.xf_engine.specs.Rounds.{all_behaved, spend_times};
 

@@ -19,12 +19,12 @@ if_false true x y is = cc
 if_false false x y is = refl
 
 -- of two open slots the one with the greater epoch is in use
-greater_a : (a b : ℕ) → b < a → chosen (Some a) (Some b) ≡ Ok (Some A)
+pub greater_a : (a b : ℕ) → b < a → chosen (Some a) (Some b) ≡ Ok (Some A)
 greater_a a b more =
     if_false (a == b) (Err (Damaged B 5)) (Ok (Some (if nat_lt b a then A else B))) (ne_eqb a b (λ same. omega arith))
     ∙ ap (λ (s : Slot). Ok (Some s)) (if_true (nat_lt b a) A B (le-leb (suc b) a (omega arith)))
 
-greater_b : (a b : ℕ) → a < b → chosen (Some a) (Some b) ≡ Ok (Some B)
+pub greater_b : (a b : ℕ) → a < b → chosen (Some a) (Some b) ≡ Ok (Some B)
 greater_b a b more =
     if_false (a == b) (Err (Damaged B 5)) (Ok (Some (if nat_lt b a then A else B))) (ne_eqb a b (λ same. omega arith))
     ∙ ap (λ (s : Slot). Ok (Some s)) (if_false (nat_lt b a) A B (lt-leb (suc b) a (omega arith)))

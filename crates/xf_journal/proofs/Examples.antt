@@ -9,13 +9,19 @@ use Rattle.xf_journal.specs.Layout.{open_epoch, base_at, entries_at, new_bytes}
 use Rattle.xf_journal.specs.Entry.{entry_bytes, entry_in, answers_in}
 use Rattle.xf_journal.specs.Held.{entries_from, log_of, in_use, held}
 
--- an open slot with the form f and a base of no answers, by the first byte of its tag, of its epoch, of
+-- an open slot of the first format with the form f and a base of no answers, by the first byte of its tag, of its epoch, of
 -- the length of its form and of the length of its base
 abbrev slot_of : ℕ → ℕ → ℕ → ℕ → List ℕ
 slot_of tag epoch form base =
     1 ∷ tag ∷ 70 ∷ 83 ∷ 49 ∷ epoch ∷ 0 ∷ 0 ∷ 0 ∷ 0 ∷ 0 ∷ 0 ∷ 0 ∷ form ∷ 0 ∷ 0 ∷ 0 ∷ base ∷ 0 ∷ 0 ∷ 0 ∷ 102 ∷ 0 ∷ 0 ∷ 0 ∷ []
 
-new_slot : 1 ∷ new_bytes 1 (codes "f") (0 ∷ 0 ∷ []) ≡ slot_of 88 1 1 2
+-- an open slot of the second format, by the first bytes of the lengths of its form and of its base, by the first and the last byte of
+-- its number of changes of the form, and by what stands behind it
+abbrev second_of : ℕ → ℕ → ℕ → ℕ → List ℕ → List ℕ
+second_of form base adoptions last behind =
+    1 ∷ 88 ∷ 70 ∷ 83 ∷ 50 ∷ 1 ∷ 0 ∷ 0 ∷ 0 ∷ 0 ∷ 0 ∷ 0 ∷ 0 ∷ form ∷ 0 ∷ 0 ∷ 0 ∷ base ∷ 0 ∷ 0 ∷ 0 ∷ adoptions ∷ 0 ∷ 0 ∷ last ∷ behind
+
+new_slot : 1 ∷ new_bytes 1 (record { adoptions = 3; form = codes "f"; base = 0 ∷ 0 ∷ [] }) ≡ second_of 1 2 3 0 (102 ∷ 0 ∷ 0 ∷ 0 ∷ [])
 unfolding four eight
 new_slot = refl
 
@@ -36,6 +42,29 @@ closed_slot = refl
 
 short_slot : open_epoch (1 ∷ codes "XFS1") ≡ None
 short_slot = refl
+
+second_slot : log_of A (second_of 1 2 3 0 (102 ∷ 0 ∷ 0 ∷ 0 ∷ []))
+    ≡ Ok (record { kept = record { slot = A; epoch = 1; adoptions = 3; form = codes "f"; base = 0 ∷ 0 ∷ []; entries = [] }; gate = 28; cut = None })
+unfolding from_four from_eight
+second_slot = refl
+
+-- 24 bytes have no room for the header, and behind 25 no gate stands
+damaged_header : log_of A (1 ∷ 88 ∷ 70 ∷ 83 ∷ 50 ∷ 1 ∷ 0 ∷ 0 ∷ 0 ∷ 0 ∷ 0 ∷ 0 ∷ 0 ∷ 0 ∷ 0 ∷ 0 ∷ 0 ∷ 0 ∷ 0 ∷ 0 ∷ 0 ∷ 0 ∷ 0 ∷ 0 ∷ []) ≡ Err (Damaged A 13)
+unfolding from_four from_eight
+damaged_header = refl
+
+damaged_adoptions : log_of A (second_of 0 0 0 0 []) ≡ Err (Damaged A 21)
+unfolding from_four from_eight
+damaged_adoptions = refl
+
+most_adoptions : log_of B (second_of 1 0 255 127 (102 ∷ 0 ∷ []))
+    ≡ Ok (record { kept = record { slot = B; epoch = 1; adoptions = 2130706687; form = codes "f"; base = []; entries = [] }; gate = 26; cut = None })
+unfolding from_four from_eight
+most_adoptions = refl
+
+too_many_adoptions : log_of B (second_of 1 0 0 128 (102 ∷ 0 ∷ [])) ≡ Err (Damaged B 21)
+unfolding from_four from_eight
+too_many_adoptions = refl
 
 damaged_tag : log_of A (slot_of 89 1 1 2) ≡ Err (Damaged A 1)
 damaged_tag = refl

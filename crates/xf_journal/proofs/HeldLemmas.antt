@@ -10,7 +10,7 @@ use Rattle.xf_journal.specs.Layout.{is_open, open_epoch, epoch_in}
 use Rattle.xf_journal.specs.Held.{Log, log_of, chosen, in_use, some_log, held_in, held}
 
 -- the epoch of one slot among two
-abbrev this_of : Slot → Option ℕ → Option ℕ → Option ℕ
+abbrev pub this_of : Slot → Option ℕ → Option ℕ → Option ℕ
 this_of A a b = a
 this_of B a b = b
 

@@ -12,4 +12,5 @@ mod CreateLemmas
 mod NewLemmas
 mod CreateRun
 mod RunLemmas
+mod RenewLemmas
 pub mod WithinLemmas

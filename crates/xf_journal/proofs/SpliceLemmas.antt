@@ -6,7 +6,8 @@ use Rattle.xf_disk.specs.declared.slot.Slot.{Slot}
 use Rattle.xf_disk.specs.Image.{Image}
 use Rattle.xf_disk.specs.Marks.{spliced}
 use Rattle.xf_disk.specs.Crash.{Torn, InSlot, Follows}
-use Rattle.xf_journal.specs.declared.layout.Format.TheVariants.{First}
+use Rattle.xf_journal.specs.declared.layout.Format.TheVariants.{Second}
+use Rattle.xf_journal.specs.declared.image.Image as written
 use Rattle.xf_journal.specs.Numbers.{four, eight}
 use Rattle.xf_journal.specs.Layout.{tag_of, header_bytes, new_bytes}
 use Rattle.xf_journal.specs.Moments.{MightStep, SameGate}
@@ -62,17 +63,29 @@ pub on_any : {E : Type 0} → (result : Result (Unit {0}) E) (P : Type 0) → P 
 on_any (Ok done) P is = is
 on_any (Err fault) P is = tt
 
-pub length-header_bytes : (epoch form base : ℕ) → length (header_bytes epoch form base) ≡ 20
-length-header_bytes epoch form base =
-    omega (arith, length-append (tag_of First ++ eight epoch ++ four form) (four base), length-append (tag_of First ++ eight epoch) (four form), length-append (tag_of First) (eight epoch), length-eight epoch, length-four form, length-four base)
+pub length-header_bytes : (epoch form base adoptions : ℕ) → length (header_bytes epoch form base adoptions) ≡ 24
+length-header_bytes epoch form base adoptions =
+    omega (
+      arith,
+      length-append (tag_of Second ++ eight epoch ++ four form ++ four base) (four adoptions),
+      length-append (tag_of Second ++ eight epoch ++ four form) (four base),
+      length-append (tag_of Second ++ eight epoch) (four form),
+      length-append (tag_of Second) (eight epoch),
+      length-eight epoch,
+      length-four form,
+      length-four base,
+      length-four adoptions,
+    )
 
 -- four writes behind the gate are one of all that a new slot has there
-pub behind_written : (epoch : ℕ) (form base header old mid new : List ℕ) → header ≡ header_bytes epoch (length form) (length base) → 1 ≤ length old
-    → mid ≡ spliced 1 (header ++ form) old → new ≡ spliced (21 + length form) (base ++ 0 ∷ []) mid → new ≡ spliced 1 (new_bytes epoch form base) old
-behind_written epoch form base header old mid new is stands first second =
-    let head = header_bytes epoch (length form) (length base) in
+pub behind_written : (epoch : ℕ) (image : written.Image) (header old mid new : List ℕ) → header ≡ header_bytes epoch (length image.form) (length image.base) image.adoptions → 1 ≤ length old
+    → mid ≡ spliced 1 (header ++ image.form) old → new ≡ spliced (25 + length image.form) (image.base ++ 0 ∷ []) mid → new ≡ spliced 1 (new_bytes epoch image) old
+behind_written epoch image header old mid new is stands first second =
+    let form = image.form in
+    let base = image.base in
+    let head = header_bytes epoch (length form) (length base) image.adoptions in
     let mid_is : mid ≡ spliced 1 (head ++ form) old = first ∙ ap (λ (l : List ℕ). spliced 1 (l ++ form) old) is in
-    let size : 21 + length form ≡ 1 + length (head ++ form) = omega (arith, length-append head form, length-header_bytes epoch (length form) (length base)) in
+    let size : 25 + length form ≡ 1 + length (head ++ form) = omega (arith, length-append head form, length-header_bytes epoch (length form) (length base) image.adoptions) in
     second
     ∙ ap (λ (k : ℕ). spliced k (base ++ 0 ∷ []) mid) size
     ∙ ap (λ (l : List ℕ). spliced (1 + length (head ++ form)) (base ++ 0 ∷ []) l) mid_is

@@ -1,5 +1,5 @@
 -- What is read as an entry has at most what an entry may have.
-use Rattle.std.proofs.Common.{take, drop, length, length-take, ◌≡◌, ◌≤◌, ℕ, zero, suc, ◌+◌, ◌^◌, List, [], ◌∷◌, Option, Some, None, Result, Ok, Err, refl, ◌∙◌, ap, arith}
+use Rattle.std.proofs.Common.{take, drop, length, length-take, ◌≡◌, ◌≤◌, ℕ, zero, suc, ◌+◌, ◌^◌, List, [], ◌∷◌, Option, Some, None, refl, ◌∙◌, ap, arith}
 use Rattle.std.proofs.lemmas.Bool.{leb-true, le-leb, and_parts, and_from}
 use Rattle.std.specs.Option.{option_map, option_and_then}
 use Rattle.std.specs.List.{list_all}
@@ -11,7 +11,7 @@ use Rattle.xf_store.specs.declared.answers.Answer.TheVariants as answer
 use Rattle.xf_journal.specs.declared.entry.Accepted.{Accepted}
 use Rattle.xf_journal.specs.declared.read.Entries.{Entries}
 use Rattle.xf_journal.specs.Numbers.{from_four}
-use Rattle.xf_journal.specs.Entry.{is_within, are_within, found_in, answer_of, answer_in, these_answers, answers_in, body_in, entry_in, size_at}
+use Rattle.xf_journal.specs.Entry.{is_within, are_within, found_in, answer_in, these_answers, answers_in, body_in, entry_in, size_at}
 use Rattle.xf_journal.specs.Held.{Tail, entries_from, after_gate}
 use Rattle.xf_journal.specs.Scanned.{tail_of}
 

@@ -6,6 +6,8 @@ use xf_io::Bytes;
 /// What a new journal holds.
 #[derive(Debug, Drop)]
 pub struct Image {
+    /// How often the form of the session was changed for another.
+    pub adoptions: u32,
     pub form: Bytes,
     pub base: Bytes,
 }
@@ -14,6 +16,8 @@ pub struct Image {
 #[derive(Debug, Drop)]
 pub struct Scanned {
     pub journal: Journal,
+    /// How often the form of the session was changed for another: never in a slot of the first format.
+    pub adoptions: u32,
     pub form: Bytes,
     pub base: Bytes,
     pub entries: EntryList,

@@ -1,11 +1,11 @@
 //! A journal in a slot: where its entries end, and how one more is added.
-ghost use Rattle.std.specs.Prelude.{◌≡◌, ◌≤◌, ◌+◌, ◌^◌, length, IsTrue, OnOk, OnErr};
+ghost use Rattle.std.specs.Prelude.{◌≡◌, ◌≤◌, ◌<◌, ◌+◌, ◌-◌, ◌^◌, min, length, IsTrue, IfOk, OnOk, OnErr};
 ghost use Rattle.xf_base.specs.Faults.{HasCause};
-ghost use Rattle.xf_disk.specs.Image.{in_slot};
+ghost use Rattle.xf_disk.specs.Image.{in_slot, beside};
 ghost use Rattle.xf_disk.specs.Crash.{LeavesOnly};
 
-use crate::Entry;
 use crate::step::write_synced;
+use crate::{Entry, Image, create};
 use xf_disk::{Disk, Slot};
 use xf_io::Failed;
 
@@ -21,7 +21,7 @@ pub struct Journal {
 impl Journal {
     ghost use Rattle.xf_journal.specs.Entry.{written_bytes};
     ghost use Rattle.xf_journal.specs.Held.{Log};
-    ghost use Rattle.xf_journal.specs.Scanned.{IsAtRest, HoldsEither, with_accepted};
+    ghost use Rattle.xf_journal.specs.Scanned.{journal_of, new_log, IsAtRest, MayRenew, HoldsEither, with_accepted, renewed};
 
     pub fn slot(&self) -> Slot
         ensures { result ≡ self.now.slot }
@@ -70,5 +70,21 @@ impl Journal {
         self.count = self.count.saturating_add(1);
         self.used += written.len() as u64;
         Ok(())
+    }
+    /// Writes a journal without entries that takes the place of this one: into the other slot, with the next epoch. A
+    /// crash at any moment leaves this journal or the new one; after `Ok` each crash leaves the new one.
+    pub fn renew<D: Disk>(&self, disk: &mut D, image: &Image) -> Result<Journal, Failed>
+        requires form { length image.now.form ≤ 2 ^ 20 }
+        requires room { 26 + length image.now.form + length image.now.base ≤ 2 ^ 26 }
+        ensures journal { IfOk result (λ journal. journal ≡ journal_of (new_log (beside self.now.slot) (min (self.now.epoch + 1) (2 ^ 64 - 1)) image.now)) }
+        ensures each_moment { IsTrue (D.tells disk.old) → (log : Log) → MayRenew D.seen D.may_leave self.now log image.now disk.old
+            → LeavesOnly D.moment D.left_since disk.old disk.new (HoldsEither log (renewed log image.now)) }
+        ensures done { IsTrue (D.tells disk.old) → (log : Log) → MayRenew D.seen D.may_leave self.now log image.now disk.old
+            → IfOk result (λ journal. IsAtRest D.seen D.may_leave journal (renewed log image.now) disk.new) }
+        ensures tells { D.tells disk.new ≡ D.tells disk.old }
+        ensures cause { HasCause (D.faults disk.old) (D.faults disk.new) result }
+    {
+        let epoch = self.epoch.saturating_add(1);
+        create(disk, self.slot.beside(), epoch, image)
     }
 }

@@ -1,29 +1,36 @@
 //! The layout of a slot, by its tag.
-ghost use Rattle.std.specs.Prelude.{◌≡◌, ◌≤◌, ◌<◌, ◌^◌, length};
-ghost use Rattle.xf_journal.specs.Layout.{header_length, format_in, epoch_in, form_length, base_length, base_at, entries_at, first_fault, open_epoch};
+ghost use Rattle.std.specs.Prelude.{◌≡◌, ◌≤◌, ◌<◌, ◌^◌, ◌∷◌, [], length, drop};
+ghost use Rattle.xf_journal.specs.Layout.{begins_with, header_length, format_in, epoch_in, form_length, base_length, base_at, entries_at, adoptions_in, do_adoptions_stand, first_fault, open_epoch};
 
 use crate::number::{from_eight, from_four};
 
 /// A format of slots.
 #[derive(Clone, Copy, Debug, PartialEq, Eq)]
 pub enum Format {
+    /// Read, and appended to; it tells of no changes of the form.
     First,
+    /// That of each new slot.
+    Second,
 }
 
 impl Format {
     /// Where the form begins.
     pub(crate) fn header_length(self) -> usize
         ensures value { result ≡ header_length self }
-        ensures small { result ≤ 21 }
+        ensures small { result ≤ 25 }
     {
         match self {
             Format::First => 21,
+            Format::Second => 25,
         }
     }
 }
 
 /// The most bytes of a form.
 pub(crate) const FORM_MOST: usize = 1 << 20;
+
+/// The form of a session was changed fewer times than this.
+const ADOPTION_LIMIT: u32 = 1 << 31;
 
 /// The fewest bytes of an open slot.
 pub(crate) const OPEN_LEAST: usize = 22;
@@ -33,11 +40,21 @@ pub(crate) fn format_in(bytes: &[u8]) -> Option<Format>
     requires { 22 ≤ length bytes.now }
     ensures { result ≡ format_in bytes.now }
 {
-    if bytes[1] == b'X' && bytes[2] == b'F' && bytes[3] == b'S' && bytes[4] == b'1' {
+    if has_tag(bytes, b'1') {
         Some(Format::First)
+    } else if has_tag(bytes, b'2') {
+        Some(Format::Second)
     } else {
         None
     }
+}
+
+/// Whether behind the gate stands a tag that ends with this byte.
+fn has_tag(bytes: &[u8], last: u8) -> bool
+    requires { 22 ≤ length bytes.now }
+    ensures { result ≡ begins_with (88 ∷ 70 ∷ 83 ∷ last ∷ []) (drop 1 bytes.now) }
+{
+    bytes[1] == b'X' && bytes[2] == b'F' && bytes[3] == b'S' && bytes[4] == last
 }
 
 /// The epoch that a slot tells.
@@ -109,5 +126,29 @@ pub(crate) fn first_fault(format: Format, bytes: &[u8]) -> Option<u64>
     if entries_at(format, bytes) > bytes.len() {
         return Some(17);
     }
+    if !do_adoptions_stand(format, bytes) {
+        return Some(21);
+    }
     None
+}
+
+/// Whether the number of changes of the form stands, and the gate behind it, and it is below its limit.
+fn do_adoptions_stand(format: Format, bytes: &[u8]) -> bool
+    ensures { result ≡ do_adoptions_stand format bytes.now }
+{
+    match format {
+        Format::First => true,
+        Format::Second => bytes.len() >= 26 && from_four(&bytes[21..]) < ADOPTION_LIMIT,
+    }
+}
+
+/// The number of changes of the form that a slot tells of.
+pub(crate) fn adoptions_in(format: Format, bytes: &[u8]) -> u32
+    requires { header_length format ≤ length bytes.now }
+    ensures { result ≡ adoptions_in format bytes.now }
+{
+    match format {
+        Format::First => 0,
+        Format::Second => from_four(&bytes[21..]),
+    }
 }

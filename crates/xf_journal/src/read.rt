@@ -7,9 +7,9 @@ ghost use Rattle.xf_journal.specs.Entry.{are_within};
 ghost use Rattle.xf_journal.specs.Scanned.{scanned_of, scanned_result, tail_of};
 
 use crate::entry::entry_in;
-use crate::layout::{Format, base_at, entries_at, epoch_in, first_fault, format_in};
+use crate::layout::{Format, adoptions_in, base_at, entries_at, epoch_in, first_fault, format_in};
 use crate::number::from_four;
-use crate::{Accepted, EntryList, Journal, JournalFault, Scanned};
+use crate::{Accepted, EntryList, Image, Journal, JournalFault, Scanned};
 use std::alloc::{AllocError, Global};
 use xf_disk::Slot;
 use xf_io::Bytes;
@@ -49,17 +49,22 @@ fn read_log(alloc: Global, slot: Slot, format: Format, bytes: &[u8]) -> Result<S
     let entries_at = entries_at(format, bytes);
     let form = Vec::from_slice(alloc, &bytes[form_at..base_at])?;
     let base = Vec::from_slice(alloc, &bytes[base_at..entries_at])?;
+    let image = Image {
+        adoptions: adoptions_in(format, bytes),
+        form: Bytes::from_vec(form),
+        base: Bytes::from_vec(base),
+    };
     let entries = read_entries(alloc, bytes, entries_at)?;
-    Ok(entries.under(slot, epoch_in(bytes), form, base))
+    Ok(entries.behind(slot, epoch_in(bytes), image))
 }
 
 impl Entries {
     ghost use Rattle.xf_journal.specs.Scanned.{scanned_with};
 
-    /// These entries under a header.
-    fn under(self, slot: Slot, epoch: u64, form: Vec<u8>, base: Vec<u8>) -> Scanned
+    /// These entries behind what is written before them.
+    fn behind(self, slot: Slot, epoch: u64, image: Image) -> Scanned
         requires { self.gate < 2 ^ 63 }
-        ensures { result ≡ scanned_with slot epoch form.items base.items self }
+        ensures { result ≡ scanned_with slot epoch image self }
     {
         let Entries {
             items,
@@ -73,8 +78,9 @@ impl Entries {
                 count: items.len() as u64,
                 used: gate as u64 + 1,
             },
-            form: Bytes::from_vec(form),
-            base: Bytes::from_vec(base),
+            adoptions: image.adoptions,
+            form: image.form,
+            base: image.base,
             entries: EntryList::from_vec(items),
             cut: cut_at(gate, is_cut),
         }

@@ -24,7 +24,11 @@ use xf_name::Prefixes;
 use xf_refusals::{Class, Row, decimals_of, is_of, small};
 
 /// The tables of a form that is not refused.
-pub fn form_of(alloc: Global, prefixes: &Prefixes, rows: &[Row<'_>]) -> Result<Form, AllocError>
+pub fn form_of<'x>(
+    alloc: Global,
+    prefixes: &'x Prefixes,
+    rows: &'x [Row<'_>],
+) -> Result<Form, AllocError>
     ensures { IfOk result (λ form. form ≡ tables.form_of prefixes.now (map shown rows.now)) }
 {
     let numbers = numbers_of(alloc, rows)?;

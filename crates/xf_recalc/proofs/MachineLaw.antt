@@ -14,7 +14,7 @@ use Rattle.xf_form_machine.specs.Profile.{Profile}
 use Rattle.xf_form_machine.specs.State.{Model, State}
 use Rattle.xf_form_machine.specs.Refusal.{Refused, unless_passed, if_over}
 use Rattle.xf_form_machine.specs.Flow.{◌>>=◌}
-use Rattle.xf_form_machine.specs.Surround.{scope}
+use Rattle.xf_form_machine.specs.Surround.{bind_scope}
 use Rattle.xf_form_machine.specs.Primitives.{changed_at, in_model}
 use Rattle.xf_form_machine.specs.Cycles.{reported_cycle}
 use Rattle.xf_form_machine.specs.Behave as behave
@@ -82,20 +82,20 @@ kept-set (y ∷ ys) (suc model) k h = kept-set ys model k (omega arith)
 
 module _ (p : Profile) (s : State) (model : ℕ) (table : List Kept) (limited : p.edges ≡ edge_limit) (as_much : AsksAsMuch s table) (within : model < length table) where
   abbrev around : Scope
-  around = scope p s model
+  around = bind_scope p s model
 
   abbrev all : List Visit
   all = shape_of s.forest.nodes
 
   module _ (entries : List Entry) where
     abbrev asked : ℕ
-    asked = edge_count (scope p s model) (shape_of s.forest.nodes) entries
+    asked = edge_count (bind_scope p s model) (shape_of s.forest.nodes) entries
 
     abbrev state : State
-    state = in_model (rebuilt_with entries (edge_count (scope p s model) (shape_of s.forest.nodes) entries)) model s
+    state = in_model (rebuilt_with entries (edge_count (bind_scope p s model) (shape_of s.forest.nodes) entries)) model s
 
     abbrev kept : Kept
-    kept = record (kept_at table model) { entries = entries; asks = map (asks_of (scope p s model) (shape_of s.forest.nodes)) entries }
+    kept = record (kept_at table model) { entries = entries; asks = map (asks_of (bind_scope p s model) (shape_of s.forest.nodes)) entries }
 
     abbrev after : List Kept
     after = slice_set table model kept
@@ -113,7 +113,7 @@ module _ (p : Profile) (s : State) (model : ℕ) (table : List Kept) (limited : 
         ∙ ap (λ (k : Kept). in_model (rebuilt_with k.entries (asked_of k.asks)) model s) (sym (kept-set table model kept within))
 
     abbrev readers : List Reader
-    readers = calculated (scope p s model) (shape_of s.forest.nodes) entries
+    readers = calculated (bind_scope p s model) (shape_of s.forest.nodes) entries
 
     by-cycle : (o : Option (List ℕ)) → behave.unless_cycle state readers o state ≡ told model s (unless_cycle readers o after)
     by-cycle None = ap Ok taken

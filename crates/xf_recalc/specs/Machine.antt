@@ -6,7 +6,7 @@ use Rattle.xf_form_machine.specs.Profile.{Profile}
 use Rattle.xf_form_machine.specs.State.{State}
 use Rattle.xf_form_machine.specs.Refusal.{Refused, Refusal, limit}
 use Rattle.xf_form_machine.specs.Refusal as refusal
-use Rattle.xf_form_machine.specs.Surround.{scope}
+use Rattle.xf_form_machine.specs.Surround.{bind_scope}
 use Rattle.xf_form_machine.specs.Primitives.{in_model}
 use Rattle.xf_form_machine.specs.Properties.{path_in}
 use Rattle.xf_form_machine.specs.Behave.{rebuild, rebuilt_with}
@@ -38,4 +38,4 @@ AsksAsMuch s table = map (λ m. m.asked) s.models ≡ map (λ k. asked_of k.asks
 -- the machine's rebuild is that of the table
 abbrev pub RebuildsAlike : Type 0
 RebuildsAlike = (p : Profile) (s : State) (model : ℕ) (table : List Kept) → p.edges ≡ edge_limit → AsksAsMuch s table → model < length table →
-    rebuild p model s ≡ told model s (rebuilt (scope p s model) s.forest.nodes table)
+    rebuild p model s ≡ told model s (rebuilt (bind_scope p s model) s.forest.nodes table)

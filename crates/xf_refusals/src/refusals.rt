@@ -165,39 +165,28 @@ pub struct Search<'s, 'a> {
     pub ids: &'s Ids<'a>,
     /// The place of the first model.
     pub first_model: Option<usize>,
-    pub decimals: Decimals,
 }
 
 fn has_bad_expression_in(
     search: Search<'_, '_>,
     row: &Row<'_>,
     known: &[Known<'_>],
+    decimals: Decimals,
 ) -> Result<bool, AllocError>
-    ensures { IfOk result (λ found. found ≡ list_any (faults.is_bad_expression search.entry.decimals search.entry.prefixes.now row.now.tag) (map attributes.shown known.now)) }
+    ensures { IfOk result (λ found. found ≡ list_any (faults.is_bad_expression decimals search.entry.prefixes.now row.now.tag) (map attributes.shown known.now)) }
 {
-    has_bad_expression(
-        search.alloc,
-        search.prefixes,
-        row.tag,
-        known,
-        search.decimals,
-    )
+    has_bad_expression(search.alloc, search.prefixes, row.tag, known, decimals)
 }
 
 fn has_moving_expression_in(
     search: Search<'_, '_>,
     row: &Row<'_>,
     known: &[Known<'_>],
+    decimals: Decimals,
 ) -> Result<bool, AllocError>
-    ensures { IfOk result (λ found. found ≡ list_any (faults.is_moving_expression search.entry.decimals search.entry.prefixes.now row.now.tag) (map attributes.shown known.now)) }
+    ensures { IfOk result (λ found. found ≡ list_any (faults.is_moving_expression decimals search.entry.prefixes.now row.now.tag) (map attributes.shown known.now)) }
 {
-    has_moving_expression(
-        search.alloc,
-        search.prefixes,
-        row.tag,
-        known,
-        search.decimals,
-    )
+    has_moving_expression(search.alloc, search.prefixes, row.tag, known, decimals)
 }
 
 /// The least refusal of an element outside instances, but for those of its names.
@@ -205,19 +194,20 @@ fn own_refusal(
     search: Search<'_, '_>,
     row: &Row<'_>,
     place: usize,
+    decimals: Decimals,
 ) -> Result<Option<u8>, AllocError>
     requires { HasCounts search.ids.now (map shown search.rows.now) }
-    ensures { IfOk result (λ number. number ≡ refusals.own_refusal search.entry.decimals search.entry.prefixes.now (map shown search.entry.rows.now) search.entry.first_model place (shown row.now)) }
+    ensures { IfOk result (λ number. number ≡ refusals.own_refusal decimals search.entry.prefixes.now (map shown search.entry.rows.now) search.entry.first_model place (shown row.now)) }
 {
     let element = row.element;
     let known = known_of(search.alloc, search.prefixes, element.attributes.as_slice())?;
     if lacks_model(search.rows, row, place, search.first_model) {
         return Ok(Some(6));
     }
-    if has_bad_expression_in(search, row, &known)? {
+    if has_bad_expression_in(search, row, &known, decimals)? {
         return Ok(Some(7));
     }
-    if has_moving_expression_in(search, row, &known)? {
+    if has_moving_expression_in(search, row, &known, decimals)? {
         return Ok(Some(8));
     }
     if is_misplaced(search.rows, row) {
@@ -248,9 +238,14 @@ fn number_of_fault(fault: NameFault) -> u8
 }
 
 /// The least refusal of an element.
-fn refusal_at(search: Search<'_, '_>, row: &Row<'_>, place: usize) -> Result<Option<u8>, AllocError>
+fn refusal_at(
+    search: Search<'_, '_>,
+    row: &Row<'_>,
+    place: usize,
+    decimals: Decimals,
+) -> Result<Option<u8>, AllocError>
     requires { HasCounts search.ids.now (map shown search.rows.now) }
-    ensures { IfOk result (λ number. number ≡ refusals.refusal_at search.entry.decimals search.entry.prefixes.now (map shown search.entry.rows.now) search.entry.first_model place (shown row.now)) }
+    ensures { IfOk result (λ number. number ≡ refusals.refusal_at decimals search.entry.prefixes.now (map shown search.entry.rows.now) search.entry.first_model place (shown row.now)) }
 {
     if let Some(fault) = search.prefixes.fault_of(row.element)? {
         return Ok(Some(number_of_fault(fault)));
@@ -258,7 +253,7 @@ fn refusal_at(search: Search<'_, '_>, row: &Row<'_>, place: usize) -> Result<Opt
     if !is_outside(row.standing.zone) {
         return Ok(None);
     }
-    own_refusal(search, row, place)
+    own_refusal(search, row, place, decimals)
 }
 
 /// The place of the first model.
@@ -281,6 +276,7 @@ fn first_refusal(
 ) -> Result<Option<Refusal>, AllocError>
     ensures { IfOk result (λ found. found ≡ refusals.first_refusal prefixes.now (map shown rows.now)) }
 {
+    let decimals = decimals_of(alloc, prefixes, rows)?;
     let ids = ids_of(alloc, rows)?;
     let search = Search {
         alloc,
@@ -288,10 +284,9 @@ fn first_refusal(
         rows,
         ids: &ids,
         first_model: first_model(rows),
-        decimals: decimals_of(alloc, prefixes, rows)?,
     };
     for (place, row) in rows.iter().enumerate() {
-        if let Some(number) = refusal_at(search, row, place)? {
+        if let Some(number) = refusal_at(search, row, place, decimals)? {
             return Ok(Some(Refusal { place, number }));
         }
     }

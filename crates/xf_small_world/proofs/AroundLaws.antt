@@ -40,7 +40,7 @@ use Rattle.xf_small_world.specs.declared.world.SmallWorld.{SmallWorld}
 use Rattle.xf_small_world.specs.Around.{AreThere, are_live, are_told_live, document_below, documents_by, documents_from, event_of, given_by, given_in, is_event_live}
 use Rattle.xf_small_world.specs.Over.{around_of}
 use Rattle.xf_small_world.specs.Small.{is_small}
-use Rattle.xf_small_world.specs.Formed.{profile}
+use Rattle.xf_processor.specs.Formed.{profile}
 use Rattle.xf_small_world.specs.State.{standing, state_of}
 use Rattle.xf_small_world.proofs.SmallLaws.{no-repeats}
 

@@ -5,7 +5,7 @@ use Rattle.xf_doc.specs.Forest.{Forest, empty}
 use Rattle.xf_doc.specs.Texts.{Keeping}
 use Rattle.xf_tree.specs.Calls.{nothing}
 use Rattle.xf_loader.specs.declared.loaded.Loaded.{Loaded}
-use Rattle.xf_small_world.specs.Formed.{document_of}
+use Rattle.xf_processor.specs.Formed.{document_of}
 use Rattle.xf_small_world.specs.Planting.{ArePlanted}
 
 pub all-same : {X : Type 0} (x : X) (ns : List ℕ) → replicate (length ns) x ≡ map (λ n. x) ns

@@ -29,7 +29,7 @@ use Rattle.xf_small_world.specs.declared.tally.Tally.{Tally}
 use Rattle.xf_small_world.specs.Models.{models_of}
 use Rattle.xf_small_world.specs.Planting.{ArePlanted, IsFirst, growing}
 use Rattle.xf_small_world.specs.Small.{is_small}
-use Rattle.xf_small_world.specs.Formed.{document_of, profile, program_in}
+use Rattle.xf_processor.specs.Formed.{document_of, profile, program_in}
 use Rattle.xf_small_world.specs.State.{standing}
 use Rattle.xf_root_laws.specs.Roots.{roots_in}
 use Rattle.xf_small_forest.proofs.DocumentLaws.{contents_under, document-contents, document_below, rooted-roots}

@@ -25,7 +25,7 @@ use Rattle.xf_small_world.specs.Fault.{means}
 use Rattle.xf_small_world.specs.Growing.{IsGrown, SaysLimit}
 use Rattle.xf_small_world.specs.Models.{models_of}
 use Rattle.xf_small_world.specs.Setting.{MayBeSet, changed_in, holder_of, is_other, text_change}
-use Rattle.xf_small_world.specs.Formed.{profile}
+use Rattle.xf_processor.specs.Formed.{profile}
 use Rattle.xf_small_world.specs.State.{standing}
 
 -- ---- among words

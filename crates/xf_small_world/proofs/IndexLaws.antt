@@ -21,7 +21,7 @@ use Rattle.xf_form_machine.specs.Surround.{quiet}
 use Rattle.xf_small_world.specs.declared.model.ModelState.{ModelState}
 use Rattle.xf_small_world.specs.declared.tally.Tally.{Tally}
 use Rattle.xf_small_world.specs.Small.{is_small}
-use Rattle.xf_small_world.specs.Formed.{profile}
+use Rattle.xf_processor.specs.Formed.{profile}
 use Rattle.xf_small_world.specs.State.{standing}
 use Rattle.xf_small_world.proofs.SmallLaws.{no-repeats, no-repeats-around}
 

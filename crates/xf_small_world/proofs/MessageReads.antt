@@ -11,7 +11,7 @@ use Rattle.xf_form_machine.specs.State.{State}
 use Rattle.xf_form_machine.specs.Surround.{quiet}
 use Rattle.xf_actions.specs.Texts.{message_text}
 use Rattle.xf_small_world.specs.declared.world.SmallWorld.{SmallWorld}
-use Rattle.xf_small_world.specs.Formed.{profile}
+use Rattle.xf_processor.specs.Formed.{profile}
 use Rattle.xf_small_world.specs.State.{state_of}
 use Rattle.xf_small_world.proofs.RowLaws.{inside-rows, text-rows, with_rows}
 use Rattle.xf_small_world.proofs.SmallLaws.{is-no_repeat}

@@ -8,7 +8,7 @@ use Rattle.xf_form_machine.specs.Primitives.{add_note}
 use Rattle.xf_form_machine.specs.Refusal.{limit, if_over, unless_passed}
 use Rattle.xf_form_machine.specs.State.{State}
 use Rattle.xf_actions.specs.Performs.{Refuses, RefusedAs}
-use Rattle.xf_small_world.specs.Formed.{profile}
+use Rattle.xf_processor.specs.Formed.{profile}
 
 module _ (s : State) (note : Note) where
   abbrev after : List Note

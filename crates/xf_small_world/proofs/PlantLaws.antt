@@ -21,7 +21,7 @@ use Rattle.xf_loader.specs.Data.{lit_at}
 use Rattle.xf_loader.specs.declared.loaded.Loaded.{Loaded}
 use Rattle.xf_small_forest.specs.Documents.{Document, all_rooted, rooted}
 use Rattle.xf_small_world.specs.Planting.{ArePlanted, IsPlanted, growing}
-use Rattle.xf_small_world.specs.Formed.{contents_in, document_of, profile}
+use Rattle.xf_processor.specs.Formed.{contents_in, document_of, profile}
 use Rattle.xf_small_forest.proofs.GrowLaws.{IsGrown, grown-tree, rooted-tree, without-fault}
 use Rattle.xf_small_forest.proofs.LitLaws.{lit-document}
 

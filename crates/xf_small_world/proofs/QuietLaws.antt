@@ -43,7 +43,7 @@ use Rattle.xf_small_world.specs.declared.model.ModelState.{ModelState}
 use Rattle.xf_small_world.specs.declared.tally.Tally.{Tally}
 use Rattle.xf_small_world.specs.Models.{models_of}
 use Rattle.xf_small_world.specs.Small.{is_small}
-use Rattle.xf_small_world.specs.Formed.{profile}
+use Rattle.xf_processor.specs.Formed.{profile}
 use Rattle.xf_small_world.specs.State.{standing}
 use Rattle.xf_small_world.proofs.SmallLaws.{is_bare, bare-at, is-no_control, no-binds, no-repeats, no-repeats-around}
 

@@ -23,7 +23,7 @@ use Rattle.xf_small_world.specs.declared.world.SmallWorld.{SmallWorld}
 use Rattle.xf_small_world.specs.Fault.{means, fault_of}
 use Rattle.xf_small_world.specs.Over.{around_of, whole_worth}
 use Rattle.xf_small_world.specs.Small.{is_small}
-use Rattle.xf_small_world.specs.Formed.{profile}
+use Rattle.xf_processor.specs.Formed.{profile}
 use Rattle.xf_small_world.specs.State.{state_of}
 use Rattle.xf_small_world.proofs.AroundLaws.{around-world}
 use Rattle.xf_small_world.proofs.SmallLaws.{no-repeats-around}

@@ -30,7 +30,7 @@ use Rattle.xf_small_world.specs.declared.tally.Tally.{Tally}
 use Rattle.xf_small_world.specs.Fault.{means}
 use Rattle.xf_small_world.specs.Growing.{IsGrown, fault_of_tree}
 use Rattle.xf_small_world.specs.Models.{models_of}
-use Rattle.xf_small_world.specs.Formed.{profile}
+use Rattle.xf_processor.specs.Formed.{profile}
 use Rattle.xf_small_world.specs.State.{standing}
 use Rattle.xf_small_world.proofs.QuietLaws.{counted, holding-none, no-entries, sized}
 

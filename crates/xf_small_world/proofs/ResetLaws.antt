@@ -39,7 +39,7 @@ use Rattle.xf_small_world.specs.Around.{document_below}
 use Rattle.xf_small_world.specs.Fault.{means}
 use Rattle.xf_small_world.specs.Growing.{fault_of_tree}
 use Rattle.xf_small_forest.specs.Documents.{Document}
-use Rattle.xf_small_world.specs.Formed.{contents_in, profile, program_in}
+use Rattle.xf_processor.specs.Formed.{contents_in, profile, program_in}
 use Rattle.xf_small_world.specs.Planting as planting
 use Rattle.xf_small_world.specs.State.{state_of}
 use Rattle.xf_small_forest.proofs.GrowLaws.{without-fault}

@@ -8,7 +8,7 @@ use Rattle.xf_small_world.specs.declared.beginning.Ground.{Ground}
 use Rattle.xf_small_world.specs.declared.world.SmallWorld.{SmallWorld}
 use Rattle.xf_small_world.specs.Models.{models_of}
 use Rattle.xf_small_world.specs.Small.{is_small}
-use Rattle.xf_small_world.specs.Formed.{document_of, profile, program_in}
+use Rattle.xf_processor.specs.Formed.{document_of, profile, program_in}
 use Rattle.xf_small_world.specs.Planting.{ArePlanted}
 use Rattle.xf_small_world.specs.State.{state_of}
 

@@ -3,7 +3,6 @@ pub mod Small
 pub mod Models
 pub mod Notes
 pub mod Places
-pub mod Formed
 pub mod State
 pub mod Around
 pub mod Over

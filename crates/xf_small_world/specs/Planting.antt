@@ -9,7 +9,7 @@ use Rattle.xf_small_forest.specs.Documents.{AreDocuments, Document, IsDocument, 
 use Rattle.xf_form_machine.specs.Construct.{construct, first_contents, plant_document, unbuilt}
 use Rattle.xf_form_machine.specs.Flow.{in_turn}
 use Rattle.xf_form_machine.specs.State.{State}
-use Rattle.xf_small_world.specs.Formed.{document_of, profile, program_in}
+use Rattle.xf_processor.specs.Formed.{document_of, profile, program_in}
 
 -- ---- as they are planted
 

@@ -7,7 +7,7 @@ use Rattle.xf_form_machine.specs.State.{State}
 use Rattle.xf_small_world.specs.declared.model.ModelState.{ModelState}
 use Rattle.xf_small_world.specs.declared.tally.Tally.{Tally}
 use Rattle.xf_small_world.specs.declared.world.SmallWorld.{SmallWorld}
-use Rattle.xf_small_world.specs.Formed.{program_in}
+use Rattle.xf_processor.specs.Formed.{program_in}
 use Rattle.xf_small_world.specs.Models.{models_of}
 
 abbrev pub standing : Loaded → Forest → List ModelState → List Note → Tally → State

@@ -11,7 +11,7 @@ ghost use Rattle.xf_actions.specs.Performs.{Makes, Reads, Runs};
 ghost use Rattle.xf_actions.specs.Seen.{fired_of};
 ghost use Rattle.xf_actions.specs.Told.{cleared_by, refreshed};
 ghost use Rattle.xf_small_world.specs.Fault.{means};
-ghost use Rattle.xf_small_world.specs.Formed.{profile};
+ghost use Rattle.xf_processor.specs.Formed.{profile};
 ghost use Rattle.xf_small_world.specs.State.{state_of};
 
 use crate::fault::SmallFault;

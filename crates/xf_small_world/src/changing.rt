@@ -5,7 +5,7 @@ ghost use Rattle.xf_form_machine.specs.Primitives.{attach as attached, copy as c
 ghost use Rattle.xf_actions.specs.Performs.{Makes, Reads, Runs};
 ghost use Rattle.xf_actions.specs.Texts.{settable};
 ghost use Rattle.xf_small_world.specs.Fault.{means};
-ghost use Rattle.xf_small_world.specs.Formed.{profile};
+ghost use Rattle.xf_processor.specs.Formed.{profile};
 ghost use Rattle.xf_small_world.specs.State.{state_of};
 
 use crate::fault::SmallFault;

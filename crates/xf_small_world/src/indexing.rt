@@ -9,7 +9,7 @@ ghost use Rattle.xf_form_machine.specs.Choose.{set_index as index_set};
 ghost use Rattle.xf_actions.specs.Performs.{Runs};
 ghost use Rattle.xf_small_world.specs.Fault.{means};
 ghost use Rattle.xf_small_world.specs.Over.{around_over};
-ghost use Rattle.xf_small_world.specs.Formed.{profile};
+ghost use Rattle.xf_processor.specs.Formed.{profile};
 ghost use Rattle.xf_small_world.specs.State.{state_of};
 
 use crate::binding::{binding_at, over_quiet};

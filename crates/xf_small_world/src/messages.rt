@@ -14,7 +14,7 @@ ghost use Rattle.xf_small_world.specs.Fault.{means};
 ghost use Rattle.xf_small_world.specs.Inside.{seen_context, seen_inside};
 ghost use Rattle.xf_small_world.specs.Messages as messages;
 ghost use Rattle.xf_small_world.specs.Over.{around_over};
-ghost use Rattle.xf_small_world.specs.Formed.{profile};
+ghost use Rattle.xf_processor.specs.Formed.{profile};
 ghost use Rattle.xf_small_world.specs.State.{state_of};
 
 use crate::binding::{binding_at, over_event, over_quiet};

@@ -4,7 +4,7 @@ ghost use Rattle.std.specs.Prelude.{◌≡◌};
 ghost use Rattle.xf_form_machine.specs.Primitives.{add_note as noted};
 ghost use Rattle.xf_actions.specs.Performs.{Runs};
 ghost use Rattle.xf_small_world.specs.Fault.{means};
-ghost use Rattle.xf_small_world.specs.Formed.{profile};
+ghost use Rattle.xf_processor.specs.Formed.{profile};
 ghost use Rattle.xf_small_world.specs.State.{state_of};
 
 use crate::fault::SmallFault;

@@ -19,7 +19,7 @@ use xf_store::Store;
 use xf_ui::CallList;
 
 impl World for SmallWorld {
-    ghost use Rattle.xf_small_world.specs.Formed.{profile};
+    ghost use Rattle.xf_processor.specs.Formed.{profile};
     ghost use Rattle.xf_small_world.specs.State.{state_of};
 
     type Fault = SmallFault;

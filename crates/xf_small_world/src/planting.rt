@@ -3,7 +3,7 @@
 ghost use Rattle.std.specs.Prelude.{◌≡◌, [], map, IfOk};
 ghost use Rattle.xf_doc.specs.Changes.{in_detached};
 ghost use Rattle.xf_small_world.specs.Planting.{ArePlanted, IsPlanted};
-ghost use Rattle.xf_small_world.specs.Formed.{document_of};
+ghost use Rattle.xf_processor.specs.Formed.{document_of};
 
 use crate::fault::SmallFault;
 use crate::growing::{MADE, NUMBERS, fault_of_tree};

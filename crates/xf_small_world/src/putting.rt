@@ -6,7 +6,7 @@ ghost use Rattle.xf_form_machine.specs.Primitives.{plant as planted};
 ghost use Rattle.xf_actions.specs.Performs.{Makes, Runs};
 ghost use Rattle.xf_small_world.specs.Fault.{means};
 ghost use Rattle.xf_small_world.specs.Planting.{document_at};
-ghost use Rattle.xf_small_world.specs.Formed.{profile};
+ghost use Rattle.xf_processor.specs.Formed.{profile};
 ghost use Rattle.xf_small_world.specs.State.{state_of};
 
 use crate::around::document;

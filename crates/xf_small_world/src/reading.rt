@@ -9,7 +9,7 @@ ghost use Rattle.xf_actions.specs.Performs.{Reads};
 ghost use Rattle.xf_actions.specs.Seen.{acting_of, fired_of, focus_of};
 ghost use Rattle.xf_actions.specs.Texts.{bound_for};
 ghost use Rattle.xf_small_world.specs.Fault.{means};
-ghost use Rattle.xf_small_world.specs.Formed.{profile};
+ghost use Rattle.xf_processor.specs.Formed.{profile};
 ghost use Rattle.xf_small_world.specs.State.{state_of};
 
 use crate::binding::{binding_at, over_event, over_quiet};

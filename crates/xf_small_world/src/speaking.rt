@@ -11,7 +11,7 @@ ghost use Rattle.xf_actions.specs.Seen.{acting_of, focus_of};
 ghost use Rattle.xf_small_world.specs.Fault.{means};
 ghost use Rattle.xf_small_forest.specs.Numbers.{number};
 ghost use Rattle.xf_small_world.specs.Over.{around_over, string_in};
-ghost use Rattle.xf_small_world.specs.Formed.{profile};
+ghost use Rattle.xf_processor.specs.Formed.{profile};
 ghost use Rattle.xf_small_world.specs.State.{state_of};
 
 use crate::binding::{binding_at, over_event};

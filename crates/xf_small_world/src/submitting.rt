@@ -6,7 +6,7 @@ ghost use Rattle.xf_actions.specs.Defaulted.{submitted, told_by_end};
 ghost use Rattle.xf_actions.specs.Performs.{LeavesOver, Reads};
 ghost use Rattle.xf_actions.specs.Seen.{concluded_of, ending_of, fired_of};
 ghost use Rattle.xf_small_world.specs.Fault.{means};
-ghost use Rattle.xf_small_world.specs.Formed.{profile};
+ghost use Rattle.xf_processor.specs.Formed.{profile};
 ghost use Rattle.xf_small_world.specs.State.{state_of};
 
 use crate::fault::SmallFault;

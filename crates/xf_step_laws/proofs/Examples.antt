@@ -1,5 +1,5 @@
 -- An event over a state with other numbers of nodes, and what comes where a premise of the laws is wanting.
-use Rattle.std.proofs.Common.{◌≡◌, ℕ, ◌+◌, zero, List, [], ◌∷◌, map, length, Option, Some, None, Result, Ok, Err, refl, ap, codes, if◌then◌else◌}
+use Rattle.std.proofs.Common.{◌≡◌, ℕ, ◌+◌, zero, List, [], ◌∷◌, map, length, Option, Some, Result, Ok, Err, refl, ap, codes, if◌then◌else◌}
 use Rattle.std.specs.Prelude.{◌==◌}
 use Rattle.xf_line.specs.declared.event.Event.{Event}
 use Rattle.xf_line.specs.declared.event.Event.TheVariants.{Activate}

@@ -29,10 +29,10 @@ use Rattle.xf_loader.specs.declared.loaded.Loaded.{Loaded}
 use Rattle.xf_form_machine.specs.State.{State}
 use Rattle.xf_work.specs.declared.flags.Flags.{Flags}
 use Rattle.xf_work.specs.declared.tally.Tally.{Tally}
-use Rattle.xf_form_machine.specs.Surround.{document_in, document_under, document_at, documents, given, instances_in, scope}
+use Rattle.xf_form_machine.specs.Surround.{document_in, document_under, document_at, documents, given, instances_in, bind_scope}
 use Rattle.xf_work.specs.Around.{document_below, documents_from, documents_by, given_by, given_in, AreThere}
-use Rattle.xf_work.specs.Does.{profile}
-use Rattle.xf_work.specs.Parts.{IsLoaded, standing_of}
+use Rattle.xf_processor.specs.Formed.{profile}
+use Rattle.xf_work.specs.Parts.{standing_of}
 use Rattle.xf_work.specs.Standing.{Standing, state_of}
 
 -- ---- children
@@ -83,16 +83,17 @@ abbrev with_repeats : Interface → List ℕ → Interface
 with_repeats f rs = record f { repeats = rs }
 
 -- outside an event, where no form has repeats
-pub given-same : (s : Standing) → is_plain (interface_of s.form) ≡ true → given profile (state_of s) None ≡ given_in s.form.tables.instances s.prefixes s.forest
+pub given-same : (s : Standing) → is_plain (interface_of s.form) ≡ true → given (state_of s) None ≡ given_in s.form.tables.instances s.prefixes s.form.decimals s.forest
 given-same s plain =
-    ap (λ ds. record (given profile (state_of s) None) { documents = ds }) (documents-same (state_of s))
-    ∙ ap (λ rs. record (given_in s.form.tables.instances s.prefixes s.forest) { indexes = named_indexes (with_repeats (interface_of s.form) rs) [] }) (repeats-none (interface_of s.form) plain)
+    ap (λ ds. record (given (state_of s) None) { documents = ds }) (documents-same (state_of s))
+    ∙ ap (λ rs. record (given_in s.form.tables.instances s.prefixes s.form.decimals s.forest) { indexes = named_indexes (with_repeats (interface_of s.form) rs) [] }) (repeats-none (interface_of s.form) plain)
 
 -- what the binds of a model share
-pub scope-same : (loaded : Loaded) → IsLoaded loaded → (forest : Forest) (model : ℕ) (table : List Kept) (flags : List Flags) (controls : List ControlCopy) (tally : Tally)
-    → scope profile (state_of (standing_of loaded forest table flags controls tally)) model ≡ scope_of called (given_in loaded.form.tables.instances loaded.prefixes forest) loaded.form.tables model
-scope-same loaded is forest model table flags controls tally =
-    ap (λ g. scope_of called g loaded.form.tables model) (given-same (standing_of loaded forest table flags controls tally) is.plain)
+pub scope-same : (loaded : Loaded) (forest : Forest) (model : ℕ) (table : List Kept) (flags : List Flags) (controls : List ControlCopy) (tally : Tally)
+    → bind_scope profile (state_of (standing_of loaded forest table flags controls tally)) model ≡ scope_of called (given_in loaded.form.tables.instances loaded.prefixes loaded.form.decimals forest) loaded.form.tables model
+scope-same loaded forest model table flags controls tally =
+    ap (λ ds. scope_of called (record (given_in loaded.form.tables.instances loaded.prefixes loaded.form.decimals forest) { documents = ds }) loaded.form.tables model)
+    (documents-same (state_of (standing_of loaded forest table flags controls tally)))
 
 -- ---- they stand
 
@@ -124,8 +125,8 @@ document-live : (model : ℕ) (id : List ℕ) (is : List Instance) (ds : List (O
 document-live model [] is ds nodes h = find-live (λ (d : Document). d.model == model) is ds nodes h
 document-live model (c ∷ cs) is ds nodes h = find-live (λ (d : Document). (d.model == model) && bytes_eq d.id (c ∷ cs)) is ds nodes h
 
-pub around-stands : (is : List Instance) (b : Bindings) (nodes : List Node) (ds : List (Option ℕ)) → ds ≡ documents_from 0 is nodes → AroundStands (given_by is b ds) nodes
-around-stands is b nodes ds e = record {
+pub around-stands : (is : List Instance) (b : Bindings) (d : ℕ) (nodes : List Node) (ds : List (Option ℕ)) → ds ≡ documents_from 0 is nodes → AroundStands (given_by is b d ds) nodes
+around-stands is b d nodes ds e = record {
   documents = λ model id. document-live model id is ds nodes (subst (λ l. AreThere l nodes) (sym e) (all-there 0 is nodes));
   event = λ name. refl;
 }

@@ -11,7 +11,7 @@ use Rattle.xf_undo.specs.Draft.{Draft, alone, kept_as}
 use Rattle.xf_work.specs.declared.flags.Flags.{Flags}
 use Rattle.xf_work.specs.declared.tally.Tally.{Tally}
 use Rattle.xf_work.specs.Built.{IsWhole}
-use Rattle.xf_work.specs.Does.{profile}
+use Rattle.xf_processor.specs.Formed.{profile}
 use Rattle.xf_work.specs.Parts.{IsSound, standing_of}
 use Rattle.xf_work.specs.Standing.{Standing, state_of}
 use Rattle.xf_work.specs.Tally.{begun}

@@ -5,7 +5,7 @@ use Rattle.xf_ast.specs.declared.form.Instance.{Instance}
 use Rattle.xf_doc.specs.Forest.{Forest}
 use Rattle.xf_work.specs.Around.{documents_from, given_by, given_in}
 
-pub given-found : (instances found : List Instance) (b : Bindings) (forest : Forest) (ds : List (Option ℕ)) → found ≡ instances → ds ≡ documents_from 0 found forest.nodes
-    → given_by found b ds ≡ given_in instances b forest
-given-found instances found b forest ds i e =
-    ap (λ l. given_by found b l) e ∙ ap (λ l. given_by l b (documents_from 0 l forest.nodes)) i
+pub given-found : (instances found : List Instance) (b : Bindings) (d : ℕ) (forest : Forest) (ds : List (Option ℕ)) → found ≡ instances → ds ≡ documents_from 0 found forest.nodes
+    → given_by found b d ds ≡ given_in instances b d forest
+given-found instances found b d forest ds i e =
+    ap (λ l. given_by found b d l) e ∙ ap (λ l. given_by l b d (documents_from 0 l forest.nodes)) i

@@ -18,7 +18,6 @@ use Rattle.xf_model.specs.Rules.{scope_of}
 use Rattle.xf_agree.specs.Hung.{are_hung}
 use Rattle.xf_agree.specs.Settles.{IsSolid}
 use Rattle.xf_agree.proofs.HungLaws.{hung_forest}
-use Rattle.xf_eval.specs.Worth.{with_six}
 use Rattle.xf_ui.specs.Copies.{node_of}
 use Rattle.xf_ui.specs.Interface.{interface_of}
 use Rattle.xf_bound_laws.specs.OneShape.{HaveOneShape}
@@ -51,7 +50,7 @@ solid-live forest n trees s =
 module _ (l : Loaded) (before after : Forest) (b : HasTrees before) (a : HasTrees after) (hung : are_hung before.nodes ≡ true) (hung_too : are_hung after.nodes ≡ true)
     (same : shape_of after.nodes ≡ shape_of before.nodes) where
   abbrev given : Given
-  given = with_six (given_in l.form.tables.instances l.prefixes before)
+  given = given_in l.form.tables.instances l.prefixes l.form.decimals before
 
   abbrev first : ℕ → Option (List ℕ)
   first k = nested (Some string_limit) (scope_of called given l.form.tables 0) (visits before.nodes) k
@@ -67,12 +66,12 @@ module _ (l : Loaded) (before after : Forest) (b : HasTrees before) (a : HasTree
     hung_too = hung_forest after a hung_too;
     shape = sym same;
     documents = λ model id n e. document-solid before b (hung_forest before b hung) l.form.tables.instances model id n e;
-    truths = λ code ps p e f. truthful code e ps p f;
+    truths = λ code ps p e f. truthful l.form.decimals code e ps p f;
   }
 
-  around-same : around_over l after ≡ around_in (given_in l.form.tables.instances l.prefixes before) l.form.tables after.nodes
+  around-same : around_over l after ≡ around_in (given_in l.form.tables.instances l.prefixes l.form.decimals before) l.form.tables after.nodes
   around-same =
-      ap (λ ds. around_in (given_by l.form.tables.instances l.prefixes ds) l.form.tables after.nodes) (documents-same l.form.tables.instances before after b a hung hung_too same)
+      ap (λ ds. around_in (given_by l.form.tables.instances l.prefixes l.form.decimals ds) l.form.tables after.nodes) (documents-same l.form.tables.instances before after b a hung hung_too same)
 
   solid-after : (known : List Known) → AreHeld (interface_of l.form) (around_over l before) known → AreSolid (visits after.nodes) known
   solid-after known h n k e = node_stands called (Some string_limit) given before after first (interface_of l.form) n k.number one (h.fixed n (Some k) e) (h.node n (Some k) e)

@@ -150,21 +150,21 @@ may-be_passed l forest table (Some known) model marks h is place e got passed co
 
 -- ---- the expressions of a form that is loaded
 
-covered : (b : Bindings) (o : Option Expr) → IsReadStatic b o → calculate_covered o ≡ true
-covered b None h = refl
-covered b (Some expr) h = static_covered expr (read_as_made 6 b h.0 expr h.1) h.2
+covered : (d : ℕ) (b : Bindings) (o : Option Expr) → IsReadStatic d b o → calculate_covered o ≡ true
+covered d b None h = refl
+covered d b (Some expr) h = static_covered expr (read_as_made d b h.0 expr h.1) h.2
 
-all-covered : (b : Bindings) (binds : List Bind) → AllReadStatic b binds → AllOf (λ (bind : Bind). AreCoveredIn bind.properties) binds
-all-covered b [] h = tt
-all-covered b (bind ∷ binds) h = (
+all-covered : (d : ℕ) (b : Bindings) (binds : List Bind) → AllReadStatic d b binds → AllOf (λ (bind : Bind). AreCoveredIn bind.properties) binds
+all-covered d b [] h = tt
+all-covered d b (bind ∷ binds) h = (
   record {
-    calculate = covered b bind.properties.calculate h.0.calculate;
-    relevant = covered b bind.properties.relevant h.0.relevant;
-    readonly = covered b bind.properties.readonly h.0.readonly;
-    required = covered b bind.properties.required h.0.required;
-    constraint = covered b bind.properties.constraint h.0.constraint;
+    calculate = covered d b bind.properties.calculate h.0.calculate;
+    relevant = covered d b bind.properties.relevant h.0.relevant;
+    readonly = covered d b bind.properties.readonly h.0.readonly;
+    required = covered d b bind.properties.required h.0.required;
+    constraint = covered d b bind.properties.constraint h.0.constraint;
   },
-  all-covered b binds h.1,
+  all-covered d b binds h.1,
 )
 
 -- ---- a recalculation
@@ -177,7 +177,7 @@ module _ (l : Loaded) (forest : Forest) (model : ℕ) (k : Kept) (is : IsLoaded 
   standing-all : standing forest ≡ visits forest.nodes
   standing-all = ap visits (all-instances forest.nodes alone)
 
-  pub is-due : IsDue bounds called (given_in l.form.tables.instances l.prefixes forest) l.form.tables model forest k.entries
+  pub is-due : IsDue bounds called (given_in l.form.tables.instances l.prefixes l.form.decimals forest) l.form.tables model forest k.entries
   is-due = record {
     covered = are-covered l is;
     around = surrounds l forest model trees hung small;
@@ -187,11 +187,11 @@ module _ (l : Loaded) (forest : Forest) (model : ℕ) (k : Kept) (is : IsLoaded 
     no_event = refl;
     hung = hung;
     instances = λ id n e. subst (λ vs. IsSolid vs n) (sym standing-all) (document-solid forest trees (hung_forest forest trees hung) l.form.tables.instances model id n e);
-    stand = entries_stand bounds called (given_in l.form.tables.instances l.prefixes forest) l.form.tables model forest k.entries (are-covered l is) (surrounds l forest model trees hung small) built.applies alone;
+    stand = entries_stand bounds called (given_in l.form.tables.instances l.prefixes l.form.decimals forest) l.form.tables model forest k.entries (are-covered l is) (surrounds l forest model trees hung small) built.applies alone;
     room = let c = few in grind (arith, nat_tests, small, c);
   }
 
-  pub are-passed : (marks : List Bool) → MayBePassed l forest model k marks → ArePassed (given_in l.form.tables.instances l.prefixes forest) l.form.tables model forest k marks
+  pub are-passed : (marks : List Bool) → MayBePassed l forest model k marks → ArePassed (given_in l.form.tables.instances l.prefixes l.form.decimals forest) l.form.tables model forest k marks
   are-passed marks may place e got passed computed =
       let p = may place e got passed computed in
       let r = p.0 in
@@ -201,18 +201,18 @@ module _ (l : Loaded) (forest : Forest) (model : ℕ) (k : Kept) (is : IsLoaded 
         was = r.was;
         since = record { due = is-due; carried = r.carried; stood = r.stood };
         stood = r.same;
-        covered = all-covered l.prefixes l.form.tables.binds (loaded_static is.bytes l is.read);
+        covered = all-covered l.form.decimals l.prefixes l.form.tables.binds (loaded_static is.bytes l is.read);
         outside = subst (λ (vs : List Valued). IsOutside (scope_at l forest model) forest (record { texts = k.texts; lists = k.lists; stood = map (λ v. v.entry) vs }) k.entries e) (sym r.same) p.1;
       }
 
   -- what it leaves is known
-  module _ (after : Forest) (truths : List (Option Bool)) (s : IsSettled (scope_at l forest model) k.entries forest after truths) (may : MaySettle (given_in l.form.tables.instances l.prefixes forest) l.form.tables model forest k.entries)
+  module _ (after : Forest) (truths : List (Option Bool)) (s : IsSettled (scope_at l forest model) k.entries forest after truths) (may : MaySettle (given_in l.form.tables.instances l.prefixes l.form.decimals forest) l.form.tables model forest k.entries)
       (trees_after : HasTrees after) where
     abbrev scope : Scope
     scope = scope_at l forest model
 
     abbrev then_now : Forest
-    then_now = settled_now bounds called (given_in l.form.tables.instances l.prefixes forest) l.form.tables model forest k.entries
+    then_now = settled_now bounds called (given_in l.form.tables.instances l.prefixes l.form.decimals forest) l.form.tables model forest k.entries
 
     nodes-are : after.nodes ≡ then_now.nodes
     nodes-are = ap (λ (x : Forest). x.nodes) s.written ∙ sym (all-written forest.next (contents_in scope k.entries forest) forest.nodes)
@@ -220,15 +220,15 @@ module _ (l : Loaded) (forest : Forest) (model : ℕ) (k : Kept) (is : IsLoaded 
     after-is : after ≡ then_now
     after-is = s.written ∙ ap (λ ns. record { nodes = ns; next = forest.next + length (contents_in scope k.entries forest) }) (sym (all-written forest.next (contents_in scope k.entries forest) forest.nodes))
 
-    since : Since (λ n. n) (under then_now.next) [] [] bounds called (given_in l.form.tables.instances l.prefixes forest) l.form.tables model
-        (then_of bounds called (given_in l.form.tables.instances l.prefixes forest) l.form.tables model then_now k.entries) then_now k.entries
-    since = since_anew_law bounds called (given_in l.form.tables.instances l.prefixes forest) l.form.tables model forest k.entries is-due s.within (let c = few in grind (arith, nat_tests, small, c))
+    since : Since (λ n. n) (under then_now.next) [] [] bounds called (given_in l.form.tables.instances l.prefixes l.form.decimals forest) l.form.tables model
+        (then_of bounds called (given_in l.form.tables.instances l.prefixes l.form.decimals forest) l.form.tables model then_now k.entries) then_now k.entries
+    since = since_anew_law bounds called (given_in l.form.tables.instances l.prefixes l.form.decimals forest) l.form.tables model forest k.entries is-due s.within (let c = few in grind (arith, nat_tests, small, c))
 
     core : IsRemembered scope then_now (recalculated truths k)
     core = record {
       f = λ n. n;
       taken = under then_now.next;
-      was = then_of bounds called (given_in l.form.tables.instances l.prefixes forest) l.form.tables model then_now k.entries;
+      was = then_of bounds called (given_in l.form.tables.instances l.prefixes l.form.decimals forest) l.form.tables model then_now k.entries;
       carried = since.carried;
       stood = since.stood;
       same = ap (λ nodes. map truly (values_over bounds scope k.entries (visits nodes))) (sym nodes-are) ∙ sym s.values;
@@ -238,7 +238,7 @@ module _ (l : Loaded) (forest : Forest) (model : ℕ) (k : Kept) (is : IsLoaded 
 
     scope-same : scope_at l after model ≡ scope
     scope-same =
-        let still = written-still all_done forest.next (contents_in scope k.entries forest) forest (may-write (given_in l.form.tables.instances l.prefixes forest) l.form.tables model forest k.entries may) hung in
+        let still = written-still all_done forest.next (contents_in scope k.entries forest) forest (may-write (given_in l.form.tables.instances l.prefixes l.form.decimals forest) l.form.tables model forest k.entries may) hung in
         scope-still l forest after trees trees_after [] 0 hung (record { shaped = ap shape_of nodes-are ∙ still.shaped; hung = ap are_hung nodes-are ∙ still.hung }) model
 
     pub known-anew : IsRemembered (scope_at l after model) after (recalculated truths k)

@@ -23,19 +23,19 @@ use Rattle.xf_work.specs.Parts.{IsLoaded}
 use Rattle.xf_work.proofs.SolidLaws.{documents-solid}
 use Rattle.xf_work.proofs.SurroundLaws.{surrounds}
 
-read-static : (b : Bindings) (binds : List Bind) → AllReadStatic b binds → AllOf (λ (bind : Bind). IsReadStatic 6 b bind.properties.calculate) binds
-read-static b [] h = tt
-read-static b (bind ∷ binds) h = (by bind.properties.calculate h.0.calculate, read-static b binds h.1)
+read-static : (d : ℕ) (b : Bindings) (binds : List Bind) → AllReadStatic d b binds → AllOf (λ (bind : Bind). IsReadStatic d b bind.properties.calculate) binds
+read-static d b [] h = tt
+read-static d b (bind ∷ binds) h = (by bind.properties.calculate h.0.calculate, read-static d b binds h.1)
   where
-    by : (o : Option Expr) → loader.IsReadStatic b o → IsReadStatic 6 b o
+    by : (o : Option Expr) → loader.IsReadStatic d b o → IsReadStatic d b o
     by None i = i
     by (Some expr) i = i
 
 pub are-covered : (l : Loaded) → IsLoaded l → AreCovered l.form.tables
-are-covered l is = form_covered 6 l.prefixes l.form.tables (read-static l.prefixes l.form.tables.binds (loaded_static is.bytes l is.read))
+are-covered l is = form_covered l.form.decimals l.prefixes l.form.tables (read-static l.form.decimals l.prefixes l.form.tables.binds (loaded_static is.bytes l is.read))
 
 pub may-settle : (l : Loaded) (forest : Forest) (model : ℕ) (k : Kept) → IsLoaded l → HasTrees forest → are_hung forest.nodes ≡ true → forest.next < 2 ^ 126 → IsBuilt (scope_at l forest model) forest.nodes k
-    → MaySettle (given_in l.form.tables.instances l.prefixes forest) l.form.tables model forest k.entries
+    → MaySettle (given_in l.form.tables.instances l.prefixes l.form.decimals forest) l.form.tables model forest k.entries
 may-settle l forest model k is trees hung small built = record {
   covered = are-covered l is;
   around = surrounds l forest model trees hung small;

@@ -30,8 +30,8 @@ use Rattle.xf_loader.specs.declared.loaded.Loaded.{Loaded}
 use Rattle.xf_form_machine.specs.declared.refusal.Refusal.TheVariants.{Limit}
 use Rattle.xf_work.specs.declared.fault.WorkFault.{WorkFault}
 use Rattle.xf_work.specs.declared.fault.WorkFault.TheVariants as work
-use Rattle.xf_work.specs.Does.{IsRefused, profile}
-use Rattle.xf_work.specs.Documents.{contents_in}
+use Rattle.xf_processor.specs.Formed.{profile, contents_in}
+use Rattle.xf_work.specs.Does.{IsRefused}
 use Rattle.xf_work.specs.Planting.{Grows, IsPlanted, document_in, fault_of, growing}
 use Rattle.xf_work.proofs.DeepLaws.{none-rooted, planted-apart}
 use Rattle.xf_work.proofs.RootedLaws.{rooted-hung}

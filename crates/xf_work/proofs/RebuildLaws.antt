@@ -10,7 +10,7 @@ use Rattle.xf_model.specs.Rules.{Scope, scope_of}
 use Rattle.xf_model.specs.Applied.{Entry, Exception, twice, on_parent, applied}
 use Rattle.xf_model.specs.Circular.{Reader, calculated, dependents}
 use Rattle.xf_form_machine.specs.Cycles.{reported_cycle}
-use Rattle.xf_form_machine.specs.Surround.{scope}
+use Rattle.xf_form_machine.specs.Surround.{bind_scope}
 use Rattle.xf_form_machine.specs.Primitives.{in_model}
 use Rattle.xf_form_machine.specs.Behave as machine
 use Rattle.xf_form_machine.specs.Behave.{rebuilt_with}
@@ -32,7 +32,8 @@ use Rattle.xf_work.specs.declared.fault.WorkFault.{WorkFault}
 use Rattle.xf_work.specs.declared.fault.WorkFault.TheVariants as fault
 use Rattle.xf_work.specs.Around.{given_in}
 use Rattle.xf_work.specs.Calls.{rebuilt_flags}
-use Rattle.xf_work.specs.Does.{Does, IsRefused, profile}
+use Rattle.xf_processor.specs.Formed.{profile}
+use Rattle.xf_work.specs.Does.{Does, IsRefused}
 use Rattle.xf_work.specs.Parts.{IsLoaded, standing_of}
 use Rattle.xf_work.specs.Standing.{Standing, state_of}
 use Rattle.xf_work.specs.Told.{IsSaid, IsTold}
@@ -92,10 +93,10 @@ module _ (loaded : Loaded) (is : IsLoaded loaded) (forest : Forest) (model : ℕ
   before = standing_of loaded forest table flags controls tally
 
   abbrev surroundings : Scope
-  surroundings = scope_of called (given_in loaded.form.tables.instances loaded.prefixes forest) loaded.form.tables model
+  surroundings = scope_of called (given_in loaded.form.tables.instances loaded.prefixes loaded.form.decimals forest) loaded.form.tables model
 
-  here-same : scope profile (state_of before) model ≡ surroundings
-  here-same = scope-same loaded is forest model table flags controls tally
+  here-same : bind_scope profile (state_of before) model ≡ surroundings
+  here-same = scope-same loaded forest model table flags controls tally
 
   pub rebuild-told : machine.rebuild profile model (state_of before) ≡ told model (state_of before) (rebuilt surroundings forest.nodes table)
   rebuild-told =

@@ -17,7 +17,7 @@ use Rattle.xf_form_machine.specs.declared.limit.LimitWord.TheVariants as word
 use Rattle.xf_form_machine.specs.State.{Model, State}
 use Rattle.xf_form_machine.specs.Refusal.{Refused, if_over, unless_passed, word_of}
 use Rattle.xf_form_machine.specs.Flow.{◌>>=◌}
-use Rattle.xf_form_machine.specs.Surround.{scope}
+use Rattle.xf_form_machine.specs.Surround.{bind_scope}
 use Rattle.xf_form_machine.specs.Primitives.{changed_at, in_model, over_made}
 use Rattle.xf_form_machine.specs.Behave as machine
 use Rattle.xf_form_machine.specs.Behave.{changes_of, evaluated_more, model_at, recalculated_with, settled_in}
@@ -35,7 +35,8 @@ use Rattle.xf_work.specs.declared.flags.Flag.TheVariants.{Recalculate}
 use Rattle.xf_work.specs.declared.flags.Flags.{Flags}
 use Rattle.xf_work.specs.declared.tally.Tally.{Tally}
 use Rattle.xf_work.specs.Built.{scope_at}
-use Rattle.xf_work.specs.Does.{Does, IsRefused, profile}
+use Rattle.xf_processor.specs.Formed.{profile}
+use Rattle.xf_work.specs.Does.{Does, IsRefused}
 use Rattle.xf_work.specs.Flags.{none_due, without}
 use Rattle.xf_work.specs.Grown.{IsGrown, with_more}
 use Rattle.xf_work.specs.Parts.{IsLoaded, model_of, models_of, standing_of}
@@ -137,8 +138,8 @@ module _ (loaded : Loaded) (is : IsLoaded loaded) (forest : Forest) (model : ℕ
   abbrev m : Model
   m = model_of k (get_or flags model none_due)
 
-  scope-is : scope profile s model ≡ x
-  scope-is = scope-same loaded is forest model table flags controls tally
+  scope-is : bind_scope profile s model ≡ x
+  scope-is = scope-same loaded forest model table flags controls tally
 
   there : model < length flags
   there = subst (λ n. model < n) many within
@@ -195,7 +196,7 @@ module _ (loaded : Loaded) (is : IsLoaded loaded) (forest : Forest) (model : ℕ
     settled-is : settled_in profile model k.entries (settled_contents bounds x k.entries (visits forest.nodes)) s
         ≡ state_of (standing_of loaded after (with_kept table model kept) (slice_set flags model (without Recalculate (get_or flags model none_due))) controls tally)
     settled-is =
-        ap (λ f. in_model (recalculated_with (values_over bounds (scope profile s model) k.entries (visits f.nodes))) model (record s { forest = f })) (sym settled.written)
+        ap (λ f. in_model (recalculated_with (values_over bounds (bind_scope profile s model) k.entries (visits f.nodes))) model (record s { forest = f })) (sym settled.written)
         ∙ ap (λ y. in_model (recalculated_with (values y)) model (record s { forest = after })) scope-is
         ∙ ap (λ ms. record s { forest = after; models = ms }) models-are
 

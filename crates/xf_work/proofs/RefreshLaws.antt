@@ -38,7 +38,8 @@ use Rattle.xf_work.specs.declared.tally.Tally.{Tally}
 use Rattle.xf_work.specs.Around.{given_in}
 use Rattle.xf_work.specs.Built.{IsWhole}
 use Rattle.xf_work.specs.Calls.{AreRefreshed, AreShown, Refreshes, Renews, ShowsOthers, long_or_memory}
-use Rattle.xf_work.specs.Does.{Does, Finds, IsRefused, profile}
+use Rattle.xf_processor.specs.Formed.{profile}
+use Rattle.xf_work.specs.Does.{Does, Finds, IsRefused}
 use Rattle.xf_work.specs.Flags.{without_refresh}
 use Rattle.xf_work.specs.Held.{IsHeld, around_over}
 use Rattle.xf_work.specs.Parts.{IsLoaded, standing_of}
@@ -70,11 +71,11 @@ module _ (l : Loaded) (is : IsLoaded l) (forest : Forest) (table : List Kept) (f
   made-steady : (known : List Known) (list : List ControlCopy) → IsHeld l known → AllBound (interface_of l.form) known → is_rising list ≡ true → update.shown profile here ≡ Ok (map seen_copy list) → AreSteady l table list
   made-steady known list held bound rising e = record {
     over = λ other s marks same cases indexes.
-        copies-renewed l.form (given_in l.form.tables.instances l.prefixes forest) (given_in l.form.tables.instances l.prefixes other) forest.nodes other.nodes (marks_in table forest.nodes) marks known list [] cases [] indexes
+        copies-renewed l.form (given_in l.form.tables.instances l.prefixes l.form.decimals forest) (given_in l.form.tables.instances l.prefixes l.form.decimals other) forest.nodes other.nodes (marks_in table forest.nodes) marks known list [] cases [] indexes
         is.plain (record { indexes = refl; event = refl }) (record { indexes = refl; event = refl }) bound
         (held.over forest shaped.trees shaped.hung shaped.shape) (held.over other s.trees s.hung s.shape) (λ n k at. same k.number ∙ alike other s n k at) given.0;
     there = λ other s.
-        copies-there l.form (given_in l.form.tables.instances l.prefixes forest) (given_in l.form.tables.instances l.prefixes other) forest.nodes other.nodes (marks_in table forest.nodes) (marks_in table other.nodes) known list [] [] [] []
+        copies-there l.form (given_in l.form.tables.instances l.prefixes l.form.decimals forest) (given_in l.form.tables.instances l.prefixes l.form.decimals other) forest.nodes other.nodes (marks_in table forest.nodes) (marks_in table other.nodes) known list [] [] [] []
         is.plain (record { indexes = refl; event = refl }) (record { indexes = refl; event = refl }) bound
         (held.over forest shaped.trees shaped.hung shaped.shape) (held.over other s.trees s.hung s.shape) (alike other s) given.0;
     rising = rising;

@@ -22,7 +22,8 @@ use Rattle.xf_work.specs.declared.fault.WorkFault.{WorkFault}
 use Rattle.xf_work.specs.declared.fault.WorkFault.TheVariants as fault
 use Rattle.xf_work.specs.declared.flags.Flags.{Flags}
 use Rattle.xf_work.specs.declared.tally.Tally.{Tally}
-use Rattle.xf_work.specs.Does.{Does, IsRefused, profile}
+use Rattle.xf_processor.specs.Formed.{profile}
+use Rattle.xf_work.specs.Does.{Does, IsRefused}
 use Rattle.xf_work.specs.Flags.{none_due, with_texts}
 use Rattle.xf_work.specs.Grown.{IsGrown, with_more}
 use Rattle.xf_work.specs.Parts.{model_of, models_of, standing_of}

@@ -34,7 +34,8 @@ use Rattle.xf_work.specs.declared.fault.WorkFault.{WorkFault}
 use Rattle.xf_work.specs.declared.fault.WorkFault.TheVariants as fault
 use Rattle.xf_work.specs.Around.{given_in}
 use Rattle.xf_work.specs.Calls.{IsWithin, long_or_memory}
-use Rattle.xf_work.specs.Does.{Finds, IsRefused, profile}
+use Rattle.xf_processor.specs.Formed.{profile}
+use Rattle.xf_work.specs.Does.{Finds, IsRefused}
 use Rattle.xf_work.specs.Parts.{IsLoaded, standing_of}
 use Rattle.xf_work.specs.Standing.{state_of}
 use Rattle.xf_work.proofs.AroundLaws.{given-same}
@@ -55,15 +56,15 @@ module _ (loaded : Loaded) (is : IsLoaded loaded) (forest : Forest) (table : Lis
   }
 
   abbrev listed : Option (List copies.Copy)
-  listed = copies.copies (interface_of loaded.form) (around_in (given_in loaded.form.tables.instances loaded.prefixes forest) loaded.form.tables forest.nodes) (table_marks.marks_in table forest.nodes) [] []
+  listed = copies.copies (interface_of loaded.form) (around_in (given_in loaded.form.tables.instances loaded.prefixes loaded.form.decimals forest) loaded.form.tables forest.nodes) (table_marks.marks_in table forest.nodes) [] []
 
-  around-same : quiet profile here ≡ around_in (given_in loaded.form.tables.instances loaded.prefixes forest) loaded.form.tables forest.nodes
+  around-same : quiet profile here ≡ around_in (given_in loaded.form.tables.instances loaded.prefixes loaded.form.decimals forest) loaded.form.tables forest.nodes
   around-same = ap around_with (given-same (standing_of loaded forest table flags controls tally) is.plain)
 
   pub shown-told : update.shown profile here ≡ (or_long here listed >>= λ list. within_controls profile list here)
   shown-told =
       ap (λ a. or_long here (copies.copies (interface_of loaded.form) a (marks_in here) [] []) >>= λ list. within_controls profile list here) around-same
-      ∙ ap (λ m. or_long here (copies.copies (interface_of loaded.form) (around_in (given_in loaded.form.tables.instances loaded.prefixes forest) loaded.form.tables forest.nodes) m [] []) >>= λ list. within_controls profile list here)
+      ∙ ap (λ m. or_long here (copies.copies (interface_of loaded.form) (around_in (given_in loaded.form.tables.instances loaded.prefixes loaded.form.decimals forest) loaded.form.tables forest.nodes) m [] []) >>= λ list. within_controls profile list here)
       (marks-same loaded forest table flags controls tally many)
 
   pub shown-long : listed ≡ None → update.shown profile here ≡ Err (record { why = limit (Long ∷ []); calls = [] })
@@ -85,7 +86,7 @@ module _ (loaded : Loaded) (is : IsLoaded loaded) (forest : Forest) (table : Lis
   shown-given list h = told-listed listed list (sym shown-told ∙ h)
 
   -- over surroundings that are the same
-  pub listed-same : (g : Given) → g ≡ given_in loaded.form.tables.instances loaded.prefixes forest
+  pub listed-same : (g : Given) → g ≡ given_in loaded.form.tables.instances loaded.prefixes loaded.form.decimals forest
       → copies.copies (interface_of loaded.form) (around_in g loaded.form.tables forest.nodes) (table_marks.marks_in table forest.nodes) [] [] ≡ listed
   listed-same g e = ap (λ h. copies.copies (interface_of loaded.form) (around_in h loaded.form.tables forest.nodes) (table_marks.marks_in table forest.nodes) [] []) e
 

@@ -55,16 +55,17 @@ asking-at P code (f ∷ fs) (suc k) h e =
     let same : suc code + k ≡ code + suc k = omega arith in
     subst P same (asking-at P (suc code) fs k (asking-rest (P code) (EachAsking P (suc code) fs) (is_asking f) h) e)
 
-abbrev pub Truthful : ℕ → Type 0
-Truthful code = (ps : List Plain) (p : Plain) → called (Some bounds.string) 6 code ps ≡ Some p → IsTruth p
+-- with d decimals
+abbrev pub Truthful : ℕ → ℕ → Type 0
+Truthful d code = (ps : List Plain) (p : Plain) → called (Some bounds.string) d code ps ≡ Some p → IsTruth p
 
-pub truthful : (code : ℕ) → function_at code ≡ of.asking → Truthful code
+pub truthful : (d code : ℕ) → function_at code ≡ of.asking → Truthful d code
 unfolding is_asking
-truthful code e =
+truthful d code e =
     let same : 0 + code ≡ code = omega arith in
-    subst Truthful same (asking-at Truthful 0 functions code (
-      boolean-from-string_gives_truths (Some bounds.string) 6,
-      (contains_gives_truths (Some bounds.string) 6, (starts-with_gives_truths (Some bounds.string) 6, tt)),
+    subst (Truthful d) same (asking-at (Truthful d) 0 functions code (
+      boolean-from-string_gives_truths (Some bounds.string) d,
+      (contains_gives_truths (Some bounds.string) d, (starts-with_gives_truths (Some bounds.string) d, tt)),
     ) e)
 
 -- ---- numbers
@@ -96,6 +97,6 @@ surrounds loaded forest model trees hung small =
       below = λ k h. less k forest.next (2 ^ 128) (number-below forest.next k [] forest.nodes trees.below h) few;
       hung = texts;
       documents = λ id n e. document-solid forest trees texts loaded.form.tables.instances model id n e;
-      extend = λ code ps p e. within_a_limit (Some bounds.string) 6 code ps p e;
-      truths = λ code ps p e f. truthful code e ps p f;
+      extend = λ code ps p e. within_a_limit (Some bounds.string) loaded.form.decimals code ps p e;
+      truths = λ code ps p e f. truthful loaded.form.decimals code e ps p f;
     }

@@ -17,7 +17,7 @@ use Rattle.xf_report.specs.States.{IsState, AreRepeats, AreSwitches, AreCopies}
 use Rattle.xf_loader.specs.declared.loaded.Loaded.{Loaded}
 use Rattle.xf_work.specs.declared.flags.Flags.{Flags}
 use Rattle.xf_work.specs.declared.tally.Tally.{Tally}
-use Rattle.xf_work.specs.Does.{profile}
+use Rattle.xf_processor.specs.Formed.{profile}
 use Rattle.xf_work.specs.Parts.{IsLoaded, standing_of}
 use Rattle.xf_work.specs.Standing.{state_of}
 use Rattle.xf_work.proofs.MarkLaws.{marks-at}

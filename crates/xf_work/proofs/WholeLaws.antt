@@ -36,7 +36,7 @@ use Rattle.xf_work.proofs.Written.{IsStill}
 module _ (l : Loaded) (before after : Forest) (b : HasTrees before) (a : HasTrees after) (table : List Kept) (built : ℕ) where
   pub scope-still : are_hung before.nodes ≡ true → IsStill (shape_of before.nodes) after.nodes → (model : ℕ) → scope_at l after model ≡ scope_at l before model
   scope-still hung s model =
-      ap (λ ds. scope_of called (given_by l.form.tables.instances l.prefixes ds) l.form.tables model)
+      ap (λ ds. scope_of called (given_by l.form.tables.instances l.prefixes l.form.decimals ds) l.form.tables model)
       (documents-same l.form.tables.instances before after b a hung s.hung s.shaped)
 
   pub whole-still : IsWhole l before table built → IsStill (shape_of before.nodes) after.nodes → in_detached after.nodes ≡ [] → IsWhole l after table built

@@ -37,11 +37,12 @@ documents_by [] ds = []
 documents_by (i ∷ is) [] = []
 documents_by (i ∷ is) (d ∷ ds) = document_in i d ++ documents_by is ds
 
-abbrev pub given_by : List Instance → Bindings → List (Option ℕ) → Given
-given_by instances b ds = record { documents = documents_by instances ds; indexes = []; event = None; bindings = b; decimals = 6 }
+-- over so many decimals
+abbrev pub given_by : List Instance → Bindings → ℕ → List (Option ℕ) → Given
+given_by instances b d ds = record { documents = documents_by instances ds; indexes = []; event = None; bindings = b; decimals = d }
 
-abbrev pub given_in : List Instance → Bindings → Forest → Given
-given_in instances b forest = given_by instances b (documents_from 0 instances forest.nodes)
+abbrev pub given_in : List Instance → Bindings → ℕ → Forest → Given
+given_in instances b d forest = given_by instances b d (documents_from 0 instances forest.nodes)
 
 -- ---- one instance
 

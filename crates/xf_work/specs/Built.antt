@@ -20,7 +20,7 @@ use Rattle.xf_work.specs.Held.{planted_shape}
 
 -- what the binds of a model share, outside an event
 abbrev pub scope_at : Loaded → Forest → ℕ → Scope
-scope_at l forest model = scope_of called (given_in l.form.tables.instances l.prefixes forest) l.form.tables model
+scope_at l forest model = scope_of called (given_in l.form.tables.instances l.prefixes l.form.decimals forest) l.form.tables model
 
 -- the entries are what the binds apply to the data, with what they ask, and no calculates depend on each other in a ring
 pub record IsBuilt (scope : Scope) (nodes : List Node) (k : Kept) : Type 0 where

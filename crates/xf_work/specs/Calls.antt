@@ -21,7 +21,8 @@ use Rattle.xf_work.specs.declared.fault.WorkFault.TheVariants.{Refused, Memory}
 use Rattle.xf_work.specs.declared.flags.Flag.TheVariants.{Rebuild}
 use Rattle.xf_work.specs.declared.flags.Flags.{Flags}
 use Rattle.xf_work.specs.declared.tally.Tally.{Tally}
-use Rattle.xf_work.specs.Does.{Does, Finds, IsRefused, profile}
+use Rattle.xf_processor.specs.Formed.{profile}
+use Rattle.xf_work.specs.Does.{Does, Finds, IsRefused}
 use Rattle.xf_work.specs.Flags.{none_due, without}
 use Rattle.xf_work.specs.Parts.{standing_of}
 use Rattle.xf_work.specs.Standing.{Standing, state_of}

@@ -1,9 +1,6 @@
 -- How the calls on what an engine works on stand to the functions of the form machine: what they answer, and what each refusal means. Only want
 -- of memory is free.
 use Rattle.std.specs.Prelude.{ℕ, suc, ◌≡◌, [], max, Result, Ok, Err}
-use Rattle.xf_types.specs.Meets.{meets_type}
-use Rattle.xf_funcs.specs.Called.{called}
-use Rattle.xf_form_machine.specs.Profile.{Profile, usual}
 use Rattle.xf_form_machine.specs.State.{State}
 use Rattle.xf_form_machine.specs.Refusal.{Refused}
 use Rattle.xf_form_machine.specs.Step.{at_end}
@@ -12,10 +9,6 @@ use Rattle.xf_form_machine.specs.Told.{Tells}
 use Rattle.xf_work.specs.declared.fault.WorkFault.{WorkFault}
 use Rattle.xf_work.specs.declared.fault.WorkFault.TheVariants as fault
 use Rattle.xf_work.specs.Standing.{Standing, state_of}
-
--- what the program gives the machine beside a form
-abbrev pub profile : Profile
-profile = usual called meets_type
 
 -- it is refused for this reason, and no call of the store was made
 abbrev pub IsRefused : {X : Type 0} → Refusal → Result X Refused → Type 0

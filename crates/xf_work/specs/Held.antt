@@ -28,7 +28,7 @@ planted_shape l = shape_by (planted_by l)
 
 -- what surrounds the controls of a form over data, outside an event
 abbrev pub around_over : Loaded → Forest → Around
-around_over l forest = around_in (given_in l.form.tables.instances l.prefixes forest) l.form.tables forest.nodes
+around_over l forest = around_in (given_in l.form.tables.instances l.prefixes l.form.decimals forest) l.form.tables forest.nodes
 
 -- none of them is a text, so that changes of texts leave it where it stands
 abbrev pub AreSolid : List Visit → List Known → Type 0

@@ -1,5 +1,4 @@
 pub mod Standing
-pub mod Documents
 pub mod Does
 pub mod Flags
 pub mod Tally

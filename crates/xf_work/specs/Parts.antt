@@ -15,7 +15,7 @@ use Rattle.xf_work.specs.declared.flags.Flags.{Flags}
 use Rattle.xf_work.specs.declared.tally.Tally.{Tally}
 use Rattle.xf_undo.specs.Draft.{Draft}
 use Rattle.xf_work.specs.Built.{IsWhole}
-use Rattle.xf_work.specs.Documents.{documents_in}
+use Rattle.xf_processor.specs.Formed.{documents_in}
 use Rattle.xf_work.specs.Flags.{flags_of}
 use Rattle.xf_work.specs.Standing.{Standing}
 

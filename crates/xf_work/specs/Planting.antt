@@ -1,5 +1,5 @@
 -- The data of the instances of a form, planted one after the other.
-use Rattle.std.specs.Prelude.{ℕ, ◌≡◌, List, [], map, Some, Result, Ok, Err}
+use Rattle.std.specs.Prelude.{ℕ, ◌≡◌, List, [], map, Result, Ok, Err}
 use Rattle.xf_ast.specs.declared.form.Instance.{Instance}
 use Rattle.xf_doc.specs.declared.fault.TreeFault.{TreeFault}
 use Rattle.xf_doc.specs.declared.fault.TreeFault.TheVariants as tree
@@ -13,13 +13,13 @@ use Rattle.xf_loader.specs.declared.loaded.Loaded.{Loaded}
 use Rattle.xf_form_machine.specs.declared.refusal.Refusal.TheVariants.{Limit}
 use Rattle.xf_work.specs.declared.fault.WorkFault.{WorkFault}
 use Rattle.xf_work.specs.declared.fault.WorkFault.TheVariants as fault
-use Rattle.xf_work.specs.Does.{IsRefused, Twin, profile}
-use Rattle.xf_work.specs.Documents.{document_of, program_in}
+use Rattle.xf_processor.specs.Formed.{profile, document_of, program_in}
+use Rattle.xf_work.specs.Does.{IsRefused, Twin}
 use Rattle.xf_work.specs.Standing.{state_of}
 
 -- with these data, of which so many nodes were made
 abbrev pub growing : Loaded → Forest → ℕ → State
-growing loaded forest made = record (unbuilt profile (program_in loaded) (Some [])) { forest = forest; made = made }
+growing loaded forest made = record (unbuilt profile (program_in loaded)) { forest = forest; made = made }
 
 -- a step or all of them, to these data; the answer is how many nodes were made
 abbrev pub Grows : Result ℕ WorkFault → Loaded → Forest → Result State Refused → Type 0
@@ -28,7 +28,7 @@ Grows (Err (fault.Refused refusal)) loaded forest given = IsRefused refusal give
 Grows (Err fault.Memory) loaded forest given = Unit {0}
 
 abbrev pub planted_by : Loaded → Result State Refused
-planted_by loaded = in_turn (plant_document profile) (program_in loaded).documents (unbuilt profile (program_in loaded) (Some []))
+planted_by loaded = in_turn (plant_document profile) (program_in loaded).documents (unbuilt profile (program_in loaded))
 
 abbrev pub document_in : Loaded → Instance → Forest → ℕ → Result State Refused
 document_in loaded instance forest made = plant_document profile (document_of loaded.prefixes loaded.lit instance) (growing loaded forest made)

@@ -1,5 +1,5 @@
 -- What an engine has of the state of the form machine (XForms 1.1, section 4), of a form without repeats and switches, between events and in one.
-use Rattle.std.specs.Prelude.{ℕ, List, [], Some}
+use Rattle.std.specs.Prelude.{ℕ, List, []}
 use Rattle.xf_name.specs.Bindings.{Bindings}
 use Rattle.xf_ast.specs.declared.form.Form.{Form}
 use Rattle.xf_doc.specs.declared.content.Content.{Content}
@@ -38,5 +38,4 @@ state_of s = record {
   made = s.made;
   evaluated = s.evaluated;
   calls = [];
-  to_come = Some [];
 }

@@ -13,6 +13,7 @@ use xf_doc::NodeId;
 use xf_eval::Around;
 use xf_lang::Value;
 use xf_name::{Axis, Prefixes};
+use xf_num::Decimals;
 use xf_tree::Forest;
 
 /// What surrounds an expression of a form without repeats, outside an event: the document element of each instance beside it.
@@ -20,16 +21,14 @@ use xf_tree::Forest;
 pub(crate) struct Quiet<'a> {
     pub instances: &'a [Instance],
     pub prefixes: &'a Prefixes,
+    pub decimals: Decimals,
     pub documents: &'a [Option<NodeId>],
 }
 
 impl<'a> Around for Quiet<'a> {
-    ghost use Rattle.std.proofs.Common.{refl};
     ghost use Rattle.xf_work.specs.Around.{given_by, numbers_of};
 
-    ghost given = { λ q. given_by q.instances.now q.prefixes.now (numbers_of q.documents.now) };
-
-    ghost six = { λ q. refl };
+    ghost given = { λ q. given_by q.instances.now q.prefixes.now q.decimals (numbers_of q.documents.now) };
 
     fn instance(&self, model: u32, id: &str) -> Option<NodeId> {
         document_of(self.instances, self.documents, model, id)
@@ -45,6 +44,10 @@ impl<'a> Around for Quiet<'a> {
 
     fn prefixes(&self) -> &Prefixes {
         self.prefixes
+    }
+
+    fn decimals(&self) -> Decimals {
+        self.decimals
     }
 }
 

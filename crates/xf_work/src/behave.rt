@@ -3,7 +3,8 @@
 ghost use Rattle.std.specs.Prelude.{◌≡◌, ◌≤◌, ◌<◌, length, option_map, Ok};
 ghost use Rattle.xf_form_machine.specs.Behave as machine;
 ghost use Rattle.xf_form_machine.specs.Step.{set_bound as bound_set};
-ghost use Rattle.xf_work.specs.Does.{Does, built_after, profile};
+ghost use Rattle.xf_processor.specs.Formed.{profile};
+ghost use Rattle.xf_work.specs.Does.{Does, built_after};
 ghost use Rattle.xf_work.specs.Standing.{state_of};
 
 use crate::fault::WorkFault;

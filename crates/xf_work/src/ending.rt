@@ -1,13 +1,25 @@
-//! The end of an event: what stands is kept, or what was kept stands again.
+//! The beginning of an event, and its end: what stands is kept, or what was kept stands again.
 
 ghost use Rattle.std.specs.Prelude.{◌≡◌, ◌+◌, length, OnOk, IfErr};
+ghost use Rattle.xf_form_machine.specs.Step.{fresh};
+ghost use Rattle.xf_processor.specs.Formed.{profile};
 ghost use Rattle.xf_work.specs.Does.{IsKept};
+ghost use Rattle.xf_work.specs.Standing.{state_of};
 
 use crate::fault::WorkFault;
 use crate::flags::Flags;
 use crate::work::Work;
 
 impl Work {
+    /// An event begins, with a whole budget.
+    pub fn begin_event(&mut self)
+        ensures now { state_of self.new.now ≡ fresh profile (state_of self.old.now) }
+        ensures kept { self.new.kept ≡ self.old.kept }
+        ensures built { self.new.built ≡ self.old.built }
+    {
+        self.tally = self.tally.begun();
+    }
+
     /// Counts the event that is handled as accepted. No run counts beyond 64 bits: that is told as want of memory.
     pub fn count_event(&mut self) -> Result<(), WorkFault>
         ensures now { OnOk result (self.new.now ≡ record self.old.now { accepted = self.old.now.accepted + 1 }) }

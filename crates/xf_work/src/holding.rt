@@ -26,6 +26,7 @@ pub(crate) fn held(alloc: Global, loaded: &Loaded, forest: &Forest) -> Result<Kn
     let around = Quiet {
         instances,
         prefixes: &loaded.prefixes,
+        decimals: loaded.form.decimals,
         documents: documents.as_slice(),
     };
     forest.are_trees();

@@ -43,6 +43,7 @@ pub(crate) fn rebuild(
     let around = Quiet {
         instances,
         prefixes: &loaded.prefixes,
+        decimals: loaded.form.decimals,
         documents: documents.as_slice(),
     };
     match rebuild_table(alloc, &loaded.form.tables, forest, model, table, &around) {

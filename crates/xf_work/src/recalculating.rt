@@ -47,6 +47,7 @@ pub(crate) fn settle_texts(
     let around = Quiet {
         instances,
         prefixes: &loaded.prefixes,
+        decimals: loaded.form.decimals,
         documents: documents.as_slice(),
     };
     draft.forest().are_trees();

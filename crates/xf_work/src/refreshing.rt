@@ -8,7 +8,8 @@ ghost use Rattle.xf_ui.specs.Notifications.{notifications};
 ghost use Rattle.xf_form_machine.specs.Construct.{first_shown};
 ghost use Rattle.xf_form_machine.specs.Update as update;
 ghost use Rattle.xf_work.specs.Calls.{Refreshes, Renews, ShowsOthers};
-ghost use Rattle.xf_work.specs.Does.{Does, Finds, profile};
+ghost use Rattle.xf_processor.specs.Formed.{profile};
+ghost use Rattle.xf_work.specs.Does.{Does, Finds};
 ghost use Rattle.xf_work.specs.Standing.{state_of};
 
 use crate::fault::WorkFault;

@@ -42,6 +42,7 @@ pub(crate) fn shown(
     let around = Quiet {
         instances,
         prefixes: &loaded.prefixes,
+        decimals: loaded.form.decimals,
         documents: documents.as_slice(),
     };
     let marks = Marked { forest, table };

@@ -10,7 +10,8 @@ ghost use Rattle.xf_form_machine.specs.Surround.{interface};
 ghost use Rattle.xf_form_machine.specs.Update as update;
 ghost use Rattle.xf_form_machine.specs.Update.{no_refresh};
 ghost use Rattle.xf_machine_laws.specs.Quiet.{Quiet};
-ghost use Rattle.xf_work.specs.Does.{Does, profile};
+ghost use Rattle.xf_processor.specs.Formed.{profile};
+ghost use Rattle.xf_work.specs.Does.{Does};
 ghost use Rattle.xf_work.specs.Flags.{flag_of};
 ghost use Rattle.xf_work.specs.Standing.{state_of};
 
@@ -23,8 +24,8 @@ use std::marker::Model;
 use xf_ast::Form;
 use xf_binds::Table;
 use xf_controls::{ControlCopy, KnownList, Shown, control_of};
-use xf_loader::Loaded;
 use xf_form_machine::Refusal;
+use xf_loader::Loaded;
 use xf_undo::Draft;
 
 /// What an engine works on. Contracts see the states at the end of the last event and as it stands, and how many models are built.

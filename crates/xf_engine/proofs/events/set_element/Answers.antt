@@ -1,4 +1,4 @@
-use Rattle.xf_work.specs.Does.{profile}
+use Rattle.xf_processor.specs.Formed.{profile}
 use Rattle.xf_work.specs.Standing.{state_of}
 use Rattle.xf_engine.proofs.Keeps.{bound-count, within-same}
 use Rattle.xf_engine.proofs.events.set_element.Goals as goal

@@ -1,7 +1,7 @@
 use Rattle.std.proofs.Common.{◌∙◌, ◌-◌, ◌<◌, arith}
 use Rattle.std.proofs.lemmas.Result.{err_from_is_err_and}
 use Rattle.xf_form_machine.specs.Construct.{build_model}
-use Rattle.xf_work.specs.Does.{profile}
+use Rattle.xf_processor.specs.Formed.{profile}
 use Rattle.xf_work.specs.Standing.{state_of}
 use Rattle.xf_engine.specs.Started.{all_built}
 use Rattle.xf_engine.proofs.Flow.{counted-step, turn-stops}

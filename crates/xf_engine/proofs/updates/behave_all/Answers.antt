@@ -1,6 +1,6 @@
 use Rattle.std.proofs.Common.{◌∙◌, arith, refl}
 use Rattle.xf_form_machine.specs.Update.{due_revalidation}
-use Rattle.xf_work.specs.Does.{profile}
+use Rattle.xf_processor.specs.Formed.{profile}
 use Rattle.xf_work.specs.Standing.{state_of}
 use Rattle.xf_engine.proofs.Flow.{counted-step}
 use Rattle.xf_engine.proofs.Keeps.{due-count, within-same}

@@ -2,7 +2,7 @@ use Rattle.std.proofs.Common.{◌≡◌, ◌-◌, ◌≤◌, length}
 use Rattle.xf_form_machine.specs.Flow.{in_turn}
 use Rattle.xf_form_machine.specs.Cycles.{counted_from}
 use Rattle.xf_form_machine.specs.Update.{due_revalidation}
-use Rattle.xf_work.specs.Does.{profile}
+use Rattle.xf_processor.specs.Formed.{profile}
 use Rattle.xf_work.specs.Standing.{state_of}
 use Rattle.xf_engine.specs.Rounds.{all_behaved}
 use Rattle.xf_engine.proofs.updates.behave_all.Given as goal

@@ -1,4 +1,4 @@
-use Rattle.xf_work.specs.Does.{profile}
+use Rattle.xf_processor.specs.Formed.{profile}
 use Rattle.xf_work.specs.Standing.{state_of}
 use Rattle.xf_engine.proofs.Keeps.{rebuilt-count, below-same}
 use Rattle.xf_engine.proofs.updates.recalculate_due.Goals as goal

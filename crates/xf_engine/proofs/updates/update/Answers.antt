@@ -1,6 +1,6 @@
 use Rattle.std.proofs.Common.{◌∙◌, arith, refl, rules}
 use Rattle.xf_machine_laws.specs.Quiet.{round_quietly}
-use Rattle.xf_work.specs.Does.{profile}
+use Rattle.xf_processor.specs.Formed.{profile}
 use Rattle.xf_work.specs.Standing.{state_of}
 use Rattle.xf_engine.proofs.Keeps.{round-count, spent-count, within-same}
 use Rattle.xf_engine.proofs.Rounds.{update-begins, rounds-next}

@@ -1,7 +1,7 @@
 use Rattle.std.proofs.Common.{◌≡◌, ◌-◌, ◌≤◌, length}
 use Rattle.xf_form_machine.specs.Update.{rounds}
 use Rattle.xf_machine_laws.specs.Quiet.{round_quietly, update_quietly}
-use Rattle.xf_work.specs.Does.{profile}
+use Rattle.xf_processor.specs.Formed.{profile}
 use Rattle.xf_work.specs.Standing.{state_of}
 use Rattle.xf_engine.proofs.updates.update.Given as goal
 

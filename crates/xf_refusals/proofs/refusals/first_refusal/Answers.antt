@@ -14,4 +14,4 @@ loop-place-preserved c =
     let r = c.index-rows-place.result in
     c.loop-place.invariant
     ∙ first_more d b all (first_model all) c.args.rows.now place r c.loop-place-test.true c.index-rows-place.is
-    (sym (ap (λ m. refusal_at d b all m place (shown r)) c.first_model.ensures) ∙ sym (ap (λ n. refusal_at n b all c.first_model.result place (shown r)) c.in_ok-decimals_of.ensures) ∙ sym c.in_ok-number.ensures ∙ c.in_default.is)
+    (sym (ap (λ m. refusal_at d b all m place (shown r)) c.first_model.ensures) ∙ sym (ap (λ n. refusal_at n b all c.first_model.result place (shown r)) c.in_ok-decimals.ensures) ∙ sym c.in_ok-number.ensures ∙ c.in_default.is)

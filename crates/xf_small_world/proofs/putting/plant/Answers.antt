@@ -5,7 +5,7 @@ use Rattle.xf_loader.specs.Data.{lit_at}
 use Rattle.xf_form_machine.specs.Primitives.{plant as planted}
 use Rattle.xf_actions.specs.Performs.{Refuses}
 use Rattle.xf_small_world.specs.Fault.{means}
-use Rattle.xf_small_world.specs.Formed.{profile}
+use Rattle.xf_processor.specs.Formed.{profile}
 use Rattle.xf_small_world.specs.Planting.{document_at}
 use Rattle.xf_small_world.specs.State.{state_of}
 use Rattle.xf_small_world.proofs.ResetLaws.{data-fault}

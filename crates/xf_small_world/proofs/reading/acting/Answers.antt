@@ -9,7 +9,7 @@ use Rattle.xf_actions.specs.Seen.{fired_of, focus_of, told_of}
 use Rattle.xf_actions.proofs.Flow.{reads-stopped, refuses-then, same-refuses}
 use Rattle.xf_small_world.specs.Inside.{seen_context}
 use Rattle.xf_small_world.specs.Over.{around_over}
-use Rattle.xf_small_world.specs.Formed.{profile}
+use Rattle.xf_processor.specs.Formed.{profile}
 use Rattle.xf_small_world.specs.State.{state_of}
 use Rattle.xf_small_world.proofs.ReadLaws.{no-handler-rows, read-fault, read-some}
 use Rattle.xf_small_world.proofs.reading.acting.Goals as goal

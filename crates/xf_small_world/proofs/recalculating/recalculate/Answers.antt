@@ -5,7 +5,7 @@ use Rattle.xf_form_machine.specs.Behave.{recalculate}
 use Rattle.xf_actions.specs.Performs.{Refuses}
 use Rattle.xf_actions.proofs.Flow.{stopped}
 use Rattle.xf_small_world.specs.Fault.{means}
-use Rattle.xf_small_world.specs.Formed.{profile}
+use Rattle.xf_processor.specs.Formed.{profile}
 use Rattle.xf_small_world.specs.State.{standing, state_of}
 use Rattle.xf_small_world.proofs.RecalcLaws.{recalculated-done, recalculated-limit, recalculated-over}
 use Rattle.xf_small_world.proofs.recalculating.recalculate.Goals as goal

@@ -8,7 +8,7 @@ use Rattle.xf_form_machine.specs.Telling.{loaded_text}
 use Rattle.xf_actions.specs.Seen.{acting_of, told_of}
 use Rattle.xf_actions.proofs.Flow.{reads-stopped, same-refuses}
 use Rattle.xf_small_world.specs.Over.{around_over}
-use Rattle.xf_small_world.specs.Formed.{profile}
+use Rattle.xf_processor.specs.Formed.{profile}
 use Rattle.xf_small_world.specs.State.{state_of}
 use Rattle.xf_small_world.proofs.ReadLaws.{read-fault, read-some}
 use Rattle.xf_small_world.proofs.speaking.loaded.Goals as goal

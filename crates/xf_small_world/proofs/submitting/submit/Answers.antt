@@ -3,7 +3,7 @@ use Rattle.std.specs.Prelude.{slice_get}
 use Rattle.xf_store.proofs.CalledLaws.{called-none}
 use Rattle.xf_actions.specs.Defaulted.{submitted}
 use Rattle.xf_actions.specs.Seen.{fired_of}
-use Rattle.xf_small_world.specs.Formed.{profile}
+use Rattle.xf_processor.specs.Formed.{profile}
 use Rattle.xf_small_world.specs.State.{state_of}
 use Rattle.xf_small_world.proofs.SmallLaws.{no-submissions}
 use Rattle.xf_small_world.proofs.submitting.submit.Goals as goal

@@ -11,7 +11,7 @@ use Rattle.xf_work.proofs.holding.held.Goals as goal
 
 pub known_nodes-requires-clause-around : goal.known_nodes-requires-clause-around
 known_nodes-requires-clause-around c =
-    around-stands c.as_slice-instances.result.now c.args.loaded.now.prefixes c.args.forest.now.forest.nodes (numbers_of c.as_slice.result.now) (ap numbers_of c.as_slice.ensures.value ∙ c.in_ok-documents.ensures.all)
+    around-stands c.as_slice-instances.result.now c.args.loaded.now.prefixes c.args.loaded.now.form.decimals c.args.forest.now.forest.nodes (numbers_of c.as_slice.result.now) (ap numbers_of c.as_slice.ensures.value ∙ c.in_ok-documents.ensures.all)
 
 pub returns-in-Ok : goal.returns-in-Ok
 returns-in-Ok c =
@@ -19,7 +19,7 @@ returns-in-Ok c =
     let forest = c.args.forest.now.forest in
     held-over l forest c.in-Ok.known (in_forest c.are_trees.ensures) c.requires.hung c.requires.shape
     (subst (λ g. AreHeld (interface_of l.form) (around_in g l.form.tables forest.nodes) c.in-Ok.known)
-    (given-found l.form.tables.instances c.as_slice-instances.result.now l.prefixes forest (numbers_of c.as_slice.result.now) c.as_slice-instances.ensures
+    (given-found l.form.tables.instances c.as_slice-instances.result.now l.prefixes l.form.decimals forest (numbers_of c.as_slice.result.now) c.as_slice-instances.ensures
     (ap numbers_of c.as_slice.ensures.value ∙ c.in_ok-documents.ensures.all)) c.in-Ok.ensures)
 
 pub returns-in-Err-Long : goal.returns-in-Err-Long

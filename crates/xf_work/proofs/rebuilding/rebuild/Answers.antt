@@ -15,9 +15,9 @@ use Rattle.xf_work.proofs.rebuilding.rebuild.Goals.{After-rebuild, In-Ok}
 use Rattle.xf_work.proofs.rebuilding.rebuild.Goals as goal
 
 -- what surrounds the binds
-given-is : (c : After-rebuild) → given_by c.as_slice-instances.result.now c.args.loaded.now.prefixes (numbers_of c.as_slice.result.now) ≡ given_in c.args.loaded.now.form.tables.instances c.args.loaded.now.prefixes c.args.forest.now.forest
+given-is : (c : After-rebuild) → given_by c.as_slice-instances.result.now c.args.loaded.now.prefixes c.args.loaded.now.form.decimals (numbers_of c.as_slice.result.now) ≡ given_in c.args.loaded.now.form.tables.instances c.args.loaded.now.prefixes c.args.loaded.now.form.decimals c.args.forest.now.forest
 given-is c =
-    given-found c.args.loaded.now.form.tables.instances c.as_slice-instances.result.now c.args.loaded.now.prefixes c.args.forest.now.forest (numbers_of c.as_slice.result.now) c.as_slice-instances.ensures
+    given-found c.args.loaded.now.form.tables.instances c.as_slice-instances.result.now c.args.loaded.now.prefixes c.args.loaded.now.form.decimals c.args.forest.now.forest (numbers_of c.as_slice.result.now) c.as_slice-instances.ensures
     (ap numbers_of c.as_slice.ensures.value ∙ c.in_ok-documents.ensures.all)
 
 -- the table as it is rebuilt
@@ -30,7 +30,7 @@ rebuild-requires-clause-fixed c = are-fixed c.args.loaded.now c.requires.loaded
 
 pub rebuild-requires-clause-stands : goal.rebuild-requires-clause-stands
 rebuild-requires-clause-stands c =
-    around-stands c.as_slice-instances.result.now c.args.loaded.now.prefixes c.args.forest.now.forest.nodes (numbers_of c.as_slice.result.now) (ap numbers_of c.as_slice.ensures.value ∙ c.in_ok-documents.ensures.all)
+    around-stands c.as_slice-instances.result.now c.args.loaded.now.prefixes c.args.loaded.now.form.decimals c.args.forest.now.forest.nodes (numbers_of c.as_slice.result.now) (ap numbers_of c.as_slice.ensures.value ∙ c.in_ok-documents.ensures.all)
 
 pub returns-in-Ok-clause-done : goal.returns-in-Ok-clause-done
 returns-in-Ok-clause-done c = λ flags controls tally many.

@@ -20,7 +20,7 @@ pub settle-settled-requires-clause-may : goal.settle-settled-requires-clause-may
 settle-settled-requires-clause-may c =
     let l = c.args.loaded.now in
     let d = c.args.draft.now.now in
-    let given = given-found l.form.tables.instances c.as_slice-instances.result.now l.prefixes d (numbers_of c.as_slice.result.now) c.as_slice-instances.ensures
+    let given = given-found l.form.tables.instances c.as_slice-instances.result.now l.prefixes l.form.decimals d (numbers_of c.as_slice.result.now) c.as_slice-instances.ensures
     (ap numbers_of c.as_slice.ensures.value ∙ c.in_ok-documents.ensures.all ∙ ap (λ (f : Forest). documents_from 0 c.as_slice-instances.result.now f.nodes) c.forest.ensures) in
     let trees : HasTrees d = subst HasTrees c.forest-2.ensures (in_forest c.are_trees.ensures) in
     let n = c.next_number.ensures in
@@ -34,7 +34,7 @@ pub settle-settled-requires-clause-asked : goal.settle-settled-requires-clause-a
 settle-settled-requires-clause-asked c =
     let l = c.args.loaded.now in
     let d = c.args.draft.now.now in
-    let given = given-found l.form.tables.instances c.as_slice-instances.result.now l.prefixes d (numbers_of c.as_slice.result.now) c.as_slice-instances.ensures
+    let given = given-found l.form.tables.instances c.as_slice-instances.result.now l.prefixes l.form.decimals d (numbers_of c.as_slice.result.now) c.as_slice-instances.ensures
     (ap numbers_of c.as_slice.ensures.value ∙ c.in_ok-documents.ensures.all ∙ ap (λ (f : Forest). documents_from 0 c.as_slice-instances.result.now f.nodes) c.forest.ensures) in
     c.requires.built.asks
     ∙ sym (ap (λ g. map (asks_of (scope_in g l.form.tables c.args.model) (shape_of d.nodes)) (kept_at c.args.table.now c.args.model).entries) given)
@@ -44,7 +44,7 @@ settle-settled-requires-clause-passes c =
     let l = c.args.loaded.now in
     let d = c.args.draft.now.now in
     let k = kept_at c.args.table.now c.args.model in
-    let given = given-found l.form.tables.instances c.as_slice-instances.result.now l.prefixes d (numbers_of c.as_slice.result.now) c.as_slice-instances.ensures
+    let given = given-found l.form.tables.instances c.as_slice-instances.result.now l.prefixes l.form.decimals d (numbers_of c.as_slice.result.now) c.as_slice-instances.ensures
     (ap numbers_of c.as_slice.ensures.value ∙ c.in_ok-documents.ensures.all ∙ ap (λ (f : Forest). documents_from 0 c.as_slice-instances.result.now f.nodes) c.forest.ensures) in
     let trees : HasTrees d = subst HasTrees c.forest-2.ensures (in_forest c.are_trees.ensures) in
     let n = c.next_number.ensures in
@@ -60,7 +60,7 @@ returns-in-Ok-clause-known c =
     let l = c.args.loaded.now in
     let d = c.args.draft.now.now in
     let k = kept_at c.args.table.now c.args.model in
-    let given = given-found l.form.tables.instances c.as_slice-instances.result.now l.prefixes d (numbers_of c.as_slice.result.now) c.as_slice-instances.ensures
+    let given = given-found l.form.tables.instances c.as_slice-instances.result.now l.prefixes l.form.decimals d (numbers_of c.as_slice.result.now) c.as_slice-instances.ensures
     (ap numbers_of c.as_slice.ensures.value ∙ c.in_ok-documents.ensures.all ∙ ap (λ (f : Forest). documents_from 0 c.as_slice-instances.result.now f.nodes) c.forest.ensures) in
     let trees : HasTrees d = subst HasTrees c.forest-2.ensures (in_forest c.are_trees.ensures) in
     let n = c.next_number.ensures in
@@ -78,7 +78,7 @@ pub returns-in-Ok-clause-ok : goal.returns-in-Ok-clause-ok
 returns-in-Ok-clause-ok c =
     let l = c.args.loaded.now in
     let d = c.args.draft.now.now in
-    let given = given-found l.form.tables.instances c.as_slice-instances.result.now l.prefixes d (numbers_of c.as_slice.result.now) c.as_slice-instances.ensures
+    let given = given-found l.form.tables.instances c.as_slice-instances.result.now l.prefixes l.form.decimals d (numbers_of c.as_slice.result.now) c.as_slice-instances.ensures
     (ap numbers_of c.as_slice.ensures.value ∙ c.in_ok-documents.ensures.all ∙ ap (λ (f : Forest). documents_from 0 c.as_slice-instances.result.now f.nodes) c.forest.ensures) in
     subst (λ g. IsSettled (scope_in g l.form.tables c.args.model) (kept_at c.args.table.now c.args.model).entries d c.settle-settled.new.draft.now c.in-Ok.truths) given c.in-Ok.ensures.ok
 
@@ -86,7 +86,7 @@ pub returns-in-Ok-clause-whole : goal.returns-in-Ok-clause-whole
 returns-in-Ok-clause-whole c =
     let l = c.args.loaded.now in
     let d = c.args.draft.now.now in
-    let given = given-found l.form.tables.instances c.as_slice-instances.result.now l.prefixes d (numbers_of c.as_slice.result.now) c.as_slice-instances.ensures
+    let given = given-found l.form.tables.instances c.as_slice-instances.result.now l.prefixes l.form.decimals d (numbers_of c.as_slice.result.now) c.as_slice-instances.ensures
     (ap numbers_of c.as_slice.ensures.value ∙ c.in_ok-documents.ensures.all ∙ ap (λ (f : Forest). documents_from 0 c.as_slice-instances.result.now f.nodes) c.forest.ensures) in
     let trees : HasTrees d = subst HasTrees c.forest-2.ensures (in_forest c.are_trees.ensures) in
     let n = c.next_number.ensures in
@@ -103,17 +103,17 @@ pub returns-clause-err : goal.returns-clause-err
 returns-clause-err c =
     let l = c.args.loaded.now in
     let d = c.args.draft.now.now in
-    let given = given-found l.form.tables.instances c.as_slice-instances.result.now l.prefixes d (numbers_of c.as_slice.result.now) c.as_slice-instances.ensures
+    let given = given-found l.form.tables.instances c.as_slice-instances.result.now l.prefixes l.form.decimals d (numbers_of c.as_slice.result.now) c.as_slice-instances.ensures
     (ap numbers_of c.as_slice.ensures.value ∙ c.in_ok-documents.ensures.all ∙ ap (λ (f : Forest). documents_from 0 c.as_slice-instances.result.now f.nodes) c.forest.ensures) in
     let es = (kept_at c.args.table.now c.args.model).entries in
     let told = subst (λ g. IsTold c.in-Err.fault (words_of (scope_in g l.form.tables c.args.model) es d)) given c.in-Err.ensures.err in
-    subst (λ f. IsPassed f (words_of (scope_in (given_in l.form.tables.instances l.prefixes d) l.form.tables c.args.model) es d)) (sym c.told.ensures) (told-passed c.in-Err.fault _ told)
+    subst (λ f. IsPassed f (words_of (scope_in (given_in l.form.tables.instances l.prefixes l.form.decimals d) l.form.tables c.args.model) es d)) (sym c.told.ensures) (told-passed c.in-Err.fault _ told)
 
 pub returns-clause-whole : goal.returns-clause-whole
 returns-clause-whole c =
     let l = c.args.loaded.now in
     let d = c.args.draft.now.now in
-    let given = given-found l.form.tables.instances c.as_slice-instances.result.now l.prefixes d (numbers_of c.as_slice.result.now) c.as_slice-instances.ensures
+    let given = given-found l.form.tables.instances c.as_slice-instances.result.now l.prefixes l.form.decimals d (numbers_of c.as_slice.result.now) c.as_slice-instances.ensures
     (ap numbers_of c.as_slice.ensures.value ∙ c.in_ok-documents.ensures.all ∙ ap (λ (f : Forest). documents_from 0 c.as_slice-instances.result.now f.nodes) c.forest.ensures) in
     let trees : HasTrees d = subst HasTrees c.forest-2.ensures (in_forest c.are_trees.ensures) in
     let n = c.next_number.ensures in

@@ -8,7 +8,8 @@ use Rattle.xf_controls.specs.Known.{AreKnown}
 use Rattle.xf_controls.specs.Seen.{seen_copy}
 use Rattle.xf_controls.specs.Surrounded.{around_in}
 use Rattle.xf_work.specs.Around.{given_by, given_in, numbers_of}
-use Rattle.xf_work.specs.Does.{Finds, profile}
+use Rattle.xf_processor.specs.Formed.{profile}
+use Rattle.xf_work.specs.Does.{Finds}
 use Rattle.xf_work.specs.Parts.{standing_of}
 use Rattle.xf_work.specs.Standing.{state_of}
 use Rattle.xf_work.proofs.AroundLaws.{around-stands}
@@ -18,21 +19,21 @@ use Rattle.xf_work.proofs.showing.shown.Goals.{After-controls}
 use Rattle.xf_work.proofs.showing.shown.Goals as goal
 
 -- what surrounds the controls
-given-is : (c : After-controls) → given_by c.as_slice-instances.result.now c.args.loaded.now.prefixes (numbers_of c.as_slice.result.now) ≡ given_in c.args.loaded.now.form.tables.instances c.args.loaded.now.prefixes c.args.forest.now.forest
+given-is : (c : After-controls) → given_by c.as_slice-instances.result.now c.args.loaded.now.prefixes c.args.loaded.now.form.decimals (numbers_of c.as_slice.result.now) ≡ given_in c.args.loaded.now.form.tables.instances c.args.loaded.now.prefixes c.args.loaded.now.form.decimals c.args.forest.now.forest
 given-is c =
-    given-found c.args.loaded.now.form.tables.instances c.as_slice-instances.result.now c.args.loaded.now.prefixes c.args.forest.now.forest (numbers_of c.as_slice.result.now) c.as_slice-instances.ensures
+    given-found c.args.loaded.now.form.tables.instances c.as_slice-instances.result.now c.args.loaded.now.prefixes c.args.loaded.now.form.decimals c.args.forest.now.forest (numbers_of c.as_slice.result.now) c.as_slice-instances.ensures
     (ap numbers_of c.as_slice.ensures.value ∙ c.in_ok-documents.ensures.all)
 
 pub controls-requires-clause-around : goal.controls-requires-clause-around
 controls-requires-clause-around c =
-    around-stands c.as_slice-instances.result.now c.args.loaded.now.prefixes c.args.forest.now.forest.nodes (numbers_of c.as_slice.result.now) (ap numbers_of c.as_slice.ensures.value ∙ c.in_ok-documents.ensures.all)
+    around-stands c.as_slice-instances.result.now c.args.loaded.now.prefixes c.args.loaded.now.form.decimals c.args.forest.now.forest.nodes (numbers_of c.as_slice.result.now) (ap numbers_of c.as_slice.ensures.value ∙ c.in_ok-documents.ensures.all)
 
 pub controls-requires-clause-known : goal.controls-requires-clause-known
 controls-requires-clause-known c =
     let l = c.args.loaded.now in
     let forest = c.args.forest.now.forest in
     subst (λ g. AreKnown (interface_of l.form) (around_in g l.form.tables forest.nodes) forest.nodes c.args.known.now)
-    (sym (given-found l.form.tables.instances c.as_slice-instances.result.now l.prefixes forest (numbers_of c.as_slice.result.now) c.as_slice-instances.ensures
+    (sym (given-found l.form.tables.instances c.as_slice-instances.result.now l.prefixes l.form.decimals forest (numbers_of c.as_slice.result.now) c.as_slice-instances.ensures
     (ap numbers_of c.as_slice.ensures.value ∙ c.in_ok-documents.ensures.all)))
     (c.requires.known.over forest (in_forest c.are_trees.ensures) c.requires.hung c.requires.shape)
 

@@ -6,7 +6,7 @@ use Rattle.xf_form_machine.specs.ControlText.{has_line}
 use Rattle.xf_form_machine.specs.Surround.{interface}
 use Rattle.xf_report.specs.Controls.{seen_copy}
 use Rattle.xf_report.specs.States.{AreCopies}
-use Rattle.xf_work.specs.Does.{profile}
+use Rattle.xf_processor.specs.Formed.{profile}
 use Rattle.xf_work.specs.Parts.{standing_of}
 use Rattle.xf_work.specs.Standing.{state_of}
 use Rattle.xf_work.proofs.TextLaws.{is-state}

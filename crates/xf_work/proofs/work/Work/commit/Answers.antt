@@ -4,7 +4,8 @@ use Rattle.std.specs.Vec.{with_items}
 use Rattle.xf_binds.specs.Table.{all_rolled_back}
 use Rattle.xf_form_machine.specs.Step.{at_end}
 use Rattle.xf_controls.specs.Former.{Standing}
-use Rattle.xf_work.specs.Does.{Twin, profile}
+use Rattle.xf_processor.specs.Formed.{profile}
+use Rattle.xf_work.specs.Does.{Twin}
 use Rattle.xf_work.specs.Parts.{standing_of}
 use Rattle.xf_work.specs.Standing.{state_of}
 use Rattle.xf_work.proofs.KnownEnds.{committed-known}

@@ -4,7 +4,8 @@ use Rattle.xf_agree.specs.Hung.{are_hung}
 use Rattle.xf_controls.specs.Seen.{seen_copy}
 use Rattle.xf_form_machine.specs.Update as update
 use Rattle.xf_work.specs.Calls.{Shows}
-use Rattle.xf_work.specs.Does.{Finds, Twin, profile}
+use Rattle.xf_processor.specs.Formed.{profile}
+use Rattle.xf_work.specs.Does.{Finds, Twin}
 use Rattle.xf_work.specs.Held.{planted_shape}
 use Rattle.xf_work.specs.Standing.{state_of}
 use Rattle.xf_work.proofs.work.Work.made_afresh.Goals as goal

@@ -2,7 +2,8 @@ use Rattle.std.proofs.Common.{◌++◌, string_bytes, ap, ◌∙◌, subst}
 use Rattle.std.proofs.lemmas.Result.{on_ok_weaker}
 use Rattle.xf_form_machine.specs.ControlText.{state_text}
 use Rattle.xf_work.specs.Calls.{Writes}
-use Rattle.xf_work.specs.Does.{Twin, profile}
+use Rattle.xf_processor.specs.Formed.{profile}
+use Rattle.xf_work.specs.Does.{Twin}
 use Rattle.xf_work.specs.Standing.{state_of}
 use Rattle.xf_work.proofs.work.Work.push_text.Goals as goal
 

@@ -7,7 +7,8 @@ use Rattle.xf_form_machine.specs.Behave as machine
 use Rattle.xf_work.specs.declared.flags.Flag.TheVariants.{Rebuild}
 use Rattle.xf_work.specs.Built.{IsRenewed, scope_at}
 use Rattle.xf_work.specs.Calls.{Rebuilds, rebuilt_flags}
-use Rattle.xf_work.specs.Does.{Does, Twin, profile}
+use Rattle.xf_processor.specs.Formed.{profile}
+use Rattle.xf_work.specs.Does.{Does, Twin}
 use Rattle.xf_work.specs.Flags.{none_due, without}
 use Rattle.xf_work.specs.Known.{Knows}
 use Rattle.xf_work.specs.Parts.{IsSound, standing_of}

@@ -14,7 +14,8 @@ use Rattle.xf_binds.specs.Table.{all_rolled_back, kept_at, with_kept}
 use Rattle.xf_recalc.specs.Web.{asks_of}
 use Rattle.xf_work.specs.declared.flags.Flag.TheVariants.{Recalculate}
 use Rattle.xf_work.specs.Built.{scope_at}
-use Rattle.xf_work.specs.Does.{Does, Twin, profile}
+use Rattle.xf_processor.specs.Formed.{profile}
+use Rattle.xf_work.specs.Does.{Does, Twin}
 use Rattle.xf_work.specs.Flags.{none_due, without}
 use Rattle.xf_work.specs.Grown.{with_more}
 use Rattle.xf_pertinent.specs.Marked.{pertinent_marks}

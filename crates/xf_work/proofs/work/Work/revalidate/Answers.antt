@@ -7,11 +7,12 @@ use Rattle.std.specs.Bool.{OnTrue}
 use Rattle.xf_doc.specs.Forest.{Forest}
 use Rattle.xf_funcs.specs.Called.{called}
 use Rattle.xf_form_machine.specs.Behave as machine
-use Rattle.xf_form_machine.specs.Surround.{scope}
+use Rattle.xf_form_machine.specs.Surround.{bind_scope}
 use Rattle.xf_binds.specs.Table.{all_rolled_back, kept_at, with_kept}
 use Rattle.xf_valid.specs.Invalid.{revalidated}
 use Rattle.xf_work.specs.declared.flags.Flag.TheVariants.{Revalidate}
-use Rattle.xf_work.specs.Does.{Twin, profile}
+use Rattle.xf_processor.specs.Formed.{profile}
+use Rattle.xf_work.specs.Does.{Twin}
 use Rattle.xf_work.specs.Flags.{none_due, without}
 use Rattle.xf_work.specs.Known.{Knows}
 use Rattle.xf_work.specs.Parts.{IsSound, standing_of}
@@ -40,7 +41,7 @@ pub invariant_of-self-2 : goal.invariant_of-self-2
 invariant_of-self-2 c =
     let w = c.self.inside in
     let h = within-table w.table w.flags.items c.args.model c.self.invariant.sound.many (subst (λ (t : Twin). c.args.model < length t.now.models) (sym c.self.view_is) c.requires.model) in
-    let x = scope profile (state_of (standing_of w.loaded w.draft.now w.table w.flags.items w.shown.now w.tally)) c.args.model in
+    let x = bind_scope profile (state_of (standing_of w.loaded w.draft.now w.table w.flags.items w.shown.now w.tally)) c.args.model in
     let k = revalidated x w.loaded.form.tables.instances w.draft.now.nodes (kept_at w.table c.args.model) in
     let table : c.revalidate.new.table ≡ with_kept w.table c.args.model k =
     c.in_ok-is_same.ensures.ok called x.given ∙ ap (λ (f : Forest). with_kept w.table c.args.model (revalidated x w.loaded.form.tables.instances f.nodes (kept_at w.table c.args.model))) c.forest-forest.ensures in
@@ -70,7 +71,7 @@ pub returns-clause-done : goal.returns-clause-done
 returns-clause-done c =
     let w = c.self.inside in
     let h = within-table w.table w.flags.items c.args.model c.self.invariant.sound.many (subst (λ (t : Twin). c.args.model < length t.now.models) (sym c.self.view_is) c.requires.model) in
-    let x = scope profile (state_of (standing_of w.loaded w.draft.now w.table w.flags.items w.shown.now w.tally)) c.args.model in
+    let x = bind_scope profile (state_of (standing_of w.loaded w.draft.now w.table w.flags.items w.shown.now w.tally)) c.args.model in
     let table : c.revalidate.new.table ≡ with_kept w.table c.args.model (revalidated x w.loaded.form.tables.instances w.draft.now.nodes (kept_at w.table c.args.model)) =
     c.in_ok-is_same.ensures.ok called x.given ∙ ap (λ (f : Forest). with_kept w.table c.args.model (revalidated x w.loaded.form.tables.instances f.nodes (kept_at w.table c.args.model))) c.forest-forest.ensures in
     let many = flags-length w.flags.items c.args.model (without Revalidate (get_or w.flags.items c.args.model none_due)) in
@@ -85,7 +86,7 @@ pub returns-clause-kept : goal.returns-clause-kept
 returns-clause-kept c =
     let w = c.self.inside in
     let h = within-table w.table w.flags.items c.args.model c.self.invariant.sound.many (subst (λ (t : Twin). c.args.model < length t.now.models) (sym c.self.view_is) c.requires.model) in
-    let x = scope profile (state_of (standing_of w.loaded w.draft.now w.table w.flags.items w.shown.now w.tally)) c.args.model in
+    let x = bind_scope profile (state_of (standing_of w.loaded w.draft.now w.table w.flags.items w.shown.now w.tally)) c.args.model in
     let k = revalidated x w.loaded.form.tables.instances c.forest-forest.result.now.forest.nodes (kept_at w.table c.args.model) in
     let table : all_rolled_back c.revalidate.new.table ≡ all_rolled_back w.table = ap all_rolled_back (c.in_ok-is_same.ensures.ok called x.given) ∙ back-same w.table c.args.model k h refl in
     ap (λ t. record { standing = standing_of w.loaded w.draft.kept t w.old_flags.items w.shown.kept w.old_tally; built = w.old_built }) table
@@ -94,7 +95,7 @@ returns-clause-kept c =
 pub returns-clause-models : goal.returns-clause-models
 returns-clause-models c =
     let w = c.self.inside in
-    let x = scope profile (state_of (standing_of w.loaded w.draft.now w.table w.flags.items w.shown.now w.tally)) c.args.model in
+    let x = bind_scope profile (state_of (standing_of w.loaded w.draft.now w.table w.flags.items w.shown.now w.tally)) c.args.model in
     let k = revalidated x w.loaded.form.tables.instances c.forest-forest.result.now.forest.nodes (kept_at w.table c.args.model) in
     let many = flags-length w.flags.items c.args.model (without Revalidate (get_or w.flags.items c.args.model none_due)) in
     let cleared : c.clear.new.flags ≡ slice_set w.flags.items c.args.model (without Revalidate (get_or w.flags.items c.args.model none_due)) =

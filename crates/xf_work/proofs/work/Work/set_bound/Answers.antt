@@ -17,7 +17,8 @@ use Rattle.xf_tree.proofs.ValueLemmas.{kind-live}
 use Rattle.xf_form_machine.specs.Step.{set_bound as bound_set}
 use Rattle.xf_binds.specs.Table.{all_rolled_back}
 use Rattle.xf_undo.specs.Draft.{Draft}
-use Rattle.xf_work.specs.Does.{Does, Twin, profile}
+use Rattle.xf_processor.specs.Formed.{profile}
+use Rattle.xf_work.specs.Does.{Does, Twin}
 use Rattle.xf_work.specs.Grown.{with_more}
 use Rattle.xf_work.specs.Known.{Knows}
 use Rattle.xf_work.specs.Parts.{IsSound, standing_of}

@@ -7,7 +7,8 @@ use Rattle.xf_binds.specs.Table.{all_rolled_back}
 use Rattle.xf_controls.specs.Rising.{is_rising}
 use Rattle.xf_controls.specs.Seen.{seen_copy}
 use Rattle.xf_form_machine.specs.Update as update
-use Rattle.xf_work.specs.Does.{Twin, profile}
+use Rattle.xf_processor.specs.Formed.{profile}
+use Rattle.xf_work.specs.Does.{Twin}
 use Rattle.xf_work.specs.Parts.{standing_of}
 use Rattle.xf_work.specs.Standing.{state_of}
 use Rattle.xf_work.specs.Steady.{AreSteady, IsShaped}

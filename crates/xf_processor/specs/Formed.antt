@@ -1,5 +1,5 @@
 -- A form that is loaded as the machine sees it, with the data of its instances, and what the machine is given beside it.
-use Rattle.std.specs.Prelude.{ℕ, List, [], map, Option, Some, None}
+use Rattle.std.specs.Prelude.{ℕ, ◌≡◌, List, [], map, Option, Some, None, Result, Ok}
 use Rattle.xf_types.specs.Meets.{meets_type}
 use Rattle.xf_name.specs.Bindings.{Bindings}
 use Rattle.xf_name.specs.declared.lit.Lit.{Lit}
@@ -8,6 +8,7 @@ use Rattle.xf_doc.specs.declared.content.Content.{Content}
 use Rattle.xf_doc.specs.Plant.{contents_of}
 use Rattle.xf_funcs.specs.Called.{called}
 use Rattle.xf_loader.specs.Data.{lit_at}
+use Rattle.xf_loader.specs.Loading.{loaded_in}
 use Rattle.xf_loader.specs.declared.loaded.Loaded.{Loaded}
 use Rattle.xf_form_machine.specs.Profile.{Profile, usual}
 use Rattle.xf_form_machine.specs.Program.{Program}
@@ -23,12 +24,17 @@ abbrev pub contents_in : Bindings → ℕ → Option Lit → List (ℕ × Conten
 contents_in b space None = []
 contents_in b space (Some lit) = contents_of b lit space 0
 
--- the data with which an instance begins (XForms 1.1, section 3.3.2)
+-- the data with which an instance begins, as they stand in the form (XForms 1.1, section 3.3.2)
 abbrev pub document_of : Bindings → Lit → Instance → List (ℕ × Content)
 document_of b form i = contents_in b i.space (lit_at i.place form)
 
 abbrev pub documents_in : Loaded → List (List (ℕ × Content))
 documents_in l = map (document_of l.prefixes l.lit) l.form.tables.instances
 
+-- a form that is loaded, as the machine sees it
 abbrev pub program_in : Loaded → Program
 program_in l = program_of l.form l.prefixes (documents_in l)
+
+-- it was read from some bytes
+abbrev pub IsFromBytes : Loaded → Type 0
+IsFromBytes l = (bytes : List ℕ) × (loaded_in bytes ≡ Ok l)

@@ -1,0 +1,11 @@
+use Rattle.xf_part_laws.proofs.Stays.{part_stays_numbered, part_stays_text, part_stays_written}
+use Rattle.xf_part_laws.proofs.part_stays_with_texts.Goals as goal
+
+pub returns-clause-numbered : goal.returns-clause-numbered
+returns-clause-numbered c = part_stays_numbered
+
+pub returns-clause-text : goal.returns-clause-text
+returns-clause-text c = part_stays_text
+
+pub returns-clause-written : goal.returns-clause-written
+returns-clause-written c = part_stays_written
