@@ -96,10 +96,10 @@ module _ (l : Loaded) (small : is_small l.form ≡ true) (forest : Forest) (mode
   here = standing l forest models notes tally
 
   -- no form that a small world takes has repeats
-  pub given-same : (event : Option Told) → given profile here event ≡ given_in l.form.tables.instances l.prefixes forest event
+  pub given-same : (event : Option Told) → given here event ≡ given_in l.form.tables.instances l.prefixes l.form.decimals forest event
   given-same event =
-      ap (λ ds. record (given profile here event) { documents = ds }) (documents-same here)
-      ∙ ap (λ rs. record (given_in l.form.tables.instances l.prefixes forest event) { indexes = named_indexes (with_repeats (interface_of l.form) rs) [] }) (no-repeats l.form small)
+      ap (λ ds. record (given here event) { documents = ds }) (documents-same here)
+      ∙ ap (λ rs. record (given_in l.form.tables.instances l.prefixes l.form.decimals forest event) { indexes = named_indexes (with_repeats (interface_of l.form) rs) [] }) (no-repeats l.form small)
 
   abbrev around_with : Given → Given → Around
   around_with g h = record {
@@ -110,10 +110,11 @@ module _ (l : Loaded) (small : is_small l.form ≡ true) (forest : Forest) (mode
     bound = λ k. nested (Some string_limit) (scope_of called h l.form.tables 0) (visits forest.nodes) k;
   }
 
+  -- binds see no indexes anyway
   pub around-same : (event : Option Told) → around profile here event ≡ around_of l forest event
   around-same event =
-      ap (λ g. around_with g (given profile here None)) (given-same event)
-      ∙ ap (λ h. around_with (given_in l.form.tables.instances l.prefixes forest event) h) (given-same None)
+      ap (λ g. around_with g (record (given here None) { indexes = [] })) (given-same event)
+      ∙ ap (λ ds. around_with (given_in l.form.tables.instances l.prefixes l.form.decimals forest event) (record (given here None) { documents = ds; indexes = [] })) (documents-same here)
 
 -- over a forest that is the world's
 pub around-world : (w : SmallWorld) (forest : Forest) (event : Option Told) → forest ≡ w.draft.now → around profile (state_of w) event ≡ around_of w.loaded forest event
@@ -165,18 +166,18 @@ event-live : (name : List ℕ) (nodes : List Node) (told : Option (Bor (List Pro
 event-live name nodes None h = refl
 event-live name nodes (Some properties) h = told-live name nodes properties.now h
 
-pub around-stands : (is : List Instance) (b : Bindings) (nodes : List Node) (ds : List (Option ℕ)) (told : Option (Bor (List Property))) → ds ≡ documents_from 0 is nodes → is_event_live nodes told ≡ true
-    → AroundStands (given_by is b ds (event_of told)) nodes
-around-stands is b nodes ds told e live = record {
+pub around-stands : (is : List Instance) (b : Bindings) (d : ℕ) (nodes : List Node) (ds : List (Option ℕ)) (told : Option (Bor (List Property))) → ds ≡ documents_from 0 is nodes → is_event_live nodes told ≡ true
+    → AroundStands (given_by is b d ds (event_of told)) nodes
+around-stands is b d nodes ds told e live = record {
   documents = λ model id. document-live model id is ds nodes (subst (λ l. AreThere l nodes) (sym e) (all-there 0 is nodes));
   event = λ name. event-live name nodes told live;
 }
 
 -- over the documents that were found over a forest
-pub given-found : (instances found : List Instance) (b : Bindings) (forest : Forest) (ds : List (Option ℕ)) (event : Option Told) → found ≡ instances → ds ≡ documents_from 0 found forest.nodes
-    → given_by found b ds event ≡ given_in instances b forest event
-given-found instances found b forest ds event i e =
-    ap (λ l. given_by found b l event) e ∙ ap (λ l. given_by l b (documents_from 0 l forest.nodes) event) i
+pub given-found : (instances found : List Instance) (b : Bindings) (d : ℕ) (forest : Forest) (ds : List (Option ℕ)) (event : Option Told) → found ≡ instances → ds ≡ documents_from 0 found forest.nodes
+    → given_by found b d ds event ≡ given_in instances b d forest event
+given-found instances found b d forest ds event i e =
+    ap (λ l. given_by found b d l event) e ∙ ap (λ l. given_by l b d (documents_from 0 l forest.nodes) event) i
 
 -- ---- no documents
 

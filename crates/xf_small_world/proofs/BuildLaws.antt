@@ -103,7 +103,7 @@ module _ (l : Loaded) (small : is_small l.form ≡ true) (forest : Forest) (made
     abbrev further : Result State Refused → Result State Refused
     further r = r >>= λ t. then_shown (start_indexes profile (record t { cases = first_cases (interface t) }))
 
-    pub constructed : in_turn (plant_document profile) (program_in l).documents (unbuilt profile (program_in l) (Some [])) ≡ Ok (growing l forest made) → construct.construct profile (program_in l) (Some []) ≡ Ok here
+    pub constructed : in_turn (plant_document profile) (program_in l).documents (unbuilt profile (program_in l)) ≡ Ok (growing l forest made) → construct.construct profile (program_in l) ≡ Ok here
     constructed e =
         ap (λ r. r >>= λ s. further (in_turn (build_model profile) (counted_from 0 (length s.models)) s)) (e ∙ ap Ok grown-here)
         ∙ ap further (all-built (counted_from 0 (length (models_of ms))))
@@ -132,7 +132,7 @@ module _ (l : Loaded) (small : is_small l.form ≡ true) (forest : Forest) (made
   few : nat_lt (2 ^ 32) made ≡ false
   few = all.few refl
 
-  pub made-whole : construct.construct profile (program_in l) (Some []) ≡ Ok (standing l forest (all_fresh l.form.models) [] (counted made))
+  pub made-whole : construct.construct profile (program_in l) ≡ Ok (standing l forest (all_fresh l.form.models) [] (counted made))
   made-whole = constructed l small forest made within few all.done
 
   pub first-data : IsFirst l
@@ -159,7 +159,7 @@ module _ (l : Loaded) (small : is_small l.form ≡ true) (forest : Forest) (made
       ∙ map-length (document_of l.prefixes l.lit) l.form.tables.instances
 
   pub begun-is : (d : Forest) (ms : List ModelState) (notes : List Note) → d ≡ record forest { nodes = in_instances forest.nodes } → models_of ms ≡ map (λ n. no_model) l.form.models → notes ≡ []
-      → construct.construct profile (program_in l) (Some []) ≡ Ok (standing l d ms notes (counted made))
+      → construct.construct profile (program_in l) ≡ Ok (standing l d ms notes (counted made))
   begun-is d ms notes same fresh_too none =
       made-whole l small forest made all
       ∙ ap (λ x. Ok (record (standing l forest (all_fresh l.form.models) [] (counted made)) { models = x })) (fresh-models l.form.models ∙ sym fresh_too)

@@ -36,7 +36,7 @@ use Rattle.xf_form_machine.specs.Properties.{marks_in, readonly_in, value_from, 
 use Rattle.xf_form_machine.specs.Refusal.{or_long, if_over, unless_passed}
 use Rattle.xf_form_machine.specs.State as machine
 use Rattle.xf_form_machine.specs.State.{State}
-use Rattle.xf_form_machine.specs.Surround.{all_in, model_holding, quiet, scope}
+use Rattle.xf_form_machine.specs.Surround.{all_in, bind_scope, model_holding, quiet}
 use Rattle.xf_form_machine.specs.Update.{reindex, shown, with_brought, within_controls}
 use Rattle.xf_actions.specs.Told.{refreshed}
 use Rattle.xf_small_world.specs.declared.model.ModelState.{ModelState}
@@ -198,10 +198,10 @@ module _ (l : Loaded) (small : is_small l.form ≡ true) where
     -- ---- the behaviours
 
     unruled : (k : ℕ) → Scope
-    unruled k = record (scope profile here k) { rules = [] }
+    unruled k = record (bind_scope profile here k) { rules = [] }
 
-    no-readers : (k : ℕ) (s : State) → calculated (scope profile s k) (shape_of s.forest.nodes) [] ≡ []
-    no-readers k s = ap (map (λ e. record { node = e.node; reads = reads_of (scope profile s k) (shape_of s.forest.nodes) e })) (by-none (shape_of s.forest.nodes))
+    no-readers : (k : ℕ) (s : State) → calculated (bind_scope profile s k) (shape_of s.forest.nodes) [] ≡ []
+    no-readers k s = ap (map (λ e. record { node = e.node; reads = reads_of (bind_scope profile s k) (shape_of s.forest.nodes) e })) (by-none (shape_of s.forest.nodes))
 
     acyclic : (k : ℕ) (s : State) → no_cycle profile k [] s ≡ Ok s
     acyclic k s = ap (λ rs. unless_cycle s rs (reported_cycle (dependents (shape_of s.forest.nodes) rs)) s) (no-readers k s)
@@ -209,14 +209,14 @@ module _ (l : Loaded) (small : is_small l.form ≡ true) where
     pub none-rebuilt : (k : ℕ) → rebuild profile k here ≡ Ok (in_model (rebuilt_with [] 0) k here)
     none-rebuilt k =
         let after = in_model (rebuilt_with [] 0) k here in
-        ap (λ bs. by_applied profile k (applied (record (scope profile here k) { rules = map rule_of bs }) forest.nodes) here) (no-binds l.form small)
+        ap (λ bs. by_applied profile k (applied (record (bind_scope profile here k) { rules = map rule_of bs }) forest.nodes) here) (no-binds l.form small)
         ∙ ap (λ n. unless_passed after (if_over (nat_lt (2 ^ 23) n) Edges) after >>= no_cycle profile k []) (no-asked-then k ms)
         ∙ acyclic k after
 
     none-invalid : (k : ℕ) (x : Visit) → is_invalid profile k here x ≡ false
     none-invalid k x =
         let m = model_at here k in
-        ap (λ es. is_model k (model_holding here x.number) && not (is_valid profile.meets (scope profile here k) (all_in here) es (map (value_from m.stood) (filter is_computed es)) x.number)) (no-entries ms k)
+        ap (λ es. is_model k (model_holding here x.number) && not (is_valid profile.meets (bind_scope profile here k) (all_in here) es (map (value_from m.stood) (filter is_computed es)) x.number)) (no-entries ms k)
         ∙ and-false (is_model k (model_holding here x.number))
 
     pub all-revalidated : (k : ℕ) → revalidate profile k here ≡ in_model (revalidated_with []) k here

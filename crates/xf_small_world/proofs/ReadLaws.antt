@@ -50,11 +50,11 @@ module _ (w : SmallWorld) (event : Option Told) (a : Around) (same : a ≡ aroun
 -- ---- whole numbers
 
 pub whole-by : (s : State) (a : Around) (model : ℕ) (c : Focus) (o : Option Value)
-    → (or_long s o >>= λ v. or_long s (number_of (setting a model c.node) v) >>= λ k. Ok (whole_of 6 k)) ≡ or_long s (whole_worth a model c (λ t x. o))
+    → (or_long s o >>= λ v. or_long s (number_of (setting a model c.node) v) >>= λ k. Ok (whole_of a.given.decimals k)) ≡ or_long s (whole_worth a model c (λ t x. o))
 whole-by s a model c None = refl
 whole-by s a model c (Some v) = by (number_of (setting a model c.node) v)
   where
-    by : (o : Option Decimal) → (or_long s o >>= λ k. Ok (whole_of 6 k)) ≡ or_long s (option_map (whole_of 6) o)
+    by : (o : Option Decimal) → (or_long s o >>= λ k. Ok (whole_of a.given.decimals k)) ≡ or_long s (option_map (whole_of a.given.decimals) o)
     by None = refl
     by (Some k) = refl
 

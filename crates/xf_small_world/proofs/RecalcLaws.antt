@@ -21,7 +21,7 @@ use Rattle.xf_form_machine.specs.Flow.{◌>>=◌}
 use Rattle.xf_form_machine.specs.Primitives.{changed_at, over_made}
 use Rattle.xf_form_machine.specs.Refusal.{Refused, if_over, limit, unless_passed, word_of}
 use Rattle.xf_form_machine.specs.State.{State}
-use Rattle.xf_form_machine.specs.Surround.{scope}
+use Rattle.xf_form_machine.specs.Surround.{bind_scope}
 use Rattle.xf_actions.specs.Performs.{RefusedAs, Refuses}
 use Rattle.xf_small_world.specs.declared.fault.SmallFault.{SmallFault}
 use Rattle.xf_small_world.specs.declared.fault.SmallFault.TheVariants as fault
@@ -64,13 +64,13 @@ module _ (l : Loaded) (forest : Forest) (ms : List ModelState) (notes : List Not
 
   abbrev with_entries : List Entry → Result State Refused
   with_entries es =
-      unless_passed here (map word_of (passed profile.bounds (scope profile here k) es all) ++ over_made profile (tally.made + length (calculates es))) here
-      >>= λ t. Ok (evaluated_more (length (calculates es)) (pertinent_count (scope profile here k) (shape all) es (changes_of (model_at here k)))
-      (settled_in profile k es (settled_contents profile.bounds (scope profile here k) es all) t))
+      unless_passed here (map word_of (passed profile.bounds (bind_scope profile here k) es all) ++ over_made profile (tally.made + length (calculates es))) here
+      >>= λ t. Ok (evaluated_more (length (calculates es)) (pertinent_count (bind_scope profile here k) (shape all) es (changes_of (model_at here k)))
+      (settled_in profile k es (settled_contents profile.bounds (bind_scope profile here k) es all) t))
 
   abbrev with_visits : List Visit → Result State Refused
   with_visits vs =
-      unless_passed here (map word_of (passed_over profile.bounds (scope profile here k) [] vs) ++ over_made profile (tally.made + 0)) here >>= λ t. Ok (after t)
+      unless_passed here (map word_of (passed_over profile.bounds (bind_scope profile here k) [] vs) ++ over_made profile (tally.made + 0)) here >>= λ t. Ok (after t)
 
   abbrev with_words : Bool → Bool → Bool → Result State Refused
   with_words many large over = unless_passed here (words many large over) here >>= λ t. Ok (after t)

@@ -166,7 +166,7 @@ some-at (x ∷ xs) (suc k) h = some-at xs k (omega (arith, h))
 
 -- a place that has a root has an instance, whose data construction left as they stand in the form
 first-is : (l : Loaded) (forest : Forest) (place r : ℕ) → planting.IsFirst l → length (roots_in forest.nodes) ≡ length l.form.tables.instances → root_of place forest.nodes ≡ Some r
-    → first_contents (construct profile (program_in l) (Some [])) place ≡ planting.document_at l place
+    → first_contents (construct profile (program_in l)) place ≡ planting.document_at l place
 first-is l forest place r are many root =
     let short : place < length (roots_in forest.nodes) = slice_get_within (roots_in forest.nodes) place r (sym (root_at_place place forest.nodes) ∙ root) in
     let (i, at) = some-at l.form.tables.instances place (omega (arith, short, many)) in
@@ -185,7 +185,7 @@ module _ (w : SmallWorld) (place n r : ℕ) (forest : Forest) (same : forest ≡
   own = planting.document_at w.loaded place
 
   abbrev given : Result State Refused
-  given = put_back profile (construct profile (program_in w.loaded) (Some [])) place s
+  given = put_back profile (construct profile (program_in w.loaded)) place s
 
   root-is : root_of place w.draft.now.nodes ≡ Some r
   root-is = sym (root ∙ ap (λ (f : Forest). root_of place f.nodes) same)
@@ -195,7 +195,7 @@ module _ (w : SmallWorld) (place n r : ℕ) (forest : Forest) (same : forest ≡
 
   given-is : given ≡ put_in n own r s
   given-is =
-      put-back-is (construct profile (program_in w.loaded) (Some [])) place n r s own (subst HasTrees same trees) document-is root-is (first-is w.loaded w.draft.now place r w.first w.rooted root-is)
+      put-back-is (construct profile (program_in w.loaded)) place n r s own (subst HasTrees same trees) document-is root-is (first-is w.loaded w.draft.now place r w.first w.rooted root-is)
 
   pub put-stopped : (told : Option Refusal) → Refuses told [] (plant profile own s) → Refuses told [] given
   put-stopped told h = same-refuses told [] given (put_in n own r s) given-is (refuses-then told [] (plant profile own s) (λ made. attach profile made.0 r 0 (detach n made.1)) h)

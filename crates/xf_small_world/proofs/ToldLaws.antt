@@ -10,6 +10,6 @@ pub origins-same : (places : List Place) → map (λ (q : Place). q.origin.numbe
 origins-same [] = refl
 origins-same (q ∷ qs) = ap (λ ns. q.origin.number ∷ ns) (origins-same qs)
 
-pub location-same : (set : List ℕ) (at : Option ℤ) → location_in (length set) at ≡ location_of 6 set at
-location-same set None = refl
-location-same set (Some k) = refl
+pub location-same : (d : ℕ) (set : List ℕ) (at : Option ℤ) → location_in d (length set) at ≡ location_of d set at
+location-same d set None = refl
+location-same d set (Some k) = refl

@@ -42,11 +42,11 @@ documents_by [] ds = []
 documents_by (i ∷ is) [] = []
 documents_by (i ∷ is) (d ∷ ds) = document_in i d ++ documents_by is ds
 
-abbrev pub given_by : List Instance → Bindings → List (Option ℕ) → Option Told → Given
-given_by instances b ds event = record { documents = documents_by instances ds; indexes = []; event = event; bindings = b; decimals = 6 }
+abbrev pub given_by : List Instance → Bindings → ℕ → List (Option ℕ) → Option Told → Given
+given_by instances b d ds event = record { documents = documents_by instances ds; indexes = []; event = event; bindings = b; decimals = d }
 
-abbrev pub given_in : List Instance → Bindings → Forest → Option Told → Given
-given_in instances b forest event = given_by instances b (documents_from 0 instances forest.nodes) event
+abbrev pub given_in : List Instance → Bindings → ℕ → Forest → Option Told → Given
+given_in instances b d forest event = given_by instances b d (documents_from 0 instances forest.nodes) event
 
 abbrev pub event_of : Option (Bor (List Property)) → Option Told
 event_of None = None

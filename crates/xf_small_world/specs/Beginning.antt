@@ -14,7 +14,7 @@ use Rattle.xf_small_world.specs.State.{state_of}
 
 abbrev pub IsBegun : Loaded → Option SmallWorld → Type 0
 IsBegun l None = is_small l.form ≡ false
-IsBegun l (Some w) = construct profile (program_in l) (Some []) ≡ Ok (state_of w)
+IsBegun l (Some w) = construct profile (program_in l) ≡ Ok (state_of w)
 
 -- the data of all instances as they were planted, and of each model that none is built
 pub record IsGround (l : Loaded) (g : Ground) : Type 0 where

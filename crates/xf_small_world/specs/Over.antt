@@ -21,9 +21,9 @@ abbrev pub around_of : Loaded → Forest → Option Told → Around
 around_of l forest event = record {
   functions = called;
   most = Some string_limit;
-  given = given_in l.form.tables.instances l.prefixes forest event;
+  given = given_in l.form.tables.instances l.prefixes l.form.decimals forest event;
   all = visits forest.nodes;
-  bound = λ k. nested (Some string_limit) (scope_of called (given_in l.form.tables.instances l.prefixes forest None) l.form.tables 0) (visits forest.nodes) k;
+  bound = λ k. nested (Some string_limit) (scope_of called (given_in l.form.tables.instances l.prefixes l.form.decimals forest None) l.form.tables 0) (visits forest.nodes) k;
 }
 
 abbrev pub around_over : Over → Around
@@ -31,7 +31,7 @@ around_over o = around_of o.loaded.now o.forest.now.forest (event_of o.told)
 
 -- a number as a whole one: None within is NaN
 abbrev pub whole_worth : Around → ℕ → Focus → Meaning → Option (Option ℤ)
-whole_worth a model c m = option_and_then (λ value. option_map (whole_of 6) (number_of (setting a model c.node) value)) (m (setting a model c.node) c)
+whole_worth a model c m = option_and_then (λ value. option_map (whole_of a.given.decimals) (number_of (setting a model c.node) value)) (m (setting a model c.node) c)
 
 -- the string value of a node, held to the limit
 abbrev pub string_in : List Node → ℕ → Option (List ℕ)

@@ -15,7 +15,7 @@ use Rattle.xf_processor.specs.Formed.{document_of, profile, program_in}
 
 -- these data, of which so many nodes were made, and nothing else
 abbrev pub growing : Loaded → Forest → ℕ → State
-growing l forest made = record (unbuilt profile (program_in l) (Some [])) { forest = forest; made = made }
+growing l forest made = record (unbuilt profile (program_in l)) { forest = forest; made = made }
 
 -- a document stands behind what stood, under its root
 pub record IsPlanted (l : Loaded) (d : Document) (before : Forest) (made : ℕ) (after : Forest) (all : ℕ) : Type 0 where
@@ -48,4 +48,4 @@ document_at l place = of_instance l (slice_get l.form.tables.instances place)
 
 -- the data of each instance are left by construction as they stand in the form
 abbrev pub IsFirst : Loaded → Type 0
-IsFirst l = (place : ℕ) (i : Instance) → slice_get l.form.tables.instances place ≡ Some i → first_contents (construct profile (program_in l) (Some [])) place ≡ document_of l.prefixes l.lit i
+IsFirst l = (place : ℕ) (i : Instance) → slice_get l.form.tables.instances place ≡ Some i → first_contents (construct profile (program_in l)) place ≡ document_of l.prefixes l.lit i

@@ -1,5 +1,5 @@
 -- The state of the machine that a small world stands for: there are no indexes, cases and controls, and the store is not called.
-use Rattle.std.specs.Prelude.{List, [], Some}
+use Rattle.std.specs.Prelude.{List, []}
 use Rattle.xf_doc.specs.Forest.{Forest}
 use Rattle.xf_loader.specs.declared.loaded.Loaded.{Loaded}
 use Rattle.xf_form_machine.specs.declared.note.Note.{Note}
@@ -24,7 +24,6 @@ standing loaded forest models notes tally = record {
   made = tally.made;
   evaluated = tally.evaluated;
   calls = [];
-  to_come = Some [];
 }
 
 abbrev pub state_of : SmallWorld → State

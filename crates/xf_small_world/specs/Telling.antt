@@ -20,9 +20,9 @@ inserted_told all is_before tops origins location =
     ∷ (codes "insert-location-node", Nodes location) ∷ (codes "position", Text (side_text is_before)) ∷ []
 
 -- the place that `at` names in a set of so many, or NaN where it is not written
-abbrev pub location_in : ℕ → Option ℤ → Decimal
-location_in size None = None
-location_in size (Some k) = whole 6 (held size (Some k))
+abbrev pub location_in : ℕ → ℕ → Option ℤ → Decimal
+location_in d size None = None
+location_in d size (Some k) = whole d (held size (Some k))
 
 -- of a delete
 abbrev pub deleted_told : List Visit → List ℕ → Decimal → Told

@@ -15,6 +15,7 @@ use xf_doc::NodeId;
 use xf_eval::Around;
 use xf_lang::Value;
 use xf_name::{Axis, Prefixes};
+use xf_num::Decimals;
 use xf_tree::Forest;
 
 /// What surrounds an expression of a form without repeats: the document element of each instance beside it, and the properties of the event
@@ -23,17 +24,15 @@ use xf_tree::Forest;
 pub(crate) struct Surroundings<'a> {
     pub instances: &'a [Instance],
     pub prefixes: &'a Prefixes,
+    pub decimals: Decimals,
     pub documents: &'a [Option<NodeId>],
     pub told: Option<&'a [Property]>,
 }
 
 impl<'a> Around for Surroundings<'a> {
-    ghost use Rattle.std.proofs.Common.{refl};
     ghost use Rattle.xf_small_world.specs.Around.{given_by, numbers_of, event_of};
 
-    ghost given = { λ q. given_by q.instances.now q.prefixes.now (numbers_of q.documents.now) (event_of q.told) };
-
-    ghost six = { λ q. refl };
+    ghost given = { λ q. given_by q.instances.now q.prefixes.now q.decimals (numbers_of q.documents.now) (event_of q.told) };
 
     fn instance(&self, model: u32, id: &str) -> Option<NodeId> {
         document_of(self.instances, self.documents, model, id)
@@ -52,6 +51,10 @@ impl<'a> Around for Surroundings<'a> {
 
     fn prefixes(&self) -> &Prefixes {
         self.prefixes
+    }
+
+    fn decimals(&self) -> Decimals {
+        self.decimals
     }
 }
 

@@ -85,12 +85,10 @@ pub(crate) fn named_copy(world: &SmallWorld, element: u32) -> Result<Option<Node
 }
 
 /// A case is selected: there is none.
-pub(crate) fn set_case(world: &mut SmallWorld, switch: u32, place: usize) -> Result<(), SmallFault>
-    ensures done { Runs means (state_of world.new) result (Ok (case_set switch place (state_of world.old))) }
-    ensures form { (state_of world.new).form ≡ (state_of world.old).form }
+pub(crate) fn set_case(world: &mut SmallWorld, switch: u32, place: usize)
+    ensures { state_of world.new ≡ case_set switch place (state_of world.old) }
 {
     let _ = &world.loaded;
     let _ = switch;
     let _ = place;
-    Ok(())
 }

@@ -10,7 +10,6 @@ ghost use Rattle.xf_actions.specs.Performs.{Reads};
 ghost use Rattle.xf_actions.specs.Seen.{fired_of, place_of, told_of};
 ghost use Rattle.xf_small_world.specs.Fault.{means};
 ghost use Rattle.xf_small_forest.specs.Numbers.{number};
-ghost use Rattle.xf_processor.specs.Formed.{profile};
 ghost use Rattle.xf_small_world.specs.State.{state_of};
 ghost use Rattle.xf_small_world.specs.Telling.{deleted_told, inserted_told, location_in};
 
@@ -25,7 +24,7 @@ use xf_doc::NodeList;
 use xf_eval::append;
 use xf_lang::Value;
 use xf_name::Word;
-use xf_num::Num;
+use xf_num::{Decimals, Num};
 use xf_small_forest::held;
 use xf_tree::Forest;
 
@@ -52,9 +51,9 @@ pub(crate) fn delete_event(
     set: &NodeList,
     at: Option<i64>,
 ) -> Result<Fired, SmallFault>
-    ensures { Reads means fired_of (state_of world.now) result (Ok (instance_event (codes "xforms-delete") (delete_told (state_of world.now) nodes.now (location_of profile.decimals set.now at)) instance (state_of world.now))) }
+    ensures { Reads means fired_of (state_of world.now) result (Ok (instance_event (codes "xforms-delete") (delete_told (state_of world.now) nodes.now (location_of (state_of world.now).form.decimals set.now at)) instance (state_of world.now))) }
 {
-    let location = delete_location(set.len(), at);
+    let location = delete_location(set.len(), at, world.loaded.form.decimals);
     match told_delete(world.alloc, world.draft.forest(), nodes, location) {
         Ok(told) => to_instance(world, "xforms-delete", instance, told),
         Err(_) => Err(SmallFault::Memory),
@@ -76,21 +75,21 @@ fn told_delete(
 }
 
 /// The place that `at` names in a set of so many, or NaN where it is not written.
-fn delete_location(size: usize, at: Option<i64>) -> Num
-    ensures { result ≡ location_in size at }
+fn delete_location(size: usize, at: Option<i64>, decimals: Decimals) -> Num
+    ensures { result ≡ location_in decimals size at }
 {
     match at {
-        Some(at) => whole(held(size, at)),
+        Some(at) => whole(held(size, at), decimals),
         None => Num::nan(),
     }
 }
 
 /// A whole number.
 #[tactic(auto, unfolding(xf_num::specs::Number::scale))]
-fn whole(count: usize) -> Num
-    ensures { result ≡ whole 6 count }
+fn whole(count: usize, decimals: Decimals) -> Num
+    ensures { result ≡ whole decimals count }
 {
-    Num::of_units(i128::from(count as u64) * 1_000_000)
+    Num::of_units(i128::from(count as u64) * i128::from(decimals.units_in_one()))
 }
 
 /// An event to the element of an instance.

@@ -1,7 +1,8 @@
 //! What one event may use up.
 
-ghost use Rattle.std.specs.Prelude.{◌≡◌};
+ghost use Rattle.std.specs.Prelude.{◌≡◌, Some, IfErr};
 ghost use Rattle.xf_form_machine.specs.Primitives.{spend as spent};
+ghost use Rattle.xf_form_machine.specs.Refusal.{budget};
 ghost use Rattle.xf_actions.specs.Performs.{Runs};
 ghost use Rattle.xf_small_world.specs.Fault.{means};
 ghost use Rattle.xf_small_world.specs.State.{state_of};
@@ -16,9 +17,10 @@ pub(crate) fn turns(world: &SmallWorld) -> u32
     world.tally.turns
 }
 
-/// Spends a turn.
+/// Spends a turn, where one is left.
 pub(crate) fn spend(world: &mut SmallWorld) -> Result<(), SmallFault>
     ensures done { Runs means (state_of world.new) result (spent (state_of world.old)) }
+    ensures cause { IfErr result (λ fault. means fault ≡ Some budget) }
     ensures form { (state_of world.new).form ≡ (state_of world.old).form }
 {
     let turns = world.tally.turns;

@@ -1,15 +1,12 @@
 //! The behaviours of models that are due.
 
-ghost use Rattle.std.specs.Prelude.{◌≡◌, length, Ok};
+ghost use Rattle.std.specs.Prelude.{◌≡◌, length};
 ghost use Rattle.xf_form_machine.specs.Behave.{model_at};
 ghost use Rattle.xf_form_machine.specs.Primitives.{in_model, refresh_due};
 ghost use Rattle.xf_form_machine.specs.Update as update;
-ghost use Rattle.xf_actions.specs.Performs.{Runs};
 ghost use Rattle.xf_actions.specs.Told.{is_set};
-ghost use Rattle.xf_small_world.specs.Fault.{means};
 ghost use Rattle.xf_small_world.specs.State.{state_of};
 
-use crate::fault::SmallFault;
 use crate::model::Change;
 use crate::world::SmallWorld;
 use xf_actions::Flag;
@@ -43,10 +40,8 @@ pub(crate) fn is_refresh_due(world: &SmallWorld) -> bool
 }
 
 /// The refresh of a model is due.
-pub(crate) fn flag_refresh(world: &mut SmallWorld, model: u32) -> Result<(), SmallFault>
-    ensures done { Runs means (state_of world.new) result (Ok (in_model refresh_due model (state_of world.old))) }
-    ensures form { (state_of world.new).form ≡ (state_of world.old).form }
+pub(crate) fn flag_refresh(world: &mut SmallWorld, model: u32)
+    ensures { state_of world.new ≡ in_model refresh_due model (state_of world.old) }
 {
     world.models.change(model, Change::RefreshDue);
-    Ok(())
 }

@@ -26,7 +26,7 @@ use xf_eval::{Context, EvalFault, Value, nodes_in, number_of, text_of, value_at}
 use xf_loader::Loaded;
 use xf_name::Word;
 use xf_nested::bound_nodes;
-use xf_num::Num;
+use xf_num::{Decimals, Num};
 use xf_small_forest::is_live;
 use xf_tree::Forest;
 
@@ -62,6 +62,7 @@ pub(crate) fn value(
     let around = Surroundings {
         instances,
         prefixes: &over.loaded.prefixes,
+        decimals: over.loaded.form.decimals,
         documents: documents.as_slice(),
         told: over.told,
     };
@@ -127,7 +128,7 @@ pub(crate) fn text(
     ensures { GivesBounded EvalFault.Memory EvalFault.Long (λ w. w) result (text_worth (meaning expr.now) (setting (around_over over.now) model focus.now.node.number) (focus_of focus.now)) }
 {
     let value = value(over, model, focus, expr)?;
-    text_of(over.alloc, over.forest, &value)
+    text_of(over.alloc, over.forest, &value, over.loaded.form.decimals)
 }
 
 /// The value of an expression as a whole number: none for NaN.
@@ -140,18 +141,20 @@ pub(crate) fn whole(
     ensures { GivesBounded EvalFault.Memory EvalFault.Long (λ k. k) result (whole_worth (around_over over.now) model (focus_of focus.now) (meaning expr.now)) }
 {
     let value = value(over, model, focus, expr)?;
-    let number = number_of(over.alloc, over.forest, &value)?;
-    whole_of(number)
+    let decimals = over.loaded.form.decimals;
+    let number = number_of(over.alloc, over.forest, &value, decimals)?;
+    whole_of(number, decimals)
 }
 
 #[tactic(auto, unfolding(xf_num::specs::Number::scale))]
-fn whole_of(number: Num) -> Result<Option<i64>, EvalFault>
-    ensures { GivesBounded EvalFault.Memory EvalFault.Long (λ k. k) result (Some (whole_of 6 number)) }
+fn whole_of(number: Num, decimals: Decimals) -> Result<Option<i64>, EvalFault>
+    ensures { GivesBounded EvalFault.Memory EvalFault.Long (λ k. k) result (Some (whole_of decimals number)) }
 {
-    match number.round().units() {
-        Some(units) => match i64::try_from(units.div_euclid(1_000_000)) {
+    let one = i128::from(decimals.units_in_one());
+    match number.round(decimals).units() {
+        Some(units) => match i64::try_from(units.div_euclid(one)) {
             Ok(whole) => Ok(Some(whole)),
-            // A number has fewer than 10^18 millionths.
+            // A number has fewer than 10^18 units.
             Err(_) => Err(EvalFault::Memory),
         },
         None => Ok(None),

@@ -15,6 +15,7 @@ use xf_ast::{ElementList, Expr, Form, InsertWork};
 use xf_doc::{NodeId, NodeList};
 use xf_form_machine::Note;
 use xf_name::Word;
+use xf_store::Store;
 use xf_ui::CallList;
 
 impl World for SmallWorld {
@@ -87,8 +88,12 @@ impl World for SmallWorld {
         behaviours::refresh(self, model)
     }
 
-    fn submit(&mut self, submission: u32) -> Result<Concluded, SmallFault> {
-        submitting::submit(self, submission)
+    fn submit<S: Store>(
+        &mut self,
+        submission: u32,
+        store: &mut S,
+    ) -> Result<Concluded, SmallFault> {
+        submitting::submit(self, submission, store)
     }
 
     fn instances(&self, model: u32) -> Result<ElementList, SmallFault> {
@@ -189,12 +194,12 @@ impl World for SmallWorld {
         elements::selected(self, switch)
     }
 
-    fn set_case(&mut self, switch: u32, place: usize) -> Result<(), SmallFault> {
-        behaviours::set_case(self, switch, place)
+    fn set_case(&mut self, switch: u32, place: usize) {
+        behaviours::set_case(self, switch, place);
     }
 
-    fn flag_refresh(&mut self, model: u32) -> Result<(), SmallFault> {
-        flagging::flag_refresh(self, model)
+    fn flag_refresh(&mut self, model: u32) {
+        flagging::flag_refresh(self, model);
     }
 
     fn whole(

@@ -1,6 +1,6 @@
 //! What a reset puts back (XForms 1.1, section 4.3.7): the data of an instance as construction left them.
 
-ghost use Rattle.std.specs.Prelude.{◌≡◌, [], Some};
+ghost use Rattle.std.specs.Prelude.{◌≡◌};
 ghost use Rattle.xf_form_machine.specs.Construct.{construct, put_back as instance_put_back};
 ghost use Rattle.xf_form_machine.specs.Primitives.{plant as planted};
 ghost use Rattle.xf_actions.specs.Performs.{Makes, Runs};
@@ -20,7 +20,7 @@ use xf_small_forest::plant_in;
 
 /// The document element of an instance as construction left it, in place of the one that stands.
 pub(crate) fn put_back(world: &mut SmallWorld, instance: u32) -> Result<(), SmallFault>
-    ensures done { Runs means (state_of world.new) result (instance_put_back profile (construct profile (state_of world.old).form (Some [])) instance (state_of world.old)) }
+    ensures done { Runs means (state_of world.new) result (instance_put_back profile (construct profile (state_of world.old).form) instance (state_of world.old)) }
     ensures form { (state_of world.new).form ≡ (state_of world.old).form }
 {
     let forest = world.draft.forest();

@@ -19,5 +19,5 @@ returns-in-Ok c =
     same-reads means fired_of s c.to_instance.result _ _
     (ap (λ t. Ok (instance_event (codes "xforms-delete") t c.args.instance s))
     (sym (c.in-Ok.ensures ∙ ap (λ (f : Forest). deleted_told (visits f.nodes) ns c.delete_location-location.result) c.forest.ensures
-    ∙ ap (λ k. deleted_told (visits w.draft.now.nodes) ns k) (c.delete_location-location.ensures ∙ ap (λ n. location_in n c.args.at) c.len.ensures ∙ location-same c.args.set.now c.args.at))))
+    ∙ ap (λ k. deleted_told (visits w.draft.now.nodes) ns k) (c.delete_location-location.ensures ∙ ap (λ n. location_in w.loaded.form.decimals n c.args.at) c.len.ensures ∙ location-same w.loaded.form.decimals c.args.set.now c.args.at))))
     c.to_instance.ensures

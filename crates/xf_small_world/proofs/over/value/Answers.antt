@@ -7,7 +7,6 @@ use Rattle.xf_lang.specs.declared.fault.EvalFault.TheVariants.{Long, Memory}
 use Rattle.xf_lang.specs.declared.value.Value.{Value}
 use Rattle.xf_lang.specs.Meaning.{meaning}
 use Rattle.xf_lang.specs.Setting.{setting_over}
-use Rattle.xf_eval.specs.Worth.{with_six}
 use Rattle.xf_actions.specs.Seen.{focus_of}
 use Rattle.xf_small_world.specs.Around.{event_of, numbers_of}
 use Rattle.xf_small_world.proofs.AroundLaws.{around-stands, given-found}
@@ -18,7 +17,7 @@ value_at-requires c =
     let o = c.args.over.now in
     record {
       around =
-          around-stands c.as_slice-instances.result.now o.loaded.now.prefixes o.forest.now.forest.nodes (numbers_of c.as_slice.result.now) o.told
+          around-stands c.as_slice-instances.result.now o.loaded.now.prefixes o.loaded.now.form.decimals o.forest.now.forest.nodes (numbers_of c.as_slice.result.now) o.told
           (ap numbers_of c.as_slice.ensures.value ∙ c.in_ok-documents.ensures.all) (sym c.is_event_live.ensures ∙ c.if-not-is_event_live.false);
       node = sym c.is_live.ensures ∙ c.if-not-is_live.false;
       current = sym c.is_live.ensures ∙ c.if-not-is_live.false;
@@ -28,7 +27,7 @@ pub returns-clause-value : goal.returns-clause-value
 returns-clause-value c =
     let o = c.args.over.now in
     let f = c.args.focus.now in
-    subst (λ g. GivesBounded {X = Value} {Y = Value} Memory Long (λ v. v) c.value_at.result (meaning c.args.expr.now (setting_over called (Some string_limit) (with_six g) (visits o.forest.now.forest.nodes) c.args.model f.node.number) (focus_of f)))
-    (given-found o.loaded.now.form.tables.instances c.as_slice-instances.result.now o.loaded.now.prefixes o.forest.now.forest (numbers_of c.as_slice.result.now) (event_of o.told) c.as_slice-instances.ensures
+    subst (λ g. GivesBounded {X = Value} {Y = Value} Memory Long (λ v. v) c.value_at.result (meaning c.args.expr.now (setting_over called (Some string_limit) g (visits o.forest.now.forest.nodes) c.args.model f.node.number) (focus_of f)))
+    (given-found o.loaded.now.form.tables.instances c.as_slice-instances.result.now o.loaded.now.prefixes o.loaded.now.form.decimals o.forest.now.forest (numbers_of c.as_slice.result.now) (event_of o.told) c.as_slice-instances.ensures
     (ap numbers_of c.as_slice.ensures.value ∙ c.in_ok-documents.ensures.all))
     c.value_at.ensures.value
