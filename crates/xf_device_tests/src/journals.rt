@@ -14,11 +14,16 @@ const FORM: &[u8; 123] =
 const LINE: &[u8; 18] = br#"["set","a",[],"2"]"#;
 
 // that form under epoch 1, with a base of no answers and the line as its one entry
-const SLOT: &[u8; 175] =
+const SLOT: &[u8; 179] =
+    b"\x01XFS2\x01\0\0\0\0\0\0\0\x7b\0\0\0\x02\0\0\0\0\0\0\0[\"f\",{\"xmlns:xf\":\"http://www.w3.org/2002/xforms\"},[\"xf:model\",[\"xf:instance\",[\"d\",\"1\"]]],[\"xf:input\",{\"id\":\"a\",\"ref\":\".\"}]]\0\0\x01\x17\0\0\0\x12\0\0\0[\"set\",\"a\",[],\"2\"]\0\0";
+
+// the same in the first format, which is read and appended to, and no more written
+const OLD_SLOT: &[u8; 175] =
     b"\x01XFS1\x01\0\0\0\0\0\0\0\x7b\0\0\0\x02\0\0\0[\"f\",{\"xmlns:xf\":\"http://www.w3.org/2002/xforms\"},[\"xf:model\",[\"xf:instance\",[\"d\",\"1\"]]],[\"xf:input\",{\"id\":\"a\",\"ref\":\".\"}]]\0\0\x01\x17\0\0\0\x12\0\0\0[\"set\",\"a\",[],\"2\"]\0\0";
 
 fn image(alloc: Global) -> Result<Image, AllocError> {
     Ok(Image {
+        adoptions: 0,
         form: Bytes::from_vec(Vec::from_slice(alloc, FORM)?),
         base: Bytes::from_vec(Vec::from_slice(alloc, &[0, 0])?),
     })
@@ -73,17 +78,17 @@ fn append(
 #[test]
 fn a_new_slot_and_one_entry_have_their_bytes(rt: HostRuntime) {
     const CALLS: [Call; 4] = [
-        Call::Write(Slot::A, 147, 28),
+        Call::Write(Slot::A, 151, 28),
         Call::Sync(Slot::A),
-        Call::Write(Slot::A, 146, 1),
+        Call::Write(Slot::A, 150, 1),
         Call::Sync(Slot::A),
     ];
     let entry = make_entry(rt.alloc(), LINE, &Answers::new(rt.alloc())).expect(&rt, "room");
     assert_gives!(rt; entry.len(), 28);
     let mut disk = MemoryDisk::new(rt.alloc(), b"", b"", 256, 64).expect(&rt, "room");
     let mut journal = created(rt.alloc(), &mut disk).expect(&rt, "room");
-    assert_gives!(rt; (journal.slot(), journal.used()), (Slot::A, 147));
-    assert_gives!(rt; disk.held(Slot::A).len(), 147);
+    assert_gives!(rt; (journal.slot(), journal.used()), (Slot::A, 151));
+    assert_gives!(rt; disk.held(Slot::A).len(), 151);
     let calls = disk.calls().len();
     assert_gives!(rt; append(&mut disk, &mut journal, &entry), Some(Ok(())));
     assert_gives!(rt; disk.calls().get(calls..), Some(CALLS.as_slice()));
@@ -104,8 +109,8 @@ fn a_slot_that_is_cut_is_damaged_where_it_ends(rt: HostRuntime) {
     ];
     for (from, end, want) in CASES {
         for n in from..end {
-            assert!(rt; n <= SLOT.len());
-            let found = found_on(rt.alloc(), &SLOT[..n], b"").expect(&rt, "room");
+            assert!(rt; n <= OLD_SLOT.len());
+            let found = found_on(rt.alloc(), &OLD_SLOT[..n], b"").expect(&rt, "room");
             assert_gives!(rt; (n, found), (n, want));
         }
     }
@@ -118,7 +123,7 @@ fn a_byte_that_is_changed_is_found(rt: HostRuntime) {
         (0, 0, Found::Nothing),
         (0, 255, Found::Nothing),
         (1, 0, Found::Damaged(Slot::A, 1)),
-        (4, b'2', Found::Damaged(Slot::A, 1)),
+        (4, b'3', Found::Damaged(Slot::A, 1)),
         (5, 0, Found::Damaged(Slot::A, 5)),
         (12, 64, Found::Damaged(Slot::A, 5)),
         (15, 16, Found::Damaged(Slot::A, 13)),
@@ -135,7 +140,7 @@ fn a_byte_that_is_changed_is_found(rt: HostRuntime) {
         (174, 2, Found::Entries(1, None)),
     ];
     for (at, byte, want) in CASES {
-        let mut slot = *SLOT;
+        let mut slot = *OLD_SLOT;
         assert!(rt; at < slot.len());
         slot[at] = byte;
         let found = found_on(rt.alloc(), &slot, b"").expect(&rt, "room");
@@ -183,7 +188,7 @@ fn the_greater_epoch_is_in_use(rt: HostRuntime) {
 
 // the slot with these bytes at 1, 5 and 146
 fn slot_with([tag, epoch, gate]: [u8; 3]) -> [u8; 175] {
-    let mut slot = *SLOT;
+    let mut slot = *OLD_SLOT;
     slot[1] = tag;
     slot[5] = epoch;
     slot[146] = gate;
