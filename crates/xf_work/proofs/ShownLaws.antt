@@ -52,7 +52,7 @@ module _ (loaded : Loaded) (is : IsLoaded loaded) (forest : Forest) (table : Lis
     most = Some string_limit;
     given = g;
     all = visits forest.nodes;
-    bound = λ k. nested (Some string_limit) (scope_of called g loaded.form.tables 0) (visits forest.nodes) k;
+    bound = λ k. nested (Some string_limit) (scope_of called (record g { indexes = []; event = None }) loaded.form.tables 0) (visits forest.nodes) k;
   }
 
   abbrev listed : Option (List copies.Copy)
