@@ -25,8 +25,8 @@ TYPES = {"text": "Text", "node": "Node", "comment": "Nothing", "processing-instr
 class Parser:
     """Reads an expression (XPath 1.0, section 3)."""
 
-    def __init__(self, s, bindings):
-        self.b = bindings
+    def __init__(self, s, bindings, decimals):
+        self.b, self.decimals = bindings, decimals
         self.t, i = [], 0
         s = s.rstrip()
         while i < len(s):
@@ -98,7 +98,7 @@ class Parser:
             return self.path()
         kind, s = self.next()
         if kind == "number":
-            e = ("Number", 0, D.xf_num__Written__read_at(6, codes(s)))
+            e = ("Number", 0, D.xf_num__Written__read_at(self.decimals, codes(s)))
         elif kind == "literal":
             e = ("Literal", 0, codes(s[1:-1]))
         elif s == "(":
@@ -284,7 +284,11 @@ class Loader:
         return n
 
     def expr(self, s):
-        return Parser(s, self.b).whole()
+        return Parser(s, self.b, self.decimals()).whole()
+
+    def decimals(self):
+        """How many decimals the form's numbers have: the first model says so."""
+        return int(self.of_kind["model"][0].attr.get("decimals", "6"))
 
     def opt(self, n, name):
         return some(self.expr(n.attr[name])) if name in n.attr else None_
@@ -438,6 +442,6 @@ class Loader:
                                  f_instance=some(self.ids[a["instance"]].of) if "instance" in a else None_, f_target=self.opt(n, "targetref"), f_is_serialized=not none))
         tables = R(f_models=len(self.of_kind["model"]), f_instances=instances, f_binds=tuple(binds), f_submissions=tuple(submissions))
         numbers = lambda k: tuple(n.number for n in self.of_kind[k])
-        self.form = R(f_tables=tables, f_elements=tuple(self.element(n) for n in self.nodes), f_models=numbers("model"), f_instances=numbers("instance"),
+        self.form = R(f_decimals=self.decimals(), f_tables=tables, f_elements=tuple(self.element(n) for n in self.nodes), f_models=numbers("model"), f_instances=numbers("instance"),
                       f_binds=numbers("bind"), f_submissions=numbers("submission"), f_repeats=numbers("repeat"), f_switches=numbers("switch"))
         self.program = D.xf_form_machine__Tables__program_of(self.form, self.b, tuple(self.documents))

@@ -54,7 +54,7 @@ class Played:
         self.store = {name: tuple(held.encode()) for name, held in case.get("store", {}).items()}
         self.refused, self.start, self.state = None, [], None
         program = Loader(case["form"]).program
-        made = definitions.xf_form_machine__Construct__construct(profile, program, ("Some", ()))
+        made = definitions.xf_form_machine__Construct__construct(profile, program)
         if made[0] == "Err":
             self.refused = [text(t)[:-1] for t in definitions.xf_form_machine__FormReplies__construct_texts(made)]
             return
