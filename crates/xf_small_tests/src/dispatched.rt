@@ -6,6 +6,7 @@ use std::test::Fail;
 use xf_actions::{World, dispatch};
 use xf_form_machine::Note;
 use xf_small_world::SmallWorld;
+use xf_store::{Answers, Canned};
 
 #[test]
 fn a_handler_loops_and_tells(rt: HostRuntime) -> Result<(), Fail> {
@@ -42,12 +43,13 @@ fn resets_and_tells<R: AllocGlobal + Abort>(rt: &R, world: &mut SmallWorld) -> R
 /// Gives up a world. The tests leave that to one function, since each that drops a world has all its parts to prove.
 fn discard(_world: SmallWorld) {}
 
-/// An event to the first model, where no action and no update is running.
+/// An event to the first model, where no action and no update is running. Nothing in a small form calls the store.
 fn tell<R: AllocGlobal + Abort>(rt: &R, world: &mut SmallWorld, name: &str) -> Result<(), Fail> {
     let Ok(event) = world.event_at(name, world.model_element(0)) else {
         panic!(rt; "no memory")
     };
-    match dispatch(world, &event, 64, true) {
+    let mut store = Canned::new(Answers::new(rt.alloc()));
+    match dispatch(world, &event, 64, true, &mut store) {
         Ok(()) => Ok(()),
         Err(fault) => panic!(rt; "{name} is refused: {fault:?}"),
     }

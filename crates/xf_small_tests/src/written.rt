@@ -9,6 +9,7 @@ use xf_ast::{
 use xf_base::Items;
 use xf_loader::{Loaded, load};
 use xf_name::{Prefixes, Word};
+use xf_num::Decimals;
 use xf_path::parse;
 use xf_small_world::{SmallWorld, begun};
 
@@ -247,7 +248,7 @@ fn expr<R: AllocGlobal + Abort>(rt: &R, prefixes: &Prefixes, text: &str) -> Opti
     if text.is_empty() {
         return None;
     }
-    match parse(rt.alloc(), text, prefixes) {
+    match parse(rt.alloc(), text, prefixes, Decimals::usual()) {
         Ok(expr) => Some(expr),
         Err(fault) => panic!(rt; "{text} is no expression: {fault:?}"),
     }
