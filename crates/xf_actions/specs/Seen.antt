@@ -4,14 +4,13 @@ use Rattle.xf_ast.specs.declared.form.Form.{Form}
 use Rattle.xf_model.specs.Places as model
 use Rattle.xf_ui.specs.Interface.{interface_of}
 pub use Rattle.xf_ui.specs.Focused.{focus_of}
+pub use Rattle.xf_ui.specs.Told.{told_of}
 use Rattle.xf_form_machine.specs.Program.{Program}
 use Rattle.xf_form_machine.specs.Tables.{role_of}
-use Rattle.xf_form_machine.specs.Surround.{Told}
 use Rattle.xf_form_machine.specs.State.{State}
 use Rattle.xf_form_machine.specs.Events as machine
 use Rattle.xf_form_machine.specs.Acting as machine_acting
 use Rattle.xf_actions.specs.declared.fired.Fired.{Fired}
-use Rattle.xf_actions.specs.declared.fired.Property.{Property}
 use Rattle.xf_actions.specs.declared.acting.Acting.{Acting}
 use Rattle.xf_actions.specs.declared.place.Place.{Place}
 use Rattle.xf_actions.specs.declared.place.Inserting.{Inserting}
@@ -28,10 +27,6 @@ pub record IsProgram (form : Form) (program : Program) : Type 0 where
   pub submissions : program.submissions ≡ form.tables.submissions
   pub model_elements : program.model_elements ≡ form.models
   pub submission_elements : program.submission_elements ≡ form.submissions
-
--- the properties of an event
-abbrev pub told_of : List Property → Told
-told_of properties = map (λ q. (q.name, q.value)) properties
 
 -- an event
 abbrev pub fired_of : Fired → machine.Fired

@@ -2,18 +2,8 @@
 
 use xf_base::Items;
 use xf_doc::NodeList;
-use xf_lang::Value;
 use xf_name::Word;
-
-/// A property of an event.
-#[derive(Drop)]
-pub struct Property {
-    pub name: Word,
-    pub value: Value,
-}
-
-/// The properties of an event.
-pub type PropertyList = Items<Property>;
+use xf_ui::PropertyList;
 
 /// An event to a copy of an element.
 #[derive(Drop)]

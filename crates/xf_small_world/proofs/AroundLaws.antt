@@ -32,7 +32,7 @@ use Rattle.xf_loader.specs.declared.loaded.Loaded.{Loaded}
 use Rattle.xf_form_machine.specs.declared.note.Note.{Note}
 use Rattle.xf_form_machine.specs.State.{State}
 use Rattle.xf_form_machine.specs.Surround.{Told, around, document_in, document_under, document_at, documents, given, instances_in}
-use Rattle.xf_actions.specs.declared.fired.Property.{Property}
+use Rattle.xf_ui.specs.declared.told.Property.{Property}
 use Rattle.xf_actions.specs.Seen.{told_of}
 use Rattle.xf_small_world.specs.declared.model.ModelState.{ModelState}
 use Rattle.xf_small_world.specs.declared.tally.Tally.{Tally}

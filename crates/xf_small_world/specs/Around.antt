@@ -14,7 +14,7 @@ use Rattle.xf_lang.specs.Binding.{as_list}
 use Rattle.xf_lang.specs.Conversions.{nodes_of}
 use Rattle.xf_eval.specs.Live.{AllLive}
 use Rattle.xf_form_machine.specs.Surround.{Told, document_in}
-use Rattle.xf_actions.specs.declared.fired.Property.{Property}
+use Rattle.xf_ui.specs.declared.told.Property.{Property}
 use Rattle.xf_actions.specs.Seen.{told_of}
 
 abbrev pub numbers_of : List (Option NodeId) → List (Option ℕ)

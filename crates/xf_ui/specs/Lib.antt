@@ -15,3 +15,4 @@ pub mod Notifications
 pub mod Calls
 pub mod Examples
 pub mod Focused
+pub mod Told

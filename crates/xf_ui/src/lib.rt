@@ -5,7 +5,9 @@
 mod answers;
 mod focus;
 mod marks;
+mod told;
 
 pub use answers::{CallList, Item, ItemList};
 pub use focus::Focus;
 pub use marks::{Marks, NodeMarks};
+pub use told::{Property, PropertyList};
