@@ -9,7 +9,7 @@ use Rattle.xf_name.specs.Bindings.{Bindings}
 use Rattle.xf_name.specs.declared.lit.Pair.{Pair}
 use Rattle.xf_vocabulary.specs.declared.rules.Wanted.{Wanted}
 use Rattle.xf_refusals.specs.Classes.{class_of, count_called}
-use Rattle.xf_refusals.specs.Paths.{is_like, is_like_up_to, siblings, step, in_brackets, index_among}
+use Rattle.xf_refusals.specs.Paths.{name_text, is_like, is_like_up_to, siblings, step, in_brackets, index_among}
 use Rattle.xf_refusals.specs.Refusals.{shares_id_by, is_missing, first_from, refusal_at, or_later}
 use Rattle.xf_refusals.specs.Rows.{Seen, shown, id_in}
 use Rattle.xf_refusals.specs.declared.classes.Class.{Class}
@@ -33,11 +33,11 @@ over_one : (k : ℕ) → 1 < k → nat_le k 1 ≡ false
 over_one k h = lt-leb k 1 h
 
 -- a step with a number
-pub step_numbered : (all : List Seen) (r : Seen) (place total k : ℕ) (path first second new name : List ℕ) (parts : List Part) → first ≡ path ++ codes "/" → second ≡ first ++ name → new ≡ second ++ in_brackets k → name ≡ r.name
+pub step_numbered : (all : List Seen) (r : Seen) (place total k : ℕ) (path first second new name : List ℕ) (parts : List Part) → first ≡ path ++ codes "/" → second ≡ first ++ name_text name → new ≡ second ++ in_brackets k → name ≡ r.name
     → parts ≡ siblings all r → total ≡ count_by (is_like all name) parts → k ≡ count_by (is_like_up_to all name place) parts → 1 < total → new ≡ path ++ step all r place
 step_numbered all r place total k path first second new name parts one two three named same counted numbered many =
     let index : List ℕ = in_brackets (count_by (is_like_up_to all name place) parts) in
     let told : index_among all parts name place ≡ in_brackets k = ap (λ t. cond t [] index) (ap (λ n. nat_le n 1) (sym counted) ∙ over_one total many) ∙ ap in_brackets (sym numbered) in
-    three ∙ ap (λ l. l ++ in_brackets k) (two ∙ ap (λ l. l ++ name) one) ∙ ap (λ l. ((path ++ codes "/") ++ name) ++ l) (sym told)
-    ∙ append_assoc (path ++ codes "/") name (index_among all parts name place) ∙ append_assoc path (codes "/") (name ++ index_among all parts name place)
-    ∙ ap (λ ps. path ++ (codes "/" ++ (name ++ index_among all ps name place))) same ∙ ap (λ x. path ++ (codes "/" ++ (x ++ index_among all (siblings all r) x place))) named
+    three ∙ ap (λ l. l ++ in_brackets k) (two ∙ ap (λ l. l ++ name_text name) one) ∙ ap (λ l. ((path ++ codes "/") ++ name_text name) ++ l) (sym told)
+    ∙ append_assoc (path ++ codes "/") (name_text name) (index_among all parts name place) ∙ append_assoc path (codes "/") (name_text name ++ index_among all parts name place)
+    ∙ ap (λ ps. path ++ (codes "/" ++ (name_text name ++ index_among all ps name place))) same ∙ ap (λ x. path ++ (codes "/" ++ (name_text x ++ index_among all (siblings all r) x place))) named

@@ -1,6 +1,10 @@
--- The path of an element in a form: each name as it is written, with its number among its siblings of the same name where there are any.
+-- The path of an element in a form: each name as it is written, with its number among its siblings of the same name where there are any. What is
+-- written as a name and is none is told as a JSON string, so that no text of a form can make a line of its own.
 use Rattle.std.specs.Prelude.{ℕ, zero, suc, Bool, false, ◌&&◌, nat_le, if◌then◌else◌, List, [], ◌++◌, codes, slice_get, count_by, bytes_eq, Option, Some, None}
 use Rattle.std.specs.Fmt.{decimal}
+use Rattle.serde_json.specs.Data.{string}
+use Rattle.serde_json.specs.Written.{compact_text}
+use Rattle.xf_name.specs.Part.{at_colon, is_part}
 use Rattle.xf_ast.specs.declared.element.Part.{Part}
 use Rattle.xf_ast.specs.declared.element.Part.TheVariants as part
 use Rattle.xf_refusals.specs.Rows.{Seen}
@@ -43,8 +47,23 @@ abbrev pub index_among : List Seen → List Part → List ℕ → ℕ → List �
 index_among all parts name place =
     if nat_le (count_by (is_like all name) parts) 1 then [] else in_brackets (count_by (is_like_up_to all name place) parts)
 
+-- ---- names
+
+-- a part, or a prefix and a part
+abbrev pub are_parts : List ℕ → Option (List ℕ × List ℕ) → Bool
+are_parts text None = is_part text
+are_parts text (Some (prefix, local)) = is_part prefix && is_part local
+
+-- whether a text is a name (Namespaces in XML 1.0, section 4)
+abbrev pub is_name : List ℕ → Bool
+is_name text = are_parts text (at_colon text)
+
+-- a name as it is written, any other text as a JSON string (RFC 8259, section 7)
+abbrev pub name_text : List ℕ → List ℕ
+name_text text = if is_name text then text else compact_text (string text)
+
 abbrev pub step : List Seen → Seen → ℕ → List ℕ
-step all r place = codes "/" ++ r.name ++ index_among all (siblings all r) r.name place
+step all r place = codes "/" ++ name_text r.name ++ index_among all (siblings all r) r.name place
 
 -- ---- from the root down
 

@@ -5,9 +5,10 @@ ghost use Rattle.xf_refusals.specs.Paths as paths;
 ghost use Rattle.xf_refusals.specs.Rows.{shown};
 
 use crate::rows::{Row, row_at};
+use serde_json::Value;
 use std::alloc::{AllocError, Global};
 use xf_ast::Part;
-use xf_name::Word;
+use xf_name::{Word, at_colon, is_part};
 
 // How deep elements nest: a form that is read nests less.
 const NESTING_LIMIT: u32 = 128;
@@ -57,11 +58,32 @@ fn push_step(
     let name = element.name.as_str();
     let parts = siblings(rows, row);
     path.push_str("/")?;
-    path.push_str(name)?;
+    push_name(alloc, name, path)?;
     if count_like(rows, parts, name) <= 1 {
         return Ok(());
     }
     push_in_brackets(alloc, count_up_to(rows, parts, name, place), path)
+}
+
+// A name as it is written, any other text as a JSON string.
+fn push_name(alloc: Global, name: &str, path: &mut Word) -> Result<(), AllocError>
+    ensures { OnOk result (path.new ≡ path.old ++ paths.name_text name.now) }
+{
+    if is_name(name) {
+        return path.push_str(name);
+    }
+    let quoted = Value::String(String::from_str(alloc, name)?).to_string(alloc)?;
+    path.push_str(quoted.as_str())
+}
+
+// Whether a text is a name: a part, or a prefix and a part.
+fn is_name(text: &str) -> bool
+    ensures { result ≡ paths.is_name text.now }
+{
+    match at_colon(text) {
+        Some((prefix, local)) => is_part(prefix) && is_part(local),
+        None => is_part(text),
+    }
 }
 
 fn push_in_brackets(alloc: Global, number: usize, path: &mut Word) -> Result<(), AllocError>
