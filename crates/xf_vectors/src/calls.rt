@@ -1,6 +1,7 @@
 //! The crates that cases call.
 
-use crate::{dates, functions, graphs, json, names, numbers, tables, trees, types};
+use crate::{dates, functions, graphs, json, names, numbers, snaps, tables, trees, types};
+use hex::FromHexError;
 use std::alloc::{AllocError, Global};
 use xf_name::Word;
 use xf_num::Decimals;
@@ -21,6 +22,7 @@ pub fn answer(alloc: Global, name: &str, call: &str, given: &[Word]) -> Answer {
         "xf_table" => tables::answer(alloc, call, given),
         "xf_line" => json::line_answer(alloc, call, given),
         "xf_graph" => graphs::answer(alloc, call, given),
+        "xf_snap" => snaps::answer(alloc, call, given),
         _ => Ok(None),
     }
 }
@@ -60,4 +62,29 @@ pub fn counted(alloc: Global, number: Option<i128>) -> Answer {
         Some(number) => Ok(Some(number.to_string(alloc)?)),
         None => Ok(Some(String::from_str(alloc, "none")?)),
     }
+}
+
+/// The bytes that hexadecimal digits spell, or none.
+pub fn bytes_of(alloc: Global, digits: &str) -> Result<Option<Vec<u8>>, AllocError> {
+    match hex::decode(alloc, digits) {
+        Ok(bytes) => Ok(Some(bytes)),
+        Err(FromHexError::OutOfMemory) => Err(AllocError),
+        Err(_) => Ok(None),
+    }
+}
+
+/// The bytes that words spell: each is hexadecimal digits, or `'` and a text.
+pub fn spelt(alloc: Global, words: &str) -> Result<Option<Vec<u8>>, AllocError> {
+    let mut bytes = Vec::new(alloc);
+    for word in words.split_whitespace() {
+        if let Some(text) = word.strip_prefix('\'') {
+            bytes.extend_from_slice(text.as_bytes())?;
+        } else {
+            match bytes_of(alloc, word)? {
+                Some(more) => bytes.extend_from_slice(&more)?,
+                None => return Ok(None),
+            }
+        }
+    }
+    Ok(Some(bytes))
 }

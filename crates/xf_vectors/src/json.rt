@@ -1,7 +1,6 @@
 //! The calls of xf_json and xf_line. Bytes that may be no text are written as hexadecimal digits.
 
-use crate::calls::Answer;
-use hex::FromHexError;
+use crate::calls::{Answer, bytes_of};
 use std::alloc::{AllocError, Global};
 use xf_base::Items;
 use xf_json::{JsonFault, print, read};
@@ -36,14 +35,6 @@ fn asked_of(alloc: Global, digits: &str) -> Answer {
     match bytes_of(alloc, digits)? {
         Some(bytes) => asked(alloc, &bytes),
         None => Ok(None),
-    }
-}
-
-fn bytes_of(alloc: Global, digits: &str) -> Result<Option<Vec<u8>>, AllocError> {
-    match hex::decode(alloc, digits) {
-        Ok(bytes) => Ok(Some(bytes)),
-        Err(FromHexError::OutOfMemory) => Err(AllocError),
-        Err(_) => Ok(None),
     }
 }
 

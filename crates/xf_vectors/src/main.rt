@@ -14,6 +14,7 @@ mod names;
 mod numbers;
 mod report;
 mod sheet;
+mod snaps;
 mod tables;
 mod trees;
 mod types;
@@ -22,9 +23,9 @@ use std::alloc::{AllocError, Global};
 use std::io;
 
 /// The crates that are called, in the order of the report.
-const NAMES: [&str; 10] = [
+const NAMES: [&str; 11] = [
     "xf_num", "xf_types", "xf_dates", "xf_funcs", "xf_path", "xf_json", "xf_name", "xf_table",
-    "xf_line", "xf_graph",
+    "xf_line", "xf_graph", "xf_snap",
 ];
 
 fn main(rt: HostRuntime) -> anyhow::Result<()> {

@@ -1,0 +1,9 @@
+mod NumberLemmas
+mod FieldLemmas
+mod SeveralLemmas
+mod TreeLemmas
+mod TakenLemmas
+mod AgainLemmas
+mod SizeLemmas
+mod SnapLemmas
+mod PutLemmas
