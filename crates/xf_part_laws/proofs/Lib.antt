@@ -1,4 +1,8 @@
-pub mod Trees
-pub mod Own
-pub mod Stays
-pub mod Grown
+pub mod Binds
+pub mod Graphs
+pub mod Settling
+pub mod Pertinence
+pub mod OfPart
+pub mod Others
+mod Examples
+mod States

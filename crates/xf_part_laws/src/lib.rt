@@ -1,36 +1,46 @@
-//! The laws of parts: what stands of a model is told by the trees of its own instances, and changes elsewhere leave these. Each function does
-//! nothing: its contract is a law.
+//! The laws of parts: what stands of a model is told by the trees of its own instances, whatever trees stand elsewhere. Each function does nothing:
+//! its contract is a law.
 #![tactic(auto)]
 
-ghost use Rattle.xf_part_laws.specs.Stays.{PartStaysNumbered, PartStaysText, PartStaysWritten};
-ghost use Rattle.xf_part_laws.specs.Stays.{PartStaysGrown, PartStaysCopied, PartStaysPlanted, PartStaysPlantedBare, PartStaysDetached, PartStaysPlaced, PartStaysAttached};
-ghost use Rattle.xf_part_laws.specs.Stays.{PartStaysDropped, PartStaysRooted, PartRolledBack};
+ghost use Rattle.xf_part_laws.specs.Whole.{AppliedOfPart, AppliedStandsInPart, PartHasInstances};
+ghost use Rattle.xf_part_laws.specs.Whole.{AsksOfPart, ComputedOfPart, CountOfPart, GraphOfPart, LongOfPart, LongTextOfPart, OrderOfPart};
+ghost use Rattle.xf_part_laws.specs.Whole.{PertinentOfPart, SettledElsewhere, SettledOfPart, SettledValuesOfPart, ValuesOfPart};
 
-/// A text that is set elsewhere leaves the part of a model, and so do contents that are written elsewhere.
-pub fn part_stays_with_texts()
-    ensures numbered { PartStaysNumbered }
-    ensures text { PartStaysText }
-    ensures written { PartStaysWritten }
+/// The part is a forest of its own, in which the document elements of the model stand.
+pub fn part_has_instances()
+    ensures { PartHasInstances }
 {}
 
-/// So does a tree that comes as a detached one, and one that is detached or attached elsewhere.
-pub fn part_stays_with_trees()
-    ensures grown { PartStaysGrown }
-    ensures copied { PartStaysCopied }
-    ensures planted { PartStaysPlanted }
-    ensures planted_bare { PartStaysPlantedBare }
-    ensures detached { PartStaysDetached }
-    ensures placed { PartStaysPlaced }
-    ensures attached { PartStaysAttached }
+/// What the binds of a model apply over the whole they apply over the part, at nodes of it that are no texts.
+pub fn applied_of_part()
+    ensures applied { AppliedOfPart }
+    ensures stands { AppliedStandsInPart }
 {}
 
-/// So does the dropping of detached trees, and the root of a new instance of another model.
-pub fn part_stays_with_instances()
-    ensures dropped { PartStaysDropped }
-    ensures rooted { PartStaysRooted }
+/// What the entries ask over the whole they ask over the part.
+pub fn asks_of_part()
+    ensures asks { AsksOfPart }
+    ensures count { CountOfPart }
 {}
 
-/// Where all is undone that was made of a forest, the part is that of the forest that was kept.
-pub fn part_rolled_back()
-    ensures { PartRolledBack }
+/// So the order of the calculates is that over the part.
+pub fn order_of_part()
+    ensures graph { GraphOfPart }
+    ensures acyclic { OrderOfPart }
+{}
+
+/// So are the settled contents, which stand outside the part of every other model, the values, and what a recalculation evaluates.
+pub fn settled_of_part()
+    ensures contents { SettledOfPart }
+    ensures elsewhere { SettledElsewhere }
+    ensures computed { ComputedOfPart }
+    ensures values { ValuesOfPart }
+    ensures settled_values { SettledValuesOfPart }
+    ensures pertinent { PertinentOfPart }
+{}
+
+/// So are the strings and texts that are too long over the settled data.
+pub fn long_of_part()
+    ensures entries { LongOfPart }
+    ensures text { LongTextOfPart }
 {}

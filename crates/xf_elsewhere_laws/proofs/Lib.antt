@@ -1,0 +1,4 @@
+pub mod Trees
+pub mod Own
+pub mod Stays
+pub mod Grown
