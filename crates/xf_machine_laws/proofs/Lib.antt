@@ -1,7 +1,6 @@
 pub mod ChainLaws
 pub mod FailedLaws
 pub mod SameLaws
-pub mod QuietEvents
 pub mod QuietKeeps
-pub mod QuietLaws
+pub mod RowlessLaws
 pub mod WrittenContents

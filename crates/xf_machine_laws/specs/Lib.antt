@@ -1,4 +1,4 @@
 pub mod Chain
 pub mod Failed
-pub mod Quiet
 pub mod Renumbered
+pub mod Rowless

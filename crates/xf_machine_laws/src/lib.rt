@@ -3,8 +3,8 @@
 
 ghost use Rattle.xf_machine_laws.specs.Chain.{FlagsStayChained};
 ghost use Rattle.xf_machine_laws.specs.Failed.{FailedKeeps};
-ghost use Rattle.xf_machine_laws.specs.Quiet.{QuietLaws};
 ghost use Rattle.xf_machine_laws.specs.Renumbered.{StayTheSame};
+ghost use Rattle.xf_machine_laws.specs.Rowless.{RowlessLaws};
 
 /// A behaviour that is due carries those after it, whatever is changed. This tells contracts so, and does nothing.
 pub fn flags_stay_chained()
@@ -22,7 +22,7 @@ pub fn renumbered_states_stay_the_same()
     ensures { StayTheSame }
 {}
 
-/// Where nothing is heard and nothing comes in rows, telling events spends turns and does no more. This tells contracts so, and does nothing.
-pub fn quiet_forms_tell_nobody()
-    ensures { QuietLaws }
+/// Where nothing comes in rows, what the machine does is said without them. This tells contracts so, and does nothing.
+pub fn forms_without_rows_have_no_indexes()
+    ensures { RowlessLaws }
 {}
