@@ -3,3 +3,4 @@ pub mod Bound
 pub mod Scope
 pub mod Handlers
 pub mod Names
+pub mod Parts

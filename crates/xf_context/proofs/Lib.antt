@@ -1,0 +1,4 @@
+pub mod FirstLaws
+pub mod AroundLaws
+pub mod InsideLaws
+pub mod TextLaws

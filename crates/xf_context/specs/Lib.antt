@@ -1,0 +1,4 @@
+pub mod Around
+pub mod Over
+pub mod Inside
+pub mod Texts

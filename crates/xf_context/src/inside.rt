@@ -1,0 +1,206 @@
+//! Where an element is evaluated (XForms 1.1, section 7.2): its model in scope, and the node of the nearest element around it that has a binding.
+
+ghost use Rattle.std.specs.Prelude.{◌≡◌, [], Some, option_map, reverse};
+ghost use Rattle.xf_plain_values.specs.Bounded.{GivesBounded};
+ghost use Rattle.xf_ui.specs.Context as context;
+ghost use Rattle.xf_ui.specs.Elements.{above, element_at, elements_on, is_repeat_sort};
+ghost use Rattle.xf_ui.specs.Interface.{element_of, interface_of, sort_of};
+ghost use Rattle.xf_elements.specs.Bound.{seen_bound};
+ghost use Rattle.xf_ui.specs.Focused.{focus_of};
+ghost use Rattle.xf_context.specs.Inside.{entered_bound, first_inside, place_for, seen_context, seen_inside, seen_place};
+ghost use Rattle.xf_context.specs.Over.{around_over};
+
+use crate::around::{document_of, documents};
+use crate::bound::{alone, first_bound};
+use crate::over::Over;
+use xf_ast::{Control, Element, Kind};
+use xf_doc::NodeId;
+use xf_elements::{Bound, binding_of, element_in, parent_of, scope_of};
+use xf_eval::EvalFault;
+use xf_ui::Focus;
+
+/// The node that the elements around give.
+#[derive(Clone, Copy, Debug)]
+pub enum Place {
+    /// None of them has a binding.
+    Free,
+    /// The nearest one that has a binding selects nothing.
+    Lost,
+    On(NodeId),
+}
+
+/// What the elements around an element give it.
+#[derive(Clone, Copy, Debug)]
+pub struct Inside {
+    /// The model in scope.
+    pub model: u32,
+    pub place: Place,
+}
+
+/// Where an element is evaluated.
+#[derive(Clone, Copy, Debug)]
+pub struct Situation {
+    pub model: u32,
+    /// None where it has no context node.
+    pub focus: Option<Focus>,
+}
+
+/// Where an element that stands in no repeat is evaluated.
+pub fn context_of(over: &Over<'_>, element: u32) -> Result<Situation, EvalFault>
+    ensures { GivesBounded EvalFault.Memory EvalFault.Long seen_context result (context.context_of (interface_of over.now.form.now) (around_over over.now) [] element) }
+{
+    let within = entered(over, element)?;
+    context_in(over, &within, element)
+}
+
+/// Where an element is evaluated, by what the elements around it give.
+pub fn context_in(over: &Over<'_>, within: &Inside, element: u32) -> Result<Situation, EvalFault>
+    ensures { GivesBounded EvalFault.Memory EvalFault.Long seen_context result (Some (context.context_in (interface_of over.now.form.now) (around_over over.now) (seen_inside within.now) (element_at (interface_of over.now.form.now) element))) }
+{
+    let model = model_in(over, within.model, element);
+    Ok(Situation {
+        model,
+        focus: focus_in(over, model, within.place)?,
+    })
+}
+
+/// What the elements around an element that stands in no repeat give it.
+pub fn entered(over: &Over<'_>, element: u32) -> Result<Inside, EvalFault>
+    ensures { GivesBounded EvalFault.Memory EvalFault.Long seen_inside result (context.inside (interface_of over.now.form.now) (around_over over.now) [] element) }
+{
+    let form = over.form;
+    inside_above(over, form.elements.len(), parent_of(form, element))
+}
+
+/// What an element and those around it, of which there are at most so many, give to what stands in it.
+fn inside_above(over: &Over<'_>, most: usize, parent: Option<u32>) -> Result<Inside, EvalFault>
+    ensures { GivesBounded EvalFault.Memory EvalFault.Long seen_inside result (context.entered (interface_of over.now.form.now) (around_over over.now) first_inside (elements_on (interface_of over.now.form.now) (reverse (above most (interface_of over.now.form.now) parent)))) }
+{
+    if most == 0 {
+        return Ok(first());
+    }
+    let Some(element) = parent else {
+        return Ok(first());
+    };
+    let outer = inside_above(over, most - 1, parent_of(over.form, element))?;
+    enter(over, &outer, element)
+}
+
+/// What the root of a form has around it.
+fn first() -> Inside
+    ensures { seen_inside result ≡ first_inside }
+{
+    Inside {
+        model: 0,
+        place: Place::Free,
+    }
+}
+
+/// What an element gives to what stands in it.
+pub fn enter(over: &Over<'_>, outer: &Inside, element: u32) -> Result<Inside, EvalFault>
+    ensures { GivesBounded EvalFault.Memory EvalFault.Long seen_inside result (context.enter (interface_of over.now.form.now) (around_over over.now) (seen_inside outer.now) (element_at (interface_of over.now.form.now) element)) }
+{
+    match element_in(over.form, element) {
+        Some(here) => enter_element(over, outer, here),
+        None => Ok(*outer),
+    }
+}
+
+fn enter_element(over: &Over<'_>, outer: &Inside, here: &Element) -> Result<Inside, EvalFault>
+    ensures { GivesBounded EvalFault.Memory EvalFault.Long seen_inside result (context.enter (interface_of over.now.form.now) (around_over over.now) (seen_inside outer.now) (element_of over.now.form.now.tables here.now)) }
+{
+    let form = over.form;
+    let binding = binding_of(&form.tables, here);
+    let model = scope_of(form, outer.model, binding, here.model);
+    if is_repeat(&here.kind) {
+        // A form without repeats has none.
+        return Err(EvalFault::Memory);
+    }
+    let from = place_for(&here.kind, outer.place);
+    enter_bound(over, model, outer.place, from, binding)
+}
+
+fn is_repeat(kind: &Kind) -> bool
+    ensures { result ≡ is_repeat_sort (sort_of kind.now) }
+{
+    match kind {
+        Kind::Control(_, control) => match control {
+            Control::Repeat(_, _) => true,
+            _ => false,
+        },
+        _ => false,
+    }
+}
+
+/// A submission has nothing around it.
+fn place_for(kind: &Kind, place: Place) -> Place
+    ensures { seen_place result ≡ place_for (sort_of kind.now) (seen_place place) }
+{
+    match kind {
+        Kind::Model(_) | Kind::Instance(_) | Kind::Bind(_) | Kind::Submission(_) => Place::Free,
+        _ => place,
+    }
+}
+
+/// What a binding in a model gives, evaluated at a place.
+fn enter_bound(
+    over: &Over<'_>,
+    model: u32,
+    place: Place,
+    from: Place,
+    binding: Bound<'_>,
+) -> Result<Inside, EvalFault>
+    ensures { GivesBounded EvalFault.Memory EvalFault.Long seen_inside result (entered_bound (around_over over.now) model (seen_place place) (seen_place from) (seen_bound binding.entry)) }
+{
+    match binding {
+        Bound::Unbound => Ok(Inside { model, place }),
+        _ => {
+            let node = match focus_in(over, model, from)? {
+                Some(focus) => first_bound(over, model, binding, &focus)?,
+                None => None,
+            };
+            Ok(Inside {
+                model,
+                place: place_of(node),
+            })
+        }
+    }
+}
+
+fn place_of(node: Option<NodeId>) -> Place
+    ensures { seen_place result ≡ context.place_of (option_map (λ n. n.number) node) }
+{
+    match node {
+        Some(node) => Place::On(node),
+        None => Place::Lost,
+    }
+}
+
+/// The context node of what stands at a place.
+fn focus_in(over: &Over<'_>, model: u32, place: Place) -> Result<Option<Focus>, EvalFault>
+    ensures { GivesBounded EvalFault.Memory EvalFault.Long (option_map focus_of) result (Some (context.focus_in (around_over over.now) model (seen_place place))) }
+{
+    match place {
+        Place::Free => {
+            let instances = over.form.tables.instances.as_slice();
+            let documents = documents(over.alloc, instances, over.forest)?;
+            match document_of(instances, documents.as_slice(), model, "") {
+                Some(node) => Ok(Some(alone(node))),
+                None => Ok(None),
+            }
+        }
+        Place::Lost => Ok(None),
+        Place::On(node) => Ok(Some(alone(node))),
+    }
+}
+
+/// The model in scope at an element inside one.
+fn model_in(over: &Over<'_>, outer: u32, element: u32) -> u32
+    ensures { result ≡ context.scope_of (interface_of over.now.form.now) outer (element_at (interface_of over.now.form.now) element) }
+{
+    let form = over.form;
+    match element_in(form, element) {
+        Some(here) => scope_of(form, outer, binding_of(&form.tables, here), here.model),
+        None => outer,
+    }
+}
