@@ -36,6 +36,7 @@ pub fn dispatch<W: World, S: Store>(
 ) -> Result<(), W::Fault>
     ensures done { RunsOver W.Fault.means (W.state world.new) result (λ answers. dispatches W.profile answers depth is_idle (fired_of fired.now) (W.state world.old)) }
     ensures store { Called (S.calls store.old, S.to_come store.old) (S.calls store.new, S.to_come store.new) (W.state world.old).calls (W.state world.new).calls }
+    ensures kept { W.kept world.new ≡ W.kept world.old }
     ensures form { (W.state world.new).form ≡ (W.state world.old).form }
 {
     world.spend()?;
@@ -69,6 +70,7 @@ fn handle_all<W: World, S: Store>(
 ) -> Result<(), W::Fault>
     ensures done { RunsOver W.Fault.means (W.state world.new) result (λ answers. in_turn (handles W.profile (dispatches W.profile answers depth) is_idle (fired_of fired.now)) handlers.now (W.state world.old)) }
     ensures store { Called (S.calls store.old, S.to_come store.old) (S.calls store.new, S.to_come store.new) (W.state world.old).calls (W.state world.new).calls }
+    ensures kept { W.kept world.new ≡ W.kept world.old }
     ensures form { (W.state world.new).form ≡ (W.state world.old).form }
 {
     for handler in handlers {
@@ -89,6 +91,7 @@ fn handle<W: World, S: Store>(
 ) -> Result<(), W::Fault>
     ensures done { RunsOver W.Fault.means (W.state world.new) result (λ answers. handles W.profile (dispatches W.profile answers depth) is_idle (fired_of fired.now) handler (W.state world.old)) }
     ensures store { Called (S.calls store.old, S.to_come store.old) (S.calls store.new, S.to_come store.new) (W.state world.old).calls (W.state world.new).calls }
+    ensures kept { W.kept world.new ≡ W.kept world.old }
     ensures form { (W.state world.new).form ≡ (W.state world.old).form }
 {
     let left = world.form().elements.len();
@@ -112,6 +115,7 @@ fn act<W: World, S: Store>(
 ) -> Result<(), W::Fault>
     ensures done { RunsOver W.Fault.means (W.state world.new) result (λ answers. act_within left W.profile (dispatches W.profile answers depth false) (fired_of fired.now) element (W.state world.old)) }
     ensures store { Called (S.calls store.old, S.to_come store.old) (S.calls store.new, S.to_come store.new) (W.state world.old).calls (W.state world.new).calls }
+    ensures kept { W.kept world.new ≡ W.kept world.old }
     ensures form { (W.state world.new).form ≡ (W.state world.old).form }
 {
     if left == 0 || !is_action(world, element) {
@@ -135,6 +139,7 @@ fn repeat<W: World, S: Store>(
 ) -> Result<(), W::Fault>
     ensures done { RunsOver W.Fault.means (W.state world.new) result (λ answers. acted W.profile (dispatches W.profile answers depth false) (act_within left W.profile (dispatches W.profile answers depth false) (fired_of fired.now)) (acting_of fired.now acting.now) (act_at (W.state world.old) acting.now.element) (W.state world.old)) }
     ensures store { Called (S.calls store.old, S.to_come store.old) (S.calls store.new, S.to_come store.new) (W.state world.old).calls (W.state world.new).calls }
+    ensures kept { W.kept world.new ≡ W.kept world.old }
     ensures form { (W.state world.new).form ≡ (W.state world.old).form }
 {
     if !is_repeated(world, acting.element) {
@@ -162,6 +167,7 @@ fn once<W: World, S: Store>(
 ) -> Result<(), W::Fault>
     ensures done { RunsOver W.Fault.means (W.state world.new) result (λ answers. once_done W.profile (dispatches W.profile answers depth false) (act_within left W.profile (dispatches W.profile answers depth false) (fired_of fired.now)) (acting_of fired.now acting.now) (act_at (W.state world.old) acting.now.element) (W.state world.old)) }
     ensures store { Called (S.calls store.old, S.to_come store.old) (S.calls store.new, S.to_come store.new) (W.state world.old).calls (W.state world.new).calls }
+    ensures kept { W.kept world.new ≡ W.kept world.old }
     ensures form { (W.state world.new).form ≡ (W.state world.old).form }
 {
     if !holds_condition(world, fired, acting)? {
@@ -186,6 +192,7 @@ fn act_all<W: World, S: Store>(
 ) -> Result<(), W::Fault>
     ensures done { RunsOver W.Fault.means (W.state world.new) result (λ answers. in_turn (act_within left W.profile (dispatches W.profile answers depth false) (fired_of fired.now)) parts.now (W.state world.old)) }
     ensures store { Called (S.calls store.old, S.to_come store.old) (S.calls store.new, S.to_come store.new) (W.state world.old).calls (W.state world.new).calls }
+    ensures kept { W.kept world.new ≡ W.kept world.old }
     ensures form { (W.state world.new).form ≡ (W.state world.old).form }
 {
     for part in parts {
@@ -205,6 +212,7 @@ fn tell_all<W: World, S: Store>(
 ) -> Result<(), W::Fault>
     ensures done { RunsOver W.Fault.means (W.state world.new) result (λ answers. in_turn (dispatches W.profile answers depth is_idle) (map fired_of events.now) (W.state world.old)) }
     ensures store { Called (S.calls store.old, S.to_come store.old) (S.calls store.new, S.to_come store.new) (W.state world.old).calls (W.state world.new).calls }
+    ensures kept { W.kept world.new ≡ W.kept world.old }
     ensures form { (W.state world.new).form ≡ (W.state world.old).form }
 {
     for fired in events {
@@ -218,6 +226,7 @@ fn tell_all<W: World, S: Store>(
 pub fn update<W: World, S: Store>(world: &mut W, depth: u32, store: &mut S) -> Result<(), W::Fault>
     ensures done { RunsOver W.Fault.means (W.state world.new) result (λ answers. updated W.profile (dispatches W.profile answers depth false) (W.state world.old)) }
     ensures store { Called (S.calls store.old, S.to_come store.old) (S.calls store.new, S.to_come store.new) (W.state world.old).calls (W.state world.new).calls }
+    ensures kept { W.kept world.new ≡ W.kept world.old }
     ensures form { (W.state world.new).form ≡ (W.state world.old).form }
 {
     let most = world.turns() as u64 + 1;
@@ -242,6 +251,7 @@ fn conclude<W: World, S: Store>(
 ) -> Result<(), W::Fault>
     ensures done { RunsOver W.Fault.means (W.state world.new) result (λ answers. after_all W.profile answers (dispatches W.profile answers depth) is_idle (fired_of fired.now) (W.state world.old)) }
     ensures store { Called (S.calls store.old, S.to_come store.old) (S.calls store.new, S.to_come store.new) (W.state world.old).calls (W.state world.new).calls }
+    ensures kept { W.kept world.new ≡ W.kept world.old }
     ensures form { (W.state world.new).form ≡ (W.state world.old).form }
 {
     act_by_default(world, fired, depth, is_idle, store)?;
@@ -262,6 +272,7 @@ fn act_by_default<W: World, S: Store>(
 ) -> Result<(), W::Fault>
     ensures done { RunsOver W.Fault.means (W.state world.new) result (λ answers. default W.profile answers (dispatches W.profile answers depth is_idle) (fired_of fired.now) (W.state world.old)) }
     ensures store { Called (S.calls store.old, S.to_come store.old) (S.calls store.new, S.to_come store.new) (W.state world.old).calls (W.state world.new).calls }
+    ensures kept { W.kept world.new ≡ W.kept world.old }
     ensures form { (W.state world.new).form ≡ (W.state world.old).form }
 {
     let told = default_action(world, fired, store)?;
@@ -280,6 +291,7 @@ fn tell_end<W: World, S: Store>(
 ) -> Result<(), W::Fault>
     ensures done { RunsOver W.Fault.means (W.state world.new) result (λ answers. where_some (option_map (ending_of (W.state world.old).form) ending.now) (ended (dispatches W.profile answers depth is_idle)) (W.state world.old)) }
     ensures store { Called (S.calls store.old, S.to_come store.old) (S.calls store.new, S.to_come store.new) (W.state world.old).calls (W.state world.new).calls }
+    ensures kept { W.kept world.new ≡ W.kept world.old }
     ensures form { (W.state world.new).form ≡ (W.state world.old).form }
 {
     match ending {

@@ -27,6 +27,7 @@ pub fn set_index<W: World>(
     repeat: u32,
 ) -> Result<(), W::Fault>
     ensures done { Runs W.Fault.means (W.state world.new) result (index_chosen W.profile (acting_of fired.now acting.now) repeat (index_in (act_at (W.state world.old) acting.now.element)) (W.state world.old)) }
+    ensures kept { W.kept world.new ≡ W.kept world.old }
     ensures form { (W.state world.new).form ≡ (W.state world.old).form }
     ensures calls { (W.state world.new).calls ≡ (W.state world.old).calls }
 {
@@ -67,6 +68,7 @@ fn not_below_zero(number: Option<i64>) -> Option<u64>
 /// To the case that is selected it has no effect.
 pub fn toggle<W: World>(world: &mut W, acting: &Acting, case: u32) -> Result<FiredList, W::Fault>
     ensures done { Makes W.Fault.means (map fired_of) (W.state world.new) result (toggles acting.now.model case (W.state world.old)) }
+    ensures kept { W.kept world.new ≡ W.kept world.old }
     ensures form { (W.state world.new).form ≡ (W.state world.old).form }
     ensures calls { (W.state world.new).calls ≡ (W.state world.old).calls }
 {
@@ -83,6 +85,7 @@ fn toggle_in<W: World>(
     parent: u32,
 ) -> Result<FiredList, W::Fault>
     ensures done { Makes W.Fault.means (map fired_of) (W.state world.new) result (toggles_in model case parent (W.state world.old)) }
+    ensures kept { W.kept world.new ≡ W.kept world.old }
     ensures form { (W.state world.new).form ≡ (W.state world.old).form }
     ensures calls { (W.state world.new).calls ≡ (W.state world.old).calls }
 {
@@ -107,6 +110,7 @@ fn toggled<W: World>(
     rows: &NodeList,
 ) -> Result<FiredList, W::Fault>
     ensures done { Makes W.Fault.means (map fired_of) (W.state world.new) result (makes_toggled model switch place case rows.now (W.state world.old)) }
+    ensures kept { W.kept world.new ≡ W.kept world.old }
     ensures form { (W.state world.new).form ≡ (W.state world.old).form }
     ensures calls { (W.state world.new).calls ≡ (W.state world.old).calls }
 {

@@ -122,6 +122,7 @@ pub fn default_action<W: World, S: Store>(
 ) -> Result<Concluded, W::Fault>
     ensures done { LeavesOver W.Fault.means (concluded_of (W.state world.old).form (W.state world.new)) (W.state world.new) result (λ answers. defaulted W.profile answers (fired_of fired.now) (W.state world.old)) }
     ensures store { Called (S.calls store.old, S.to_come store.old) (S.calls store.new, S.to_come store.new) (W.state world.old).calls (W.state world.new).calls }
+    ensures kept { W.kept world.new ≡ W.kept world.old }
     ensures form { (W.state world.new).form ≡ (W.state world.old).form }
 {
     match which_default(world, fired) {
@@ -153,6 +154,7 @@ fn only(events: FiredList) -> Concluded
 
 fn act_quietly<W: World>(world: &mut W, action: QuietAction) -> Result<(), W::Fault>
     ensures done { Runs W.Fault.means (W.state world.new) result (done_quietly W.profile action (W.state world.old)) }
+    ensures kept { W.kept world.new ≡ W.kept world.old }
     ensures form { (W.state world.new).form ≡ (W.state world.old).form }
     ensures calls { (W.state world.new).calls ≡ (W.state world.old).calls }
 {
@@ -168,6 +170,7 @@ fn act_quietly<W: World>(world: &mut W, action: QuietAction) -> Result<(), W::Fa
 /// What is due before, and then the behaviour itself, due or not.
 fn recalculate_now<W: World>(world: &mut W, model: u32) -> Result<(), W::Fault>
     ensures done { Runs W.Fault.means (W.state world.new) result (recalculates_now W.profile model (W.state world.old)) }
+    ensures kept { W.kept world.new ≡ W.kept world.old }
     ensures form { (W.state world.new).form ≡ (W.state world.old).form }
     ensures calls { (W.state world.new).calls ≡ (W.state world.old).calls }
 {
@@ -177,6 +180,7 @@ fn recalculate_now<W: World>(world: &mut W, model: u32) -> Result<(), W::Fault>
 
 fn revalidate_now<W: World>(world: &mut W, model: u32) -> Result<(), W::Fault>
     ensures done { Runs W.Fault.means (W.state world.new) result (revalidates_now W.profile model (W.state world.old)) }
+    ensures kept { W.kept world.new ≡ W.kept world.old }
     ensures form { (W.state world.new).form ≡ (W.state world.old).form }
     ensures calls { (W.state world.new).calls ≡ (W.state world.old).calls }
 {
@@ -186,6 +190,7 @@ fn revalidate_now<W: World>(world: &mut W, model: u32) -> Result<(), W::Fault>
 
 fn refresh_now<W: World>(world: &mut W, model: u32) -> Result<FiredList, W::Fault>
     ensures done { Makes W.Fault.means (map fired_of) (W.state world.new) result (refreshed_now W.profile model (W.state world.old)) }
+    ensures kept { W.kept world.new ≡ W.kept world.old }
     ensures form { (W.state world.new).form ≡ (W.state world.old).form }
     ensures calls { (W.state world.new).calls ≡ (W.state world.old).calls }
 {

@@ -27,6 +27,7 @@ pub fn delete<W: World>(
     acting: &Acting,
 ) -> Result<FiredList, W::Fault>
     ensures done { Makes W.Fault.means (map fired_of) (W.state world.new) result (deletes W.profile (acting_of fired.now acting.now) (delete_in (act_at (W.state world.old) acting.now.element)) (W.state world.old)) }
+    ensures kept { W.kept world.new ≡ W.kept world.old }
     ensures form { (W.state world.new).form ≡ (W.state world.old).form }
     ensures calls { (W.state world.new).calls ≡ (W.state world.old).calls }
 {
@@ -55,6 +56,7 @@ fn delete_at<W: World>(
     focus: &Focus,
 ) -> Result<FiredList, W::Fault>
     ensures done { Makes W.Fault.means (map fired_of) (W.state world.new) result (deletes_at W.profile (acting_of fired.now acting.now) (delete_in (act_at (W.state world.old) acting.now.element)) (focus_of focus.now) (W.state world.old)) }
+    ensures kept { W.kept world.new ≡ W.kept world.old }
     ensures form { (W.state world.new).form ≡ (W.state world.old).form }
     ensures calls { (W.state world.new).calls ≡ (W.state world.old).calls }
 {
@@ -89,6 +91,7 @@ fn deleted<W: World>(
     at: Option<i64>,
 ) -> Result<FiredList, W::Fault>
     ensures done { Makes W.Fault.means (map fired_of) (W.state world.new) result (makes_deleted W.profile (location_of (W.state world.old).form.decimals set.now at) nodes.now (W.state world.old)) }
+    ensures kept { W.kept world.new ≡ W.kept world.old }
     ensures form { (W.state world.new).form ≡ (W.state world.old).form }
     ensures calls { (W.state world.new).calls ≡ (W.state world.old).calls }
 {
@@ -106,6 +109,7 @@ fn deleted_from<W: World>(
     at: Option<i64>,
 ) -> Result<FiredList, W::Fault>
     ensures done { Makes W.Fault.means (map fired_of) (W.state world.new) result (deletes_from W.profile (location_of (W.state world.old).form.decimals set.now at) first.number nodes.now (W.state world.old)) }
+    ensures kept { W.kept world.new ≡ W.kept world.old }
     ensures form { (W.state world.new).form ≡ (W.state world.old).form }
     ensures calls { (W.state world.new).calls ≡ (W.state world.old).calls }
 {
@@ -124,6 +128,7 @@ fn deleted_from<W: World>(
 
 fn detach_all<W: World>(world: &mut W, nodes: &[NodeId]) -> Result<(), W::Fault>
     ensures done { Runs W.Fault.means (W.state world.new) result (in_turn cut (map (λ n. n.number) nodes.now) (W.state world.old)) }
+    ensures kept { W.kept world.new ≡ W.kept world.old }
     ensures form { (W.state world.new).form ≡ (W.state world.old).form }
     ensures calls { (W.state world.new).calls ≡ (W.state world.old).calls }
 {

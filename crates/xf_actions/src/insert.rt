@@ -30,6 +30,7 @@ pub fn insert<W: World>(
     acting: &Acting,
 ) -> Result<FiredList, W::Fault>
     ensures done { Makes W.Fault.means (map fired_of) (W.state world.new) result (inserts W.profile (acting_of fired.now acting.now) (insert_in (act_at (W.state world.old) acting.now.element)) (W.state world.old)) }
+    ensures kept { W.kept world.new ≡ W.kept world.old }
     ensures form { (W.state world.new).form ≡ (W.state world.old).form }
     ensures calls { (W.state world.new).calls ≡ (W.state world.old).calls }
 {
@@ -58,6 +59,7 @@ fn insert_at<W: World>(
     focus: &Focus,
 ) -> Result<FiredList, W::Fault>
     ensures done { Makes W.Fault.means (map fired_of) (W.state world.new) result (inserts_at W.profile (acting_of fired.now acting.now) (insert_in (act_at (W.state world.old) acting.now.element)) (focus_of focus.now) (W.state world.old)) }
+    ensures kept { W.kept world.new ≡ W.kept world.old }
     ensures form { (W.state world.new).form ≡ (W.state world.old).form }
     ensures calls { (W.state world.new).calls ≡ (W.state world.old).calls }
 {
@@ -129,6 +131,7 @@ fn place<W: World>(
 /// The copies are made and go to their places, the indexes are brought up to date, and the instance is told.
 fn inserted<W: World>(world: &mut W, inserting: &Inserting) -> Result<FiredList, W::Fault>
     ensures done { Makes W.Fault.means (map fired_of) (W.state world.new) result (inserted_by W.profile (inserting_of inserting.now) (W.state world.old)) }
+    ensures kept { W.kept world.new ≡ W.kept world.old }
     ensures form { (W.state world.new).form ≡ (W.state world.old).form }
     ensures calls { (W.state world.new).calls ≡ (W.state world.old).calls }
 {
@@ -144,6 +147,7 @@ fn inserted_in<W: World>(
     inserting: &Inserting,
 ) -> Result<FiredList, W::Fault>
     ensures done { Makes W.Fault.means (map fired_of) (W.state world.new) result (inserts_in W.profile inserting.now.is_before inserting.now.location parent.number (map place_of inserting.now.places) (W.state world.old)) }
+    ensures kept { W.kept world.new ≡ W.kept world.old }
     ensures form { (W.state world.new).form ≡ (W.state world.old).form }
     ensures calls { (W.state world.new).calls ≡ (W.state world.old).calls }
 {
@@ -163,6 +167,7 @@ fn inserted_in<W: World>(
 /// A copy of the origin of each place.
 fn copies<W: World>(world: &mut W, places: &[Place]) -> Result<NodeList, W::Fault>
     ensures done { Makes W.Fault.means (λ tops. tops) (W.state world.new) result (copies_of W.profile (map (λ q. q.origin) (map place_of places.now)) (W.state world.old)) }
+    ensures kept { W.kept world.new ≡ W.kept world.old }
     ensures form { (W.state world.new).form ≡ (W.state world.old).form }
     ensures calls { (W.state world.new).calls ≡ (W.state world.old).calls }
 {
@@ -180,6 +185,7 @@ fn copies<W: World>(world: &mut W, places: &[Place]) -> Result<NodeList, W::Faul
 /// One after the other goes to its place.
 fn put_copies<W: World>(world: &mut W, places: &[Place], tops: &NodeList) -> Result<(), W::Fault>
     ensures done { Runs W.Fault.means (W.state world.new) result (in_turn (puts_copy W.profile tops.now) (zip (map place_of places.now) tops.now) (W.state world.old)) }
+    ensures kept { W.kept world.new ≡ W.kept world.old }
     ensures form { (W.state world.new).form ≡ (W.state world.old).form }
     ensures calls { (W.state world.new).calls ≡ (W.state world.old).calls }
 {
@@ -203,6 +209,7 @@ fn put_copy<W: World>(
     top: NodeId,
 ) -> Result<(), W::Fault>
     ensures done { Runs W.Fault.means (W.state world.new) result (puts_copy W.profile tops.now (place_of place.now, top.number) (W.state world.old)) }
+    ensures kept { W.kept world.new ≡ W.kept world.old }
     ensures form { (W.state world.new).form ≡ (W.state world.old).form }
     ensures calls { (W.state world.new).calls ≡ (W.state world.old).calls }
 {
@@ -213,6 +220,7 @@ fn put_copy<W: World>(
 
 fn detach_some<W: World>(world: &mut W, node: Option<NodeId>) -> Result<(), W::Fault>
     ensures done { Runs W.Fault.means (W.state world.new) result (Ok (without_one (option_map (λ n. n.number) node) (W.state world.old))) }
+    ensures kept { W.kept world.new ≡ W.kept world.old }
     ensures form { (W.state world.new).form ≡ (W.state world.old).form }
     ensures calls { (W.state world.new).calls ≡ (W.state world.old).calls }
 {

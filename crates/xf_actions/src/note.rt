@@ -18,6 +18,7 @@ use xf_name::Word;
 /// A note with the text of the message.
 pub fn message<W: World>(world: &mut W, fired: &Fired, acting: &Acting) -> Result<(), W::Fault>
     ensures done { Runs W.Fault.means (W.state world.new) result (messages W.profile (acting_of fired.now acting.now) (W.state world.old)) }
+    ensures kept { W.kept world.new ≡ W.kept world.old }
     ensures form { (W.state world.new).form ≡ (W.state world.old).form }
     ensures calls { (W.state world.new).calls ≡ (W.state world.old).calls }
 {
@@ -28,6 +29,7 @@ pub fn message<W: World>(world: &mut W, fired: &Fired, acting: &Acting) -> Resul
 /// A note with the text of what is bound, else with the resource.
 pub fn load<W: World>(world: &mut W, fired: &Fired, acting: &Acting) -> Result<(), W::Fault>
     ensures done { Runs W.Fault.means (W.state world.new) result (loads W.profile (acting_of fired.now acting.now) (resource_in (act_at (W.state world.old) acting.now.element)) (W.state world.old)) }
+    ensures kept { W.kept world.new ≡ W.kept world.old }
     ensures form { (W.state world.new).form ≡ (W.state world.old).form }
     ensures calls { (W.state world.new).calls ≡ (W.state world.old).calls }
 {
@@ -50,6 +52,7 @@ fn loaded_text<W: World>(world: &W, fired: &Fired, acting: &Acting) -> Result<Wo
 /// A note with the id of the control. Has no effect where the index of a repeat around it is 0.
 pub fn set_focus<W: World>(world: &mut W, control: u32) -> Result<(), W::Fault>
     ensures done { Runs W.Fault.means (W.state world.new) result (focuses W.profile control (W.state world.old)) }
+    ensures kept { W.kept world.new ≡ W.kept world.old }
     ensures form { (W.state world.new).form ≡ (W.state world.old).form }
     ensures calls { (W.state world.new).calls ≡ (W.state world.old).calls }
 {

@@ -11,6 +11,7 @@ use xf_doc::NodeList;
 /// The data of the model as construction left them; then the indexes are brought up to date.
 pub fn reset<W: World>(world: &mut W, model: u32) -> Result<(), W::Fault>
     ensures done { Runs W.Fault.means (W.state world.new) result (resets W.profile model (W.state world.old)) }
+    ensures kept { W.kept world.new ≡ W.kept world.old }
     ensures form { (W.state world.new).form ≡ (W.state world.old).form }
     ensures calls { (W.state world.new).calls ≡ (W.state world.old).calls }
 {
@@ -22,6 +23,7 @@ pub fn reset<W: World>(world: &mut W, model: u32) -> Result<(), W::Fault>
 
 fn put_all_back<W: World>(world: &mut W, instances: &[u32]) -> Result<(), W::Fault>
     ensures done { Runs W.Fault.means (W.state world.new) result (in_turn (put_back W.profile (construct W.profile (W.state world.old).form)) instances.now (W.state world.old)) }
+    ensures kept { W.kept world.new ≡ W.kept world.old }
     ensures form { (W.state world.new).form ≡ (W.state world.old).form }
     ensures calls { (W.state world.new).calls ≡ (W.state world.old).calls }
 {

@@ -13,6 +13,7 @@ use xf_base::Items;
 /// Spends the turn of a round and does what is due. It gives the events that are told after it.
 pub fn begin_round<W: World>(world: &mut W) -> Result<FiredList, W::Fault>
     ensures done { Makes W.Fault.means (map fired_of) (W.state world.new) result (round_begun W.profile (W.state world.old)) }
+    ensures kept { W.kept world.new ≡ W.kept world.old }
     ensures form { (W.state world.new).form ≡ (W.state world.old).form }
     ensures calls { (W.state world.new).calls ≡ (W.state world.old).calls }
 {
@@ -28,6 +29,7 @@ pub fn begin_round<W: World>(world: &mut W) -> Result<FiredList, W::Fault>
 /// The models one after the other.
 fn behave_all<W: World>(world: &mut W) -> Result<(), W::Fault>
     ensures done { Runs W.Fault.means (W.state world.new) result (all_behaved W.profile (W.state world.old)) }
+    ensures kept { W.kept world.new ≡ W.kept world.old }
     ensures form { (W.state world.new).form ≡ (W.state world.old).form }
     ensures calls { (W.state world.new).calls ≡ (W.state world.old).calls }
 {
@@ -41,6 +43,7 @@ fn behave_all<W: World>(world: &mut W) -> Result<(), W::Fault>
 /// What is due of a model, as far as the revalidation.
 pub fn revalidate_due<W: World>(world: &mut W, model: u32) -> Result<(), W::Fault>
     ensures done { Runs W.Fault.means (W.state world.new) result (revalidates W.profile model (W.state world.old)) }
+    ensures kept { W.kept world.new ≡ W.kept world.old }
     ensures form { (W.state world.new).form ≡ (W.state world.old).form }
     ensures calls { (W.state world.new).calls ≡ (W.state world.old).calls }
 {
@@ -54,6 +57,7 @@ pub fn revalidate_due<W: World>(world: &mut W, model: u32) -> Result<(), W::Faul
 
 pub fn recalculate_due<W: World>(world: &mut W, model: u32) -> Result<(), W::Fault>
     ensures done { Runs W.Fault.means (W.state world.new) result (recalculates W.profile model (W.state world.old)) }
+    ensures kept { W.kept world.new ≡ W.kept world.old }
     ensures form { (W.state world.new).form ≡ (W.state world.old).form }
     ensures calls { (W.state world.new).calls ≡ (W.state world.old).calls }
 {
@@ -67,6 +71,7 @@ pub fn recalculate_due<W: World>(world: &mut W, model: u32) -> Result<(), W::Fau
 
 pub fn rebuild_due<W: World>(world: &mut W, model: u32) -> Result<(), W::Fault>
     ensures done { Runs W.Fault.means (W.state world.new) result (rebuilds W.profile model (W.state world.old)) }
+    ensures kept { W.kept world.new ≡ W.kept world.old }
     ensures form { (W.state world.new).form ≡ (W.state world.old).form }
     ensures calls { (W.state world.new).calls ≡ (W.state world.old).calls }
 {

@@ -70,6 +70,7 @@ pub fn change<W: World>(
     acting: &Acting,
 ) -> Result<FiredList, W::Fault>
     ensures done { Makes W.Fault.means (map fired_of) (W.state world.new) result (changed W.profile (acting_of fired.now acting.now) (work_in (act_at (W.state world.old) acting.now.element)) (W.state world.old)) }
+    ensures kept { W.kept world.new ≡ W.kept world.old }
     ensures form { (W.state world.new).form ≡ (W.state world.old).form }
     ensures calls { (W.state world.new).calls ≡ (W.state world.old).calls }
 {
@@ -105,6 +106,7 @@ pub fn change<W: World>(
 /// Has no effect where nothing is bound or the node is readonly.
 fn set_value<W: World>(world: &mut W, fired: &Fired, acting: &Acting) -> Result<(), W::Fault>
     ensures done { Runs W.Fault.means (W.state world.new) result (value_set W.profile (acting_of fired.now acting.now) (value_in (act_at (W.state world.old) acting.now.element)) (W.state world.old)) }
+    ensures kept { W.kept world.new ≡ W.kept world.old }
     ensures form { (W.state world.new).form ≡ (W.state world.old).form }
     ensures calls { (W.state world.new).calls ≡ (W.state world.old).calls }
 {
@@ -126,6 +128,7 @@ fn set_node<W: World>(
     node: NodeId,
 ) -> Result<(), W::Fault>
     ensures done { Runs W.Fault.means (W.state world.new) result (set_open W.profile (acting_of fired.now acting.now) (value_in (act_at (W.state world.old) acting.now.element)) node.number (W.state world.old)) }
+    ensures kept { W.kept world.new ≡ W.kept world.old }
     ensures form { (W.state world.new).form ≡ (W.state world.old).form }
     ensures calls { (W.state world.new).calls ≡ (W.state world.old).calls }
 {

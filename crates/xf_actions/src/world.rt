@@ -65,6 +65,11 @@ pub trait World {
     /// The state of the machine that stands.
     ghost state: { Self → State };
 
+    /// What stands again where an event is refused: no call changes it.
+    ghost Kept: { Type 0 };
+
+    ghost kept: { Self → Kept };
+
     fn form(&self) -> &Form
         ensures { IsProgram result.now (state self.now).form };
 
@@ -75,6 +80,7 @@ pub trait World {
     fn spend(&mut self) -> Result<(), Self::Fault>
         ensures done { Runs Self.Fault.means (state self.new) result (spent (state self.old)) }
         ensures cause { IfErr result (λ fault. Self.Fault.means fault ≡ Some budget) }
+        ensures kept { kept self.new ≡ kept self.old }
         ensures form { (state self.new).form ≡ (state self.old).form }
         ensures calls { (state self.new).calls ≡ (state self.old).calls };
 
@@ -109,16 +115,19 @@ pub trait World {
 
     fn rebuild(&mut self, model: u32) -> Result<(), Self::Fault>
         ensures done { Runs Self.Fault.means (state self.new) result (rebuilt profile model (state self.old)) }
+        ensures kept { kept self.new ≡ kept self.old }
         ensures form { (state self.new).form ≡ (state self.old).form }
         ensures calls { (state self.new).calls ≡ (state self.old).calls };
 
     fn recalculate(&mut self, model: u32) -> Result<(), Self::Fault>
         ensures done { Runs Self.Fault.means (state self.new) result (recalculated profile model (state self.old)) }
+        ensures kept { kept self.new ≡ kept self.old }
         ensures form { (state self.new).form ≡ (state self.old).form }
         ensures calls { (state self.new).calls ≡ (state self.old).calls };
 
     fn revalidate(&mut self, model: u32) -> Result<(), Self::Fault>
         ensures done { Runs Self.Fault.means (state self.new) result (Ok (revalidated profile model (state self.old))) }
+        ensures kept { kept self.new ≡ kept self.old }
         ensures form { (state self.new).form ≡ (state self.old).form }
         ensures calls { (state self.new).calls ≡ (state self.old).calls };
 
@@ -126,6 +135,7 @@ pub trait World {
     /// told of the differences.
     fn refresh(&mut self, model: Option<u32>) -> Result<FiredList, Self::Fault>
         ensures done { Makes Self.Fault.means (map fired_of) (state self.new) result (refreshed profile (cleared_by model) (state self.old)) }
+        ensures kept { kept self.new ≡ kept self.old }
         ensures form { (state self.new).form ≡ (state self.old).form }
         ensures calls { (state self.new).calls ≡ (state self.old).calls };
 
@@ -133,6 +143,7 @@ pub trait World {
     fn submit<S: Store>(&mut self, submission: u32, store: &mut S) -> Result<Concluded, Self::Fault>
         ensures done { LeavesOver Self.Fault.means (concluded_of (state self.old).form (state self.new)) (state self.new) result (λ answers. submitted profile answers submission (slice_get (state self.old).form.submissions submission) (state self.old)) }
         ensures store { Called (S.calls store.old, S.to_come store.old) (S.calls store.new, S.to_come store.new) (state self.old).calls (state self.new).calls }
+        ensures kept { kept self.new ≡ kept self.old }
         ensures form { (state self.new).form ≡ (state self.old).form };
 
     /// The instances of a model.
@@ -142,6 +153,7 @@ pub trait World {
     /// The document element of an instance as construction left it.
     fn put_back(&mut self, instance: u32) -> Result<(), Self::Fault>
         ensures done { Runs Self.Fault.means (state self.new) result (instance_put_back profile (construct profile (state self.old).form) instance (state self.old)) }
+        ensures kept { kept self.new ≡ kept self.old }
         ensures form { (state self.new).form ≡ (state self.old).form }
         ensures calls { (state self.new).calls ≡ (state self.old).calls };
 
@@ -182,11 +194,13 @@ pub trait World {
 
     fn set_text(&mut self, node: NodeId, text: &str) -> Result<(), Self::Fault>
         ensures done { Runs Self.Fault.means (state self.new) result (text_set profile node.number text.now (state self.old)) }
+        ensures kept { kept self.new ≡ kept self.old }
         ensures form { (state self.new).form ≡ (state self.old).form }
         ensures calls { (state self.new).calls ≡ (state self.old).calls };
 
     fn add_note(&mut self, note: Note) -> Result<(), Self::Fault>
         ensures done { Runs Self.Fault.means (state self.new) result (noted profile note (state self.old)) }
+        ensures kept { kept self.new ≡ kept self.old }
         ensures form { (state self.new).form ≡ (state self.old).form }
         ensures calls { (state self.new).calls ≡ (state self.old).calls };
 
@@ -229,6 +243,7 @@ pub trait World {
     /// The index of a repeat is set, which flags the refresh of the model.
     fn set_index(&mut self, model: u32, repeat: u32, index: u64) -> Result<(), Self::Fault>
         ensures done { Runs Self.Fault.means (state self.new) result (index_set profile model repeat index (state self.old)) }
+        ensures kept { kept self.new ≡ kept self.old }
         ensures form { (state self.new).form ≡ (state self.old).form }
         ensures calls { (state self.new).calls ≡ (state self.old).calls };
 
@@ -238,11 +253,13 @@ pub trait World {
 
     /// Another case of the switch of this number is selected: of one that is not there none is.
     fn set_case(&mut self, switch: u32, place: usize)
-        ensures { state self.new ≡ case_set switch place (state self.old) };
+        ensures done { state self.new ≡ case_set switch place (state self.old) }
+        ensures kept { kept self.new ≡ kept self.old };
 
     /// The refresh of a model is due: of one that is not there none is.
     fn flag_refresh(&mut self, model: u32)
-        ensures { state self.new ≡ in_model refresh_due model (state self.old) };
+        ensures done { state self.new ≡ in_model refresh_due model (state self.old) }
+        ensures kept { kept self.new ≡ kept self.old };
 
     // ---- what actions read
 
@@ -342,24 +359,28 @@ pub trait World {
     /// A copy of a tree comes as a detached one.
     fn copy(&mut self, node: NodeId) -> Result<NodeId, Self::Fault>
         ensures done { Makes Self.Fault.means (λ n. n.number) (state self.new) result (copied profile node.number (state self.old)) }
+        ensures kept { kept self.new ≡ kept self.old }
         ensures form { (state self.new).form ≡ (state self.old).form }
         ensures calls { (state self.new).calls ≡ (state self.old).calls };
 
     /// A detached tree comes below a parent, behind so many children.
     fn attach(&mut self, node: NodeId, parent: NodeId, place: usize) -> Result<(), Self::Fault>
         ensures done { Runs Self.Fault.means (state self.new) result (attached profile node.number parent.number place (state self.old)) }
+        ensures kept { kept self.new ≡ kept self.old }
         ensures form { (state self.new).form ≡ (state self.old).form }
         ensures calls { (state self.new).calls ≡ (state self.old).calls };
 
     /// A tree is cut off its parent.
     fn detach(&mut self, node: NodeId) -> Result<(), Self::Fault>
         ensures done { Runs Self.Fault.means (state self.new) result (Ok (detached node.number (state self.old))) }
+        ensures kept { kept self.new ≡ kept self.old }
         ensures form { (state self.new).form ≡ (state self.old).form }
         ensures calls { (state self.new).calls ≡ (state self.old).calls };
 
     /// The indexes are brought up to date where these nodes were just inserted.
     fn reindex(&mut self, added: &NodeList) -> Result<(), Self::Fault>
         ensures done { Runs Self.Fault.means (state self.new) result (reindexed profile added.now (state self.old)) }
+        ensures kept { kept self.new ≡ kept self.old }
         ensures form { (state self.new).form ≡ (state self.old).form }
         ensures calls { (state self.new).calls ≡ (state self.old).calls };
 

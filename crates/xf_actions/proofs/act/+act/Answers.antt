@@ -75,7 +75,7 @@ dispatch-returns-clause-store g t c =
 
 pub handle_all-loop-handler-init : goal.handle_all-loop-handler-init
 handle_all-loop-handler-init g t c =
-    record { rest = λ answers h. refl; store = called-none _ _; form = refl }
+    record { rest = λ answers h. refl; store = called-none _ _; kept = refl; form = refl }
 
 pub handle_all-returns-in_err-handle-clause-done : goal.handle_all-returns-in_err-handle-clause-done
 handle_all-returns-in_err-handle-clause-done g t c answers h =
@@ -94,6 +94,7 @@ handle_all-loop-handler-preserved g t c =
           c.loop-handler.invariant.rest answers (covers-before _ _ c.in_ok-handle.ensures.store.grown answers h)
           ∙ in_turn-step {X = ℕ} (handle g.W.World.profile (dispatch g.W.World.profile answers c.args.depth) c.args.is_idle (fired_of c.args.fired.now)) c.args.handlers.now c.loop-handler.handler-index 0 _ _ (omega arith) (c.in_ok-handle.ensures.done answers h);
       store = called-both c.loop-handler.invariant.store c.in_ok-handle.ensures.store;
+      kept = c.in_ok-handle.ensures.kept ∙ c.loop-handler.invariant.kept;
       form = c.in_ok-handle.ensures.form ∙ c.loop-handler.invariant.form;
     }
 
@@ -198,7 +199,7 @@ act-returns-in-Some-clause-done g t c answers h =
 
 pub act_all-loop-part-init : goal.act_all-loop-part-init
 act_all-loop-part-init g t c =
-    record { rest = λ answers h. refl; store = called-none _ _; form = refl }
+    record { rest = λ answers h. refl; store = called-none _ _; kept = refl; form = refl }
 
 pub act_all-returns-in_err-act-clause-done : goal.act_all-returns-in_err-act-clause-done
 act_all-returns-in_err-act-clause-done g t c answers h =
@@ -217,6 +218,7 @@ act_all-loop-part-preserved g t c =
           c.loop-part.invariant.rest answers (covers-before _ _ c.in_ok-act.ensures.store.grown answers h)
           ∙ in_turn-step {X = ℕ} (act_within c.args.left g.W.World.profile (dispatch g.W.World.profile answers c.args.depth false) (fired_of c.args.fired.now)) c.args.parts.now c.loop-part.part-index 0 _ _ (omega arith) (c.in_ok-act.ensures.done answers h);
       store = called-both c.loop-part.invariant.store c.in_ok-act.ensures.store;
+      kept = c.in_ok-act.ensures.kept ∙ c.loop-part.invariant.kept;
       form = c.in_ok-act.ensures.form ∙ c.loop-part.invariant.form;
     }
 
@@ -269,7 +271,7 @@ once-returns-clause-store g t c =
 
 pub tell_all-loop-fired-init : goal.tell_all-loop-fired-init
 tell_all-loop-fired-init g t c =
-    record { rest = λ answers h. refl; store = called-none _ _; form = refl }
+    record { rest = λ answers h. refl; store = called-none _ _; kept = refl; form = refl }
 
 pub tell_all-returns-in_err-dispatch-clause-done : goal.tell_all-returns-in_err-dispatch-clause-done
 tell_all-returns-in_err-dispatch-clause-done g t c answers h =
@@ -288,6 +290,7 @@ tell_all-loop-fired-preserved g t c =
           c.loop-fired.invariant.rest answers (covers-before _ _ c.in_ok-dispatch.ensures.store.grown answers h)
           ∙ told-step (dispatch g.W.World.profile answers c.args.depth c.args.is_idle) fired_of c.args.events.now c.loop-fired.fired-index c.fired-item.result (g.W.World.state c.loop-fired.world) _ (omega arith) c.fired-item.is (c.in_ok-dispatch.ensures.done answers h);
       store = called-both c.loop-fired.invariant.store c.in_ok-dispatch.ensures.store;
+      kept = c.in_ok-dispatch.ensures.kept ∙ c.loop-fired.invariant.kept;
       form = c.in_ok-dispatch.ensures.form ∙ c.loop-fired.invariant.form;
     }
 
@@ -299,7 +302,7 @@ tell_all-returns-clause-done g t c answers h =
 
 pub update-loop-round-init : goal.update-loop-round-init
 update-loop-round-init g t c =
-    record { rest = λ answers h. update-begins g.W.World.profile (dispatch g.W.World.profile answers c.args.depth false) (g.W.World.state c.args.world.now) _ (omega arith); store = called-none _ _; form = refl }
+    record { rest = λ answers h. update-begins g.W.World.profile (dispatch g.W.World.profile answers c.args.depth false) (g.W.World.state c.args.world.now) _ (omega arith); store = called-none _ _; kept = refl; form = refl }
 
 pub update-returns-then-not-is_due-clause-done : goal.update-returns-then-not-is_due-clause-done
 update-returns-then-not-is_due-clause-done g t c answers h =
@@ -337,6 +340,7 @@ update-loop-round-preserved g t c =
           ∙ rounds-on _ _ g.W.World.profile (dispatch g.W.World.profile answers c.args.depth false) (g.W.World.state c.loop-round.world) (g.W.World.state c.begin_round.new.world) (g.W.World.state c.tell_all.new.world) _ (omega arith) (omega arith) (search rules) c.in_ok-events.ensures.done
           (rw c.as_slice.ensures at (c.in_ok-tell_all.ensures.done answers h));
       store = called-both (called-ahead _ c.loop-round.invariant.store c.in_ok-events.ensures.calls) c.in_ok-tell_all.ensures.store;
+      kept = c.in_ok-tell_all.ensures.kept ∙ (c.in_ok-events.ensures.kept ∙ c.loop-round.invariant.kept);
       form = c.in_ok-tell_all.ensures.form ∙ (c.in_ok-events.ensures.form ∙ c.loop-round.invariant.form);
     }
 
@@ -348,7 +352,7 @@ repeat-returns-then-not-is_repeated-clause-done g t c answers h =
 
 pub repeat-loop-test-init : goal.repeat-loop-test-init
 repeat-loop-test-init g t c =
-    record { rest = λ answers h. acted-begins g.W.World.profile (dispatch g.W.World.profile answers c.args.depth false) (act_within c.args.left g.W.World.profile (dispatch g.W.World.profile answers c.args.depth false) (fired_of c.args.fired.now)) (acting_of c.args.fired.now c.args.acting.now) (act_at (g.W.World.state c.args.world.now) c.args.acting.now.element) (g.W.World.state c.args.world.now) _ (search rules) (omega arith); written = search rules; store = called-none _ _; form = refl }
+    record { rest = λ answers h. acted-begins g.W.World.profile (dispatch g.W.World.profile answers c.args.depth false) (act_within c.args.left g.W.World.profile (dispatch g.W.World.profile answers c.args.depth false) (fired_of c.args.fired.now)) (acting_of c.args.fired.now c.args.acting.now) (act_at (g.W.World.state c.args.world.now) c.args.acting.now.element) (g.W.World.state c.args.world.now) _ (search rules) (omega arith); written = search rules; store = called-none _ _; kept = refl; form = refl }
 
 pub repeat-returns-in_err-spend-clause-done : goal.repeat-returns-in_err-spend-clause-done
 repeat-returns-in_err-spend-clause-done g t c answers h =
@@ -400,6 +404,7 @@ repeat-loop-test-preserved g t c =
           (c.in_ok-once.ensures.done answers h);
       written = c.loop-test.invariant.written;
       store = called-both (called-ahead _ c.loop-test.invariant.store c.in_ok-spend.ensures.calls) c.in_ok-once.ensures.store;
+      kept = c.in_ok-once.ensures.kept ∙ (c.in_ok-spend.ensures.kept ∙ c.loop-test.invariant.kept);
       form = c.in_ok-once.ensures.form ∙ (c.in_ok-spend.ensures.form ∙ c.loop-test.invariant.form);
     }
 

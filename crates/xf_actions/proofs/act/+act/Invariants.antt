@@ -57,6 +57,7 @@ invariant-handle_all-loop-handler g l =
       rest : (answers : List Answer) → Covers answers (g.W.World.state l.world).calls
           → in_turn (run answers) l.handlers (g.W.World.state l.initial.world) ≡ in_turn (run answers) (drop l.handler-index l.handlers) (g.W.World.state l.world);
       store : Called (g.S.Store.calls l.initial.store, g.S.Store.to_come l.initial.store) (g.S.Store.calls l.store, g.S.Store.to_come l.store) (g.W.World.state l.initial.world).calls (g.W.World.state l.world).calls;
+      kept : g.W.World.kept l.world ≡ g.W.World.kept l.initial.world;
       form : (g.W.World.state l.world).form ≡ (g.W.World.state l.initial.world).form;
     }
 
@@ -66,6 +67,7 @@ invariant-act_all-loop-part g l =
       rest : (answers : List Answer) → Covers answers (g.W.World.state l.world).calls
           → in_turn (run answers) l.parts (g.W.World.state l.initial.world) ≡ in_turn (run answers) (drop l.part-index l.parts) (g.W.World.state l.world);
       store : Called (g.S.Store.calls l.initial.store, g.S.Store.to_come l.initial.store) (g.S.Store.calls l.store, g.S.Store.to_come l.store) (g.W.World.state l.initial.world).calls (g.W.World.state l.world).calls;
+      kept : g.W.World.kept l.world ≡ g.W.World.kept l.initial.world;
       form : (g.W.World.state l.world).form ≡ (g.W.World.state l.initial.world).form;
     }
 
@@ -76,6 +78,7 @@ invariant-tell_all-loop-fired g l =
           → in_turn (run answers) (map fired_of l.events) (g.W.World.state l.initial.world)
           ≡ in_turn (run answers) (drop l.fired-index (map fired_of l.events)) (g.W.World.state l.world);
       store : Called (g.S.Store.calls l.initial.store, g.S.Store.to_come l.initial.store) (g.S.Store.calls l.store, g.S.Store.to_come l.store) (g.W.World.state l.initial.world).calls (g.W.World.state l.world).calls;
+      kept : g.W.World.kept l.world ≡ g.W.World.kept l.initial.world;
       form : (g.W.World.state l.world).form ≡ (g.W.World.state l.initial.world).form;
     }
 
@@ -86,6 +89,7 @@ invariant-update-loop-round g l =
           → update g.W.World.profile (tell answers) (g.W.World.state l.initial.world)
           ≡ rounds (l.most - l.round) (round g.W.World.profile (tell answers)) (g.W.World.state l.world);
       store : Called (g.S.Store.calls l.initial.store, g.S.Store.to_come l.initial.store) (g.S.Store.calls l.store, g.S.Store.to_come l.store) (g.W.World.state l.initial.world).calls (g.W.World.state l.world).calls;
+      kept : g.W.World.kept l.world ≡ g.W.World.kept l.initial.world;
       form : (g.W.World.state l.world).form ≡ (g.W.World.state l.initial.world).form;
     }
 
@@ -101,5 +105,6 @@ invariant-repeat-loop-test g l =
           ≡ tested (l.most - l.test) p x (repetition_in a) (once_done p (tell answers) (inner answers) x a) (g.W.World.state l.world);
       written : is_some (repetition_in a) ≡ true;
       store : Called (g.S.Store.calls l.initial.store, g.S.Store.to_come l.initial.store) (g.S.Store.calls l.store, g.S.Store.to_come l.store) (g.W.World.state l.initial.world).calls (g.W.World.state l.world).calls;
+      kept : g.W.World.kept l.world ≡ g.W.World.kept l.initial.world;
       form : (g.W.World.state l.world).form ≡ (g.W.World.state l.initial.world).form;
     }

@@ -11,6 +11,7 @@ returns-in_err-detach-clause-done g c =
 pub loop-node-preserved : goal.loop-node-preserved
 loop-node-preserved g c = record {
   rest = c.loop-node.invariant.rest ∙ cut-step (λ n. n.number) c.args.nodes.now c.loop-node.node-index _ (g.W.World.state c.loop-node.world) (g.W.World.state c.detach.new.self) (omega arith) c.in_ok-detach.ensures.done;
+  kept = c.in_ok-detach.ensures.kept ∙ c.loop-node.invariant.kept;
   form = c.in_ok-detach.ensures.form ∙ c.loop-node.invariant.form;
   calls = c.in_ok-detach.ensures.calls ∙ c.loop-node.invariant.calls;
 }

@@ -8,6 +8,7 @@ abbrev pub invariant-loop-node : goal.invariant-loop-node
 invariant-loop-node g l = record {
   rest : in_turn cut (map (λ n. n.number) l.nodes) (g.W.World.state l.initial.world)
       ≡ in_turn cut (drop l.node-index (map (λ n. n.number) l.nodes)) (g.W.World.state l.world);
+  kept : g.W.World.kept l.world ≡ g.W.World.kept l.initial.world;
   form : (g.W.World.state l.world).form ≡ (g.W.World.state l.initial.world).form;
   calls : (g.W.World.state l.world).calls ≡ (g.W.World.state l.initial.world).calls;
 }

@@ -5,7 +5,7 @@ use Rattle.xf_actions.proofs.Trees.{copies-begin, copies-read, copies-read_stop,
 use Rattle.xf_actions.proofs.insert.copies.Goals as goal
 
 pub loop-place-init : goal.loop-place-init
-loop-place-init g c = record { rest = copies-begin _ _ (search rules); form = search rules; calls = search rules }
+loop-place-init g c = record { rest = copies-begin _ _ (search rules); kept = search rules; form = search rules; calls = search rules }
 
 pub returns-in_err-top-clause-done : goal.returns-in_err-top-clause-done
 returns-in_err-top-clause-done g c =
@@ -22,6 +22,7 @@ loop-place-preserved g c = record {
       c.loop-place.invariant.rest
       ∙ copies-read g.W.World.profile place_of c.args.places.now c.loop-place.place-index _ c.loop-place.tops _ c.in_ok-top.top.number (g.W.World.state c.loop-place.world) (g.W.World.state c.copy.new.self) (omega arith) c.in_ok-top.ensures.done
       c.in-Ok.ensures.ok;
+  kept = c.in_ok-top.ensures.kept ∙ c.loop-place.invariant.kept;
   form = c.in_ok-top.ensures.form ∙ c.loop-place.invariant.form;
   calls = c.in_ok-top.ensures.calls ∙ c.loop-place.invariant.calls;
 }

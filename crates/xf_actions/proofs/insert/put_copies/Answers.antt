@@ -20,6 +20,7 @@ loop-at-preserved g c = record {
   rest =
       c.loop-at.invariant.rest
       ∙ put-read (put_copy g.W.World.profile c.args.tops.now) place_of c.args.places.now c.args.tops.now c.loop-at.at _ c.in-Some.top.number (g.W.World.state c.loop-at.world) (g.W.World.state c.put_copy.new.world) (omega arith) (sym c.in-Some.ensures) c.in_ok-put_copy-in-Some.ensures.done;
+  kept = c.in_ok-put_copy-in-Some.ensures.kept ∙ c.loop-at.invariant.kept;
   form = c.in_ok-put_copy-in-Some.ensures.form ∙ c.loop-at.invariant.form;
   calls = c.in_ok-put_copy-in-Some.ensures.calls ∙ c.loop-at.invariant.calls;
 }

@@ -9,6 +9,7 @@ invariant-loop-at g l =
     let run = put_copy g.W.World.profile l.tops in record {
       rest : in_turn run (zip (map place_of l.places) l.tops) (g.W.World.state l.initial.world)
           ≡ in_turn run (zip (drop l.at (map place_of l.places)) (drop l.at l.tops)) (g.W.World.state l.world);
+      kept : g.W.World.kept l.world ≡ g.W.World.kept l.initial.world;
       form : (g.W.World.state l.world).form ≡ (g.W.World.state l.initial.world).form;
       calls : (g.W.World.state l.world).calls ≡ (g.W.World.state l.initial.world).calls;
     }

@@ -14,6 +14,7 @@ loop-instance-preserved g c = record {
   rest =
       c.loop-instance.invariant.rest
       ∙ put-next g.W.World.profile (g.W.World.state c.args.world.now).form c.args.instances.now c.loop-instance.instance-index (get_or c.args.instances.now c.loop-instance.instance-index 0) (g.W.World.state c.loop-instance.world) (g.W.World.state c.put_back.new.self) (omega arith) refl c.loop-instance.invariant.form c.in_ok-put_back.ensures.done;
+  kept = c.in_ok-put_back.ensures.kept ∙ c.loop-instance.invariant.kept;
   form = c.in_ok-put_back.ensures.form ∙ c.loop-instance.invariant.form;
   calls = c.in_ok-put_back.ensures.calls ∙ c.loop-instance.invariant.calls;
 }

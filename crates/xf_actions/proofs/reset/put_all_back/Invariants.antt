@@ -7,6 +7,7 @@ abbrev pub invariant-loop-instance : goal.invariant-loop-instance
 invariant-loop-instance g l =
     let run = puts g.W.World.profile (g.W.World.state l.initial.world).form in record {
       rest : in_turn run l.instances (g.W.World.state l.initial.world) ≡ in_turn run (drop l.instance-index l.instances) (g.W.World.state l.world);
+      kept : g.W.World.kept l.world ≡ g.W.World.kept l.initial.world;
       form : (g.W.World.state l.world).form ≡ (g.W.World.state l.initial.world).form;
       calls : (g.W.World.state l.world).calls ≡ (g.W.World.state l.initial.world).calls;
     }

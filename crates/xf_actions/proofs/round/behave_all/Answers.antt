@@ -10,6 +10,7 @@ loop-model-preserved g c = record {
       c.loop-model.invariant.rest
       ∙ counted-step (due_revalidation g.W.World.profile) _ _ _ _ (g.W.World.state c.loop-model.world) (g.W.World.state c.revalidate_due.new.world)
       (omega arith) (omega arith) (omega arith) c.in_ok-revalidate_due.ensures.done;
+  kept = c.in_ok-revalidate_due.ensures.kept ∙ c.loop-model.invariant.kept;
   form = c.in_ok-revalidate_due.ensures.form ∙ c.loop-model.invariant.form;
   calls = c.in_ok-revalidate_due.ensures.calls ∙ c.loop-model.invariant.calls;
 }

@@ -10,6 +10,7 @@ abbrev pub invariant-loop-model : goal.invariant-loop-model
 invariant-loop-model g l = record {
   rest : all_behaved g.W.World.profile (g.W.World.state l.initial.world)
       ≡ in_turn (due_revalidation g.W.World.profile) (counted_from l.model (l.count - l.model)) (g.W.World.state l.world);
+  kept : g.W.World.kept l.world ≡ g.W.World.kept l.initial.world;
   form : (g.W.World.state l.world).form ≡ (g.W.World.state l.initial.world).form;
   calls : (g.W.World.state l.world).calls ≡ (g.W.World.state l.initial.world).calls;
 }
