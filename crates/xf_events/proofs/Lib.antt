@@ -1,0 +1,3 @@
+mod HandlerLaws
+mod InnerLaws
+mod NoteSizes

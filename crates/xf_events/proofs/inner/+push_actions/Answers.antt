@@ -1,0 +1,35 @@
+use Rattle.std.proofs.Common.{◌≡◌, ◌++◌, ◌+◌, ◌-◌, suc, drop, refl, ap, ◌∙◌, arith}
+use Rattle.std.proofs.lemmas.List.{drop_all}
+use Rattle.xf_lang.specs.Binding.{as_list}
+use Rattle.xf_ui.specs.Interface.{interface_of}
+use Rattle.xf_elements.specs.Parts.{host_parts}
+use Rattle.xf_events.specs.Inner.{actions_through, own_action}
+use Rattle.xf_events.proofs.InnerLaws.{all-told, carried, no-actions, no-actions-further, unchanged, actions-more}
+use Rattle.xf_events.proofs.inner.+push_actions.Goals as goal
+
+pub returns-then-most-eq0 : goal.returns-then-most-eq0
+returns-then-most-eq0 t c = unchanged refl (no-actions-further (interface_of c.args.form.now) c.args.most c.args.parts.now c.if-most-eq0.true)
+
+pub loop-part-preserved : goal.loop-part-preserved
+loop-part-preserved t c =
+    let f = interface_of c.args.form.now in
+    let m = c.args.most - 1 in
+    let ps = c.args.parts.now in
+    let i = c.loop-part.part-index in
+    let part = c.part-item.result in
+    let now = c.loop-part.all in
+    let mid = c.push_some.new.all in
+    let more : c.args.most ≡ suc (c.args.most - 1) = omega (arith, c.if-most-eq0.false) in
+    c.loop-part.invariant
+    ∙ carried now mid c.push_actions.new.all (as_list (own_action f part)) (actions_through m f (host_parts f part)) (actions_through c.args.most f (drop (i + 1) ps)) (actions_through c.args.most f (drop i ps))
+    (c.in_ok-push_some.ensures ∙ ap (λ l. now ++ l) (ap as_list c.own_action.ensures))
+    (c.in_ok-push_actions.ensures ∙ ap (λ l. mid ++ actions_through m f l) c.host_parts.ensures)
+    (actions-more f c.args.most m ps i part c.loop-part-test.true c.part-item.is more)
+
+pub returns : goal.returns
+returns t c =
+    let f = interface_of c.args.form.now in
+    let ps = c.args.parts.now in
+    let i = c.loop-part.part-index in
+    all-told c.args.all.now c.loop-part.all (actions_through c.args.most f ps) (actions_through c.args.most f (drop i ps)) c.loop-part.invariant
+    (ap (λ l. actions_through c.args.most f l) (drop_all i ps c.loop-part-test.false) ∙ no-actions f c.args.most)

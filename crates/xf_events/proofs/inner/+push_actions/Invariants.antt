@@ -1,0 +1,11 @@
+use Rattle.std.proofs.Common.{◌≡◌, ◌++◌, drop}
+use Rattle.xf_ui.specs.Interface.{interface_of}
+use Rattle.xf_events.specs.Inner.{actions_through}
+use Rattle.xf_events.proofs.inner.+push_actions.Given as goal
+
+abbrev pub decreases-push_actions : goal.decreases-push_actions
+decreases-push_actions l = l.most
+
+-- what is told and what is left give what all the parts give
+abbrev pub invariant-loop-part : goal.invariant-loop-part
+invariant-loop-part l = l.initial.all ++ actions_through l.most (interface_of l.form) l.parts ≡ l.all ++ actions_through l.most (interface_of l.form) (drop l.part-index l.parts)

@@ -1,0 +1,12 @@
+use Rattle.std.proofs.Common.{◌++◌, length, sym, ap, ◌∙◌}
+use Rattle.xf_elements.proofs.ElementLemmas.{as-many}
+use Rattle.xf_ui.specs.Interface.{interface_of}
+use Rattle.xf_events.specs.Inner.{actions_through}
+use Rattle.xf_events.proofs.inner.actions_at.Goals as goal
+
+pub returns : goal.returns
+returns c =
+    let f = interface_of c.args.form.now in
+    let found = c.parts_at.result.now in
+    c.in_ok-push_actions.ensures ∙ ap (λ l. l ++ actions_through c.len.result f found) c.new-all.ensures
+    ∙ ap (λ n. actions_through n f found) (c.len.ensures ∙ sym (as-many c.args.form.now)) ∙ ap (λ ps. actions_through (length f.elements) f ps) c.parts_at.ensures

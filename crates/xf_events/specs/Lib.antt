@@ -1,0 +1,7 @@
+pub mod Notes
+pub mod Handlers
+pub mod Inner
+pub mod Telling
+pub mod Places
+pub mod Cases
+pub mod Changed

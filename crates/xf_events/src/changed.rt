@@ -1,0 +1,174 @@
+//! What an insert and a delete tell an instance (XForms 1.1, sections 4.4.5 and 4.4.6).
+
+ghost use Rattle.std.specs.Prelude.{◌≡◌, ◌++◌, ◌∷◌, [], true, IfOk, OnOk, codes, get_or, map};
+ghost use Rattle.xf_doc.specs.Visit.{visits};
+ghost use Rattle.xf_plain_values.specs.Conversions.{whole};
+ghost use Rattle.xf_form_machine.specs.Delete.{location_of};
+ghost use Rattle.xf_form_machine.specs.Events as events;
+ghost use Rattle.xf_actions.specs.Seen.{fired_of, place_of, told_of};
+ghost use Rattle.xf_events.specs.Changed.{deleted_told, inserted_told};
+
+use crate::elements::number_in;
+use crate::telling::made;
+use std::alloc::{AllocError, Global};
+use xf_actions::{Fired, Inserting, Place, Property, PropertyList};
+use xf_ast::Form;
+use xf_base::Items;
+use xf_doc::NodeList;
+use xf_eval::append;
+use xf_lang::Value;
+use xf_name::Word;
+use xf_num::{Decimals, Num};
+use xf_small_forest::held;
+use xf_tree::Forest;
+
+/// The event that an insert tells an instance, which stands in no row.
+pub fn insert_event(
+    alloc: Global,
+    form: &Form,
+    forest: &Forest,
+    instance: usize,
+    inserting: &Inserting,
+    tops: &NodeList,
+) -> Result<Fired, AllocError>
+    ensures { IfOk result (λ e. fired_of e ≡ events.fired (codes "xforms-insert") true true (inserted_told (visits forest.now.forest.nodes) inserting.now.is_before tops.now (map (λ q. q.origin) (map place_of inserting.now.places)) inserting.now.location) (get_or form.now.instances instance 0) []) }
+{
+    let told = told_insert(alloc, forest, inserting, tops)?;
+    to_instance(alloc, "xforms-insert", form, instance, told)
+}
+
+/// The event that a delete of nodes of a set tells an instance, which stands in no row.
+pub fn delete_event(
+    alloc: Global,
+    form: &Form,
+    forest: &Forest,
+    instance: usize,
+    nodes: &NodeList,
+    set: &NodeList,
+    at: Option<i64>,
+) -> Result<Fired, AllocError>
+    ensures { IfOk result (λ e. fired_of e ≡ events.fired (codes "xforms-delete") true true (deleted_told (visits forest.now.forest.nodes) nodes.now (location_of form.now.decimals set.now at)) (get_or form.now.instances instance 0) []) }
+{
+    let location = delete_location(set, at, form.decimals);
+    let told = told_delete(alloc, forest, nodes, location)?;
+    to_instance(alloc, "xforms-delete", form, instance, told)
+}
+
+/// An event to the element of an instance.
+fn to_instance(
+    alloc: Global,
+    name: &str,
+    form: &Form,
+    instance: usize,
+    told: PropertyList,
+) -> Result<Fired, AllocError>
+    ensures { IfOk result (λ e. fired_of e ≡ events.fired name.now true true (told_of told) (get_or form.now.instances instance 0) []) }
+{
+    let target = number_in(&form.instances, instance);
+    let rows = NodeList::new(alloc);
+    made(alloc, name, true, true, target, &rows, told)
+}
+
+// ---- of an insert
+
+fn told_insert(
+    alloc: Global,
+    forest: &Forest,
+    inserting: &Inserting,
+    tops: &NodeList,
+) -> Result<PropertyList, AllocError>
+    ensures { IfOk result (λ told. told_of told ≡ inserted_told (visits forest.now.forest.nodes) inserting.now.is_before tops.now (map (λ q. q.origin) (map place_of inserting.now.places)) inserting.now.location) }
+{
+    let mut told = Items::new(alloc);
+    let origins = origins_of(alloc, inserting.places.as_slice())?;
+    push_nodes(alloc, "inserted-nodes", forest.in_order(tops)?, &mut told)?;
+    push_nodes(alloc, "origin-nodes", forest.in_order(&origins)?, &mut told)?;
+    let mut location = NodeList::new(alloc);
+    append(&mut location, &inserting.location)?;
+    push_nodes(alloc, "insert-location-node", location, &mut told)?;
+    let side = if inserting.is_before {
+        "before"
+    } else {
+        "after"
+    };
+    let text = Value::Text(Word::from_str(alloc, side)?);
+    push_property(alloc, "position", text, &mut told)?;
+    Ok(told)
+}
+
+fn origins_of(alloc: Global, places: &[Place]) -> Result<NodeList, AllocError>
+    ensures { IfOk result (λ ns. ns ≡ map (λ q. q.origin) (map place_of places.now)) }
+{
+    let mut origins = NodeList::new(alloc);
+    push_origins(places, &mut origins)?;
+    Ok(origins)
+}
+
+fn push_origins(places: &[Place], origins: &mut NodeList) -> Result<(), AllocError>
+    ensures { OnOk result (origins.new ≡ origins.old ++ map (λ q. q.origin) (map place_of places.now)) }
+{
+    if places.is_empty() {
+        return Ok(());
+    }
+    origins.push(places[0].origin)?;
+    push_origins(&places[1..], origins)
+}
+
+// ---- of a delete
+
+fn told_delete(
+    alloc: Global,
+    forest: &Forest,
+    nodes: &NodeList,
+    location: Num,
+) -> Result<PropertyList, AllocError>
+    ensures { IfOk result (λ told. told_of told ≡ deleted_told (visits forest.now.forest.nodes) nodes.now location) }
+{
+    let mut told = Items::new(alloc);
+    push_nodes(alloc, "deleted-nodes", forest.in_order(nodes)?, &mut told)?;
+    push_property(alloc, "delete-location", Value::Number(location), &mut told)?;
+    Ok(told)
+}
+
+/// The place that `at` names in a set, or NaN where it is not written.
+fn delete_location(set: &NodeList, at: Option<i64>, decimals: Decimals) -> Num
+    ensures { result ≡ location_of decimals set.now at }
+{
+    match at {
+        Some(at) => whole(held(set.len(), at), decimals),
+        None => Num::nan(),
+    }
+}
+
+/// A whole number.
+#[tactic(auto, unfolding(xf_num::specs::Number::scale))]
+fn whole(count: usize, decimals: Decimals) -> Num
+    ensures { result ≡ whole decimals count }
+{
+    Num::of_units(i128::from(count as u64) * i128::from(decimals.units_in_one()))
+}
+
+// ---- properties
+
+fn push_nodes(
+    alloc: Global,
+    name: &str,
+    nodes: NodeList,
+    told: &mut PropertyList,
+) -> Result<(), AllocError>
+    ensures { OnOk result (told_of told.new ≡ told_of told.old ++ (name.now, Value.Nodes nodes) ∷ []) }
+{
+    push_property(alloc, name, Value::Nodes(nodes), told)
+}
+
+fn push_property(
+    alloc: Global,
+    name: &str,
+    value: Value,
+    told: &mut PropertyList,
+) -> Result<(), AllocError>
+    ensures { OnOk result (told_of told.new ≡ told_of told.old ++ (name.now, value) ∷ []) }
+{
+    let name = Word::from_str(alloc, name)?;
+    told.push(Property { name, value })
+}

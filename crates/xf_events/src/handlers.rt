@@ -1,0 +1,237 @@
+//! The handlers that an event calls (DOM Level 2 Events, section 1.2; XML Events, section 3).
+
+ghost use Rattle.std.specs.Prelude.{◌≡◌, ◌++◌, ◌||◌, reverse, IfOk, OnOk};
+ghost use Rattle.xf_ast.specs.declared.form.Tables.{Tables};
+ghost use Rattle.xf_ui.specs.Calls.{calls as called_by, hears, is_element, is_phase, may_have, reached};
+ghost use Rattle.xf_ui.specs.Interface.{interface_of, sort_of};
+ghost use Rattle.xf_actions.specs.Seen.{fired_of};
+ghost use Rattle.xf_events.specs.Handlers as handlers;
+
+use std::alloc::{AllocError, Global};
+use xf_actions::Fired;
+use xf_ast::{Element, ElementList, Form, Handler, Kind, Phase};
+use xf_base::Items;
+use xf_elements::ancestors;
+use xf_ui::CallList;
+
+/// Handlers that are called, in order.
+#[derive(Drop)]
+pub(crate) struct Stage {
+    pub handlers: ElementList,
+    /// Whether one of them stops the event.
+    pub stops: bool,
+    /// Whether one of them cancels its default action.
+    pub cancels: bool,
+}
+
+/// A stop on the way of an event.
+#[derive(Clone, Copy, Debug)]
+pub(crate) struct Stop {
+    pub phase: Phase,
+    pub observer: u32,
+}
+
+/// The handlers that an event calls, and whether its default action is done.
+pub fn called(alloc: Global, form: &Form, fired: &Fired) -> Result<CallList, AllocError>
+    ensures { IfOk result (λ list. list ≡ called_by (interface_of form.now) (fired_of fired.now).event) }
+{
+    let way = way_of(alloc, form, fired)?;
+    let mut all = empty(alloc);
+    push_reached(alloc, form, fired, way.as_slice(), &mut all)?;
+    Ok(CallList {
+        handlers: all.handlers,
+        with_default: !(fired.is_cancelable && all.cancels),
+    })
+}
+
+fn empty(alloc: Global) -> Stage
+    ensures { result ≡ handlers.none_yet }
+{
+    Stage {
+        handlers: Items::new(alloc),
+        stops: false,
+        cancels: false,
+    }
+}
+
+/// The stops of an event: capture from the root down to the parent, the target, and back up where it bubbles.
+fn way_of(alloc: Global, form: &Form, fired: &Fired) -> Result<Vec<Stop>, AllocError>
+    ensures { IfOk result (λ way. handlers.IsWay (interface_of form.now) (fired_of fired.now).event way.items) }
+{
+    let around = ancestors(alloc, form, fired.target)?;
+    let mut way = Vec::new(alloc);
+    push_down(&mut way, around.as_slice())?;
+    way.push(Stop {
+        phase: Phase::Default,
+        observer: fired.target,
+    })?;
+    if fired.bubbles {
+        push_up(&mut way, around.as_slice())?;
+    }
+    Ok(way)
+}
+
+/// Capture at each of these, the last one first.
+fn push_down(way: &mut Vec<Stop>, around: &[u32]) -> Result<(), AllocError>
+    ensures { OnOk result (way.new.items ≡ way.old.items ++ handlers.stops_at Phase.Capture (reverse around.now)) }
+{
+    if around.is_empty() {
+        return Ok(());
+    }
+    push_down(way, &around[1..])?;
+    way.push(Stop {
+        phase: Phase::Capture,
+        observer: around[0],
+    })?;
+    Ok(())
+}
+
+/// The way back up through each of these.
+fn push_up(way: &mut Vec<Stop>, around: &[u32]) -> Result<(), AllocError>
+    ensures { OnOk result (way.new.items ≡ way.old.items ++ handlers.stops_at Phase.Default around.now) }
+{
+    if around.is_empty() {
+        return Ok(());
+    }
+    way.push(Stop {
+        phase: Phase::Default,
+        observer: around[0],
+    })?;
+    push_up(way, &around[1..])
+}
+
+/// The handlers at these stops, as far as the first stop at which one of them stops the event.
+fn push_reached(
+    alloc: Global,
+    form: &Form,
+    fired: &Fired,
+    way: &[Stop],
+    all: &mut Stage,
+) -> Result<(), AllocError>
+    ensures { OnOk result (handlers.Reaches all.old all.new (reached (handlers.stages_at (interface_of form.now) (fired_of fired.now).event way.now))) }
+{
+    if way.is_empty() {
+        return Ok(());
+    }
+    let mut own = empty(alloc);
+    push_heard(form.elements.as_slice(), 0, fired, way[0], &mut own)?;
+    let stops = own.stops;
+    all.cancels = either(all.cancels, own.cancels);
+    all.handlers.append(own.handlers)?;
+    if stops {
+        return Ok(());
+    }
+    push_reached(alloc, form, fired, &way[1..], all)
+}
+
+/// The handlers among these elements, of which the first has the number, that hear an event at a stop.
+fn push_heard(
+    elements: &[Element],
+    number: u32,
+    fired: &Fired,
+    stop: Stop,
+    all: &mut Stage,
+) -> Result<(), AllocError>
+    ensures { OnOk result ((tables : Tables) → handlers.Adds all.old all.new (handlers.heard_from (fired_of fired.now).event stop.phase stop.observer number tables elements.now)) }
+{
+    if elements.is_empty() {
+        return Ok(());
+    }
+    push_own(&elements[0], number, fired, stop, all)?;
+    if number == u32::MAX {
+        // No form has so many elements.
+        return Err(AllocError);
+    }
+    push_heard(&elements[1..], number + 1, fired, stop, all)
+}
+
+fn push_own(
+    element: &Element,
+    number: u32,
+    fired: &Fired,
+    stop: Stop,
+    all: &mut Stage,
+) -> Result<(), AllocError>
+    ensures { OnOk result (handlers.Adds all.old all.new (handlers.heard_in (fired_of fired.now).event stop.phase stop.observer number (sort_of element.now.kind))) }
+{
+    match &element.kind {
+        Kind::Action(action) => match &action.handler {
+            Some(handler) => push_handler(handler, number, fired, stop, all),
+            None => Ok(()),
+        },
+        _ => Ok(()),
+    }
+}
+
+fn push_handler(
+    handler: &Handler,
+    number: u32,
+    fired: &Fired,
+    stop: Stop,
+    all: &mut Stage,
+) -> Result<(), AllocError>
+    ensures { OnOk result (handlers.Adds all.old all.new (handlers.one_where (hears (fired_of fired.now).event stop.phase stop.observer handler.now) (number, handler.now))) }
+{
+    if !hears(fired, stop, handler) {
+        return Ok(());
+    }
+    all.handlers.push(number)?;
+    all.stops = either(all.stops, handler.stops);
+    all.cancels = either(all.cancels, handler.cancels);
+    Ok(())
+}
+
+fn hears(fired: &Fired, stop: Stop, handler: &Handler) -> bool
+    ensures { result ≡ hears (fired_of fired.now).event stop.phase stop.observer handler.now }
+{
+    if !handler.event.is(fired.name.as_str()) {
+        return false;
+    }
+    if !is_element(handler.observer, stop.observer) {
+        return false;
+    }
+    if !is_phase(handler.phase, stop.phase) {
+        return false;
+    }
+    may_have(handler.target, fired.target)
+}
+
+fn is_element(named: Option<u32>, element: u32) -> bool
+    ensures { result ≡ is_element named element }
+{
+    match named {
+        Some(one) => one == element,
+        None => false,
+    }
+}
+
+/// A target that is named has to be that of the event.
+fn may_have(named: Option<u32>, target: u32) -> bool
+    ensures { result ≡ may_have named target }
+{
+    match named {
+        Some(one) => one == target,
+        None => true,
+    }
+}
+
+fn is_phase(one: Phase, other: Phase) -> bool
+    ensures { result ≡ is_phase one other }
+{
+    match one {
+        Phase::Capture => match other {
+            Phase::Capture => true,
+            Phase::Default => false,
+        },
+        Phase::Default => match other {
+            Phase::Capture => false,
+            Phase::Default => true,
+        },
+    }
+}
+
+fn either(one: bool, other: bool) -> bool
+    ensures { result ≡ (one || other) }
+{
+    if one { true } else { other }
+}
