@@ -1,76 +1,33 @@
 -- What surrounds expressions, as it is found over a forest, is what surrounds them in the state.
-use Rattle.std.proofs.Common.{◌≡◌, ℕ, suc, ◌==◌, Bool, true, false, cond, ◌&&◌, ◌||◌, List, [], ◌∷◌, ◌++◌, map, Option, Some, None, option_map, refl, sym, ap, ◌∙◌, subst, arith}
-use Rattle.std.specs.Prelude.{find, filter, not, bytes_eq, unwrap_or}
+use Rattle.std.proofs.Common.{◌≡◌, ℕ, suc, true, List, [], ◌∷◌, ◌++◌, Option, Some, None, refl, sym, ap, ◌∙◌}
 use Rattle.std.specs.List.{flat_map}
-use Rattle.std.proofs.lemmas.Bool.{and_parts}
-use Rattle.std.proofs.lemmas.Bool.Decides.{nat_tests}
-use denote.Ref.{Bor}
-use Rattle.xf_name.specs.Bindings.{Bindings}
-use Rattle.xf_name.specs.declared.axis.Axis.TheVariants.{Child}
 use Rattle.xf_ast.specs.declared.form.Instance.{Instance}
 use Rattle.xf_ast.specs.Ordered.{numbered_from}
-use Rattle.xf_doc.specs.declared.content.Node.{Node}
-use Rattle.xf_doc.specs.Axis.{axis_from, axis_of}
 use Rattle.xf_doc.specs.Changes.{root_of}
-use Rattle.xf_doc.specs.Forest.{Forest, has_number, is_attribute}
-use Rattle.xf_doc.specs.Visit.{Visit, visit, visits, visits_from, still_above, is_first, children_of}
-use Rattle.xf_doc.proofs.LiveLaws.{axis-all_live, root-live}
-use Rattle.xf_lang.specs.declared.value.Value.TheVariants.{Nodes}
-use Rattle.xf_lang.specs.Binding.{as_list}
-use Rattle.xf_lang.specs.Conversions.{nodes_of}
-use Rattle.xf_lang.specs.Given.{Document, Given, beside, document_of, property_of}
+use Rattle.xf_doc.specs.Forest.{Forest}
+use Rattle.xf_doc.specs.Visit.{visits}
+use Rattle.xf_lang.specs.Given.{Given}
 use Rattle.xf_funcs.specs.Called.{called}
 use Rattle.xf_model.specs.Rules.{scope_of}
 use Rattle.xf_model.specs.Nested.{nested}
 use Rattle.xf_base.specs.Limits.{string_limit}
-use Rattle.xf_eval.specs.Live.{AllLive, AroundStands}
 use Rattle.xf_ui.specs.Around.{Around}
 use Rattle.xf_ui.specs.Interface.{Interface, interface_of}
 use Rattle.xf_ui.specs.Index.{named_indexes}
-use Rattle.xf_controls.proofs.NodeLaws.{live-first}
 use Rattle.xf_loader.specs.declared.loaded.Loaded.{Loaded}
 use Rattle.xf_form_machine.specs.declared.note.Note.{Note}
 use Rattle.xf_form_machine.specs.State.{State}
-use Rattle.xf_form_machine.specs.Surround.{Told, around, document_in, document_under, document_at, documents, given, instances_in}
-use Rattle.xf_ui.specs.declared.told.Property.{Property}
-use Rattle.xf_actions.specs.Seen.{told_of}
+use Rattle.xf_form_machine.specs.Surround.{Told, around, document_under, document_at, documents, given, instances_in}
+use Rattle.xf_form_machine.specs.Surround as surround
 use Rattle.xf_small_world.specs.declared.model.ModelState.{ModelState}
 use Rattle.xf_small_world.specs.declared.tally.Tally.{Tally}
 use Rattle.xf_small_world.specs.declared.world.SmallWorld.{SmallWorld}
-use Rattle.xf_small_world.specs.Around.{AreThere, are_live, are_told_live, document_below, documents_by, documents_from, event_of, given_by, given_in, is_event_live}
-use Rattle.xf_small_world.specs.Over.{around_of}
+use Rattle.xf_context.specs.Around.{document_below, document_in, documents_by, documents_from, given_in}
+use Rattle.xf_context.specs.Over.{around_of}
 use Rattle.xf_small_world.specs.Small.{is_small}
 use Rattle.xf_processor.specs.Formed.{profile}
 use Rattle.xf_small_world.specs.State.{standing, state_of}
 use Rattle.xf_small_world.proofs.SmallLaws.{no-repeats}
-
--- ---- children
-
-found : (n : ℕ) (above xs : List Node) → has_number n xs ≡ true → (y : Visit) × (find (λ (v : Visit). v.number == n) (visits_from above xs) ≡ Some y) × (y.number ≡ n)
-found n above [] h = cc h
-found n above (x ∷ xs) h = by (found n (x ∷ still_above x.depth above) xs) (x.number == n) refl h
-  where
-    by : (has_number n xs ≡ true → (y : Visit) × (find (λ (v : Visit). v.number == n) (visits_from (x ∷ still_above x.depth above) xs) ≡ Some y) × (y.number ≡ n))
-        → (b : Bool) → (x.number == n) ≡ b → (b || has_number n xs) ≡ true
-        → (y : Visit) × (cond b (Some (visit above x)) (find (λ (v : Visit). v.number == n) (visits_from (x ∷ still_above x.depth above) xs)) ≡ Some y) × (y.number ≡ n)
-    by later true e i = let same : x.number ≡ n = grind (arith, nat_tests, e) in (visit above x, refl, same)
-    by later false e i = later i
-
-abbrev children_on : List Visit → ℕ → List ℕ
-children_on all n = map (λ (y : Visit). y.number) (filter (λ (y : Visit). is_first n y.above && not (is_attribute y.content)) all)
-
-abbrev on_child : List Visit → Option Visit → List ℕ
-on_child all None = []
-on_child all (Some x) = children_on all x.number
-
-on-axis : (all : List Visit) (n : ℕ) (o : Option Visit) → find (λ (v : Visit). v.number == n) all ≡ o → axis_of Child n all ≡ on_child all o
-on-axis all n None e = ap (λ o. map (λ (x : Visit). x.number) (axis_from Child all o)) e
-on-axis all n (Some x) e = ap (λ o. map (λ (x : Visit). x.number) (axis_from Child all o)) e
-
-pub children-axis : (n : ℕ) (nodes : List Node) → has_number n nodes ≡ true → axis_of Child n (visits nodes) ≡ children_of n (visits nodes)
-children-axis n nodes h =
-    let (x, at, is) = found n [] nodes h in
-    on-axis (visits nodes) n (Some x) at ∙ ap (children_on (visits nodes)) is
 
 -- ---- documents
 
@@ -78,11 +35,17 @@ below-same : (s : State) (o : Option ℕ) → document_under s o ≡ document_be
 below-same s None = refl
 below-same s (Some root) = refl
 
+-- as one of the documents that expressions may name
+in-same : (i : Instance) (o : Option ℕ) → surround.document_in i o ≡ document_in i o
+in-same i None = refl
+in-same i (Some n) = refl
+
 documents-from : (s : State) (place : ℕ) (is : List Instance)
-    → flat_map (λ i. document_in i.1 (document_at s i.0)) (numbered_from place is) ≡ documents_by is (documents_from place is s.forest.nodes)
+    → flat_map (λ i. surround.document_in i.1 (document_at s i.0)) (numbered_from place is) ≡ documents_by is (documents_from place is s.forest.nodes)
 documents-from s place [] = refl
 documents-from s place (i ∷ is) =
-    ap (λ d. document_in i d ++ flat_map (λ j. document_in j.1 (document_at s j.0)) (numbered_from (suc place) is)) (below-same s (root_of place s.forest.nodes))
+    ap (λ d. surround.document_in i d ++ flat_map (λ j. surround.document_in j.1 (document_at s j.0)) (numbered_from (suc place) is)) (below-same s (root_of place s.forest.nodes))
+    ∙ ap (λ d. d ++ flat_map (λ j. surround.document_in j.1 (document_at s j.0)) (numbered_from (suc place) is)) (in-same i (document_below s.forest.nodes (root_of place s.forest.nodes)))
     ∙ ap (λ ds. document_in i (document_below s.forest.nodes (root_of place s.forest.nodes)) ++ ds) (documents-from s (suc place) is)
 
 pub documents-same : (s : State) → documents s ≡ documents_by (instances_in s) (documents_from 0 (instances_in s) s.forest.nodes)
@@ -111,78 +74,12 @@ module _ (l : Loaded) (small : is_small l.form ≡ true) (forest : Forest) (mode
   }
 
   -- binds see no indexes anyway
-  pub around-same : (event : Option Told) → around profile here event ≡ around_of l forest event
+  pub around-same : (event : Option Told) → around profile here event ≡ around_of l.form l.prefixes forest event
   around-same event =
       ap (λ g. around_with g (record (given here None) { indexes = [] })) (given-same event)
       ∙ ap (λ ds. around_with (given_in l.form.tables.instances l.prefixes l.form.decimals forest event) (record (given here None) { documents = ds; indexes = [] })) (documents-same here)
 
 -- over a forest that is the world's
-pub around-world : (w : SmallWorld) (forest : Forest) (event : Option Told) → forest ≡ w.draft.now → around profile (state_of w) event ≡ around_of w.loaded forest event
+pub around-world : (w : SmallWorld) (forest : Forest) (event : Option Told) → forest ≡ w.draft.now → around profile (state_of w) event ≡ around_of w.loaded.form w.loaded.prefixes forest event
 around-world w forest event e =
-    around-same w.loaded w.small w.draft.now w.models w.notes w.tally event ∙ ap (λ f. around_of w.loaded f event) (sym e)
-
--- ---- they stand
-
-below-live : (nodes : List Node) (place : ℕ) (o : Option ℕ) → root_of place nodes ≡ o → AllLive (as_list (document_below nodes o)) nodes
-below-live nodes place None e = refl
-below-live nodes place (Some root) e =
-    let live = children-axis root nodes (root-live place root nodes e) in
-    live-first (children_of root (visits nodes)) nodes (subst (λ ns. AllLive ns nodes) live (axis-all_live Child root nodes))
-
-pub all-there : {X : Type 0} (place : ℕ) (is : List X) (nodes : List Node) → AreThere (documents_from place is nodes) nodes
-all-there place [] nodes = tt
-all-there place (i ∷ is) nodes = (below-live nodes place (root_of place nodes) refl, all-there (suc place) is nodes)
-
-abbrev found_live : (Document → Bool) → List Document → List Node → Type 0
-found_live test ds nodes = AllLive (as_list (option_map (λ (d : Document). d.element) (find test ds))) nodes
-
-find-live : (test : Document → Bool) (is : List Instance) (ds : List (Option ℕ)) (nodes : List Node) → AreThere ds nodes → found_live test (documents_by is ds) nodes
-find-live test [] ds nodes h = refl
-find-live test (i ∷ is) [] nodes h = refl
-find-live test (i ∷ is) (None ∷ ds) nodes h = find-live test is ds nodes h.1
-find-live test (i ∷ is) (Some n ∷ ds) nodes h = by (find-live test is ds nodes h.1) (test (record { model = i.model; id = i.id; element = n }))
-  where
-    by : found_live test (documents_by is ds) nodes
-        → (b : Bool) → AllLive (as_list (option_map (λ (d : Document). d.element) (cond b (Some (record { model = i.model; id = i.id; element = n })) (find test (documents_by is ds))))) nodes
-    by later true = h.0
-    by later false = later
-
-document-live : (model : ℕ) (id : List ℕ) (is : List Instance) (ds : List (Option ℕ)) (nodes : List Node) → AreThere ds nodes → AllLive (as_list (document_of model id (documents_by is ds))) nodes
-document-live model [] is ds nodes h = find-live (λ (d : Document). d.model == model) is ds nodes h
-document-live model (c ∷ cs) is ds nodes h = find-live (λ (d : Document). (d.model == model) && bytes_eq d.id (c ∷ cs)) is ds nodes h
-
-told-live : (name : List ℕ) (nodes : List Node) (ps : List Property) → are_told_live nodes ps ≡ true → AllLive (nodes_of (unwrap_or (beside name (told_of ps)) (Nodes []))) nodes
-told-live name nodes [] h = refl
-told-live name nodes (q ∷ ps) h =
-    let parts = and_parts (are_live nodes (nodes_of q.value)) (are_told_live nodes ps) h in
-    by parts.0 (told-live name nodes ps parts.1) (bytes_eq q.name name)
-  where
-    by : are_live nodes (nodes_of q.value) ≡ true → AllLive (nodes_of (unwrap_or (beside name (told_of ps)) (Nodes []))) nodes
-        → (b : Bool) → AllLive (nodes_of (unwrap_or (option_map (λ p. p.1) (cond b (Some (q.name, q.value)) (find (λ p. bytes_eq p.0 name) (told_of ps)))) (Nodes []))) nodes
-    by one later true = one
-    by one later false = later
-
-event-live : (name : List ℕ) (nodes : List Node) (told : Option (Bor (List Property))) → is_event_live nodes told ≡ true → AllLive (nodes_of (unwrap_or (property_of name (event_of told)) (Nodes []))) nodes
-event-live name nodes None h = refl
-event-live name nodes (Some properties) h = told-live name nodes properties.now h
-
-pub around-stands : (is : List Instance) (b : Bindings) (d : ℕ) (nodes : List Node) (ds : List (Option ℕ)) (told : Option (Bor (List Property))) → ds ≡ documents_from 0 is nodes → is_event_live nodes told ≡ true
-    → AroundStands (given_by is b d ds (event_of told)) nodes
-around-stands is b d nodes ds told e live = record {
-  documents = λ model id. document-live model id is ds nodes (subst (λ l. AreThere l nodes) (sym e) (all-there 0 is nodes));
-  event = λ name. event-live name nodes told live;
-}
-
--- over the documents that were found over a forest
-pub given-found : (instances found : List Instance) (b : Bindings) (d : ℕ) (forest : Forest) (ds : List (Option ℕ)) (event : Option Told) → found ≡ instances → ds ≡ documents_from 0 found forest.nodes
-    → given_by found b d ds event ≡ given_in instances b d forest event
-given-found instances found b d forest ds event i e =
-    ap (λ l. given_by found b d l event) e ∙ ap (λ l. given_by l b d (documents_from 0 l forest.nodes) event) i
-
--- ---- no documents
-
-pub no-documents : (model : ℕ) (id : List ℕ) (is : List Instance) → document_of model id (documents_by is []) ≡ None
-no-documents model [] [] = refl
-no-documents model [] (i ∷ is) = refl
-no-documents model (c ∷ cs) [] = refl
-no-documents model (c ∷ cs) (i ∷ is) = refl
+    around-same w.loaded w.small w.draft.now w.models w.notes w.tally event ∙ ap (λ f. around_of w.loaded.form w.loaded.prefixes f event) (sym e)

@@ -8,16 +8,11 @@ pub mod QuietLaws
 pub mod TextSetLaws
 pub mod ChangeLaws
 pub mod RecalcLaws
-pub mod HandlerLaws
-pub mod InsideLaws
-pub mod NoteSizes
 pub mod AskLaws
 pub mod BeginLaws
 pub mod ToldLaws
 pub mod IndexLaws
-pub mod InnerLaws
 pub mod PutLaws
-pub mod MessageLaws
 pub mod PlantLaws
 pub mod BuildLaws
 pub mod ResetLaws

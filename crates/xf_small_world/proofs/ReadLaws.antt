@@ -8,20 +8,22 @@ use Rattle.xf_lang.specs.Setting.{Focus}
 use Rattle.xf_plain_values.specs.Conversions.{Decimal}
 use Rattle.xf_ui.specs.Around.{Around, alone, setting}
 use Rattle.xf_ui.specs.Context.{Context}
-use Rattle.xf_ui.specs.Interface.{interface_of}
+use Rattle.xf_ui.specs.Interface.{Bound, unbound, nodes, by_bind, interface_of}
 use Rattle.xf_ui.specs.Named.{handler_rows, rows_from}
 use Rattle.xf_ui.specs.Elements.{ancestors}
 use Rattle.xf_form_machine.specs.declared.limit.LimitWord.TheVariants as word
-use Rattle.xf_form_machine.specs.Acting.{whole_of}
+use Rattle.xf_form_machine.specs.Acting.{Acting, surroundings, whole_of}
 use Rattle.xf_form_machine.specs.Flow.{◌>>=◌}
+use Rattle.xf_form_machine.specs.Profile.{Profile}
 use Rattle.xf_form_machine.specs.Refusal.{limit, or_long}
 use Rattle.xf_form_machine.specs.State.{State}
 use Rattle.xf_form_machine.specs.Surround.{Told, around}
+use Rattle.xf_form_machine.specs.Telling.{loaded_text}
 use Rattle.xf_ast.specs.declared.form.Form.{Form}
 use Rattle.xf_actions.specs.Performs.{Refuses, RefusedAs}
 use Rattle.xf_small_world.specs.declared.world.SmallWorld.{SmallWorld}
 use Rattle.xf_small_world.specs.Fault.{means, fault_of}
-use Rattle.xf_small_world.specs.Over.{around_of, whole_worth}
+use Rattle.xf_context.specs.Over.{around_of, text_or, whole_worth}
 use Rattle.xf_small_world.specs.Small.{is_small}
 use Rattle.xf_processor.specs.Formed.{profile}
 use Rattle.xf_small_world.specs.State.{state_of}
@@ -36,7 +38,7 @@ long-told e s given (inr p) =
     subst (λ f. Refuses (means (fault_of f)) s.calls (or_long s given)) (sym p.0)
     (subst (λ o. RefusedAs (limit (word.Long ∷ [])) s.calls (or_long s o)) (sym p.1) ((word.Long, inl refl, refl), refl))
 
-module _ (w : SmallWorld) (event : Option Told) (a : Around) (same : a ≡ around_of w.loaded w.draft.now event) where
+module _ (w : SmallWorld) (event : Option Told) (a : Around) (same : a ≡ around_of w.loaded.form w.loaded.prefixes w.draft.now event) where
   told : around profile (state_of w) event ≡ a
   told = around-world w w.draft.now event refl ∙ sym same
 
@@ -46,6 +48,14 @@ module _ (w : SmallWorld) (event : Option Told) (a : Around) (same : a ≡ aroun
   pub read-fault : {X : Type 0} (ask : Around → Option X) (e : EvalFault) → (e ≡ eval.Memory) ⊎ ((e ≡ eval.Long) × (ask a ≡ None))
       → Refuses (means (fault_of e)) [] (or_long (state_of w) (ask (around profile (state_of w) event)))
   read-fault ask e h = subst (λ b. Refuses (means (fault_of e)) [] (or_long (state_of w) (ask b))) (sym told) (long-told e (state_of w) (ask a) h)
+
+-- ---- the text of what an action binds, else another
+
+pub loaded-by : (p : Profile) (x : Acting) (resource : List ℕ) (s : State) (b : Bound)
+    → loaded_text p x resource s b ≡ or_long s (text_or (surroundings p x s) (record { model = x.model; focus = Some x.focus }) resource b)
+loaded-by p x resource s unbound = refl
+loaded-by p x resource s (nodes m) = refl
+loaded-by p x resource s (by_bind k) = refl
 
 -- ---- whole numbers
 

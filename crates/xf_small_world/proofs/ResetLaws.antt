@@ -35,7 +35,7 @@ use Rattle.xf_root_laws.proofs.Stays.{root_at_place}
 use Rattle.xf_undo.specs.Draft as undo
 use Rattle.xf_undo.specs.Draft.{Draft}
 use Rattle.xf_small_world.specs.declared.world.SmallWorld.{SmallWorld}
-use Rattle.xf_small_world.specs.Around.{document_below}
+use Rattle.xf_context.specs.Around.{document_below}
 use Rattle.xf_small_world.specs.Fault.{means}
 use Rattle.xf_small_world.specs.Growing.{fault_of_tree}
 use Rattle.xf_small_forest.specs.Documents.{Document}

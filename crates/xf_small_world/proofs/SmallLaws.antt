@@ -8,11 +8,8 @@ use Rattle.xf_ast.specs.declared.element.Kind.{Kind}
 use Rattle.xf_ast.specs.declared.element.Kind.TheVariants as kind
 use Rattle.xf_ast.specs.declared.form.Form.{Form}
 use Rattle.xf_ast.specs.declared.form.Tables.{Tables}
-use Rattle.xf_ui.specs.Cases.{cases_of, is_case, is_case_sort}
 use Rattle.xf_ui.specs.Elements.{element_at, is_control, is_repeat, is_repeat_sort, no_element, path_to, repeats_around}
-use Rattle.xf_ui.specs.Elements as ui
 use Rattle.xf_ui.specs.Interface.{Sort, interface_of, element_of, sort_of, host, other, group, switch, one_case, repeated, field, output, select, item, itemset, choices, label, item_value, inline, action}
-use Rattle.xf_form_machine.specs.Choose.{switch_number}
 use Rattle.xf_small_world.specs.Small.{lacks, is_small_kind, is_small_binding, is_small_element, has_no_tables, is_small}
 
 -- ---- tables
@@ -87,19 +84,11 @@ bare-among tables (e ∷ es) (suc n) h = bare-among tables es n (and_parts (is_s
 pub bare-at : (form : Form) → is_small form ≡ true → (n : ℕ) → is_bare (element_at (interface_of form) n).sort ≡ true
 bare-at form small n = bare-among form.tables form.elements n (elements-small form small)
 
--- ---- none is a repeat, a switch, a case or a control
+-- ---- none is a repeat or a control
 
 bare-repeat : (s : Sort) → is_bare s ≡ true → is_repeat_sort s ≡ false
 bare-repeat (repeated k start) h = cc h
 bare-repeat s h = refl
-
-bare-case : (s : Sort) → is_bare s ≡ true → is_case_sort s ≡ false
-bare-case (one_case b) h = cc h
-bare-case s h = refl
-
-bare-switch : (s : Sort) → is_bare s ≡ true → switch_number s ≡ 0
-bare-switch (switch k) h = cc h
-bare-switch s h = refl
 
 bare-control : (s : Sort) → is_bare s ≡ true → is_control s ≡ false
 bare-control group h = cc h
@@ -127,14 +116,8 @@ module _ (form : Form) (small : is_small form ≡ true) where
   pub is-no_repeat : (n : ℕ) → is_repeat (interface_of form) n ≡ false
   is-no_repeat n = bare-repeat (element_at (interface_of form) n).sort (bare-at form small n)
 
-  pub no-switch_number : (n : ℕ) → switch_number (element_at (interface_of form) n).sort ≡ 0
-  no-switch_number n = bare-switch (element_at (interface_of form) n).sort (bare-at form small n)
-
   pub is-no_control : (n : ℕ) → is_control (element_at (interface_of form) n).sort ≡ false
   is-no_control n = bare-control (element_at (interface_of form) n).sort (bare-at form small n)
 
   pub no-repeats-around : (n : ℕ) → repeats_around (interface_of form) n ≡ []
   no-repeats-around n = none-pass (is_repeat (interface_of form)) (path_to (interface_of form) n) is-no_repeat
-
-  pub no-cases : (n : ℕ) → cases_of (interface_of form) n ≡ []
-  no-cases n = none-pass (is_case (interface_of form)) (ui.children (interface_of form) n) (λ m. bare-case (element_at (interface_of form) m).sort (bare-at form small m))

@@ -1,6 +1,5 @@
 -- What is told.
-use Rattle.std.specs.Prelude.{ℕ, ℤ, Bool, List, [], ◌∷◌, map, codes, Option, Some, None}
-use denote.Ref.{Bor}
+use Rattle.std.specs.Prelude.{ℕ, ℤ, Bool, List, [], ◌∷◌, codes, Option, Some, None}
 use Rattle.xf_doc.specs.Order.{in_order}
 use Rattle.xf_doc.specs.Visit.{Visit}
 use Rattle.xf_lang.specs.declared.value.Value.TheVariants.{Nodes, Number, Text}
@@ -8,10 +7,6 @@ use Rattle.xf_plain_values.specs.Conversions.{Decimal, whole}
 use Rattle.xf_model.specs.Places.{held}
 use Rattle.xf_form_machine.specs.Insert.{side_text}
 use Rattle.xf_form_machine.specs.Surround.{Told}
-
--- texts that are lent
-abbrev pub texts : List (Bor (List ℕ)) → List (List ℕ)
-texts names = map (λ n. n.now) names
 
 -- of an insert, over the visits of the data
 abbrev pub inserted_told : List Visit → Bool → List ℕ → List ℕ → List ℕ → Told

@@ -13,11 +13,11 @@ ghost use Rattle.xf_small_world.specs.State.{state_of};
 
 use crate::binding::over_event;
 use crate::fault::SmallFault;
-use crate::over::value;
 use crate::reading::whole;
 use crate::world::SmallWorld;
 use xf_actions::{Acting, Fired, Focus};
 use xf_ast::Expr;
+use xf_context::value;
 use xf_doc::{NodeId, NodeList};
 use xf_eval::{nodes_in, single};
 use xf_small_forest::held_at;

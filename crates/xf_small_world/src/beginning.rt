@@ -5,12 +5,12 @@ ghost use Rattle.xf_small_world.specs.Beginning.{IsBegun, IsGround, IsGrounded};
 
 use crate::fault::SmallFault;
 use crate::models::ModelList;
-use crate::notes::NoteList;
 use crate::planting::plant_all;
 use crate::small::is_small;
 use crate::tally::Tally;
 use crate::world::SmallWorld;
 use std::alloc::{AllocError, Global};
+use xf_events::NoteList;
 use xf_loader::Loaded;
 use xf_tree::Forest;
 use xf_undo::Draft;

@@ -14,7 +14,6 @@ ghost use Rattle.xf_small_world.specs.State.{state_of};
 ghost use Rattle.xf_small_world.specs.Telling.{deleted_told, inserted_told, location_in};
 
 use crate::fault::SmallFault;
-use crate::telling::made;
 use crate::world::SmallWorld;
 use std::alloc::{AllocError, Global};
 use xf_actions::{Fired, Inserting, Place, Property, PropertyList};
@@ -22,6 +21,7 @@ use xf_ast::ElementList;
 use xf_base::Items;
 use xf_doc::NodeList;
 use xf_eval::append;
+use xf_events::made;
 use xf_lang::Value;
 use xf_name::Word;
 use xf_num::{Decimals, Num};

@@ -1,25 +1,22 @@
 //! Elements by their numbers.
 
-ghost use Rattle.std.specs.Prelude.{◌≡◌, ◌++◌, get_or, Ok, OnOk};
+ghost use Rattle.std.specs.Prelude.{◌≡◌, get_or, Ok};
 ghost use Rattle.xf_form_machine.specs.Choose.{switch_number as number_of_switch};
 ghost use Rattle.xf_form_machine.specs.Construct.{instances_of};
 ghost use Rattle.xf_form_machine.specs.Events.{model_element as element_of_model, submission_element as element_of_submission};
 ghost use Rattle.xf_form_machine.specs.Surround.{interface};
 ghost use Rattle.xf_ui.specs.Cases.{cases_of, place_of_case as case_place};
 ghost use Rattle.xf_ui.specs.Elements.{element_at};
-ghost use Rattle.xf_ui.specs.Interface.{interface_of};
 ghost use Rattle.xf_actions.specs.Performs.{Reads};
 ghost use Rattle.xf_actions.specs.Seen.{IsProgram};
 ghost use Rattle.xf_small_world.specs.Fault.{means};
-ghost use Rattle.xf_small_world.specs.Places.{places_of};
 ghost use Rattle.xf_small_world.specs.State.{state_of};
 
 use crate::fault::SmallFault;
 use crate::world::SmallWorld;
-use std::alloc::AllocError;
-use xf_ast::{ElementList, Form, Instance};
-use xf_base::Items;
-use xf_elements::{element_in, parent_of};
+use xf_ast::{ElementList, Form};
+use xf_elements::parent_of;
+use xf_events::{id_of, instances_at};
 use xf_name::Word;
 
 pub(crate) fn form(world: &SmallWorld) -> &Form
@@ -43,72 +40,46 @@ pub(crate) fn id(world: &SmallWorld, element: u32) -> Result<Word, SmallFault>
     }
 }
 
-fn id_of(form: &Form, element: u32) -> &str
-    ensures { result.now ≡ (element_at (interface_of form.now) element).id }
-{
-    match element_in(form, element) {
-        Some(here) => here.id.as_str(),
-        None => "",
-    }
-}
-
 /// The element of the model of this number.
 pub(crate) fn model_element(world: &SmallWorld, model: u32) -> u32
     ensures { result ≡ element_of_model (state_of world.now) model }
 {
-    number_at(&world.loaded.form.models, model)
+    xf_events::model_element(&world.loaded.form, model)
 }
 
 /// The element of the submission of this number.
 pub(crate) fn submission_element(world: &SmallWorld, submission: u32) -> u32
     ensures { result ≡ element_of_submission (state_of world.now) submission }
 {
-    number_at(&world.loaded.form.submissions, submission)
+    xf_events::submission_element(&world.loaded.form, submission)
 }
 
 /// The element of the repeat of this number.
 pub(crate) fn repeat_element(world: &SmallWorld, repeat: u32) -> u32
     ensures { result ≡ get_or (interface (state_of world.now)).repeats repeat 0 }
 {
-    number_at(&world.loaded.form.repeats, repeat)
+    xf_events::repeat_element(&world.loaded.form, repeat)
 }
 
-fn number_at(numbers: &ElementList, at: u32) -> u32
-    ensures { result ≡ get_or numbers.now at 0 }
-{
-    match numbers.as_slice().get(at as usize) {
-        Some(number) => *number,
-        None => 0,
-    }
-}
-
-/// The number of the switch that is this element: no element is one.
+/// The number of the switch that is this element.
 pub(crate) fn switch_number(world: &SmallWorld, element: u32) -> u32
     ensures { result ≡ number_of_switch (element_at (interface (state_of world.now)) element).sort }
 {
-    let _ = &world.loaded;
-    let _ = element;
-    0
+    xf_events::switch_number(&world.loaded.form, element)
 }
 
-/// The place of a case among those of an element: there are none.
+/// The place of a case among those of an element.
 pub(crate) fn place_of_case(world: &SmallWorld, element: u32, case: u32) -> usize
     ensures { result ≡ case_place (interface (state_of world.now)) element case }
 {
-    let _ = &world.loaded;
-    let _ = element;
-    let _ = case;
-    0
+    xf_events::place_of_case(&world.loaded.form, element, case)
 }
 
-/// The case at a place of the switch of this number: there is none.
+/// The case at a place of the switch of this number.
 pub(crate) fn case_at(world: &SmallWorld, switch: u32, place: usize) -> u32
     ensures { result ≡ get_or (cases_of (interface (state_of world.now)) (get_or (interface (state_of world.now)).switches switch 0)) place 0 }
 {
-    let _ = &world.loaded;
-    let _ = switch;
-    let _ = place;
-    0
+    xf_events::case_at(&world.loaded.form, switch, place)
 }
 
 /// The place of the case that is selected in the switch of this number: there is none.
@@ -124,32 +95,8 @@ pub(crate) fn selected(world: &SmallWorld, switch: u32) -> usize
 pub(crate) fn instances(world: &SmallWorld, model: u32) -> Result<ElementList, SmallFault>
     ensures { Reads means (λ places. places) (state_of world.now) result (Ok (instances_of (state_of world.now) model)) }
 {
-    let mut all = Items::new(world.alloc);
-    let instances = world.loaded.form.tables.instances.as_slice();
-    match push_instances(instances, model, 0, &mut all) {
-        Ok(()) => Ok(all),
+    match instances_at(world.alloc, &world.loaded.form, model) {
+        Ok(all) => Ok(all),
         Err(_) => Err(SmallFault::Memory),
     }
-}
-
-/// Puts those of a model behind others, of instances of which the first has this place.
-fn push_instances(
-    instances: &[Instance],
-    model: u32,
-    place: u32,
-    all: &mut ElementList,
-) -> Result<(), AllocError>
-    ensures { OnOk result (all.new ≡ all.old ++ places_of model place instances.now) }
-{
-    if instances.is_empty() {
-        return Ok(());
-    }
-    if place == u32::MAX {
-        // No memory holds so many.
-        return Err(AllocError);
-    }
-    if instances[0].model == model {
-        all.push(place)?;
-    }
-    push_instances(&instances[1..], model, place + 1, all)
 }

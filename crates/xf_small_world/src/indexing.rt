@@ -8,16 +8,15 @@ ghost use Rattle.xf_ui.specs.Rows.{rows_of};
 ghost use Rattle.xf_form_machine.specs.Choose.{set_index as index_set};
 ghost use Rattle.xf_actions.specs.Performs.{Runs};
 ghost use Rattle.xf_small_world.specs.Fault.{means};
-ghost use Rattle.xf_small_world.specs.Over.{around_over};
+ghost use Rattle.xf_context.specs.Over.{around_over};
 ghost use Rattle.xf_processor.specs.Formed.{profile};
 ghost use Rattle.xf_small_world.specs.State.{state_of};
 
-use crate::binding::{binding_at, over_quiet};
+use crate::binding::over_quiet;
 use crate::fault::SmallFault;
-use crate::inside::context_of;
 use crate::model::Change;
-use crate::over::{Over, all_bound};
 use crate::world::SmallWorld;
+use xf_context::{Over, all_bound, binding_at, context_of};
 use xf_doc::NodeList;
 use xf_eval::EvalFault;
 
@@ -40,10 +39,10 @@ pub(crate) fn set_index(
 
 /// The rows that an element selects.
 fn rows_at(over: &Over<'_>, element: u32) -> Result<NodeList, EvalFault>
-    ensures { GivesBounded EvalFault.Memory EvalFault.Long (λ ns. ns) result (rows_of (interface_of over.now.loaded.now.form) (around_over over.now) [] element) }
+    ensures { GivesBounded EvalFault.Memory EvalFault.Long (λ ns. ns) result (rows_of (interface_of over.now.form.now) (around_over over.now) [] element) }
 {
     let situation = context_of(over, element)?;
-    let binding = binding_at(&over.loaded.form, element);
+    let binding = binding_at(over.form, element);
     match situation.focus {
         Some(focus) => all_bound(over, situation.model, binding, &focus),
         None => Ok(NodeList::new(over.alloc)),

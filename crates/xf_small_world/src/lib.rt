@@ -2,7 +2,6 @@
 //! default actions run.
 #![tactic(auto, unfolding(xf_actions::specs::Performs::Refuses))]
 
-mod around;
 mod asking;
 mod beginning;
 mod behaviours;
@@ -18,13 +17,10 @@ mod handlers;
 mod holding;
 mod indexing;
 mod inner;
-mod inside;
 mod messages;
 mod model;
 mod models;
-mod notes;
 mod noting;
-mod over;
 mod performing;
 mod planning;
 mod planting;
@@ -43,7 +39,6 @@ pub use beginning::begun;
 pub use fault::SmallFault;
 pub use model::{Change, Flags, Mark, ModelState};
 pub use models::ModelList;
-pub use notes::NoteList;
 pub use small::is_small;
 pub use tally::Tally;
 pub use world::SmallWorld;

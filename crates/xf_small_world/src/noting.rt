@@ -9,14 +9,19 @@ ghost use Rattle.xf_small_world.specs.State.{state_of};
 
 use crate::fault::SmallFault;
 use crate::world::SmallWorld;
-use xf_form_machine::Note;
+use xf_events::NoteFault;
+use xf_form_machine::{LimitWord, Note};
 
 pub(crate) fn add_note(world: &mut SmallWorld, note: Note) -> Result<(), SmallFault>
     ensures done { Runs means (state_of world.new) result (noted profile note (state_of world.old)) }
     ensures form { (state_of world.new).form ≡ (state_of world.old).form }
 {
     let alloc = world.alloc;
-    world.notes.add(alloc, note)
+    match world.notes.add(alloc, note) {
+        Ok(()) => Ok(()),
+        Err(NoteFault::Limit) => Err(SmallFault::Limit(LimitWord::Notes)),
+        Err(NoteFault::Memory) => Err(SmallFault::Memory),
+    }
 }
 
 impl SmallWorld {

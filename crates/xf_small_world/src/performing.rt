@@ -28,6 +28,11 @@ impl World for SmallWorld {
 
     ghost state = { state_of };
 
+    // Nothing: a small world takes nothing back.
+    ghost Kept = { Unit {0} };
+
+    ghost kept = { λ _. tt };
+
     fn form(&self) -> &Form {
         elements::form(self)
     }

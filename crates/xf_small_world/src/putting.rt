@@ -9,11 +9,11 @@ ghost use Rattle.xf_small_world.specs.Planting.{document_at};
 ghost use Rattle.xf_processor.specs.Formed.{profile};
 ghost use Rattle.xf_small_world.specs.State.{state_of};
 
-use crate::around::document;
 use crate::changing::{attach, detach};
 use crate::fault::SmallFault;
 use crate::growing::{NUMBERS, fault_of_tree, grown};
 use crate::world::SmallWorld;
+use xf_context::document;
 use xf_doc::NodeId;
 use xf_loader::lit_at;
 use xf_small_forest::plant_in;

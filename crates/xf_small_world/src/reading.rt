@@ -12,15 +12,15 @@ ghost use Rattle.xf_small_world.specs.Fault.{means};
 ghost use Rattle.xf_processor.specs.Formed.{profile};
 ghost use Rattle.xf_small_world.specs.State.{state_of};
 
-use crate::binding::{binding_at, over_event, over_quiet};
+use crate::binding::{over_event, over_quiet};
 use crate::fault::SmallFault;
-use crate::inside::context_of;
-use crate::over::{
-    all_bound, alone, first_bound, first_selected, text, value, whole as whole_value,
-};
 use crate::world::SmallWorld;
 use xf_actions::{Acting, Fired, Focus};
 use xf_ast::Expr;
+use xf_context::{
+    all_bound, alone, binding_at, context_of, first_bound, first_selected, text, value,
+    whole as whole_value,
+};
 use xf_doc::{NodeId, NodeList};
 use xf_eval::truth_of;
 use xf_name::Word;

@@ -6,9 +6,9 @@ ghost use Rattle.xf_small_world.specs.Planting.{IsFirst};
 ghost use Rattle.xf_small_world.specs.Small.{is_small};
 
 use crate::models::ModelList;
-use crate::notes::NoteList;
 use crate::tally::Tally;
 use std::alloc::Global;
+use xf_events::NoteList;
 use xf_loader::Loaded;
 use xf_undo::Draft;
 

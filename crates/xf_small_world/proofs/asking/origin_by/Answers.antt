@@ -5,7 +5,7 @@ use Rattle.xf_ui.specs.Around.{setting}
 use Rattle.xf_form_machine.specs.Flow.{◌>>=◌}
 use Rattle.xf_actions.specs.Seen.{focus_of, told_of}
 use Rattle.xf_actions.proofs.Flow.{reads-stopped, refuses-then}
-use Rattle.xf_small_world.specs.Over.{around_over}
+use Rattle.xf_context.specs.Over.{around_over}
 use Rattle.xf_small_world.specs.State.{state_of}
 use Rattle.xf_small_world.proofs.ReadLaws.{read-fault, read-some}
 use Rattle.xf_small_world.proofs.asking.origin_by.Goals as goal

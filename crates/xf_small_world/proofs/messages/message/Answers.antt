@@ -1,6 +1,6 @@
 use Rattle.std.proofs.Common.{[], ◌≡◌, None, Some, sym, ap, ◌∙◌, subst, ◌⊎◌}
 use Rattle.xf_lang.specs.declared.fault.EvalFault.TheVariants.{Long, Memory}
-use Rattle.xf_loader.specs.declared.loaded.Loaded.{Loaded}
+use Rattle.xf_ast.specs.declared.form.Form.{Form}
 use Rattle.xf_ui.specs.Context.{inside}
 use Rattle.xf_ui.specs.Elements.{element_at}
 use Rattle.xf_ui.specs.Interface.{interface_of}
@@ -8,8 +8,8 @@ use Rattle.xf_ui.specs.Labels.{text_in}
 use Rattle.xf_form_machine.specs.Flow.{◌>>=◌}
 use Rattle.xf_actions.specs.Seen.{acting_of, told_of}
 use Rattle.xf_actions.proofs.Flow.{reads-stopped, refuses-then, same-refuses}
-use Rattle.xf_small_world.specs.Inside.{seen_inside}
-use Rattle.xf_small_world.specs.Over.{around_over}
+use Rattle.xf_context.specs.Inside.{seen_inside}
+use Rattle.xf_context.specs.Over.{around_over}
 use Rattle.xf_small_world.specs.State.{state_of}
 use Rattle.xf_small_world.proofs.MessageReads.{message-is, told_in}
 use Rattle.xf_small_world.proofs.ReadLaws.{read-fault, read-some}
@@ -27,7 +27,7 @@ returns-in_err-within c =
     (same-refuses _ _ _ _ (message-is w x)
     (refuses-then _ _ _ _
     (read-fault w None a c.over_quiet.ensures.around (λ b. inside (interface_of w.loaded.form) b [] n) e
-    (subst (λ (l : Loaded). (e ≡ Memory) ⊎ ((e ≡ Long) × (inside (interface_of l.form) a [] n ≡ None))) c.over_quiet.ensures.loaded c.in_err-within.ensures))))
+    (subst (λ (l : Form). (e ≡ Memory) ⊎ ((e ≡ Long) × (inside (interface_of l) a [] n ≡ None))) c.over_quiet.ensures.form c.in_err-within.ensures))))
 
 pub returns-in_err-text : goal.returns-in_err-text
 returns-in_err-text c =
@@ -44,9 +44,9 @@ returns-in_err-text c =
     (message-is w x
     ∙ ap (λ r. r >>= told_in w x)
     (read-some w None a c.over_quiet.ensures.around (λ q. inside (interface_of w.loaded.form) q [] n) within
-    (ap (λ (l : Loaded). inside (interface_of l.form) a [] n) (sym c.over_quiet.ensures.loaded) ∙ c.in_ok-within.ensures)))
+    (ap (λ (l : Form). inside (interface_of l) a [] n) (sym c.over_quiet.ensures.form) ∙ c.in_ok-within.ensures)))
     (read-fault w (Some (told_of c.args.fired.now.properties)) b c.over_event.ensures.around (λ q. text_in (interface_of w.loaded.form) q within (element_at (interface_of w.loaded.form) n)) e
-    (subst (λ (l : Loaded). (e ≡ Memory) ⊎ ((e ≡ Long) × (text_in (interface_of l.form) b within (element_at (interface_of l.form) n) ≡ None))) c.over_event.ensures.loaded c.in_err-text.ensures)))
+    (subst (λ (l : Form). (e ≡ Memory) ⊎ ((e ≡ Long) × (text_in (interface_of l) b within (element_at (interface_of l) n) ≡ None))) c.over_event.ensures.form c.in_err-text.ensures)))
 
 pub returns : goal.returns
 returns c =
@@ -59,6 +59,6 @@ returns c =
     message-is w x
     ∙ ap (λ r. r >>= told_in w x)
     (read-some w None a c.over_quiet.ensures.around (λ q. inside (interface_of w.loaded.form) q [] n) within
-    (ap (λ (l : Loaded). inside (interface_of l.form) a [] n) (sym c.over_quiet.ensures.loaded) ∙ c.in_ok-within.ensures))
+    (ap (λ (l : Form). inside (interface_of l) a [] n) (sym c.over_quiet.ensures.form) ∙ c.in_ok-within.ensures))
     ∙ read-some w (Some (told_of c.args.fired.now.properties)) b c.over_event.ensures.around (λ q. text_in (interface_of w.loaded.form) q within (element_at (interface_of w.loaded.form) n)) c.in_ok-text.text
-    (ap (λ (l : Loaded). text_in (interface_of l.form) b within (element_at (interface_of l.form) n)) (sym c.over_event.ensures.loaded) ∙ c.in_ok-text.ensures)
+    (ap (λ (l : Form). text_in (interface_of l) b within (element_at (interface_of l) n)) (sym c.over_event.ensures.form) ∙ c.in_ok-text.ensures)

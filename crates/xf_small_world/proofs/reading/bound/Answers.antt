@@ -6,7 +6,7 @@ use Rattle.xf_ui.specs.Elements.{element_at}
 use Rattle.xf_ui.specs.Interface.{interface_of}
 use Rattle.xf_actions.specs.Seen.{focus_of, told_of}
 use Rattle.xf_actions.proofs.Flow.{reads-stopped}
-use Rattle.xf_small_world.specs.Over.{around_over}
+use Rattle.xf_context.specs.Over.{around_over}
 use Rattle.xf_small_world.specs.State.{state_of}
 use Rattle.xf_small_world.proofs.ReadLaws.{read-fault, read-some}
 use Rattle.xf_small_world.proofs.reading.bound.Goals as goal

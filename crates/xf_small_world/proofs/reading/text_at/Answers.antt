@@ -3,7 +3,7 @@ use Rattle.xf_lang.specs.Meaning.{meaning, text_worth}
 use Rattle.xf_ui.specs.Around.{alone, setting}
 use Rattle.xf_actions.specs.Seen.{told_of}
 use Rattle.xf_actions.proofs.Flow.{reads-stopped}
-use Rattle.xf_small_world.specs.Over.{around_over}
+use Rattle.xf_context.specs.Over.{around_over}
 use Rattle.xf_small_world.specs.State.{state_of}
 use Rattle.xf_small_world.proofs.ReadLaws.{read-fault, read-some}
 use Rattle.xf_small_world.proofs.reading.text_at.Goals as goal

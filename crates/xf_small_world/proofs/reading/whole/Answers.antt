@@ -4,7 +4,7 @@ use Rattle.xf_ui.specs.Around.{setting}
 use Rattle.xf_form_machine.specs.Surround.{around}
 use Rattle.xf_actions.specs.Seen.{focus_of, told_of}
 use Rattle.xf_actions.proofs.Flow.{reads-stopped, same-refuses}
-use Rattle.xf_small_world.specs.Over.{around_over, whole_worth}
+use Rattle.xf_context.specs.Over.{around_over, whole_worth}
 use Rattle.xf_processor.specs.Formed.{profile}
 use Rattle.xf_small_world.specs.State.{state_of}
 use Rattle.xf_small_world.proofs.ReadLaws.{read-fault, read-some, whole-by}

@@ -1,5 +1,5 @@
 use Rattle.std.proofs.Common.{◌∷◌, sym, ap, ◌∙◌}
-use Rattle.xf_small_world.proofs.AroundLaws.{children-axis}
+use Rattle.xf_context.proofs.AroundLaws.{children-axis}
 use Rattle.xf_small_world.proofs.TextSetLaws.{no-child, one-child, two-children}
 use Rattle.xf_small_world.proofs.setting.has_children.Goals as goal
 

@@ -2,7 +2,6 @@ use Rattle.std.proofs.Common.{true, [], Ok, sym, ap, ◌∙◌}
 use Rattle.xf_ui.specs.Interface.{interface_of}
 use Rattle.xf_ui.specs.Named.{cut_at}
 use Rattle.xf_form_machine.specs.Events.{fired}
-use Rattle.xf_actions.specs.Seen.{told_of}
 use Rattle.xf_small_world.proofs.SmallLaws.{no-repeats-around}
 use Rattle.xf_small_world.proofs.telling.event_at.Goals as goal
 
@@ -12,6 +11,4 @@ returns-in-Ok c =
     let name = c.args.name.now in
     let n = c.args.target in
     ap (λ rows. Ok (fired name true true [] n rows)) (ap (cut_at (interface_of form) []) (no-repeats-around form c.args.world.now.small n))
-    ∙ ap (λ rows. Ok (fired name true true [] n rows)) (sym c.new-rows.ensures)
-    ∙ ap (λ ps. Ok (fired name true true (told_of ps) n c.new-rows.result)) (sym c.new-none.ensures)
     ∙ ap (λ e. Ok e) (sym c.in-Ok.ensures)

@@ -1,5 +1,0 @@
-use Rattle.std.proofs.Common.{length}
-use Rattle.xf_small_world.proofs.handlers.+push_reached.Given as goal
-
-abbrev pub decreases-push_reached : goal.decreases-push_reached
-decreases-push_reached l = length l.way.now
