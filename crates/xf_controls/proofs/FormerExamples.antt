@@ -44,12 +44,12 @@ the_other_one_stays = refl
 none_past_the_end : with_value_at 2 (Some (codes "c")) (both (codes "a") (codes "b")) ≡ both (codes "a") (codes "b")
 none_past_the_end = refl
 
--- ---- how many differ
+-- ---- what is told of those that differ
 
-one_of_two : others (both (codes "a") (codes "b")) (both (codes "a") (codes "c")) ≡ 1
+one_of_two : others (both (codes "a") (codes "b")) (both (codes "a") (codes "c")) ≡ record { name = codes "xforms-value-changed"; target = 2; rows = [] } ∷ []
 one_of_two = refl
 
-none_of_two : others (both (codes "a") (codes "b")) (both (codes "a") (codes "b")) ≡ 0
+none_of_two : others (both (codes "a") (codes "b")) (both (codes "a") (codes "b")) ≡ []
 none_of_two = refl
 
 -- ---- put back: a went to b and then to c, and d stood all the time

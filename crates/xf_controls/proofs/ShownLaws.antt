@@ -1,5 +1,5 @@
 -- Copies that get other values one after the other, the values that they had, and what is told of all.
-use Rattle.std.proofs.Common.{◌≡◌, ℕ, zero, suc, ◌+◌, ◌<◌, ◌≤◌, Bool, true, false, cond, not, ◌&&◌, List, [], ◌∷◌, ◌++◌, map, length, get_or, drop, Option, Some, None, option_map, refl, sym, ap, ◌∙◌, subst, arith}
+use Rattle.std.proofs.Common.{◌≡◌, ℕ, zero, suc, ◌+◌, ◌<◌, ◌≤◌, Bool, true, false, cond, not, ◌&&◌, List, [], ◌∷◌, ◌++◌, map, length, get_or, drop, Option, Some, None, option_map, refl, sym, ap, ◌∙◌, subst, arith, append_assoc, append-nil}
 use Rattle.std.specs.Prelude.{slice_get, slice_set, find, bytes_eq, codes, nat_lt}
 use Rattle.std.specs.List.{flat_map}
 use Rattle.std.specs.Bool.{OnFalse, OnTrue}
@@ -16,7 +16,7 @@ use Rattle.xf_ui.specs.Copies.{Copy}
 use Rattle.xf_ui.specs.Notifications.{Notification, is_same_copy, names_of, notifications, same_value, state_names, told, told_since, value_names}
 use Rattle.xf_controls.specs.declared.copy.ControlCopy.{ControlCopy}
 use Rattle.xf_controls.specs.declared.shown.Former.{Former}
-use Rattle.xf_controls.specs.Former.{kept_in, node_at, one_more, others, put_back, value_at, with_value_at}
+use Rattle.xf_controls.specs.Former.{kept_in, node_at, others, put_back, told_if, value_at, with_value_at}
 use Rattle.xf_controls.specs.Renewed.{AreThere, renewed, renewed_copy, value_over, with_value}
 use Rattle.xf_controls.specs.Rising.{rises_from}
 use Rattle.xf_controls.specs.Seen.{IsThere, number, seen_copy}
@@ -96,6 +96,11 @@ pub value-past : (cs : List ControlCopy) (place : ℕ) (v : Option (List ℕ)) �
 value-past [] place v l = refl
 value-past (c ∷ cs) zero v l = absurd (omega (arith, l))
 value-past (c ∷ cs) (suc place) v l = ap (λ ys. c ∷ ys) (value-past cs place v (omega (arith, l)))
+
+pub value-length : (cs : List ControlCopy) (place : ℕ) (v : Option (List ℕ)) → length (with_value_at place v cs) ≡ length cs
+value-length [] place v = refl
+value-length (c ∷ cs) zero v = refl
+value-length (c ∷ cs) (suc place) v = ap suc (value-length cs place v)
 
 pub value-new : (cs : List ControlCopy) (place : ℕ) (v : Option (List ℕ)) → place < length cs → value_at (with_value_at place v cs) place ≡ v
 value-new [] place v l = absurd (omega (arith, l))
@@ -178,38 +183,35 @@ up-all nodes (suc place) (o ∷ os) [] h l = absurd h
 up-all nodes (suc place) (o ∷ os) (n ∷ ns) h l =
     ap (λ m. m >>= λ y. renewed nodes os >>= λ ys. Some (y ∷ ys)) h.0 ∙ ap (λ m. m >>= λ ys. Some (n ∷ ys)) (up-all nodes place os ns h.1 (omega (arith, l)))
 
--- ---- how many got another value
+-- ---- what is told of those that got another value
 
-others-none : (cs : List ControlCopy) → others cs cs ≡ 0
+others-none : (cs : List ControlCopy) → others cs cs ≡ []
 others-none [] = refl
-others-none (c ∷ cs) = ap (λ b. one_more b (others cs cs)) (same-itself c.value) ∙ others-none cs
+others-none (c ∷ cs) = ap (λ b. told_if b c ++ others cs cs) (same-itself c.value) ∙ others-none cs
 
-pub others-first : (before list : List ControlCopy) (count : ℕ) → list ≡ before → count ≡ 0 → count ≡ others before list
-others-first before list count e none = none ∙ sym (ap (others before) e ∙ others-none before)
+pub others-first : (before list : List ControlCopy) (all : List Notification) → list ≡ before → all ≡ [] → all ≡ others before list
+others-first before list all e none = none ∙ sym (ap (others before) e ∙ others-none before)
 
-one-later : (b c : Bool) (k : ℕ) → one_more b (one_more c k) ≡ one_more c (one_more b k)
-one-later true c k = refl
-one-later false true k = refl
-one-later false false k = refl
-
-others-step : (nodes : List Node) (place : ℕ) (before list : List ControlCopy) (v : Option (List ℕ)) → IsUpTo nodes place before list → place < length before
-    → others before (with_value_at place v list) ≡ one_more (same_value (value_at list place) v) (others before list)
-others-step nodes zero [] list v h l = absurd (omega (arith, l))
-others-step nodes zero (o ∷ os) list v h l =
-    subst (λ k. others (o ∷ os) (with_value_at 0 v k) ≡ one_more (same_value (value_at k 0) v) (others (o ∷ os) k)) (sym h)
-    (ap (one_more (same_value o.value v)) (sym (ap (λ b. one_more b (others os os)) (same-itself o.value))))
-others-step nodes (suc place) [] list v h l = absurd (omega (arith, l))
-others-step nodes (suc place) (o ∷ os) [] v h l = absurd h
-others-step nodes (suc place) (o ∷ os) (n ∷ ns) v h l =
-    ap (one_more (same_value o.value n.value)) (others-step nodes place os ns v h.1 (omega (arith, l)))
-    ∙ one-later (same_value o.value n.value) (same_value (value_at ns place) v) (others os ns)
+others-step : (nodes : List Node) (place : ℕ) (before list : List ControlCopy) (v : Option (List ℕ)) (c : ControlCopy) → IsUpTo nodes place before list → place < length before → slice_get (with_value_at place v list) place ≡ Some c
+    → others before (with_value_at place v list) ≡ others before list ++ told_if (same_value (value_at list place) v) c
+others-step nodes zero [] list v c h l e = absurd (omega (arith, l))
+others-step nodes zero (o ∷ os) list v c h l e =
+    subst (λ k. slice_get (with_value_at 0 v k) 0 ≡ Some c → others (o ∷ os) (with_value_at 0 v k) ≡ others (o ∷ os) k ++ told_if (same_value (value_at k 0) v) c) (sym h)
+    (λ is. let same : with_value o v ≡ c = cc is in
+    ap (λ l. told_if (same_value o.value v) (with_value o v) ++ l) (others-none os) ∙ append-nil (told_if (same_value o.value v) (with_value o v)) ∙ ap (told_if (same_value o.value v)) same
+    ∙ ap (λ l. l ++ told_if (same_value o.value v) c) (sym (others-none (o ∷ os))))
+    e
+others-step nodes (suc place) [] list v c h l e = absurd (omega (arith, l))
+others-step nodes (suc place) (o ∷ os) [] v c h l e = absurd h
+others-step nodes (suc place) (o ∷ os) (n ∷ ns) v c h l e =
+    ap (λ l. told_if (same_value o.value n.value) n ++ l) (others-step nodes place os ns v c h.1 (omega (arith, l)) e)
+    ∙ sym (append_assoc (told_if (same_value o.value n.value) n) (others os ns) (told_if (same_value (value_at ns place) v) c))
 
 -- ---- one more copy
 
-pub record IsRenewed (nodes : List Node) (place count : ℕ) (before list : List ControlCopy) : Type 0 where
+pub record IsRenewed (nodes : List Node) (place : ℕ) (all : List Notification) (before list : List ControlCopy) : Type 0 where
   pub upto : IsUpTo nodes place before list
-  pub told : count ≡ others before list
-  pub few : count ≤ place
+  pub told : all ≡ others before list
 
 some-parts : {A B : Type 0} (g : A → B) (m : Option A) (y : B) → option_map g m ≡ Some y → (x : A) × ((m ≡ Some x) × (g x ≡ y))
 some-parts g None y e = cc e
@@ -219,30 +221,29 @@ pub none-part : {A B : Type 0} (g : A → B) (m : Option A) → option_map g m �
 none-part g None e = refl
 none-part g (Some x) e = cc e
 
-pub one-renewed : (nodes : List Node) (place count more : ℕ) (before list new : List ControlCopy) (other : Bool) → IsRenewed nodes place count before list → place < length before
+pub one-length : (m : Option (Option (List ℕ))) (place : ℕ) (list new : List ControlCopy) → option_map (λ v. with_value_at place v list) m ≡ Some new → length new ≡ length list
+one-length m place list new e = let p = some-parts (λ v. with_value_at place v list) m new e in ap length (sym p.1.1) ∙ value-length list place p.0
+
+pub one-renewed : (nodes : List Node) (place : ℕ) (all more : List Notification) (before list new : List ControlCopy) (other : Bool) (c : ControlCopy) → IsRenewed nodes place all before list → place < length before
     → option_map (λ v. with_value_at place v list) (value_over nodes (option_map number (node_at list place))) ≡ Some new
-    → other ≡ not (same_value (value_at list place) (value_at new place)) → more ≡ one_more (not other) count → IsRenewed nodes (place + 1) more before new
-one-renewed nodes place count more before list new other is l e o m =
+    → other ≡ not (same_value (value_at list place) (value_at new place)) → slice_get new place ≡ Some c → more ≡ all ++ told_if (not other) c → IsRenewed nodes (place + 1) more before new
+one-renewed nodes place all more before list new other c is l e o at m =
     let p = some-parts (λ v. with_value_at place v list) (value_over nodes (option_map number (node_at list place))) new e in
     let one : place + 1 ≡ suc place = omega arith in
     let long : place < length list = subst (λ k. place < k) (sym (up-length nodes place before list is.upto)) l in
     let new-value : value_at new place ≡ p.0 = ap (λ k. value_at k place) (sym p.1.1) ∙ value-new list place p.0 long in
     let tested : not other ≡ same_value (value_at list place) p.0 = ap not o ∙ twice (same_value (value_at list place) (value_at new place)) ∙ ap (same_value (value_at list place)) new-value in
+    let here : slice_get (with_value_at place p.0 list) place ≡ Some c = ap (λ k. slice_get k place) p.1.1 ∙ at in
     record {
       upto = subst (λ k. IsUpTo nodes k before new) (sym one) (subst (IsUpTo nodes (suc place) before) p.1.1 (up-step nodes place before list p.0 is.upto l p.1.0));
       told =
-          m ∙ ap (λ b. one_more b count) tested ∙ ap (one_more (same_value (value_at list place) p.0)) is.told
-          ∙ sym (others-step nodes place before list p.0 is.upto l) ∙ ap (others before) p.1.1;
-      few = by (not other) m is.few;
+          m ∙ ap (λ b. all ++ told_if b c) tested ∙ ap (λ a. a ++ told_if (same_value (value_at list place) p.0) c) is.told
+          ∙ sym (others-step nodes place before list p.0 c is.upto l here) ∙ ap (others before) p.1.1;
     }
   where
     twice : (b : Bool) → not (not b) ≡ b
     twice true = refl
     twice false = refl
-
-    by : (b : Bool) → more ≡ one_more b count → count ≤ place → more ≤ place + 1
-    by true h k = omega (arith, h, k)
-    by false h k = omega (arith, h, k)
 
 -- ---- what a refresh tells
 
@@ -262,10 +263,10 @@ names-over c v =
     ∙ ap (λ l. own ++ [] ++ [] ++ l ++ enabled) (no-state (codes "xforms-required") (codes "xforms-optional") c.required)
     ∙ ap (λ l. own ++ [] ++ [] ++ [] ++ l) (no-state (codes "xforms-enabled") (codes "xforms-disabled") c.enabled)
 
-told-over : (c : ControlCopy) (v : Option (List ℕ)) (more : List Notification) → length (told (seen_copy (with_value c v)) (names_of (seen_copy c) (seen_copy (with_value c v))) ++ more) ≡ one_more (same_value c.value v) (length more)
-told-over c v more = ap (λ names. length (told (seen_copy (with_value c v)) names ++ more)) (names-over c v) ∙ by (same_value c.value v)
+told-over : (c : ControlCopy) (v : Option (List ℕ)) → told (seen_copy (with_value c v)) (names_of (seen_copy c) (seen_copy (with_value c v))) ≡ told_if (same_value c.value v) (with_value c v)
+told-over c v = ap (told (seen_copy (with_value c v))) (names-over c v) ∙ by (same_value c.value v)
   where
-    by : (b : Bool) → length (told (seen_copy (with_value c v)) (cond b [] (codes "xforms-value-changed" ∷ []) ++ [] ++ [] ++ [] ++ []) ++ more) ≡ one_more b (length more)
+    by : (b : Bool) → told (seen_copy (with_value c v)) (cond b [] (codes "xforms-value-changed" ∷ []) ++ [] ++ [] ++ [] ++ []) ≡ told_if b (with_value c v)
     by true = refl
     by false = refl
 
@@ -285,17 +286,17 @@ drop-here (suc n) [] d ys e = cc e
 drop-here (suc n) (x ∷ xs) d ys e = let h = drop-here n xs d ys e in (omega (arith, h.0), h.1)
 
 from-here : (before : List ControlCopy) → rises_from 0 before ≡ true → (i : ℕ) (os ns : List ControlCopy) → drop i before ≡ os → AreOver os ns
-    → length (flat_map (λ c. told_since (find (is_same_copy c) (map seen_copy before)) c) (map seen_copy ns)) ≡ others os ns
+    → flat_map (λ c. told_since (find (is_same_copy c) (map seen_copy before)) c) (map seen_copy ns) ≡ others os ns
 from-here before rises i [] [] e s = refl
 from-here before rises i [] (n ∷ ns) e s = absurd s
 from-here before rises i (o ∷ os) [] e s = absurd s
 from-here before rises i (o ∷ os) (n ∷ ns) e s =
     let at = drop-here i before o os e in
     let rest = flat_map (λ c. told_since (find (is_same_copy c) (map seen_copy before)) c) (map seen_copy ns) in
-    ap (λ x. length (told_since (find (is_same_copy (seen_copy x)) (map seen_copy before)) (seen_copy x) ++ rest)) s.0
-    ∙ ap (λ m. length (told_since m (seen_copy (with_value o n.value)) ++ rest)) (same-at 0 before (seen_copy (with_value o n.value)) i o rises at.0 at.1 (same-here (seen_copy o)))
-    ∙ told-over o n.value rest
-    ∙ ap (one_more (same_value o.value n.value)) (from-here before rises (suc i) os ns (drop-next i before o os e) s.1)
+    ap (λ x. told_since (find (is_same_copy (seen_copy x)) (map seen_copy before)) (seen_copy x) ++ rest) s.0
+    ∙ ap (λ m. told_since m (seen_copy (with_value o n.value)) ++ rest) (same-at 0 before (seen_copy (with_value o n.value)) i o rises at.0 at.1 (same-here (seen_copy o)))
+    ∙ ap (λ l. l ++ rest) (told-over o n.value ∙ ap (told_if (same_value o.value n.value)) (sym s.0))
+    ∙ ap (λ l. told_if (same_value o.value n.value) n ++ l) (from-here before rises (suc i) os ns (drop-next i before o os e) s.1)
 
-pub told-all : (nodes : List Node) (before list : List ControlCopy) (count : ℕ) → rises_from 0 before ≡ true → renewed nodes before ≡ Some list → count ≡ others before list → count ≡ length (notifications (map seen_copy before) (map seen_copy list))
-told-all nodes before list count rises e told = told ∙ sym (from-here before rises 0 before list refl (renewed-over nodes before list e))
+pub told-all : (nodes : List Node) (before list : List ControlCopy) (all : List Notification) → rises_from 0 before ≡ true → renewed nodes before ≡ Some list → all ≡ others before list → all ≡ notifications (map seen_copy before) (map seen_copy list)
+told-all nodes before list all rises e told = told ∙ sym (from-here before rises 0 before list refl (renewed-over nodes before list e))

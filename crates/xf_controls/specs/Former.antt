@@ -1,7 +1,7 @@
 -- Values that copies had before, each with the place of its copy.
-use Rattle.std.specs.Prelude.{ℕ, zero, suc, Bool, true, false, List, [], ◌∷◌, Option, Some, None}
+use Rattle.std.specs.Prelude.{ℕ, zero, suc, Bool, true, false, List, [], ◌∷◌, ◌++◌, codes, Option, Some, None}
 use Rattle.xf_doc.specs.declared.node.NodeId.{NodeId}
-use Rattle.xf_ui.specs.Notifications.{same_value}
+use Rattle.xf_ui.specs.Notifications.{Notification, same_value}
 use Rattle.xf_controls.specs.declared.copy.ControlCopy.{ControlCopy}
 use Rattle.xf_controls.specs.declared.shown.Former.{Former}
 use Rattle.xf_controls.specs.Renewed.{with_value}
@@ -18,16 +18,16 @@ value_at [] place = None
 value_at (c ∷ cs) zero = c.value
 value_at (c ∷ cs) (suc place) = value_at cs place
 
--- one more, unless it is the same
-abbrev pub one_more : Bool → ℕ → ℕ
-one_more true count = count
-one_more false count = suc count
+-- what is told of a copy, unless its value is the same
+abbrev pub told_if : Bool → ControlCopy → List Notification
+told_if true c = []
+told_if false c = record { name = codes "xforms-value-changed"; target = c.element; rows = c.rows } ∷ []
 
--- how many copies have another value than the one at the same place
-abbrev pub others : List ControlCopy → List ControlCopy → ℕ
-others [] ns = 0
-others (o ∷ os) [] = 0
-others (o ∷ os) (n ∷ ns) = one_more (same_value o.value n.value) (others os ns)
+-- what is told of the copies that have another value than the one at the same place
+abbrev pub others : List ControlCopy → List ControlCopy → List Notification
+others [] ns = []
+others (o ∷ os) [] = []
+others (o ∷ os) (n ∷ ns) = told_if (same_value o.value n.value) n ++ others os ns
 
 -- the copy at a place has another value
 abbrev pub with_value_at : ℕ → Option (List ℕ) → List ControlCopy → List ControlCopy

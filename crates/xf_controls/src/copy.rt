@@ -71,6 +71,14 @@ impl ControlList {
         self.copies.is_empty()
     }
 
+    /// The copy at a place.
+    pub(crate) fn at(&self, place: usize) -> &ControlCopy
+        requires { place < length self.now }
+        ensures { slice_get self.now place ≡ Some result.now }
+    {
+        &self.copies.as_slice()[place]
+    }
+
     /// Puts a copy behind the others.
     pub(crate) fn push(&mut self, copy: ControlCopy) -> Result<(), AllocError>
         ensures ok { OnOk result (self.new ≡ self.old ++ copy ∷ []) }

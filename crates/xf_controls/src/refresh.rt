@@ -227,7 +227,8 @@ fn push_state(
     push_told(alloc, if new { on } else { off }, copy, all)
 }
 
-fn push_told(
+/// Puts one event to a copy behind others.
+pub(crate) fn push_told(
     alloc: Global,
     name: &'static str,
     copy: &ControlCopy,

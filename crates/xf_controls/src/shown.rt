@@ -1,6 +1,6 @@
 //! The copies of controls from one refresh to the next, and as they were at the end of the last event.
 
-ghost use Rattle.std.specs.Prelude.{◌≡◌, ◌<◌, [], true, not, length, map, option_map, IfOk};
+ghost use Rattle.std.specs.Prelude.{◌≡◌, ◌<◌, ◌++◌, [], true, not, length, map, option_map, IfOk, OnOk};
 ghost use Rattle.xf_plain_values.specs.Bounded.{GivesBounded};
 ghost use Rattle.xf_ui.specs.Notifications as told;
 ghost use Rattle.xf_controls.specs.Former as values;
@@ -8,14 +8,15 @@ ghost use Rattle.xf_controls.specs.Former.{node_at, value_at, with_value_at};
 ghost use Rattle.xf_controls.specs.Renewed as spec;
 ghost use Rattle.xf_controls.specs.Renewed.{AreThere, renewed};
 ghost use Rattle.xf_controls.specs.Rising.{is_rising};
-ghost use Rattle.xf_controls.specs.Seen.{IsThere, number, seen_copy};
+ghost use Rattle.xf_controls.specs.Seen.{IsThere, number, seen_copy, seen_notification};
 
-use crate::copy::ControlList;
-use crate::refresh::{is_rising, same_value};
+use crate::copy::{ControlCopy, ControlList};
+use crate::refresh::{NotificationList, is_rising, push_told, same_value};
 use crate::value::{has_value, value_over};
-use std::alloc::Global;
+use std::alloc::{AllocError, Global};
 use std::marker::Model;
 use std::mem::replace;
+use xf_base::Items;
 use xf_eval::EvalFault;
 use xf_name::Word;
 use xf_tree::Forest;
@@ -84,16 +85,16 @@ impl Shown {
         self.former.clear();
     }
 
-    /// Gives each copy the value that its node has in these data. The answer is how many got another one, so many events are told of them. It
-    /// costs a look at each copy, and memory for those alone that got another one. An `Err` is want of memory, or a string that is too long.
-    pub fn renew(&mut self, forest: &Forest) -> Result<usize, EvalFault>
+    /// Gives each copy the value that its node has in these data. The answer is what is told of those that got another one. It costs a look at
+    /// each copy, and memory for those alone that got another one. An `Err` is want of memory, or a string that is too long.
+    pub fn renew(&mut self, alloc: Global, forest: &Forest) -> Result<NotificationList, EvalFault>
         requires there { AreThere self.old.now forest.now.forest.nodes }
         requires rising { is_rising self.old.now ≡ true }
         ensures list { GivesBounded EvalFault.Memory EvalFault.Long (λ _. self.new.now) result (renewed forest.now.forest.nodes self.old.now) }
-        ensures told { IfOk result (λ count. count ≡ length (told.notifications (map seen_copy self.old.now) (map seen_copy self.new.now))) }
+        ensures told { IfOk result (λ all. map seen_notification all ≡ told.notifications (map seen_copy self.old.now) (map seen_copy self.new.now)) }
         ensures kept { self.new.kept ≡ self.old.kept }
     {
-        renew_all(&mut self.list, &mut self.former, forest)
+        renew_all(alloc, &mut self.list, &mut self.former, forest)
     }
 
     /// Keeps those of the last refresh. Takes no memory.
@@ -118,26 +119,41 @@ impl Shown {
     }
 }
 
-/// Gives each copy of a list the value that its node has in these data, and notes those that they had. The answer is how many got another one.
+/// Gives each copy of a list the value that its node has in these data, and notes those that they had. The answer is what is told of those that
+/// got another one.
 fn renew_all(
+    alloc: Global,
     list: &mut ControlList,
     former: &mut Vec<Former>,
     forest: &Forest,
-) -> Result<usize, EvalFault>
+) -> Result<NotificationList, EvalFault>
     requires there { AreThere list.old forest.now.forest.nodes }
     requires rising { is_rising list.old ≡ true }
     ensures list { GivesBounded EvalFault.Memory EvalFault.Long (λ _. list.new) result (renewed forest.now.forest.nodes list.old) }
-    ensures told { IfOk result (λ count. count ≡ length (told.notifications (map seen_copy list.old) (map seen_copy list.new))) }
+    ensures told { IfOk result (λ all. map seen_notification all ≡ told.notifications (map seen_copy list.old) (map seen_copy list.new)) }
     ensures kept { values.put_back list.new former.new.items ≡ values.put_back list.old former.old.items }
 {
-    let mut count = 0;
+    let mut all = Items::new(alloc);
     for place in 0..list.len() {
         let is_other = renew_at(list, former, forest, place)?;
-        if is_other {
-            count += 1;
-        }
+        push_if(alloc, is_other, list.at(place), &mut all)?;
     }
-    Ok(count)
+    Ok(all)
+}
+
+/// Where a copy got another value, tells so.
+fn push_if(
+    alloc: Global,
+    is_other: bool,
+    copy: &ControlCopy,
+    all: &mut NotificationList,
+) -> Result<(), AllocError>
+    ensures { OnOk result (map seen_notification all.new ≡ map seen_notification all.old ++ values.told_if (not is_other) copy.now) }
+{
+    if is_other {
+        return push_told(alloc, "xforms-value-changed", copy, all);
+    }
+    Ok(())
 }
 
 /// Gives the copy at a place the value that its node has in these data, and notes the one that it had. Whether it got another one.

@@ -1,9 +1,9 @@
--- Elements that are looked through, labels, outputs, and controls of which a text is entered or shown: nothing else.
-use Rattle.std.proofs.Common.{ℕ, zero, suc, ◌≡◌, ◌+◌, Bool, true, false, ◌&&◌, List, [], ◌∷◌, ◌++◌, map, filter, get_or, Option, Some, None, bytes_eq, cond, refl, ap, sym, ◌∙◌, arith}
+-- Elements that are looked through, labels, outputs, actions, and controls of which a text is entered or shown or that are activated: nothing else.
+use Rattle.std.proofs.Common.{ℕ, zero, suc, ◌≡◌, ◌+◌, Bool, true, false, ◌&&◌, List, [], ◌∷◌, ◌++◌, map, filter, get_or, Option, Some, None, bytes_eq, cond, refl, ap, ◌∙◌, arith}
 use Rattle.std.specs.List.{flat_map, list_all}
 use Rattle.std.proofs.lemmas.Bool.{and_from, and_parts}
 use Rattle.std.proofs.lemmas.Slice.Eq.{bytes_eq-Decides}
-use Rattle.xf_ast.specs.Ordered.{IsOrdered, numbered, numbered_from, child_in, children, has_its_children, is_none, is_parent, may_follow, are_in_order, repeat_in, switch_in}
+use Rattle.xf_ast.specs.Ordered.{IsOrdered, numbered, numbered_from, children, has_its_children, is_none, is_parent, may_follow, are_in_order, repeat_in, switch_in}
 use Rattle.xf_ast.specs.declared.element.Control.{Control}
 use Rattle.xf_ast.specs.declared.element.Control.TheVariants as control
 use Rattle.xf_ast.specs.declared.element.Element as written
@@ -12,10 +12,9 @@ use Rattle.xf_ast.specs.declared.element.Kind.TheVariants as kind
 use Rattle.xf_ast.specs.declared.form.Form.{Form}
 use Rattle.xf_ast.specs.declared.form.Tables.{Tables}
 use Rattle.xf_controls.specs.Plain.{is_plain, is_plain_sort, is_top, are_children, stands_plainly}
-use Rattle.xf_ui.specs.Calls.{handlers, handlers_of}
-use Rattle.xf_ui.specs.Elements.{element_at, no_element, is_repeat, is_repeat_sort}
+use Rattle.xf_ui.specs.Elements.{element_at, no_element, is_repeat_sort}
 use Rattle.xf_ui.specs.Interface.{Interface, element_of, interface_of, sort_of}
-use Rattle.xf_machine_laws.specs.Quiet.{IsQuiet}
+use Rattle.xf_machine_laws.specs.Rowless.{IsWithoutRows}
 
 abbrev is_simple_control : Control → Bool
 is_simple_control (control.Switch k) = false
@@ -27,7 +26,6 @@ is_simple_control c = true
 
 abbrev pub is_simple : Kind → Bool
 is_simple (kind.Control place c) = is_simple_control c
-is_simple (kind.Action a) = false
 is_simple k = true
 
 abbrev pub are_simple : List written.Element → Bool
@@ -45,7 +43,6 @@ control-plain c place h = refl
 
 sort-plain : (k : Kind) → is_simple k ≡ true → is_plain_sort (sort_of k) ≡ true
 sort-plain (kind.Control place c) h = control-plain c place h
-sort-plain (kind.Action a) h = cc
 sort-plain k h = refl
 
 control-rowless : (c : Control) (place : ℕ) → is_simple_control c ≡ true → is_repeat_sort (sort_of (kind.Control place c)) ≡ false
@@ -55,15 +52,6 @@ control-rowless c place h = refl
 sort-rowless : (k : Kind) → is_simple k ≡ true → is_repeat_sort (sort_of k) ≡ false
 sort-rowless (kind.Control place c) h = control-rowless c place h
 sort-rowless k h = refl
-
-control-unheard : (n : ℕ) (c : Control) (place : ℕ) → handlers_of n (sort_of (kind.Control place c)) ≡ []
-control-unheard n (control.Switch k) place = refl
-control-unheard n c place = refl
-
-sort-unheard : (n : ℕ) (k : Kind) → is_simple k ≡ true → handlers_of n (sort_of k) ≡ []
-sort-unheard n (kind.Control place c) h = control-unheard n c place
-sort-unheard n (kind.Action a) h = cc
-sort-unheard n k h = refl
 
 control-unrepeated : (c : Control) (place : ℕ) → is_simple_control c ≡ true → repeat_in (kind.Control place c) ≡ []
 control-unrepeated (control.Repeat k start) place h = cc
@@ -85,13 +73,6 @@ unswitched k h = refl
 
 first-of : (e : written.Element) (es : List written.Element) → are_simple (e ∷ es) ≡ true → (is_simple e.kind ≡ true) × (are_simple es ≡ true)
 first-of e es h = and_parts (is_simple e.kind) (are_simple es) h
-
-all-unheard : (t : Tables) (n : ℕ) (es : List written.Element) → are_simple es ≡ true → flat_map (λ e. handlers_of e.0 e.1.sort) (numbered_from n (map (element_of t) es)) ≡ []
-all-unheard t n [] h = refl
-all-unheard t n (e ∷ es) h =
-    let parts = first-of e es h in
-    ap (λ hs. hs ++ flat_map (λ e. handlers_of e.0 e.1.sort) (numbered_from (suc n) (map (element_of t) es))) (sort-unheard n e.kind parts.0)
-    ∙ all-unheard t (suc n) es parts.1
 
 rowless-at : (t : Tables) (n : ℕ) (es : List written.Element) → are_simple es ≡ true → is_repeat_sort (get_or (map (element_of t) es) n no_element).sort ≡ false
 rowless-at t n [] h = refl
@@ -165,9 +146,8 @@ simple-plain form o h =
     and_from (is_top (element_at (interface_of form) 0).parent) _ (first-top form.tables form.elements o.order)
     (and_from (is_none form.repeats) _ (ap is_none (no-repeats form o h)) (all-stand form 0 form.elements h o.children))
 
-pub simple-quiet : (form : Form) → IsOrdered form → are_simple form.elements ≡ true → IsQuiet (interface_of form)
-simple-quiet form o h = record {
-  unheard = all-unheard form.tables 0 form.elements h;
+pub simple-rowless : (form : Form) → IsOrdered form → are_simple form.elements ≡ true → IsWithoutRows (interface_of form)
+simple-rowless form o h = record {
   repeats = no-repeats form o h;
   switches = no-switches form o h;
   rowless = λ n. rowless-at form.tables n form.elements h;

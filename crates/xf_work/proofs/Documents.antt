@@ -82,6 +82,14 @@ roots-solid place (x ∷ xs) = by place (is_text x.content) refl (λ p. roots-so
             ap (λ r. cond r (root_in p (solid xs)) (root_in (suc p) (solid xs))) (bare-root x.content)
             ∙ ap (λ o. cond (is_root x.content) o (root_in (suc p) (solid xs))) (later p) ∙ ap (cond (is_root x.content) (root_in p xs)) (later (suc p))
 
+-- forests of one shape have their roots in common
+root-shaped : (place : ℕ) (nodes : List Node) → root_of place nodes ≡ root_in place (untexted (map erased (shape_of nodes)))
+root-shaped place nodes = roots-visited place [] nodes ∙ sym (roots-solid place (visits nodes)) ∙ ap (root_in place) (sym (shape-untexted (visits nodes)))
+
+pub roots-same : (place : ℕ) (before after : List Node) → shape_of after ≡ shape_of before → root_of place after ≡ root_of place before
+roots-same place before after same =
+    root-shaped place after ∙ ap (λ s. root_in place (untexted (map erased s))) same ∙ sym (root-shaped place before)
+
 -- the root stands
 root-found : (place n : ℕ) (xs : List Visit) → root_in place xs ≡ Some n → Each (λ v. found v.number xs ≡ Some v) xs → (y : Visit) × (found n xs ≡ Some y) × (is_root y.content ≡ true)
 root-found place n xs e each = of xs place e each

@@ -1,7 +1,8 @@
 -- What is known of the nodes of controls over the data that were planted is known over all data of their shape.
-use Rattle.std.proofs.Common.{◌≡◌, ℕ, true, ◌&&◌, List, [], ◌∷◌, map, Option, Some, None, refl, sym, ap, ◌∙◌}
+use Rattle.std.proofs.Common.{◌≡◌, ℕ, true, false, ◌&&◌, List, [], ◌∷◌, map, Option, Some, None, option_map, is_some, refl, sym, ap, ◌∙◌}
 use Rattle.xf_base.specs.Limits.{string_limit}
 use Rattle.xf_doc.specs.declared.node.NodeId.{NodeId}
+use Rattle.xf_doc.specs.Changes.{root_of}
 use Rattle.xf_doc.specs.Forest.{Forest, has_number}
 use Rattle.xf_doc.specs.Shape.{erased, shape_of}
 use Rattle.xf_doc.specs.Visit.{Visit, has, visits}
@@ -29,10 +30,16 @@ use Rattle.xf_controls.specs.Surrounded.{around_in}
 use Rattle.xf_controls.proofs.KnownLaws.{nothing-known}
 use Rattle.xf_loader.specs.declared.loaded.Loaded.{Loaded}
 use Rattle.xf_work.specs.Around.{given_by, given_in}
-use Rattle.xf_work.specs.Held.{AreSolid, IsHeld, around_over, planted_shape}
-use Rattle.xf_work.proofs.Documents.{documents-same}
+use Rattle.xf_work.specs.Held.{AreSolid, IsHeld, around_over, last_place, planted_shape}
+use Rattle.xf_work.proofs.Documents.{documents-same, roots-same}
 use Rattle.xf_work.proofs.SolidLaws.{document-solid}
 use Rattle.xf_work.proofs.SurroundLaws.{truthful}
+
+-- ---- where no root stands
+
+pub none-there : (o : Option NodeId) (r : Option ℕ) → option_map (λ (n : NodeId). n.number) o ≡ r → is_some o ≡ false → r ≡ None
+none-there None r e h = sym e
+none-there (Some n) r e h = cc h
 
 -- ---- a node that is no text stands in the data
 
@@ -88,15 +95,18 @@ module _ (l : Loaded) (before after : Forest) (b : HasTrees before) (a : HasTree
       stands n None e = refl
       stands n (Some k) e = ap (λ c. c && true) (solid-live after k.number a (solid-after known h n k e))
 
-pub held-over : (l : Loaded) (before : Forest) (known : List Known) → HasTrees before → are_hung before.nodes ≡ true → shape_of before.nodes ≡ planted_shape l → AreHeld (interface_of l.form) (around_over l before) known → IsHeld l known
-held-over l before known trees hung planted h = record {
+pub held-over : (l : Loaded) (before : Forest) (known : List Known) → HasTrees before → are_hung before.nodes ≡ true → shape_of before.nodes ≡ planted_shape l → root_of last_place before.nodes ≡ None
+    → AreHeld (interface_of l.form) (around_over l before) known → IsHeld l known
+held-over l before known trees hung planted few h = record {
+  few = λ nodes shaped. roots-same last_place before.nodes nodes (shaped ∙ sym planted) ∙ few;
   over = λ after a hung_too shaped. known-after l before after trees a hung hung_too (shaped ∙ sym planted) known h;
   solid = λ after a hung_too shaped. solid-after l before after trees a hung hung_too (shaped ∙ sym planted) known h;
 }
 
 -- nothing is known
-pub held-nothing : (l : Loaded) (known : List Known) → known ≡ [] → IsHeld l known
-held-nothing l known e = record {
+pub held-nothing : (l : Loaded) (before : Forest) (known : List Known) → shape_of before.nodes ≡ planted_shape l → root_of last_place before.nodes ≡ None → known ≡ [] → IsHeld l known
+held-nothing l before known planted few e = record {
+  few = λ nodes shaped. roots-same last_place before.nodes nodes (shaped ∙ sym planted) ∙ few;
   over = λ forest trees hung shaped. nothing-known (interface_of l.form) (around_over l forest) forest.nodes known e;
   solid = λ forest trees hung shaped n k at. none-some (ap (λ ks. known_at ks n) (sym e) ∙ at);
 }

@@ -1,16 +1,16 @@
 -- The models of a state, by what a table keeps of each and what is due of it.
-use Rattle.std.proofs.Common.{◌≡◌, ℕ, zero, suc, ◌<◌, Bool, List, [], ◌∷◌, map, length, get_or, refl, ap, arith}
+use Rattle.std.proofs.Common.{◌≡◌, ℕ, zero, suc, ◌<◌, Bool, true, false, List, [], ◌∷◌, map, length, get_or, refl, ap, arith}
 use Rattle.std.specs.Prelude.{slice_set, ◌||◌}
 use Rattle.std.specs.List.{list_any}
 use Rattle.xf_form_machine.specs.State as machine
 use Rattle.xf_form_machine.specs.State.{Model}
-use Rattle.xf_form_machine.specs.Primitives.{changed_at}
+use Rattle.xf_form_machine.specs.Primitives.{changed_at, refresh_due}
 use Rattle.xf_form_machine.specs.Behave.{no_model}
 use Rattle.xf_form_machine.specs.Update.{no_refresh}
 use Rattle.xf_binds.specs.Kept.{Kept, committed, no_kept, rolled_back}
 use Rattle.xf_binds.specs.Asked.{asked_of}
 use Rattle.xf_work.specs.declared.flags.Flags.{Flags}
-use Rattle.xf_work.specs.Flags.{flags_of, none_due, without_refresh}
+use Rattle.xf_work.specs.Flags.{flags_of, none_due, with_refresh, without_refresh}
 use Rattle.xf_work.specs.Parts.{model_of, models_of}
 
 pub models-length : (ks : List Kept) (fs : List Flags) → length ks ≡ length fs → length (models_of ks fs) ≡ length fs
@@ -35,6 +35,20 @@ model-changed change ks [] n k f e h c = absurd (omega arith)
 model-changed change [] (g ∷ fs) n k f e h c = absurd (omega (arith, e))
 model-changed change (j ∷ ks) (g ∷ fs) zero k f e h c = ap (λ m. m ∷ models_of ks fs) c
 model-changed change (j ∷ ks) (g ∷ fs) (suc n) k f e h c = ap (λ ms. model_of j g ∷ ms) (model-changed change ks fs n k f (omega (arith, e)) (omega (arith, h)) c)
+
+-- one of them has other flags: where there is no such one, none has
+pub flags-changed : (change : Model → Model) (due : Flags → Flags) → ((k : Kept) (f : Flags) → change (model_of k f) ≡ model_of k (due f)) → (ks : List Kept) (fs : List Flags) (n : ℕ)
+    → changed_at n change (models_of ks fs) ≡ models_of ks (slice_set fs n (due (get_or fs n none_due)))
+flags-changed change due e [] fs n = refl
+flags-changed change due e (k ∷ ks) [] n = refl
+flags-changed change due e (k ∷ ks) (f ∷ fs) zero = ap (λ m. m ∷ models_of ks fs) (e k f)
+flags-changed change due e (k ∷ ks) (f ∷ fs) (suc n) = ap (λ ms. model_of k f ∷ ms) (flags-changed change due e ks fs n)
+
+pub refresh-due : (ks : List Kept) (fs : List Flags) (n : ℕ) → changed_at n refresh_due (models_of ks fs) ≡ models_of ks (slice_set fs n (with_refresh true (get_or fs n none_due)))
+refresh-due ks fs n = flags-changed refresh_due (with_refresh true) (λ k f. refl) ks fs n
+
+pub refresh-cleared : (ks : List Kept) (fs : List Flags) (n : ℕ) → changed_at n no_refresh (models_of ks fs) ≡ models_of ks (slice_set fs n (with_refresh false (get_or fs n none_due)))
+refresh-cleared ks fs n = flags-changed no_refresh (with_refresh false) (λ k f. refl) ks fs n
 
 -- of what is due of one of them
 pub any-due : (test : machine.Flags → Bool) (ks : List Kept) (fs : List Flags) → length ks ≡ length fs

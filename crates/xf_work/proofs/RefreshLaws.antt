@@ -16,7 +16,6 @@ use Rattle.xf_form_machine.specs.Flow.{◌>>=◌}
 use Rattle.xf_form_machine.specs.Refusal.{Refused}
 use Rattle.xf_form_machine.specs.State.{State}
 use Rattle.xf_form_machine.specs.Update as update
-use Rattle.xf_form_machine.specs.Update.{no_refresh}
 use Rattle.xf_binds.specs.Kept.{Kept}
 use Rattle.xf_controls.specs.declared.copy.ControlCopy.{ControlCopy}
 use Rattle.xf_controls.specs.declared.known.Known.{Known}
@@ -24,7 +23,8 @@ use Rattle.xf_controls.specs.Bound.{AllBound}
 use Rattle.xf_controls.specs.Known.{known_at}
 use Rattle.xf_controls.specs.Renewed.{renewed}
 use Rattle.xf_controls.specs.Rising.{is_rising}
-use Rattle.xf_controls.specs.Seen.{seen_copy}
+use Rattle.xf_controls.specs.declared.refresh.Notification.{Notification}
+use Rattle.xf_controls.specs.Seen.{seen_copy, seen_notification}
 use Rattle.xf_controls.proofs.RenewedLaws.{copies-renewed, copies-there, renewed-again, renewed-count, renewed-rising, renewed-there}
 use Rattle.xf_valid.specs.Nodes.{marks_in}
 use Rattle.xf_valid.proofs.ShapeLaws.{marks-shaped}
@@ -40,12 +40,10 @@ use Rattle.xf_work.specs.Built.{IsWhole}
 use Rattle.xf_work.specs.Calls.{AreRefreshed, AreShown, Refreshes, Renews, ShowsOthers, long_or_memory}
 use Rattle.xf_processor.specs.Formed.{profile}
 use Rattle.xf_work.specs.Does.{Does, Finds, IsRefused}
-use Rattle.xf_work.specs.Flags.{without_refresh}
 use Rattle.xf_work.specs.Held.{IsHeld, around_over}
 use Rattle.xf_work.specs.Parts.{IsLoaded, standing_of}
 use Rattle.xf_work.specs.Standing.{Standing, state_of}
 use Rattle.xf_work.specs.Steady.{AreSteady, IsShaped}
-use Rattle.xf_work.proofs.Models.{none-refreshed}
 use Rattle.xf_work.proofs.ShownLaws.{long-found, shown-given, shown-listed}
 
 pub whole-shaped : (l : Loaded) (forest : Forest) (table : List Kept) (built : ℕ) → IsWhole l forest table built → HasTrees forest → IsShaped l forest
@@ -106,32 +104,33 @@ module _ (l : Loaded) (is : IsLoaded l) (forest : Forest) (table : List Kept) (f
     pub renewed-long : renewed forest.nodes list ≡ None → IsRefused (Limit Long) (update.shown profile here)
     renewed-long e = long-found l is forest table flags controls tally many (given-now ∙ ap (option_map (map seen_copy)) e)
 
-  -- the flags of a refresh are cleared besides
+  -- those that stand get the values of their nodes
   module _ (steady : AreSteady l table controls) where
-    pub renewed-done : (after : List ControlCopy) (fs : List Flags) (count : ℕ) → renewed forest.nodes controls ≡ Some after → count ≡ length (notifications (map seen_copy controls) (map seen_copy after)) → fs ≡ map without_refresh flags
-        → AreRefreshed count (standing_of l forest table flags controls tally) (standing_of l forest table fs after tally)
-    renewed-done after fs count e told cleared = record {
+    pub renewed-done : (after : List ControlCopy) (answer : List Notification) → renewed forest.nodes controls ≡ Some after → map seen_notification answer ≡ notifications (map seen_copy controls) (map seen_copy after)
+        → AreShown answer (standing_of l forest table flags controls tally) (standing_of l forest table flags after tally)
+    renewed-done after answer e told = record {
       list = map seen_copy after;
       shown = renewed-shown controls steady after e;
       told = told;
-      now = ap (λ gs. standing_of l forest table gs after tally) cleared ∙ ap (λ ms. record (standing_of l forest table flags after tally) { models = ms }) (sym (none-refreshed table flags many));
+      now = refl;
     }
 
-    pub renewed-fails : (e : WorkFault) (list : List ControlCopy) (after : Standing) → Renews {X = ℕ} (Err e) (renewed forest.nodes controls) list → Refreshes (Err e) (standing_of l forest table flags controls tally) after
+    pub renewed-fails : (e : WorkFault) (list : List ControlCopy) (after : Standing) → Renews {X = List Notification} (Err e) (renewed forest.nodes controls) list → ShowsOthers (Err e) (standing_of l forest table flags controls tally) after
     renewed-fails (fault.Refused refusal) list after h = subst (λ r. IsRefused r (update.shown profile here)) (sym h.0) (renewed-long controls steady h.1)
     renewed-fails fault.Memory list after h = tt
 
-pub cleared-done : (count : ℕ) (before mid after : Standing) → AreShown count before mid → after ≡ record mid { models = map no_refresh mid.models } → AreRefreshed count before after
-cleared-done count before mid after h e = record {
+-- the flags of a refresh are cleared besides
+pub cleared-done : (cleared : State → State) (answer : List Notification) (before mid after : Standing) → AreShown answer before mid → state_of after ≡ cleared (state_of mid) → AreRefreshed cleared answer before after
+cleared-done cleared answer before mid after h e = record {
   list = h.list;
   shown = h.shown;
   told = h.told;
-  now = e ∙ ap (λ (x : Standing). record x { models = map no_refresh x.models }) h.now;
+  now = e ∙ ap (λ (x : Standing). cleared (state_of x)) h.now;
 }
 
-pub others-fail : (e : WorkFault) (before mid after : Standing) → ShowsOthers (Err e) before mid → Refreshes (Err e) before after
-others-fail (fault.Refused refusal) before mid after h = h
-others-fail fault.Memory before mid after h = tt
+pub others-fail : (cleared : State → State) (e : WorkFault) (before mid after : Standing) → ShowsOthers (Err e) before mid → Refreshes cleared (Err e) before after
+others-fail cleared (fault.Refused refusal) before mid after h = h
+others-fail cleared fault.Memory before mid after h = tt
 
 -- ---- what is refused
 
@@ -146,7 +145,7 @@ show-stops fault.Memory s after h = tt
 pub shows : (s after : Standing) (list : List copies.Copy) → update.shown profile (state_of s) ≡ Ok list → after ≡ record s { controls = list } → first_shown profile (state_of s) ≡ Ok (state_of after)
 shows s after list e h = ap (λ r. r >>= λ cs. Ok (record (state_of s) { controls = cs })) e ∙ ap (λ (x : Standing). Ok (state_of x)) (sym h)
 
-pub told-renews : (e : EvalFault) (given : Option (List ControlCopy)) (list : List ControlCopy) → (e ≡ eval.Memory) ⊎ ((e ≡ eval.Long) × (given ≡ None)) → Renews {X = ℕ} (Err (long_or_memory e)) given list
+pub told-renews : (e : EvalFault) (given : Option (List ControlCopy)) (list : List ControlCopy) → (e ≡ eval.Memory) ⊎ ((e ≡ eval.Long) × (given ≡ None)) → Renews {X = List Notification} (Err (long_or_memory e)) given list
 told-renews eval.Long given list (inl h) = cc h
 told-renews eval.Long given list (inr h) = (refl, h.1)
 told-renews eval.Memory given list h = tt

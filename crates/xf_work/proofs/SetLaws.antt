@@ -11,8 +11,9 @@ use Rattle.xf_doc.specs.Visit.{visits}
 use Rattle.xf_form_machine.specs.declared.limit.LimitWord.TheVariants as word
 use Rattle.xf_form_machine.specs.State.{Model, State}
 use Rattle.xf_form_machine.specs.Refusal.{Refused, binding, if_over, unless_passed, words_of}
+use Rattle.xf_form_machine.specs.Flow.{Run}
 use Rattle.xf_form_machine.specs.Primitives.{changed_at, grown, grown_to, if_other, in_some_model, over_made, set_text, texts_due, with_text_mark}
-use Rattle.xf_form_machine.specs.SetValue.{set_node, unless_parent}
+use Rattle.xf_form_machine.specs.SetValue.{unless_parent}
 use Rattle.xf_binds.specs.Kept.{Kept}
 use Rattle.xf_binds.specs.Table.{kept_at, with_kept}
 use Rattle.xf_controls.specs.declared.copy.ControlCopy.{ControlCopy}
@@ -100,74 +101,80 @@ module _ (loaded : Loaded) (forest : Forest) (table : List Kept) (flags : List F
   abbrev next : State
   next = state_of (standing_of loaded forest (marked holder other n table) (due holder flags) controls tally)
 
-  -- where the node has no elements in it
-  node-is : has_elements (visits forest.nodes) n ≡ false → set_node profile n text s ≡ with_passed (passed_by_text limits (length text) after.nodes) next
-  node-is none =
-      ap (λ b. unless_parent b n (set_text profile n text) s) none
-      ∙ ap (with_passed (passed_by_text limits (length text) after.nodes)) (marked-state holder)
+  text-is : set_text profile n text s ≡ with_passed (passed_by_text limits (length text) after.nodes) next
+  text-is = ap (with_passed (passed_by_text limits (length text) after.nodes)) (marked-state holder)
 
   -- ---- refused
 
-  pub bound-refused : has_elements (visits forest.nodes) n ≡ true → (told : WorkFault) → IsBound loaded.form.tables.instances forest n told → (end : Standing)
-      → Does {X = Unit {0}} (Err told) end (set_node profile n text s)
-  bound-refused full (fault.Refused (refusal.Binding path)) h end =
-      subst (IsRefused (refusal.Binding path)) (sym (ap (λ b. unless_parent b n (set_text profile n text) s) full))
-      (ap binding (sym (h s refl refl)), refl)
-  bound-refused full (fault.Refused refusal.NoSuchTarget) h end = absurd h
-  bound-refused full (fault.Refused refusal.Disabled) h end = absurd h
-  bound-refused full (fault.Refused refusal.ReadOnly) h end = absurd h
-  bound-refused full (fault.Refused refusal.NotAnItem) h end = absurd h
-  bound-refused full (fault.Refused refusal.BadIndex) h end = absurd h
-  bound-refused full (fault.Refused (refusal.PropertyTwice path)) h end = absurd h
-  bound-refused full (fault.Refused (refusal.CalculateOnParent path)) h end = absurd h
-  bound-refused full (fault.Refused (refusal.Circular paths)) h end = absurd h
-  bound-refused full (fault.Refused (refusal.Limit w)) h end = absurd h
-  bound-refused full (fault.Refused refusal.Budget) h end = absurd h
-  bound-refused full (fault.Refused refusal.Depth) h end = absurd h
-  bound-refused full (fault.Refused refusal.Sends) h end = absurd h
-  bound-refused full fault.Memory h end = tt
-
-  pub may-refused : (told : WorkFault) → MayBeSet {X = Unit {0}} loaded.form.tables.instances forest n (Err told) → (end : Standing) → Does {X = Unit {0}} (Err told) end (set_node profile n text s)
-  may-refused (fault.Refused why) h end = bound-refused h.0 (fault.Refused why) h.1 end
-  may-refused fault.Memory h end = tt
-
-  module _ (none : has_elements (visits forest.nodes) n ≡ false) where
-    pub limit-refused : (told : WorkFault) → SaysLimit told (passed_by_text limits (length text) after.nodes) → (end : Standing) → Does {X = Unit {0}} (Err told) end (set_node profile n text s)
-    limit-refused (fault.Refused why) h end = subst (IsRefused why) (sym (node-is none)) (by (passed_by_text limits (length text) after.nodes) h)
-      where
-        by : (o : Option TreeFault) → SaysLimit (fault.Refused why) o → IsRefused why (with_passed o next)
-        by None i = absurd i
-        by (Some f) (w, same, words) =
-            subst (λ r. IsRefused r (with_passed (Some f) next)) (sym same) (
-              (
-                words_of f ++ over_made profile (tally.made + made),
-                refl,
-                subst (λ ws. Contains (ws ++ over_made profile (tally.made + made)) w) (sym words)
-                    (contains-more (w ∷ []) (over_made profile (tally.made + made)) w (0, omega arith, refl)),
-              ),
+  pub limit-refused : (told : WorkFault) → SaysLimit told (passed_by_text limits (length text) after.nodes) → (end : Standing) → Does {X = Unit {0}} (Err told) end (set_text profile n text s)
+  limit-refused (fault.Refused why) h end = subst (IsRefused why) (sym text-is) (by (passed_by_text limits (length text) after.nodes) h)
+    where
+      by : (o : Option TreeFault) → SaysLimit (fault.Refused why) o → IsRefused why (with_passed o next)
+      by None i = absurd i
+      by (Some f) (w, same, words) =
+          subst (λ r. IsRefused r (with_passed (Some f) next)) (sym same) (
+            (
+              words_of f ++ over_made profile (tally.made + made),
               refl,
-            )
-    limit-refused fault.Memory h end = tt
+              subst (λ ws. Contains (ws ++ over_made profile (tally.made + made)) w) (sym words)
+                  (contains-more (w ∷ []) (over_made profile (tally.made + made)) w (0, omega arith, refl)),
+            ),
+            refl,
+          )
+  limit-refused fault.Memory h end = tt
 
-    pub made-refused : passed_by_text limits (length text) after.nodes ≡ None → nat_lt (2 ^ 32) (tally.made + made) ≡ true → IsRefused (refusal.Limit word.Made) (set_node profile n text s)
-    made-refused passed over = subst (IsRefused (refusal.Limit word.Made)) (sym (node-is none ∙ ap (λ o. with_passed o next) passed))
-        (subst (λ b. IsRefused (refusal.Limit word.Made) (grown_to (unless_passed next (if_over b word.Made) (after, record next { made = tally.made + made })))) (sym over)
-        ((word.Made ∷ [], refl, (0, omega arith, refl)), refl))
+  pub made-refused : passed_by_text limits (length text) after.nodes ≡ None → nat_lt (2 ^ 32) (tally.made + made) ≡ true → IsRefused (refusal.Limit word.Made) (set_text profile n text s)
+  made-refused passed over = subst (IsRefused (refusal.Limit word.Made)) (sym (text-is ∙ ap (λ o. with_passed o next) passed))
+      (subst (λ b. IsRefused (refusal.Limit word.Made) (grown_to (unless_passed next (if_over b word.Made) (after, record next { made = tally.made + made })))) (sym over)
+      ((word.Made ∷ [], refl, (0, omega arith, refl)), refl))
 
-    pub grown-refused : passed_by_text limits (length text) after.nodes ≡ None → (told : WorkFault) (count : ℕ) → count ≡ made → IsGrown tally count 0 (Err told) → (end : Standing)
-        → Does {X = Unit {0}} (Err told) end (set_node profile n text s)
-    grown-refused passed (fault.Refused why) count same h end =
-        subst (λ r. IsRefused r (set_node profile n text s)) (sym h.0) (made-refused passed (ap (λ m. nat_lt (2 ^ 32) (tally.made + m)) (sym same) ∙ h.1))
-    grown-refused passed fault.Memory count same h end = tt
+  pub grown-refused : passed_by_text limits (length text) after.nodes ≡ None → (told : WorkFault) (count : ℕ) → count ≡ made → IsGrown tally count 0 (Err told) → (end : Standing)
+      → Does {X = Unit {0}} (Err told) end (set_text profile n text s)
+  grown-refused passed (fault.Refused why) count same h end =
+      subst (λ r. IsRefused r (set_text profile n text s)) (sym h.0) (made-refused passed (ap (λ m. nat_lt (2 ^ 32) (tally.made + m)) (sym same) ∙ h.1))
+  grown-refused passed fault.Memory count same h end = tt
 
-    -- ---- done
+  -- ---- done
 
-    pub set-done : passed_by_text limits (length text) after.nodes ≡ None → nat_lt (2 ^ 32) (tally.made + made) ≡ false
-        → set_node profile n text s ≡ Ok (state_of (standing_of loaded after (marked holder other n table) (due holder flags) controls (with_more made 0 tally)))
-    set-done passed fits =
-        node-is none ∙ ap (λ o. with_passed o next) passed
-        ∙ ap (λ b. grown_to (unless_passed next (if_over b word.Made) (after, record next { made = tally.made + made }))) fits
-        ∙ ap (λ e. Ok (record next { forest = after; made = tally.made + made; evaluated = e })) (plus tally.evaluated)
-      where
-        plus : (e : ℕ) → e ≡ e + 0
-        plus e = omega arith
+  pub set-done : passed_by_text limits (length text) after.nodes ≡ None → nat_lt (2 ^ 32) (tally.made + made) ≡ false
+      → set_text profile n text s ≡ Ok (state_of (standing_of loaded after (marked holder other n table) (due holder flags) controls (with_more made 0 tally)))
+  set-done passed fits =
+      text-is ∙ ap (λ o. with_passed o next) passed
+      ∙ ap (λ b. grown_to (unless_passed next (if_over b word.Made) (after, record next { made = tally.made + made }))) fits
+      ∙ ap (λ e. Ok (record next { forest = after; made = tally.made + made; evaluated = e })) (plus tally.evaluated)
+    where
+      plus : (e : ℕ) → e ≡ e + 0
+      plus e = omega arith
+
+-- ---- whether it may be set
+
+module _ (loaded : Loaded) (forest : Forest) (table : List Kept) (flags : List Flags) (controls : List ControlCopy) (tally : Tally) (n : ℕ) where
+  abbrev now : State
+  now = state_of (standing_of loaded forest table flags controls tally)
+
+  abbrev asked : Run → Result State Refused
+  asked run = unless_parent (has_elements (visits forest.nodes) n) n run now
+
+  bound-refused : (run : Run) → has_elements (visits forest.nodes) n ≡ true → (told : WorkFault) → IsBound loaded.form.tables.instances forest n told → (end : Standing)
+      → Does {X = Unit {0}} (Err told) end (asked run)
+  bound-refused run full (fault.Refused (refusal.Binding path)) h end =
+      subst (IsRefused (refusal.Binding path)) (sym (ap (λ b. unless_parent b n run now) full))
+      (ap binding (sym (h now refl refl)), refl)
+  bound-refused run full (fault.Refused refusal.NoSuchTarget) h end = absurd h
+  bound-refused run full (fault.Refused refusal.Disabled) h end = absurd h
+  bound-refused run full (fault.Refused refusal.ReadOnly) h end = absurd h
+  bound-refused run full (fault.Refused refusal.NotAnItem) h end = absurd h
+  bound-refused run full (fault.Refused refusal.BadIndex) h end = absurd h
+  bound-refused run full (fault.Refused (refusal.PropertyTwice path)) h end = absurd h
+  bound-refused run full (fault.Refused (refusal.CalculateOnParent path)) h end = absurd h
+  bound-refused run full (fault.Refused (refusal.Circular paths)) h end = absurd h
+  bound-refused run full (fault.Refused (refusal.Limit w)) h end = absurd h
+  bound-refused run full (fault.Refused refusal.Budget) h end = absurd h
+  bound-refused run full (fault.Refused refusal.Depth) h end = absurd h
+  bound-refused run full (fault.Refused refusal.Sends) h end = absurd h
+  bound-refused run full fault.Memory h end = tt
+
+  pub may-does : (told : Result (Unit {0}) WorkFault) → MayBeSet loaded.form.tables.instances forest n told → Does told (standing_of loaded forest table flags controls tally) (asked (λ t. Ok t))
+  may-does (Ok x) h = ap (λ b. unless_parent b n (λ t. Ok t) now) h.childless
+  may-does (Err (fault.Refused why)) h = bound-refused (λ t. Ok t) h.0 (fault.Refused why) h.1 (standing_of loaded forest table flags controls tally)
+  may-does (Err fault.Memory) h = tt

@@ -3,7 +3,8 @@ use Rattle.std.specs.Prelude.{ℕ, ◌≡◌, ◌++◌, List, map, length, get_o
 use Rattle.xf_doc.specs.Forest.{Forest}
 use Rattle.xf_binds.specs.Kept.{Kept}
 use Rattle.xf_controls.specs.declared.copy.ControlCopy.{ControlCopy}
-use Rattle.xf_controls.specs.Seen.{seen_copy}
+use Rattle.xf_controls.specs.declared.refresh.Notification.{Notification}
+use Rattle.xf_controls.specs.Seen.{seen_copy, seen_notification}
 use Rattle.xf_form_machine.specs.declared.limit.LimitWord.TheVariants.{Controls}
 use Rattle.xf_form_machine.specs.declared.limit.LimitWord.TheVariants as word
 use Rattle.xf_lang.specs.declared.fault.EvalFault.{EvalFault}
@@ -13,7 +14,7 @@ use Rattle.xf_ui.specs.Notifications.{notifications}
 use Rattle.xf_form_machine.specs.Behave as machine
 use Rattle.xf_form_machine.specs.ControlText.{state_text}
 use Rattle.xf_form_machine.specs.Update as update
-use Rattle.xf_form_machine.specs.Update.{no_refresh}
+use Rattle.xf_form_machine.specs.State.{State}
 use Rattle.xf_form_machine.specs.declared.refusal.Refusal.TheVariants.{Limit}
 use Rattle.xf_loader.specs.declared.loaded.Loaded.{Loaded}
 use Rattle.xf_work.specs.declared.fault.WorkFault.{WorkFault}
@@ -54,29 +55,29 @@ abbrev pub long_or_memory : EvalFault → WorkFault
 long_or_memory eval.Long = Refused (Limit word.Long)
 long_or_memory eval.Memory = Memory
 
--- a refresh of all, of which the answer counts what is told, while what is due stays so
-pub record AreShown (count : ℕ) (before after : Standing) : Type 0 where
+-- the controls are those made afresh, and the answer is what is told of the differences, while what is due stays so
+pub record AreShown (answer : List Notification) (before after : Standing) : Type 0 where
   pub list : List Copy
   pub shown : update.shown profile (state_of before) ≡ Ok list
-  pub told : count ≡ length (notifications before.controls list)
+  pub told : map seen_notification answer ≡ notifications before.controls list
   pub now : after ≡ record before { controls = list }
 
-abbrev pub ShowsOthers : Result ℕ WorkFault → Standing → Standing → Type 0
-ShowsOthers (Ok count) before after = AreShown count before after
+abbrev pub ShowsOthers : Result (List Notification) WorkFault → Standing → Standing → Type 0
+ShowsOthers (Ok answer) before after = AreShown answer before after
 ShowsOthers (Err (Refused refusal)) before after = IsRefused refusal (update.shown profile (state_of before))
 ShowsOthers (Err Memory) before after = Unit {0}
 
--- the controls are those made afresh, no refresh is due, and the answer counts what is told of the differences
-pub record AreRefreshed (count : ℕ) (before after : Standing) : Type 0 where
+-- the same, and flags are cleared: those of a refresh, of one model or of all
+pub record AreRefreshed (cleared : State → State) (answer : List Notification) (before after : Standing) : Type 0 where
   pub list : List Copy
   pub shown : update.shown profile (state_of before) ≡ Ok list
-  pub told : count ≡ length (notifications before.controls list)
-  pub now : after ≡ record before { controls = list; models = map no_refresh before.models }
+  pub told : map seen_notification answer ≡ notifications before.controls list
+  pub now : state_of after ≡ cleared (record (state_of before) { controls = list })
 
-abbrev pub Refreshes : Result ℕ WorkFault → Standing → Standing → Type 0
-Refreshes (Ok count) before after = AreRefreshed count before after
-Refreshes (Err (Refused refusal)) before after = IsRefused refusal (update.shown profile (state_of before))
-Refreshes (Err Memory) before after = Unit {0}
+abbrev pub Refreshes : (State → State) → Result (List Notification) WorkFault → Standing → Standing → Type 0
+Refreshes cleared (Ok answer) before after = AreRefreshed cleared answer before after
+Refreshes cleared (Err (Refused refusal)) before after = IsRefused refusal (update.shown profile (state_of before))
+Refreshes cleared (Err Memory) before after = Unit {0}
 
 -- copies have the values of their nodes, unless a string is too long
 abbrev pub Renews : {X : Type 0} → Result X WorkFault → Option (List ControlCopy) → List ControlCopy → Type 0

@@ -2,7 +2,7 @@
 use Rattle.std.specs.Prelude.{Bool, true, false}
 use Rattle.xf_form_machine.specs.State as machine
 use Rattle.xf_work.specs.declared.flags.Flag.{Flag}
-use Rattle.xf_work.specs.declared.flags.Flag.TheVariants.{Rebuild, Recalculate, Revalidate}
+use Rattle.xf_work.specs.declared.flags.Flag.TheVariants.{Rebuild, Recalculate, Revalidate, Refresh}
 use Rattle.xf_work.specs.declared.flags.Flags.{Flags}
 
 abbrev pub flags_of : Flags → machine.Flags
@@ -12,6 +12,7 @@ abbrev pub flag_of : Flag → machine.Flags → Bool
 flag_of Rebuild f = f.rebuild
 flag_of Recalculate f = f.recalculate
 flag_of Revalidate f = f.revalidate
+flag_of Refresh f = f.refresh
 
 abbrev pub none_due : Flags
 none_due = record { rebuild = false; recalculate = false; revalidate = false; refresh = false }
@@ -20,6 +21,10 @@ abbrev pub without : Flag → Flags → Flags
 without Rebuild f = record f { rebuild = false }
 without Recalculate f = record f { recalculate = false }
 without Revalidate f = record f { revalidate = false }
+without Refresh f = record f { refresh = false }
+
+abbrev pub with_refresh : Bool → Flags → Flags
+with_refresh due f = record f { refresh = due }
 
 abbrev pub without_refresh : Flags → Flags
 without_refresh f = record f { refresh = false }

@@ -1,5 +1,7 @@
 -- What is known of the nodes that controls bind: it is so over all data of the shape that was planted, which changes of texts leave as it is.
-use Rattle.std.specs.Prelude.{ℕ, ◌≡◌, true, List, [], Some, Result, Ok, Err}
+use Rattle.std.specs.Prelude.{ℕ, ◌≡◌, true, List, [], Some, None, Result, Ok, Err}
+use Rattle.xf_doc.specs.declared.content.Node.{Node}
+use Rattle.xf_doc.specs.Changes.{root_of}
 use Rattle.xf_doc.specs.Forest.{Forest}
 use Rattle.xf_doc.specs.Shape.{shape_of}
 use Rattle.xf_doc.specs.declared.node.NodeId.{NodeId}
@@ -34,6 +36,12 @@ around_over l forest = around_in (given_in l.form.tables.instances l.prefixes l.
 abbrev pub AreSolid : List Visit → List Known → Type 0
 AreSolid all known = (n : ℕ) (k : NodeId) → known_at known n ≡ Some (Some k) → IsSolid all k.number
 
+-- the last place among roots that 32 bits number
+abbrev pub last_place : ℕ
+last_place = 4294967295
+
 pub record IsHeld (l : Loaded) (known : List Known) : Type 0 where
+  -- no root stands there
+  pub few : (nodes : List Node) → shape_of nodes ≡ planted_shape l → root_of last_place nodes ≡ None
   pub over : (forest : Forest) → HasTrees forest → are_hung forest.nodes ≡ true → shape_of forest.nodes ≡ planted_shape l → AreKnown (interface_of l.form) (around_over l forest) forest.nodes known
   pub solid : (forest : Forest) → HasTrees forest → are_hung forest.nodes ≡ true → shape_of forest.nodes ≡ planted_shape l → AreSolid (visits forest.nodes) known

@@ -1,14 +1,17 @@
 //! The behaviours of models (XForms 1.1, sections 4.3.1 to 4.3.4).
 
-ghost use Rattle.std.specs.Prelude.{◌≡◌, ◌≤◌, ◌<◌, length, option_map, Ok};
+ghost use Rattle.std.specs.Prelude.{◌≡◌, ◌≤◌, ◌<◌, length, Ok};
+ghost use Rattle.xf_doc.specs.Shape.{has_elements};
 ghost use Rattle.xf_form_machine.specs.Behave as machine;
-ghost use Rattle.xf_form_machine.specs.Step.{set_bound as bound_set};
+ghost use Rattle.xf_form_machine.specs.Primitives.{in_model, refresh_due, set_text as text_set};
+ghost use Rattle.xf_form_machine.specs.SetValue.{unless_parent};
+ghost use Rattle.xf_form_machine.specs.Surround.{all_in};
 ghost use Rattle.xf_processor.specs.Formed.{profile};
 ghost use Rattle.xf_work.specs.Does.{Does, built_after};
 ghost use Rattle.xf_work.specs.Standing.{state_of};
 
 use crate::fault::WorkFault;
-use crate::flags::{Flag, clear};
+use crate::flags::{Flag, clear, set_refresh};
 use crate::growing::grown;
 use crate::knowing::{known_still, marks_for};
 use crate::rebuilding::rebuild;
@@ -96,19 +99,36 @@ impl Work {
         Ok(())
     }
 
-    /// Sets the text of a node that a control binds, if it binds one.
-    pub fn set_bound(&mut self, text: &str, node: Option<NodeId>) -> Result<(), WorkFault>
-        ensures done { Does result self.new.now (bound_set profile text.now (option_map (λ n. n.number) node) (state_of self.old.now)) }
+    /// The refresh of a model is due: of one that is not there none is. Takes no memory.
+    pub fn flag_refresh(&mut self, model: u32)
+        ensures now { state_of self.new.now ≡ in_model refresh_due model (state_of self.old.now) }
+        ensures kept { self.new.kept ≡ self.old.kept }
+        ensures built { self.new.built ≡ self.old.built }
+    {
+        set_refresh(self.flags.as_mut_slice(), model, true);
+    }
+
+    /// Refuses where the node has element children: such an element has no text of its own.
+    pub fn may_set(&self, node: NodeId) -> Result<(), WorkFault>
+        ensures { Does result self.now.now (unless_parent (has_elements (all_in (state_of self.now.now)) node.number) node.number (λ s. Ok s) (state_of self.now.now)) }
+    {
+        let instances = self.loaded.form.tables.instances.as_slice();
+        may_set(self.alloc, instances, self.draft.forest(), node)
+    }
+
+    /// Sets the text of a node of which it was asked before whether it may be set.
+    pub fn set_text(&mut self, node: NodeId, text: &str) -> Result<(), WorkFault>
+        ensures done { Does result self.new.now (text_set profile node.number text.now (state_of self.old.now)) }
         ensures kept { self.new.kept ≡ self.old.kept }
         ensures built { self.new.built ≡ self.old.built }
         ensures models { length self.new.now.models ≡ length self.old.now.models }
     {
-        let Some(node) = node else {
-            return Ok(());
-        };
         let instances = self.loaded.form.tables.instances.as_slice();
         let forest = self.draft.forest();
-        may_set(self.alloc, instances, forest, node)?;
+        if !forest.may_set_text(node) {
+            // A node that may not be set is not set: it was asked before, and stands until the event ends.
+            return Err(WorkFault::Memory);
+        }
         let holder = holder(instances, forest, node)?;
         let is_other = is_other(forest, node, text)?;
         forest.are_trees();

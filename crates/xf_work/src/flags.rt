@@ -4,7 +4,7 @@ ghost use Rattle.std.specs.Prelude.{◌≡◌, ◌<◌, map, length, get_or, sli
 ghost use Rattle.std.specs.List.{list_any};
 ghost use Rattle.xf_form_machine.specs.Behave.{no_flags};
 ghost use Rattle.xf_form_machine.specs.Update.{has_flag};
-ghost use Rattle.xf_work.specs.Flags.{flag_of, flags_of, none_due, without, without_refresh, with_texts};
+ghost use Rattle.xf_work.specs.Flags.{flag_of, flags_of, none_due, without, without_refresh, with_refresh, with_texts};
 
 /// A behaviour of a model that may be due alone.
 #[derive(Clone, Copy, Debug, PartialEq, Eq)]
@@ -12,6 +12,7 @@ pub enum Flag {
     Rebuild,
     Recalculate,
     Revalidate,
+    Refresh,
 }
 
 /// Which behaviours of a model are due.
@@ -50,6 +51,7 @@ impl Flags {
             Flag::Rebuild => self.rebuild,
             Flag::Recalculate => self.recalculate,
             Flag::Revalidate => self.revalidate,
+            Flag::Refresh => self.refresh,
         }
     }
 
@@ -76,6 +78,19 @@ impl Flags {
                 revalidate: false,
                 refresh: self.refresh,
             },
+            Flag::Refresh => self.with_refresh(false),
+        }
+    }
+
+    /// The refresh is due, or is due no more.
+    pub(crate) fn with_refresh(self, due: bool) -> Self
+        ensures { result ≡ with_refresh due self }
+    {
+        Flags {
+            rebuild: self.rebuild,
+            recalculate: self.recalculate,
+            revalidate: self.revalidate,
+            refresh: due,
         }
     }
 
@@ -122,6 +137,16 @@ pub(crate) fn is_refresh_due(flags: &[Flags]) -> bool
     ensures { result ≡ list_any (λ f. f.refresh) flags.now }
 {
     flags.iter().any(|flags| flags.refresh)
+}
+
+/// The refresh of a model is due, or is due no more: of one that is not there none is.
+pub(crate) fn set_refresh(flags: &mut [Flags], model: u32, due: bool)
+    ensures { flags.new ≡ slice_set flags.old model (with_refresh due (get_or flags.old model none_due)) }
+{
+    let at = model as usize;
+    if at < flags.len() {
+        flags[at] = flags[at].with_refresh(due);
+    }
 }
 
 /// No refresh is due any more.

@@ -14,7 +14,7 @@ use xf_eval::EvalFault;
 use xf_loader::Loaded;
 use xf_tree::Forest;
 
-/// The nodes of the controls of a form over the data that were planted. Where a string of these is too long, nothing is known.
+/// The nodes of the controls of a form over the data that were planted. Where a string of these is too long, nothing is known of them.
 pub(crate) fn held(alloc: Global, loaded: &Loaded, forest: &Forest) -> Result<KnownList, AllocError>
     requires loaded { IsLoaded loaded.now }
     requires hung { are_hung forest.now.forest.nodes ≡ true }
@@ -30,6 +30,10 @@ pub(crate) fn held(alloc: Global, loaded: &Loaded, forest: &Forest) -> Result<Kn
         documents: documents.as_slice(),
     };
     forest.are_trees();
+    if forest.root(u32::MAX).is_some() {
+        // No memory holds so many roots.
+        return Err(AllocError);
+    }
     match known_nodes(alloc, &loaded.form, forest, &around) {
         Ok(known) => Ok(known),
         Err(EvalFault::Long) => Ok(Items::new(alloc)),

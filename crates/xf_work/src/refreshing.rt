@@ -1,9 +1,9 @@
 //! The refresh (XForms 1.1, section 4.3.4).
 
-ghost use Rattle.std.specs.Prelude.{◌≡◌, map, true, length, IfOk, Ok};
+ghost use Rattle.std.specs.Prelude.{◌≡◌, map, true, IfOk, Ok};
 ghost use Rattle.xf_controls.specs.Renewed.{AreThere, renewed};
 ghost use Rattle.xf_controls.specs.Rising.{is_rising};
-ghost use Rattle.xf_controls.specs.Seen.{seen_copy};
+ghost use Rattle.xf_controls.specs.Seen.{seen_copy, seen_notification};
 ghost use Rattle.xf_ui.specs.Notifications.{notifications};
 ghost use Rattle.xf_form_machine.specs.Construct.{first_shown};
 ghost use Rattle.xf_form_machine.specs.Update as update;
@@ -13,10 +13,11 @@ ghost use Rattle.xf_work.specs.Does.{Does, Finds};
 ghost use Rattle.xf_work.specs.Standing.{state_of};
 
 use crate::fault::WorkFault;
-use crate::flags::clear_refresh;
+use crate::flags::{clear_refresh, set_refresh};
 use crate::showing::{shown, told};
 use crate::work::Work;
-use xf_controls::{ControlList, Shown, notifications};
+use std::alloc::Global;
+use xf_controls::{ControlList, NotificationList, Shown, notifications};
 use xf_tree::Forest;
 
 impl Work {
@@ -31,10 +32,32 @@ impl Work {
         Ok(())
     }
 
-    /// Makes the controls afresh, and no refresh is due any more. The answer is how many differences are told. Where texts alone have changed since
-    /// the last refresh, the values of the nodes of copies are looked at alone.
-    pub fn refresh(&mut self) -> Result<usize, WorkFault>
-        ensures done { Refreshes result self.old.now self.new.now }
+    /// Makes the controls afresh, and no refresh is due any more. The answer is what is told of the differences.
+    pub fn refresh(&mut self) -> Result<NotificationList, WorkFault>
+        ensures done { Refreshes update.all_cleared result self.old.now self.new.now }
+        ensures kept { self.new.kept ≡ self.old.kept }
+        ensures built { self.new.built ≡ self.old.built }
+    {
+        let told = self.show_again()?;
+        clear_refresh(self.flags.as_mut_slice());
+        Ok(told)
+    }
+
+    /// The same, while the refresh of this model alone is due no more: that of one that is not there is not due.
+    pub fn refresh_model(&mut self, model: u32) -> Result<NotificationList, WorkFault>
+        ensures done { Refreshes (update.refresh_cleared model) result self.old.now self.new.now }
+        ensures kept { self.new.kept ≡ self.old.kept }
+        ensures built { self.new.built ≡ self.old.built }
+    {
+        let told = self.show_again()?;
+        set_refresh(self.flags.as_mut_slice(), model, false);
+        Ok(told)
+    }
+
+    /// Makes the controls afresh, while what is due stays so. Where texts alone have changed since the last refresh, the values of the nodes of
+    /// copies are looked at alone.
+    fn show_again(&mut self) -> Result<NotificationList, WorkFault>
+        ensures done { ShowsOthers result self.old.now self.new.now }
         ensures kept { self.new.kept ≡ self.old.kept }
         ensures built { self.new.built ≡ self.old.built }
     {
@@ -42,18 +65,15 @@ impl Work {
             self.is_steady = false;
             let forest = self.draft.forest();
             forest.are_trees();
-            let count = renew(forest, &mut self.shown)?;
+            let told = renew(self.alloc, forest, &mut self.shown)?;
             self.is_steady = true;
-            clear_refresh(self.flags.as_mut_slice());
-            return Ok(count);
+            return Ok(told);
         }
-        let count = self.show_others()?;
-        clear_refresh(self.flags.as_mut_slice());
-        Ok(count)
+        self.show_others()
     }
 
-    /// The same of any controls, while what is due stays so.
-    fn show_others(&mut self) -> Result<usize, WorkFault>
+    /// The same of any controls.
+    fn show_others(&mut self) -> Result<NotificationList, WorkFault>
         ensures done { ShowsOthers result self.old.now self.new.now }
         ensures kept { self.new.kept ≡ self.old.kept }
         ensures built { self.new.built ≡ self.old.built }
@@ -61,7 +81,7 @@ impl Work {
         let list = self.made_afresh()?;
         let told = notifications(self.alloc, self.shown.list(), &list)?;
         self.take_controls(list);
-        Ok(told.len())
+        Ok(told)
     }
 
     /// The controls made afresh.
@@ -90,16 +110,16 @@ impl Work {
     }
 }
 
-/// Gives each copy the value that its node has now. The answer is how many differences are told.
-fn renew(forest: &Forest, shown: &mut Shown) -> Result<usize, WorkFault>
+/// Gives each copy the value that its node has now. The answer is what is told of the differences.
+fn renew(alloc: Global, forest: &Forest, shown: &mut Shown) -> Result<NotificationList, WorkFault>
     requires there { AreThere shown.old.now forest.now.forest.nodes }
     requires rising { is_rising shown.old.now ≡ true }
     ensures done { Renews result (renewed forest.now.forest.nodes shown.old.now) shown.new.now }
-    ensures told { IfOk result (λ count. count ≡ length (notifications (map seen_copy shown.old.now) (map seen_copy shown.new.now))) }
+    ensures told { IfOk result (λ all. map seen_notification all ≡ notifications (map seen_copy shown.old.now) (map seen_copy shown.new.now)) }
     ensures kept { shown.new.kept ≡ shown.old.kept }
 {
-    match shown.renew(forest) {
-        Ok(count) => Ok(count),
+    match shown.renew(alloc, forest) {
+        Ok(all) => Ok(all),
         Err(fault) => Err(told(fault)),
     }
 }

@@ -1,18 +1,22 @@
 //! What an engine works on, and what is read of it.
 
-ghost use Rattle.std.specs.Prelude.{◌≡◌, ◌<◌, ◌++◌, [], true, map, find, length, option_map, string_bytes, OnOk};
+ghost use Rattle.std.specs.Prelude.{◌≡◌, ◌<◌, ◌++◌, [], None, true, map, find, length, option_map, string_bytes, IfErr, OnOk};
 ghost use Rattle.xf_controls.specs.Plain.{is_plain};
 ghost use Rattle.xf_controls.specs.Seen.{is_copy_at, seen_copy};
+ghost use Rattle.xf_doc.specs.Changes.{root_of};
 ghost use Rattle.xf_form_machine.specs.Behave.{model_at};
 ghost use Rattle.xf_form_machine.specs.ControlText.{state_text};
 ghost use Rattle.xf_form_machine.specs.Primitives.{spend as spent};
 ghost use Rattle.xf_form_machine.specs.Surround.{interface};
 ghost use Rattle.xf_form_machine.specs.Update as update;
-ghost use Rattle.xf_form_machine.specs.Update.{no_refresh};
-ghost use Rattle.xf_machine_laws.specs.Quiet.{Quiet};
-ghost use Rattle.xf_processor.specs.Formed.{profile};
+ghost use Rattle.xf_form_machine.specs.Properties.{readonly_in};
+ghost use Rattle.xf_machine_laws.specs.Rowless.{IsWithoutRows};
+ghost use Rattle.xf_processor.specs.Formed.{documents_in, profile, program_in};
+ghost use Rattle.xf_form_machine.specs.declared.refusal.Refusal.TheVariants.{Budget};
+ghost use Rattle.xf_work.specs.declared.fault.WorkFault.TheVariants.{Refused};
 ghost use Rattle.xf_work.specs.Does.{Does};
 ghost use Rattle.xf_work.specs.Flags.{flag_of};
+ghost use Rattle.xf_work.specs.Held.{last_place};
 ghost use Rattle.xf_work.specs.Standing.{state_of};
 
 use crate::fault::WorkFault;
@@ -24,9 +28,13 @@ use std::marker::Model;
 use xf_ast::Form;
 use xf_binds::Table;
 use xf_controls::{ControlCopy, KnownList, Shown, control_of};
+use xf_doc::NodeId;
 use xf_form_machine::Refusal;
+use xf_loaded_laws::loaded_forms_are_without_rows;
 use xf_loader::Loaded;
+use xf_tree::Forest;
 use xf_undo::Draft;
+use xf_valid::marks_at;
 
 /// What an engine works on. Contracts see the states at the end of the last event and as it stands, and how many models are built.
 #[derive(Drop)]
@@ -86,6 +94,23 @@ impl Work {
         self.flags.len() as u32
     }
 
+    /// The form with what was read beside it.
+    pub fn loaded(&self) -> &Loaded
+        ensures form { result.now.form ≡ self.now.now.form }
+        ensures prefixes { result.now.prefixes ≡ self.now.now.prefixes }
+        ensures documents { documents_in result.now ≡ self.now.now.documents }
+        ensures program { program_in result.now ≡ (state_of self.now.now).form }
+    {
+        &self.loaded
+    }
+
+    /// The data.
+    pub fn forest(&self) -> &Forest
+        ensures { result.now.forest ≡ self.now.now.forest }
+    {
+        self.draft.forest()
+    }
+
     /// The form.
     pub fn form(&self) -> &Form
         ensures { result.now ≡ self.now.now.form }
@@ -107,16 +132,39 @@ impl Work {
         let _ = &self.loaded;
     }
 
-    /// No element of the form hears events, and nothing of it comes in rows. This tells contracts so, and does nothing.
-    pub fn quiet(&self)
-        ensures { Quiet (state_of self.now.now) }
+    /// No root of the data stands where 32 bits do not number its place. This tells contracts so, and does nothing.
+    pub fn few_roots(&self)
+        ensures { root_of last_place self.now.now.forest.nodes ≡ None }
     {
         let _ = &self.loaded;
     }
 
-    /// Spends a turn.
+    /// Nothing of the form comes in rows or cases. This tells contracts so, and does nothing.
+    pub fn without_rows(&self)
+        ensures { IsWithoutRows (interface (state_of self.now.now)) }
+    {
+        loaded_forms_are_without_rows();
+        let _ = &self.loaded;
+    }
+
+    /// How many models are built: those whose numbers are below this one.
+    pub fn built(&self) -> u64
+        ensures { result ≡ self.now.built }
+    {
+        self.built
+    }
+
+    /// What is kept is of the form that stands. This tells contracts so, and does nothing.
+    pub fn same_form(&self)
+        ensures { (state_of self.now.kept.standing).form ≡ (state_of self.now.now).form }
+    {
+        let _ = &self.loaded;
+    }
+
+    /// Spends a turn. It is refused where none is left, and for nothing else.
     pub fn spend(&mut self) -> Result<(), WorkFault>
         ensures done { Does result self.new.now (spent (state_of self.old.now)) }
+        ensures cause { IfErr result (λ fault. fault ≡ Refused Budget) }
         ensures kept { self.new.kept ≡ self.old.kept }
         ensures built { self.new.built ≡ self.old.built }
     {
@@ -149,6 +197,13 @@ impl Work {
         ensures { result ≡ flag_of flag (model_at (state_of self.now.now) model).flags }
     {
         self.flags[model as usize].has(flag)
+    }
+
+    /// Whether a node is readonly. One that does not stand in the data has nothing above it.
+    pub fn is_readonly(&self, node: NodeId) -> bool
+        ensures { result ≡ readonly_in (state_of self.now.now) node.number }
+    {
+        marks_at(self.draft.forest(), &self.table, node).readonly
     }
 
     /// The copy of an element that stands in no row.

@@ -1,4 +1,4 @@
-use Rattle.std.proofs.Common.{◌≡◌, not, Some, List, ℕ, [], ◌∷◌, ◌++◌, get_or, option_map, sym, ap, ◌∙◌, subst}
+use Rattle.std.proofs.Common.{◌≡◌, not, Some, [], ◌∷◌, ◌++◌, get_or, option_map, sym, ap, ◌∙◌, subst}
 use Rattle.std.proofs.lemmas.Result.{err_from_is_err_and}
 use Rattle.xf_lang.specs.declared.fault.EvalFault.TheVariants.{Long, Memory}
 use Rattle.xf_eval.proofs.Bounded.{part-long}

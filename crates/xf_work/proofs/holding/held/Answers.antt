@@ -1,4 +1,4 @@
-use Rattle.std.proofs.Common.{ap, ◌∙◌, subst}
+use Rattle.std.proofs.Common.{sym, ap, ◌∙◌, subst}
 use Rattle.xf_doc.proofs.TextLaws.{in_forest}
 use Rattle.xf_ui.specs.Interface.{interface_of}
 use Rattle.xf_controls.specs.Known.{AreHeld}
@@ -6,7 +6,7 @@ use Rattle.xf_controls.specs.Surrounded.{around_in}
 use Rattle.xf_work.specs.Around.{numbers_of}
 use Rattle.xf_work.proofs.AroundLaws.{around-stands}
 use Rattle.xf_work.proofs.FoundLaws.{given-found}
-use Rattle.xf_work.proofs.HeldLaws.{held-nothing, held-over}
+use Rattle.xf_work.proofs.HeldLaws.{held-nothing, held-over, none-there}
 use Rattle.xf_work.proofs.holding.held.Goals as goal
 
 pub known_nodes-requires-clause-around : goal.known_nodes-requires-clause-around
@@ -17,10 +17,10 @@ pub returns-in-Ok : goal.returns-in-Ok
 returns-in-Ok c =
     let l = c.args.loaded.now in
     let forest = c.args.forest.now.forest in
-    held-over l forest c.in-Ok.known (in_forest c.are_trees.ensures) c.requires.hung c.requires.shape
+    held-over l forest c.in-Ok.known (in_forest c.are_trees.ensures) c.requires.hung c.requires.shape (none-there c.root.result _ c.root.ensures (sym c.is_some.ensures ∙ c.if-is_some.false))
     (subst (λ g. AreHeld (interface_of l.form) (around_in g l.form.tables forest.nodes) c.in-Ok.known)
     (given-found l.form.tables.instances c.as_slice-instances.result.now l.prefixes l.form.decimals forest (numbers_of c.as_slice.result.now) c.as_slice-instances.ensures
     (ap numbers_of c.as_slice.ensures.value ∙ c.in_ok-documents.ensures.all)) c.in-Ok.ensures)
 
 pub returns-in-Err-Long : goal.returns-in-Err-Long
-returns-in-Err-Long c = held-nothing c.args.loaded.now c.new.result c.new.ensures
+returns-in-Err-Long c = held-nothing c.args.loaded.now c.args.forest.now.forest c.new.result c.requires.shape (none-there c.root.result _ c.root.ensures (sym c.is_some.ensures ∙ c.if-is_some.false)) c.new.ensures

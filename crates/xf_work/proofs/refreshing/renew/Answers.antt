@@ -1,4 +1,5 @@
-use Rattle.std.proofs.Common.{ℕ, Err, sym, subst}
+use Rattle.std.proofs.Common.{List, Err, sym, subst}
+use Rattle.xf_controls.specs.declared.refresh.Notification.{Notification}
 use Rattle.xf_controls.specs.Renewed.{renewed}
 use Rattle.xf_work.specs.Calls.{Renews}
 use Rattle.xf_work.proofs.RefreshLaws.{told-renews}
@@ -7,4 +8,4 @@ use Rattle.xf_work.proofs.refreshing.renew.Goals as goal
 pub returns-in-Err-clause-done : goal.returns-in-Err-clause-done
 returns-in-Err-clause-done c =
     let given = renewed c.args.forest.now.forest.nodes c.args.shown.now.now in
-    subst (λ e. Renews {X = ℕ} (Err e) given c.renew.new.self.now) (sym c.told.ensures) (told-renews c.in-Err.fault given c.renew.new.self.now c.in-Err.ensures.list)
+    subst (λ e. Renews {X = List Notification} (Err e) given c.renew.new.self.now) (sym c.told.ensures) (told-renews c.in-Err.fault given c.renew.new.self.now c.in-Err.ensures.list)

@@ -1,11 +1,9 @@
-use Rattle.std.proofs.Common.{◌≡◌, ◌+◌, ◌^◌, nat_lt, length, Some, Ok, Err, sym, ap, ◌∙◌, subst, inl, inr}
+use Rattle.std.proofs.Common.{◌≡◌, ◌+◌, ◌^◌, nat_lt, length, Ok, Err, sym, ap, ◌∙◌, subst, inl, inr}
 use Rattle.std.proofs.lemmas.List.{with_items_is}
 use Rattle.std.proofs.lemmas.Result.{err_from_is_err_and}
-use Rattle.std.specs.Prelude.{option_map}
 use Rattle.std.specs.Vec.{with_items}
 use Rattle.std.specs.Bool.{OnTrue}
 use Rattle.xf_doc.specs.declared.content.Kind.TheVariants.{Attribute, Element}
-use Rattle.xf_doc.specs.declared.node.NodeId.{NodeId}
 use Rattle.xf_doc.specs.Forest.{Forest}
 use Rattle.xf_doc.specs.Needs.{IsSettable}
 use Rattle.xf_doc.specs.Settle.{has_text}
@@ -14,7 +12,7 @@ use Rattle.xf_doc.specs.Visit.{visits}
 use Rattle.xf_doc.specs.WellFormed.{HasTrees}
 use Rattle.xf_doc.proofs.TextLaws.{in_forest}
 use Rattle.xf_tree.proofs.ValueLemmas.{kind-live}
-use Rattle.xf_form_machine.specs.Step.{set_bound as bound_set}
+use Rattle.xf_form_machine.specs.Primitives.{set_text as text_set}
 use Rattle.xf_binds.specs.Table.{all_rolled_back}
 use Rattle.xf_undo.specs.Draft.{Draft}
 use Rattle.xf_processor.specs.Formed.{profile}
@@ -22,21 +20,25 @@ use Rattle.xf_work.specs.Does.{Does, Twin}
 use Rattle.xf_work.specs.Grown.{with_more}
 use Rattle.xf_work.specs.Known.{Knows}
 use Rattle.xf_work.specs.Parts.{IsSound, standing_of}
-use Rattle.xf_work.specs.Setting.{MayBeSet, due, holder_of, is_other, marked}
+use Rattle.xf_work.specs.Setting.{due, holder_of, is_other, marked}
 use Rattle.xf_work.specs.Standing.{state_of}
 use Rattle.xf_work.specs.Steady.{AreSteady}
 use Rattle.xf_work.proofs.SetKnown.{knows-text}
 use Rattle.xf_work.proofs.MarkedLaws.{due-length, marked-back, marked-length, sound-marked, text-whole}
 use Rattle.xf_work.proofs.Models.{models-length}
-use Rattle.xf_work.proofs.SetLaws.{grown-refused, limit-refused, may-refused, set-done}
+use Rattle.xf_work.proofs.SetLaws.{grown-refused, limit-refused, set-done}
 use Rattle.xf_work.proofs.SoundLaws.{sound-draft}
 use Rattle.xf_work.proofs.SteadyLaws.{marked-steady}
-use Rattle.xf_work.proofs.work.Work.set_bound.Goals.{After-are_trees-2, In_ok-may_set}
-use Rattle.xf_work.proofs.work.Work.set_bound.Goals as goal
+use Rattle.xf_work.proofs.work.Work.set_text.Goals.{After-are_trees-2, Else-not-may_set_text}
+use Rattle.xf_work.proofs.work.Work.set_text.Goals as goal
 
--- the node may be set, over the draft as it stood
-settable : (c : In_ok-may_set) → IsSettable c.in-Some.node.number c.self.inside.draft.now
-settable c = subst (IsSettable c.in-Some.node.number) c.forest-forest.ensures c.in_ok-may_set.ensures
+-- the node may be set
+able : (c : Else-not-may_set_text) → IsSettable c.args.node.number c.forest-forest.result.now.forest
+able c = c.may_set_text.ensures.0 c.if-not-may_set_text.false
+
+-- over the draft as it stood
+settable : (c : Else-not-may_set_text) → IsSettable c.args.node.number c.self.inside.draft.now
+settable c = subst (IsSettable c.args.node.number) c.forest-forest.ensures (able c)
 
 -- the text stands, and the draft was sound before
 sound : (c : After-are_trees-2) → IsSound c.self.inside.loaded c.set_text.new.draft c.self.inside.table c.self.inside.flags.items c.self.inside.old_flags.items c.self.inside.built c.self.inside.old_built
@@ -47,44 +49,30 @@ sound c =
     let before : HasTrees w.draft.now = subst HasTrees c.forest-forest.ensures (in_forest c.are_trees.ensures) in
     let after : HasTrees d.now = subst HasTrees c.forest.ensures (in_forest c.are_trees-2.ensures) in
     sound-draft w.loaded w.draft w.table w.flags.items w.old_flags.items w.built w.old_built c.self.invariant.sound d
-    (text-whole w.loaded w.draft d c.in-Some.node.number c.args.text.now before after (settable (goal.at.After-are_trees-2 c).In_ok-may_set) is)
+    (text-whole w.loaded w.draft d c.args.node.number c.args.text.now before after (settable (goal.at.After-are_trees-2 c).Else-not-may_set_text) is)
     (ap (λ (x : Draft). x.kept) is)
-
-pub returns-in_err-may_set-clause-done : goal.returns-in_err-may_set-clause-done
-returns-in_err-may_set-clause-done c =
-    let w = c.self.inside in
-    let n = c.in-Some.node.number in
-    let told = c.in_err-may_set.field-0.0 in
-    let here = subst (λ f. MayBeSet {X = Unit {0}} w.loaded.form.tables.instances f n (Err told)) c.forest-forest.ensures
-    (subst (λ is. MayBeSet {X = Unit {0}} is c.forest-forest.result.now.forest n (Err told)) c.as_slice-instances.ensures c.in_err-may_set.ensures) in
-    let p = err_from_is_err_and c.from_residual.result c.from_residual.ensures.1 in
-    rw (p.1, p.2) (subst (λ o. Does {X = Unit {0}} (Err told) c.args.self.now.now (bound_set profile c.args.text.now (option_map (λ (m : NodeId). m.number) o) (state_of c.args.self.now.now))) (sym c.in-Some.is)
-    (subst (λ (t : Twin). Does {X = Unit {0}} (Err told) c.args.self.now.now (bound_set profile c.args.text.now (Some n) (state_of t.now))) c.self.view_is
-    (may-refused w.loaded w.draft.now w.table w.flags.items w.shown.now w.tally c.self.invariant.sound.many c.args.text.now n told here c.args.self.now.now)))
 
 pub holder-requires : goal.holder-requires
 holder-requires c =
-    let n = c.in-Some.node.number in
+    let n = c.args.node.number in
     let nodes = c.forest-forest.result.now.forest.nodes in
-    elim c.in_ok-may_set.ensures.kind [ inl h ↦ kind-live n Attribute nodes h | inr h ↦ kind-live n Element nodes h ]
+    elim (able (goal.at.holder-requires c).Else-not-may_set_text).kind [ inl h ↦ kind-live n Attribute nodes h | inr h ↦ kind-live n Element nodes h ]
 
 pub is_other-requires : goal.is_other-requires
 is_other-requires c =
-    let n = c.in-Some.node.number in
+    let n = c.args.node.number in
     let nodes = c.forest-forest.result.now.forest.nodes in
-    elim c.in_ok-may_set.ensures.kind [ inl h ↦ kind-live n Attribute nodes h | inr h ↦ kind-live n Element nodes h ]
+    elim (able (goal.at.is_other-requires c).Else-not-may_set_text).kind [ inl h ↦ kind-live n Attribute nodes h | inr h ↦ kind-live n Element nodes h ]
 
 pub returns-in_err-made-clause-done : goal.returns-in_err-made-clause-done
 returns-in_err-made-clause-done c =
     let w = c.self.inside in
-    let n = c.in-Some.node.number in
+    let n = c.args.node.number in
     let told = c.in_err-made.field-0.0 in
     let after = standing_of w.loaded c.set_text.new.draft.now w.table w.flags.items w.shown.now w.tally in
-    let able = settable (goal.at.returns-in_err-made-clause-done c).In_ok-may_set in
     let p = err_from_is_err_and c.from_residual-in_err-made.result c.from_residual-in_err-made.ensures.1 in
-    rw (p.1, p.2) (subst (λ o. Does {X = Unit {0}} (Err told) after (bound_set profile c.args.text.now (option_map (λ (m : NodeId). m.number) o) (state_of c.args.self.now.now))) (sym c.in-Some.is)
-    (subst (λ (t : Twin). Does {X = Unit {0}} (Err told) after (bound_set profile c.args.text.now (Some n) (state_of t.now))) c.self.view_is
-    (limit-refused w.loaded w.draft.now w.table w.flags.items w.shown.now w.tally c.self.invariant.sound.many c.args.text.now n able.childless told c.in_err-made.ensures.done after)))
+    rw (p.1, p.2) (subst (λ (t : Twin). Does {X = Unit {0}} (Err told) after (text_set profile n c.args.text.now (state_of t.now))) c.self.view_is
+    (limit-refused w.loaded w.draft.now w.table w.flags.items w.shown.now w.tally c.self.invariant.sound.many c.args.text.now n told c.in_err-made.ensures.done after))
 
 pub invariant_of-self : goal.invariant_of-self
 invariant_of-self c =
@@ -115,15 +103,13 @@ invariant_of-self-in_err-self-inside c =
 pub returns-in_err-self-inside-clause-done : goal.returns-in_err-self-inside-clause-done
 returns-in_err-self-inside-clause-done c =
     let w = c.self.inside in
-    let n = c.in-Some.node.number in
+    let n = c.args.node.number in
     let told = c.in_err-self-inside.field-0.0 in
     let after = standing_of w.loaded c.set_text.new.draft.now w.table w.flags.items w.shown.now w.tally in
-    let able = settable (goal.at.returns-in_err-self-inside-clause-done c).In_ok-may_set in
     let set = c.in_ok-made.ensures.done in
     let p = err_from_is_err_and c.from_residual-in_err-self-inside.result c.from_residual-in_err-self-inside.ensures.1 in
-    rw (p.1, p.2) (subst (λ o. Does {X = Unit {0}} (Err told) after (bound_set profile c.args.text.now (option_map (λ (m : NodeId). m.number) o) (state_of c.args.self.now.now))) (sym c.in-Some.is)
-    (subst (λ (t : Twin). Does {X = Unit {0}} (Err told) after (bound_set profile c.args.text.now (Some n) (state_of t.now))) c.self.view_is
-    (grown-refused w.loaded w.draft.now w.table w.flags.items w.shown.now w.tally c.self.invariant.sound.many c.args.text.now n able.childless set.2 told c.in_ok-made.made set.1 c.in_err-self-inside.ensures after)))
+    rw (p.1, p.2) (subst (λ (t : Twin). Does {X = Unit {0}} (Err told) after (text_set profile n c.args.text.now (state_of t.now))) c.self.view_is
+    (grown-refused w.loaded w.draft.now w.table w.flags.items w.shown.now w.tally c.self.invariant.sound.many c.args.text.now n set.2 told c.in_ok-made.made set.1 c.in_err-self-inside.ensures after))
 
 pub invariant_of-self-in_err-mark : goal.invariant_of-self-in_err-mark
 invariant_of-self-in_err-mark c =
@@ -145,7 +131,7 @@ invariant_of-self-in_err-mark c =
 pub invariant_of-self-2 : goal.invariant_of-self-2
 invariant_of-self-2 c =
     let w = c.self.inside in
-    let n = c.in-Some.node.number in
+    let n = c.args.node.number in
     let holder = c.in_ok-holder.holder in
     let other = c.in_ok-is_other.is_other in
     let marks = c.in_ok-mark.ensures.ok in
@@ -163,7 +149,7 @@ invariant_of-self-2 c =
           (sound-marked w.loaded c.set_text.new.draft w.table w.flags.items w.old_flags.items w.built w.old_built (sound (goal.at.invariant_of-self-2 c).After-are_trees-2) holder other n));
       now = subst (λ t. Knows w.loaded c.set_text.new.draft.now t c.known_still-known.result) (sym marks.marks)
           (subst (λ f. Knows w.loaded f (marked holder other n w.table) c.known_still-known.result) (sym now)
-          (knows-text w.loaded w.draft.now n text before (subst HasTrees now after) c.self.invariant.sound.now.hung c.self.invariant.sound.now.alone (settable (goal.at.invariant_of-self-2 c).In_ok-may_set) c.in_ok-made.ensures.few
+          (knows-text w.loaded w.draft.now n text before (subst HasTrees now after) c.self.invariant.sound.now.hung c.self.invariant.sound.now.alone (settable (goal.at.invariant_of-self-2 c).Else-not-may_set_text) c.in_ok-made.ensures.few
           w.table w.known holder other c.has_text-stood.result c.known_still-known.result (c.has_text-stood.ensures ∙ ap (λ (f : Forest). has_text n text f.nodes) c.forest-forest.ensures) c.known_still-known.ensures c.self.invariant.now));
       before = subst (λ t. Knows w.loaded c.set_text.new.draft.kept (all_rolled_back t) w.old_known) (sym marks.marks)
           (subst (λ t. Knows w.loaded c.set_text.new.draft.kept t w.old_known) (sym (marked-back holder other n w.table))
@@ -177,13 +163,12 @@ invariant_of-self-2 c =
 pub returns-clause-done : goal.returns-clause-done
 returns-clause-done c =
     let w = c.self.inside in
-    let n = c.in-Some.node.number in
+    let n = c.args.node.number in
     let text = c.args.text.now in
     let d = c.set_text.new.draft in
     let holder = c.in_ok-holder.holder in
     let other = c.in_ok-is_other.is_other in
     let marks = c.in_ok-mark.ensures.ok in
-    let able = settable (goal.at.returns-clause-done c).In_ok-may_set in
     let set = c.in_ok-made.ensures.done in
     let flags : c.mark.new.flags ≡ due holder w.flags.items = marks.dues ∙ ap (due holder) c.as_mut_slice.ensures.value in
     let items = with_items_is w.flags c.mark.new.flags (ap length flags ∙ due-length holder w.flags.items ∙ sym w.flags.ok.0) in
@@ -192,9 +177,8 @@ returns-clause-done c =
     let held : holder ≡ holder_of w.loaded.form.tables.instances w.draft.now n =
     c.in_ok-holder.ensures ∙ ap (λ is. holder_of is c.forest-forest.result.now.forest n) c.as_slice-instances.ensures ∙ ap (λ f. holder_of w.loaded.form.tables.instances f n) c.forest-forest.ensures in
     let told : other ≡ is_other (visits w.draft.now.nodes) n text = c.in_ok-is_other.ensures ∙ ap (λ (f : Forest). is_other (visits f.nodes) n text) c.forest-forest.ensures in
-    ap (λ o. bound_set profile text (option_map (λ (m : NodeId). m.number) o) (state_of c.args.self.now.now)) c.in-Some.is
-    ∙ ap (λ (t : Twin). bound_set profile text (Some n) (state_of t.now)) (sym c.self.view_is)
-    ∙ set-done w.loaded w.draft.now w.table w.flags.items w.shown.now w.tally c.self.invariant.sound.many text n able.childless set.2 (ap (λ m. nat_lt (2 ^ 32) (w.tally.made + m)) (sym set.1) ∙ c.in_ok-self-inside.ensures.1)
+    ap (λ (t : Twin). text_set profile n text (state_of t.now)) (sym c.self.view_is)
+    ∙ set-done w.loaded w.draft.now w.table w.flags.items w.shown.now w.tally c.self.invariant.sound.many text n set.2 (ap (λ m. nat_lt (2 ^ 32) (w.tally.made + m)) (sym set.1) ∙ c.in_ok-self-inside.ensures.1)
     ∙ ap (λ h. Ok (state_of (standing_of w.loaded after (marked h (is_other (visits w.draft.now.nodes) n text) n w.table) (due h w.flags.items) w.shown.now (with_more made 0 w.tally)))) (sym held)
     ∙ ap (λ o. Ok (state_of (standing_of w.loaded after (marked holder o n w.table) (due holder w.flags.items) w.shown.now (with_more made 0 w.tally)))) (sym told)
     ∙ ap (λ (x : Draft). Ok (state_of (standing_of w.loaded x.now (marked holder other n w.table) (due holder w.flags.items) w.shown.now (with_more made 0 w.tally)))) (sym set.0)
@@ -205,7 +189,7 @@ returns-clause-done c =
 pub returns-clause-kept : goal.returns-clause-kept
 returns-clause-kept c =
     let w = c.self.inside in
-    let n = c.in-Some.node.number in
+    let n = c.args.node.number in
     let holder = c.in_ok-holder.holder in
     let other = c.in_ok-is_other.is_other in
     let table : all_rolled_back c.mark.new.table ≡ all_rolled_back w.table = ap all_rolled_back c.in_ok-mark.ensures.ok.marks ∙ marked-back holder other n w.table in
@@ -216,7 +200,7 @@ returns-clause-kept c =
 pub returns-clause-models : goal.returns-clause-models
 returns-clause-models c =
     let w = c.self.inside in
-    let n = c.in-Some.node.number in
+    let n = c.args.node.number in
     let holder = c.in_ok-holder.holder in
     let other = c.in_ok-is_other.is_other in
     let marks = c.in_ok-mark.ensures.ok in

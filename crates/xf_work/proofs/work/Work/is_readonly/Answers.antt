@@ -1,0 +1,17 @@
+use Rattle.std.proofs.Common.{sym, ap, ◌∙◌}
+use Rattle.xf_doc.specs.Forest.{Forest}
+use Rattle.xf_form_machine.specs.Properties.{readonly_in}
+use Rattle.xf_ui.specs.declared.marks.Marks.{Marks}
+use Rattle.xf_valid.specs.Nodes.{marks_in}
+use Rattle.xf_work.specs.Does.{Twin}
+use Rattle.xf_work.specs.Standing.{state_of}
+use Rattle.xf_work.proofs.MarkLaws.{marks-at}
+use Rattle.xf_work.proofs.work.Work.is_readonly.Goals as goal
+
+pub returns : goal.returns
+returns c =
+    let w = c.self.inside in
+    let n = c.args.node.number in
+    ap (λ (m : Marks). m.readonly)
+    (c.marks_at.ensures ∙ ap (λ (f : Forest). marks_in w.table f.nodes n) c.forest.ensures ∙ sym (marks-at w.loaded w.draft.now w.table w.flags.items w.shown.now w.tally c.self.invariant.sound.many n))
+    ∙ ap (λ (t : Twin). readonly_in (state_of t.now) n) c.self.view_is
