@@ -1,0 +1,139 @@
+-- What a call on what an engine works on does in the machine, it does with the notes of the event beside it.
+use Rattle.std.proofs.Common.{◌≡◌, ℕ, zero, suc, List, [], ◌∷◌, map, Option, Some, None, Result, Ok, Err, inl, inr, refl, ap, sym, ◌∙◌, subst, arith}
+use Rattle.std.specs.Prelude.{Contains}
+use Rattle.xf_controls.specs.declared.refresh.Notification.{Notification}
+use Rattle.xf_controls.specs.Seen.{seen_notification}
+use Rattle.xf_ui.specs.Copies.{Copy}
+use Rattle.xf_ui.specs.Notifications.{notifications}
+use Rattle.xf_form_machine.specs.declared.limit.LimitWord.{LimitWord}
+use Rattle.xf_form_machine.specs.declared.note.Note.{Note}
+use Rattle.xf_form_machine.specs.declared.refusal.Refusal.{Refusal}
+use Rattle.xf_form_machine.specs.declared.refusal.Refusal.TheVariants.{NoSuchTarget, Disabled, ReadOnly, NotAnItem, BadIndex, PropertyTwice, CalculateOnParent, Binding, Circular, Limit, Budget, Depth, Sends}
+use Rattle.xf_form_machine.specs.Choose.{named_copy}
+use Rattle.xf_form_machine.specs.Events as events
+use Rattle.xf_form_machine.specs.Flow.{Run, ◌>>=◌}
+use Rattle.xf_form_machine.specs.Refusal as machine
+use Rattle.xf_form_machine.specs.Refusal.{Refused}
+use Rattle.xf_form_machine.specs.State.{State}
+use Rattle.xf_form_machine.specs.Surround.{interface}
+use Rattle.xf_form_machine.specs.Told.{told, Tells}
+use Rattle.xf_form_machine.specs.Update as update
+use Rattle.xf_machine_laws.specs.Rowless.{IsWithoutRows, Rowless, HasSteps}
+use Rattle.xf_machine_laws.proofs.RowlessLaws.{reindex-none, state_without_rows}
+use Rattle.xf_beside_laws.specs.Beside.{Beside, beside, besides, made_beside, GoesBeside, TurnsBeside}
+use Rattle.xf_beside_laws.proofs.ChangesGo.{changes_go_beside}
+use Rattle.xf_actions.specs.Performs.{Among, IsTold, RefusedAs, Refuses, Runs, Reads}
+use Rattle.xf_actions.specs.Told.{cleared_by, refreshed}
+use Rattle.xf_processor.specs.Formed.{profile}
+use Rattle.xf_work.specs.declared.fault.WorkFault.{WorkFault}
+use Rattle.xf_work.specs.declared.fault.WorkFault.TheVariants as fault
+use Rattle.xf_work.specs.Calls.{AreRefreshed}
+use Rattle.xf_work.specs.Does.{Does, IsRefused}
+use Rattle.xf_work.specs.Standing.{Standing, state_of}
+use Rattle.xf_world.specs.declared.fault.EventFault.{EventFault}
+use Rattle.xf_world.specs.Fault.{event_of, means}
+
+-- ---- refusals
+
+among : (words : List LimitWord) (word : LimitWord) → Contains words word → Among word words
+among [] word (at, within, there) = absurd (omega (arith, within))
+among (w ∷ words) word (zero, within, there) = inl (sym there)
+among (w ∷ words) word (suc at, within, there) = inr (among words word (at, omega (arith, within), there))
+
+tells-told : (refusal : Refusal) (why : machine.Refusal) → Tells refusal why → IsTold (told refusal) why
+tells-told NoSuchTarget why e = subst (IsTold machine.no_target) (sym e) refl
+tells-told Disabled why e = subst (IsTold machine.disabled) (sym e) refl
+tells-told ReadOnly why e = subst (IsTold machine.readonly) (sym e) refl
+tells-told NotAnItem why e = subst (IsTold machine.not_an_item) (sym e) refl
+tells-told BadIndex why e = subst (IsTold machine.bad_index) (sym e) refl
+tells-told (PropertyTwice path) why e = subst (IsTold (machine.twice path)) (sym e) refl
+tells-told (CalculateOnParent path) why e = subst (IsTold (machine.on_parent path)) (sym e) refl
+tells-told (Binding path) why e = subst (IsTold (machine.binding path)) (sym e) refl
+tells-told (Circular paths) why e = subst (IsTold (machine.circular paths)) (sym e) refl
+tells-told (Limit word) why (words, e, c) = subst (IsTold (machine.limit (word ∷ []))) (sym e) (word, among words word c, refl)
+tells-told Budget why e = subst (IsTold machine.budget) (sym e) refl
+tells-told Depth why e = subst (IsTold machine.depth) (sym e) refl
+tells-told Sends why e = subst (IsTold machine.sends) (sym e) refl
+
+-- the notes of an event, and no calls
+abbrev pub noted : List Note → Beside
+noted notes = record { notes = notes; calls = [] }
+
+refused-beside : (notes : List Note) (refusal : Refusal) (given : Result State Refused) → IsRefused refusal given → RefusedAs (told refusal) [] (besides (noted notes) given)
+refused-beside notes refusal (Ok t) h = h
+refused-beside notes refusal (Err r) h = (tells-told refusal r.why h.0, refl)
+
+-- ---- changes
+
+pub runs-beside : {X : Type 0} (notes : List Note) (run : Run) → GoesBeside run → (before after : Standing) (done : Result X WorkFault) → Does done after (run (state_of before))
+    → Runs means (beside (noted notes) (state_of after)) (event_of done) (run (beside (noted notes) (state_of before)))
+unfolding Refuses
+runs-beside notes run g before after (Ok x) d = g (noted notes) (state_of before) ∙ ap (besides (noted notes)) d
+runs-beside notes run g before after (Err (fault.Refused refusal)) d =
+    subst (RefusedAs (told refusal) []) (sym (g (noted notes) (state_of before))) (refused-beside notes refusal (run (state_of before)) d)
+runs-beside notes run g before after (Err fault.Memory) d = d
+
+-- told as an answer of an event
+pub runs-told : {X : Type 0} (notes : List Note) (run : Run) → GoesBeside run → (before after : Standing) (done : Result X WorkFault) (answer : Result X EventFault)
+    → Does done after (run (state_of before)) → answer ≡ event_of done
+    → Runs means (beside (noted notes) (state_of after)) answer (run (beside (noted notes) (state_of before)))
+runs-told notes run g before after done answer d e =
+    subst (λ r. Runs means (beside (noted notes) (state_of after)) r (run (beside (noted notes) (state_of before)))) (sym e) (runs-beside notes run g before after done d)
+
+runs-read : {X : Type 0} (s : State) (answer : Result X EventFault) (given : Result State Refused) → Runs means s answer given → Reads means (λ (x : X). s) s answer given
+runs-read s (Ok x) given h = h
+runs-read s (Err fault) given h = h
+
+-- of a change that asks alone
+pub reads-told : {X : Type 0} (notes : List Note) (run : Run) → GoesBeside run → (now : Standing) (done : Result X WorkFault) (answer : Result X EventFault)
+    → Does done now (run (state_of now)) → answer ≡ event_of done
+    → Reads means (λ (x : X). beside (noted notes) (state_of now)) (beside (noted notes) (state_of now)) answer (run (beside (noted notes) (state_of now)))
+reads-told notes run g now done answer d e = runs-read (beside (noted notes) (state_of now)) answer _ (runs-told notes run g now now done answer d e)
+
+-- ---- a refresh
+
+steps : HasSteps profile
+steps = record { left = 63; depth = refl; more = 63; passes = refl }
+
+pub rowless : (s : Standing) → IsWithoutRows (interface (state_of s)) → Rowless (state_of s)
+rowless s h = record { form = h; indexes = refl }
+
+-- what an id names has its one copy
+pub one-copy : (s : Standing) (n : ℕ) → IsWithoutRows (interface (state_of s)) → named_copy (state_of s) n ≡ Some []
+one-copy s n h = (state_without_rows profile (state_of s) steps (rowless s h)).copy n
+
+cleared-turns : (model : Option ℕ) → TurnsBeside (cleared_by model)
+cleared-turns None b s = refl
+cleared-turns (Some model) b s = refl
+
+-- what follows the indexes
+abbrev after_indexes : (State → State) → State → Result (List events.Fired × State) Refused
+after_indexes cleared t = update.shown profile t >>= λ list. Ok (map events.told_by (notifications t.controls list), cleared (record t { controls = list }))
+
+refreshed-is : (notes : List Note) (model : Option ℕ) (s : Standing) → IsWithoutRows (interface (state_of s))
+    → refreshed profile (cleared_by model) (beside (noted notes) (state_of s)) ≡ made_beside (noted notes) (after_indexes (cleared_by model) (state_of s))
+refreshed-is notes model s h =
+    (changes_go_beside profile).refreshed (cleared_by model) (cleared-turns model) (noted notes) (state_of s)
+    ∙ ap (λ r. made_beside (noted notes) (r >>= after_indexes (cleared_by model))) (reindex-none profile [] (state_of s) steps (rowless s h))
+
+refused-shown : (notes : List Note) (refusal : Refusal) (cleared : State → State) (s : State) (r : Result (List Copy) Refused) → IsRefused refusal r
+    → RefusedAs (told refusal) [] (made_beside (noted notes) (r >>= λ list. Ok (map events.told_by (notifications s.controls list), cleared (record s { controls = list }))))
+refused-shown notes refusal cleared s (Ok list) h = h
+refused-shown notes refusal cleared s (Err r) h = (tells-told refusal r.why h.0, refl)
+
+pub refresh-refused : (notes : List Note) (model : Option ℕ) (before : Standing) (refusal : Refusal) → IsWithoutRows (interface (state_of before))
+    → IsRefused refusal (update.shown profile (state_of before)) → RefusedAs (told refusal) [] (refreshed profile (cleared_by model) (beside (noted notes) (state_of before)))
+refresh-refused notes model before refusal h r =
+    subst (RefusedAs (told refusal) []) (sym (refreshed-is notes model before h))
+    (refused-shown notes refusal (cleared_by model) (state_of before) (update.shown profile (state_of before)) r)
+
+pub refresh-made : (notes : List Note) (model : Option ℕ) (before after : Standing) (answer : List Notification) (told : List events.Fired) → IsWithoutRows (interface (state_of before))
+    → AreRefreshed (cleared_by model) answer before after → told ≡ map events.told_by (map seen_notification answer)
+    → refreshed profile (cleared_by model) (beside (noted notes) (state_of before)) ≡ Ok (told, beside (noted notes) (state_of after))
+refresh-made notes model before after answer told h a e =
+    let s = state_of before in
+    refreshed-is notes model before h
+    ∙ ap (λ r. made_beside (noted notes) (r >>= λ list. Ok (map events.told_by (notifications s.controls list), cleared_by model (record s { controls = list })))) a.shown
+    ∙ ap (λ ns. Ok (map events.told_by ns, beside (noted notes) (cleared_by model (record s { controls = a.list })))) (sym a.told)
+    ∙ ap (λ t. Ok (map events.told_by (map seen_notification answer), beside (noted notes) t)) (sym a.now)
+    ∙ ap (λ es. Ok (es, beside (noted notes) (state_of after))) (sym e)

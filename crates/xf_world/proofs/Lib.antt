@@ -1,0 +1,9 @@
+pub mod AroundLaws
+pub mod AskLaws
+pub mod Besides
+pub mod MessageReads
+pub mod NoteLaws
+pub mod ReadLaws
+pub mod RowLaws
+pub mod HoldLaws
+pub mod OutsideLaws

@@ -1,0 +1,11 @@
+use Rattle.std.proofs.Common.{ap}
+use Rattle.xf_work.specs.Does.{Stage}
+use Rattle.xf_world.proofs.OutsideLaws.{ends, plain}
+use Rattle.xf_world.proofs.form_world.FormWorld.commit.Goals as goal
+
+pub returns : goal.returns
+returns c = record {
+  now = ends c.args.self.now.work.now c.commit.new.self.now c.args.self.now.notes c.clear.new.self c.clear.ensures c.commit.ensures.now;
+  plain = plain c.commit.new.self.now c.clear.new.self c.clear.ensures;
+  kept = ap (λ (s : Stage). s.standing) c.commit.ensures.kept;
+}

@@ -1,0 +1,13 @@
+use Rattle.std.proofs.Common.{None, sym, ap}
+use Rattle.xf_ui.specs.Interface.{interface_of}
+use Rattle.xf_world.proofs.AroundLaws.{over-same}
+use Rattle.xf_world.proofs.surrounding.over_quiet.Goals as goal
+
+pub returns : goal.returns
+returns c =
+    let w = c.args.world.now in
+    let l = c.loaded-loaded.result.now in
+    record {
+      around = over-same w.work.now w.notes c.without_rows.ensures l.form l.prefixes c.forest.result.now.forest None c.loaded-loaded.ensures.form c.loaded-loaded.ensures.prefixes c.forest.ensures;
+      interface = ap interface_of (sym c.loaded-loaded.ensures.form);
+    }

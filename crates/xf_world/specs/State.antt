@@ -1,0 +1,16 @@
+-- The state of the machine that a world stands for: that of what the engine works on, with the notes of the event; the store is not called.
+use Rattle.std.specs.Prelude.{[]}
+use Rattle.xf_form_machine.specs.State.{State}
+use Rattle.xf_work.specs.Does.{Stage}
+use Rattle.xf_work.specs.Standing as standing
+use Rattle.xf_world.specs.declared.form_world.FormWorld.{FormWorld}
+
+abbrev pub state_of : FormWorld → State
+state_of w = record (standing.state_of w.work.now) {
+  notes = w.notes;
+  calls = [];
+}
+
+-- what stood at the end of the last event
+abbrev pub kept_of : FormWorld → Stage
+kept_of w = w.work.kept

@@ -1,0 +1,13 @@
+//! A form over what an engine works on, with the notes of the event that is handled.
+
+use std::alloc::Global;
+use xf_events::NoteList;
+use xf_work::Work;
+
+/// A form without repeats, switches and submissions as the form machine, while an event is handled.
+#[derive(Drop)]
+pub struct FormWorld {
+    pub(crate) alloc: Global,
+    pub(crate) work: Work,
+    pub(crate) notes: NoteList,
+}

@@ -1,0 +1,21 @@
+//! The form machine over what an engine works on: a `World`, over which dispatch, actions and updates run.
+#![tactic(auto, unfolding(xf_actions::specs::Performs::Refuses))]
+
+mod absent;
+mod asking;
+mod behaviours;
+mod elements;
+mod fault;
+mod form_world;
+mod handlers;
+mod holding;
+mod noting;
+mod outside;
+mod reading;
+mod speaking;
+mod surrounding;
+mod telling;
+mod world;
+
+pub use fault::EventFault;
+pub use form_world::FormWorld;

@@ -1,0 +1,126 @@
+//! What an engine asks of a world beside what the form machine does: where it begins, where an event begins and ends, and what is read between.
+
+ghost use Rattle.std.specs.Prelude.{◌≡◌, ◌++◌, [], true, find, option_map, string_bytes, IfErr, OnOk};
+ghost use Rattle.xf_controls.specs.Plain.{is_plain};
+ghost use Rattle.xf_controls.specs.Seen.{is_copy_at, seen_copy};
+ghost use Rattle.xf_form_machine.specs.ControlText.{state_text};
+ghost use Rattle.xf_form_machine.specs.Step.{fresh, one_more};
+ghost use Rattle.xf_form_machine.specs.Surround.{interface};
+ghost use Rattle.xf_machine_laws.specs.Rowless.{Rowless};
+ghost use Rattle.xf_processor.specs.Formed.{profile};
+ghost use Rattle.xf_work.specs.Standing as standing;
+ghost use Rattle.xf_world.specs.Outside.{IsKept, standing_of};
+ghost use Rattle.xf_world.specs.State.{kept_of, state_of};
+
+use crate::fault::EventFault;
+use crate::form_world::FormWorld;
+use std::alloc::{AllocError, Global};
+use xf_controls::ControlCopy;
+use xf_events::NoteList;
+use xf_form_machine::Note;
+use xf_work::Work;
+
+impl FormWorld {
+    /// A world over what an engine works on. No event is handled.
+    pub fn new(alloc: Global, work: Work) -> FormWorld
+        ensures state { state_of result ≡ standing.state_of work.now }
+        ensures kept { kept_of result ≡ work.kept }
+    {
+        FormWorld {
+            alloc,
+            work,
+            notes: NoteList::new(alloc),
+        }
+    }
+
+    /// An event begins, with a whole budget and no notes. Takes no memory.
+    pub fn begin_event(&mut self)
+        ensures now { state_of self.new ≡ fresh profile (state_of self.old) }
+        ensures kept { kept_of self.new ≡ kept_of self.old }
+    {
+        self.work.begin_event();
+        self.notes.clear();
+    }
+
+    /// Counts the event that is handled as accepted. No run counts beyond 64 bits: that is told as want of memory.
+    pub fn count_event(&mut self) -> Result<(), EventFault>
+        ensures now { OnOk result (state_of self.new ≡ one_more (state_of self.old)) }
+        ensures kept { kept_of self.new ≡ kept_of self.old }
+        ensures fault { IfErr result (λ fault. fault ≡ EventFault.Memory) }
+    {
+        match self.work.count_event() {
+            Ok(()) => Ok(()),
+            Err(_) => Err(EventFault::Memory),
+        }
+    }
+
+    /// Gives up what stands and what was kept.
+    pub fn discard(self) {}
+
+    /// Keeps what stands: detached trees are dropped, and the next event has a whole budget and no notes. Takes no memory.
+    pub fn commit(&mut self)
+        ensures { IsKept self.old self.new }
+    {
+        self.work.commit();
+        self.notes.clear();
+    }
+
+    /// What was kept stands again, and there are no notes. Takes no memory.
+    pub fn roll_back(&mut self)
+        ensures state { state_of self.new ≡ standing.state_of (kept_of self.old).standing }
+        ensures now { standing_of self.new ≡ (kept_of self.old).standing }
+        ensures kept { kept_of self.new ≡ kept_of self.old }
+    {
+        self.work.roll_back();
+        self.notes.clear();
+    }
+
+    /// The notes of the event, in order.
+    pub fn notes(&self) -> &[Note]
+        ensures { result.now ≡ (state_of self.now).notes }
+    {
+        self.notes.as_slice()
+    }
+
+    /// How many evaluations the event made that is handled.
+    pub fn evaluated(&self) -> u64
+        ensures { result ≡ (state_of self.now).evaluated }
+    {
+        self.work.evaluated()
+    }
+
+    /// How many events were accepted.
+    pub fn accepted(&self) -> u64
+        ensures { result ≡ (state_of self.now).accepted }
+    {
+        self.work.accepted()
+    }
+
+    /// The copy of an element that stands in no row.
+    pub fn control(&self, element: u32) -> Option<&ControlCopy>
+        ensures { option_map (λ c. seen_copy c.now) result ≡ find (is_copy_at element []) (state_of self.now).controls }
+    {
+        self.work.control(element)
+    }
+
+    /// Each control and container of the form has one copy. This tells contracts so, and does nothing.
+    pub fn plain(&self)
+        ensures { is_plain (interface (state_of self.now)) ≡ true }
+    {
+        self.work.plain();
+    }
+
+    /// Nothing of the form comes in rows or cases, and no index is kept. This tells contracts so, and does nothing.
+    pub fn without_rows(&self)
+        ensures { Rowless (state_of self.now) }
+    {
+        self.work.without_rows();
+    }
+
+    /// Appends the text of the state.
+    pub fn push_text(&self, text: &mut String) -> Result<(), AllocError>
+        ensures { OnOk result (string_bytes text.new ≡ string_bytes text.old ++ state_text profile (standing.state_of (standing_of self.now))) }
+    {
+        self.work.push_text(text)
+    }
+}

@@ -1,0 +1,42 @@
+//! Events as they are made.
+
+ghost use Rattle.std.specs.Prelude.{[], Ok};
+ghost use Rattle.xf_form_machine.specs.Events as events;
+ghost use Rattle.xf_actions.specs.Performs.{Reads};
+ghost use Rattle.xf_actions.specs.Seen.{fired_of};
+ghost use Rattle.xf_world.specs.Fault.{means};
+ghost use Rattle.xf_world.specs.State.{state_of};
+
+use crate::fault::EventFault;
+use crate::form_world::FormWorld;
+use xf_actions::Fired;
+use xf_doc::NodeList;
+use xf_events as events;
+
+/// An event to the copy of an element in these rows. Whether it bubbles and can be cancelled counts where its name is not known.
+pub(crate) fn event(
+    world: &FormWorld,
+    name: &str,
+    bubbles: bool,
+    is_cancelable: bool,
+    target: u32,
+    rows: &NodeList,
+) -> Result<Fired, EventFault>
+    ensures { Reads means fired_of (state_of world.now) result (Ok (events.fired name.now bubbles is_cancelable [] target rows.now)) }
+{
+    match events::event(world.alloc, name, bubbles, is_cancelable, target, rows) {
+        Ok(event) => Ok(event),
+        Err(_) => Err(EventFault::Memory),
+    }
+}
+
+/// An event to an element: it stands in no row.
+pub(crate) fn event_at(world: &FormWorld, name: &str, target: u32) -> Result<Fired, EventFault>
+    ensures { Reads means fired_of (state_of world.now) result (Ok (events.fired_at (state_of world.now) name.now [] target)) }
+{
+    world.work.without_rows();
+    match events::event_at(world.alloc, name, target) {
+        Ok(event) => Ok(event),
+        Err(_) => Err(EventFault::Memory),
+    }
+}
