@@ -1,162 +1,172 @@
 -- What an event that is handled, and a start, come to at their end.
-use Rattle.std.proofs.Common.{ℕ, suc, ◌≡◌, ◌+◌, ◌≤◌, List, [], length, Option, Some, None, Result, Ok, Err, refl, ap, sym, ◌∙◌, arith, subst}
+use Rattle.std.proofs.Common.{ℕ, ◌≡◌, ◌++◌, false, List, [], Result, Ok, Err, refl, ap, sym, ◌∙◌, subst}
+use Rattle.std.specs.Result.{IsErrAnd}
 use Rattle.xf_line.specs.declared.event.Event.{Event}
-use Rattle.xf_line.specs.declared.event.Event.TheVariants.{Set}
-use Rattle.xf_ui.specs.Copies.{Copy}
-use Rattle.xf_form_machine.specs.State.{State}
-use Rattle.xf_form_machine.specs.Refusal.{Refused}
-use Rattle.xf_form_machine.specs.Flow.{◌>>=◌}
-use Rattle.xf_form_machine.specs.Profile.{Profile}
-use Rattle.xf_form_machine.specs.Start.{readied}
-use Rattle.xf_form_machine.specs.Step.{Outcome, accepted, outcome, posted, at_end, fresh, one_more, step, changed_by, set, set_bound, try_set}
-use Rattle.xf_form_machine.specs.Targets.{or_no_target}
-use Rattle.xf_machine_laws.specs.Quiet.{Quiet, HasSteps, copy_at, update_quietly}
-use Rattle.xf_machine_laws.proofs.QuietKeeps.{Like, NoneDue, bound-keeps, keeps-then}
-use Rattle.xf_machine_laws.proofs.QuietLaws.{sets_quietly, tried-is, update-keeps}
 use Rattle.xf_form_machine.specs.declared.refusal.Refusal.{Refusal}
-use Rattle.xf_work.specs.declared.fault.WorkFault.{WorkFault}
-use Rattle.xf_work.specs.declared.fault.WorkFault.TheVariants as fault
+use Rattle.xf_form_machine.specs.Flow.{◌>>=◌}
+use Rattle.xf_form_machine.specs.Refusal.{Refused}
+use Rattle.xf_form_machine.specs.Replies.{note_lines, ok_text}
+use Rattle.xf_form_machine.specs.State.{State}
+use Rattle.xf_form_machine.specs.Start.{readied}
+use Rattle.xf_form_machine.specs.Step.{Outcome, Posted, accepted, outcome, posted, at_end, fresh, one_more, step, changed_by}
 use Rattle.xf_processor.specs.Formed.{profile}
-use Rattle.xf_work.specs.Does.{Does, IsKept, IsRefused, Stage, Twin}
-use Rattle.xf_work.specs.Standing.{Standing, state_of}
+use Rattle.xf_actions.specs.Performs.{Refuses}
+use Rattle.xf_work.specs.declared.fault.WorkFault.{WorkFault}
+use Rattle.xf_work.specs.declared.fault.WorkFault.TheVariants as of_work
+use Rattle.xf_work.specs.Does.{IsRefused, Stage}
+use Rattle.xf_work.specs.Standing.{Standing}
+use Rattle.xf_work.specs.Standing as work
+use Rattle.xf_world.specs.declared.fault.EventFault.{EventFault}
+use Rattle.xf_world.specs.declared.fault.EventFault.TheVariants as fault
+use Rattle.xf_world.specs.declared.form_world.FormWorld.{FormWorld}
+use Rattle.xf_world.specs.Fault.{fault_of_work, means}
+use Rattle.xf_world.specs.Outside.{IsKept, standing_of}
+use Rattle.xf_world.specs.State.{kept_of, state_of}
 use Rattle.xf_engine.specs.Handled.{Handles, IsAtEnd, IsHandled}
-use Rattle.xf_engine.specs.Started.{told_quietly}
-use Rattle.xf_engine.specs.Stepped.{IsAccepted, IsStarted, IsStepped, as_result, started}
-use Rattle.xf_engine.proofs.Flow.{Means, same-means}
-use Rattle.xf_engine.proofs.SetLaws.{steps}
-use Rattle.xf_engine.proofs.StartLaws.{readied-quietly}
+use Rattle.xf_engine.specs.Constructed.{Builds}
+use Rattle.xf_engine.specs.Stepped.{IsAccepted, IsConstructed, IsStarted, IsStepped, as_result, started}
+use Rattle.xf_engine.proofs.Told.{refused-for}
 
--- ---- what a text that is set leaves as it was
+abbrev fine : State → Result State Refused
+fine s = Ok s
 
-found-keeps : (p : Profile) (n : ℕ) (text : List ℕ) (o : Option Copy) (s t : State)
-    → or_no_target s o >>= (λ c. try_set n c text s >>= set_bound p text c.node >>= update_quietly p) ≡ Ok t → Like s t
-found-keeps p n text None s t e = cc
-found-keeps p n text (Some c) s t e =
-    keeps-then (try_set n c text s >>= set_bound p text c.node) (update_quietly p) s t
-    (λ u q. keeps-then (try_set n c text s) (set_bound p text c.node) s u (λ v r. tried-is _ _ _ s v r) (bound-keeps p text c.node) q) (update-keeps p) e
+-- ---- it is handled
 
-named-keeps : (p : Profile) (rows text : List ℕ) (o : Option ℕ) (s t : State) → HasSteps p → Quiet s
-    → or_no_target s o >>= (λ n. set p [] n rows text s) ≡ Ok t → Like s t
-named-keeps p rows text None s t st q e = cc
-named-keeps p rows text (Some n) s t st q e = found-keeps p n text (copy_at n rows s) s t (sym (sets_quietly p [] n rows text s st q) ∙ e)
+handles-fault : (e : EventFault) (after : State) (old new : List ℕ) (given : Result State Refused) → Refuses (means e) [] given → Handles (Err e) after old new given
+handles-fault (fault.Refused refusal) after old new given h = refused-for refusal given h
+handles-fault fault.Memory after old new given h = tt
 
-changed-keeps : (p : Profile) (id rows text : List ℕ) (s t : State) → HasSteps p → Quiet s → changed_by p [] (Set id rows text) s ≡ Ok t → Like s t
-changed-keeps p id rows text s t st q e = named-keeps p rows text _ s t st q e
+-- a change that is refused
+pub unhandled : (r : Result ℕ EventFault) (e : EventFault) (after : State) (old new : List ℕ) (given : Result State Refused)
+    → IsErrAnd r (λ y. y ≡ e) → Refuses (means e) [] given → Handles r after old new given
+unhandled (Ok count) e after old new given is h = absurd is
+unhandled (Err y) e after old new given is h = subst (λ f. Handles (Err f) after old new given) (sym is) (handles-fault e after old new given h)
 
--- ---- it is counted
+-- no memory for its lines
+pub unwritten : (r : Result ℕ EventFault) (after : State) (old new : List ℕ) (given : Result State Refused)
+    → IsErrAnd r (λ y. y ≡ fault.Memory) → Handles r after old new given
+unwritten (Ok count) after old new given is = absurd is
+unwritten (Err y) after old new given is = subst (λ f. Handles (Err f) after old new given) (sym is) tt
 
-counted : (mid after : Standing) → after ≡ record mid { accepted = mid.accepted + 1 } → one_more (state_of mid) ≡ state_of after
-counted mid after e =
-    let more : suc mid.accepted ≡ mid.accepted + 1 = omega arith in
-    ap (λ n. state_of (record mid { accepted = n })) more ∙ ap state_of (sym e)
-
--- after the change and its count
-pub handled : (before mid after : Standing) (id rows text : List ℕ) (count : ℕ) → Quiet (state_of before)
-    → changed_by profile [] (Set id rows text) (state_of before) ≡ Ok (state_of mid) → count ≡ mid.evaluated → after ≡ record mid { accepted = mid.accepted + 1 }
-    → IsHandled before after count (changed_by profile [] (Set id rows text) (state_of before))
-handled before mid after id rows text count q e k a =
-    let like = changed-keeps profile id rows text (state_of before) (state_of mid) steps q e in
+pub handled : (before mid after : State) (event : Event) (count : ℕ) (old new : List ℕ) → changed_by profile [] event before ≡ Ok mid → after ≡ one_more mid
+    → count ≡ mid.evaluated → new ≡ old ++ ok_text false after (posted after) → IsHandled count after old new (changed_by profile [] event before)
+handled before mid after event count old new e a k w =
     record {
-      is = ap (λ r. r >>= (λ t. Ok (one_more t))) e ∙ ap (λ (t : State). Ok t) (counted mid after a);
-      evaluated = ap (λ (s : Standing). s.evaluated) a ∙ sym k;
-      accepted = ap (λ (s : Standing). s.accepted) a ∙ ap (λ n. n + 1) like.accepted;
-      models = ap (λ (s : Standing). length s.models) a ∙ like.count;
+      is = ap (λ r. r >>= (λ t. Ok (one_more t))) e ∙ ap fine (sym a);
+      evaluated = ap (λ (s : State). s.evaluated) a ∙ sym k;
+      lines = w;
     }
 
 -- ---- the end of an event
 
-pub refused-outcome : (refusal : Refusal) (ended : State → State) (given : Result State Refused) → IsRefused refusal given → IsRefused refusal (as_result (outcome ended given))
+refused-outcome : (refusal : Refusal) (ended : State → State) (given : Result State Refused) → IsRefused refusal given → IsRefused refusal (as_result (outcome ended given))
 refused-outcome refusal ended (Ok t) h = h
 refused-outcome refusal ended (Err r) h = h
 
-accepted-by : (given : Result State Refused) (mid after : Standing) (count : ℕ)
-    → given >>= (λ t. Ok (one_more t)) ≡ Ok (state_of mid) → mid.evaluated ≡ count → state_of after ≡ at_end profile (state_of mid)
-    → IsAccepted (outcome (λ t. one_more (at_end profile t)) given) (state_of after) count
-accepted-by (Err r) mid after count e k h = absurd (cc)
-accepted-by (Ok t) mid after count e k h =
+-- the state at the end of what an event left
+ends : (mid after : FormWorld) → IsKept mid after → at_end profile (state_of mid) ≡ work.state_of (standing_of after)
+ends mid after k = sym k.now ∙ k.plain
+
+-- what is given out of an event that is counted
+abbrev Stands : Outcome → ℕ → Standing → List ℕ → List ℕ → Type 0
+Stands given count after old new =
+    (posted : Posted) × IsAccepted given (work.state_of after) posted × (posted.evaluated ≡ count) × (new ≡ old ++ ok_text false (work.state_of after) posted)
+
+accepted-by : (given : Result State Refused) (mid after : FormWorld) (count : ℕ) (old new : List ℕ) → IsHandled count (state_of mid) old new given → IsKept mid after
+    → Stands (outcome (λ t. one_more (at_end profile t)) given) count (standing_of after) old new
+accepted-by (Err r) mid after count old new h k = absurd (let e : Err r >>= (λ t. fine (one_more t)) ≡ Ok (state_of mid) = h.is in cc)
+accepted-by (Ok t) mid after count old new h k =
+    let e : fine (one_more t) ≡ Ok (state_of mid) = h.is in
     let same : one_more t ≡ state_of mid = cc in
-    let ends : one_more (at_end profile t) ≡ state_of after = ap (at_end profile) same ∙ sym h in
-    record {
-      posted = posted t;
-      is = ap (λ x. accepted x (posted t)) ends;
-      notes = ap (λ (x : State). x.notes) same;
-      calls = ap (λ (x : State). x.calls) same;
-      evaluated = ap (λ (x : State). x.evaluated) same ∙ k;
-    }
+    let last = ends mid after k in (
+      posted t,
+      record {
+        is = ap (λ x. accepted x (posted t)) (ap (at_end profile) same ∙ last);
+        calls = ap (λ (x : State). x.calls) same;
+      },
+      ap (λ (x : State). x.evaluated) same ∙ h.evaluated,
+      h.lines
+          ∙ ap (λ (x : State). old ++ ok_text false x (posted (state_of mid))) last
+          ∙ ap (λ (x : State). old ++ ok_text false (work.state_of (standing_of after)) (posted x)) (sym same),
+    )
 
 -- the event begins with a whole budget
-step-is : (s : State) (event : Event) → fresh profile s ≡ s → step profile s event [] ≡ outcome (λ t. one_more (at_end profile t)) (changed_by profile [] event s)
-step-is s event e = ap (λ t. outcome (λ t. one_more (at_end profile t)) (changed_by profile [] event t)) e
+step-is : (before : FormWorld) (event : Event) → IsAtEnd before
+    → step profile (work.state_of (standing_of before)) event [] ≡ outcome (λ t. one_more (at_end profile t)) (changed_by profile [] event (state_of before))
+step-is before event end = ap (λ t. outcome (λ t. one_more (at_end profile t)) (changed_by profile [] event t)) (end.fresh ∙ sym end.plain)
 
-pub stepped : (before mid after : Twin) (event : Event) (count : ℕ) → IsAtEnd before
-    → IsHandled before.now mid.now count (changed_by profile [] event (state_of before.now)) → IsKept mid after
-    → IsStepped before.now (Ok count) after.now (step profile (state_of before.now) event [])
-stepped before mid after event count end h k = (
-  subst (λ (o : Outcome). IsAccepted o (state_of after.now) count) (sym (step-is (state_of before.now) event end.fresh))
-      (accepted-by (changed_by profile [] event (state_of before.now)) mid.now after.now count h.is h.evaluated k.now),
-  ap (λ (s : State). s.accepted) k.now ∙ h.accepted,
-)
+pub stepped : (before mid after : FormWorld) (event : Event) (count : ℕ) (old new : List ℕ) → IsAtEnd before
+    → IsHandled count (state_of mid) old new (changed_by profile [] event (state_of before)) → IsKept mid after
+    → IsStepped (standing_of before) (Ok count) (standing_of after) old new (step profile (work.state_of (standing_of before)) event [])
+stepped before mid after event count old new end h k =
+    subst (λ (o : Outcome). Stands o count (standing_of after) old new) (sym (step-is before event end))
+    (accepted-by (changed_by profile [] event (state_of before)) mid after count old new h k)
 
-pub unstepped : (before mid after : Twin) (event : Event) (e : WorkFault) → IsAtEnd before
-    → Handles before.now (Err e) mid.now (changed_by profile [] event (state_of before.now)) → mid.kept ≡ before.kept → after.now ≡ mid.kept.standing
-    → IsStepped before.now (Err e) after.now (step profile (state_of before.now) event [])
-unstepped before mid after event (fault.Refused refusal) end h k r = (
-  subst (λ (o : Outcome). IsRefused refusal (as_result o)) (sym (step-is (state_of before.now) event end.fresh))
-      (refused-outcome refusal (λ t. one_more (at_end profile t)) (changed_by profile [] event (state_of before.now)) h),
-  r ∙ ap (λ (s : Stage). s.standing) (k ∙ end.kept),
+-- what was kept stands again
+again : (before mid after : FormWorld) → IsAtEnd before → kept_of mid ≡ kept_of before → standing_of after ≡ (kept_of mid).standing → standing_of after ≡ standing_of before
+again before mid after end k now = now ∙ ap (λ (s : Stage). s.standing) k ∙ end.kept
+
+pub unstepped : (before mid after : FormWorld) (event : Event) (e : EventFault) (old new : List ℕ) → IsAtEnd before
+    → Handles (Err e) (state_of mid) old new (changed_by profile [] event (state_of before)) → kept_of mid ≡ kept_of before
+    → standing_of after ≡ (kept_of mid).standing
+    → IsStepped (standing_of before) (Err e) (standing_of after) old new (step profile (work.state_of (standing_of before)) event [])
+unstepped before mid after event (fault.Refused refusal) old new end h k now = (
+  subst (λ (o : Outcome). IsRefused refusal (as_result o)) (sym (step-is before event end))
+      (refused-outcome refusal (λ t. one_more (at_end profile t)) (changed_by profile [] event (state_of before)) h),
+  again before mid after end k now,
 )
-unstepped before mid after event fault.Memory end h k r = r ∙ ap (λ (s : Stage). s.standing) (k ∙ end.kept)
+unstepped before mid after event fault.Memory old new end h k now = again before mid after end k now
 
 -- what is kept at the end of an event is as it has to be
-pub ended : (mid after : Twin) → length mid.now.models ≤ mid.built → IsKept mid after → IsAtEnd after
-ended mid after room k =
-    let count : length after.now.models ≡ length mid.now.models = ap (λ (s : State). length s.models) k.now in
-    record {
-      built = subst (λ n. n ≤ after.built) (sym count) (subst (λ n. length mid.now.models ≤ n) (sym k.built) room);
-      kept = k.kept;
-      fresh = ap (fresh profile) k.now ∙ sym k.now;
-    }
+pub ended : (mid after : FormWorld) → IsKept mid after → IsAtEnd after
+ended mid after k =
+    let last = ends mid after k in
+    record { plain = k.plain; fresh = ap (fresh profile) (sym last) ∙ last; kept = k.kept }
 
 -- so is what was kept, when it stands again
-pub back : (before mid after : Twin) → IsAtEnd before → mid.kept ≡ before.kept → after.now ≡ mid.kept.standing → after.kept ≡ mid.kept → after.built ≡ mid.kept.built
-    → IsAtEnd after
-back before mid after end k now kept built =
-    let stage : mid.kept ≡ record { standing = before.now; built = before.built } = k ∙ end.kept in
-    let same : after.now ≡ before.now = now ∙ ap (λ (s : Stage). s.standing) stage in
-    let room : after.built ≡ before.built = built ∙ ap (λ (s : Stage). s.built) stage in
+pub back : (before mid after : FormWorld) → IsAtEnd before → kept_of mid ≡ kept_of before → state_of after ≡ work.state_of (kept_of mid).standing
+    → standing_of after ≡ (kept_of mid).standing → kept_of after ≡ kept_of mid → IsAtEnd after
+back before mid after end k plain now kept =
+    let same = again before mid after end k now in
+    let stage : kept_of after ≡ kept_of before = kept ∙ k in
     record {
-      built = subst (λ (s : Standing). length s.models ≤ after.built) (sym same) (subst (λ n. length before.now.models ≤ n) (sym room) end.built);
-      kept = kept ∙ stage ∙ ap (λ (s : Standing). record { standing = s; built = before.built }) (sym same) ∙ ap (λ n. record { standing = after.now; built = n }) (sym room);
-      fresh = subst (λ (s : Standing). fresh profile (state_of s) ≡ state_of s) (sym same) end.fresh;
+      plain = plain ∙ ap work.state_of (sym now);
+      fresh = subst (λ (s : Standing). fresh profile (work.state_of s) ≡ work.state_of s) (sym same) end.fresh;
+      kept = ap (λ (s : Stage). s.standing) stage ∙ end.kept ∙ sym same;
     }
 
 -- ---- the start
 
--- where the event of the start begins the models are told
-told-as : (before first : Standing) → Quiet (state_of before) → NoneDue (state_of before) → state_of first ≡ fresh profile (state_of before)
-    → readied profile [] (state_of before) ≡ told_quietly (state_of first)
-told-as before first q n f = readied-quietly (state_of before) q n ∙ ap told_quietly (sym f)
-
-pub starts : (before first mid after : Standing) → Quiet (state_of before) → NoneDue (state_of before) → state_of first ≡ fresh profile (state_of before)
-    → told_quietly (state_of first) ≡ Ok (state_of mid) → state_of after ≡ at_end profile (state_of mid) → IsStarted (Ok after) (started (state_of before))
-starts before first mid after q n f e k = (
-  mid.evaluated,
+pub starts : (before : Standing) (first mid after : FormWorld) (old new : List ℕ) → state_of first ≡ work.state_of before
+    → readied profile [] (state_of first) ≡ Ok (state_of mid) → new ≡ old ++ note_lines (state_of mid).notes → IsKept mid after
+    → IsStarted (Ok (standing_of after)) old new (started (work.state_of before))
+starts before first mid after old new f e w k = (
+  posted (state_of mid),
   record {
-    posted = posted (state_of mid);
-    is = ap (outcome (at_end profile)) (told-as before first q n f ∙ e) ∙ ap (λ x. accepted x (posted (state_of mid))) (sym k);
-    notes = refl;
+    is =
+        ap (λ s. outcome (at_end profile) (readied profile [] s)) (sym f)
+        ∙ ap (outcome (at_end profile)) e
+        ∙ ap (λ x. accepted x (posted (state_of mid))) (ends mid after k);
     calls = refl;
-    evaluated = refl;
   },
+  w,
 )
 
-unstarted : (before first : Standing) (e : WorkFault) → Quiet (state_of before) → NoneDue (state_of before) → state_of first ≡ fresh profile (state_of before)
-    → Means e (told_quietly (state_of first)) → IsStarted (Err e) (started (state_of before))
-unstarted before first (fault.Refused refusal) q n f m =
-    refused-outcome refusal (at_end profile) (readied profile [] (state_of before)) (same-means (fault.Refused refusal) _ _ (told-as before first q n f) m)
-unstarted before first fault.Memory q n f m = tt
+pub start-stops : (before : Standing) (first : FormWorld) (e : EventFault) (old new : List ℕ) → state_of first ≡ work.state_of before
+    → Refuses (means e) [] (readied profile [] (state_of first)) → IsStarted (Err e) old new (started (work.state_of before))
+start-stops before first (fault.Refused refusal) old new f h =
+    refused-outcome refusal (at_end profile) (readied profile [] (work.state_of before))
+    (subst (λ s. IsRefused refusal (readied profile [] s)) f (refused-for refusal (readied profile [] (state_of first)) h))
+start-stops before first fault.Memory old new f h = tt
 
-pub start-stops : (before first after : Standing) (e : WorkFault) → Quiet (state_of before) → NoneDue (state_of before) → state_of first ≡ fresh profile (state_of before)
-    → Does {X = Unit {0}} (Err e) after (told_quietly (state_of first)) → IsStarted (Err e) (started (state_of before))
-start-stops before first after (fault.Refused refusal) q n f d = unstarted before first (fault.Refused refusal) q n f d
-start-stops before first after fault.Memory q n f d = tt
+-- ---- the construction
+
+-- the fault of what is constructed is that of an engine
+of-work : (e : WorkFault) (given : Result State Refused) → Builds (Err e) given → IsConstructed (Err (fault_of_work e)) given
+of-work (of_work.Refused refusal) given h = h
+of-work of_work.Memory given h = tt
+
+pub unconstructed : (r : Result Standing EventFault) (e : WorkFault) (given : Result State Refused)
+    → IsErrAnd r (λ y. y ≡ fault_of_work e) → Builds (Err e) given → IsConstructed r given
+unconstructed (Ok s) e given is h = absurd is
+unconstructed (Err y) e given is h = subst (λ f. IsConstructed (Err f) given) (sym is) (of-work e given h)

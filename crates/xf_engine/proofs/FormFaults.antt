@@ -24,8 +24,8 @@ use Rattle.xf_form_machine.specs.Refusal.{Refused, unless_passed, if_over, or_lo
 use Rattle.xf_form_machine.specs.State.{State}
 use Rattle.xf_form_machine.specs.Surround.{interface, quiet, bind_scope}
 use Rattle.xf_form_machine.specs.Update.{shown}
-use Rattle.xf_machine_laws.specs.Quiet.{IsQuiet, HasSteps, construct_quietly}
-use Rattle.xf_machine_laws.proofs.QuietLaws.{constructs_quietly}
+use Rattle.xf_machine_laws.specs.Rowless.{IsWithoutRows, HasSteps, construct_plainly}
+use Rattle.xf_machine_laws.proofs.RowlessLaws.{constructs_plainly}
 use Rattle.xf_form_machine.specs.declared.refusal.Refusal.{Refusal}
 use Rattle.xf_form_machine.specs.declared.refusal.Refusal.TheVariants.{NoSuchTarget, Disabled, ReadOnly, NotAnItem, BadIndex, PropertyTwice, CalculateOnParent, Binding, Circular, Limit, Budget, Depth, Sends}
 use Rattle.xf_form_machine.specs.Told.{Tells}
@@ -135,7 +135,7 @@ of-shown p s =
 of-first-shown : (p : Profile) (s : State) → OfForm (first_shown p s)
 of-first-shown p s = of-then (shown p s) (λ list. Ok (record s { controls = list })) (of-shown p s) (λ list. so _ refl)
 
-of-constructed : (p : Profile) (form : Program) → OfForm (construct_quietly p form)
+of-constructed : (p : Profile) (form : Program) → OfForm (construct_plainly p form)
 of-constructed p form =
     of-then (in_turn (plant_document p) form.documents (unbuilt p form)) (λ s. in_turn (build_model p) (counted_from 0 (length s.models)) s >>= first_shown p)
     (of-turn (plant_document p) form.documents (unbuilt p form) (of-planted p))
@@ -146,8 +146,8 @@ refused-fault : {X : Type 0} (refusal : Refusal) (r : Result X Refused) → OfFo
 refused-fault refusal (Ok x) h q = absurd q
 refused-fault refusal (Err r) h q = told-fault refusal r.why q.0 h.is
 
-pub construct-fault : (p : Profile) (form : Program) (refusal : Refusal) → HasSteps p → IsQuiet form.interface
+pub construct-fault : (p : Profile) (form : Program) (refusal : Refusal) → HasSteps p → IsWithoutRows form.interface
     → IsRefused refusal (construct p form) → is_of_form refusal ≡ true
 construct-fault p form refusal st q h =
     refused-fault refusal (construct p form)
-    (subst (λ (r : Result State Refused). OfForm r) (sym (constructs_quietly p form st q)) (of-constructed p form)) h
+    (subst (λ (r : Result State Refused). OfForm r) (sym (constructs_plainly p form st q)) (of-constructed p form)) h

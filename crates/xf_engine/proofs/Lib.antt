@@ -1,8 +1,9 @@
 pub mod Flow
 pub mod Keeps
-pub mod Rounds
-pub mod EntryLaws
-pub mod SetLaws
 pub mod FormFaults
+pub mod ConstructionLaws
+pub mod NamingLaws
+pub mod EventLaws
 pub mod StartLaws
+pub mod Told
 pub mod EngineLaws

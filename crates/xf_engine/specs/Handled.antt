@@ -1,29 +1,32 @@
 -- An event that is handled and counted, and what stands between events.
-use Rattle.std.specs.Prelude.{ℕ, ◌≡◌, ◌≤◌, ◌+◌, [], length, Result, Ok, Err}
+use Rattle.std.specs.Prelude.{ℕ, ◌≡◌, false, List, ◌++◌, Result, Ok, Err}
 use Rattle.xf_form_machine.specs.State.{State}
 use Rattle.xf_form_machine.specs.Refusal.{Refused}
 use Rattle.xf_form_machine.specs.Flow.{◌>>=◌}
-use Rattle.xf_form_machine.specs.Step.{fresh, one_more}
-use Rattle.xf_work.specs.declared.fault.WorkFault.{WorkFault}
-use Rattle.xf_work.specs.declared.fault.WorkFault.TheVariants as fault
-use Rattle.xf_work.specs.Standing.{Standing, state_of}
+use Rattle.xf_form_machine.specs.Replies.{ok_text}
+use Rattle.xf_form_machine.specs.Step.{fresh, one_more, posted}
 use Rattle.xf_processor.specs.Formed.{profile}
-use Rattle.xf_work.specs.Does.{Twin, IsRefused}
+use Rattle.xf_work.specs.Does.{IsRefused}
+use Rattle.xf_work.specs.Standing as work
+use Rattle.xf_world.specs.declared.fault.EventFault.{EventFault}
+use Rattle.xf_world.specs.declared.fault.EventFault.TheVariants as fault
+use Rattle.xf_world.specs.declared.form_world.FormWorld.{FormWorld}
+use Rattle.xf_world.specs.Outside.{standing_of}
+use Rattle.xf_world.specs.State.{kept_of, state_of}
 
--- it is counted, and so many evaluations count
-pub record IsHandled (before after : Standing) (count : ℕ) (given : Result State Refused) : Type 0 where
-  pub is : given >>= (λ t. Ok (one_more t)) ≡ Ok (state_of after)
+-- it is counted, so many evaluations count, and its lines are appended to a text
+pub record IsHandled (count : ℕ) (after : State) (old new : List ℕ) (given : Result State Refused) : Type 0 where
+  pub is : given >>= (λ t. Ok (one_more t)) ≡ Ok after
   pub evaluated : after.evaluated ≡ count
-  pub accepted : after.accepted ≡ before.accepted + 1
-  pub models : length after.models ≡ length before.models
+  pub lines : new ≡ old ++ ok_text false after (posted after)
 
-abbrev pub Handles : Standing → Result ℕ WorkFault → Standing → Result State Refused → Type 0
-Handles before (Ok count) after given = IsHandled before after count given
-Handles before (Err (fault.Refused refusal)) after given = IsRefused refusal given
-Handles before (Err fault.Memory) after given = Unit {0}
+abbrev pub Handles : Result ℕ EventFault → State → List ℕ → List ℕ → Result State Refused → Type 0
+Handles (Ok count) after old new given = IsHandled count after old new given
+Handles (Err (fault.Refused refusal)) after old new given = IsRefused refusal given
+Handles (Err fault.Memory) after old new given = Unit {0}
 
--- all models are built, what stands is kept, and the next event has a whole budget
-pub record IsAtEnd (w : Twin) : Type 0 where
-  pub built : length w.now.models ≤ w.built
-  pub kept : w.kept ≡ record { standing = w.now; built = w.built }
-  pub fresh : fresh profile (state_of w.now) ≡ state_of w.now
+-- no event is handled: there are no notes, the next event has a whole budget, and what stands is kept
+pub record IsAtEnd (w : FormWorld) : Type 0 where
+  pub plain : state_of w ≡ work.state_of (standing_of w)
+  pub fresh : fresh profile (work.state_of (standing_of w)) ≡ work.state_of (standing_of w)
+  pub kept : (kept_of w).standing ≡ standing_of w

@@ -1,6 +1,5 @@
-pub mod Rounds
 pub mod Stepped
-pub mod Entries
+pub mod Constructed
+pub mod Naming
 pub mod Tried
-pub mod Started
 pub mod Handled

@@ -1,8 +1,9 @@
 -- How the calls of an engine stand to the form machine: what they answer, what they leave, and what each refusal means. Only want of memory is
 -- free.
-use Rattle.std.specs.Prelude.{ℕ, Bool, true, false, ◌≡◌, ◌+◌, List, [], Result, Ok, Err}
+use Rattle.std.specs.Prelude.{ℕ, Bool, true, false, ◌≡◌, List, [], ◌++◌, Result, Ok, Err}
 use Rattle.xf_form_machine.specs.State.{State}
 use Rattle.xf_form_machine.specs.Refusal as machine
+use Rattle.xf_form_machine.specs.Replies.{note_lines, ok_text}
 use Rattle.xf_form_machine.specs.Start.{readied}
 use Rattle.xf_form_machine.specs.Step.{Posted, Outcome, accepted, refused, outcome, at_end}
 use Rattle.xf_form_machine.specs.declared.refusal.Refusal.{Refusal}
@@ -10,8 +11,8 @@ use Rattle.xf_form_machine.specs.declared.refusal.Refusal.TheVariants as refusal
 use Rattle.xf_processor.specs.Formed.{profile}
 use Rattle.xf_work.specs.Does.{IsRefused}
 use Rattle.xf_work.specs.Standing.{Standing, state_of}
-use Rattle.xf_work.specs.declared.fault.WorkFault.{WorkFault}
-use Rattle.xf_work.specs.declared.fault.WorkFault.TheVariants.{Refused, Memory}
+use Rattle.xf_world.specs.declared.fault.EventFault.{EventFault}
+use Rattle.xf_world.specs.declared.fault.EventFault.TheVariants.{Refused, Memory}
 
 -- ---- construction
 
@@ -23,36 +24,36 @@ is_of_form (refusal.Circular paths) = true
 is_of_form (refusal.Limit word) = true
 is_of_form other = false
 
-abbrev pub IsConstructed : Result Standing WorkFault → Result State machine.Refused → Type 0
+abbrev pub IsConstructed : Result Standing EventFault → Result State machine.Refused → Type 0
 IsConstructed (Ok s) given = given ≡ Ok (state_of s)
 IsConstructed (Err (Refused refusal)) given = IsRefused refusal given × (is_of_form refusal ≡ true)
 IsConstructed (Err Memory) given = Unit {0}
 
 -- ---- steps
 
--- with this state after it, no notes and no calls of the store; so many evaluations count
-pub record IsAccepted (given : Outcome) (after : State) (count : ℕ) : Type 0 where
-  pub posted : Posted
+-- with this state after it, and no calls of the store
+pub record IsAccepted (given : Outcome) (after : State) (posted : Posted) : Type 0 where
   pub is : given ≡ accepted after posted
-  pub notes : posted.notes ≡ []
   pub calls : posted.calls ≡ []
-  pub evaluated : posted.evaluated ≡ count
 
 abbrev pub as_result : Outcome → Result State machine.Refused
 as_result (accepted after posted) = Ok after
 as_result (refused why calls) = Err (record { why = why; calls = calls })
 
-abbrev pub IsStepped : Standing → Result ℕ WorkFault → Standing → Outcome → Type 0
-IsStepped before (Ok count) after given = IsAccepted given (state_of after) count × (after.accepted ≡ before.accepted + 1)
-IsStepped before (Err (Refused refusal)) after given = IsRefused refusal (as_result given) × (after ≡ before)
-IsStepped before (Err Memory) after given = after ≡ before
+-- so many evaluations count, and the lines of the answer are appended to a text
+abbrev pub IsStepped : Standing → Result ℕ EventFault → Standing → List ℕ → List ℕ → Outcome → Type 0
+IsStepped before (Ok count) after old new given =
+    (posted : Posted) × IsAccepted given (state_of after) posted × (posted.evaluated ≡ count) × (new ≡ old ++ ok_text false (state_of after) posted)
+IsStepped before (Err (Refused refusal)) after old new given = IsRefused refusal (as_result given) × (after ≡ before)
+IsStepped before (Err Memory) after old new given = after ≡ before
 
 -- ---- the start of a form that is constructed
 
-abbrev pub IsStarted : Result Standing WorkFault → Outcome → Type 0
-IsStarted (Ok s) given = (count : ℕ) × IsAccepted given (state_of s) count
-IsStarted (Err (Refused refusal)) given = IsRefused refusal (as_result given)
-IsStarted (Err Memory) given = Unit {0}
+-- the lines of its notes are appended to a text
+abbrev pub IsStarted : Result Standing EventFault → List ℕ → List ℕ → Outcome → Type 0
+IsStarted (Ok s) old new given = (posted : Posted) × IsAccepted given (state_of s) posted × (new ≡ old ++ note_lines posted.notes)
+IsStarted (Err (Refused refusal)) old new given = IsRefused refusal (as_result given)
+IsStarted (Err Memory) old new given = Unit {0}
 
 -- no answer of the store is asked for
 abbrev pub started : State → Outcome

@@ -1,88 +1,90 @@
 //! A form at work.
 
-ghost use Rattle.std.specs.Prelude.{◌≡◌, ◌≤◌, ◌++◌, [], length, string_bytes, OnOk};
-ghost use Rattle.xf_line.specs.declared.event.Event.TheVariants.{Set};
+ghost use Rattle.std.specs.Prelude.{◌≡◌, ◌++◌, [], string_bytes, OnOk};
 ghost use Rattle.xf_form_machine.specs.Construct.{construct};
 ghost use Rattle.xf_form_machine.specs.ControlText.{state_text};
 ghost use Rattle.xf_form_machine.specs.Step.{changed_by, step};
 ghost use Rattle.xf_processor.specs.Formed.{program_in, profile, IsFromBytes};
 ghost use Rattle.xf_work.specs.Standing.{state_of};
+ghost use Rattle.xf_world.specs.State as machine;
 ghost use Rattle.xf_engine.specs.Handled.{Handles};
 ghost use Rattle.xf_engine.specs.Stepped.{IsConstructed, IsStarted, IsStepped, started};
 
-use crate::events::set;
-use crate::start::{constructed, tell_models};
+use crate::construction::constructed;
+use crate::events::change;
+use crate::start::ready;
 use std::alloc::{AllocError, Global};
 use std::marker::Model;
+use xf_actions::World;
+use xf_line::Event;
 use xf_loader::Loaded;
-use xf_work::{Work, WorkFault};
+use xf_report::push_ok;
+use xf_work::Work;
+use xf_world::{EventFault, FormWorld};
 
 /// A form that is constructed. Contracts see the state of the form machine.
 #[derive(Drop)]
 pub struct Constructed {
+    alloc: Global,
     work: Work,
 }
 
 /// A form at work. Contracts see the state of the form machine.
 #[derive(Drop)]
 pub struct Engine {
-    work: Work,
+    world: FormWorld,
 }
 
 impl Model for Constructed {
     ghost use Rattle.std.specs.Coded.{codes};
     ghost use Rattle.xf_ast.specs.contracts.expr.Expr as expr;
     ghost use Rattle.xf_work.specs.Standing.{Standing};
-    ghost use Rattle.xf_engine.specs.Started.{IsReady};
 
     ghost Value = { Standing };
 
     ghost coded = { Prim.hlevel (codes, expr.the_row.coded) };
 
     ghost view = { λ c. c.work.now };
-
-    ghost invariant = { λ c. IsReady c.work };
 }
 
 impl Model for Engine {
     ghost use Rattle.std.specs.Coded.{codes};
     ghost use Rattle.xf_ast.specs.contracts.expr.Expr as expr;
     ghost use Rattle.xf_work.specs.Standing.{Standing};
+    ghost use Rattle.xf_world.specs.Outside.{standing_of};
     ghost use Rattle.xf_engine.specs.Handled.{IsAtEnd};
 
     ghost Value = { Standing };
 
     ghost coded = { Prim.hlevel (codes, expr.the_row.coded) };
 
-    ghost view = { λ e. e.work.now };
+    ghost view = { λ e. standing_of e.world };
 
-    ghost invariant = { λ e. IsAtEnd e.work };
+    ghost invariant = { λ e. IsAtEnd e.world };
 }
 
 /// Constructs a form (XForms 1.1, section 4.2.1).
-pub fn construct(alloc: Global, loaded: Loaded) -> Result<Constructed, WorkFault>
+pub fn construct(alloc: Global, loaded: Loaded) -> Result<Constructed, EventFault>
     requires { IsFromBytes loaded }
     ensures { IsConstructed result (construct profile (program_in loaded)) }
 {
     let work = constructed(alloc, loaded)?;
-    Ok(Constructed { work })
+    Ok(Constructed { alloc, work })
 }
 
 impl Constructed {
-    /// Starts the form (XForms 1.1, section 4.2): an event of its own, with a whole budget.
-    pub fn start(self) -> Result<Engine, WorkFault>
-        ensures { IsStarted result (started (state_of self)) }
+    /// Starts the form (XForms 1.1, section 4.2): an event of its own, with a whole budget. Appends the lines of its notes.
+    pub fn start(self, text: &mut String) -> Result<Engine, EventFault>
+        ensures { IsStarted result (string_bytes text.old) (string_bytes text.new) (started (state_of self)) }
     {
-        let mut work = self.work;
-        work.quiet();
-        work.begin_event();
-        match tell_models(&mut work) {
+        let mut world = FormWorld::new(self.alloc, self.work);
+        match ready(&mut world, text) {
             Ok(()) => {
-                work.commit();
-                Ok(Engine { work })
+                world.commit();
+                Ok(Engine { world })
             }
             Err(fault) => {
-                work.discard();
+                world.discard();
                 Err(fault)
             }
         }
@@ -90,18 +92,19 @@ impl Constructed {
 }
 
 impl Engine {
-    /// Sets the text of the control that has this id, in these rows, and does what is due. The answer is how many evaluations count. A
-    /// refusal leaves everything as it was.
-    pub fn set(&mut self, id: &str, rows: &[u64], text: &str) -> Result<u64, WorkFault>
-        ensures { IsStepped self.old result self.new (step profile (state_of self.old) (Set id.now rows.now text.now) []) }
+    /// Does an event. Where it is accepted its lines are appended: the notes, and how many events were accepted. The answer is how many evaluations
+    /// count. A refusal leaves everything as it was. The index of a repeat, a submission and a reset are not built: they are told as want of
+    /// memory, and who asks for them answers so before.
+    pub fn post(&mut self, event: &Event, text: &mut String) -> Result<u64, EventFault>
+        ensures { IsStepped self.old result self.new (string_bytes text.old) (string_bytes text.new) (step profile (state_of self.old) event.now []) }
     {
-        match handle(&mut self.work, id, rows, text) {
+        match handle(&mut self.world, event, text) {
             Ok(count) => {
-                self.work.commit();
+                self.world.commit();
                 Ok(count)
             }
             Err(fault) => {
-                self.work.roll_back();
+                self.world.roll_back();
                 Err(fault)
             }
         }
@@ -111,29 +114,27 @@ impl Engine {
     pub fn push_text(&self, text: &mut String) -> Result<(), AllocError>
         ensures { OnOk result (string_bytes text.new ≡ string_bytes text.old ++ state_text profile (state_of self.now)) }
     {
-        self.work.push_text(text)
+        self.world.push_text(text)
     }
 
     /// How many events were accepted.
     pub fn accepted(&self) -> u64
         ensures { result ≡ self.now.accepted }
     {
-        self.work.accepted()
+        self.world.accepted()
     }
 }
 
-/// Sets a text and counts the event. The answer is how many evaluations it made.
-fn handle(work: &mut Work, id: &str, rows: &[u64], text: &str) -> Result<u64, WorkFault>
-    requires built { length work.old.now.models ≤ work.old.built }
-    ensures done { Handles work.old.now result work.new.now (changed_by profile [] (Set id.now rows.now text.now) (state_of work.old.now)) }
-    ensures kept { work.new.kept ≡ work.old.kept }
-    ensures built { work.new.built ≡ work.old.built }
+/// Does an event and counts it. What is written for it is made before it is kept: there may be no memory for it afterwards.
+fn handle(world: &mut FormWorld, event: &Event, text: &mut String) -> Result<u64, EventFault>
+    ensures done { Handles result (machine.state_of world.new) (string_bytes text.old) (string_bytes text.new) (changed_by profile [] event.now (machine.state_of world.old)) }
+    ensures kept { machine.kept_of world.new ≡ machine.kept_of world.old }
 {
-    work.quiet();
-    set(work, id, rows, text)?;
-    let count = work.evaluated();
-    let Ok(()) = work.count_event() else {
-        return Err(WorkFault::Memory);
+    change(world, event)?;
+    let count = world.evaluated();
+    let Ok(()) = world.count_event() else {
+        return Err(EventFault::Memory);
     };
+    push_ok(world.alloc(), text, world.notes(), world.accepted(), None)?;
     Ok(count)
 }

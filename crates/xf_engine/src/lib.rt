@@ -1,9 +1,11 @@
-//! A form at work: its data, what its binds say of them, its controls, and the events that it takes.
-#![tactic(auto)]
+//! A form at work: its data, what its binds say of them, its controls, its handlers, and the events that it takes from outside.
+#![tactic(auto, unfolding(xf_actions::specs::Performs::Refuses))]
 
+mod construction;
 mod engine;
 mod events;
+mod naming;
+mod outermost;
 mod start;
-mod updates;
 
 pub use engine::{Constructed, Engine, construct};

@@ -1,86 +1,45 @@
-//! How a form starts (XForms 1.1, section 4.2): its data are planted, its models built, its controls shown, and its models told so.
+//! How a form that is constructed starts (XForms 1.1, section 4.2): its models are told so.
 
-ghost use Rattle.std.specs.Prelude.{◌≡◌, ◌<◌, ◌≤◌, ◌+◌, length, OnOk};
-ghost use Rattle.xf_form_machine.specs.Construct.{build_model as builds, construct as constructs};
-ghost use Rattle.xf_machine_laws.specs.Quiet.{spend_by_model};
-ghost use Rattle.xf_processor.specs.Formed.{program_in, profile, IsFromBytes};
-ghost use Rattle.xf_work.specs.Does.{Does};
-ghost use Rattle.xf_work.specs.Standing.{state_of};
-ghost use Rattle.xf_engine.specs.Started.{Builds, all_built, built_and_shown, told_quietly};
+ghost use Rattle.std.specs.Prelude.{◌≡◌, ◌++◌, [], OnOk, string_bytes};
+ghost use Rattle.xf_form_machine.specs.Replies.{note_lines};
+ghost use Rattle.xf_form_machine.specs.Start.{readied, tell_model as tells_model, tell_models as tells_models};
+ghost use Rattle.xf_processor.specs.Formed.{profile};
+ghost use Rattle.xf_actions.specs.Performs.{Runs};
+ghost use Rattle.xf_world.specs.Fault.{means};
+ghost use Rattle.xf_world.specs.State.{state_of};
 
-use crate::updates::spend_times;
-use std::alloc::Global;
-use xf_loader::Loaded;
-use xf_work::{Work, WorkFault, planted};
+use crate::outermost::tell;
+use xf_actions::World;
+use xf_report::push_notes;
+use xf_world::{EventFault, FormWorld};
 
-/// Constructs a form.
-pub(crate) fn constructed(alloc: Global, loaded: Loaded) -> Result<Work, WorkFault>
-    requires { IsFromBytes loaded }
-    ensures { Builds result (constructs profile (program_in loaded)) }
+/// Tells the models that they are constructed and ready: an event of its own, with a whole budget. Appends the lines of its notes.
+pub(crate) fn ready(world: &mut FormWorld, text: &mut String) -> Result<(), EventFault>
+    ensures done { Runs means (state_of world.new) result (readied profile [] (state_of world.old)) }
+    ensures text { OnOk result (string_bytes text.new ≡ string_bytes text.old ++ note_lines (state_of world.new).notes) }
 {
-    let mut work = planted(alloc, loaded)?;
-    match begin(&mut work) {
-        Ok(()) => Ok(work),
-        Err(fault) => {
-            // (its parts are dropped there, not in each function that has one)
-            work.discard();
-            Err(fault)
-        }
-    }
+    world.begin_event();
+    tell_models(world, "xforms-model-construct")?;
+    tell_models(world, "xforms-model-construct-done")?;
+    tell_models(world, "xforms-ready")?;
+    push_notes(world.alloc(), text, world.notes())?;
+    Ok(())
 }
 
-/// Its models are built and its controls shown.
-fn begin(work: &mut Work) -> Result<(), WorkFault>
-    requires { work.old.built ≡ 0 }
-    ensures done { Does result work.new.now (built_and_shown profile (state_of work.old.now)) }
-    ensures built { OnOk result (length work.new.now.models ≤ work.new.built) }
+/// Tells an event of this name to each model.
+fn tell_models(world: &mut FormWorld, name: &str) -> Result<(), EventFault>
+    ensures { Runs means (state_of world.new) result (tells_models profile [] name.now (state_of world.old)) }
 {
-    build(work)?;
-    work.show()
-}
-
-/// The models one after the other.
-fn build(work: &mut Work) -> Result<(), WorkFault>
-    requires { work.old.built ≡ 0 }
-    ensures done { Does result work.new.now (all_built profile (state_of work.old.now)) }
-    ensures built { OnOk result (length work.new.now.models ≤ work.new.built) }
-{
-    let count = work.model_count();
+    let count = world.model_count();
     for model in 0..count {
-        build_model(work, model)?;
+        tell_model(world, name, model)?;
     }
     Ok(())
 }
 
-/// The binds of a model are applied, its texts settled, its nodes validated.
-fn build_model(work: &mut Work, model: u32) -> Result<(), WorkFault>
-    requires model { model < length work.old.now.models }
-    requires built { work.old.built ≡ model }
-    ensures done { Does result work.new.now (builds profile model (state_of work.old.now)) }
-    ensures built { OnOk result (work.new.built ≡ model + 1) }
+fn tell_model(world: &mut FormWorld, name: &str, model: u32) -> Result<(), EventFault>
+    ensures { Runs means (state_of world.new) result (tells_model profile [] name.now model (state_of world.old)) }
 {
-    work.rebuild(model)?;
-    work.recalculate(model)?;
-    work.revalidate(model)
-}
-
-/// Tells each model that it is constructed, and then that it is ready, which nobody hears: each event spends a turn.
-pub(crate) fn tell_models(work: &mut Work) -> Result<(), WorkFault>
-    ensures done { Does result work.new.now (told_quietly (state_of work.old.now)) }
-    ensures kept { work.new.kept ≡ work.old.kept }
-    ensures built { work.new.built ≡ work.old.built }
-{
-    tell_each(work)?; // xforms-model-construct
-    tell_each(work)?; // xforms-model-construct-done
-    tell_each(work) // xforms-ready
-}
-
-/// Tells each model of an event that nobody hears.
-fn tell_each(work: &mut Work) -> Result<(), WorkFault>
-    ensures done { Does result work.new.now (spend_by_model (state_of work.old.now)) }
-    ensures kept { work.new.kept ≡ work.old.kept }
-    ensures built { work.new.built ≡ work.old.built }
-{
-    let count = work.model_count();
-    spend_times(work, count as usize)
+    let event = world.event_at(name, world.model_element(model))?;
+    tell(world, &event)
 }

@@ -1,7 +1,18 @@
-use Rattle.xf_engine.proofs.EngineLaws.{handled}
+use Rattle.std.proofs.Common.{false, refl, sym}
+use Rattle.xf_form_machine.specs.Step.{posted}
+use Rattle.xf_world.specs.State.{state_of}
+use Rattle.xf_engine.proofs.EngineLaws.{handled, unhandled, unwritten}
 use Rattle.xf_engine.proofs.engine.handle.Goals as goal
+
+pub returns-in_err-change-clause-done : goal.returns-in_err-change-clause-done
+returns-in_err-change-clause-done c = unhandled _ _ _ _ _ _ c.from_residual.ensures.1 c.in_err-change.ensures.done
+
+pub returns-in_err-push_ok-clause-done : goal.returns-in_err-push_ok-clause-done
+returns-in_err-push_ok-clause-done c = unwritten _ _ _ _ _ c.from_residual-in_err-push_ok.ensures.1
 
 pub returns-clause-done : goal.returns-clause-done
 returns-clause-done c =
-    handled c.args.work.now.now c.set.new.work.now c.count_event.new.self.now c.args.id.now c.args.rows.now c.args.text.now c.evaluated-count.result
-    c.quiet.ensures c.in_ok-set.ensures.done c.evaluated-count.ensures c.in-Ok.ensures.now
+    let after = state_of c.count_event.new.self in
+    handled (state_of c.args.world.now) (state_of c.change.new.world) after c.args.event.now c.evaluated-count.result _ _
+    c.in_ok-change.ensures.done c.in-Ok.ensures.now c.evaluated-count.ensures
+    (c.in_ok-push_ok.ensures false after (posted after) (record { told = sym c.notes.ensures; number = sym c.accepted.ensures; count = refl }))

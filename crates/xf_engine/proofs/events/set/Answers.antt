@@ -1,17 +1,26 @@
-use Rattle.std.proofs.Common.{◌≡◌, Some, None, rules}
-use Rattle.xf_engine.specs.Entries.{entry_from}
-use Rattle.xf_engine.proofs.Flow.{same-does}
-use Rattle.xf_engine.proofs.SetLaws.{set-named, set-unnamed}
+use Rattle.xf_actions.proofs.Flow.{same-runs, stopped}
+use Rattle.xf_world.specs.State.{state_of}
+use Rattle.xf_engine.proofs.EventLaws.{set-settles, set-unnamed, set-unset, set-untried}
 use Rattle.xf_engine.proofs.events.set.Goals as goal
 
-pub returns-in-Some-clause-done : goal.returns-in-Some-clause-done
-returns-in-Some-clause-done c =
-    let found : entry_from c.args.id.now 0 c.args.work.now.now.form.elements ≡ Some c.in-Some.element = search rules in
-    same-does _ _ _ _
-    (set-named c.args.work.now.now c.args.id.now c.args.rows.now c.args.text.now c.in-Some.element c.quiet.ensures c.plain.ensures found)
-    c.set_element.ensures.done
+pub returns-in_err-element-clause-done : goal.returns-in_err-element-clause-done
+returns-in_err-element-clause-done c =
+    stopped _ _ _ _ _ c.from_residual.ensures.1 (set-unnamed (state_of c.args.world.now) c.args.id.now c.args.rows.now c.args.text.now _ _ c.in_err-element.ensures)
 
-pub returns-in-None-clause-done : goal.returns-in-None-clause-done
-returns-in-None-clause-done c =
-    let none : entry_from c.args.id.now 0 c.args.work.now.now.form.elements ≡ None = search rules in
-    set-unnamed c.args.work.now.now c.args.id.now c.args.rows.now c.args.text.now none
+pub returns-in_err-node-clause-done : goal.returns-in_err-node-clause-done
+returns-in_err-node-clause-done c =
+    stopped _ _ _ _ _ c.from_residual-in_err-node.ensures.1
+    (set-untried (state_of c.args.world.now) c.args.id.now c.args.rows.now c.args.text.now c.in_ok-element.element _ _ c.without_rows.ensures c.plain.ensures c.in_ok-element.ensures c.in_err-node.ensures)
+
+pub returns-in_err-set_bound-clause-done : goal.returns-in_err-set_bound-clause-done
+returns-in_err-set_bound-clause-done c =
+    stopped _ _ _ _ _ c.from_residual-in_err-set_bound.ensures.1
+    (set-unset (state_of c.args.world.now) c.args.id.now c.args.rows.now c.args.text.now c.in_ok-element.element _ _ _ c.without_rows.ensures c.plain.ensures c.in_ok-element.ensures c.in_ok-node.ensures
+    c.in_err-set_bound.ensures.done)
+
+pub returns-clause-done : goal.returns-clause-done
+returns-clause-done c =
+    same-runs _ _ _ _ _
+    (set-settles (state_of c.args.world.now) (state_of c.set_bound.new.world) c.args.id.now c.args.rows.now c.args.text.now c.in_ok-element.element _ c.without_rows.ensures c.plain.ensures
+    c.in_ok-element.ensures c.in_ok-node.ensures c.in_ok-set_bound.ensures.done)
+    c.settle.ensures.done

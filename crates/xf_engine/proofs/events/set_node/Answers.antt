@@ -1,0 +1,20 @@
+use Rattle.xf_doc.specs.Shape.{has_elements}
+use Rattle.xf_form_machine.specs.Primitives.{set_text}
+use Rattle.xf_form_machine.specs.Surround.{all_in}
+use Rattle.xf_processor.specs.Formed.{profile}
+use Rattle.xf_actions.proofs.Flow.{same-runs, stopped}
+use Rattle.xf_world.specs.State.{state_of}
+use Rattle.xf_engine.proofs.EventLaws.{parent-allows, parent-refuses}
+use Rattle.xf_engine.proofs.events.set_node.Goals as goal
+
+pub returns-in_err-may_set-clause-done : goal.returns-in_err-may_set-clause-done
+returns-in_err-may_set-clause-done c =
+    let s = state_of c.args.world.now in
+    let n = c.args.node.number in
+    stopped _ _ _ _ _ c.from_residual.ensures.1 (parent-refuses (has_elements (all_in s) n) n (set_text profile n c.args.text.now) s _ _ c.in_err-may_set.ensures)
+
+pub returns-clause-done : goal.returns-clause-done
+returns-clause-done c =
+    let s = state_of c.args.world.now in
+    let n = c.args.node.number in
+    same-runs _ _ _ _ _ (parent-allows (has_elements (all_in s) n) n (set_text profile n c.args.text.now) s c.in_ok-may_set.ensures) c.set_text.ensures.done

@@ -1,0 +1,5 @@
+use Rattle.std.proofs.Common.{[]}
+use Rattle.xf_engine.proofs.outermost.tell.Goals as goal
+
+pub returns-clause-done : goal.returns-clause-done
+returns-clause-done c = c.dispatch.ensures.done [] tt

@@ -1,9 +1,0 @@
-use Rattle.xf_processor.specs.Formed.{profile}
-use Rattle.xf_work.specs.Standing.{state_of}
-use Rattle.xf_engine.proofs.Keeps.{rebuilt-count, below-same}
-use Rattle.xf_engine.proofs.updates.recalculate_due.Goals as goal
-
-pub is_flagged-requires : goal.is_flagged-requires
-is_flagged-requires c =
-    below-same _ _ _ (rebuilt-count profile c.args.model (state_of c.args.work.now.now) (state_of c.rebuild_due.new.work.now) c.in_ok-rebuild_due.ensures.done)
-    c.requires.model

@@ -1,0 +1,26 @@
+-- The construction of a form without repeats and switches, step by step.
+use Rattle.std.specs.Prelude.{◌≡◌, true, length, Result, Ok, Err}
+use Rattle.xf_form_machine.specs.Profile.{Profile}
+use Rattle.xf_form_machine.specs.State.{State}
+use Rattle.xf_form_machine.specs.Refusal.{Refused}
+use Rattle.xf_form_machine.specs.Flow.{Run, ◌>>=◌, in_turn}
+use Rattle.xf_form_machine.specs.Cycles.{counted_from}
+use Rattle.xf_form_machine.specs.Construct.{build_model, first_shown}
+use Rattle.xf_work.specs.declared.fault.WorkFault.{WorkFault}
+use Rattle.xf_work.specs.declared.fault.WorkFault.TheVariants as fault
+use Rattle.xf_work.specs.Standing.{state_of}
+use Rattle.xf_work.specs.Does.{Twin, IsRefused}
+use Rattle.xf_engine.specs.Stepped.{is_of_form}
+
+-- the models one after the other
+abbrev pub all_built : Profile → Run
+all_built p s = in_turn (build_model p) (counted_from 0 (length s.models)) s
+
+-- then the controls are shown
+abbrev pub built_and_shown : Profile → Run
+built_and_shown p s = all_built p s >>= first_shown p
+
+abbrev pub Builds : Result Twin WorkFault → Result State Refused → Type 0
+Builds (Ok w) given = given ≡ Ok (state_of w.now)
+Builds (Err (fault.Refused refusal)) given = IsRefused refusal given × (is_of_form refusal ≡ true)
+Builds (Err fault.Memory) given = Unit {0}

@@ -1,0 +1,61 @@
+//! How a form is constructed (XForms 1.1, section 4.2.1): its data are planted, its models built, its controls shown.
+
+ghost use Rattle.std.specs.Prelude.{◌≡◌, ◌<◌, ◌+◌, length, OnOk};
+ghost use Rattle.xf_form_machine.specs.Construct.{build_model as builds, construct as constructs};
+ghost use Rattle.xf_processor.specs.Formed.{program_in, profile, IsFromBytes};
+ghost use Rattle.xf_work.specs.Does.{Does};
+ghost use Rattle.xf_work.specs.Standing.{state_of};
+ghost use Rattle.xf_engine.specs.Constructed.{Builds, all_built, built_and_shown};
+
+use std::alloc::Global;
+use xf_loader::Loaded;
+use xf_work::{Work, WorkFault, planted};
+
+/// Constructs a form.
+pub(crate) fn constructed(alloc: Global, loaded: Loaded) -> Result<Work, WorkFault>
+    requires { IsFromBytes loaded }
+    ensures { Builds result (constructs profile (program_in loaded)) }
+{
+    let mut work = planted(alloc, loaded)?;
+    match begin(&mut work) {
+        Ok(()) => Ok(work),
+        Err(fault) => {
+            // (its parts are dropped there, not in each function that has one)
+            work.discard();
+            Err(fault)
+        }
+    }
+}
+
+/// Its models are built and its controls shown.
+fn begin(work: &mut Work) -> Result<(), WorkFault>
+    requires { work.old.built ≡ 0 }
+    ensures { Does result work.new.now (built_and_shown profile (state_of work.old.now)) }
+{
+    build(work)?;
+    work.show()
+}
+
+/// The models one after the other.
+fn build(work: &mut Work) -> Result<(), WorkFault>
+    requires { work.old.built ≡ 0 }
+    ensures { Does result work.new.now (all_built profile (state_of work.old.now)) }
+{
+    let count = work.model_count();
+    for model in 0..count {
+        build_model(work, model)?;
+    }
+    Ok(())
+}
+
+/// The binds of a model are applied, its texts settled, its nodes validated.
+fn build_model(work: &mut Work, model: u32) -> Result<(), WorkFault>
+    requires model { model < length work.old.now.models }
+    requires built { work.old.built ≡ model }
+    ensures done { Does result work.new.now (builds profile model (state_of work.old.now)) }
+    ensures built { OnOk result (work.new.built ≡ model + 1) }
+{
+    work.rebuild(model)?;
+    work.recalculate(model)?;
+    work.revalidate(model)
+}

@@ -1,0 +1,112 @@
+//! The elements that events from outside name.
+
+ghost use Rattle.std.specs.Prelude.{◌≡◌, option_map, IfOk};
+ghost use Rattle.xf_controls.specs.Seen.{seen_copy};
+ghost use Rattle.xf_form_machine.specs.Tables.{role_of};
+ghost use Rattle.xf_form_machine.specs.Targets.{by_role, element_named, or_no_target};
+ghost use Rattle.xf_machine_laws.specs.Rowless.{copy_at};
+ghost use Rattle.xf_actions.specs.Performs.{Reads};
+ghost use Rattle.xf_world.specs.Fault.{means};
+ghost use Rattle.xf_world.specs.State.{state_of};
+ghost use Rattle.xf_engine.specs.Naming.{is_named, is_wanted, named_from};
+
+use std::alloc::AllocError;
+use xf_actions::World;
+use xf_ast::{Control, Element, Kind};
+use xf_controls::ControlCopy;
+use xf_form_machine::Refusal;
+use xf_world::{EventFault, FormWorld};
+
+/// What an event asks of the element that it names.
+#[derive(Clone, Copy, Debug, PartialEq, Eq)]
+pub enum Wanted {
+    /// Its text is set.
+    Entry,
+    /// It is activated.
+    Trigger,
+    Any,
+}
+
+/// The first element with this id that is wanted.
+pub(crate) fn target(world: &FormWorld, wanted: Wanted, id: &str) -> Result<u32, EventFault>
+    ensures { Reads means (λ n. n) (state_of world.now) result (or_no_target (state_of world.now) (element_named (state_of world.now) (by_role (state_of world.now) (is_wanted wanted)) id.now)) }
+{
+    match first_named(world.form().elements.as_slice(), wanted, id)? {
+        Some(element) => Ok(element),
+        None => Err(EventFault::Refused(Refusal::NoSuchTarget)),
+    }
+}
+
+fn first_named(elements: &[Element], wanted: Wanted, id: &str) -> Result<Option<u32>, AllocError>
+    ensures { IfOk result (λ found. found ≡ named_from wanted id.now 0 elements.now) }
+{
+    let mut number: u32 = 0;
+    for element in elements {
+        if is_named(element, wanted, id) {
+            return Ok(Some(number));
+        }
+        if number == u32::MAX {
+            return Err(AllocError);
+        }
+        number += 1;
+    }
+    Ok(None)
+}
+
+fn is_named(element: &Element, wanted: Wanted, id: &str) -> bool
+    ensures { result ≡ is_named wanted id.now element.now }
+{
+    if id.is_empty() {
+        return false;
+    }
+    element.id.is(id) && is_wanted(&element.kind, wanted)
+}
+
+fn is_wanted(kind: &Kind, wanted: Wanted) -> bool
+    ensures { result ≡ is_wanted wanted (role_of kind.now) }
+{
+    match wanted {
+        Wanted::Entry => takes_text(kind),
+        Wanted::Trigger => is_activated(kind),
+        Wanted::Any => true,
+    }
+}
+
+/// Whether an element of this kind takes a text from outside.
+fn takes_text(kind: &Kind) -> bool
+    ensures { result ≡ is_wanted Wanted.Entry (role_of kind.now) }
+{
+    match kind {
+        Kind::Control(_, Control::Input) => true,
+        Kind::Control(_, Control::Secret) => true,
+        Kind::Control(_, Control::Textarea) => true,
+        Kind::Control(_, Control::Select(_)) => true,
+        Kind::Control(_, Control::SelectOne(_)) => true,
+        _ => false,
+    }
+}
+
+fn is_activated(kind: &Kind) -> bool
+    ensures { result ≡ is_wanted Wanted.Trigger (role_of kind.now) }
+{
+    match kind {
+        Kind::Control(_, Control::Trigger) => true,
+        Kind::Control(_, Control::Submit(_)) => true,
+        _ => false,
+    }
+}
+
+/// The copy of a control in these rows: it stands in none.
+pub(crate) fn copy_in<'a>(
+    world: &'a FormWorld,
+    element: u32,
+    rows: &[u64],
+) -> Option<&'a ControlCopy>
+    ensures { option_map (λ c. seen_copy c.now) result ≡ copy_at element rows.now (state_of world.now) }
+{
+    if rows.is_empty() {
+        world.control(element)
+    } else {
+        None
+    }
+}
