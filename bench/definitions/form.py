@@ -197,6 +197,7 @@ class Parser:
 CONTROLS = {"group", "switch", "case", "repeat", "input", "secret", "textarea", "output", "select", "select1", "trigger", "submit"}
 ACTIONS = {"action", "setvalue", "insert", "delete", "setindex", "toggle", "setfocus", "dispatch", "send", "load", "message", "reset", "rebuild",
            "recalculate", "revalidate", "refresh"}
+HAS_MODEL = (CONTROLS - {"output", "case"}) | ACTIONS
 PASSED = {"help", "hint", "alert", "extension"}
 TEXTS = {"label", "value", "message"}
 
@@ -308,7 +309,7 @@ class Loader:
             return n.of
         if "bind" in n.attr:
             return self.ids[n.attr["bind"]].model_around
-        if "model" in n.attr:
+        if "model" in n.attr and n.kind in HAS_MODEL:
             return self.ids[n.attr["model"]].of
         return self.scope(n.parent)
 
@@ -400,7 +401,7 @@ class Loader:
 
     def element(self, n):
         k = n.kind
-        model = some(n.of) if k == "model" else (some(self.ids[n.attr["model"]].of) if k not in ("host", "bind", "instance", "submission") and "model" in n.attr else None_)
+        model = some(n.of) if k == "model" else (some(self.ids[n.attr["model"]].of) if k in HAS_MODEL and "model" in n.attr else None_)
         if k in ("host", "model", "instance", "bind", "submission", "case", "item", "choices", "toggle", "setindex", "setfocus", "dispatch", "send", "action") or k in ("reset", "rebuild", "recalculate", "revalidate", "refresh"):
             binding = ("Absent",)
         elif k in ("repeat", "itemset", "insert", "delete"):

@@ -1,9 +1,11 @@
 -- How a whole run ends.
-use Rattle.std.proofs.Common.{◌≡◌, ◌≤◌, ℕ, List, [], string_bytes, Result, Ok, Err, Contains, refl, ap, sym, subst, arith, inl, inr}
+use Rattle.std.proofs.Common.{◌≡◌, ◌≤◌, ℕ, List, [], ◌++◌, string_bytes, Result, Ok, Err, Contains, refl, ap, sym, ◌∙◌, subst, arith, inl, inr}
 use Rattle.std.specs.declared.option.Option.{Option}
 use Rattle.std.specs.Io.KnownBytes.{Appends}
 use Rattle.std.proofs.KnownBytes.{Appends-nil, Appends-trans}
 use Rattle.xf_base.specs.Faults.{Rose}
+use Rattle.xf_io.specs.Front.{AppendsFront}
+use Rattle.xf_answers.specs.Answering.{Answered}
 use Rattle.xf_answers.specs.declared.lines.Ending.{Ending}
 use Rattle.xf_answers.specs.declared.lines.Ending.TheVariants as ending
 use Rattle.xf_loader.specs.declared.fault.FormFault.TheVariants as fault
@@ -15,7 +17,8 @@ use Rattle.xf_form_machine.specs.Flow.{◌>>=◌}
 use Rattle.xf_form_machine.specs.Construct.{construct}
 use Rattle.xf_form_machine.specs.FormReplies.{construct_texts}
 use Rattle.xf_form_machine.specs.Start.{start, readied}
-use Rattle.xf_form_machine.specs.Step.{outcome, at_end}
+use Rattle.xf_form_machine.specs.Step.{Posted, Outcome, outcome, at_end}
+use Rattle.xf_form_machine.specs.Replies.{note_lines}
 use Rattle.xf_processor.specs.Formed.{program_in, profile}
 use Rattle.xf_work.specs.Standing.{Standing, state_of}
 use Rattle.xf_engine.specs.Stepped.{started, IsAccepted}
@@ -24,8 +27,9 @@ use Rattle.xf_cli.specs.declared.status.Command.TheVariants.{Try, Check}
 use Rattle.xf_cli.specs.declared.status.Status.{Status}
 use Rattle.xf_cli.specs.declared.status.Status.TheVariants as status
 use Rattle.xf_cli.specs.Outside.{Outside, HasRisen, IsFormRead}
-use Rattle.xf_cli.specs.Written.{Give, Spells, RefusesStart, RefusesProgram, RefusesBytes, IsAcceptable, FromForm, HasCauseIn, Writes, AppendsLine, status_line, Ends, IsStartRefused, refusal_line}
-use Rattle.xf_cli.specs.Finish.{IsRefusedWith, Says, Finishes, Runs, RunsLoaded, RunsConstructed}
+use Rattle.xf_cli.specs.Written.{Give, Spells, RefusesStart, RefusesProgram, RefusesBytes, IsAcceptable, FromForm, AnswersBehind, HasCauseIn, Writes, AppendsLine, status_line, Ends, IsStartRefused, refusal_line}
+use Rattle.xf_cli.specs.Replies.{Answers}
+use Rattle.xf_cli.specs.Finish.{IsRefusedWith, Says, Finishes, Runs, AnsweredBehind, StartedAndAnswered, RunsLoaded, RunsConstructed}
 
 -- ---- a form that is constructed, and started
 
@@ -40,7 +44,7 @@ tried l c (status.Refused line) events left before after e h =
     (h.0, inr (subst (λ r. RefusesStart r (start profile (program_in l) []) (string_bytes line)) (sym e) started))
 tried l c status.NoRoom events left before after e h = h
 tried l c (status.Answered ending) events left before after e h =
-    (refl, (h.0, h.1, subst (λ o. IsAccepted o (state_of h.0) h.1) (sym (start-same (program_in l) (state_of c) e)) h.2, h.3))
+    (refl, subst (λ o. StartedAndAnswered o ending events left before after) (sym (start-same (program_in l) (state_of c) e)) h)
 tried l c status.Checked events left before after e h = absurd h
 tried l c status.Usage events left before after e h = absurd h
 tried l c status.Unread events left before after e h = absurd h
@@ -56,9 +60,26 @@ refused_by Check l line h = h
 
 -- ---- the run over a form
 
-from_form : (form : Option (List ℕ)) (l : Loaded) (first : Standing) (count : ℕ) (holds : Standing → Type 0) → Give form (Ok l)
-    → IsAccepted (start profile (program_in l) []) (state_of first) count → holds first → FromForm form holds
-from_form form l first count holds is a h = (l, first, count, is, a, h)
+from_form : (form : Option (List ℕ)) (l : Loaded) (first : Standing) (posted : Posted) (holds : List ℕ → Standing → Type 0) → Give form (Ok l)
+    → IsAccepted (start profile (program_in l) []) (state_of first) posted → holds (note_lines posted.notes) first → FromForm form holds
+from_form form l first posted holds is a h = (l, first, posted, is, a, h)
+
+-- the notes were written, and then the answers to the lines
+pub behind : (notes : List ℕ) (e : Ending) (first : Standing) (events left before mid after : Option (List ℕ)) → Appends before mid notes
+    → Answered Answers e first events left mid after → AnsweredBehind notes e first events left before after
+behind notes e first events left before mid after wrote h = (notes ++ h.0, inl (h.0, h.1, refl), Appends-trans before mid after notes h.0 wrote h.2)
+
+-- of a start that is accepted
+pub answered_so : (given : Outcome) (s : Standing) (notes text : List ℕ) (e : Ending) (events left before after : Option (List ℕ))
+    → ((posted : Posted) × IsAccepted given (state_of s) posted × (text ≡ note_lines posted.notes)) → notes ≡ text
+    → AnsweredBehind notes e s events left before after → StartedAndAnswered given e events left before after
+answered_so given s notes text e events left before after h is k =
+    (s, h.0, h.1, subst (λ n. AnsweredBehind n e s events left before after) (is ∙ h.2) k)
+
+-- the sink failed at the notes
+pub cut_off : (notes : List ℕ) (e : Ending) (first : Standing) (events left before after : Option (List ℕ)) → AppendsFront before after notes → e ≡ ending.SinkFault → left ≡ events
+    → AnsweredBehind notes e first events left before after
+cut_off notes e first events left before after h is unread = (h.0, inr (is, unread, (h.1, h.2)), h.3)
 
 refuses : (command : Command) (form : Option (List ℕ)) (l : Loaded) (line : List ℕ) → Give form (Ok l) → RefusesProgram command (program_in l) line → RefusesBytes command form line
 refuses command form l line is h = (Ok l, is, h)
@@ -87,7 +108,7 @@ pub runs_loaded : (s : Status) (command : Command) (l : Loaded) (outside : Outsi
     → RunsLoaded command l outside.events outside.left outside.before outside.after s
     → (s ≡ status.Answered ending.ReadFault → HasRisen outside.event_faults) → (s ≡ status.Answered ending.SinkFault → HasRisen outside.out_faults) → Runs s outside
 runs_loaded (status.Answered e) command l outside spells taken is h read written =
-    (h.1.3.0, (spells-try outside.words command spells h.0, taken, from_form outside.form l h.1.0 h.1.1 _ is h.1.2 h.1.3.1, cause_of e outside read written), h.1.3.2)
+    (h.1.3.0, (spells-try outside.words command spells h.0, taken, from_form outside.form l h.1.0 h.1.1 (λ notes first. AnswersBehind notes e first outside.events outside.left h.1.3.0) is h.1.2 h.1.3.1, cause_of e outside read written), h.1.3.2)
 runs_loaded (status.Refused line) command l outside spells taken is h read written =
     ([], (command, (spells, taken, h.0.unread, refl), refuses command outside.form l (string_bytes line) is h.1), untouched outside.before outside.after h.0.unwritten)
 runs_loaded status.Checked command l outside spells taken is h read written =

@@ -3,12 +3,14 @@ use Rattle.std.specs.Prelude.{◌≡◌, ◌⊎◌, ◌≤◌, ◌^◌, ℕ, Lis
 use Rattle.std.specs.Io.KnownBytes.{Appends, Consumes, IsAtEnd}
 use Rattle.xf_base.specs.Faults.{Rose}
 use Rattle.xf_answers.specs.Answers.{IsFront}
-use Rattle.xf_answers.specs.Answering.{Answered}
+use Rattle.xf_answers.specs.declared.lines.Ending.{Ending}
 use Rattle.xf_loader.specs.declared.fault.FormFault.TheVariants as fault
 use Rattle.xf_loader.specs.declared.loaded.Loaded as loader
 use Rattle.xf_form_machine.specs.State.{State}
 use Rattle.xf_form_machine.specs.Construct.{construct}
 use Rattle.xf_form_machine.specs.Start.{start}
+use Rattle.xf_form_machine.specs.Step.{Posted, Outcome}
+use Rattle.xf_form_machine.specs.Replies.{note_lines}
 use Rattle.xf_form_machine.specs.FormReplies.{construct_texts}
 use Rattle.xf_processor.specs.Formed.{program_in, profile}
 use Rattle.xf_work.specs.Standing.{Standing, state_of}
@@ -26,8 +28,7 @@ use Rattle.xf_cli.specs.declared.status.Command.TheVariants.{Try, Check}
 use Rattle.xf_cli.specs.declared.status.Status.{Status}
 use Rattle.xf_cli.specs.declared.status.Status.TheVariants as status
 use Rattle.xf_cli.specs.Outside.{Outside}
-use Rattle.xf_cli.specs.Replies.{Answers}
-use Rattle.xf_cli.specs.Written.{Give, Spells, refusal_line, RefusesProgram, IsStartRefused, Writes, status_line, status_code}
+use Rattle.xf_cli.specs.Written.{Give, Spells, refusal_line, RefusesProgram, IsStartRefused, AnswersBehind, Writes, status_line, status_code}
 
 -- ---- reading a form
 
@@ -74,8 +75,9 @@ IsBegun l (begun.Constructed c) = construct profile (program_in l) ≡ Ok (state
 IsBegun l (begun.Refused line) = Contains (construct_texts (construct profile (program_in l))) (string_bytes line)
 IsBegun l begun.NoRoom = Unit {0}
 
+-- with the lines of the notes
 abbrev pub IsStarted : State → Started → Type 0
-IsStarted c (outset.Session s) = (count : ℕ) × IsAccepted (started c) (state_of s) count
+IsStarted c (outset.Session s notes) = (posted : Posted) × IsAccepted (started c) (state_of s) posted × (string_bytes notes ≡ note_lines posted.notes)
 IsStarted c (outset.Refused line) = IsStartRefused (started c) (string_bytes line)
 IsStarted c outset.NoRoom = Unit {0}
 
@@ -83,6 +85,15 @@ IsStarted c outset.NoRoom = Unit {0}
 pub record IsQuietly (events left before after : Option (List ℕ)) : Type 0 where
   pub unread : left ≡ events
   pub unwritten : after ≡ before
+
+-- the notes of the start and the answers to the lines were written, and the lines end so
+abbrev pub AnsweredBehind : List ℕ → Ending → Standing → Option (List ℕ) → Option (List ℕ) → Option (List ℕ) → Option (List ℕ) → Type 0
+AnsweredBehind notes ending first events left before after = (written : List ℕ) × AnswersBehind notes ending first events left written × Appends before after written
+
+-- the form has started so, and then the lines were answered
+abbrev pub StartedAndAnswered : Outcome → Ending → Option (List ℕ) → Option (List ℕ) → Option (List ℕ) → Option (List ℕ) → Type 0
+StartedAndAnswered given ending events left before after =
+    (first : Standing) × (posted : Posted) × IsAccepted given (state_of first) posted × AnsweredBehind (note_lines posted.notes) ending first events left before after
 
 -- ---- what the run comes to over a form that is loaded
 
@@ -92,7 +103,7 @@ RunsLoaded command l events left before after status.Checked =
     IsQuietly events left before after × (command ≡ Check) × ((s : State) × (construct profile (program_in l) ≡ Ok s))
 RunsLoaded command l events left before after status.NoRoom = IsQuietly events left before after
 RunsLoaded command l events left before after (status.Answered e) =
-    (command ≡ Try) × ((first : Standing) × (count : ℕ) × IsAccepted (start profile (program_in l) []) (state_of first) count × Answered Answers e first events left before after)
+    (command ≡ Try) × StartedAndAnswered (start profile (program_in l) []) e events left before after
 RunsLoaded command l events left before after status.Usage = ⊥
 RunsLoaded command l events left before after status.Unread = ⊥
 
@@ -100,8 +111,7 @@ RunsLoaded command l events left before after status.Unread = ⊥
 abbrev pub RunsConstructed : State → Option (List ℕ) → Option (List ℕ) → Option (List ℕ) → Option (List ℕ) → Status → Type 0
 RunsConstructed c events left before after (status.Refused line) = IsQuietly events left before after × IsStartRefused (started c) (string_bytes line)
 RunsConstructed c events left before after status.NoRoom = IsQuietly events left before after
-RunsConstructed c events left before after (status.Answered e) =
-    (first : Standing) × (count : ℕ) × IsAccepted (started c) (state_of first) count × Answered Answers e first events left before after
+RunsConstructed c events left before after (status.Answered e) = StartedAndAnswered (started c) e events left before after
 RunsConstructed c events left before after status.Checked = ⊥
 RunsConstructed c events left before after status.Usage = ⊥
 RunsConstructed c events left before after status.Unread = ⊥

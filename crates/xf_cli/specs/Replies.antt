@@ -1,47 +1,48 @@
--- What is written for a line of the events, as far as the program can do it by now: a text is set, or the state shown; any other event is
--- refused as not built.
-use Rattle.std.specs.Prelude.{ℕ, ◌≡◌, false, List, [], ◌∷◌, length, codes, nat_lt, Result, Ok, Err, Contains, if◌then◌else◌}
+-- What is written for a line of the events, as far as the program can do it by now: what chooses a row, starts a submission or resets a model
+-- is refused as not built; all else is answered as the form machine says.
+use Rattle.std.specs.Prelude.{ℕ, ◌≡◌, Bool, true, false, not, ◌&&◌, List, [], ◌∷◌, length, bytes_eq, codes, nat_lt, Result, Ok, Err, Contains, if◌then◌else◌}
 use Rattle.std.specs.List.{list_all}
 use Rattle.xf_base.specs.Limits.{line_limit}
 use Rattle.xf_line.specs.declared.event.Asked.{Asked}
 use Rattle.xf_line.specs.declared.event.Asked.TheVariants as asked
 use Rattle.xf_line.specs.declared.event.Event.{Event}
-use Rattle.xf_line.specs.declared.event.Event.TheVariants.{Set}
+use Rattle.xf_line.specs.declared.event.Event.TheVariants.{Index, Send, Dispatch, Reset}
 use Rattle.xf_line.specs.declared.fault.LineFault.{LineFault}
 use Rattle.xf_line.specs.Line.{asked_by}
 use Rattle.xf_form_machine.specs.State.{State}
-use Rattle.xf_form_machine.specs.Replies.{Reply, without_event, reply_asked, reply_read, is_blank}
+use Rattle.xf_form_machine.specs.Replies.{Reply, without_event, reply_read, reply, is_blank}
 use Rattle.xf_work.specs.Standing.{Standing, state_of}
 use Rattle.xf_processor.specs.Formed.{profile}
 
--- evaluations are not counted
-abbrev pub asked_reply : State → Asked → Reply
-asked_reply s asked = reply_asked profile false s [] asked
+-- ---- what is not built
 
--- ---- what is asked for
+abbrev pub is_unbuilt : Event → Bool
+is_unbuilt (Index id k) = true
+is_unbuilt (Send id) = true
+is_unbuilt (Dispatch name id) = bytes_eq name (codes "xforms-reset")
+is_unbuilt (Reset id) = true
+is_unbuilt event = false
+
+abbrev pub asks_unbuilt : Result Asked LineFault → Bool
+asks_unbuilt (Ok (asked.Event event)) = is_unbuilt event
+asks_unbuilt (Ok asked.Show) = false
+asks_unbuilt (Err fault) = false
+
+-- it is neither too long nor blank, and asks for that
+abbrev pub is_unbuilt_line : List ℕ → Bool
+is_unbuilt_line line = not (nat_lt line_limit (length line)) && (not (list_all is_blank line) && asks_unbuilt (asked_by line))
 
 abbrev pub unbuilt_reply : State → Reply
 unbuilt_reply s = without_event s (codes "no E15 NotBuilt\n" ∷ [])
 
-abbrev pub event_reply : State → Event → Reply
-event_reply s (Set id rows text) = asked_reply s (asked.Event (Set id rows text))
-event_reply s event = unbuilt_reply s
-
-abbrev pub built_asked : State → Asked → Reply
-built_asked s (asked.Event event) = event_reply s event
-built_asked s asked.Show = asked_reply s asked.Show
-
-abbrev pub built_read : State → Result Asked LineFault → Reply
-built_read s (Ok given) = built_asked s given
-built_read s (Err fault) = reply_read profile false s [] (Err fault)
-
--- ---- a line: one of blanks has no reply
+-- ---- a line: evaluations are not counted, and no answer of the store is asked for
 
 abbrev pub built_reply : State → List ℕ → Reply
-built_reply s line =
-    if nat_lt line_limit (length line) then without_event s (codes "no E1 LineTooLong\n" ∷ [])
-    else if list_all is_blank line then without_event s ([] ∷ [])
-    else built_read s (asked_by line)
+built_reply s line = if is_unbuilt_line line then unbuilt_reply s else reply profile false s [] line
+
+-- the same by what was read of it
+abbrev pub built_read : State → Result Asked LineFault → Reply
+built_read s given = if asks_unbuilt given then unbuilt_reply s else reply_read profile false s [] given
 
 -- these bytes may be written, and that state stands after it; the store is not called
 pub record Gives (r : Reply) (written : List ℕ) (next : State) : Type 0 where

@@ -14,8 +14,9 @@ use Rattle.xf_form_machine.specs.State.{State}
 use Rattle.xf_form_machine.specs.Refusal as machine
 use Rattle.xf_form_machine.specs.Construct.{construct}
 use Rattle.xf_form_machine.specs.Start.{start}
-use Rattle.xf_form_machine.specs.Step.{Outcome, accepted, refused}
+use Rattle.xf_form_machine.specs.Step.{Posted, Outcome, accepted, refused}
 use Rattle.xf_form_machine.specs.FormReplies.{construct_texts, ready_text}
+use Rattle.xf_form_machine.specs.Replies.{note_lines}
 use Rattle.xf_form_machine.specs.StateText.{line_of}
 use Rattle.xf_processor.specs.Formed.{program_in, profile}
 use Rattle.xf_work.specs.Standing.{Standing, state_of}
@@ -107,12 +108,18 @@ RefusesBytes command form line = (given : Result Loaded FormFault) × Give form 
 abbrev pub IsAcceptable : Known (List ℕ) → Type 0
 IsAcceptable form = (loaded : Loaded) × (s : State) × Give form (Ok loaded) × (construct profile (program_in loaded) ≡ Ok s)
 
--- they give a form from whose state after the start this holds
-abbrev pub FromForm : Known (List ℕ) → (Standing → Type 0) → Type 0
+-- they give a form of whose start, by the lines of its notes and the state after it, this holds
+abbrev pub FromForm : Known (List ℕ) → (List ℕ → Standing → Type 0) → Type 0
 FromForm form holds =
-    (loaded : Loaded) × (first : Standing) × (count : ℕ) × Give form (Ok loaded) × IsAccepted (start profile (program_in loaded) []) (state_of first) count × holds first
+    (loaded : Loaded) × (first : Standing) × (posted : Posted) × Give form (Ok loaded) × IsAccepted (start profile (program_in loaded) []) (state_of first) posted
+    × holds (note_lines posted.notes) first
 
 -- ---- a whole run
+
+-- the notes of the start are written, and then the answers to the lines; or the sink failed at the notes, and no line was read
+abbrev pub AnswersBehind : List ℕ → Ending → Standing → Known (List ℕ) → Known (List ℕ) → List ℕ → Type 0
+AnswersBehind notes ending first events left written =
+    ((rest : List ℕ) × AnswersKnown Answers ending first events left rest × (written ≡ notes ++ rest)) ⊎ ((ending ≡ SinkFault) × (left ≡ events) × IsFront written notes)
 
 -- a fault is told only where the object that was handed in counted one
 abbrev pub HasCauseIn : Ending → Outside → Type 0
@@ -134,7 +141,7 @@ Writes Checked outside written = BeforeEvents Check outside written × IsAccepta
 Writes Unread outside written = (command : Command) × BeforeEvents command outside written × HasRisen outside.form_faults
 Writes NoRoom outside written = (command : Command) × BeforeEvents command outside written
 Writes (Answered ending) outside written =
-    Spells outside.words Try × IsFormRead outside × FromForm outside.form (λ first. AnswersKnown Answers ending first outside.events outside.left written) × HasCauseIn ending outside
+    Spells outside.words Try × IsFormRead outside × FromForm outside.form (λ notes first. AnswersBehind notes ending first outside.events outside.left written) × HasCauseIn ending outside
 
 -- ---- the line for a status
 

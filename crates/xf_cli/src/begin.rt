@@ -10,7 +10,7 @@ use xf_engine as engine;
 use xf_engine::Constructed;
 use xf_loader::Loaded;
 use xf_report::{push_construct_refusal, push_ready_refusal};
-use xf_work::WorkFault;
+use xf_world::EventFault;
 
 /// What comes of constructing a form.
 #[derive(Drop)]
@@ -24,7 +24,8 @@ pub(crate) enum Begun {
 /// What comes of starting a form.
 #[derive(Drop)]
 pub(crate) enum Started {
-    Session(Session),
+    /// It is at work; with the lines of the notes.
+    Session(Session, String),
     /// It is refused, with this line.
     Refused(String),
     NoRoom,
@@ -37,14 +38,14 @@ pub(crate) fn construct(alloc: Global, loaded: Loaded) -> Begun
 {
     match engine::construct(alloc, loaded) {
         Ok(constructed) => Begun::Constructed(constructed),
-        Err(WorkFault::Refused(refusal)) => {
+        Err(EventFault::Refused(refusal)) => {
             let mut line = String::new(alloc);
             match push_construct_refusal(&mut line, &refusal) {
                 Ok(()) => Begun::Refused(line),
                 Err(_) => Begun::NoRoom,
             }
         }
-        Err(WorkFault::Memory) => Begun::NoRoom,
+        Err(EventFault::Memory) => Begun::NoRoom,
     }
 }
 
@@ -52,15 +53,16 @@ pub(crate) fn construct(alloc: Global, loaded: Loaded) -> Begun
 pub(crate) fn start(alloc: Global, constructed: Constructed) -> Started
     ensures { IsStarted (state_of constructed) result }
 {
-    match constructed.start() {
-        Ok(engine) => Started::Session(Session { engine }),
-        Err(WorkFault::Refused(refusal)) => {
+    let mut notes = String::new(alloc);
+    match constructed.start(&mut notes) {
+        Ok(engine) => Started::Session(Session { engine }, notes),
+        Err(EventFault::Refused(refusal)) => {
             let mut line = String::new(alloc);
             match push_ready_refusal(&mut line, &refusal) {
                 Ok(()) => Started::Refused(line),
                 Err(_) => Started::NoRoom,
             }
         }
-        Err(WorkFault::Memory) => Started::NoRoom,
+        Err(EventFault::Memory) => Started::NoRoom,
     }
 }

@@ -6,15 +6,16 @@ ghost use Rattle.xf_answers.specs.Out.{IsOutOrFailed};
 ghost use Rattle.xf_work.specs.Standing.{state_of};
 ghost use Rattle.xf_processor.specs.Formed.{IsFromBytes};
 ghost use Rattle.xf_cli.specs.Written.{Ends, AppendsLine, status_code, status_line};
-ghost use Rattle.xf_cli.specs.Finish.{GivesCommand, Runs, RunsConstructed, RunsLoaded};
+ghost use Rattle.xf_cli.specs.Finish.{AnsweredBehind, GivesCommand, Runs, RunsConstructed, RunsLoaded};
 
 use crate::begin::{Begun, Started, construct, start};
 use crate::finish::{finish, say};
 use crate::form::{Loaded, load_form};
 use crate::refusal::refused;
+use crate::session::Session;
 use crate::status::{Command, Status};
 use std::alloc::Global;
-use xf_answers::{Ending, answer_lines};
+use xf_answers::{Ending, answer_lines, write_reply};
 use xf_engine::Constructed;
 use xf_io::{Sink, Source};
 use xf_loader as loader;
@@ -147,11 +148,49 @@ fn answer_events<E: Source, O: Sink>(
     ensures later { O.faults out.old ≤ O.faults out.new }
 {
     match start(alloc, constructed) {
-        Started::Session(session) => {
-            let mut session = session;
-            Status::Answered(answer_lines(alloc, &mut session, events, out))
+        Started::Session(session, notes) => {
+            let ending = answer_session(alloc, session, notes.as_bytes(), events, out);
+            Status::Answered(ending)
         }
         Started::Refused(line) => Status::Refused(line),
         Started::NoRoom => Status::NoRoom,
+    }
+}
+
+// Writes the notes of the start, answers the lines of the events, and lets the session go.
+fn answer_session<E: Source, O: Sink>(
+    alloc: Global,
+    session: Session,
+    notes: &[u8],
+    events: &mut E,
+    out: &mut O,
+) -> Ending
+    ensures answered { AnsweredBehind notes.now result session (E.left events.old) (E.left events.new) (O.taken out.old) (O.taken out.new) }
+    ensures read { result ≡ Ending.ReadFault → Rose (E.faults events.old) (E.faults events.new) }
+    ensures written { result ≡ Ending.SinkFault → Rose (O.faults out.old) (O.faults out.new) }
+    ensures flushed { IsOutOrFailed (O.taken out.old, O.flushed out.old) (O.taken out.new, O.flushed out.new) (O.faults out.old, O.faults out.new) }
+    ensures later { O.faults out.old ≤ O.faults out.new }
+{
+    let mut session = session;
+    answer_behind(alloc, &mut session, notes, events, out)
+}
+
+// Writes the notes of the start, and answers the lines of the events.
+fn answer_behind<E: Source, O: Sink>(
+    alloc: Global,
+    session: &mut Session,
+    notes: &[u8],
+    events: &mut E,
+    out: &mut O,
+) -> Ending
+    ensures answered { AnsweredBehind notes.now result session.old (E.left events.old) (E.left events.new) (O.taken out.old) (O.taken out.new) }
+    ensures read { result ≡ Ending.ReadFault → Rose (E.faults events.old) (E.faults events.new) }
+    ensures written { result ≡ Ending.SinkFault → Rose (O.faults out.old) (O.faults out.new) }
+    ensures flushed { IsOutOrFailed (O.taken out.old, O.flushed out.old) (O.taken out.new, O.flushed out.new) (O.faults out.old, O.faults out.new) }
+    ensures later { O.faults out.old ≤ O.faults out.new }
+{
+    match write_reply(out, notes) {
+        Ok(()) => answer_lines(alloc, session, events, out),
+        Err(_) => Ending::SinkFault,
     }
 }

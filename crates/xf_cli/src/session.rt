@@ -1,14 +1,13 @@
 //! What a line of the events asks for, done by an engine.
 
-ghost use Rattle.std.specs.Prelude.{◌≡◌, codes, string_bytes, IfOk, OnErr};
+ghost use Rattle.std.specs.Prelude.{◌≡◌, codes, string_bytes, Ok, IfOk, OnErr};
 ghost use Rattle.std.specs.List.{list_all};
 ghost use Rattle.xf_line.specs.declared.event.Asked.TheVariants as asked;
-ghost use Rattle.xf_line.specs.declared.event.Event.TheVariants as event;
 ghost use Rattle.xf_form_machine.specs.Replies.{is_blank};
 ghost use Rattle.xf_form_machine.specs.StateText.{line_of};
 ghost use Rattle.xf_report.specs.Refusals.{refusal_text};
 ghost use Rattle.xf_work.specs.Standing.{state_of};
-ghost use Rattle.xf_cli.specs.Replies.{Gives, built_asked, event_reply};
+ghost use Rattle.xf_cli.specs.Replies.{Gives, built_read, is_unbuilt};
 
 use std::alloc::{AllocError, Global};
 use std::marker::Model;
@@ -16,8 +15,8 @@ use xf_answers::Answering;
 use xf_engine::Engine;
 use xf_form_machine::Refusal;
 use xf_line::{Asked, Event, LineFault, read_line};
-use xf_report::{push_ok, push_refusal};
-use xf_work::WorkFault;
+use xf_report::push_refusal;
+use xf_world::EventFault;
 
 /// A form at work, whose events come as lines. Contracts see the state of the form machine.
 #[derive(Drop)]
@@ -57,63 +56,49 @@ impl Answering for Session {
 
 impl Session {
     fn answer_asked(&mut self, alloc: Global, asked: Asked) -> Result<String, AllocError>
-        ensures reply { IfOk result (λ text. Gives (built_asked (state_of self.old) asked) (string_bytes text) (state_of self.new)) }
+        ensures reply { IfOk result (λ text. Gives (built_read (state_of self.old) (Ok asked)) (string_bytes text) (state_of self.new)) }
         ensures err { OnErr result (self.new ≡ self.old) }
     {
         match asked {
             Asked::Show => self.state_text(alloc),
-            Asked::Event(event) => self.post(alloc, event),
+            Asked::Event(event) => self.post(alloc, &event),
         }
     }
 
     fn state_text(&self, alloc: Global) -> Result<String, AllocError>
-        ensures { IfOk result (λ text. Gives (built_asked (state_of self.now) asked.Show) (string_bytes text) (state_of self.now)) }
+        ensures { IfOk result (λ text. Gives (built_read (state_of self.now) (Ok asked.Show)) (string_bytes text) (state_of self.now)) }
     {
         let mut text = String::new(alloc);
         self.engine.push_text(&mut text)?;
         Ok(text)
     }
 
-    fn post(&mut self, alloc: Global, event: Event) -> Result<String, AllocError>
-        ensures reply { IfOk result (λ text. Gives (event_reply (state_of self.old) event) (string_bytes text) (state_of self.new)) }
+    fn post(&mut self, alloc: Global, event: &Event) -> Result<String, AllocError>
+        ensures reply { IfOk result (λ text. Gives (built_read (state_of self.old) (Ok (asked.Event event.now))) (string_bytes text) (state_of self.new)) }
         ensures err { OnErr result (self.new ≡ self.old) }
     {
-        match event {
-            Event::Set(id, rows, text) => self.set(
-                alloc,
-                id.as_str(),
-                rows.as_slice(),
-                text.as_str(),
-            ),
-            Event::Activate(_, _) => not_built(alloc),
-            Event::Index(_, _) => not_built(alloc),
-            Event::Send(_) => not_built(alloc),
-            Event::Dispatch(_, _) => not_built(alloc),
-            Event::Reset(_) => not_built(alloc),
+        if is_unbuilt(event) {
+            return not_built(alloc);
+        }
+        let mut text = String::new(alloc);
+        match self.engine.post(event, &mut text) {
+            Ok(_) => Ok(text),
+            Err(EventFault::Refused(refusal)) => refused_text(alloc, &refusal),
+            Err(EventFault::Memory) => Err(AllocError),
         }
     }
+}
 
-    /// The reply to an event that is accepted is made before it is done: there may be no memory for it afterwards.
-    fn set(
-        &mut self,
-        alloc: Global,
-        id: &str,
-        rows: &[u64],
-        text: &str,
-    ) -> Result<String, AllocError>
-        ensures reply { IfOk result (λ reply. Gives (event_reply (state_of self.old) (event.Set id.now rows.now text.now)) (string_bytes reply) (state_of self.new)) }
-        ensures err { OnErr result (self.new ≡ self.old) }
-    {
-        let Some(accepted) = self.engine.accepted().checked_add(1) else {
-            return Err(AllocError);
-        };
-        let mut reply = String::new(alloc);
-        push_ok(alloc, &mut reply, &[], accepted, None)?;
-        match self.engine.set(id, rows, text) {
-            Ok(_) => Ok(reply),
-            Err(WorkFault::Refused(refusal)) => refused_text(alloc, &refusal),
-            Err(WorkFault::Memory) => Err(AllocError),
-        }
+/// Whether what the event asks for is not built.
+fn is_unbuilt(event: &Event) -> bool
+    ensures { result ≡ is_unbuilt event.now }
+{
+    match event {
+        Event::Index(_, _) => true,
+        Event::Send(_) => true,
+        Event::Dispatch(name, _) => name.is("xforms-reset"),
+        Event::Reset(_) => true,
+        _ => false,
     }
 }
 

@@ -3,6 +3,7 @@ use Rattle.xf_answers.specs.declared.lines.Ending.{Ending}
 use Rattle.xf_answers.specs.declared.lines.Ending.TheVariants.{ReadFault, SinkFault}
 use Rattle.xf_cli.specs.declared.status.Status.{Status}
 use Rattle.xf_cli.specs.declared.status.Status.TheVariants.{Usage, Refused, Checked, Unread, NoRoom, Answered}
+use Rattle.xf_cli.proofs.Ends.{answered_so}
 use Rattle.xf_cli.proofs.run.answer_events.Goals as goal
 
 -- how the lines ended, where they were answered
@@ -15,7 +16,10 @@ ending_or other Unread = other
 ending_or other NoRoom = other
 
 pub returns-in-Session-clause-read : goal.returns-in-Session-clause-read
-returns-in-Session-clause-read g c = λ e. c.answer_lines.ensures.read (ap (ending_or ReadFault) e)
+returns-in-Session-clause-read g c = λ e. c.answer_session-ending.ensures.read (ap (ending_or ReadFault) e)
 
 pub returns-in-Session-clause-written : goal.returns-in-Session-clause-written
-returns-in-Session-clause-written g c = λ e. c.answer_lines.ensures.written (ap (ending_or SinkFault) e)
+returns-in-Session-clause-written g c = λ e. c.answer_session-ending.ensures.written (ap (ending_or SinkFault) e)
+
+pub returns-in-Session-clause-runs : goal.returns-in-Session-clause-runs
+returns-in-Session-clause-runs g c = answered_so _ _ _ _ _ _ _ _ _ c.in-Session.ensures c.as_bytes.ensures.value c.answer_session-ending.ensures.answered
