@@ -10,7 +10,6 @@ pub mod ChangeLaws
 pub mod RecalcLaws
 pub mod AskLaws
 pub mod BeginLaws
-pub mod ToldLaws
 pub mod IndexLaws
 pub mod PutLaws
 pub mod PlantLaws

@@ -5,6 +5,5 @@ pub mod State
 pub mod Seen
 pub mod Growing
 pub mod Setting
-pub mod Telling
 pub mod Beginning
 pub mod Planting

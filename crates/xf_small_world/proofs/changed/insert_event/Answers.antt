@@ -1,25 +1,24 @@
-use Rattle.std.proofs.Common.{map, Ok, sym, ap, ◌∙◌}
+use Rattle.std.proofs.Common.{true, [], Ok, map, get_or, sym, ap, ◌∙◌}
 use Rattle.std.specs.Prelude.{codes}
 use Rattle.xf_doc.specs.Forest.{Forest}
 use Rattle.xf_doc.specs.Visit.{visits}
-use Rattle.xf_actions.specs.declared.place.Place.{Place}
-use Rattle.xf_actions.specs.TreeChanges.{instance_event}
-use Rattle.xf_actions.specs.Seen.{fired_of}
-use Rattle.xf_actions.proofs.Flow.{same-reads}
-use Rattle.xf_small_world.specs.Fault.{means}
-use Rattle.xf_small_world.specs.State.{state_of}
-use Rattle.xf_small_world.specs.Telling.{inserted_told}
-use Rattle.xf_small_world.proofs.ToldLaws.{origins-same}
+use Rattle.xf_model.specs.Places as model
+use Rattle.xf_ui.specs.Interface.{interface_of}
+use Rattle.xf_ui.specs.Named.{cut_at}
+use Rattle.xf_form_machine.specs.Events.{fired}
+use Rattle.xf_actions.specs.Seen.{place_of}
+use Rattle.xf_events.specs.Changed.{inserted_told}
+use Rattle.xf_small_world.proofs.SmallLaws.{no-repeats-around}
 use Rattle.xf_small_world.proofs.changed.insert_event.Goals as goal
 
 pub returns-in-Ok : goal.returns-in-Ok
 returns-in-Ok c =
     let w = c.args.world.now in
-    let s = state_of w in
+    let form = w.loaded.form in
     let i = c.args.inserting.now in
-    let tops = c.args.tops.now in
-    same-reads means fired_of s c.to_instance.result _ _
-    (ap (λ t. Ok (instance_event (codes "xforms-insert") t c.args.instance s))
-    (sym (c.in-Ok.ensures ∙ ap (λ (f : Forest). inserted_told (visits f.nodes) i.is_before tops (map (λ (q : Place). q.origin.number) i.places) i.location) c.forest.ensures
-    ∙ ap (λ os. inserted_told (visits w.draft.now.nodes) i.is_before tops os i.location) (origins-same i.places))))
-    c.to_instance.ensures
+    let origins = map (λ (q : model.Place). q.origin) (map place_of i.places) in
+    let n = get_or form.instances c.args.instance 0 in
+    let told = inserted_told (visits w.draft.now.nodes) i.is_before c.args.tops.now origins i.location in
+    ap (λ rows. Ok (fired (codes "xforms-insert") true true told n rows)) (ap (cut_at (interface_of form) []) (no-repeats-around form w.small n))
+    ∙ ap (λ e. Ok e) (sym (c.in-Ok.ensures
+    ∙ ap (λ (f : Forest). fired (codes "xforms-insert") true true (inserted_told (visits f.nodes) i.is_before c.args.tops.now origins i.location) n []) c.forest.ensures))
