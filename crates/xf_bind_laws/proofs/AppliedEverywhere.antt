@@ -19,10 +19,10 @@ use Rattle.xf_lang.proofs.ForestVisits.{Each, forest-visits}
 use Rattle.xf_model.specs.Rules.{Scope, Rule, rule_of, scope_of, chains}
 use Rattle.xf_model.specs.Applied.{Entry, Exception, twice, on_parent, sets_same, is_calculate, entries_by, entries_from, all_entries, or_later, exception_at, exception_from, unless, applied}
 use Rattle.xf_model.specs.Pertinent.{AllOf}
-use Rattle.xf_agree.specs.Settles.{IsSolid}
-use Rattle.xf_agree.specs.Forests.{bare}
-use Rattle.xf_agree.proofs.FormEntries.{elements-same}
-use Rattle.xf_agree.proofs.HeldShape.{shape-erased}
+use Rattle.xf_agree_laws.specs.Settles.{IsSolid}
+use Rattle.xf_agree_laws.specs.Forests.{bare}
+use Rattle.xf_agree_laws.proofs.FormEntries.{elements-same}
+use Rattle.xf_agree_laws.proofs.HeldShape.{shape-erased}
 use Rattle.xf_marks_laws.specs.Binds.{GivesTruths, instances_of, HasInstances}
 use Rattle.xf_marks_laws.specs.Instances.{standing}
 use Rattle.xf_marks_laws.proofs.Behind.{front-apart, numbers-erased}

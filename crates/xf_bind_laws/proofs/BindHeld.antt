@@ -25,7 +25,7 @@ use Rattle.xf_model.specs.Pertinent.{AllOf}
 use Rattle.xf_model.specs.Same.{renumbered_entry, renumbered_scope}
 use Rattle.xf_model.proofs.EachLemmas.{each_then}
 use Rattle.xf_model.proofs.RenumberBinds.{TraceGoes, trace-goes, flat-goes, sets-renumbered}
-use Rattle.xf_agree.specs.Settles.{IsSolid}
+use Rattle.xf_agree_laws.specs.Settles.{IsSolid}
 use Rattle.xf_marks_laws.specs.Binds.{bind_looks, GivesTruths, HasInstances}
 use Rattle.xf_marks_laws.specs.Instances.{standing}
 use Rattle.xf_marks_laws.proofs.Behind.{erased-apart, each-both, each-has}

@@ -20,7 +20,7 @@ use Rattle.xf_model.specs.Applied.{Entry, entries_by}
 use Rattle.xf_model.specs.Pertinent.{AllOf}
 use Rattle.xf_model.specs.Same.{renumbered_entry}
 use Rattle.xf_model.proofs.EachLemmas.{each_then, each_both}
-use Rattle.xf_agree.specs.Settles.{IsSolid}
+use Rattle.xf_agree_laws.specs.Settles.{IsSolid}
 use Rattle.xf_marks_laws.specs.Marks.{IsInBoth}
 use Rattle.xf_marks_laws.specs.Binds.{instances_of, HasInstances}
 use Rattle.xf_marks_laws.specs.Instances.{standing}

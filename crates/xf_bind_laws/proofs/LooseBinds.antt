@@ -11,8 +11,8 @@ use Rattle.xf_lang.specs.Reads.{trace, set_looks_in}
 use Rattle.xf_lang.proofs.VisitFacts.{some-same, none-some}
 use Rattle.xf_model.specs.Rules.{Scope}
 use Rattle.xf_model.specs.Nested.{alone, setting_for, set_from}
-use Rattle.xf_agree.specs.Forests.{InBoth}
-use Rattle.xf_agree.proofs.Alike.{alike-is, alike-one}
+use Rattle.xf_agree_laws.specs.Forests.{InBoth}
+use Rattle.xf_agree_laws.proofs.Alike.{alike-is, alike-one}
 use Rattle.xf_marks_laws.specs.Binds.{SameStructure, GivesTruths}
 use Rattle.xf_marks_laws.proofs.BindChains.{chain-stays}
 use Rattle.xf_bind_laws.specs.WithTexts.{SameWithTexts, IsCovered, AnyBindStays}

@@ -13,7 +13,7 @@ use Rattle.xf_lang.proofs.VisitFacts.{self-same, or-left, or-right, filter-appen
 use Rattle.xf_lang.proofs.UntextedLaws.{solid-found}
 use Rattle.xf_lang.proofs.ForestVisits.{Each, forest-visits}
 use Rattle.xf_model.specs.Rules.{Scope}
-use Rattle.xf_agree.specs.Forests.{bare, InBoth}
+use Rattle.xf_agree_laws.specs.Forests.{bare, InBoth}
 use Rattle.xf_marks_laws.specs.Binds.{bind_looks, instances_of, HasInstances}
 use Rattle.xf_marks_laws.proofs.Behind.{append-none, has-both, numbers-append, front-apart, filter-no, none-of, numbers-erased}
 use Rattle.xf_marks_laws.proofs.Standing.{visits-parts, within}

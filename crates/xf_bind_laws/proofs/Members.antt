@@ -14,10 +14,10 @@ use Rattle.xf_lang.specs.Agree.{numbers_of, AreVisits}
 use Rattle.xf_lang.proofs.VisitFacts.{no, some-same, none-some, or-left, or-right, or-cases, self-same, found-in, found-out, present}
 use Rattle.xf_lang.proofs.ForestVisits.{Each, each-found, self-found, forest-visits}
 use Rattle.xf_lang.proofs.ShapeVisits.{AreBelow, shape-visits}
-use Rattle.xf_agree.specs.Forests.{bare}
-use Rattle.xf_agree.proofs.Covers.{stays}
-use Rattle.xf_agree.proofs.HeldShape.{shape-erased}
-use Rattle.xf_agree.proofs.Retexted.{stays-retexted}
+use Rattle.xf_agree_laws.specs.Forests.{bare}
+use Rattle.xf_agree_laws.proofs.Covers.{stays}
+use Rattle.xf_agree_laws.proofs.HeldShape.{shape-erased}
+use Rattle.xf_agree_laws.proofs.Retexted.{stays-retexted}
 
 each-kept : (P : Visit → Type 0) (q : Visit → Bool) (xs : List Visit) → Each P xs → Each (λ y. P y × (q y ≡ true)) (filter q xs)
 each-kept P q [] e = tt

@@ -11,9 +11,9 @@ use Rattle.xf_lang.proofs.VisitFacts.{self-same, or-right, found-number, found-i
 use Rattle.xf_lang.proofs.SameKept.{region}
 use Rattle.xf_lang.proofs.ForestVisits.{Each, each-map, self-found, forest-visits}
 use Rattle.xf_model.specs.Rules.{Scope}
-use Rattle.xf_agree.specs.Kept.{is_known, keeps, kept}
-use Rattle.xf_agree.specs.Forests.{bare}
-use Rattle.xf_agree.proofs.Parts.{part-apart}
+use Rattle.xf_agree_laws.specs.Kept.{is_known, keeps, kept}
+use Rattle.xf_agree_laws.specs.Forests.{bare}
+use Rattle.xf_agree_laws.proofs.Parts.{part-apart}
 use Rattle.xf_marks_laws.specs.Marks.{is_unmarked, SameNodes}
 use Rattle.xf_marks_laws.specs.Binds.{SameStructure}
 use Rattle.xf_marks_laws.proofs.TextLists.{standing-at, headed, within-each}

@@ -14,7 +14,7 @@ use Rattle.xf_lang.proofs.SameKept.{region}
 use Rattle.xf_lang.proofs.UntextedLaws.{solid-found}
 use Rattle.xf_lang.proofs.ForestVisits.{Each, each-map, each-filter, self-found}
 use Rattle.xf_lang.proofs.ShapeVisits.{AreBelow}
-use Rattle.xf_agree.specs.Forests.{bare}
+use Rattle.xf_agree_laws.specs.Forests.{bare}
 use Rattle.xf_marks_laws.proofs.TextLists.{standing-at, headed, opened}
 use Rattle.xf_bind_laws.proofs.Filled.{filled-part, filled-on, led-stays, takes-all}
 use Rattle.xf_bind_laws.proofs.Led.{forest-led}

@@ -13,7 +13,7 @@ use Rattle.xf_lang.specs.Agree.{numbers_of, untexted, list_of, AreVisits}
 use Rattle.xf_lang.proofs.VisitFacts.{no, some-same, found-in, found-out, present}
 use Rattle.xf_lang.proofs.UntextedLaws.{bare-apart, solid-found}
 use Rattle.xf_lang.proofs.ForestVisits.{Each, each-map, self-found}
-use Rattle.xf_agree.specs.Forests.{bare, InBoth}
+use Rattle.xf_agree_laws.specs.Forests.{bare, InBoth}
 use Rattle.xf_marks_laws.proofs.TextLists.{headed, opened, within-each}
 use Rattle.xf_bind_laws.proofs.Members as members
 use Rattle.xf_bind_laws.proofs.Pair.{Pair, flipped, both-hold, in_both, same-shaped, same-part}

@@ -15,8 +15,8 @@ use Rattle.xf_lang.proofs.BelowAgree.{flat-has}
 use Rattle.xf_lang.proofs.UntextedLaws.{solid-found}
 use Rattle.xf_lang.proofs.ShapeVisits.{shape-untexted}
 use Rattle.xf_model.specs.Rules.{Scope}
-use Rattle.xf_agree.specs.Forests.{bare, InBoth}
-use Rattle.xf_agree.proofs.HeldShape.{shape-erased}
+use Rattle.xf_agree_laws.specs.Forests.{bare, InBoth}
+use Rattle.xf_agree_laws.proofs.HeldShape.{shape-erased}
 use Rattle.xf_marks_laws.specs.Binds.{SameStructure, GivesTruths}
 use Rattle.xf_marks_laws.proofs.BindLaws.{flat-on, va, vb, u, u2}
 use Rattle.xf_marks_laws.proofs.BindNodes.{order-same, order-both, one-in, stands}

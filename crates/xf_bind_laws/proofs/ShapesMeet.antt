@@ -27,16 +27,16 @@ use Rattle.xf_lang.proofs.ForestsAgree as forests
 use Rattle.xf_lang.proofs.ShapesAgree as shapes
 use Rattle.xf_model.specs.Rules.{Scope}
 use Rattle.xf_model.specs.Nested.{alone, setting_for}
-use Rattle.xf_agree.specs.Covered.{is_covered}
-use Rattle.xf_agree.specs.Settles.{AreHung}
-use Rattle.xf_agree.specs.Kept.{is_known, kept}
-use Rattle.xf_agree.specs.Forests.{bare, InBoth}
-use Rattle.xf_agree.proofs.Alike.{Alike, alike-weaker}
-use Rattle.xf_agree.proofs.Covers.{IsShaped}
-use Rattle.xf_agree.proofs.HeldShape.{shape-erased}
-use Rattle.xf_agree.proofs.LooseLaw.{meeting}
-use Rattle.xf_agree.proofs.LooseStep.{Good}
-use Rattle.xf_agree.proofs.Meeting.{Meeting, Asks}
+use Rattle.xf_agree_laws.specs.Covered.{is_covered}
+use Rattle.xf_agree_laws.specs.Settles.{AreHung}
+use Rattle.xf_agree_laws.specs.Kept.{is_known, kept}
+use Rattle.xf_agree_laws.specs.Forests.{bare, InBoth}
+use Rattle.xf_agree_laws.proofs.Alike.{Alike, alike-weaker}
+use Rattle.xf_agree_laws.proofs.Covers.{IsShaped}
+use Rattle.xf_agree_laws.proofs.HeldShape.{shape-erased}
+use Rattle.xf_agree_laws.proofs.LooseLaw.{meeting}
+use Rattle.xf_agree_laws.proofs.LooseStep.{Good}
+use Rattle.xf_agree_laws.proofs.Meeting.{Meeting, Asks}
 use Rattle.xf_marks_laws.specs.Binds.{SameStructure, GivesTruths}
 use Rattle.xf_marks_laws.proofs.TextLists.{opened}
 use Rattle.xf_marks_laws.proofs.Reached.{Among, Free, Surrounded}

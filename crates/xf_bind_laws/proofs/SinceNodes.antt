@@ -21,9 +21,9 @@ use Rattle.xf_lang.proofs.ForestVisits.{each-found, forest-visits}
 use Rattle.xf_model.specs.Rules.{Rule, Scope, chains, chain_around}
 use Rattle.xf_model.specs.Applied.{entries_by}
 use Rattle.xf_model.specs.Pertinent.{AllOf}
-use Rattle.xf_agree.specs.Settles.{AreHung}
-use Rattle.xf_agree.specs.Kept.{is_known, keeps, kept}
-use Rattle.xf_agree.specs.Forests.{InBoth}
+use Rattle.xf_agree_laws.specs.Settles.{AreHung}
+use Rattle.xf_agree_laws.specs.Kept.{is_known, keeps, kept}
+use Rattle.xf_agree_laws.specs.Forests.{InBoth}
 use Rattle.xf_marks_laws.specs.Marks.{is_unmarked, texts_in, IsInBoth, without_marked, SameNodes}
 use Rattle.xf_marks_laws.specs.Binds.{bind_looks, SameStructure, GivesTruths, instances_of, HasInstances}
 use Rattle.xf_marks_laws.specs.Instances.{standing}

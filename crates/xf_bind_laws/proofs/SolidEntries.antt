@@ -15,10 +15,10 @@ use Rattle.xf_model.specs.Rules.{Rule, Scope}
 use Rattle.xf_model.specs.Applied.{entries_by}
 use Rattle.xf_model.specs.Pertinent.{AllOf}
 use Rattle.xf_model.proofs.EachLemmas.{each_then}
-use Rattle.xf_agree.specs.Settles.{AreHung, IsSolid}
-use Rattle.xf_agree.specs.Forests.{bare}
-use Rattle.xf_agree.proofs.FormEntries.{bind-stands}
-use Rattle.xf_agree.proofs.HeldShape.{shape-erased}
+use Rattle.xf_agree_laws.specs.Settles.{AreHung, IsSolid}
+use Rattle.xf_agree_laws.specs.Forests.{bare}
+use Rattle.xf_agree_laws.proofs.FormEntries.{bind-stands}
+use Rattle.xf_agree_laws.proofs.HeldShape.{shape-erased}
 use Rattle.xf_marks_laws.specs.Binds.{SameStructure, instances_of, HasInstances}
 use Rattle.xf_marks_laws.specs.Instances.{standing}
 use Rattle.xf_marks_laws.proofs.BindInstances.{structure}

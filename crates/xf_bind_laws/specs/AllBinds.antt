@@ -9,8 +9,8 @@ use Rattle.xf_lang.specs.Given.{Given}
 use Rattle.xf_model.specs.Rules.{scope_of}
 use Rattle.xf_model.specs.Applied.{Entry, applied}
 use Rattle.xf_model.specs.Pertinent.{AllOf}
-use Rattle.xf_agree.specs.Settles.{IsSolid}
-use Rattle.xf_agree.specs.FormSettles.{Applies}
+use Rattle.xf_agree_laws.specs.Settles.{IsSolid}
+use Rattle.xf_agree_laws.specs.FormSettles.{Applies}
 use Rattle.xf_marks_laws.specs.Binds.{GivesTruths, HasInstances}
 use Rattle.xf_marks_laws.specs.Instances.{standing}
 use Rattle.xf_bind_laws.specs.WithTexts.{IsCovered}

@@ -16,7 +16,7 @@ use Rattle.xf_model.specs.Rules.{Rule, Scope, chains, chain_around}
 use Rattle.xf_model.specs.Applied.{entries_by}
 use Rattle.xf_model.specs.Pertinent.{AllOf}
 use Rattle.xf_model.specs.Same.{renumbered_entry}
-use Rattle.xf_agree.specs.Settles.{IsSolid}
+use Rattle.xf_agree_laws.specs.Settles.{IsSolid}
 use Rattle.xf_marks_laws.specs.Binds.{bind_looks, GivesTruths, instances_of, HasInstances}
 use Rattle.xf_marks_laws.specs.Instances.{standing}
 use Rattle.xf_change_laws.specs.Carried.{Carried}

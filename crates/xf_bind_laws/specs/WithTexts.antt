@@ -13,8 +13,8 @@ use Rattle.xf_lang.specs.Agree.{numbers_of}
 use Rattle.xf_model.specs.Rules.{Rule, Scope, chains, chain_around}
 use Rattle.xf_model.specs.Applied.{entries_by}
 use Rattle.xf_model.specs.Pertinent.{AllOf}
-use Rattle.xf_agree.specs.Covered.{is_covered}
-use Rattle.xf_agree.specs.Forests.{bare, InBoth}
+use Rattle.xf_agree_laws.specs.Covered.{is_covered}
+use Rattle.xf_agree_laws.specs.Forests.{bare, InBoth}
 use Rattle.xf_marks_laws.specs.Marks.{SameNodes}
 use Rattle.xf_marks_laws.specs.Binds.{bind_looks, SameStructure, GivesTruths, instances_of, HasInstances}
 

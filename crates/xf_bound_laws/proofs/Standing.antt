@@ -15,7 +15,7 @@ use Rattle.xf_lang.proofs.VisitFacts.{no, none-some, or-left, self-same, some-sa
 use Rattle.xf_lang.proofs.ForestVisits.{Each, forest-visits, self-found}
 use Rattle.xf_lang.proofs.SameKept.{kept-found}
 use Rattle.xf_lang.proofs.UntextedLaws.{bare-apart, solid-found}
-use Rattle.xf_agree.specs.Settles.{AreHung}
+use Rattle.xf_agree_laws.specs.Settles.{AreHung}
 
 -- a forest without texts
 abbrev pub solid : List Visit → List Visit

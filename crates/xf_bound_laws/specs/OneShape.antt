@@ -12,7 +12,7 @@ use Rattle.xf_plain_values.specs.Functions.{Functions}
 use Rattle.xf_lang.specs.Given.{Given, document_of}
 use Rattle.xf_lang.specs.Table.{function_at}
 use Rattle.xf_lang.specs.Table as of
-use Rattle.xf_agree.specs.Settles.{AreHung, IsSolid}
+use Rattle.xf_agree_laws.specs.Settles.{AreHung, IsSolid}
 use Rattle.xf_ui.specs.Interface.{Interface}
 use Rattle.xf_ui.specs.Elements.{ancestors}
 use Rattle.xf_ui.specs.Around.{Around}

@@ -15,7 +15,7 @@ use Rattle.xf_lang.specs.Asked.{found}
 use Rattle.xf_lang.specs.Agree.{numbers_of, are_apart}
 use Rattle.xf_lang.proofs.ForestVisits.{each-map, self-found, found-erased}
 use Rattle.xf_lang.proofs.VisitFacts.{no, some-same, none-some, or-left, filter-and, filter-append, found-in}
-use Rattle.xf_agree.specs.Kept.{keeps, is_known}
+use Rattle.xf_agree_laws.specs.Kept.{keeps, is_known}
 use Rattle.xf_marks_laws.specs.Marks.{is_unmarked, without_marked, IsInBoth}
 use Rattle.xf_marks_laws.specs.Instances.{standing}
 use Rattle.xf_marks_laws.proofs.Behind.{append-none, filter-no, front-apart, erased-apart, numbers-erased, or_later, found-append}

@@ -16,7 +16,7 @@ use Rattle.xf_lang.specs.Agree.{untexted}
 use Rattle.xf_lang.proofs.ForestVisits.{forest-visits}
 use Rattle.xf_lang.proofs.RenumberLaws.{found-renumbered}
 use Rattle.xf_lang.proofs.VisitFacts.{some-same, none-some, present, found-number, found-out}
-use Rattle.xf_agree.proofs.HeldShape.{original}
+use Rattle.xf_agree_laws.proofs.HeldShape.{original}
 use Rattle.xf_marks_laws.specs.Binds.{instances_of}
 use Rattle.xf_marks_laws.specs.Instances.{standing}
 use Rattle.xf_edit_laws.specs.InstanceEdits.{AreTextNumbers}

@@ -10,12 +10,12 @@ use Rattle.xf_doc.specs.Same.{renumbered_visit}
 use Rattle.xf_doc.specs.Settle.{reserved, with_numbered_text}
 use Rattle.xf_doc.specs.Texts.{Keeping}
 use Rattle.xf_doc.proofs.OrderLaws.{seen-has}
-use Rattle.xf_rollback.proofs.Laws.{rolls_back}
+use Rattle.xf_rollback_laws.proofs.Laws.{rolls_back}
 use Rattle.xf_lang.specs.Given.{Document, document_of}
 use Rattle.xf_lang.specs.Asked.{list_around}
 use Rattle.xf_lang.specs.Agree.{numbers_of}
 use Rattle.xf_model.specs.Rules.{Scope}
-use Rattle.xf_agree.specs.Settles.{IsSolid}
+use Rattle.xf_agree_laws.specs.Settles.{IsSolid}
 use Rattle.xf_marks_laws.specs.Marks.{IsInBoth, SameNodes}
 use Rattle.xf_marks_laws.specs.Instances.{standing, SameInstances}
 use Rattle.xf_marks_laws.proofs.BindInstances.{front-number}

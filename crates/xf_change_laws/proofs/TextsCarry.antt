@@ -19,7 +19,7 @@ use Rattle.xf_lang.specs.Asked.{found, parent_in, list_around}
 use Rattle.xf_lang.specs.Agree.{numbers_of, untexted}
 use Rattle.xf_lang.proofs.VisitFacts.{no, some-same, present, found-in, found-out}
 use Rattle.xf_model.specs.Rules.{Scope}
-use Rattle.xf_agree.specs.Settles.{IsSolid}
+use Rattle.xf_agree_laws.specs.Settles.{IsSolid}
 use Rattle.xf_marks_laws.specs.Marks.{IsInBoth, SameNodes}
 use Rattle.xf_marks_laws.specs.Instances.{standing, SameInstances}
 use Rattle.xf_edit_laws.specs.InstanceEdits.{AreTextNumbers, KeepsBeside}

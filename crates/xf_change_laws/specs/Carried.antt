@@ -8,7 +8,7 @@ use Rattle.xf_lang.specs.Given.{Document, document_of}
 use Rattle.xf_lang.specs.Asked.{list_around}
 use Rattle.xf_lang.specs.Agree.{numbers_of}
 use Rattle.xf_model.specs.Rules.{Scope}
-use Rattle.xf_agree.specs.Settles.{IsSolid}
+use Rattle.xf_agree_laws.specs.Settles.{IsSolid}
 use Rattle.xf_marks_laws.specs.Instances.{standing, SameInstances}
 
 -- the number of a node of before that moved: no node of now has it or takes it

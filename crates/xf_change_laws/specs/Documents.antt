@@ -9,7 +9,7 @@ use Rattle.xf_doc.specs.Visit.{visits, has, first_of, children_of}
 use Rattle.xf_doc.specs.Changes.{in_instances, in_detached, root_of, detached, placed}
 use Rattle.xf_doc.specs.Settle.{with_numbered_text}
 use Rattle.xf_doc.specs.WellFormed.{HasTrees}
-use Rattle.xf_agree.specs.Settles.{AreHung}
+use Rattle.xf_agree_laws.specs.Settles.{AreHung}
 use Rattle.xf_marks_laws.specs.Marks.{SameNodes}
 use Rattle.xf_marks_laws.specs.Instances.{standing}
 

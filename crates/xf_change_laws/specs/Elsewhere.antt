@@ -9,7 +9,7 @@ use Rattle.xf_doc.specs.Settle.{reserved, with_numbered_text}
 use Rattle.xf_doc.specs.Texts.{Keeping, without_detached}
 use Rattle.xf_doc.specs.Undo.{Ledger, rolled_back}
 use Rattle.xf_doc.specs.WellFormed.{HasTrees, AreTrees}
-use Rattle.xf_rollback.specs.Made.{Made}
+use Rattle.xf_rollback_laws.specs.Made.{Made}
 use Rattle.xf_lang.specs.Given.{Document}
 use Rattle.xf_model.specs.Rules.{Scope}
 use Rattle.xf_change_laws.specs.Carried.{under, given_from, Carried, Takes}

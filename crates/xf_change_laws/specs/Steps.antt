@@ -13,7 +13,7 @@ use Rattle.xf_doc.specs.WellFormed.{HasTrees}
 use Rattle.xf_lang.specs.Given.{Document}
 use Rattle.xf_lang.specs.Agree.{numbers_of}
 use Rattle.xf_model.specs.Rules.{Scope}
-use Rattle.xf_agree.specs.Settles.{AreHung}
+use Rattle.xf_agree_laws.specs.Settles.{AreHung}
 use Rattle.xf_marks_laws.specs.Marks.{SameNodes}
 use Rattle.xf_marks_laws.specs.Instances.{standing, SameInstances}
 use Rattle.xf_edit_laws.specs.Edits.{MarksMore, StandsIn}

@@ -13,7 +13,7 @@ use Rattle.xf_lang.specs.Asked.{found}
 use Rattle.xf_lang.specs.Agree.{numbers_of, are_apart, untexted}
 use Rattle.xf_lang.proofs.VisitFacts.{no, self-same, or-left, or-right, or-cases, some-same, none-some, filter-and, found-in}
 use Rattle.xf_lang.proofs.SameKept.{kept-found}
-use Rattle.xf_agree.specs.Kept.{keeps, is_known}
+use Rattle.xf_agree_laws.specs.Kept.{keeps, is_known}
 use Rattle.xf_marks_laws.specs.Marks.{is_unmarked}
 use Rattle.xf_marks_laws.specs.Instances.{standing}
 use Rattle.xf_marks_laws.proofs.Behind.{erased-apart}

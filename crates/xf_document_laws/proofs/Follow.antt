@@ -11,7 +11,7 @@ use Rattle.xf_lang.specs.Given.{document_of}
 use Rattle.xf_lang.specs.Asked.{parent_in, list_around}
 use Rattle.xf_lang.proofs.VisitFacts.{no, self-same, or-left, none-some}
 use Rattle.xf_model.specs.Rules.{Scope}
-use Rattle.xf_agree.specs.Settles.{IsSolid}
+use Rattle.xf_agree_laws.specs.Settles.{IsSolid}
 use Rattle.xf_marks_laws.specs.Marks.{SameNodes}
 use Rattle.xf_marks_laws.specs.Instances.{standing}
 use Rattle.xf_marks_laws.proofs.TextLists.{headed}

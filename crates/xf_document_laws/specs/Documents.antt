@@ -10,7 +10,7 @@ use Rattle.xf_doc.specs.Changes.{in_detached, root_of}
 use Rattle.xf_doc.specs.WellFormed.{HasTrees}
 use Rattle.xf_lang.specs.Given.{Document}
 use Rattle.xf_model.specs.Rules.{Scope}
-use Rattle.xf_agree.specs.Settles.{AreHung}
+use Rattle.xf_agree_laws.specs.Settles.{AreHung}
 use Rattle.xf_marks_laws.specs.Marks.{SameNodes}
 use Rattle.xf_marks_laws.specs.Instances.{standing}
 use Rattle.xf_change_laws.specs.Carried.{Follows}

@@ -12,8 +12,8 @@ use Rattle.xf_lang.specs.Agree.{numbers_of, are_apart}
 use Rattle.xf_lang.proofs.VisitFacts.{no, some-same, filter-and, filter-same, filter-within, found-number, present, found-in, found-out}
 use Rattle.xf_lang.proofs.SameKept.{region}
 use Rattle.xf_lang.proofs.ForestVisits.{Each, each-map, self-found}
-use Rattle.xf_agree.specs.Kept.{is_known, keeps}
-use Rattle.xf_agree.proofs.Parts.{part-apart}
+use Rattle.xf_agree_laws.specs.Kept.{is_known, keeps}
+use Rattle.xf_agree_laws.proofs.Parts.{part-apart}
 use Rattle.xf_marks_laws.specs.Marks.{is_unmarked, IsInBoth, without_marked, SameNodes}
 use Rattle.xf_edit_laws.specs.Edits.{MarksMore, SameAtFirst}
 use Rattle.xf_marks_laws.proofs.TextLists.{standing-at}

@@ -12,9 +12,9 @@ use Rattle.xf_lang.specs.Asked.{found}
 use Rattle.xf_lang.specs.Agree.{numbers_of, are_apart}
 use Rattle.xf_lang.proofs.VisitFacts.{no, or-left, self-same, filter-and, found-number, present, found-in, found-out}
 use Rattle.xf_lang.proofs.ForestVisits.{each-map, self-found}
-use Rattle.xf_agree.specs.Kept.{keeps}
-use Rattle.xf_agree.proofs.Parts.{part-apart}
-use Rattle.xf_agree.proofs.HeldShape.{original}
+use Rattle.xf_agree_laws.specs.Kept.{keeps}
+use Rattle.xf_agree_laws.proofs.Parts.{part-apart}
+use Rattle.xf_agree_laws.proofs.HeldShape.{original}
 use Rattle.xf_marks_laws.specs.Marks.{is_unmarked, texts_in, IsInBoth, without_marked, SameNodes}
 use Rattle.xf_edit_laws.specs.Edits.{MarksMore, without_nodes, StandsUnder, IsRelisted, ListMarked}
 use Rattle.xf_marks_laws.proofs.TextLists.{standing-at}

@@ -11,7 +11,7 @@ use Rattle.xf_lang.specs.Agree.{numbers_of, untexted}
 use Rattle.xf_lang.proofs.RenumberLaws.{found-renumbered}
 use Rattle.xf_lang.proofs.VisitFacts.{self-same, some-same, none-some, found-number, present}
 use Rattle.std.proofs.lemmas.Bool.{eqb-true}
-use Rattle.xf_agree.specs.Kept.{is_known, keeps}
+use Rattle.xf_agree_laws.specs.Kept.{is_known, keeps}
 use Rattle.xf_marks_laws.specs.Marks.{is_unmarked, texts_in, IsInBoth, without_marked, SameNodes}
 use Rattle.xf_edit_laws.specs.Edits.{SameRenumbered}
 use Rattle.xf_marks_laws.proofs.Standing.{number-from}

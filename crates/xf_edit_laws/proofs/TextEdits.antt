@@ -13,8 +13,8 @@ use Rattle.xf_lang.specs.Asked.{found}
 use Rattle.xf_lang.specs.Agree.{numbers_of, are_apart, untexted}
 use Rattle.xf_lang.proofs.VisitFacts.{self-same, or-left, no, some-same, none-some, filter-within, found-number, present, found-in, found-out}
 use Rattle.xf_lang.proofs.ForestVisits.{Each, each-map, self-found, found-erased}
-use Rattle.xf_agree.specs.Kept.{is_known, keeps}
-use Rattle.xf_agree.proofs.HeldShape.{original}
+use Rattle.xf_agree_laws.specs.Kept.{is_known, keeps}
+use Rattle.xf_agree_laws.proofs.HeldShape.{original}
 use Rattle.xf_marks_laws.specs.Marks.{is_unmarked, texts_in, IsInBoth, without_marked, SameNodes}
 use Rattle.xf_edit_laws.specs.Edits.{blanked, without_text_of, IsRetexted, MarksMore, TextMarked}
 use Rattle.xf_marks_laws.proofs.TextLists.{text-kept}

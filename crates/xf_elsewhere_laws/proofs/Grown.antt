@@ -32,8 +32,8 @@ use Rattle.xf_doc.specs.Planted.{bare_attribute, bare_contents, bare_element_con
 use Rattle.xf_doc.specs.Changes.{shifted, contents_in}
 use Rattle.xf_doc.specs.WellFormed.{are_apart, HasTrees}
 use Rattle.xf_doc.proofs.BackLaws.{and-true, or-false, not-true}
-use Rattle.xf_rollback.specs.Made.{begins_at_top, IsGrowth}
-use Rattle.xf_rollback.proofs.Outcomes.{unless-ok}
+use Rattle.xf_rollback_laws.specs.Made.{begins_at_top, IsGrowth}
+use Rattle.xf_rollback_laws.proofs.Outcomes.{unless-ok}
 use Rattle.xf_root_laws.proofs.Shown.{rootless}
 use Rattle.xf_root_laws.proofs.Parts.{tree-rootless}
 use Rattle.xf_elsewhere_laws.specs.Parts.{IsPart}

@@ -19,9 +19,9 @@ use Rattle.xf_doc.specs.Settle.{has_text, with_numbered_text}
 use Rattle.xf_doc.specs.WellFormed.{are_apart, are_tops, HasTrees}
 use Rattle.xf_doc.proofs.BackLaws.{and-true, or-false, not-true}
 use Rattle.xf_lang.proofs.VisitFacts.{self-same, or-right}
-use Rattle.xf_rollback.specs.Made.{begins_at_top}
-use Rattle.xf_rollback.proofs.Laws.{rolls_back}
-use Rattle.xf_rollback.proofs.Outcomes.{unless-ok, attached-placed}
+use Rattle.xf_rollback_laws.specs.Made.{begins_at_top}
+use Rattle.xf_rollback_laws.proofs.Laws.{rolls_back}
+use Rattle.xf_rollback_laws.proofs.Outcomes.{unless-ok, attached-placed}
 use Rattle.xf_settle_laws.specs.Written.{Contents, written}
 use Rattle.xf_root_laws.specs.Roots.{IsNoRoot, roots_in}
 use Rattle.xf_root_laws.proofs.Shown.{parts, roots-by}

@@ -16,7 +16,7 @@ use Rattle.xf_doc.specs.Texts.{Before, Keeping, text_set}
 use Rattle.xf_doc.specs.Settle.{reserved, with_numbered_text}
 use Rattle.xf_doc.specs.WellFormed.{HasTrees, AreTrees}
 use Rattle.xf_doc.specs.Undo.{Ledger, rolled_back}
-use Rattle.xf_rollback.specs.Made.{Made, IsGrowth}
+use Rattle.xf_rollback_laws.specs.Made.{Made, IsGrowth}
 use Rattle.xf_settle_laws.specs.Written.{Contents, written}
 use Rattle.xf_root_laws.specs.Roots.{AreAhead, HasRoots, roots_in}
 use Rattle.xf_elsewhere_laws.specs.Parts.{IsPart}

@@ -24,7 +24,7 @@ use Rattle.xf_lang.specs.Reads.{expr_trace, link_trace, step_trace, trace}
 use Rattle.xf_lang.specs.Exact.{Facts, LinkFacts, all_placed, all_exact, call_facts, links_placed, links_exact, expr_facts, link_facts}
 use Rattle.xf_lang.proofs.PairKeeps.{pair_keeps}
 use Rattle.xf_lang.proofs.VisitFacts.{self-same, or-cases, or-left, or-right, no}
-use Rattle.xf_agree.specs.Covered.{is_covered, facts_of, step_facts}
+use Rattle.xf_agree_laws.specs.Covered.{is_covered, facts_of, step_facts}
 use Rattle.xf_marks_laws.proofs.Reached.{Among, Free, IsClosed, Surrounded, AskedAmong, none-in, one-in, joined-in, flat-in, free-left, free-right, free-at, plainly-among, plain-among, truth-among, both-among, converted-among, all-among, either-among, computed-among, link-among, filtered-among, step-among, around-in}
 
 abbrev is_event : Function → Bool

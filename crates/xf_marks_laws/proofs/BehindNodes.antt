@@ -17,7 +17,7 @@ use Rattle.xf_lang.specs.Agree.{numbers_of, are_apart}
 use Rattle.xf_lang.proofs.VisitFacts.{self-same, or-left, no, filter-and, filter-same, filter-append, has-found, present, kept_if, found-filter, found-in}
 use Rattle.xf_lang.proofs.AxisAgree.{has-sub}
 use Rattle.xf_lang.proofs.ForestVisits.{Each, each-map}
-use Rattle.xf_agree.specs.Kept.{is_known, keeps}
+use Rattle.xf_agree_laws.specs.Kept.{is_known, keeps}
 use Rattle.xf_marks_laws.specs.Marks.{is_unmarked, texts_in, IsInBoth, without_marked, SameNodes}
 use Rattle.xf_marks_laws.proofs.TextLists.{text-kept}
 use Rattle.xf_marks_laws.proofs.Behind.{Behind, append-none, each-both, numbers-append, has-both, front-apart, filter-no, none-of, same-of, first-made, numbers-erased, erased-apart, Good, good, away-each, found-front, found-before, found-nowhere, found-now, erased-before, in-all, stay, in_both}

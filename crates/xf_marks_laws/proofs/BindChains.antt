@@ -17,7 +17,7 @@ use Rattle.xf_model.specs.Rules.{Rule, Scope, chains, chain_around}
 use Rattle.xf_model.specs.Nested.{alone, setting_for, set_from, reached_through, begun}
 use Rattle.xf_model.specs.Applied.{Entry, properties_of, entries_on, entries_by}
 use Rattle.xf_model.specs.Pertinent.{AllOf}
-use Rattle.xf_agree.specs.Forests.{InBoth}
+use Rattle.xf_agree_laws.specs.Forests.{InBoth}
 use Rattle.xf_marks_laws.specs.Binds.{chain_looks, bind_looks, SameStructure, GivesTruths}
 use Rattle.xf_marks_laws.proofs.BindLaws.{each-on}
 use Rattle.xf_marks_laws.proofs.BindNodes.{order-same, order-both, one-in}

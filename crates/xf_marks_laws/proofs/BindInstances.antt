@@ -16,8 +16,8 @@ use Rattle.xf_lang.specs.Agree.{numbers_of, are_apart, untexted, list_of}
 use Rattle.xf_lang.proofs.VisitFacts.{self-same, or-left, or-right, no, some-same, filter-append, present}
 use Rattle.xf_lang.proofs.ForestVisits.{Each, each-found, each-filter}
 use Rattle.xf_model.specs.Rules.{Scope}
-use Rattle.xf_agree.specs.Settles.{AreHung}
-use Rattle.xf_agree.specs.Forests.{bare, InBoth}
+use Rattle.xf_agree_laws.specs.Settles.{AreHung}
+use Rattle.xf_agree_laws.specs.Forests.{bare, InBoth}
 use Rattle.xf_marks_laws.specs.Binds.{bind_looks, SameStructure, instances_of, HasInstances, BindOfInstances, BindStaysInInstances}
 use Rattle.xf_marks_laws.proofs.Behind.{append-none, has-both, numbers-append, front-apart, filter-no, none-of, numbers-erased, erased-apart, or_later, found-append}
 use Rattle.xf_marks_laws.proofs.Standing.{visits-parts, within}

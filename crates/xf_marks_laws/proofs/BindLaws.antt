@@ -34,8 +34,8 @@ use Rattle.xf_lang.proofs.QuietLaws.{reads-none}
 use Rattle.xf_lang.proofs.TraceKeeps.{meaning-of_trace}
 use Rattle.xf_model.specs.Rules.{Scope}
 use Rattle.xf_model.specs.Nested.{alone, setting_for}
-use Rattle.xf_agree.specs.Forests.{bare, InBoth}
-use Rattle.xf_agree.proofs.HeldShape.{shape-erased}
+use Rattle.xf_agree_laws.specs.Forests.{bare, InBoth}
+use Rattle.xf_agree_laws.proofs.HeldShape.{shape-erased}
 use Rattle.xf_marks_laws.specs.Binds.{SameStructure, GivesTruths, IsPlace}
 use Rattle.xf_marks_laws.proofs.Reached.{Among, Free, Surrounded}
 use Rattle.xf_marks_laws.proofs.Asked.{asked-among}

@@ -19,9 +19,9 @@ use Rattle.xf_lang.proofs.UntextedLaws.{part-order, bare-apart, bare-closed, sol
 use Rattle.xf_lang.proofs.ShapeVisits.{shape-untexted}
 use Rattle.xf_lang.proofs.Comparison.{in_order-framed}
 use Rattle.xf_model.specs.Rules.{Scope}
-use Rattle.xf_agree.specs.Forests.{bare, InBoth}
-use Rattle.xf_agree.proofs.HeldShape.{shape-erased}
-use Rattle.xf_agree.proofs.LooseStep.{in-order_of}
+use Rattle.xf_agree_laws.specs.Forests.{bare, InBoth}
+use Rattle.xf_agree_laws.proofs.HeldShape.{shape-erased}
+use Rattle.xf_agree_laws.proofs.LooseStep.{in-order_of}
 use Rattle.xf_marks_laws.specs.Binds.{SameStructure, GivesTruths}
 use Rattle.xf_marks_laws.proofs.ShapeHung.{shape-texts}
 use Rattle.xf_marks_laws.proofs.BindLaws.{va, vb, u, u2, found-now, found-before, rooted-list}

@@ -17,7 +17,7 @@ use Rattle.xf_lang.proofs.BelowAgree.{flat-has}
 use Rattle.xf_lang.proofs.TraceKeeps.{meaning-of_trace}
 use Rattle.xf_model.specs.Rules.{Scope}
 use Rattle.xf_model.specs.Nested.{alone, setting_for, set_from}
-use Rattle.xf_agree.specs.Forests.{InBoth}
+use Rattle.xf_agree_laws.specs.Forests.{InBoth}
 use Rattle.xf_marks_laws.specs.Binds.{SameStructure, GivesTruths, IsPlace, BindStays}
 use Rattle.xf_marks_laws.proofs.BindChains.{chain-stays}
 use Rattle.xf_marks_laws.proofs.BindLaws.{flat-on, one-meaning, given-both}

@@ -22,10 +22,10 @@ use Rattle.xf_model.specs.Entries.{focus_of, reads_by, reads_of, touches}
 use Rattle.xf_model.specs.Nested.{setting_for}
 use Rattle.xf_model.specs.Settled.{bounds}
 use Rattle.xf_model.proofs.ReadSolid.{AreHung as AllHung, converted-solid, trace-solid}
-use Rattle.xf_agree.specs.Settles.{Surrounds}
-use Rattle.xf_agree.specs.Kept.{kept}
-use Rattle.xf_agree.specs.Forests.{bare, InBoth, asked_whole}
-use Rattle.xf_agree.proofs.HeldShape.{shape-hung}
+use Rattle.xf_agree_laws.specs.Settles.{Surrounds}
+use Rattle.xf_agree_laws.specs.Kept.{kept}
+use Rattle.xf_agree_laws.specs.Forests.{bare, InBoth, asked_whole}
+use Rattle.xf_agree_laws.proofs.HeldShape.{shape-hung}
 use Rattle.xf_marks_laws.specs.Marks.{is_unmarked, SameBut, IsUnmarked, IsOf}
 use Rattle.xf_marks_laws.proofs.OneFrame.{one_frame}
 use Rattle.xf_marks_laws.proofs.TextLists.{any-of, none-does, above-of}

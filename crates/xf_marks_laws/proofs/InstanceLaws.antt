@@ -22,8 +22,8 @@ use Rattle.xf_lang.proofs.ForestVisits.{Each, each-map}
 use Rattle.xf_model.specs.Rules.{Scope}
 use Rattle.xf_model.specs.Applied.{Entry, sets_same}
 use Rattle.xf_model.specs.Pertinent.{Changes, is_same}
-use Rattle.xf_agree.specs.Settles.{AreHung, IsSolid, Surrounds}
-use Rattle.xf_agree.specs.Forests.{bare, InBoth, renumbered_forest}
+use Rattle.xf_agree_laws.specs.Settles.{AreHung, IsSolid, Surrounds}
+use Rattle.xf_agree_laws.specs.Forests.{bare, InBoth, renumbered_forest}
 use Rattle.xf_marks_laws.specs.Marks.{IsInBoth, SameNodes, SameBut}
 use Rattle.xf_marks_laws.specs.Outside.{touched, Since, OldOutside}
 use Rattle.xf_marks_laws.specs.Instances.{standing, SameInstances, WholeForests, SinceInstances, OldInInstances, InstancesTruth, InstancesText}

@@ -22,10 +22,10 @@ use Rattle.xf_lang.proofs.TraceKeeps.{meaning-of_trace}
 use Rattle.xf_model.specs.Entries.{focus_of, value_by}
 use Rattle.xf_model.specs.Nested.{setting_for}
 use Rattle.xf_model.proofs.EachLemmas.{each_one}
-use Rattle.xf_agree.specs.Kept.{is_known, keeps, kept}
-use Rattle.xf_agree.specs.Forests.{bare, InBoth, AgreeOn, asked_alone, asked_whole, over_second}
-use Rattle.xf_agree.proofs.Parts.{part-apart}
-use Rattle.xf_agree.proofs.ForestsMeet.{two_forests, two_forests_value}
+use Rattle.xf_agree_laws.specs.Kept.{is_known, keeps, kept}
+use Rattle.xf_agree_laws.specs.Forests.{bare, InBoth, AgreeOn, asked_alone, asked_whole, over_second}
+use Rattle.xf_agree_laws.proofs.Parts.{part-apart}
+use Rattle.xf_agree_laws.proofs.ForestsMeet.{two_forests, two_forests_value}
 use Rattle.xf_marks_laws.specs.Marks.{is_unmarked, texts_in, EntryKeepsValue, EntryKeepsText}
 use Rattle.xf_marks_laws.proofs.TextLists.{opened, text-kept, original, each-erased, filled-first, first-itself, flat-same, within-each, is_under, characters_of, all-below, text-value}
 use Rattle.xf_marks_laws.proofs.Case.{Case}

@@ -16,8 +16,8 @@ use Rattle.xf_model.specs.Rules.{Scope, computed_of, calls_place}
 use Rattle.xf_model.specs.Applied.{Entry}
 use Rattle.xf_model.specs.Entries.{expression_in, expression_of, focus_of, value_by, value_of, text_of}
 use Rattle.xf_model.specs.Nested.{setting_for}
-use Rattle.xf_agree.specs.Forests.{text_over, over_second, renumbered_forest}
-use Rattle.xf_agree.proofs.ForestNumbers.{text-renumbered}
+use Rattle.xf_agree_laws.specs.Forests.{text_over, over_second, renumbered_forest}
+use Rattle.xf_agree_laws.proofs.ForestNumbers.{text-renumbered}
 use Rattle.xf_marks_laws.specs.Outside.{WasThere, Premises, ButNumbersValue, ButNumbersText}
 use Rattle.xf_marks_laws.proofs.MarksAgree.{entry_keeps_value, entry_keeps_text}
 use Rattle.xf_marks_laws.proofs.Unplaced.{one-place}

@@ -11,8 +11,8 @@ use Rattle.xf_lang.proofs.VisitFacts.{or-left, filter-and, filter-within, found-
 use Rattle.xf_lang.proofs.SameKept.{region}
 use Rattle.xf_lang.proofs.UntextedLaws.{solid-found}
 use Rattle.xf_lang.proofs.ForestVisits.{Each, each-map, each-filter, self-found}
-use Rattle.xf_agree.specs.Kept.{is_known, keeps, kept}
-use Rattle.xf_agree.proofs.Parts.{part-apart}
+use Rattle.xf_agree_laws.specs.Kept.{is_known, keeps, kept}
+use Rattle.xf_agree_laws.proofs.Parts.{part-apart}
 use Rattle.xf_marks_laws.proofs.TextLists.{standing-at}
 
 filter-each : (p q : Visit → Bool) (xs : List Visit) → Each (λ y. p y ≡ q y) xs → filter p xs ≡ filter q xs

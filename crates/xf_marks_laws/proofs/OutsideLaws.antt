@@ -25,7 +25,7 @@ use Rattle.xf_model.specs.Rules.{Scope, calls_place}
 use Rattle.xf_model.specs.Applied.{Entry, is_property, is_calculate, sets_same}
 use Rattle.xf_model.specs.Entries.{reads_of, touches}
 use Rattle.xf_model.specs.Pertinent.{Changes, Asking, asking, placed_in, is_same, stands_as, reads_any, is_begun, calculated_in}
-use Rattle.xf_agree.specs.Forests.{bare, InBoth, renumbered_forest}
+use Rattle.xf_agree_laws.specs.Forests.{bare, InBoth, renumbered_forest}
 use Rattle.xf_marks_laws.specs.Marks.{IsUnmarked}
 use Rattle.xf_marks_laws.specs.Outside.{WasThere, Premises, shape_now, evaluated, touched, IsOutside, OutsideStood, Since, OldOutside, OutsideValue, OutsideTruth, OutsideText}
 use Rattle.xf_marks_laws.proofs.Numbers.{but_numbers_value, but_numbers_text}

@@ -31,8 +31,8 @@ use Rattle.xf_lang.proofs.SameKept.{has-append, has-left, has-right, kept-found}
 use Rattle.xf_lang.proofs.AxisAgree.{has-sub}
 use Rattle.xf_lang.proofs.UntextedLaws.{solid-found}
 use Rattle.xf_lang.proofs.BelowAgree.{flat-has, flat-within}
-use Rattle.xf_agree.proofs.Covers.{range-found, reached-in}
-use Rattle.xf_agree.proofs.LooseStep.{in-order_of}
+use Rattle.xf_agree_laws.proofs.Covers.{range-found, reached-in}
+use Rattle.xf_agree_laws.proofs.LooseStep.{in-order_of}
 
 -- all of them are in the set
 abbrev pub Among : (ℕ → Type 0) → List ℕ → Type 0

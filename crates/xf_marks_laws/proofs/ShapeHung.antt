@@ -12,9 +12,9 @@ use Rattle.xf_lang.specs.Agree.{numbers_of, AreVisits}
 use Rattle.xf_lang.proofs.ForestVisits.{Each, each-map, each-filter, each-found, self-found, found-erased, forest-visits}
 use Rattle.xf_lang.proofs.ShapeVisits.{shape-visits}
 use Rattle.xf_model.proofs.ReadSolid.{AreHung as AllHung}
-use Rattle.xf_agree.specs.Settles.{AreHung}
-use Rattle.xf_agree.specs.Forests.{bare}
-use Rattle.xf_agree.proofs.HeldShape.{original, shape-erased}
+use Rattle.xf_agree_laws.specs.Settles.{AreHung}
+use Rattle.xf_agree_laws.specs.Forests.{bare}
+use Rattle.xf_agree_laws.proofs.HeldShape.{original, shape-erased}
 use Rattle.xf_marks_laws.proofs.TextLists.{text-kept}
 
 element-kept : (c : Content) → is_element (without_text c) ≡ is_element c

@@ -14,7 +14,7 @@ use Rattle.xf_lang.proofs.UntextedLaws.{bare-apart, bare-closed, solid-found}
 use Rattle.xf_lang.proofs.ForestVisits.{list-solid}
 use Rattle.xf_lang.proofs.ShapeVisits.{shape-untexted}
 use Rattle.xf_model.proofs.ReadSolid.{AreHung as AllHung}
-use Rattle.xf_agree.specs.Forests.{bare, InBoth}
+use Rattle.xf_agree_laws.specs.Forests.{bare, InBoth}
 use Rattle.xf_marks_laws.proofs.Reached.{Among, IsClosed}
 use Rattle.xf_marks_laws.proofs.TextLists.{opened, not-of, headed}
 

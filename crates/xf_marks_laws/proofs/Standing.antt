@@ -16,8 +16,8 @@ use Rattle.xf_lang.specs.Agree.{numbers_of, are_apart}
 use Rattle.xf_lang.proofs.RenumberLaws.{found-renumbered}
 use Rattle.xf_lang.proofs.VisitFacts.{self-same, or-cases, or-left, or-right, no}
 use Rattle.xf_lang.proofs.ForestVisits.{Each, each-found, self-found}
-use Rattle.xf_agree.specs.Settles.{AreHung}
-use Rattle.xf_agree.specs.Forests.{renumbered_forest}
+use Rattle.xf_agree_laws.specs.Settles.{AreHung}
+use Rattle.xf_agree_laws.specs.Forests.{renumbered_forest}
 
 -- ---- instances, then detached trees
 

@@ -20,9 +20,9 @@ use Rattle.xf_lang.proofs.ShapeVisits.{comes, shape-waits}
 use Rattle.xf_model.specs.Entries.{focus_of, looks_by, looks_of}
 use Rattle.xf_model.specs.Nested.{setting_for}
 use Rattle.xf_model.proofs.ReadSolid.{AreHung as AllHung}
-use Rattle.xf_agree.specs.Kept.{is_known, keeps, kept}
-use Rattle.xf_agree.specs.Forests.{bare, InBoth, asked_whole}
-use Rattle.xf_agree.proofs.Parts.{part-apart}
+use Rattle.xf_agree_laws.specs.Kept.{is_known, keeps, kept}
+use Rattle.xf_agree_laws.specs.Forests.{bare, InBoth, asked_whole}
+use Rattle.xf_agree_laws.proofs.Parts.{part-apart}
 use Rattle.xf_marks_laws.specs.Marks.{is_unmarked}
 use Rattle.xf_marks_laws.proofs.Reached.{Among, Free, Surrounded}
 use Rattle.xf_marks_laws.proofs.Asked.{converted-asked}

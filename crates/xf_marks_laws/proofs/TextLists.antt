@@ -15,7 +15,7 @@ use Rattle.xf_lang.specs.Agree.{numbers_of, are_apart, AreVisits}
 use Rattle.xf_lang.proofs.VisitFacts.{self-same, or-cases, or-left, or-right, no, some-same, none-some, found-number, has-found}
 use Rattle.xf_lang.proofs.ForestVisits.{Each, self-found, found-erased}
 use Rattle.xf_model.specs.Pertinent.{AllOf}
-use Rattle.xf_agree.proofs.Known.{above-text}
+use Rattle.xf_agree_laws.proofs.Known.{above-text}
 
 -- ---- lists
 

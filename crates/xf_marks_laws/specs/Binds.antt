@@ -23,9 +23,9 @@ use Rattle.xf_model.specs.Rules.{Rule, Scope, chains, chain_around}
 use Rattle.xf_model.specs.Nested.{alone, setting_for, set_from, begun}
 use Rattle.xf_model.specs.Applied.{entries_by}
 use Rattle.xf_model.specs.Pertinent.{AllOf}
-use Rattle.xf_agree.specs.Covered.{is_covered}
-use Rattle.xf_agree.specs.Settles.{AreHung, IsSolid}
-use Rattle.xf_agree.specs.Forests.{bare, InBoth}
+use Rattle.xf_agree_laws.specs.Covered.{is_covered}
+use Rattle.xf_agree_laws.specs.Settles.{AreHung, IsSolid}
+use Rattle.xf_agree_laws.specs.Forests.{bare, InBoth}
 
 -- ---- what the node sets of a bind look at
 

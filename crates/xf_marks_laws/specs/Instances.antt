@@ -18,8 +18,8 @@ use Rattle.xf_model.specs.Rules.{Scope}
 use Rattle.xf_model.specs.Applied.{Entry}
 use Rattle.xf_model.specs.Entries.{value_of, text_of}
 use Rattle.xf_model.specs.Pertinent.{Changes, asking, stands_as}
-use Rattle.xf_agree.specs.Settles.{AreHung, IsSolid, Surrounds}
-use Rattle.xf_agree.specs.Forests.{over_second, renumbered_forest}
+use Rattle.xf_agree_laws.specs.Settles.{AreHung, IsSolid, Surrounds}
+use Rattle.xf_agree_laws.specs.Forests.{over_second, renumbered_forest}
 use Rattle.xf_marks_laws.specs.Marks.{IsInBoth, SameNodes, SameBut, IsOf}
 use Rattle.xf_marks_laws.specs.Outside.{shape_now, touched, IsOutside}
 

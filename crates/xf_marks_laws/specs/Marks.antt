@@ -14,10 +14,10 @@ use Rattle.xf_lang.specs.Agree.{numbers_of, untexted}
 use Rattle.xf_model.specs.Rules.{Scope, computed_of}
 use Rattle.xf_model.specs.Applied.{Entry}
 use Rattle.xf_model.specs.Entries.{expression_of, value_of, text_of, reads_of, looks_of, touches}
-use Rattle.xf_agree.specs.Covered.{is_covered}
-use Rattle.xf_agree.specs.Settles.{AreHung, Surrounds}
-use Rattle.xf_agree.specs.Kept.{kept}
-use Rattle.xf_agree.specs.Forests.{bare, InBoth, over_second}
+use Rattle.xf_agree_laws.specs.Covered.{is_covered}
+use Rattle.xf_agree_laws.specs.Settles.{AreHung, Surrounds}
+use Rattle.xf_agree_laws.specs.Kept.{kept}
+use Rattle.xf_agree_laws.specs.Forests.{bare, InBoth, over_second}
 
 abbrev pub is_unmarked : List ℕ → ℕ → Bool
 is_unmarked marks n = not (has n marks)

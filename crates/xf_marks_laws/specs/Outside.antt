@@ -16,8 +16,8 @@ use Rattle.xf_model.specs.Rules.{Scope, calls_place}
 use Rattle.xf_model.specs.Applied.{Entry, is_calculate}
 use Rattle.xf_model.specs.Entries.{value_of, text_of}
 use Rattle.xf_model.specs.Pertinent.{Changes, Asking, asking, askings, stands_as, calculated_in, pertinent_of, is_pertinent}
-use Rattle.xf_agree.specs.Settles.{IsSolid, Surrounds}
-use Rattle.xf_agree.specs.Forests.{InBoth, over_second, renumbered_forest}
+use Rattle.xf_agree_laws.specs.Settles.{IsSolid, Surrounds}
+use Rattle.xf_agree_laws.specs.Forests.{InBoth, over_second, renumbered_forest}
 use Rattle.xf_marks_laws.specs.Marks.{SameBut, IsUnmarked, IsOf}
 
 -- ---- up to numbers

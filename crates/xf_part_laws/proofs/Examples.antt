@@ -21,7 +21,7 @@ use Rattle.xf_model.specs.Circular.{graph_over}
 use Rattle.xf_model.specs.Examples.{bind, calculate, yes, to}
 use Rattle.xf_model.specs.Examples as model
 use Rattle.xf_document_laws.specs.Documents.{documents_at}
-use Rattle.xf_agree.specs.FormSettles.{Applies}
+use Rattle.xf_agree_laws.specs.FormSettles.{Applies}
 use Rattle.xf_ast.specs.declared.form.Tables.{Tables}
 use Rattle.xf_lang.specs.Given.{Given}
 use Rattle.xf_plain_values.specs.Functions.{Functions}

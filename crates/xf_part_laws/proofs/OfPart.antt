@@ -23,8 +23,8 @@ use Rattle.xf_model.specs.Circular.{graph_over}
 use Rattle.xf_model.specs.Entries.{reads_of, looks_of, edge_count}
 use Rattle.xf_model.specs.Settled.{computed_over, settled, Bounds, settled_contents, settled_values, values_over}
 use Rattle.xf_model.specs.Pertinent.{AllOf, Changes, pertinent}
-use Rattle.xf_agree.specs.Settles.{AreHung, IsSolid}
-use Rattle.xf_agree.specs.FormSettles.{Applies}
+use Rattle.xf_agree_laws.specs.Settles.{AreHung, IsSolid}
+use Rattle.xf_agree_laws.specs.FormSettles.{Applies}
 use Rattle.xf_marks_laws.specs.Binds.{HasInstances}
 use Rattle.xf_root_laws.specs.Roots.{roots_in}
 use Rattle.xf_change_laws.specs.Documents.{IsRootOf}

@@ -15,7 +15,7 @@ use Rattle.xf_model.specs.Rules.{Scope, scope_of}
 use Rattle.xf_model.specs.Applied.{Entry, is_calculate}
 use Rattle.xf_model.specs.Settled.{Bounds, Contents, calculates, content_by, holding, round, rounds, settled_contents}
 use Rattle.xf_model.specs.Pertinent.{AllOf}
-use Rattle.xf_agree.specs.Settles.{IsSolid}
+use Rattle.xf_agree_laws.specs.Settles.{IsSolid}
 use Rattle.xf_part_laws.specs.Whole.{SettledElsewhere}
 use Rattle.xf_held_laws.proofs.Apart.{parts_apart}
 use Rattle.xf_part_laws.proofs.OfPart.{applied_stands_in_part}

@@ -17,8 +17,8 @@ use Rattle.xf_model.specs.Entries.{is_computed, text_of, reads_of, looks_of, edg
 use Rattle.xf_model.specs.Circular.{graph_over}
 use Rattle.xf_model.specs.Settled.{calculates, computed_over, is_long, is_over, settled, Bounds, settled_contents, settled_values, values_over}
 use Rattle.xf_model.specs.Pertinent.{AllOf, Changes, pertinent}
-use Rattle.xf_agree.specs.Settles.{AreHung, IsSolid}
-use Rattle.xf_agree.specs.FormSettles.{Applies}
+use Rattle.xf_agree_laws.specs.Settles.{AreHung, IsSolid}
+use Rattle.xf_agree_laws.specs.FormSettles.{Applies}
 use Rattle.xf_marks_laws.specs.Binds.{HasInstances}
 use Rattle.xf_document_laws.specs.Documents.{documents_at}
 use Rattle.xf_elsewhere_laws.specs.Parts.{IsPart}

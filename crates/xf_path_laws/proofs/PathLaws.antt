@@ -23,7 +23,7 @@ use Rattle.xf_lang.specs.Agree.{untexted, AreVisits}
 use Rattle.xf_lang.proofs.VisitFacts.{self-same, or-left, no, some-same, none-some, found-number}
 use Rattle.xf_lang.proofs.UntextedLaws.{solid-found}
 use Rattle.xf_lang.proofs.ForestVisits.{Each, each-found, found-erased, forest-visits}
-use Rattle.xf_agree.proofs.HeldShape.{IsTop, tops-from, original}
+use Rattle.xf_agree_laws.proofs.HeldShape.{IsTop, tops-from, original}
 use Rattle.xf_path_laws.specs.Paths.{is_path_byte, is_free, is_named, ArePathed, PathNamesOne}
 use Rattle.xf_path_laws.proofs.Found.{has-append, none-does, standing-at, opened}
 use Rattle.xf_path_laws.proofs.PathBytes.{last-same, Begins, front-same, not-empty, one-more, decimal-no, alone, same-place, before-fewer}

@@ -14,8 +14,8 @@ use Rattle.xf_model.specs.Pertinent.{Asking, Changes, asking, askings, calculate
 use Rattle.xf_model.proofs.PertinentLaws.{PassesMore, pertinent-least, pertinent-stands}
 use Rattle.xf_binds.specs.declared.web.Asks.{Asks}
 use Rattle.xf_binds.specs.Kept.{Kept}
-use Rattle.xf_recalc.specs.Found.{asks_or}
-use Rattle.xf_recalc.specs.Web.{asks_by, asks_of}
+use Rattle.xf_rebuild.specs.Found.{asks_or}
+use Rattle.xf_rebuild.specs.Web.{asks_by, asks_of}
 use Rattle.xf_pertinent.specs.Marked.{is_evaluated, pertinent_marks}
 use Rattle.xf_pertinent.specs.OfTable.{IsOfTable, changes_in}
 use Rattle.xf_pertinent.specs.Places.{asks_at, gives_at, gives_in, is_marked, reads_at, reads_in}

@@ -10,7 +10,7 @@ use Rattle.xf_lang.specs.Agree.{numbers_of}
 use Rattle.xf_shape.specs.Sound.{Sound}
 use Rattle.xf_shape.specs.Spots.{stands}
 use Rattle.xf_shape.proofs.Shapes.{absent-found}
-use Rattle.xf_recalc.proofs.Shown.{shown-above, shown-live}
+use Rattle.xf_rebuild.proofs.Shown.{shown-above, shown-live}
 
 numbers-erased : (xs : List Visit) → numbers_of (map erased xs) ≡ numbers_of xs
 numbers-erased [] = refl

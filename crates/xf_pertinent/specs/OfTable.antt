@@ -6,7 +6,7 @@ use Rattle.xf_doc.specs.Shape.{shape_of}
 use Rattle.xf_model.specs.Rules.{Scope, rule_of}
 use Rattle.xf_model.specs.Pertinent.{Changes}
 use Rattle.xf_binds.specs.Kept.{Kept, entries_of}
-use Rattle.xf_recalc.specs.Web.{asks_of}
+use Rattle.xf_rebuild.specs.Web.{asks_of}
 
 -- the binds are those of the tables, and what is kept of each entry is what it asks over the shape of these nodes
 pub record IsOfTable (scope : Scope) (tables : Tables) (nodes : List Node) (kept : Kept) : Type 0 where

@@ -12,7 +12,7 @@ ghost use Rattle.xf_binds.specs.declared.web.Asks as web;
 ghost use Rattle.xf_binds.specs.Held.{AreSingle, entry_of, place_on};
 ghost use Rattle.xf_binds.specs.Kept.{entries_of};
 ghost use Rattle.xf_binds.specs.Table.{kept_at, nodes_or};
-ghost use Rattle.xf_recalc.specs.Found.{asks_or};
+ghost use Rattle.xf_rebuild.specs.Found.{asks_or};
 ghost use Rattle.xf_pertinent.specs.Begun.{AreBegun, AreCalculated, asking_with, is_begun_at};
 
 use crate::marks::{MarkList, none_marked};

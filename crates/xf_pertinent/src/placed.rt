@@ -10,7 +10,7 @@ ghost use Rattle.xf_pertinent.specs.Called.{link_calls_place, step_calls_place};
 use xf_ast::{Bind, Expr, Link, Step};
 use xf_binds::Entry;
 use xf_eval::{Kind, kind_of};
-use xf_recalc::expression_of;
+use xf_rebuild::expression_of;
 
 /// Whether the expression of an entry asks for its position or size.
 pub(crate) fn is_placed(binds: &[Bind], entry: &Entry) -> bool

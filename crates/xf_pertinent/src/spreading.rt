@@ -3,7 +3,7 @@
 ghost use Rattle.std.specs.Prelude.{◌≡◌, ◌==◌, ◌<◌, ◌∷◌, ℕ, Bool, List, true, length, option_map, IfOk, OnOk};
 ghost use Rattle.xf_doc.specs.Visit.{has};
 ghost use Rattle.xf_binds.specs.Table.{kept_at};
-ghost use Rattle.xf_recalc.specs.Found.{asks_or};
+ghost use Rattle.xf_rebuild.specs.Found.{asks_or};
 ghost use Rattle.xf_pertinent.specs.Places.{gives_at, is_marked, reads_at};
 ghost use Rattle.xf_pertinent.specs.Spread.{Hears, IsSpread, Reaches, gives_before};
 

@@ -1,14 +1,12 @@
-pub mod Walks
-pub mod Rings
-pub mod MachineLaw
-pub mod Placed
-pub mod Linked
-pub mod Turns
-pub mod Shown
-pub mod Entered
-pub mod Ringed
-pub mod Above
-pub mod Rebuilds
-pub mod Expressions
-pub mod Told
-pub mod MetByGraph
+mod Values
+mod HeldSteps
+mod ListLemmas
+mod PlacedLists
+mod InOrder
+mod Known
+mod Turning
+mod Surroundings
+mod Ending
+mod Left
+pub mod Passing
+pub mod KeptTruths

@@ -1,9 +1,5 @@
-pub mod Web
-pub mod Rebuilt
-pub mod Links
-pub mod Readers
-pub mod Static
-pub mod Found
-pub mod Machine
-pub mod Order
-pub mod Reached
+pub mod Settles
+pub mod Turns
+pub mod Known
+pub mod Whole
+pub mod Passes

@@ -1,29 +1,43 @@
-//! Why a model is not rebuilt.
+//! Why a model is not recalculated.
 
 use std::alloc::AllocError;
-use xf_doc::{NodeId, NodeList};
+use xf_lang::EvalFault;
 
-/// Why a model is not rebuilt.
-#[derive(Debug, Drop)]
-pub enum RebuildFault {
-    /// A property is set on a node that has it already.
-    Twice(NodeId),
-    /// A calculate is set on a node with element children.
-    OnParent(NodeId),
-    /// All entries read and look at more than 8,388,608 nodes.
-    Edges,
-    /// Calculates depend on each other in a ring: their nodes, each of which reads the next, and the last the first.
-    Circular(NodeList),
+/// Why a model is not recalculated: a limit that its settled data pass.
+#[derive(Clone, Copy, Debug, PartialEq, Eq)]
+pub enum SettleFault {
+    /// A string that is made on the way has more than 4 MiB.
+    Long,
+    /// The text of a calculate has more than 65,536 bytes.
+    Text,
+    /// There are more than 65,536 elements, attributes and texts.
+    Nodes,
+    /// All texts and names have more than 4 MiB.
+    AllTexts,
     Memory,
 }
 
-impl From<AllocError> for RebuildFault {
+impl From<AllocError> for SettleFault {
     ghost use Rattle.std.specs.Prelude.{◌≡◌};
-    ghost use Rattle.xf_recalc.specs.declared.fault.RebuildFault.TheVariants.{Memory};
+    ghost use Rattle.xf_recalc.specs.declared.fault.SettleFault.TheVariants.{Memory};
 
     ghost from_gives = { λ _ e. e ≡ Memory };
 
     fn from(_: AllocError) -> Self {
-        RebuildFault::Memory
+        SettleFault::Memory
+    }
+}
+
+impl From<EvalFault> for SettleFault {
+    ghost use Rattle.std.specs.Prelude.{◌≡◌};
+    ghost use Rattle.xf_recalc.specs.Settles.{fault_of};
+
+    ghost from_gives = { λ fault e. e ≡ fault_of fault };
+
+    fn from(fault: EvalFault) -> Self {
+        match fault {
+            EvalFault::Long => SettleFault::Long,
+            EvalFault::Memory => SettleFault::Memory,
+        }
     }
 }

@@ -1,15 +1,12 @@
-//! The behaviours rebuild and recalculate of a model (XForms 1.1, sections 4.3.1 and 4.3.2).
+//! The work of a recalculation (XForms 1.1, section 4.3.2).
 #![tactic(auto)]
 
-mod expression;
+mod evaluate;
 mod fault;
-mod laws;
-mod readers;
-mod rebuilding;
-mod ring;
-mod web;
+mod order;
+mod recalculation;
+mod truths;
+mod turn;
 
-pub use expression::expression_of;
-pub use fault::RebuildFault;
-pub use laws::{links_defined, pertinent_met, rebuild_tells, rebuilds_alike};
-pub use rebuilding::rebuild;
+pub use fault::SettleFault;
+pub use recalculation::settle;

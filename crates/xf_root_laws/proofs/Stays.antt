@@ -16,10 +16,10 @@ use Rattle.xf_doc.specs.Needs.{MayStand, in_element, in_root, as_attribute}
 use Rattle.xf_doc.specs.WellFormed.{are_below, are_tops}
 use Rattle.xf_doc.specs.Undo.{Ledger}
 use Rattle.xf_doc.proofs.BackLaws.{and-true, or-false}
-use Rattle.xf_rollback.specs.Made.{Made, begun, noted, texts, passed, joined, cut, grown, with_new_text}
-use Rattle.xf_rollback.proofs.Laws.{rolls_back}
-use Rattle.xf_rollback.proofs.MadeLemmas.{begun-with, none-detached}
-use Rattle.xf_rollback.proofs.Outcomes.{attached-placed, set-forest}
+use Rattle.xf_rollback_laws.specs.Made.{Made, begun, noted, texts, passed, joined, cut, grown, with_new_text}
+use Rattle.xf_rollback_laws.proofs.Laws.{rolls_back}
+use Rattle.xf_rollback_laws.proofs.MadeLemmas.{begun-with, none-detached}
+use Rattle.xf_rollback_laws.proofs.Outcomes.{attached-placed, set-forest}
 use Rattle.xf_root_laws.specs.Roots.{AreAhead, roots_in, are_rising, RootsStay, IsNoRoot, EmptyHasRoots, StayHasRoots, RootAtPlace, RootsStayText, RootsStayDetached, RootsStayPlaced, RootsStayGrown, RootsStayDropped, RootAdded, RootsMade, RootsRolledBack}
 use Rattle.xf_root_laws.proofs.Shown.{rootless, shown, both, roots-append, none-rooted, stay-by, ahead-by, roots-by, shown-skip, rootless-ahead, ahead-append, front-ahead, parts}
 use Rattle.xf_root_laws.proofs.Parts.{texts-shown, stay-valued, ahead-without, roots-without, tree-rootless, moved-rootless, moved-deep, put-shown}

@@ -13,7 +13,7 @@ use Rattle.xf_doc.specs.Settle.{with_numbered_text}
 use Rattle.xf_doc.specs.Needs.{MayRoot}
 use Rattle.xf_doc.specs.WellFormed.{HasTrees, AreTrees}
 use Rattle.xf_doc.specs.Undo.{Ledger, rolled_back}
-use Rattle.xf_rollback.specs.Made.{Made, IsGrowth}
+use Rattle.xf_rollback_laws.specs.Made.{Made, IsGrowth}
 
 -- no root stands behind the instances
 abbrev pub AreAhead : List Node → Type 0

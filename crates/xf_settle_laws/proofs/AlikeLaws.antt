@@ -10,11 +10,11 @@ use Rattle.xf_doc.specs.Visit.{visits}
 use Rattle.xf_doc.specs.Same.{renumbered_visit}
 use Rattle.xf_doc.specs.Shape.{with_contents}
 use Rattle.xf_doc.specs.WellFormed.{are_first}
-use Rattle.xf_rollback.proofs.Trees.{Trees, none, tree, onto}
-use Rattle.xf_rollback.proofs.TreeVisits.{seen, visits-seen}
-use Rattle.xf_rollback.proofs.TreeShape.{Sound}
-use Rattle.xf_rollback.proofs.TreeOrder.{Ordered, ordered-onto}
-use Rattle.xf_rollback.proofs.KeepingTrees.{stands, any-is}
+use Rattle.xf_rollback_laws.proofs.Trees.{Trees, none, tree, onto}
+use Rattle.xf_rollback_laws.proofs.TreeVisits.{seen, visits-seen}
+use Rattle.xf_rollback_laws.proofs.TreeShape.{Sound}
+use Rattle.xf_rollback_laws.proofs.TreeOrder.{Ordered, ordered-onto}
+use Rattle.xf_rollback_laws.proofs.KeepingTrees.{stands, any-is}
 use Rattle.xf_settle_laws.specs.Written.{Contents, written, MayWrite}
 use Rattle.xf_settle_laws.specs.Alike.{content_of, done_of, AreAlike}
 use Rattle.xf_settle_laws.proofs.Put.{put_all}

@@ -11,13 +11,13 @@ use Rattle.xf_doc.specs.Forest.{is_element, is_attribute, own_text, tree_of, fir
 use Rattle.xf_doc.specs.Shape.{as_texts}
 use Rattle.xf_doc.specs.Texts.{with_value, one_text, with_texts, with_attribute_text, is_attribute_at, texts_in, value_in}
 use Rattle.xf_doc.specs.Settle.{are_texts, with_settled_text}
-use Rattle.xf_rollback.proofs.Trees.{Trees, none, tree, onto, followed, times}
-use Rattle.xf_rollback.proofs.TreeTexts.{lone, attributes, valued-onto, texts-onto, texts-skip}
-use Rattle.xf_rollback.proofs.TreeShape.{is_leaf}
-use Rattle.xf_rollback.proofs.TreeBlank.{AreLeaves}
-use Rattle.xf_rollback.proofs.TreeFacts.{is_at, at-absent}
-use Rattle.xf_rollback.proofs.TreeLeaves.{bare-leaf, retexted-times, revalued-times}
-use Rattle.xf_rollback.proofs.KeepingTrees.{any-is}
+use Rattle.xf_rollback_laws.proofs.Trees.{Trees, none, tree, onto, followed, times}
+use Rattle.xf_rollback_laws.proofs.TreeTexts.{lone, attributes, valued-onto, texts-onto, texts-skip}
+use Rattle.xf_rollback_laws.proofs.TreeShape.{is_leaf}
+use Rattle.xf_rollback_laws.proofs.TreeBlank.{AreLeaves}
+use Rattle.xf_rollback_laws.proofs.TreeFacts.{is_at, at-absent}
+use Rattle.xf_rollback_laws.proofs.TreeLeaves.{bare-leaf, retexted-times, revalued-times}
+use Rattle.xf_rollback_laws.proofs.KeepingTrees.{any-is}
 use Rattle.xf_settle_laws.specs.Written.{Contents, written}
 use Rattle.xf_settle_laws.proofs.KindLemmas.{element-no_attribute, element-no_text, leaf-no_element, same-bytes, few}
 use Rattle.xf_settle_laws.proofs.Put.{texts_top, same_texts, content, valued, put, valued-attribute, valued-element, put_all, with_one}

@@ -8,12 +8,12 @@ use Rattle.xf_doc.specs.Forest.{is_element, is_attribute, is_text}
 use Rattle.xf_doc.specs.Visit.{Visit, has_parent, visits}
 use Rattle.xf_doc.specs.Shape.{Texts, text_number, is_replaced, is_gone, given_visits, visits_in, filled, as_texts, texts_given, value_given, with_value, with_contents}
 use Rattle.xf_doc.specs.Texts.{one_text}
-use Rattle.xf_rollback.proofs.Trees.{Trees, none, tree, onto, followed}
-use Rattle.xf_rollback.proofs.TreeTexts.{lone, attributes}
-use Rattle.xf_rollback.proofs.TreeVisits.{seen, visits-seen}
-use Rattle.xf_rollback.proofs.TreeShape.{is_leaf}
-use Rattle.xf_rollback.proofs.TreeBlank.{AreLeaves}
-use Rattle.xf_rollback.proofs.TreeOrder.{NoAttributes, AttributesFirst}
+use Rattle.xf_rollback_laws.proofs.Trees.{Trees, none, tree, onto, followed}
+use Rattle.xf_rollback_laws.proofs.TreeTexts.{lone, attributes}
+use Rattle.xf_rollback_laws.proofs.TreeVisits.{seen, visits-seen}
+use Rattle.xf_rollback_laws.proofs.TreeShape.{is_leaf}
+use Rattle.xf_rollback_laws.proofs.TreeBlank.{AreLeaves}
+use Rattle.xf_rollback_laws.proofs.TreeOrder.{NoAttributes, AttributesFirst}
 use Rattle.xf_settle_laws.proofs.KindLemmas.{attribute-no_element, attribute-no_text, attribute-leaf, leaf-text, and-none}
 use Rattle.xf_settle_laws.proofs.Spots.{FitsHere}
 

@@ -6,8 +6,8 @@ use Rattle.xf_doc.specs.declared.content.Content.{Content}
 use Rattle.xf_doc.specs.Forest.{is_element, is_attribute}
 use Rattle.xf_doc.specs.Shape.{text_number, value_given}
 use Rattle.xf_doc.specs.Texts.{one_text}
-use Rattle.xf_rollback.proofs.Trees.{Trees, none, tree, followed}
-use Rattle.xf_rollback.proofs.TreeTexts.{lone, attributes}
+use Rattle.xf_rollback_laws.proofs.Trees.{Trees, none, tree, followed}
+use Rattle.xf_rollback_laws.proofs.TreeTexts.{lone, attributes}
 use Rattle.xf_settle_laws.proofs.Held.{Given, held_below, hold, given-attribute}
 use Rattle.xf_settle_laws.proofs.Renamed.{swap, swap-other, renamed, renamed-followed, renamed-attributes, only, value-none}
 

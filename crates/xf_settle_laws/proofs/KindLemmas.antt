@@ -6,7 +6,7 @@ use Rattle.std.proofs.lemmas.Slice.Eq.{bytes_eq-Decides}
 use Rattle.xf_doc.specs.declared.content.Content.{Content}
 use Rattle.xf_doc.specs.declared.content.Content.TheVariants.{Root, Element, Attribute, Text}
 use Rattle.xf_doc.specs.Forest.{is_element, is_attribute, is_text}
-use Rattle.xf_rollback.proofs.TreeShape.{is_leaf}
+use Rattle.xf_rollback_laws.proofs.TreeShape.{is_leaf}
 
 -- ---- contents
 

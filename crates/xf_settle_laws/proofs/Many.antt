@@ -11,13 +11,13 @@ use Rattle.xf_doc.specs.Visit.{has}
 use Rattle.xf_doc.specs.Same.{IsRenumbering}
 use Rattle.xf_doc.specs.Shape.{text_number, as_texts}
 use Rattle.xf_doc.specs.Texts.{with_value, one_text}
-use Rattle.xf_rollback.proofs.Trees.{Trees, none, tree, followed, times}
-use Rattle.xf_rollback.proofs.TreeTexts.{lone, attributes, retexted, revalued}
-use Rattle.xf_rollback.proofs.TreeOrder.{Ordered}
-use Rattle.xf_rollback.proofs.TreeFacts.{is_at, at-times, some-followed}
-use Rattle.xf_rollback.proofs.TreeLeaves.{retexted-times, revalued-times}
-use Rattle.xf_rollback.proofs.FirstLemmas.{ordered-retexted, ordered-revalued}
-use Rattle.xf_rollback.proofs.TextSteps.{one_text-texts}
+use Rattle.xf_rollback_laws.proofs.Trees.{Trees, none, tree, followed, times}
+use Rattle.xf_rollback_laws.proofs.TreeTexts.{lone, attributes, retexted, revalued}
+use Rattle.xf_rollback_laws.proofs.TreeOrder.{Ordered}
+use Rattle.xf_rollback_laws.proofs.TreeFacts.{is_at, at-times, some-followed}
+use Rattle.xf_rollback_laws.proofs.TreeLeaves.{retexted-times, revalued-times}
+use Rattle.xf_rollback_laws.proofs.FirstLemmas.{ordered-retexted, ordered-revalued}
+use Rattle.xf_rollback_laws.proofs.TextSteps.{one_text-texts}
 use Rattle.xf_settle_laws.specs.Written.{Contents, nodes_of, are_different}
 use Rattle.xf_settle_laws.specs.Alike.{content_of, done_of}
 use Rattle.xf_settle_laws.proofs.KindLemmas.{attribute-no_text, element-no_text, few, or-parts, and-parts, not-true}

@@ -9,9 +9,9 @@ use Rattle.xf_doc.specs.Forest.{is_element, is_attribute, is_text, own_text}
 use Rattle.xf_doc.specs.Visit.{has}
 use Rattle.xf_doc.specs.Shape.{as_texts}
 use Rattle.xf_doc.specs.Texts.{with_value, one_text}
-use Rattle.xf_rollback.proofs.Trees.{Trees, none, tree, followed}
-use Rattle.xf_rollback.proofs.TreeTexts.{lone, attributes}
-use Rattle.xf_rollback.proofs.TreeMoved.{value-attribute, value-element}
+use Rattle.xf_rollback_laws.proofs.Trees.{Trees, none, tree, followed}
+use Rattle.xf_rollback_laws.proofs.TreeTexts.{lone, attributes}
+use Rattle.xf_rollback_laws.proofs.TreeMoved.{value-attribute, value-element}
 use Rattle.xf_settle_laws.specs.Written.{Contents, and_one, nodes_of, are_different}
 use Rattle.xf_settle_laws.proofs.KindLemmas.{or-parts, and-parts, not-true, and-none}
 

@@ -9,11 +9,11 @@ use Rattle.xf_doc.specs.Visit.{Visit}
 use Rattle.xf_doc.specs.Same.{IsRenumbering, renumbered_visit}
 use Rattle.xf_doc.specs.Shape.{value_given}
 use Rattle.xf_doc.specs.Texts.{with_value}
-use Rattle.xf_rollback.proofs.Trees.{Trees, none, tree, followed, times}
-use Rattle.xf_rollback.proofs.TreeTexts.{attributes, times-split}
-use Rattle.xf_rollback.proofs.TreeVisits.{seen}
-use Rattle.xf_rollback.proofs.TreeBlank.{AreLeaves}
-use Rattle.xf_rollback.proofs.TreeOrder.{NoAttributes, AttributesFirst}
+use Rattle.xf_rollback_laws.proofs.Trees.{Trees, none, tree, followed, times}
+use Rattle.xf_rollback_laws.proofs.TreeTexts.{attributes, times-split}
+use Rattle.xf_rollback_laws.proofs.TreeVisits.{seen}
+use Rattle.xf_rollback_laws.proofs.TreeBlank.{AreLeaves}
+use Rattle.xf_rollback_laws.proofs.TreeOrder.{NoAttributes, AttributesFirst}
 use Rattle.xf_settle_laws.proofs.KindLemmas.{attribute-no_text, leaf-text}
 use Rattle.xf_settle_laws.proofs.Put.{texts_top}
 use Rattle.xf_settle_laws.proofs.Held.{Given, hold}

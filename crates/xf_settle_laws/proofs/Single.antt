@@ -9,11 +9,11 @@ use Rattle.xf_doc.specs.declared.content.Content.TheVariants.{Text}
 use Rattle.xf_doc.specs.Forest.{is_element, is_attribute, is_text}
 use Rattle.xf_doc.specs.Shape.{text_number, value_given}
 use Rattle.xf_doc.specs.Texts.{with_value, one_text}
-use Rattle.xf_rollback.proofs.Trees.{Trees, none, tree, followed, times, times-followed}
-use Rattle.xf_rollback.proofs.TreeTexts.{lone, attributes, Where, here, inside, later, where_is}
-use Rattle.xf_rollback.proofs.TreeBlank.{AreLeaves}
-use Rattle.xf_rollback.proofs.TreeOrder.{AttributesFirst, Ordered}
-use Rattle.xf_rollback.proofs.TreeFacts.{is_at, at-times}
+use Rattle.xf_rollback_laws.proofs.Trees.{Trees, none, tree, followed, times, times-followed}
+use Rattle.xf_rollback_laws.proofs.TreeTexts.{lone, attributes, Where, here, inside, later, where_is}
+use Rattle.xf_rollback_laws.proofs.TreeBlank.{AreLeaves}
+use Rattle.xf_rollback_laws.proofs.TreeOrder.{AttributesFirst, Ordered}
+use Rattle.xf_rollback_laws.proofs.TreeFacts.{is_at, at-times}
 use Rattle.xf_settle_laws.proofs.KindLemmas.{attribute-no_element, same-bytes, few}
 use Rattle.xf_settle_laws.proofs.Put.{texts_top, same_texts, content, put}
 use Rattle.xf_settle_laws.proofs.Spots.{FitsHere, Fits, put-absent}

@@ -11,10 +11,10 @@ use Rattle.xf_doc.specs.Forest.{is_element, is_attribute, is_text, own_text, fro
 use Rattle.xf_doc.specs.Shape.{as_texts}
 use Rattle.xf_doc.specs.Texts.{with_value, one_text, texts_in}
 use Rattle.xf_doc.specs.Settle.{are_texts}
-use Rattle.xf_rollback.proofs.Trees.{Trees, none, tree, onto, followed, times, StopsAt, stops-onto}
-use Rattle.xf_rollback.proofs.TreeTexts.{lone, attributes, retexted, revalued, below-onto, times-split, retexted-absent, Where, here, inside, later, where_is}
-use Rattle.xf_rollback.proofs.TreeBlank.{AreLeaves, LeafAt, leaf-absent}
-use Rattle.xf_rollback.proofs.TreeFacts.{is_at, at-absent}
+use Rattle.xf_rollback_laws.proofs.Trees.{Trees, none, tree, onto, followed, times, StopsAt, stops-onto}
+use Rattle.xf_rollback_laws.proofs.TreeTexts.{lone, attributes, retexted, revalued, below-onto, times-split, retexted-absent, Where, here, inside, later, where_is}
+use Rattle.xf_rollback_laws.proofs.TreeBlank.{AreLeaves, LeafAt, leaf-absent}
+use Rattle.xf_rollback_laws.proofs.TreeFacts.{is_at, at-absent}
 use Rattle.xf_settle_laws.proofs.KindLemmas.{attribute-no_element}
 use Rattle.xf_settle_laws.proofs.Put.{texts_top, same_texts, put}
 

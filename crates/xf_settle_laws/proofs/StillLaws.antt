@@ -11,14 +11,14 @@ use Rattle.xf_doc.specs.Visit.{visits}
 use Rattle.xf_doc.specs.Shape.{has_elements, as_texts}
 use Rattle.xf_doc.specs.Needs.{IsSettable}
 use Rattle.xf_doc.specs.Texts.{with_value, one_text}
-use Rattle.xf_rollback.proofs.Trees.{Trees, none, tree, onto, followed}
-use Rattle.xf_rollback.proofs.TreeTexts.{lone, attributes}
-use Rattle.xf_rollback.proofs.TreeVisits.{elements, elements-are}
-use Rattle.xf_rollback.proofs.TreeShape.{times-onto}
-use Rattle.xf_rollback.proofs.TreeMoved.{value-attribute, value-element}
-use Rattle.xf_rollback.proofs.TreeBlank.{AreLeaves}
-use Rattle.xf_rollback.proofs.TreeFacts.{is_at, some-followed}
-use Rattle.xf_rollback.proofs.KeepingTrees.{stands, any-is, any-kind, kind-any, element-test, attribute-test}
+use Rattle.xf_rollback_laws.proofs.Trees.{Trees, none, tree, onto, followed}
+use Rattle.xf_rollback_laws.proofs.TreeTexts.{lone, attributes}
+use Rattle.xf_rollback_laws.proofs.TreeVisits.{elements, elements-are}
+use Rattle.xf_rollback_laws.proofs.TreeShape.{times-onto}
+use Rattle.xf_rollback_laws.proofs.TreeMoved.{value-attribute, value-element}
+use Rattle.xf_rollback_laws.proofs.TreeBlank.{AreLeaves}
+use Rattle.xf_rollback_laws.proofs.TreeFacts.{is_at, some-followed}
+use Rattle.xf_rollback_laws.proofs.KeepingTrees.{stands, any-is, any-kind, kind-any, element-test, attribute-test}
 use Rattle.xf_settle_laws.specs.Written.{Contents, written, MayWrite}
 use Rattle.xf_settle_laws.proofs.KindLemmas.{attribute-no_element, text-no_attribute, text-no_element, leaf-no_element, leaf-text, and-none}
 use Rattle.xf_settle_laws.proofs.Put.{texts_top, same_texts, content, valued, put, valued-element, put_all}

@@ -13,13 +13,13 @@ use Rattle.xf_doc.specs.Needs.{IsSettable}
 use Rattle.xf_doc.specs.Texts.{Keeping}
 use Rattle.xf_doc.specs.Settle.{with_settled_text}
 use Rattle.xf_doc.specs.WellFormed.{HasTrees, AreTrees}
-use Rattle.xf_rollback.proofs.Trees.{Trees, none, tree, onto, times}
-use Rattle.xf_rollback.proofs.TreeVisits.{elements, elements-are}
-use Rattle.xf_rollback.proofs.TreeBlank.{LeafAt}
-use Rattle.xf_rollback.proofs.TreeAgain.{AttributeAt}
-use Rattle.xf_rollback.proofs.TreeFacts.{is_at, at-times}
-use Rattle.xf_rollback.proofs.TreeLeaves.{leaf-of, attribute-of}
-use Rattle.xf_rollback.proofs.KeepingTrees.{Stands, stands, any-is, kind-any, element-test, attribute-test}
+use Rattle.xf_rollback_laws.proofs.Trees.{Trees, none, tree, onto, times}
+use Rattle.xf_rollback_laws.proofs.TreeVisits.{elements, elements-are}
+use Rattle.xf_rollback_laws.proofs.TreeBlank.{LeafAt}
+use Rattle.xf_rollback_laws.proofs.TreeAgain.{AttributeAt}
+use Rattle.xf_rollback_laws.proofs.TreeFacts.{is_at, at-times}
+use Rattle.xf_rollback_laws.proofs.TreeLeaves.{leaf-of, attribute-of}
+use Rattle.xf_rollback_laws.proofs.KeepingTrees.{Stands, stands, any-is, kind-any, element-test, attribute-test}
 use Rattle.xf_settle_laws.specs.Written.{Contents, written, and_one, AreSettable, MayWrite}
 use Rattle.xf_settle_laws.proofs.Put.{put_all, put-more, with_one}
 use Rattle.xf_settle_laws.proofs.Spots.{Fits}

@@ -23,13 +23,13 @@ use Rattle.xf_model.specs.Settled as words
 use Rattle.xf_model.specs.Pertinent.{AllOf}
 use Rattle.xf_model.proofs.EachLemmas.{each_then, each_both}
 use Rattle.xf_graph.specs.Cycle.{IsAcyclic}
-use Rattle.xf_agree.specs.Settles.{IsSolid, Surrounds}
-use Rattle.xf_agree.proofs.EvaluatedLaws.{evaluated_text, surroundings_stay, solid_numbers}
-use Rattle.xf_agree.proofs.FormSettable.{entries_solid}
-use Rattle.xf_agree.proofs.HungLaws.{hung_forest}
-use Rattle.xf_agree.proofs.TurnLists.{each-none}
-use Rattle.xf_rollback.proofs.Trees.{Trees, onto, onto-inj}
-use Rattle.xf_rollback.proofs.KeepingTrees.{Stands, stands}
+use Rattle.xf_agree_laws.specs.Settles.{IsSolid, Surrounds}
+use Rattle.xf_agree_laws.proofs.EvaluatedLaws.{evaluated_text, surroundings_stay, solid_numbers}
+use Rattle.xf_agree_laws.proofs.FormSettable.{entries_solid}
+use Rattle.xf_agree_laws.proofs.HungLaws.{hung_forest}
+use Rattle.xf_agree_laws.proofs.TurnLists.{each-none}
+use Rattle.xf_rollback_laws.proofs.Trees.{Trees, onto, onto-inj}
+use Rattle.xf_rollback_laws.proofs.KeepingTrees.{Stands, stands}
 use Rattle.xf_settle_laws.specs.Written.{MayWrite, written}
 use Rattle.xf_settle_laws.specs.Alike.{AreAlike}
 use Rattle.xf_settle_laws.proofs.AlikeLaws.{written-alike}

@@ -16,11 +16,11 @@ use Rattle.xf_model.specs.Rules.{Scope, scope_of}
 use Rattle.xf_model.specs.Applied.{Entry, all_entries}
 use Rattle.xf_model.specs.Settled.{Bounds, calculates, content_by, settled}
 use Rattle.xf_model.specs.Pertinent.{AllOf}
-use Rattle.xf_agree.specs.InTurn.{AreSingle}
-use Rattle.xf_agree.specs.Settles.{IsStatic}
-use Rattle.xf_agree.proofs.FormInTurn.{single}
-use Rattle.xf_agree.proofs.FormSettable.{form_settable}
-use Rattle.xf_agree.proofs.FormSettled.{applied-parts, form_static, form_settles}
+use Rattle.xf_agree_laws.specs.InTurn.{AreSingle}
+use Rattle.xf_agree_laws.specs.Settles.{IsStatic}
+use Rattle.xf_agree_laws.proofs.FormInTurn.{single}
+use Rattle.xf_agree_laws.proofs.FormSettable.{form_settable}
+use Rattle.xf_agree_laws.proofs.FormSettled.{applied-parts, form_static, form_settles}
 use Rattle.xf_settle_laws.specs.Written.{nodes_of, are_different, AreSettable, MayWrite}
 use Rattle.xf_written_laws.specs.Turn.{contents_of}
 use Rattle.xf_since_laws.specs.Since.{IsDue}

@@ -19,7 +19,7 @@ use Rattle.xf_model.specs.Pertinent.{Changes, Asking, AllOf, asking, askings, ca
 use Rattle.xf_model.proofs.CircularLemmas.{StandsAt}
 use Rattle.xf_model.proofs.EachLemmas.{each_then}
 use Rattle.xf_model.proofs.PertinentLaws.{pertinent-stands}
-use Rattle.xf_agree.proofs.TurnLists.{each-stands, only-one}
+use Rattle.xf_agree_laws.proofs.TurnLists.{each-stands, only-one}
 use Rattle.xf_marks_laws.specs.Outside.{shape_now, IsOutside}
 use Rattle.xf_since_laws.specs.Since.{IsDue}
 use Rattle.xf_since_laws.specs.Pertinent.{is_written}

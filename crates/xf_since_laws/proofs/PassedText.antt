@@ -27,8 +27,8 @@ use Rattle.xf_model.specs.Entries.{text_of, value_of}
 use Rattle.xf_model.specs.Settled.{Bounds, Contents, Valued, calculates}
 use Rattle.xf_model.specs.Pertinent.{Changes, AllOf, asking, askings, stands_as, calculated_in, pertinent_of, is_pertinent}
 use Rattle.xf_model.proofs.EachLemmas.{each_then, each_both}
-use Rattle.xf_agree.specs.Settles.{IsSolid, IsStatic, Surrounds}
-use Rattle.xf_agree.proofs.HungLaws.{hung_forest}
+use Rattle.xf_agree_laws.specs.Settles.{IsSolid, IsStatic, Surrounds}
+use Rattle.xf_agree_laws.proofs.HungLaws.{hung_forest}
 use Rattle.xf_settle_laws.specs.Written.{MayWrite}
 use Rattle.xf_settle_laws.proofs.StillLaws.{settable-still}
 use Rattle.xf_marks_laws.specs.Marks.{IsInBoth, IsOf}

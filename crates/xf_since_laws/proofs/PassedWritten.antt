@@ -18,9 +18,9 @@ use Rattle.xf_model.specs.Settled.{Bounds, Contents, content_of, content_by, cal
 use Rattle.xf_model.specs.Pertinent.{Changes, AllOf}
 use Rattle.xf_model.proofs.CircularLemmas.{StandsAt}
 use Rattle.xf_model.proofs.EachLemmas.{of_each, each_then, each_both}
-use Rattle.xf_agree.specs.InTurn.{AreSingle, AreInTurn}
-use Rattle.xf_agree.proofs.TurnLists.{all-append, all-later, at-stands, each-none, each-stands}
-use Rattle.xf_agree.proofs.InTurnLaws.{each-in_turn, stands-in_turn}
+use Rattle.xf_agree_laws.specs.InTurn.{AreSingle, AreInTurn}
+use Rattle.xf_agree_laws.proofs.TurnLists.{all-append, all-later, at-stands, each-none, each-stands}
+use Rattle.xf_agree_laws.proofs.InTurnLaws.{each-in_turn, stands-in_turn}
 use Rattle.xf_settle_laws.specs.Written.{written, and_one, nodes_of, MayWrite}
 use Rattle.xf_settle_laws.proofs.KindLemmas.{and-none}
 use Rattle.xf_settle_laws.proofs.Put.{with_one}

@@ -8,10 +8,10 @@ use Rattle.xf_doc.specs.Forest.{is_element, is_attribute, is_text}
 use Rattle.xf_doc.specs.Shape.{as_texts}
 use Rattle.xf_doc.specs.Texts.{one_text}
 use Rattle.xf_doc.proofs.VisitLemmas.{BeginsWithin}
-use Rattle.xf_rollback.proofs.Trees.{Trees, none, tree, followed, onto}
-use Rattle.xf_rollback.proofs.TreeBlank.{AreLeaves}
-use Rattle.xf_rollback.proofs.TreeTexts.{attributes, lone}
-use Rattle.xf_rollback.proofs.TreeVisits.{begins-onto}
+use Rattle.xf_rollback_laws.proofs.Trees.{Trees, none, tree, followed, onto}
+use Rattle.xf_rollback_laws.proofs.TreeBlank.{AreLeaves}
+use Rattle.xf_rollback_laws.proofs.TreeTexts.{attributes, lone}
+use Rattle.xf_rollback_laws.proofs.TreeVisits.{begins-onto}
 use Rattle.xf_settle_laws.proofs.KindLemmas.{attribute-no_element, leaf-text, and-parts}
 use Rattle.xf_settle_laws.proofs.Put.{content, put, same_texts, texts_top, valued}
 use Rattle.xf_settle_laws.proofs.Spots.{Fits, FitsHere}

@@ -13,12 +13,12 @@ use Rattle.xf_doc.specs.Shape.{as_texts}
 use Rattle.xf_doc.specs.Texts.{one_text, with_value, texts_in, value_in, is_attribute_at}
 use Rattle.xf_doc.specs.Settle.{are_texts, has_text}
 use Rattle.xf_doc.specs.Visit.{Visit, visits, has, is_first}
-use Rattle.xf_rollback.proofs.Trees.{Trees, none, tree, followed, onto, times, StopsAt, stops-onto}
-use Rattle.xf_rollback.proofs.TreeBlank.{AreLeaves}
-use Rattle.xf_rollback.proofs.TreeFacts.{is_at, at-absent}
-use Rattle.xf_rollback.proofs.TreeTexts.{attributes, lone, below-onto, times-split, Where, here, inside, later, where_is}
-use Rattle.xf_rollback.proofs.TreeVisits.{seen, visits-seen}
-use Rattle.xf_rollback.proofs.KeepingTrees.{any-is}
+use Rattle.xf_rollback_laws.proofs.Trees.{Trees, none, tree, followed, onto, times, StopsAt, stops-onto}
+use Rattle.xf_rollback_laws.proofs.TreeBlank.{AreLeaves}
+use Rattle.xf_rollback_laws.proofs.TreeFacts.{is_at, at-absent}
+use Rattle.xf_rollback_laws.proofs.TreeTexts.{attributes, lone, below-onto, times-split, Where, here, inside, later, where_is}
+use Rattle.xf_rollback_laws.proofs.TreeVisits.{seen, visits-seen}
+use Rattle.xf_rollback_laws.proofs.KeepingTrees.{any-is}
 use Rattle.xf_lang.specs.Asked.{found}
 use Rattle.xf_lang.proofs.VisitFacts.{turned}
 use Rattle.xf_model.specs.Pertinent.{AllOf}

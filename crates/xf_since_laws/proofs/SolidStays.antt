@@ -9,14 +9,14 @@ use Rattle.xf_doc.specs.Forest.{is_root, is_element, is_attribute, is_text, has_
 use Rattle.xf_doc.specs.Shape.{as_texts, erased, without_text}
 use Rattle.xf_doc.specs.Texts.{one_text, with_value}
 use Rattle.xf_doc.specs.Visit.{Visit, visits}
-use Rattle.xf_rollback.proofs.Trees.{Trees, none, tree, followed, onto, times}
-use Rattle.xf_rollback.proofs.TreeBlank.{AreLeaves}
-use Rattle.xf_rollback.proofs.TreeTexts.{attributes, lone}
-use Rattle.xf_rollback.proofs.TreeShape.{times-onto}
-use Rattle.xf_rollback.proofs.TreeVisits.{seen, visits-seen}
-use Rattle.xf_rollback.proofs.KeepingTrees.{absent-times}
+use Rattle.xf_rollback_laws.proofs.Trees.{Trees, none, tree, followed, onto, times}
+use Rattle.xf_rollback_laws.proofs.TreeBlank.{AreLeaves}
+use Rattle.xf_rollback_laws.proofs.TreeTexts.{attributes, lone}
+use Rattle.xf_rollback_laws.proofs.TreeShape.{times-onto}
+use Rattle.xf_rollback_laws.proofs.TreeVisits.{seen, visits-seen}
+use Rattle.xf_rollback_laws.proofs.KeepingTrees.{absent-times}
 use Rattle.xf_lang.specs.Agree.{untexted}
-use Rattle.xf_agree.specs.Hung.{are_hung, are_hung_from, hangs, rooted_by}
+use Rattle.xf_agree_laws.specs.Hung.{are_hung, are_hung_from, hangs, rooted_by}
 use Rattle.xf_settle_laws.proofs.KindLemmas.{attribute-no_element, leaf-text}
 use Rattle.xf_settle_laws.proofs.Put.{content, put, same_texts, texts_top, valued}
 use Rattle.xf_settle_laws.proofs.Spots.{Fits, FitsHere}

@@ -12,9 +12,9 @@ use Rattle.xf_doc.specs.Visit.{visits}
 use Rattle.xf_doc.specs.WellFormed.{are_below, HasTrees}
 use Rattle.xf_doc.proofs.SettleLaws.{numbered-is}
 use Rattle.xf_doc.proofs.TextLaws.{setting-keeps_shape}
-use Rattle.xf_rollback.proofs.Trees.{Trees, onto, times}
-use Rattle.xf_rollback.proofs.KeepingTrees.{Stands, stands}
-use Rattle.xf_agree.specs.Hung.{are_hung}
+use Rattle.xf_rollback_laws.proofs.Trees.{Trees, onto, times}
+use Rattle.xf_rollback_laws.proofs.KeepingTrees.{Stands, stands}
+use Rattle.xf_agree_laws.specs.Hung.{are_hung}
 use Rattle.xf_settle_laws.specs.Written.{Contents, written, AreSettable}
 use Rattle.xf_settle_laws.proofs.KindLemmas.{and-parts}
 use Rattle.xf_settle_laws.proofs.Put.{put}

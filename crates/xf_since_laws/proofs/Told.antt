@@ -12,15 +12,15 @@ use Rattle.xf_doc.specs.WellFormed.{HasTrees}
 use Rattle.xf_doc.specs.declared.content.Kind.TheVariants as kind
 use Rattle.xf_doc.proofs.OrderLaws.{visits-different}
 use Rattle.xf_doc.proofs.RenumberLaws.{map-map, filter-through, first-renumbered}
-use Rattle.xf_rollback.proofs.Trees.{times}
-use Rattle.xf_rollback.proofs.TreeFacts.{at-times}
-use Rattle.xf_rollback.proofs.KeepingTrees.{Stands, stands, kind-any, element-test, attribute-test}
+use Rattle.xf_rollback_laws.proofs.Trees.{times}
+use Rattle.xf_rollback_laws.proofs.TreeFacts.{at-times}
+use Rattle.xf_rollback_laws.proofs.KeepingTrees.{Stands, stands, kind-any, element-test, attribute-test}
 use Rattle.xf_doc.specs.Forest.{is_attribute}
 use Rattle.xf_lang.specs.Asked.{found}
 use Rattle.xf_lang.specs.Agree.{numbers_of, are_apart}
 use Rattle.xf_lang.proofs.RenumberLaws.{found-renumbered}
 use Rattle.xf_lang.proofs.VisitFacts.{filter-append, present, found-out}
-use Rattle.xf_agree.specs.Settles.{IsSolid}
+use Rattle.xf_agree_laws.specs.Settles.{IsSolid}
 use Rattle.xf_settle_laws.proofs.KindLemmas.{and-none}
 use Rattle.xf_settle_laws.proofs.WrittenLaws.{alone, alone-trees, once, settable-fits, at-node}
 use Rattle.xf_marks_laws.specs.Instances.{standing}

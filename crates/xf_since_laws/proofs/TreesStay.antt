@@ -12,10 +12,10 @@ use Rattle.xf_doc.specs.Shape.{as_texts}
 use Rattle.xf_doc.specs.Texts.{one_text, with_value}
 use Rattle.xf_doc.specs.WellFormed.{are_apart, are_below, reach, are_depths_from, are_depths, stands_first, are_first, HasTrees}
 use Rattle.xf_doc.proofs.VisitLemmas.{BeginsWithin}
-use Rattle.xf_rollback.proofs.Trees.{Trees, onto, times}
-use Rattle.xf_rollback.proofs.TreeShape.{node_times, times-onto}
-use Rattle.xf_rollback.proofs.TreeTexts.{lone}
-use Rattle.xf_rollback.proofs.TreeLeaves.{retexted-times, revalued-times}
+use Rattle.xf_rollback_laws.proofs.Trees.{Trees, onto, times}
+use Rattle.xf_rollback_laws.proofs.TreeShape.{node_times, times-onto}
+use Rattle.xf_rollback_laws.proofs.TreeTexts.{lone}
+use Rattle.xf_rollback_laws.proofs.TreeLeaves.{retexted-times, revalued-times}
 use Rattle.xf_settle_laws.proofs.KindLemmas.{attribute-no_element, element-no_attribute, element-no_text, text-no_attribute, text-no_element, few, and-parts}
 use Rattle.xf_settle_laws.proofs.Put.{put, same_texts, texts_top, valued, valued-attribute, valued-element}
 use Rattle.xf_settle_laws.proofs.Spots.{Fits, spot, put-absent}

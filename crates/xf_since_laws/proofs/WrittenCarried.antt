@@ -18,8 +18,8 @@ use Rattle.xf_lang.specs.Asked.{found}
 use Rattle.xf_lang.specs.Given.{Document}
 use Rattle.xf_model.specs.Rules.{Scope}
 use Rattle.xf_model.specs.Pertinent.{AllOf}
-use Rattle.xf_agree.specs.Hung.{are_hung}
-use Rattle.xf_agree.specs.Settles.{IsSolid}
+use Rattle.xf_agree_laws.specs.Hung.{are_hung}
+use Rattle.xf_agree_laws.specs.Settles.{IsSolid}
 use Rattle.xf_settle_laws.specs.Written.{Contents, written, AreSettable}
 use Rattle.xf_marks_laws.specs.Instances.{standing}
 use Rattle.xf_edit_laws.specs.Edits.{MarksMore}

@@ -15,9 +15,9 @@ use Rattle.xf_model.specs.Entries.{value_of}
 use Rattle.xf_model.specs.Settled.{Bounds, calculates, values_over, passed}
 use Rattle.xf_model.specs.Pertinent.{Changes, AllOf, asking, stands_as, calculated_in}
 use Rattle.xf_settle_laws.specs.Written.{written}
-use Rattle.xf_agree.specs.Settles.{IsSolid, Surrounds}
-use Rattle.xf_agree.specs.FormSettles.{AreCovered, Applies}
-use Rattle.xf_agree.specs.InTurn.{AreSingle, IsOrdered}
+use Rattle.xf_agree_laws.specs.Settles.{IsSolid, Surrounds}
+use Rattle.xf_agree_laws.specs.FormSettles.{AreCovered, Applies}
+use Rattle.xf_agree_laws.specs.InTurn.{AreSingle, IsOrdered}
 use Rattle.xf_marks_laws.specs.Marks.{IsOf}
 use Rattle.xf_marks_laws.specs.Outside.{shape_now, evaluated, IsOutside}
 use Rattle.xf_marks_laws.specs.Instances.{standing}

@@ -18,10 +18,10 @@ use Rattle.xf_model.specs.Entries.{text_of, value_of}
 use Rattle.xf_model.specs.Settled.{Bounds, Valued, calculates}
 use Rattle.xf_model.specs.Pertinent.{Changes, AllOf}
 use Rattle.xf_model.specs.Stands.{AreAcyclic}
-use Rattle.xf_agree.specs.Settles.{IsSolid, Surrounds}
-use Rattle.xf_agree.specs.FormSettles.{AreCovered, Applies}
-use Rattle.xf_agree.specs.Forests.{over_second}
-use Rattle.xf_agree.specs.Hung.{are_hung}
+use Rattle.xf_agree_laws.specs.Settles.{IsSolid, Surrounds}
+use Rattle.xf_agree_laws.specs.FormSettles.{AreCovered, Applies}
+use Rattle.xf_agree_laws.specs.Forests.{over_second}
+use Rattle.xf_agree_laws.specs.Hung.{are_hung}
 use Rattle.xf_marks_laws.specs.Instances.{standing}
 use Rattle.xf_change_laws.specs.Carried.{Carried}
 

@@ -16,9 +16,9 @@ use Rattle.xf_doc.specs.Undo as undo
 use Rattle.xf_doc.specs.WellFormed.{AreTrees}
 use Rattle.xf_doc.proofs.SettleLaws.{numbered-is}
 use Rattle.xf_doc.proofs.FreeLaws.{or-parts, is_numbered, numbered-none, taken-none, both-kept, left-kept, fresh-nodes, fresh-kept}
-use Rattle.xf_rollback.specs.Made.{Made, texts, with_new_text}
-use Rattle.xf_rollback.proofs.Laws.{rolls_back}
-use Rattle.xf_rollback.proofs.Outcomes.{unless-ok, set-forest}
+use Rattle.xf_rollback_laws.specs.Made.{Made, texts, with_new_text}
+use Rattle.xf_rollback_laws.proofs.Laws.{rolls_back}
+use Rattle.xf_rollback_laws.proofs.Outcomes.{unless-ok, set-forest}
 use Rattle.xf_undo.specs.Draft.{Draft, alone, kept_as, changed, with_text, with_settled, draft_of, AreFree}
 
 -- whatever was made since, the same forest is kept

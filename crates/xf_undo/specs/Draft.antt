@@ -6,7 +6,7 @@ use Rattle.xf_doc.specs.Visit.{has}
 use Rattle.xf_doc.specs.Texts.{Keeping, Before}
 use Rattle.xf_doc.specs.Settle.{reserved, IsFree, with_numbered_text}
 use Rattle.xf_doc.specs.Undo.{Ledger, rolled_back}
-use Rattle.xf_rollback.specs.Made.{Made}
+use Rattle.xf_rollback_laws.specs.Made.{Made}
 
 pub record Draft : Type 0 where
   pub kept : Forest

@@ -4,7 +4,7 @@ ghost use Rattle.xf_doc.specs.Texts.{is_attribute_at};
 ghost use Rattle.xf_doc.specs.Undo.{is_of_child, is_set_of, is_known, undone, undone_all};
 ghost use Rattle.xf_doc.specs.Visit.{visits, has, children_of};
 ghost use Rattle.xf_doc.specs.WellFormed.{are_apart};
-ghost use Rattle.xf_rollback.specs.Back.{CanUndo, CanUndoAll};
+ghost use Rattle.xf_rollback_laws.specs.Back.{CanUndo, CanUndoAll};
 ghost use Rattle.xf_undo.specs.Children.{is_number, is_attribute_kind};
 ghost use Rattle.xf_undo.specs.Entries.{entry_of, entries_of, placed_entry, attached_entry, text_noted};
 

@@ -4,9 +4,9 @@ ghost use Rattle.xf_doc.specs.Needs.{MayGiveUp};
 ghost use Rattle.xf_doc.specs.Texts.{Keeping};
 ghost use Rattle.xf_doc.specs.Undo.{kept_at, with_note, text_filled, place_filled, attach_filled, rolled_back, is_known};
 ghost use Rattle.xf_doc.specs.WellFormed.{AreTrees};
-ghost use Rattle.xf_rollback.specs.Back.{CanRollBack};
+ghost use Rattle.xf_rollback_laws.specs.Back.{CanRollBack};
 ghost use Rattle.xf_undo.specs.Entries.{change_of, entries_of};
-ghost use Rattle.xf_rollback.specs.Made.{Made};
+ghost use Rattle.xf_rollback_laws.specs.Made.{Made};
 ghost use Rattle.xf_undo.specs.Index.{IsListed, are_quiet};
 
 use crate::entry::{

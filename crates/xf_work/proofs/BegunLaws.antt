@@ -5,7 +5,7 @@ use Rattle.std.proofs.lemmas.List.{length-replicate}
 use Rattle.xf_doc.specs.Changes.{in_detached, in_instances}
 use Rattle.xf_doc.specs.Forest.{Forest}
 use Rattle.xf_doc.specs.Shape.{shape_of}
-use Rattle.xf_agree.specs.Hung.{are_hung}
+use Rattle.xf_agree_laws.specs.Hung.{are_hung}
 use Rattle.xf_form_machine.specs.Behave.{no_model}
 use Rattle.xf_binds.specs.Kept.{Kept, no_kept}
 use Rattle.xf_binds.specs.Table.{all_rolled_back}

@@ -15,9 +15,9 @@ use Rattle.xf_lang.specs.Asked.{found}
 use Rattle.xf_lang.proofs.ForestVisits.{Each, forest-visits, self-found}
 use Rattle.xf_lang.proofs.ShapeVisits.{shape-untexted}
 use Rattle.xf_lang.proofs.VisitFacts.{no, none-some, some-same}
-use Rattle.xf_agree.specs.Hung.{are_hung}
-use Rattle.xf_agree.specs.Settles.{AreHung}
-use Rattle.xf_agree.proofs.HungLaws.{hung_forest}
+use Rattle.xf_agree_laws.specs.Hung.{are_hung}
+use Rattle.xf_agree_laws.specs.Settles.{AreHung}
+use Rattle.xf_agree_laws.proofs.HungLaws.{hung_forest}
 use Rattle.xf_work.specs.Around.{document_below, documents_from}
 
 -- ---- roots

@@ -4,12 +4,12 @@ use Rattle.std.specs.List.{list_all}
 use Rattle.xf_name.specs.Bindings.{Bindings}
 use Rattle.xf_ast.specs.declared.expr.Expr.{Expr}
 use Rattle.xf_ast.specs.declared.form.Bind.{Bind}
-use Rattle.xf_static.proofs.ReaderLaw.{read_as_made}
-use Rattle.xf_fixed.proofs.FixedLaw.{static_fixed}
+use Rattle.xf_static_laws.proofs.ReaderLaw.{read_as_made}
+use Rattle.xf_fixed_laws.proofs.FixedLaw.{static_fixed}
 use Rattle.xf_loader.specs.Computed.{AllReadStatic, AreReadStatic, IsReadStatic}
 use Rattle.xf_loader.specs.declared.loaded.Loaded.{Loaded}
 use Rattle.xf_loader.proofs.StaticLaw.{loaded_static}
-use Rattle.xf_recalc.specs.Static.{AreFixed, fixed_if, is_fixed_bind}
+use Rattle.xf_rebuild.specs.Static.{AreFixed, fixed_if, is_fixed_bind}
 use Rattle.xf_work.specs.Parts.{IsLoaded}
 
 both : (a b : Bool) → a ≡ true → b ≡ true → (a && b) ≡ true

@@ -16,9 +16,9 @@ use Rattle.xf_lang.proofs.UntextedLaws.{solid-found}
 use Rattle.xf_lang.proofs.VisitFacts.{none-some, present}
 use Rattle.xf_model.specs.Nested.{nested}
 use Rattle.xf_model.specs.Rules.{scope_of}
-use Rattle.xf_agree.specs.Hung.{are_hung}
-use Rattle.xf_agree.specs.Settles.{IsSolid}
-use Rattle.xf_agree.proofs.HungLaws.{hung_forest}
+use Rattle.xf_agree_laws.specs.Hung.{are_hung}
+use Rattle.xf_agree_laws.specs.Settles.{IsSolid}
+use Rattle.xf_agree_laws.proofs.HungLaws.{hung_forest}
 use Rattle.xf_ui.specs.Copies.{node_of}
 use Rattle.xf_ui.specs.Interface.{interface_of}
 use Rattle.xf_bound_laws.specs.OneShape.{HaveOneShape}

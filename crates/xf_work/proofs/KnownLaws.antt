@@ -35,14 +35,14 @@ use Rattle.xf_model.specs.Pertinent.{AllOf, asking, askings, is_pertinent}
 use Rattle.xf_model.specs.Settled.{Valued, bounds, calculates, values_over}
 use Rattle.xf_model.proofs.EachLemmas.{each_then}
 use Rattle.xf_model.proofs.PertinentLaws.{filter-shorter}
-use Rattle.xf_agree.specs.FormSettles.{calculate_covered}
-use Rattle.xf_agree.specs.Hung.{are_hung}
-use Rattle.xf_agree.specs.Settles.{IsSolid}
-use Rattle.xf_agree.proofs.HungChanges.{hung_text}
-use Rattle.xf_agree.proofs.HungLaws.{hung_forest}
-use Rattle.xf_agree.proofs.TurnLists.{all-append}
-use Rattle.xf_static.proofs.ReaderLaw.{read_as_made}
-use Rattle.xf_static.proofs.StaticLaw.{static_covered}
+use Rattle.xf_agree_laws.specs.FormSettles.{calculate_covered}
+use Rattle.xf_agree_laws.specs.Hung.{are_hung}
+use Rattle.xf_agree_laws.specs.Settles.{IsSolid}
+use Rattle.xf_agree_laws.proofs.HungChanges.{hung_text}
+use Rattle.xf_agree_laws.proofs.HungLaws.{hung_forest}
+use Rattle.xf_agree_laws.proofs.TurnLists.{all-append}
+use Rattle.xf_static_laws.proofs.ReaderLaw.{read_as_made}
+use Rattle.xf_static_laws.proofs.StaticLaw.{static_covered}
 use Rattle.xf_marks_laws.specs.Instances.{standing}
 use Rattle.xf_marks_laws.specs.Outside.{IsOutside}
 use Rattle.xf_edit_laws.specs.Edits.{MarksMore}
@@ -61,8 +61,8 @@ use Rattle.xf_binds.specs.Kept.{Kept, recalculated}
 use Rattle.xf_binds.specs.Table.{kept_at, with_kept}
 use Rattle.xf_pertinent.specs.Marked.{is_evaluated, pertinent_marks}
 use Rattle.xf_pertinent.specs.OfTable.{changes_in}
-use Rattle.xf_settle.specs.Passes.{AreCoveredIn, ArePassed, is_passed}
-use Rattle.xf_settle.specs.Settles.{IsSettled, MaySettle, contents_in}
+use Rattle.xf_recalc.specs.Passes.{AreCoveredIn, ArePassed, is_passed}
+use Rattle.xf_recalc.specs.Settles.{IsSettled, MaySettle, contents_in}
 use Rattle.xf_loader.specs.Computed.{AllReadStatic, IsReadStatic}
 use Rattle.xf_loader.specs.declared.loaded.Loaded.{Loaded}
 use Rattle.xf_loader.proofs.StaticLaw.{loaded_static}

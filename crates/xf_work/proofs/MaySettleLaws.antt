@@ -6,13 +6,13 @@ use Rattle.xf_ast.specs.declared.form.Bind.{Bind}
 use Rattle.xf_doc.specs.Forest.{Forest}
 use Rattle.xf_doc.specs.WellFormed.{HasTrees}
 use Rattle.xf_model.specs.Pertinent.{AllOf}
-use Rattle.xf_agree.specs.FormSettles.{AreCovered}
-use Rattle.xf_agree.proofs.HungLaws.{hung_forest}
-use Rattle.xf_agree.specs.Hung.{are_hung}
-use Rattle.xf_static.specs.AsRead.{IsReadStatic}
-use Rattle.xf_static.proofs.FormLaw.{form_covered}
+use Rattle.xf_agree_laws.specs.FormSettles.{AreCovered}
+use Rattle.xf_agree_laws.proofs.HungLaws.{hung_forest}
+use Rattle.xf_agree_laws.specs.Hung.{are_hung}
+use Rattle.xf_static_laws.specs.AsRead.{IsReadStatic}
+use Rattle.xf_static_laws.proofs.FormLaw.{form_covered}
 use Rattle.xf_binds.specs.Kept.{Kept}
-use Rattle.xf_settle.specs.Settles.{MaySettle}
+use Rattle.xf_recalc.specs.Settles.{MaySettle}
 use Rattle.xf_loader.specs.Computed.{AllReadStatic}
 use Rattle.xf_loader.specs.Computed as loader
 use Rattle.xf_loader.specs.declared.loaded.Loaded.{Loaded}

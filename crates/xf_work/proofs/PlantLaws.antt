@@ -18,7 +18,7 @@ use Rattle.xf_doc.specs.Plant.{contents_of, numbered_from}
 use Rattle.xf_doc.specs.Planted.{fault_by, first_fault, is_unknown_space, lit_fault, or_later, planted, tree_fault, unless_fault, with_tree, written_fault}
 use Rattle.xf_doc.specs.WellFormed.{are_below}
 use Rattle.xf_doc.proofs.FreeLaws.{fresh-nodes}
-use Rattle.xf_agree.specs.Hung.{are_hung}
+use Rattle.xf_agree_laws.specs.Hung.{are_hung}
 use Rattle.xf_form_machine.specs.declared.limit.LimitWord.{LimitWord}
 use Rattle.xf_form_machine.specs.declared.limit.LimitWord.TheVariants as word
 use Rattle.xf_form_machine.specs.Construct.{plant_document, rooted}

@@ -20,12 +20,12 @@ use Rattle.xf_binds.specs.Table.{all_rolled_back, kept_at}
 use Rattle.xf_binds.specs.Asked.{asked_of}
 use Rattle.xf_controls.specs.declared.copy.ControlCopy.{ControlCopy}
 use Rattle.xf_loader.specs.declared.loaded.Loaded.{Loaded}
-use Rattle.xf_recalc.specs.Web.{asks_of, is_over}
-use Rattle.xf_recalc.specs.Rebuilt.{IsStopped, Stop, exception, edges, circular, table_with, unless_cycle, unless_over, by_applied, rebuilt}
-use Rattle.xf_recalc.specs.declared.fault.RebuildFault.{RebuildFault}
-use Rattle.xf_recalc.specs.declared.fault.RebuildFault.TheVariants as stopped
-use Rattle.xf_recalc.specs.Machine.{refusal_of, taken_over, told}
-use Rattle.xf_recalc.proofs.MachineLaw.{rebuilds_alike}
+use Rattle.xf_rebuild.specs.Web.{asks_of, is_over}
+use Rattle.xf_rebuild.specs.Rebuilt.{IsStopped, Stop, exception, edges, circular, table_with, unless_cycle, unless_over, by_applied, rebuilt}
+use Rattle.xf_rebuild.specs.declared.fault.RebuildFault.{RebuildFault}
+use Rattle.xf_rebuild.specs.declared.fault.RebuildFault.TheVariants as stopped
+use Rattle.xf_rebuild.specs.Machine.{refusal_of, taken_over, told}
+use Rattle.xf_rebuild.proofs.MachineLaw.{rebuilds_alike}
 use Rattle.xf_work.specs.declared.flags.Flags.{Flags}
 use Rattle.xf_work.specs.declared.tally.Tally.{Tally}
 use Rattle.xf_work.specs.declared.fault.WorkFault.{WorkFault}

@@ -11,7 +11,7 @@ use Rattle.xf_model.specs.Applied.{Entry}
 use Rattle.xf_model.specs.Settled.{Contents, Passed, bounds, Valued, calculates, content_by, holding, round, rounds, settled_contents, values_over}
 use Rattle.xf_model.specs.Settled as passed
 use Rattle.xf_model.specs.Pertinent.{pertinent_count}
-use Rattle.xf_agree.specs.InTurn.{tells_long, tells_text}
+use Rattle.xf_agree_laws.specs.InTurn.{tells_long, tells_text}
 use Rattle.xf_form_machine.specs.declared.limit.LimitWord.{LimitWord}
 use Rattle.xf_form_machine.specs.declared.limit.LimitWord.TheVariants as word
 use Rattle.xf_form_machine.specs.State.{Model, State}
@@ -26,9 +26,9 @@ use Rattle.xf_binds.specs.Table.{kept_at, with_kept}
 use Rattle.xf_controls.specs.declared.copy.ControlCopy.{ControlCopy}
 use Rattle.xf_loader.specs.declared.loaded.Loaded.{Loaded}
 use Rattle.xf_form_machine.specs.declared.refusal.Refusal.TheVariants.{Limit}
-use Rattle.xf_settle.specs.declared.fault.SettleFault.{SettleFault}
-use Rattle.xf_settle.specs.declared.fault.SettleFault.TheVariants as settle
-use Rattle.xf_settle.specs.Settles.{IsSettled, IsTold, tells_all, tells_nodes, words_of}
+use Rattle.xf_recalc.specs.declared.fault.SettleFault.{SettleFault}
+use Rattle.xf_recalc.specs.declared.fault.SettleFault.TheVariants as settle
+use Rattle.xf_recalc.specs.Settles.{IsSettled, IsTold, tells_all, tells_nodes, words_of}
 use Rattle.xf_work.specs.declared.fault.WorkFault.{WorkFault}
 use Rattle.xf_work.specs.declared.fault.WorkFault.TheVariants as fault
 use Rattle.xf_work.specs.declared.flags.Flag.TheVariants.{Recalculate}

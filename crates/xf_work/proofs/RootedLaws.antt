@@ -8,8 +8,8 @@ use Rattle.xf_doc.specs.declared.content.Node.{Node}
 use Rattle.xf_doc.specs.Changes.{in_detached, in_instances, moved_to, shifted, with_root, without_tree}
 use Rattle.xf_doc.specs.Forest.{Forest, below, first_tree, from_node, is_text, kind_at, kind_of, tree_of}
 use Rattle.xf_lang.proofs.VisitFacts.{no, some-same}
-use Rattle.xf_agree.specs.Hung.{are_hung, are_hung_from, hangs, rooted_by}
-use Rattle.xf_agree.proofs.HungChanges.{hung_grown, hung_instances}
+use Rattle.xf_agree_laws.specs.Hung.{are_hung, are_hung_from, hangs, rooted_by}
+use Rattle.xf_agree_laws.proofs.HungChanges.{hung_grown, hung_instances}
 
 both-true : (a b : Bool) → a ≡ true → b ≡ true → (a && b) ≡ true
 both-true true b h k = k

@@ -19,8 +19,8 @@ use Rattle.xf_lang.proofs.VisitFacts.{found-out, no, none-some, some-same}
 use Rattle.xf_model.specs.Settled.{bounds}
 use Rattle.xf_model.specs.Pertinent.{AllOf}
 use Rattle.xf_model.proofs.EachLemmas.{each_then}
-use Rattle.xf_agree.specs.Hung.{are_hung}
-use Rattle.xf_agree.specs.Settles.{IsSolid}
+use Rattle.xf_agree_laws.specs.Hung.{are_hung}
+use Rattle.xf_agree_laws.specs.Settles.{IsSolid}
 use Rattle.xf_marks_laws.specs.Instances.{standing}
 use Rattle.xf_edit_laws.specs.InstanceEdits.{AreSolid}
 use Rattle.xf_change_laws.specs.Carried.{Carried, under}

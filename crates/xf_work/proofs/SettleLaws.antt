@@ -16,16 +16,16 @@ use Rattle.xf_model.specs.Rules.{Scope}
 use Rattle.xf_model.specs.Applied.{Entry, all_entries}
 use Rattle.xf_model.specs.Settled.{bounds, calculates, content_by, settled}
 use Rattle.xf_model.specs.Pertinent.{AllOf}
-use Rattle.xf_agree.specs.Hung.{are_hung}
-use Rattle.xf_agree.specs.InTurn.{AreSingle}
-use Rattle.xf_agree.proofs.FormInTurn.{single}
-use Rattle.xf_agree.proofs.FormSettable.{form_settable}
-use Rattle.xf_agree.proofs.FormSettled.{applied-parts, form_settles}
+use Rattle.xf_agree_laws.specs.Hung.{are_hung}
+use Rattle.xf_agree_laws.specs.InTurn.{AreSingle}
+use Rattle.xf_agree_laws.proofs.FormInTurn.{single}
+use Rattle.xf_agree_laws.proofs.FormSettable.{form_settable}
+use Rattle.xf_agree_laws.proofs.FormSettled.{applied-parts, form_settles}
 use Rattle.xf_settle_laws.specs.Written.{AreSettable, MayWrite, are_different, nodes_of, written}
 use Rattle.xf_settle_laws.proofs.MeasureLaws.{all_done}
 use Rattle.xf_machine_laws.proofs.WrittenContents.{all-written}
 use Rattle.xf_loader.specs.declared.loaded.Loaded.{Loaded}
-use Rattle.xf_settle.specs.Settles.{IsLeft, MaySettle, contents_in, scope_in, settled_forest}
+use Rattle.xf_recalc.specs.Settles.{IsLeft, MaySettle, contents_in, scope_in, settled_forest}
 use Rattle.xf_work.specs.Settling.{StaysWhole}
 use Rattle.xf_work.proofs.Alone.{written-alone}
 use Rattle.xf_work.proofs.WholeLaws.{whole-still}

@@ -7,13 +7,13 @@ use Rattle.xf_doc.specs.declared.content.Node.{Node}
 use Rattle.xf_doc.specs.Forest.{is_element, is_attribute, is_root, is_text}
 use Rattle.xf_doc.specs.Shape.{as_texts}
 use Rattle.xf_doc.specs.Texts.{one_text, with_value}
-use Rattle.xf_rollback.proofs.Trees.{Trees, none, tree, followed, onto}
-use Rattle.xf_rollback.proofs.TreeBlank.{AreLeaves}
-use Rattle.xf_rollback.proofs.TreeTexts.{attributes, lone}
+use Rattle.xf_rollback_laws.proofs.Trees.{Trees, none, tree, followed, onto}
+use Rattle.xf_rollback_laws.proofs.TreeBlank.{AreLeaves}
+use Rattle.xf_rollback_laws.proofs.TreeTexts.{attributes, lone}
 use Rattle.xf_settle_laws.proofs.KindLemmas.{attribute-no_element, and-parts}
 use Rattle.xf_settle_laws.proofs.Put.{content, put, same_texts, texts_top, valued}
 use Rattle.xf_settle_laws.proofs.Spots.{Fits, FitsHere}
-use Rattle.xf_agree.specs.Hung.{are_hung, are_hung_from, hangs, rooted_by}
+use Rattle.xf_agree_laws.specs.Hung.{are_hung, are_hung_from, hangs, rooted_by}
 
 both : (a b : Bool) → a ≡ true → b ≡ true → (a && b) ≡ true
 both true b e f = f

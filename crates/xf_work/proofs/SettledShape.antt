@@ -10,10 +10,10 @@ use Rattle.xf_doc.specs.Texts.{one_text, with_value}
 use Rattle.xf_doc.specs.Visit.{Visit, is_first, visits}
 use Rattle.xf_doc.proofs.ShapeLaws.{Differ, differ-shape}
 use Rattle.xf_doc.proofs.ShapeLaws as differ
-use Rattle.xf_rollback.proofs.Trees.{Trees, none, tree, followed, onto}
-use Rattle.xf_rollback.proofs.TreeBlank.{AreLeaves}
-use Rattle.xf_rollback.proofs.TreeTexts.{attributes, lone}
-use Rattle.xf_rollback.proofs.TreeVisits.{seen, visits-seen}
+use Rattle.xf_rollback_laws.proofs.Trees.{Trees, none, tree, followed, onto}
+use Rattle.xf_rollback_laws.proofs.TreeBlank.{AreLeaves}
+use Rattle.xf_rollback_laws.proofs.TreeTexts.{attributes, lone}
+use Rattle.xf_rollback_laws.proofs.TreeVisits.{seen, visits-seen}
 use Rattle.xf_settle_laws.proofs.KindLemmas.{attribute-no_element, leaf-text}
 use Rattle.xf_settle_laws.proofs.Put.{content, put, same_texts, texts_top, valued}
 use Rattle.xf_settle_laws.proofs.Spots.{Fits, FitsHere}

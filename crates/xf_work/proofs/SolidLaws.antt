@@ -19,7 +19,7 @@ use Rattle.xf_lang.proofs.ForestVisits.{Each, forest-visits, found-erased, self-
 use Rattle.xf_lang.proofs.UntextedLaws.{is_solid}
 use Rattle.xf_lang.proofs.VisitFacts.{found-in, no, none-some, some-same}
 use Rattle.xf_model.specs.Pertinent.{AllOf}
-use Rattle.xf_agree.specs.Settles.{AreHung, IsSolid}
+use Rattle.xf_agree_laws.specs.Settles.{AreHung, IsSolid}
 use Rattle.xf_form_machine.specs.Surround.{document_in}
 use Rattle.xf_work.specs.Around.{document_below, documents_by, documents_from}
 

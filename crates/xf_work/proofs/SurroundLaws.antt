@@ -15,9 +15,9 @@ use Rattle.xf_lang.proofs.VisitFacts.{no}
 use Rattle.xf_funcs.specs.Called.{called}
 use Rattle.xf_funcs.proofs.CallLaws.{IsTruth, within_a_limit, boolean-from-string_gives_truths, contains_gives_truths, starts-with_gives_truths}
 use Rattle.xf_model.specs.Settled.{bounds}
-use Rattle.xf_agree.specs.Hung.{are_hung}
-use Rattle.xf_agree.specs.Settles.{Surrounds}
-use Rattle.xf_agree.proofs.HungLaws.{hung_forest}
+use Rattle.xf_agree_laws.specs.Hung.{are_hung}
+use Rattle.xf_agree_laws.specs.Settles.{Surrounds}
+use Rattle.xf_agree_laws.proofs.HungLaws.{hung_forest}
 use Rattle.xf_loader.specs.declared.loaded.Loaded.{Loaded}
 use Rattle.xf_work.specs.Built.{scope_at}
 use Rattle.xf_work.proofs.SolidLaws.{document-solid}

@@ -17,13 +17,13 @@ use Rattle.xf_lang.proofs.VisitFacts.{no, self-same}
 use Rattle.xf_model.specs.Applied.{applied_over}
 use Rattle.xf_model.specs.Circular.{graph_over}
 use Rattle.xf_model.specs.Rules.{Scope, scope_of}
-use Rattle.xf_agree.specs.Hung.{are_hung}
-use Rattle.xf_agree.proofs.HungChanges.{hung_text}
+use Rattle.xf_agree_laws.specs.Hung.{are_hung}
+use Rattle.xf_agree_laws.proofs.HungChanges.{hung_text}
 use Rattle.xf_binds.specs.Kept.{Kept}
 use Rattle.xf_binds.specs.Table.{kept_at, with_kept}
-use Rattle.xf_recalc.specs.Rebuilt.{rebuilt}
-use Rattle.xf_recalc.specs.Web.{asks_of}
-use Rattle.xf_recalc.proofs.Told.{rebuild_tells}
+use Rattle.xf_rebuild.specs.Rebuilt.{rebuilt}
+use Rattle.xf_rebuild.specs.Web.{asks_of}
+use Rattle.xf_rebuild.proofs.Told.{rebuild_tells}
 use Rattle.xf_loader.specs.declared.loaded.Loaded.{Loaded}
 use Rattle.xf_work.specs.Around.{given_by}
 use Rattle.xf_work.specs.Built.{IsBuilt, IsRenewed, IsWhole, scope_at}

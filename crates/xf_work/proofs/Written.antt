@@ -5,13 +5,13 @@ use Rattle.xf_doc.specs.Forest.{Forest}
 use Rattle.xf_doc.specs.Settle.{with_settled_text}
 use Rattle.xf_doc.specs.Shape.{has_elements, shape_of}
 use Rattle.xf_doc.specs.Visit.{Visit}
-use Rattle.xf_rollback.proofs.Trees.{Trees, onto}
-use Rattle.xf_rollback.proofs.KeepingTrees.{stands}
+use Rattle.xf_rollback_laws.proofs.Trees.{Trees, onto}
+use Rattle.xf_rollback_laws.proofs.KeepingTrees.{stands}
 use Rattle.xf_settle_laws.specs.Written.{AreSettable, Contents, MayWrite, written}
 use Rattle.xf_settle_laws.proofs.Bridge.{AreReady, ready-later, ready-put, settled-onto}
 use Rattle.xf_settle_laws.proofs.Put.{put}
 use Rattle.xf_settle_laws.proofs.WrittenLaws.{alone, alone-trees, ready}
-use Rattle.xf_agree.specs.Hung.{are_hung}
+use Rattle.xf_agree_laws.specs.Hung.{are_hung}
 use Rattle.xf_apply.proofs.SetLaws.{elements-same}
 use Rattle.xf_work.proofs.SettledHung.{put-hung}
 use Rattle.xf_work.proofs.SettledShape.{put-shape}

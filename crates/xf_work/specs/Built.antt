@@ -10,10 +10,10 @@ use Rattle.xf_graph.specs.Cycle.{IsAcyclic}
 use Rattle.xf_model.specs.Rules.{Scope, scope_of}
 use Rattle.xf_model.specs.Applied.{applied}
 use Rattle.xf_model.specs.Circular.{graph_over}
-use Rattle.xf_agree.specs.Hung.{are_hung}
+use Rattle.xf_agree_laws.specs.Hung.{are_hung}
 use Rattle.xf_binds.specs.Kept.{Kept}
 use Rattle.xf_binds.specs.Table.{kept_at}
-use Rattle.xf_recalc.specs.Web.{asks_of}
+use Rattle.xf_rebuild.specs.Web.{asks_of}
 use Rattle.xf_loader.specs.declared.loaded.Loaded.{Loaded}
 use Rattle.xf_work.specs.Around.{given_in}
 use Rattle.xf_work.specs.Held.{planted_shape}

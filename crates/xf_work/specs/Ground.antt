@@ -1,7 +1,7 @@
 -- What a form begins with, beside itself.
 use Rattle.std.specs.Prelude.{◌≡◌, ◌≤◌, true, [], Result, Ok, Err, length, replicate}
 use Rattle.std.specs.Bool.{OnTrue}
-use Rattle.xf_agree.specs.Hung.{are_hung}
+use Rattle.xf_agree_laws.specs.Hung.{are_hung}
 use Rattle.xf_binds.specs.Kept.{no_kept}
 use Rattle.xf_controls.specs.Bound.{AllBound}
 use Rattle.xf_doc.specs.Changes.{in_detached}

@@ -6,11 +6,11 @@ use Rattle.xf_doc.specs.Forest.{Forest}
 use Rattle.xf_doc.specs.Shape.{shape_of}
 use Rattle.xf_doc.specs.declared.node.NodeId.{NodeId}
 use Rattle.xf_doc.specs.Visit.{Visit, visits}
-use Rattle.xf_agree.specs.Settles.{IsSolid}
+use Rattle.xf_agree_laws.specs.Settles.{IsSolid}
 use Rattle.xf_doc.specs.WellFormed.{HasTrees}
 use Rattle.xf_ui.specs.Around.{Around}
 use Rattle.xf_ui.specs.Interface.{interface_of}
-use Rattle.xf_agree.specs.Hung.{are_hung}
+use Rattle.xf_agree_laws.specs.Hung.{are_hung}
 use Rattle.xf_controls.specs.declared.known.Known.{Known}
 use Rattle.xf_controls.specs.Known.{AreKnown, known_at}
 use Rattle.xf_controls.specs.Surrounded.{around_in}

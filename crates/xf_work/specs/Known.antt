@@ -7,7 +7,7 @@ use Rattle.xf_model.specs.Applied.{Entry}
 use Rattle.xf_model.specs.Entries.{is_computed}
 use Rattle.xf_model.specs.Settled.{bounds}
 use Rattle.xf_model.specs.Pertinent.{AllOf}
-use Rattle.xf_agree.specs.Settles.{IsSolid}
+use Rattle.xf_agree_laws.specs.Settles.{IsSolid}
 use Rattle.xf_marks_laws.specs.Instances.{standing}
 use Rattle.xf_marks_laws.specs.Outside.{IsOutside}
 use Rattle.xf_change_laws.specs.Carried.{Carried}
@@ -15,7 +15,7 @@ use Rattle.xf_since_laws.specs.Since.{Before, Stood}
 use Rattle.xf_binds.specs.Kept.{Kept}
 use Rattle.xf_binds.specs.Table.{all_rolled_back, kept_at}
 use Rattle.xf_pertinent.specs.OfTable.{changes_in}
-use Rattle.xf_settle.specs.Passes.{is_passed}
+use Rattle.xf_recalc.specs.Passes.{is_passed}
 use Rattle.xf_loader.specs.declared.loaded.Loaded.{Loaded}
 use Rattle.xf_undo.specs.Draft.{Draft}
 use Rattle.xf_work.specs.declared.flags.Flags.{Flags}

@@ -8,8 +8,8 @@ use Rattle.xf_model.specs.Settled.{Passed}
 use Rattle.xf_form_machine.specs.declared.refusal.Refusal.TheVariants.{Limit}
 use Rattle.xf_binds.specs.Kept.{Kept}
 use Rattle.xf_loader.specs.declared.loaded.Loaded.{Loaded}
-use Rattle.xf_settle.specs.declared.fault.SettleFault.{SettleFault}
-use Rattle.xf_settle.specs.declared.fault.SettleFault.TheVariants as settle
+use Rattle.xf_recalc.specs.declared.fault.SettleFault.{SettleFault}
+use Rattle.xf_recalc.specs.declared.fault.SettleFault.TheVariants as settle
 use Rattle.xf_work.specs.declared.fault.WorkFault.{WorkFault}
 use Rattle.xf_work.specs.declared.fault.WorkFault.TheVariants.{Refused, Memory}
 use Rattle.xf_work.specs.Built.{IsWhole}

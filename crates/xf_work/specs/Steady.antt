@@ -1,7 +1,7 @@
 -- Controls that differ from those made afresh in the values of their nodes alone (XForms 1.1, section 4.3.4): so they are over all data of the shape
 -- that was planted, by what a table of binds has of these nodes. Changes of texts leave it so.
 use Rattle.std.specs.Prelude.{ℕ, ◌≡◌, true, false, List, map, nat_lt, option_map}
-use Rattle.xf_agree.specs.Hung.{are_hung}
+use Rattle.xf_agree_laws.specs.Hung.{are_hung}
 use Rattle.xf_doc.specs.Forest.{Forest}
 use Rattle.xf_doc.specs.Shape.{shape_of}
 use Rattle.xf_doc.specs.WellFormed.{HasTrees}

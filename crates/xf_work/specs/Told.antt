@@ -6,11 +6,11 @@ use Rattle.xf_doc.specs.Forest.{Forest}
 use Rattle.xf_form_machine.specs.State.{State}
 use Rattle.xf_form_machine.specs.Surround.{instances_in}
 use Rattle.xf_form_machine.specs.Properties.{path_in}
-use Rattle.xf_recalc.specs.Rebuilt.{Stop, exception, edges, circular}
+use Rattle.xf_rebuild.specs.Rebuilt.{Stop, exception, edges, circular}
 use Rattle.xf_model.specs.Applied.{twice, on_parent}
-use Rattle.xf_recalc.specs.Machine.{refusal_of}
-use Rattle.xf_recalc.specs.declared.fault.RebuildFault.{RebuildFault}
-use Rattle.xf_recalc.specs.declared.fault.RebuildFault.TheVariants as fault
+use Rattle.xf_rebuild.specs.Machine.{refusal_of}
+use Rattle.xf_rebuild.specs.declared.fault.RebuildFault.{RebuildFault}
+use Rattle.xf_rebuild.specs.declared.fault.RebuildFault.TheVariants as fault
 use Rattle.xf_form_machine.specs.Told.{Tells}
 use Rattle.xf_work.specs.declared.fault.WorkFault.{WorkFault}
 use Rattle.xf_work.specs.declared.fault.WorkFault.TheVariants.{Refused, Memory}

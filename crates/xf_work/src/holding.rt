@@ -1,7 +1,7 @@
 //! The nodes that controls bind whatever texts the data have, found once.
 
 ghost use Rattle.std.specs.Prelude.{◌≡◌, true, IfOk};
-ghost use Rattle.xf_agree.specs.Hung.{are_hung};
+ghost use Rattle.xf_agree_laws.specs.Hung.{are_hung};
 ghost use Rattle.xf_doc.specs.Shape.{shape_of};
 ghost use Rattle.xf_work.specs.Held.{IsHeld, planted_shape};
 ghost use Rattle.xf_work.specs.Parts.{IsLoaded};

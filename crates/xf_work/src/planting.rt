@@ -1,7 +1,7 @@
 //! The data with which a form begins (XForms 1.1, section 4.2.1).
 
 ghost use Rattle.std.specs.Prelude.{◌≡◌, [], true, OnOk};
-ghost use Rattle.xf_agree.specs.Hung.{are_hung};
+ghost use Rattle.xf_agree_laws.specs.Hung.{are_hung};
 ghost use Rattle.xf_doc.specs.Changes.{in_detached};
 ghost use Rattle.xf_work.specs.Ground.{IsGround, IsGrounded};
 ghost use Rattle.xf_work.specs.Parts.{IsLoaded};

@@ -17,7 +17,7 @@ use xf_binds::Table;
 use xf_doc::NodeId;
 use xf_form_machine::{LimitWord, PathList, Refusal};
 use xf_loader::Loaded;
-use xf_recalc::{RebuildFault, rebuild as rebuild_table};
+use xf_rebuild::{RebuildFault, rebuild as rebuild_table};
 use xf_report::path_in;
 use xf_tree::Forest;
 

@@ -2,10 +2,10 @@
 
 ghost use Rattle.std.specs.Prelude.{◌≡◌, [], true, IfOk, IfErr};
 ghost use Rattle.xf_doc.specs.Changes.{in_detached};
-ghost use Rattle.xf_agree.specs.Hung.{are_hung};
+ghost use Rattle.xf_agree_laws.specs.Hung.{are_hung};
 ghost use Rattle.xf_binds.specs.Kept.{recalculated};
 ghost use Rattle.xf_binds.specs.Table.{kept_at};
-ghost use Rattle.xf_settle.specs.Settles.{IsSettled, words_of};
+ghost use Rattle.xf_recalc.specs.Settles.{IsSettled, words_of};
 ghost use Rattle.xf_work.specs.Built.{IsBuilt, scope_at};
 ghost use Rattle.xf_work.specs.Known.{IsRemembered, MayBePassed};
 ghost use Rattle.xf_work.specs.Parts.{IsLoaded};
@@ -18,7 +18,7 @@ use std::alloc::Global;
 use xf_binds::{Table, TruthList};
 use xf_form_machine::{LimitWord, Refusal};
 use xf_loader::Loaded;
-use xf_settle::{SettleFault, settle};
+use xf_recalc::{SettleFault, settle};
 use xf_undo::Draft;
 
 /// Settles the texts of the calculates of a model. The answer is the truths of the entries, by their places. Those that are not marked, by the same

@@ -1,7 +1,7 @@
 //! The controls made afresh (XForms 1.1, section 4.3.4).
 
 ghost use Rattle.std.specs.Prelude.{◌≡◌, true, map, nat_lt};
-ghost use Rattle.xf_agree.specs.Hung.{are_hung};
+ghost use Rattle.xf_agree_laws.specs.Hung.{are_hung};
 ghost use Rattle.xf_controls.specs.Seen.{seen_copy};
 ghost use Rattle.xf_doc.specs.Shape.{shape_of};
 ghost use Rattle.xf_ui.specs.Copies.{copy_count};

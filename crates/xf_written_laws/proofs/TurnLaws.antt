@@ -21,15 +21,15 @@ use Rattle.xf_model.proofs.EachLemmas.{each_then}
 use Rattle.xf_settle_laws.specs.Written.{written, nodes_of, are_different, AreSettable, MayWrite}
 use Rattle.xf_settle_laws.specs.Alike.{AreAlike}
 use Rattle.xf_settle_laws.proofs.AlikeLaws.{written-alike}
-use Rattle.xf_agree.specs.Settles.{IsSolid}
-use Rattle.xf_agree.specs.InTurn.{AreSingle, AreInTurn}
-use Rattle.xf_agree.specs.Evaluated as evaluated
-use Rattle.xf_agree.proofs.TurnLists.{all-later}
-use Rattle.xf_agree.proofs.EvaluatedLaws.{evaluated_text, evaluated_truth, evaluated_passed, surroundings_stay, solid_numbers}
-use Rattle.xf_agree.proofs.FormInTurn.{form_in_turn}
-use Rattle.xf_agree.proofs.FormSettable.{form_settable, entries_solid}
-use Rattle.xf_agree.proofs.InTurnLaws.{each-in_turn}
-use Rattle.xf_agree.proofs.InTurnDone.{stand, in_turn_done, in_turn_value, in_turn_content}
+use Rattle.xf_agree_laws.specs.Settles.{IsSolid}
+use Rattle.xf_agree_laws.specs.InTurn.{AreSingle, AreInTurn}
+use Rattle.xf_agree_laws.specs.Evaluated as evaluated
+use Rattle.xf_agree_laws.proofs.TurnLists.{all-later}
+use Rattle.xf_agree_laws.proofs.EvaluatedLaws.{evaluated_text, evaluated_truth, evaluated_passed, surroundings_stay, solid_numbers}
+use Rattle.xf_agree_laws.proofs.FormInTurn.{form_in_turn}
+use Rattle.xf_agree_laws.proofs.FormSettable.{form_settable, entries_solid}
+use Rattle.xf_agree_laws.proofs.InTurnLaws.{each-in_turn}
+use Rattle.xf_agree_laws.proofs.InTurnDone.{stand, in_turn_done, in_turn_value, in_turn_content}
 use Rattle.xf_written_laws.specs.Turn.{AreTurned, TurnWrites, TurnText, TurnTruth, TurnContent, TurnPassed}
 
 -- ---- contents that may be written

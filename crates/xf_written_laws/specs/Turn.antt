@@ -13,9 +13,9 @@ use Rattle.xf_model.specs.Entries.{text_of, value_of}
 use Rattle.xf_model.specs.Settled.{Bounds, Contents, content_of, calculates, fitting, settled_contents, settled, passed_over, passed}
 use Rattle.xf_model.specs.Pertinent.{AllOf}
 use Rattle.xf_settle_laws.specs.Written.{written, MayWrite}
-use Rattle.xf_agree.specs.Settles.{IsSolid, Surrounds}
-use Rattle.xf_agree.specs.FormSettles.{AreCovered, Applies}
-use Rattle.xf_agree.specs.InTurn.{IsOrdered}
+use Rattle.xf_agree_laws.specs.Settles.{IsSolid, Surrounds}
+use Rattle.xf_agree_laws.specs.FormSettles.{AreCovered, Applies}
+use Rattle.xf_agree_laws.specs.InTurn.{IsOrdered}
 
 -- what the binds of a form apply, in such an order, with what surrounds it
 pub record AreTurned (b : Bounds) (functions : Functions) (given : Given) (tables : Tables) (model : ℕ) (forest : Forest) (entries es : List Entry) : Type 0 where

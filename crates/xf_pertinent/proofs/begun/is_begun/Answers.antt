@@ -5,7 +5,7 @@ use Rattle.xf_model.specs.Rules.{rule_of}
 use Rattle.xf_model.specs.Applied.{is_calculate}
 use Rattle.xf_binds.specs.Held.{entry_of}
 use Rattle.xf_binds.specs.Table.{kept_at}
-use Rattle.xf_recalc.specs.Found.{asks_or}
+use Rattle.xf_rebuild.specs.Found.{asks_or}
 use Rattle.xf_pertinent.specs.Places.{asks_at}
 use Rattle.xf_pertinent.proofs.Begins.{and-never, begun-looks, begun-new}
 use Rattle.xf_pertinent.proofs.Lists.{any-same}

@@ -1,7 +1,7 @@
 use Rattle.std.proofs.Common.{◌++◌, ◌∙◌, ap, sym}
 use Rattle.xf_doc.specs.Visit.{visits, ancestors_of}
-use Rattle.xf_recalc.proofs.Above.{number_in, up_from, up-live, up-next, up-parent, up-shorter}
-use Rattle.xf_recalc.proofs.Expressions.{append-none}
+use Rattle.xf_rebuild.proofs.Above.{number_in, up_from, up-live, up-next, up-parent, up-shorter}
+use Rattle.xf_rebuild.proofs.Expressions.{append-none}
 use Rattle.xf_pertinent.proofs.touched.ancestors.Goals as goal
 
 pub loop-next-init : goal.loop-next-init

@@ -1,6 +1,6 @@
 use Rattle.std.proofs.Common.{◌≡◌, ◌++◌, length}
 use Rattle.xf_doc.specs.Visit.{visits, ancestors_of}
-use Rattle.xf_recalc.proofs.Above.{number_in, up_from}
+use Rattle.xf_rebuild.proofs.Above.{number_in, up_from}
 use Rattle.xf_pertinent.proofs.touched.ancestors.Given as goal
 
 abbrev pub invariant-loop-next : goal.invariant-loop-next

@@ -1,6 +1,6 @@
 use Rattle.std.proofs.Common.{◌≡◌, true, [], drop}
 use Rattle.xf_doc.specs.Changes.{in_detached}
-use Rattle.xf_agree.specs.Hung.{are_hung}
+use Rattle.xf_agree_laws.specs.Hung.{are_hung}
 use Rattle.xf_work.specs.Planting.{documents_grown}
 use Rattle.xf_work.proofs.planting.plant_all.Given as goal
 

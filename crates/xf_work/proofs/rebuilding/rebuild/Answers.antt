@@ -1,7 +1,7 @@
 use Rattle.std.proofs.Common.{◌≡◌, Ok, sym, ap, ◌∙◌, subst}
 use Rattle.xf_funcs.specs.Called.{called}
 use Rattle.xf_model.specs.Rules.{scope_of}
-use Rattle.xf_recalc.specs.Rebuilt.{IsStopped, rebuilt}
+use Rattle.xf_rebuild.specs.Rebuilt.{IsStopped, rebuilt}
 use Rattle.xf_work.specs.Around.{given_by, given_in, numbers_of}
 use Rattle.xf_work.specs.Built.{scope_at}
 use Rattle.xf_work.specs.Told.{IsTold}

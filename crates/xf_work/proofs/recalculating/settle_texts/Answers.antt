@@ -4,9 +4,9 @@ use Rattle.xf_doc.specs.Shape.{shape_of}
 use Rattle.xf_doc.specs.WellFormed.{HasTrees}
 use Rattle.xf_doc.proofs.TextLaws.{in_forest}
 use Rattle.xf_binds.specs.Table.{kept_at}
-use Rattle.xf_recalc.specs.Web.{asks_of}
-use Rattle.xf_settle.specs.Passes.{ArePassed}
-use Rattle.xf_settle.specs.Settles.{IsLeft, IsSettled, IsTold, MaySettle, scope_in, words_of}
+use Rattle.xf_rebuild.specs.Web.{asks_of}
+use Rattle.xf_recalc.specs.Passes.{ArePassed}
+use Rattle.xf_recalc.specs.Settles.{IsLeft, IsSettled, IsTold, MaySettle, scope_in, words_of}
 use Rattle.xf_work.specs.Around.{documents_from, given_in, numbers_of}
 use Rattle.xf_work.specs.Settling.{IsPassed}
 use Rattle.xf_work.proofs.FoundLaws.{given-found}

@@ -4,7 +4,7 @@ use Rattle.xf_doc.specs.Limits.{limits}
 use Rattle.xf_doc.specs.Needs.{MayAttach}
 use Rattle.xf_doc.specs.Undo.{of_attach, attach_filled}
 use Rattle.xf_undo.specs.Draft.{Draft, with_forest}
-use Rattle.xf_rollback.specs.Made.{Made, noted, joined}
+use Rattle.xf_rollback_laws.specs.Made.{Made, noted, joined}
 use Rattle.xf_undo.proofs.DraftLemmas.{drafted, made-as, with_kept, none-free, free-as}
 use Rattle.xf_undo.proofs.draft.Draft.attach.Goals.{After-are_trees-2}
 use Rattle.xf_undo.proofs.draft.Draft.attach.Goals as goal

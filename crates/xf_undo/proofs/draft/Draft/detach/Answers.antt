@@ -4,7 +4,7 @@ use Rattle.xf_doc.specs.Needs.{MayDetach}
 use Rattle.xf_doc.specs.Texts.{Keeping}
 use Rattle.xf_doc.specs.Undo.{place_filled}
 use Rattle.xf_undo.specs.Draft.{Draft, changed}
-use Rattle.xf_rollback.specs.Made.{Made, cut}
+use Rattle.xf_rollback_laws.specs.Made.{Made, cut}
 use Rattle.xf_undo.proofs.DraftLemmas.{drafted, made-as, none-free}
 use Rattle.xf_undo.proofs.draft.Draft.detach.Goals.{After-are_trees-2}
 use Rattle.xf_undo.proofs.draft.Draft.detach.Goals as goal

@@ -4,7 +4,7 @@ use Rattle.xf_doc.specs.Needs.{IsSettable}
 use Rattle.xf_doc.specs.Texts.{new_texts}
 use Rattle.xf_doc.specs.Undo.{of_text}
 use Rattle.xf_undo.specs.Draft.{Draft}
-use Rattle.xf_rollback.specs.Made.{noted}
+use Rattle.xf_rollback_laws.specs.Made.{noted}
 use Rattle.xf_undo.proofs.DraftLemmas.{made-as, set-kept, set-is, text-made, text-drafted, none-free, free-as}
 use Rattle.xf_undo.proofs.draft.Draft.set_text.Goals as goal
 

@@ -1,6 +1,6 @@
 use Rattle.std.proofs.Common.{◌≡◌, true, map, sym, subst}
 use Rattle.xf_doc.specs.Shape.{shape_of}
-use Rattle.xf_agree.specs.Hung.{are_hung}
+use Rattle.xf_agree_laws.specs.Hung.{are_hung}
 use Rattle.xf_controls.specs.Seen.{seen_copy}
 use Rattle.xf_form_machine.specs.Update as update
 use Rattle.xf_work.specs.Calls.{Shows}

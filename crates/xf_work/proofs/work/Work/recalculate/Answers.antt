@@ -11,7 +11,7 @@ use Rattle.xf_model.specs.Settled.{calculates}
 use Rattle.xf_form_machine.specs.Behave as machine
 use Rattle.xf_binds.specs.Kept.{recalculated}
 use Rattle.xf_binds.specs.Table.{all_rolled_back, kept_at, with_kept}
-use Rattle.xf_recalc.specs.Web.{asks_of}
+use Rattle.xf_rebuild.specs.Web.{asks_of}
 use Rattle.xf_work.specs.declared.flags.Flag.TheVariants.{Recalculate}
 use Rattle.xf_work.specs.Built.{scope_at}
 use Rattle.xf_processor.specs.Formed.{profile}

@@ -1,0 +1,14 @@
+pub mod Walks
+pub mod Rings
+pub mod MachineLaw
+pub mod Placed
+pub mod Linked
+pub mod Turns
+pub mod Shown
+pub mod Entered
+pub mod Ringed
+pub mod Above
+pub mod Rebuilds
+pub mod Expressions
+pub mod Told
+pub mod MetByGraph
