@@ -6,6 +6,7 @@ ghost use Rattle.xf_doc.specs.Limits.{limits};
 ghost use Rattle.xf_doc.specs.Needs.{IsSettable, MayAttach, MayCopy, MayDetach};
 ghost use Rattle.xf_doc.specs.Planted.{planted, planted_bare};
 ghost use Rattle.xf_doc.specs.Texts.{text_set, without_detached};
+ghost use Rattle.xf_root_laws.specs.Roots.{AreAhead};
 ghost use Rattle.xf_undo.specs.Draft.{kept_as, alone, changed, with_text, with_forest, with_tree, with_reserved, IsUnused, with_settled};
 
 use crate::entry::Change;
@@ -63,6 +64,13 @@ impl Draft {
         ensures { result.now.forest ≡ self.now.now }
     {
         &self.forest
+    }
+
+    /// No root stands behind the instances. This tells contracts so, and does nothing.
+    pub fn are_ahead(&self)
+        ensures { AreAhead self.now.now.nodes }
+    {
+        let _ = &self.forest;
     }
 
     /// Sets the text of an attribute, or of an element without element children.
