@@ -10,7 +10,7 @@ use Rattle.xf_ast.specs.declared.form.Instance.{Instance}
 use Rattle.xf_doc.specs.declared.content.Node.{Node}
 use Rattle.xf_doc.specs.Axis.{axis_from, axis_of}
 use Rattle.xf_doc.specs.Changes.{root_of}
-use Rattle.xf_doc.specs.Forest.{Forest, has_number, is_attribute}
+use Rattle.xf_doc.specs.Forest.{has_number, is_attribute}
 use Rattle.xf_doc.specs.Visit.{Visit, visit, visits, visits_from, still_above, is_first, children_of}
 use Rattle.xf_doc.proofs.LiveLaws.{axis-all_live, root-live}
 use Rattle.xf_lang.specs.declared.value.Value.TheVariants.{Nodes}
@@ -20,7 +20,7 @@ use Rattle.xf_lang.specs.Given.{Document, beside, document_of, property_of}
 use Rattle.xf_eval.specs.Live.{AllLive, AroundStands}
 use Rattle.xf_ui.specs.declared.told.Property.{Property}
 use Rattle.xf_ui.specs.Told.{told_of}
-use Rattle.xf_context.specs.Around.{AreThere, Told, are_live, are_told_live, document_below, documents_by, documents_from, event_of, given_by, given_in, is_event_live}
+use Rattle.xf_context.specs.Around.{AreThere, Indexes, are_live, are_told_live, document_below, documents_by, documents_from, event_of, given_with, is_event_live}
 use Rattle.xf_context.proofs.FirstLaws.{live-first}
 
 -- ---- children
@@ -96,18 +96,16 @@ event-live : (name : List ℕ) (nodes : List Node) (told : Option (Bor (List Pro
 event-live name nodes None h = refl
 event-live name nodes (Some properties) h = told-live name nodes properties.now h
 
-pub around-stands : (is : List Instance) (b : Bindings) (d : ℕ) (nodes : List Node) (ds : List (Option ℕ)) (told : Option (Bor (List Property))) → ds ≡ documents_from 0 is nodes → is_event_live nodes told ≡ true
-    → AroundStands (given_by is b d ds (event_of told)) nodes
-around-stands is b d nodes ds told e live = record {
+pub around-stands : (indexes : Indexes) (is : List Instance) (b : Bindings) (d : ℕ) (nodes : List Node) (ds : List (Option ℕ)) (told : Option (Bor (List Property))) → ds ≡ documents_from 0 is nodes → is_event_live nodes told ≡ true
+    → AroundStands (given_with indexes is b d ds (event_of told)) nodes
+around-stands indexes is b d nodes ds told e live = record {
   documents = λ model id. document-live model id is ds nodes (subst (λ l. AreThere l nodes) (sym e) (all-there 0 is nodes));
   event = λ name. event-live name nodes told live;
 }
 
--- over the documents that were found over a forest
-pub given-found : (instances found : List Instance) (b : Bindings) (d : ℕ) (forest : Forest) (ds : List (Option ℕ)) (event : Option Told) → found ≡ instances → ds ≡ documents_from 0 found forest.nodes
-    → given_by found b d ds event ≡ given_in instances b d forest event
-given-found instances found b d forest ds event i e =
-    ap (λ l. given_by found b d l event) e ∙ ap (λ l. given_by l b d (documents_from 0 l forest.nodes) event) i
+-- the documents that were found over a forest
+pub documents-found : (instances found : List Instance) (nodes : List Node) (ds : List (Option ℕ)) → found ≡ instances → ds ≡ documents_from 0 found nodes → ds ≡ documents_from 0 instances nodes
+documents-found instances found nodes ds i e = e ∙ ap (λ l. documents_from 0 l nodes) i
 
 -- ---- no documents
 

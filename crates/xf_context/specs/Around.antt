@@ -1,4 +1,4 @@
--- What surrounds the expressions of a form without repeats, where the document elements stand in a list beside the instances.
+-- What surrounds the expressions of a form, where the document elements stand in a list beside the instances.
 use Rattle.std.specs.Prelude.{ℕ, suc, ◌&&◌, Bool, true, List, [], ◌∷◌, ◌++◌, map, Option, Some, None, option_map, bytes_eq, ◌==◌}
 use Rattle.std.specs.List.{list_all}
 use denote.Ref.{Bor}
@@ -51,8 +51,16 @@ documents_by [] ds = []
 documents_by (i ∷ is) [] = []
 documents_by (i ∷ is) (d ∷ ds) = document_in i d ++ documents_by is ds
 
+-- the indexes of repeats by their ids
+abbrev pub Indexes : Type 0
+Indexes = List (List ℕ × ℕ)
+
+abbrev pub given_with : Indexes → List Instance → Bindings → ℕ → List (Option ℕ) → Option Told → Given
+given_with indexes instances b d ds event = record { documents = documents_by instances ds; indexes = indexes; event = event; bindings = b; decimals = d }
+
+-- without rows
 abbrev pub given_by : List Instance → Bindings → ℕ → List (Option ℕ) → Option Told → Given
-given_by instances b d ds event = record { documents = documents_by instances ds; indexes = []; event = event; bindings = b; decimals = d }
+given_by instances b d ds event = given_with [] instances b d ds event
 
 abbrev pub given_in : List Instance → Bindings → ℕ → Forest → Option Told → Given
 given_in instances b d forest event = given_by instances b d (documents_from 0 instances forest.nodes) event

@@ -1,4 +1,5 @@
 pub mod Around
+pub mod Indexes
 pub mod Over
 pub mod Inside
 pub mod Texts

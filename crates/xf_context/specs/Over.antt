@@ -1,5 +1,5 @@
 -- What expressions are evaluated over, as the definitions of bindings and contexts see it (XForms 1.1, section 7).
-use Rattle.std.specs.Prelude.{ℕ, ℤ, Bool, List, Option, Some, None, option_map, option_and_then, pos}
+use Rattle.std.specs.Prelude.{ℕ, ℤ, Bool, List, [], Option, Some, None, option_map, option_and_then, pos}
 use Rattle.std.specs.Int.{int_div_euclid}
 use Rattle.xf_base.specs.Limits.{string_limit}
 use Rattle.xf_num.specs.Number.{scale, rounded}
@@ -19,20 +19,25 @@ use Rattle.xf_ui.specs.Context.{Context}
 use Rattle.xf_ui.specs.Interface.{Bound, unbound}
 use Rattle.xf_ui.specs.Labels.{bound_text}
 use Rattle.xf_context.specs.declared.over.Over.{Over}
-use Rattle.xf_context.specs.Around.{Told, event_of, given_in}
+use Rattle.xf_context.specs.Around.{Indexes, Told, documents_from, event_of, given_in, given_with}
+use Rattle.xf_context.specs.Indexes.{indexes_in}
 
--- the binds of a form see no event
-abbrev pub around_of : Form → Bindings → Forest → Option Told → Around
-around_of form prefixes forest event = record {
+-- the binds of a form see no indexes and no event
+abbrev pub around_with : Indexes → Form → Bindings → Forest → Option Told → Around
+around_with indexes form prefixes forest event = record {
   functions = called;
   most = Some string_limit;
-  given = given_in form.tables.instances prefixes form.decimals forest event;
+  given = given_with indexes form.tables.instances prefixes form.decimals (documents_from 0 form.tables.instances forest.nodes) event;
   all = visits forest.nodes;
   bound = λ k. nested (Some string_limit) (scope_of called (given_in form.tables.instances prefixes form.decimals forest None) form.tables 0) (visits forest.nodes) k;
 }
 
+-- without rows
+abbrev pub around_of : Form → Bindings → Forest → Option Told → Around
+around_of form prefixes forest event = around_with [] form prefixes forest event
+
 abbrev pub around_over : Over → Around
-around_over o = around_of o.form.now o.prefixes.now o.forest.now.forest (event_of o.told)
+around_over o = around_with (indexes_in o.form.now o.indexes) o.form.now o.prefixes.now o.forest.now.forest (event_of o.told)
 
 -- an expression as a truth
 abbrev pub truth_worth : Around → ℕ → Focus → Meaning → Option Bool

@@ -1,4 +1,4 @@
-//! What surrounds an expression: the data, and the event that is handled.
+//! What surrounds an expression: the data, the indexes of repeats, and the event that is handled.
 
 ghost use Rattle.std.specs.Prelude.{◌≡◌, ◌++◌, option_map, IfOk, OnOk};
 ghost use Rattle.xf_doc.specs.Changes.{root_of};
@@ -8,8 +8,9 @@ ghost use Rattle.xf_lang.specs.Given.{beside, document_of};
 ghost use Rattle.xf_ui.specs.Told.{told_of};
 ghost use Rattle.xf_context.specs.Around.{document_below, documents_by, documents_from, is_meant, numbers_of};
 
+use crate::indexes::{Index, index_named};
 use std::alloc::{AllocError, Global};
-use xf_ast::Instance;
+use xf_ast::{Form, Instance};
 use xf_doc::NodeId;
 use xf_eval::Around;
 use xf_lang::Value;
@@ -18,28 +19,33 @@ use xf_num::Decimals;
 use xf_tree::Forest;
 use xf_ui::Property;
 
-/// What surrounds an expression of a form without repeats: the document element of each instance beside it, and the properties of the event
-/// that is handled, if one is.
+/// What surrounds an expression of a form: the document element of each of its instances, the indexes of its repeats, if it has rows, and the
+/// properties of the event that is handled, if one is.
 #[derive(Clone, Copy)]
 pub struct Surroundings<'a> {
-    pub instances: &'a [Instance],
+    pub form: &'a Form,
     pub prefixes: &'a Prefixes,
-    pub decimals: Decimals,
     pub documents: &'a [Option<NodeId>],
+    pub indexes: Option<&'a [Index]>,
     pub told: Option<&'a [Property]>,
 }
 
 impl<'a> Around for Surroundings<'a> {
-    ghost use Rattle.xf_context.specs.Around.{given_by, numbers_of, event_of};
+    ghost use Rattle.xf_context.specs.Around.{event_of, given_with, numbers_of};
+    ghost use Rattle.xf_context.specs.Indexes.{indexes_in};
 
-    ghost given = { λ q. given_by q.instances.now q.prefixes.now q.decimals (numbers_of q.documents.now) (event_of q.told) };
+    ghost given = { λ q. given_with (indexes_in q.form.now q.indexes) q.form.now.tables.instances q.prefixes.now q.form.now.decimals (numbers_of q.documents.now) (event_of q.told) };
 
     fn instance(&self, model: u32, id: &str) -> Option<NodeId> {
-        document_of(self.instances, self.documents, model, id)
+        let instances = self.form.tables.instances.as_slice();
+        document_of(instances, self.documents, model, id)
     }
 
-    fn index(&self, _id: &str) -> Option<u32> {
-        None
+    fn index(&self, id: &str) -> Option<u32> {
+        match self.indexes {
+            Some(indexes) => index_named(self.form, indexes, id),
+            None => None,
+        }
     }
 
     fn event(&self, name: &str) -> Option<&Value> {
@@ -54,7 +60,7 @@ impl<'a> Around for Surroundings<'a> {
     }
 
     fn decimals(&self) -> Decimals {
-        self.decimals
+        self.form.decimals
     }
 }
 

@@ -16,6 +16,7 @@ ghost use Rattle.xf_elements.specs.Bound.{seen_bound};
 ghost use Rattle.xf_context.specs.Over.{around_over, string_in, text_or};
 
 use crate::around::{Surroundings, documents, first_child};
+use crate::indexes::Index;
 use crate::over::{Over, is_live, value};
 use xf_ast::{Expr, Form};
 use xf_doc::{Kind, NodeId, NodeList};
@@ -122,7 +123,7 @@ pub fn all_bound(
     }
 }
 
-/// The nodes of a bind, which sees no event.
+/// The nodes of a bind, which sees no indexes and no event.
 fn nodes_of_bind(over: &Over<'_>, bind: u32) -> Result<NodeList, EvalFault>
     ensures value { GivesBounded EvalFault.Memory EvalFault.Long (λ ns. ns) result ((around_over over.now).bound bind) }
     ensures live { IfOk result (λ ns. AllLive ns over.now.forest.now.forest.nodes) }
@@ -131,10 +132,10 @@ fn nodes_of_bind(over: &Over<'_>, bind: u32) -> Result<NodeList, EvalFault>
     let instances = over.form.tables.instances.as_slice();
     let documents = documents(over.alloc, instances, forest)?;
     let around = Surroundings {
-        instances,
+        form: over.form,
         prefixes: over.prefixes,
-        decimals: over.form.decimals,
         documents: documents.as_slice(),
+        indexes: without_rows(over),
         told: outside(over),
     };
     nested(over.alloc, forest, &over.form.tables, bind, &around)
@@ -142,6 +143,14 @@ fn nodes_of_bind(over: &Over<'_>, bind: u32) -> Result<NodeList, EvalFault>
 
 /// Outside an event nothing is told.
 fn outside<'a>(over: &Over<'a>) -> Option<&'a [Property]>
+    ensures { result ≡ None }
+{
+    let _ = over;
+    None
+}
+
+/// Nor are there indexes.
+fn without_rows<'a>(over: &Over<'a>) -> Option<&'a [Index]>
     ensures { result ≡ None }
 {
     let _ = over;

@@ -12,6 +12,7 @@ ghost use Rattle.xf_context.specs.Around.{are_live, are_told_live, is_event_live
 ghost use Rattle.xf_context.specs.Over.{around_over, truth_worth, whole_of, whole_worth};
 
 use crate::around::{Surroundings, documents};
+use crate::indexes::Index;
 use std::alloc::Global;
 use xf_ast::{Expr, Form};
 use xf_doc::NodeId;
@@ -21,14 +22,15 @@ use xf_num::{Decimals, Num};
 use xf_tree::Forest;
 use xf_ui::{Focus, Property};
 
-/// What expressions are evaluated over: the form, the namespaces of its prefixes, its data, and the properties of the event that is handled,
-/// if one is.
+/// What expressions are evaluated over: the form, the namespaces of its prefixes, its data, the indexes of its repeats, if it has rows, and the
+/// properties of the event that is handled, if one is.
 #[derive(Clone, Copy)]
 pub struct Over<'a> {
     pub alloc: Global,
     pub form: &'a Form,
     pub prefixes: &'a Prefixes,
     pub forest: &'a Forest,
+    pub indexes: Option<&'a [Index]>,
     pub told: Option<&'a [Property]>,
 }
 
@@ -48,10 +50,10 @@ pub fn value(over: &Over<'_>, model: u32, focus: &Focus, expr: &Expr) -> Result<
     let instances = over.form.tables.instances.as_slice();
     let documents = documents(over.alloc, instances, forest)?;
     let around = Surroundings {
-        instances,
+        form: over.form,
         prefixes: over.prefixes,
-        decimals: over.form.decimals,
         documents: documents.as_slice(),
+        indexes: over.indexes,
         told: over.told,
     };
     let context = Context {

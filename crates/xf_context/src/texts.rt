@@ -21,7 +21,7 @@ use xf_eval::EvalFault;
 use xf_name::Word;
 
 /// The text of an element, in what surrounds it.
-pub fn text_in(over: &Over<'_>, within: &Inside, element: u32) -> Result<Word, EvalFault>
+pub fn text_in(over: &Over<'_>, within: &Inside<'_>, element: u32) -> Result<Word, EvalFault>
     ensures { GivesBounded EvalFault.Memory EvalFault.Long (λ w. w) result (labels.text_in (interface_of over.now.form.now) (around_over over.now) (seen_inside within.now) (element_at (interface_of over.now.form.now) element)) }
 {
     let binding = binding_at(over.form, element);
@@ -54,7 +54,7 @@ fn value_of<'a>(over: &Over<'a>, element: u32) -> Option<&'a Expr>
 }
 
 /// The texts and outputs in an element, joined.
-fn joined_text(over: &Over<'_>, within: &Inside, element: u32) -> Result<Word, EvalFault>
+fn joined_text(over: &Over<'_>, within: &Inside<'_>, element: u32) -> Result<Word, EvalFault>
     ensures { GivesBounded EvalFault.Memory EvalFault.Long (λ w. w) result (labels.joined_text (interface_of over.now.form.now) (around_over over.now) (seen_inside within.now) (element_at (interface_of over.now.form.now) element)) }
 {
     let form = over.form;
@@ -73,7 +73,7 @@ fn joined_text(over: &Over<'_>, within: &Inside, element: u32) -> Result<Word, E
 /// Puts the texts and outputs in parts behind others, through so many host elements one inside the other.
 fn push_pieces(
     over: &Over<'_>,
-    within: &Inside,
+    within: &Inside<'_>,
     most: usize,
     parts: &[Part],
     all: &mut Word,
@@ -94,7 +94,7 @@ fn push_pieces(
 /// The text of an output that is part of the text.
 fn push_printed(
     over: &Over<'_>,
-    within: &Inside,
+    within: &Inside<'_>,
     part: &Part,
     all: &mut Word,
 ) -> Result<(), EvalFault>
@@ -111,7 +111,7 @@ fn push_printed(
 }
 
 /// The text of an element that is an output, else none.
-fn printed_text(over: &Over<'_>, within: &Inside, element: u32) -> Result<Word, EvalFault>
+fn printed_text(over: &Over<'_>, within: &Inside<'_>, element: u32) -> Result<Word, EvalFault>
     ensures { GivesBounded EvalFault.Memory EvalFault.Long (λ w. w) result (texts.printed_in (interface_of over.now.form.now) (around_over over.now) (seen_inside within.now) element (element_at (interface_of over.now.form.now) element).sort) }
 {
     match element_in(over.form, element) {
@@ -125,7 +125,7 @@ fn printed_text(over: &Over<'_>, within: &Inside, element: u32) -> Result<Word, 
 
 fn output_text(
     over: &Over<'_>,
-    within: &Inside,
+    within: &Inside<'_>,
     element: u32,
     value: &Option<Expr>,
 ) -> Result<Word, EvalFault>

@@ -1,5 +1,6 @@
-use Rattle.std.proofs.Common.{◌≡◌, ◌-◌, suc, reverse, sym, ap, ◌∙◌, arith}
+use Rattle.std.proofs.Common.{◌≡◌, ◌-◌, suc, map, reverse, sym, ap, ◌∙◌, arith}
 use Rattle.std.proofs.lemmas.Result.{err_from_is_err_and}
+use Rattle.xf_doc.specs.declared.node.NodeId.{NodeId}
 use Rattle.xf_lang.specs.declared.fault.EvalFault.TheVariants.{Long, Memory}
 use Rattle.xf_lang.specs.Setting.{◌>>=◌}
 use Rattle.xf_ui.specs.Context.{enter, entered}
@@ -17,11 +18,12 @@ returns-in_err-outer t c =
     let f = interface_of o.form.now in
     let a = around_over o in
     let n = c.in-Some.element in
+    let s = first_inside (map (λ (x : NodeId). x.number) c.args.rows.now) in
     let deep : c.args.most ≡ suc (c.args.most - 1) = omega (arith, c.if-most-eq0.false) in
     let p = err_from_is_err_and c.from_residual.result c.from_residual.ensures.1 in
-    rw (p.1, p.2) (part-long Memory Long _ _ (entered f a first_inside (elements_on f (reverse (above c.args.most f c.args.parent)))) c.in_err-outer.ensures
-    (λ h. inside-more f a c.args.most (c.args.most - 1) n c.args.parent deep c.in-Some.is
-    ∙ ap (λ q. entered f a first_inside (elements_on f (reverse (above (c.args.most - 1) f q))) >>= λ u. enter f a u (element_at f n)) (sym c.parent_of.ensures)
+    rw (p.1, p.2) (part-long Memory Long _ _ (entered f a s (elements_on f (reverse (above c.args.most f c.args.parent)))) c.in_err-outer.ensures
+    (λ h. inside-more f a s c.args.most (c.args.most - 1) n c.args.parent deep c.in-Some.is
+    ∙ ap (λ q. entered f a s (elements_on f (reverse (above (c.args.most - 1) f q))) >>= λ u. enter f a u (element_at f n)) (sym c.parent_of.ensures)
     ∙ ap (λ w. w >>= λ u. enter f a u (element_at f n)) h))
 
 pub returns : goal.returns
@@ -30,9 +32,10 @@ returns t c =
     let f = interface_of o.form.now in
     let a = around_over o in
     let n = c.in-Some.element in
+    let s = first_inside (map (λ (x : NodeId). x.number) c.args.rows.now) in
     let deep : c.args.most ≡ suc (c.args.most - 1) = omega (arith, c.if-most-eq0.false) in
     gives-same Memory Long seen_inside c.enter.result _ _
-    (sym (inside-more f a c.args.most (c.args.most - 1) n c.args.parent deep c.in-Some.is
-    ∙ ap (λ q. entered f a first_inside (elements_on f (reverse (above (c.args.most - 1) f q))) >>= λ u. enter f a u (element_at f n)) (sym c.parent_of.ensures)
+    (sym (inside-more f a s c.args.most (c.args.most - 1) n c.args.parent deep c.in-Some.is
+    ∙ ap (λ q. entered f a s (elements_on f (reverse (above (c.args.most - 1) f q))) >>= λ u. enter f a u (element_at f n)) (sym c.parent_of.ensures)
     ∙ ap (λ w. w >>= λ u. enter f a u (element_at f n)) c.in_ok-outer.ensures))
     c.enter.ensures

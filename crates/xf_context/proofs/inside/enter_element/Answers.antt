@@ -1,14 +1,46 @@
-use Rattle.std.proofs.Common.{sym, ap, ◌∙◌}
-use Rattle.std.specs.Prelude.{unwrap_or}
+use Rattle.std.proofs.Common.{map, option_map, sym, ap, ◌∙◌}
+use Rattle.std.proofs.lemmas.Result.{err_from_is_err_and}
+use Rattle.xf_doc.specs.declared.node.NodeId.{NodeId}
 use Rattle.xf_lang.specs.declared.fault.EvalFault.TheVariants.{Long, Memory}
-use Rattle.xf_ui.specs.Context.{enter_by, named_model}
-use Rattle.xf_ui.specs.Interface.{binding_of, interface_of, sort_of}
+use Rattle.xf_ui.specs.Context.{enter}
+use Rattle.xf_ui.specs.Interface.{element_of, interface_of}
 use Rattle.xf_elements.specs.Bound.{seen_bound}
-use Rattle.xf_eval.proofs.Bounded.{gives-same}
-use Rattle.xf_context.specs.Inside.{entered_bound, place_for, seen_inside, seen_place}
+use Rattle.xf_eval.proofs.Bounded.{gives-same, part-long}
+use Rattle.xf_context.specs.Inside.{seen_inside, seen_place}
 use Rattle.xf_context.specs.Over.{around_over}
-use Rattle.xf_context.proofs.InsideLaws.{enter-sort}
+use Rattle.xf_context.proofs.InsideLaws.{at_place, enter-placed, enter-rows}
 use Rattle.xf_context.proofs.inside.enter_element.Goals as goal
+
+pub returns-then-is_repeat : goal.returns-then-is_repeat
+returns-then-is_repeat c =
+    let o = c.args.over.now in
+    let form = o.form.now in
+    let a = around_over o in
+    let outer = c.args.outer.now in
+    let rows = map (λ (n : NodeId). n.number) outer.rows.now in
+    let model = c.scope_of-model.result in
+    let e = element_of form.tables c.args.here.now in
+    let b = seen_bound c.binding_of-binding.result in
+    gives-same Memory Long seen_inside c.enter_row.result _ _
+    (sym (enter-rows a outer.model model (seen_place outer.place) rows (interface_of form) e b c.scope_of-model.ensures c.binding_of-binding.ensures (sym c.is_repeat.ensures ∙ c.if-is_repeat.true)))
+    c.enter_row.ensures
+
+pub returns-in_err-place : goal.returns-in_err-place
+returns-in_err-place c =
+    let o = c.args.over.now in
+    let form = o.form.now in
+    let a = around_over o in
+    let outer = c.args.outer.now in
+    let place = seen_place outer.place in
+    let rows = map (λ (n : NodeId). n.number) outer.rows.now in
+    let model = c.scope_of-model.result in
+    let e = element_of form.tables c.args.here.now in
+    let b = seen_bound c.binding_of-binding.result in
+    let p = err_from_is_err_and c.from_residual.result c.from_residual.ensures.1 in
+    rw (p.1, p.2) (part-long Memory Long _ _ (enter (interface_of form) a (seen_inside outer) e) c.in_err-place.ensures
+    (λ h. enter-placed a outer.model model place rows (interface_of form) e b c.scope_of-model.ensures c.binding_of-binding.ensures
+    (seen_place c.place_for-from.result) c.place_for-from.ensures (sym c.is_repeat.ensures ∙ c.if-is_repeat.false)
+    ∙ ap (option_map (at_place a outer.model model place rows)) h))
 
 pub returns : goal.returns
 returns c =
@@ -16,14 +48,11 @@ returns c =
     let form = o.form.now in
     let a = around_over o in
     let outer = c.args.outer.now in
-    let here = c.args.here.now in
     let place = seen_place outer.place in
+    let rows = map (λ (n : NodeId). n.number) outer.rows.now in
     let model = c.scope_of-model.result in
-    let binding = binding_of form.tables here.kind here.binding in
-    gives-same Memory Long seen_inside c.enter_bound.result _ _
-    (ap (λ q. entered_bound a model place q (seen_bound c.binding_of-binding.result)) c.place_for-from.ensures
-    ∙ ap (λ b. entered_bound a model place (place_for (sort_of here.kind) place) b) c.binding_of-binding.ensures
-    ∙ sym (enter-sort a outer.model model place binding (sort_of here.kind) (sym c.is_repeat.ensures ∙ c.if-is_repeat.false))
-    ∙ ap (λ m. enter_by a (seen_inside outer) m binding (sort_of here.kind))
-    (c.scope_of-model.ensures ∙ ap (λ b. unwrap_or (named_model (interface_of form) b here.model) outer.model) c.binding_of-binding.ensures))
-    c.enter_bound.ensures
+    let e = element_of form.tables c.args.here.now in
+    let b = seen_bound c.binding_of-binding.result in
+    enter-placed a outer.model model place rows (interface_of form) e b c.scope_of-model.ensures c.binding_of-binding.ensures
+    (seen_place c.place_for-from.result) c.place_for-from.ensures (sym c.is_repeat.ensures ∙ c.if-is_repeat.false)
+    ∙ ap (option_map (at_place a outer.model model place rows)) c.in_ok-place.ensures

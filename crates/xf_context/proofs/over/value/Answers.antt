@@ -8,17 +8,22 @@ use Rattle.xf_lang.specs.declared.value.Value.{Value}
 use Rattle.xf_lang.specs.Meaning.{meaning}
 use Rattle.xf_lang.specs.Setting.{setting_over}
 use Rattle.xf_ui.specs.Focused.{focus_of}
-use Rattle.xf_context.specs.Around.{event_of, numbers_of}
-use Rattle.xf_context.proofs.AroundLaws.{around-stands, given-found}
+use Rattle.xf_context.specs.Around.{event_of, given_with, numbers_of}
+use Rattle.xf_context.specs.Indexes.{indexes_in}
+use Rattle.xf_context.proofs.AroundLaws.{around-stands, documents-found}
 use Rattle.xf_context.proofs.over.value.Goals as goal
 
 pub value_at-requires : goal.value_at-requires
 value_at-requires c =
     let o = c.args.over.now in
+    let form = o.form.now in
+    let nodes = o.forest.now.forest.nodes in
+    let ds = numbers_of c.as_slice.result.now in
     record {
       around =
-          around-stands c.as_slice-instances.result.now o.prefixes.now o.form.now.decimals o.forest.now.forest.nodes (numbers_of c.as_slice.result.now) o.told
-          (ap numbers_of c.as_slice.ensures.value ∙ c.in_ok-documents.ensures.all) (sym c.is_event_live.ensures ∙ c.if-not-is_event_live.false);
+          around-stands (indexes_in form o.indexes) form.tables.instances o.prefixes.now form.decimals nodes ds o.told
+          (documents-found form.tables.instances c.as_slice-instances.result.now nodes ds c.as_slice-instances.ensures (ap numbers_of c.as_slice.ensures.value ∙ c.in_ok-documents.ensures.all))
+          (sym c.is_event_live.ensures ∙ c.if-not-is_event_live.false);
       node = sym c.is_live.ensures ∙ c.if-not-is_live.false;
       current = sym c.is_live.ensures ∙ c.if-not-is_live.false;
     }
@@ -26,8 +31,11 @@ value_at-requires c =
 pub returns-clause-value : goal.returns-clause-value
 returns-clause-value c =
     let o = c.args.over.now in
+    let form = o.form.now in
+    let nodes = o.forest.now.forest.nodes in
     let f = c.args.focus.now in
-    subst (λ g. GivesBounded {X = Value} {Y = Value} Memory Long (λ v. v) c.value_at.result (meaning c.args.expr.now (setting_over called (Some string_limit) g (visits o.forest.now.forest.nodes) c.args.model f.node.number) (focus_of f)))
-    (given-found o.form.now.tables.instances c.as_slice-instances.result.now o.prefixes.now o.form.now.decimals o.forest.now.forest (numbers_of c.as_slice.result.now) (event_of o.told) c.as_slice-instances.ensures
-    (ap numbers_of c.as_slice.ensures.value ∙ c.in_ok-documents.ensures.all))
+    let ds = numbers_of c.as_slice.result.now in
+    subst (λ l. GivesBounded {X = Value} {Y = Value} Memory Long (λ v. v) c.value_at.result (meaning c.args.expr.now (setting_over called (Some string_limit)
+    (given_with (indexes_in form o.indexes) form.tables.instances o.prefixes.now form.decimals l (event_of o.told)) (visits nodes) c.args.model f.node.number) (focus_of f)))
+    (documents-found form.tables.instances c.as_slice-instances.result.now nodes ds c.as_slice-instances.ensures (ap numbers_of c.as_slice.ensures.value ∙ c.in_ok-documents.ensures.all))
     c.value_at.ensures.value

@@ -1,0 +1,4 @@
+mod WordLaws
+mod LabelLaws
+mod ItemLaws
+mod SetLaws
