@@ -13,6 +13,7 @@ mod json;
 mod names;
 mod numbers;
 mod report;
+mod schemas;
 mod sheet;
 mod snaps;
 mod tables;
@@ -23,9 +24,19 @@ use std::alloc::{AllocError, Global};
 use std::io;
 
 /// The crates that are called, in the order of the report.
-const NAMES: [&str; 11] = [
-    "xf_num", "xf_types", "xf_dates", "xf_funcs", "xf_path", "xf_json", "xf_name", "xf_table",
-    "xf_line", "xf_graph", "xf_snap",
+const NAMES: [&str; 12] = [
+    "xf_num",
+    "xf_types",
+    "xf_dates",
+    "xf_funcs",
+    "xf_path",
+    "xf_json",
+    "xf_name",
+    "xf_table",
+    "xf_line",
+    "xf_graph",
+    "xf_snap",
+    "xf_schema",
 ];
 
 fn main(rt: HostRuntime) -> anyhow::Result<()> {

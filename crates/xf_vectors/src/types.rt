@@ -20,7 +20,7 @@ pub fn answer(alloc: Global, call: &str, given: &[Word]) -> Answer {
     }
 }
 
-fn space_of(text: &str) -> &str {
+pub fn space_of(text: &str) -> &str {
     match text {
         "xs" => "http://www.w3.org/2001/XMLSchema",
         "xf" => "http://www.w3.org/2002/xforms",

@@ -1,0 +1,4 @@
+mod SpaceLaws
+mod DecimalLaws
+mod WayLaws
+mod FaultLaws
