@@ -1,3 +1,5 @@
+pub mod AskLaws
 mod HandlerLaws
 mod InnerLaws
 mod NoteSizes
+mod OriginLaws

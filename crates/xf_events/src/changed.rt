@@ -16,10 +16,10 @@ use xf_ast::Form;
 use xf_base::Items;
 use xf_doc::NodeList;
 use xf_eval::append;
+use xf_insert::held;
 use xf_lang::Value;
 use xf_name::Word;
 use xf_num::{Decimals, Num};
-use xf_small_forest::held;
 use xf_tree::Forest;
 
 /// The event that an insert tells an instance, which stands in no row.
@@ -100,18 +100,10 @@ fn origins_of(alloc: Global, places: &[Place]) -> Result<NodeList, AllocError>
     ensures { IfOk result (λ ns. ns ≡ map (λ q. q.origin) (map place_of places.now)) }
 {
     let mut origins = NodeList::new(alloc);
-    push_origins(places, &mut origins)?;
-    Ok(origins)
-}
-
-fn push_origins(places: &[Place], origins: &mut NodeList) -> Result<(), AllocError>
-    ensures { OnOk result (origins.new ≡ origins.old ++ map (λ q. q.origin) (map place_of places.now)) }
-{
-    if places.is_empty() {
-        return Ok(());
+    for place in places {
+        origins.push(place.origin)?;
     }
-    origins.push(places[0].origin)?;
-    push_origins(&places[1..], origins)
+    Ok(origins)
 }
 
 // ---- of a delete

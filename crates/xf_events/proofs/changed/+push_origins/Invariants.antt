@@ -1,5 +1,0 @@
-use Rattle.std.proofs.Common.{length}
-use Rattle.xf_events.proofs.changed.+push_origins.Given as goal
-
-abbrev pub decreases-push_origins : goal.decreases-push_origins
-decreases-push_origins l = length l.places.now

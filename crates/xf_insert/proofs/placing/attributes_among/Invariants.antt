@@ -1,0 +1,11 @@
+use Rattle.std.proofs.Common.{◌≡◌, ◌++◌, drop}
+use Rattle.xf_doc.specs.Forest.{is_attribute}
+use Rattle.xf_doc.specs.Visit.{visits}
+use Rattle.xf_insert.specs.Numbers.{numbers}
+use Rattle.xf_insert.specs.Placing.{among}
+use Rattle.xf_insert.proofs.placing.attributes_among.Given as goal
+
+abbrev pub invariant-loop-node : goal.invariant-loop-node
+invariant-loop-node l =
+    let all = visits l.forest.forest.nodes in
+    l.all ++ among is_attribute all (numbers (drop l.node-index l.nodes)) ≡ among is_attribute all (numbers l.nodes)

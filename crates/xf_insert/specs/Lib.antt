@@ -1,0 +1,5 @@
+pub mod Numbers
+pub mod Names
+pub mod Placing
+pub mod Closed
+pub mod Taking
