@@ -7,3 +7,4 @@ pub mod Found
 pub mod Machine
 pub mod Order
 pub mod Reached
+pub mod Built

@@ -1,0 +1,5 @@
+pub mod Elsewhere
+pub mod Grown
+pub mod Holders
+pub mod Trees
+pub mod Places

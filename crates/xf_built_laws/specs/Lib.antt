@@ -1,0 +1,4 @@
+pub mod Data
+pub mod Elsewhere
+pub mod Trees
+pub mod Places

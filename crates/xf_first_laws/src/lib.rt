@@ -1,0 +1,16 @@
+//! Laws of the data as construction left them: the bare tree of a document element gives its contents. Each function does nothing: its contract is
+//! a law.
+#![tactic(auto)]
+
+ghost use Rattle.xf_first_laws.specs.First.{FirstGives};
+ghost use Rattle.xf_first_laws.specs.Well.{BareGives};
+
+/// The bare tree of a tree of a form's names gives its contents.
+pub fn bare_gives()
+    ensures { BareGives }
+{}
+
+/// So does that of each document element that construction left, where the data have the shape that was planted.
+pub fn first_gives()
+    ensures { FirstGives }
+{}
