@@ -1,8 +1,8 @@
 -- A form of which all data are planted and no model is built.
-use Rattle.std.proofs.Common.{◌≡◌, ℕ, zero, suc, true, List, [], ◌∷◌, map, length, Ok, refl, sym, ap, ◌∙◌, subst, arith}
+use Rattle.std.proofs.Common.{◌≡◌, ℕ, zero, suc, true, false, List, [], ◌∷◌, map, length, None, Ok, refl, sym, ap, ◌∙◌, subst, arith}
 use Rattle.std.specs.Prelude.{replicate, ◌≤◌}
 use Rattle.std.proofs.lemmas.List.{length-replicate}
-use Rattle.xf_doc.specs.Changes.{in_detached, in_instances}
+use Rattle.xf_doc.specs.Changes.{in_detached, in_instances, root_of}
 use Rattle.xf_doc.specs.Forest.{Forest}
 use Rattle.xf_doc.specs.Shape.{shape_of}
 use Rattle.xf_agree_laws.specs.Hung.{are_hung}
@@ -13,10 +13,12 @@ use Rattle.xf_controls.specs.declared.copy.ControlCopy.{ControlCopy}
 use Rattle.xf_loader.specs.declared.loaded.Loaded.{Loaded}
 use Rattle.xf_undo.specs.Draft.{Draft, kept_as}
 use Rattle.xf_work.specs.declared.flags.Flags.{Flags}
+use Rattle.xf_work.specs.declared.knowing.Knowledge.{Knowledge}
 use Rattle.xf_work.specs.declared.tally.Tally.{Tally}
 use Rattle.xf_work.specs.Built.{IsWhole}
+use Rattle.xf_work.specs.Fit.{IsRight}
 use Rattle.xf_work.specs.Flags.{none_due}
-use Rattle.xf_work.specs.Held.{planted_shape, shape_by}
+use Rattle.xf_work.specs.Held.{last_place, planted_shape, shape_by}
 use Rattle.xf_work.specs.Parts.{IsLoaded, IsSound, models_of, standing_of}
 use Rattle.xf_work.specs.Planting.{IsBegun, growing, planted_by}
 use Rattle.xf_work.specs.Standing.{Standing, state_of}
@@ -46,13 +48,26 @@ begun-same loaded f made none =
     ap (λ ms. record (growing loaded f made) { models = ms }) (sym (models-none loaded.form.models))
     ∙ ap (λ (g : Forest). state_of (standing_of loaded g (replicate (length loaded.form.models) no_kept) (replicate (length loaded.form.models) none_due) [] (first_tally made))) (sym (instances-same f none))
 
-none-built : (loaded : Loaded) (f : Forest) (table : List Kept) → in_detached f.nodes ≡ [] → are_hung f.nodes ≡ true → shape_of f.nodes ≡ planted_shape loaded → IsWhole loaded (instances f) table 0
-none-built loaded f table none hung shaped = record {
+none-built : (loaded : Loaded) (f : Forest) (table : List Kept) (flags : List Flags) → in_detached f.nodes ≡ [] → are_hung f.nodes ≡ true → root_of last_place f.nodes ≡ None → IsWhole loaded (instances f) table flags 0
+none-built loaded f table flags none hung few = record {
   hung = ap are_hung (all-instances f.nodes none) ∙ hung;
-  alone = ap in_detached (all-instances f.nodes none) ∙ none;
-  shape = ap shape_of (all-instances f.nodes none) ∙ shaped;
-  models = λ model h. absurd (omega (arith, h));
+  few = ap (root_of last_place) (all-instances f.nodes none) ∙ few;
+  models = λ model h settled. absurd (omega (arith, h));
 }
+
+-- what is known of it
+abbrev pub first_knowledge : Knowledge
+first_knowledge = record { known = None; is_steady = false; is_planted = true; is_alone = true }
+
+right-planted : (loaded : Loaded) (f : Forest) (table : List Kept) (controls : List ControlCopy) → in_detached f.nodes ≡ [] → shape_of f.nodes ≡ planted_shape loaded → IsRight loaded (instances f) table controls first_knowledge
+right-planted loaded f table controls none shaped =
+    let alone = ap in_detached (all-instances f.nodes none) ∙ none in
+    record {
+      known = tt;
+      steady = tt;
+      planted = record { shape = ap shape_of (all-instances f.nodes none) ∙ shaped; alone = alone };
+      alone = alone;
+    }
 
 -- the shape of the data that were planted is what is kept
 pub shape-planted : (loaded : Loaded) (f : Forest) (made : ℕ) → planted_by loaded ≡ Ok (growing loaded f made) → shape_of f.nodes ≡ planted_shape loaded
@@ -64,17 +79,26 @@ shape-planted loaded f made e = sym (ap shape_by e)
 module _ (loaded : Loaded) (f : Forest) (made n : ℕ) (draft : Draft) (table : List Kept) (flags old : List Flags) (controls : List ControlCopy)
     (none : in_detached f.nodes ≡ []) (kept : draft ≡ kept_as (instances f)) (tables : table ≡ replicate n no_kept)
     (now : flags ≡ replicate n none_due) (before : old ≡ replicate n none_due) where
-  pub begun-sound : IsLoaded loaded → are_hung f.nodes ≡ true → shape_of f.nodes ≡ planted_shape loaded → n ≤ 4294967295 → IsSound loaded draft table flags old 0 0
-  begun-sound is hung shaped few =
+  pub begun-sound : IsLoaded loaded → are_hung f.nodes ≡ true → root_of last_place f.nodes ≡ None → n ≤ 4294967295 → IsSound loaded draft table flags old 0 0
+  begun-sound is hung few_roots few =
       let due = ap length now ∙ length-replicate n none_due in
       record {
         loaded = is;
         many = ap length tables ∙ length-replicate n no_kept ∙ sym due;
         kept = ap length before ∙ length-replicate n none_due ∙ sym due;
         few = omega (arith, due, few);
-        now = subst (λ (d : Draft). IsWhole loaded d.now table 0) (sym kept) (none-built loaded f table none hung shaped);
-        before = subst (λ (d : Draft). IsWhole loaded d.kept (all_rolled_back table) 0) (sym kept) (none-built loaded f (all_rolled_back table) none hung shaped);
+        now = subst (λ (d : Draft). IsWhole loaded d.now table flags 0) (sym kept) (none-built loaded f table flags none hung few_roots);
+        before = subst (λ (d : Draft). IsWhole loaded d.kept (all_rolled_back table) old 0) (sym kept) (none-built loaded f (all_rolled_back table) old none hung few_roots);
       }
+
+  pub begun-now : shape_of f.nodes ≡ planted_shape loaded → (ks : List Kept) (list : List ControlCopy) → IsRight loaded draft.now ks list first_knowledge
+  begun-now shaped ks list = subst (λ (d : Draft). IsRight loaded d.now ks list first_knowledge) (sym kept) (right-planted loaded f ks list none shaped)
+
+  pub begun-before : shape_of f.nodes ≡ planted_shape loaded → (ks : List Kept) (list : List ControlCopy) → IsRight loaded draft.kept ks list first_knowledge
+  begun-before shaped ks list = subst (λ (d : Draft). IsRight loaded d.kept ks list first_knowledge) (sym kept) (right-planted loaded f ks list none shaped)
+
+  pub begun-alone : in_detached draft.kept.nodes ≡ []
+  begun-alone = subst (λ (d : Draft). in_detached d.kept.nodes ≡ []) (sym kept) (ap in_detached (all-instances f.nodes none) ∙ none)
 
   abbrev first : List Kept → Standing
   first ks = standing_of loaded (instances f) ks (replicate n none_due) controls (first_tally made)

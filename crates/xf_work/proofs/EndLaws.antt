@@ -1,13 +1,14 @@
 -- What stands at the end of an event, and what a roll-back gives back.
 use Rattle.std.proofs.Common.{◌≡◌, ℕ, zero, suc, ◌<◌, ◌^◌, List, [], ◌∷◌, refl, sym, ap, ◌∙◌, subst}
 use Rattle.xf_doc.specs.Forest.{Forest}
-use Rattle.xf_doc.specs.Texts.{without_detached}
+use Rattle.xf_doc.specs.WellFormed.{HasTrees}
 use Rattle.xf_form_machine.specs.Step.{at_end}
+use Rattle.xf_root_laws.specs.Roots.{AreAhead}
 use Rattle.xf_binds.specs.Kept.{Kept, committed, rolled_back}
 use Rattle.xf_binds.specs.Table.{all_committed, all_rolled_back, kept_at}
 use Rattle.xf_controls.specs.declared.copy.ControlCopy.{ControlCopy}
 use Rattle.xf_loader.specs.declared.loaded.Loaded.{Loaded}
-use Rattle.xf_undo.specs.Draft.{Draft, alone, kept_as}
+use Rattle.xf_undo.specs.Draft.{Draft, kept_as}
 use Rattle.xf_work.specs.declared.flags.Flags.{Flags}
 use Rattle.xf_work.specs.declared.tally.Tally.{Tally}
 use Rattle.xf_work.specs.Built.{IsWhole}
@@ -15,7 +16,7 @@ use Rattle.xf_processor.specs.Formed.{profile}
 use Rattle.xf_work.specs.Parts.{IsSound, standing_of}
 use Rattle.xf_work.specs.Standing.{Standing, state_of}
 use Rattle.xf_work.specs.Tally.{begun}
-use Rattle.xf_work.proofs.DeepLaws.{all-instances}
+use Rattle.xf_work.proofs.DroppedLaws.{dropped, whole-dropped}
 use Rattle.xf_work.proofs.Models.{back-again, committed-models, kept-models, map-length}
 use Rattle.xf_work.proofs.WholeLaws.{IsSame, built-same}
 
@@ -31,38 +32,33 @@ back-at [] n = record { entries = refl; asks = refl }
 back-at (k ∷ ks) zero = record { entries = refl; asks = refl }
 back-at (k ∷ ks) (suc n) = back-at ks n
 
-whole-as : (l : Loaded) (forest : Forest) (table other : List Kept) (built : ℕ) → ((n : ℕ) → IsSame (kept_at table n) (kept_at other n)) → IsWhole l forest table built → IsWhole l forest other built
-whole-as l forest table other built same w = record {
+whole-as : (l : Loaded) (forest : Forest) (table other : List Kept) (flags : List Flags) (built : ℕ) → ((n : ℕ) → IsSame (kept_at table n) (kept_at other n)) → IsWhole l forest table flags built
+    → IsWhole l forest other flags built
+whole-as l forest table other flags built same w = record {
   hung = w.hung;
-  alone = w.alone;
-  shape = w.shape;
-  models = λ model less. built-same _ forest.nodes (kept_at table model) (kept_at other model) (same model) (w.models model less);
+  few = w.few;
+  models = λ model less settled. built-same _ forest.nodes (kept_at table model) (kept_at other model) (same model) (w.models model less settled);
 }
 
 -- ---- the invariant
 
-abbrev dropped : Forest → Forest
-dropped forest = (without_detached (alone forest)).forest
-
 module _ (l : Loaded) (draft : Draft) (table : List Kept) (flags old : List Flags) (built old_built : ℕ) (s : IsSound l draft table flags old built old_built) where
-  dropped-same : dropped draft.now ≡ draft.now
-  dropped-same = ap (λ ns. record draft.now { nodes = ns }) (all-instances draft.now.nodes s.now.alone)
-
-  committed-core : IsSound l (kept_as draft.now) (all_committed table) flags flags built built
-  committed-core = record {
+  committed-core : IsWhole l (dropped draft.now) table flags built → IsSound l (kept_as (dropped draft.now)) (all_committed table) flags flags built built
+  committed-core w = record {
     loaded = s.loaded;
     many = map-length table committed ∙ s.many;
     kept = refl;
     few = s.few;
-    now = whole-as l draft.now table (all_committed table) built (committed-at table) s.now;
-    before = whole-as l draft.now table (all_rolled_back (all_committed table)) built (back-at table) s.now;
+    now = whole-as l (dropped draft.now) table (all_committed table) flags built (committed-at table) w;
+    before = whole-as l (dropped draft.now) table (all_rolled_back (all_committed table)) flags built (back-at table) w;
   }
 
-  pub committed-sound : (d : Draft) (t : List Kept) (fs : List Flags) → d ≡ kept_as (dropped draft.now) → t ≡ all_committed table → fs ≡ flags → IsSound l d t flags fs built built
-  committed-sound d t fs drafted tabled flagged =
-      subst (λ x. IsSound l x t flags fs built built) (sym (drafted ∙ ap kept_as dropped-same))
-      (subst (λ x. IsSound l (kept_as draft.now) x flags fs built built) (sym tabled)
-      (subst (λ x. IsSound l (kept_as draft.now) (all_committed table) flags x built built) (sym flagged) committed-core))
+  pub committed-sound : HasTrees draft.now → HasTrees (dropped draft.now) → draft.now.next < 2 ^ 128 → AreAhead draft.now.nodes → (d : Draft) (t : List Kept) (fs : List Flags) → d ≡ kept_as (dropped draft.now) → t ≡ all_committed table → fs ≡ flags → IsSound l d t flags fs built built
+  committed-sound trees trees_after few ahead d t fs drafted tabled flagged =
+      subst (λ x. IsSound l x t flags fs built built) (sym drafted)
+      (subst (λ x. IsSound l (kept_as (dropped draft.now)) x flags fs built built) (sym tabled)
+      (subst (λ x. IsSound l (kept_as (dropped draft.now)) (all_committed table) flags x built built) (sym flagged)
+      (committed-core (whole-dropped l draft.now table flags built trees trees_after few ahead s.now))))
 
   back-core : IsSound l (kept_as draft.kept) (all_rolled_back table) old old old_built old_built
   back-core = record {
@@ -71,7 +67,7 @@ module _ (l : Loaded) (draft : Draft) (table : List Kept) (flags old : List Flag
     kept = refl;
     few = subst (λ n. n < 2 ^ 32) (sym s.kept) s.few;
     now = s.before;
-    before = subst (λ t. IsWhole l draft.kept t old_built) (sym (back-again table)) s.before;
+    before = subst (λ t. IsWhole l draft.kept t old old_built) (sym (back-again table)) s.before;
   }
 
   pub back-sound : (d : Draft) (t : List Kept) (fs : List Flags) → d ≡ kept_as draft.kept → t ≡ all_rolled_back table → fs ≡ old → IsSound l d t fs old old_built old_built
@@ -86,9 +82,9 @@ module _ (l : Loaded) (forest : Forest) (table : List Kept) (flags : List Flags)
   abbrev before : Standing
   before = standing_of l forest table flags controls tally
 
-  pub committed-now : (d : Draft) (t : List Kept) (u : Tally) → d ≡ kept_as (dropped forest) → t ≡ all_committed table → u ≡ begun tally
+  pub committed-state : (d : Draft) (t : List Kept) (u : Tally) → d ≡ kept_as (dropped forest) → t ≡ all_committed table → u ≡ begun tally
       → state_of (standing_of l d.now t flags controls u) ≡ at_end profile (state_of before)
-  committed-now d t u drafted tabled tallied =
+  committed-state d t u drafted tabled tallied =
       ap (λ (x : Draft). state_of (standing_of l x.now t flags controls u)) drafted
       ∙ ap (λ x. state_of (standing_of l (dropped forest) x flags controls u)) tabled
       ∙ ap (λ x. state_of (standing_of l (dropped forest) (all_committed table) flags controls x)) tallied

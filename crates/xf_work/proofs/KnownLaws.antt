@@ -1,6 +1,6 @@
 -- What is known of the last recalculation of a model: from one recalculation to the next, and where a text is set.
 use Rattle.std.proofs.Common.{◌≡◌, ℕ, zero, suc, ◌+◌, ◌<◌, ◌≤◌, ◌^◌, ◌==◌, Bool, true, false, not, cond, ◌&&◌, ◌||◌, List, [], ◌∷◌, ◌++◌, map, length, get_or, Option, Some, None, slice_get, refl, sym, ap, ◌∙◌, subst, inl, inr, arith}
-use Rattle.std.specs.Prelude.{◌⊎◌, option_map}
+use Rattle.std.specs.Prelude.{◌⊎◌, IfSome, option_map}
 use Rattle.std.proofs.lemmas.Bool.{eqb-true}
 use Rattle.std.proofs.lemmas.Bool.Decides.{nat_tests}
 use Rattle.xf_ast.specs.declared.expr.Expr.{Expr}
@@ -61,14 +61,15 @@ use Rattle.xf_binds.specs.Kept.{Kept, recalculated}
 use Rattle.xf_binds.specs.Table.{kept_at, with_kept}
 use Rattle.xf_pertinent.specs.Marked.{is_evaluated, pertinent_marks}
 use Rattle.xf_pertinent.specs.OfTable.{changes_in}
+use Rattle.xf_rebuild.specs.Built.{IsBuilt}
 use Rattle.xf_recalc.specs.Passes.{AreCoveredIn, ArePassed, is_passed}
 use Rattle.xf_recalc.specs.Settles.{IsSettled, MaySettle, contents_in}
 use Rattle.xf_loader.specs.Computed.{AllReadStatic, IsReadStatic}
 use Rattle.xf_loader.specs.declared.loaded.Loaded.{Loaded}
 use Rattle.xf_loader.proofs.StaticLaw.{loaded_static}
 use Rattle.xf_work.specs.Around.{given_in}
-use Rattle.xf_work.specs.Built.{IsBuilt, scope_at}
-use Rattle.xf_work.specs.Known.{HasMarks, IsRemembered, KeepsMarks, Knows, MayBePassed, is_of, marks_if}
+use Rattle.xf_work.specs.Built.{scope_at}
+use Rattle.xf_work.specs.Known.{HasMarks, IsKnown, IsRemembered, KeepsMarks, Knows, MayBePassed, MayPass, is_of, marks_if}
 use Rattle.xf_work.specs.Parts.{IsLoaded}
 use Rattle.xf_work.proofs.Alone.{numbered-alone}
 use Rattle.xf_work.proofs.DeepLaws.{all-instances}
@@ -97,8 +98,16 @@ remembered-same scope forest j k h r = record {
 
 pub knows-marks : (l : Loaded) (forest : Forest) (table other : List Kept) (known : Option ℕ) → length other ≡ length table → KeepsMarks table other → Knows l forest table known → Knows l forest other known
 knows-marks l forest table other None many keeps h = tt
-knows-marks l forest table other (Some model) many keeps h =
-    (subst (λ n. model < n) (sym many) h.0, remembered-same (scope_at l forest model) forest (kept_at table model) (kept_at other model) (keeps model) h.1)
+knows-marks l forest table other (Some model) many keeps h = record {
+  there = subst (λ n. model < n) (sym many) h.there;
+  alone = h.alone;
+  remembered = remembered-same (scope_at l forest model) forest (kept_at table model) (kept_at other model) (keeps model) h.remembered;
+}
+
+-- of the model that was recalculated last, where no tree is detached
+pub knows-of : (l : Loaded) (forest : Forest) (table : List Kept) (o : Option ℕ) (model : ℕ) (b : Bool) → IfSome o (λ known. (known ≡ model) × (b ≡ true)) → (b ≡ true → IsKnown l forest table model) → Knows l forest table o
+knows-of l forest table None model b h is = tt
+knows-of l forest table (Some known) model b h is = subst (IsKnown l forest table) (sym h.0) (is h.1)
 
 pub keeps-set : (table : List Kept) (model : ℕ) (k : Kept) → model < length table → HasMarks (kept_at table model) k → KeepsMarks table (with_kept table model k)
 keeps-set table model k within h other = by (other == model) refl
@@ -135,18 +144,20 @@ pub may-be_passed : (l : Loaded) (forest : Forest) (table : List Kept) (known : 
 may-be_passed l forest table None model marks h is place e got passed computed = no passed
 may-be_passed l forest table (Some known) model marks h is place e got passed computed = by (known == model) refl passed
   where
-    by : (b : Bool) → (known == model) ≡ b → is_passed (marks_if b marks) place ≡ true →
-        IsRemembered (scope_at l forest model) forest (kept_at table model) × IsOutside (scope_at l forest model) forest (changes_in (kept_at table model)) (kept_at table model).entries e
+    by : (b : Bool) → (known == model) ≡ b → is_passed (marks_if b marks) place ≡ true → MayPass l forest model (kept_at table model) e
     by false i p = no p
     by true i p =
         let same : known ≡ model = eqb-true known model i in
         let mark : not (is_evaluated (scope_at l forest model) (shape_of forest.nodes) (kept_at table model).entries (changes_in (kept_at table model)) e) ≡ true =
         sym (ap not (ap (λ ms. get_or ms place true) is
-        ∙ got-mapped (is_evaluated (scope_at l forest model) (shape_of forest.nodes) (kept_at table model).entries (changes_in (kept_at table model))) (kept_at table model).entries place e true got)) ∙ p in (
-          subst (λ m. IsRemembered (scope_at l forest m) forest (kept_at table m)) same h.1,
-          not-evaluated (is_computed e)
-              (is_pertinent (shape_of forest.nodes) (changes_in (kept_at table model)) (askings (scope_at l forest model) (shape_of forest.nodes) (kept_at table model).entries) (asking (scope_at l forest model) (shape_of forest.nodes) e)) computed mark,
-        )
+        ∙ got-mapped (is_evaluated (scope_at l forest model) (shape_of forest.nodes) (kept_at table model).entries (changes_in (kept_at table model))) (kept_at table model).entries place e true got)) ∙ p in
+        record {
+          alone = h.alone;
+          remembered = subst (λ m. IsRemembered (scope_at l forest m) forest (kept_at table m)) same h.remembered;
+          outside =
+              not-evaluated (is_computed e)
+              (is_pertinent (shape_of forest.nodes) (changes_in (kept_at table model)) (askings (scope_at l forest model) (shape_of forest.nodes) (kept_at table model).entries) (asking (scope_at l forest model) (shape_of forest.nodes) e)) computed mark;
+        }
 
 -- ---- the expressions of a form that is loaded
 
@@ -169,16 +180,16 @@ all-covered d b (bind ∷ binds) h = (
 
 -- ---- a recalculation
 
-module _ (l : Loaded) (forest : Forest) (model : ℕ) (k : Kept) (is : IsLoaded l) (trees : HasTrees forest) (hung : are_hung forest.nodes ≡ true) (alone : in_detached forest.nodes ≡ []) (small : forest.next < 2 ^ 126)
+module _ (l : Loaded) (forest : Forest) (model : ℕ) (k : Kept) (is : IsLoaded l) (trees : HasTrees forest) (hung : are_hung forest.nodes ≡ true) (small : forest.next < 2 ^ 126)
     (many : length k.entries < 2 ^ 64) (built : IsBuilt (scope_at l forest model) forest.nodes k) where
   few : length (calculates k.entries) < 2 ^ 64
   few = let less = filter-shorter is_calculate k.entries in omega (arith, less, many)
 
-  standing-all : standing forest ≡ visits forest.nodes
-  standing-all = ap visits (all-instances forest.nodes alone)
+  standing-all : in_detached forest.nodes ≡ [] → standing forest ≡ visits forest.nodes
+  standing-all alone = ap visits (all-instances forest.nodes alone)
 
-  pub is-due : IsDue bounds called (given_in l.form.tables.instances l.prefixes l.form.decimals forest) l.form.tables model forest k.entries
-  is-due = record {
+  is-due : in_detached forest.nodes ≡ [] → IsDue bounds called (given_in l.form.tables.instances l.prefixes l.form.decimals forest) l.form.tables model forest k.entries
+  is-due alone = record {
     covered = are-covered l is;
     around = surrounds l forest model trees hung small;
     applies = built.applies;
@@ -186,7 +197,7 @@ module _ (l : Loaded) (forest : Forest) (model : ℕ) (k : Kept) (is : IsLoaded 
     documents = documents-solid forest trees (hung_forest forest trees hung) l.form.tables.instances;
     no_event = refl;
     hung = hung;
-    instances = λ id n e. subst (λ vs. IsSolid vs n) (sym standing-all) (document-solid forest trees (hung_forest forest trees hung) l.form.tables.instances model id n e);
+    instances = λ id n e. subst (λ vs. IsSolid vs n) (sym (standing-all alone)) (document-solid forest trees (hung_forest forest trees hung) l.form.tables.instances model id n e);
     stand = entries_stand bounds called (given_in l.form.tables.instances l.prefixes l.form.decimals forest) l.form.tables model forest k.entries (are-covered l is) (surrounds l forest model trees hung small) built.applies alone;
     room = let c = few in grind (arith, nat_tests, small, c);
   }
@@ -194,19 +205,19 @@ module _ (l : Loaded) (forest : Forest) (model : ℕ) (k : Kept) (is : IsLoaded 
   pub are-passed : (marks : List Bool) → MayBePassed l forest model k marks → ArePassed (given_in l.form.tables.instances l.prefixes l.form.decimals forest) l.form.tables model forest k marks
   are-passed marks may place e got passed computed =
       let p = may place e got passed computed in
-      let r = p.0 in
+      let r = p.remembered in
       record {
         f = r.f;
         taken = r.taken;
         was = r.was;
-        since = record { due = is-due; carried = r.carried; stood = r.stood };
+        since = record { due = is-due p.alone; carried = r.carried; stood = r.stood };
         stood = r.same;
         covered = all-covered l.form.decimals l.prefixes l.form.tables.binds (loaded_static is.bytes l is.read);
-        outside = subst (λ (vs : List Valued). IsOutside (scope_at l forest model) forest (record { texts = k.texts; lists = k.lists; stood = map (λ v. v.entry) vs }) k.entries e) (sym r.same) p.1;
+        outside = subst (λ (vs : List Valued). IsOutside (scope_at l forest model) forest (record { texts = k.texts; lists = k.lists; stood = map (λ v. v.entry) vs }) k.entries e) (sym r.same) p.outside;
       }
 
   -- what it leaves is known
-  module _ (after : Forest) (truths : List (Option Bool)) (s : IsSettled (scope_at l forest model) k.entries forest after truths) (may : MaySettle (given_in l.form.tables.instances l.prefixes l.form.decimals forest) l.form.tables model forest k.entries)
+  module _ (alone : in_detached forest.nodes ≡ []) (after : Forest) (truths : List (Option Bool)) (s : IsSettled (scope_at l forest model) k.entries forest after truths) (may : MaySettle (given_in l.form.tables.instances l.prefixes l.form.decimals forest) l.form.tables model forest k.entries)
       (trees_after : HasTrees after) where
     abbrev scope : Scope
     scope = scope_at l forest model
@@ -222,7 +233,7 @@ module _ (l : Loaded) (forest : Forest) (model : ℕ) (k : Kept) (is : IsLoaded 
 
     since : Since (λ n. n) (under then_now.next) [] [] bounds called (given_in l.form.tables.instances l.prefixes l.form.decimals forest) l.form.tables model
         (then_of bounds called (given_in l.form.tables.instances l.prefixes l.form.decimals forest) l.form.tables model then_now k.entries) then_now k.entries
-    since = since_anew_law bounds called (given_in l.form.tables.instances l.prefixes l.form.decimals forest) l.form.tables model forest k.entries is-due s.within (let c = few in grind (arith, nat_tests, small, c))
+    since = since_anew_law bounds called (given_in l.form.tables.instances l.prefixes l.form.decimals forest) l.form.tables model forest k.entries (is-due alone) s.within (let c = few in grind (arith, nat_tests, small, c))
 
     core : IsRemembered scope then_now (recalculated truths k)
     core = record {
@@ -239,7 +250,7 @@ module _ (l : Loaded) (forest : Forest) (model : ℕ) (k : Kept) (is : IsLoaded 
     scope-same : scope_at l after model ≡ scope
     scope-same =
         let still = written-still all_done forest.next (contents_in scope k.entries forest) forest (may-write (given_in l.form.tables.instances l.prefixes l.form.decimals forest) l.form.tables model forest k.entries may) hung in
-        scope-still l forest after trees trees_after [] 0 hung (record { shaped = ap shape_of nodes-are ∙ still.shaped; hung = ap are_hung nodes-are ∙ still.hung }) model
+        scope-still l forest after trees trees_after hung (record { shaped = ap shape_of nodes-are ∙ still.shaped; hung = ap are_hung nodes-are ∙ still.hung }) model
 
     pub known-anew : IsRemembered (scope_at l after model) after (recalculated truths k)
     known-anew =
@@ -308,9 +319,9 @@ module _ (l : Loaded) (forest : Forest) (n : ℕ) (text : List ℕ) (trees : Has
   shaped = setting-keeps_shape n text forest trees able
 
   pub scope-stays : (model : ℕ) → scope_at l after model ≡ scope_at l forest model
-  scope-stays model = scope-still l forest after trees trees_after [] 0 hung (record { shaped = shaped; hung = ap are_hung nodes-numbered ∙ hung_text forest forest.next n text trees able hung }) model
+  scope-stays model = scope-still l forest after trees trees_after hung (record { shaped = shaped; hung = ap are_hung nodes-numbered ∙ hung_text forest forest.next n text trees able hung }) model
 
-  alone-after : in_detached after.nodes ≡ []
+  pub alone-after : in_detached after.nodes ≡ []
   alone-after = ap in_detached nodes-numbered ∙ numbered-alone forest.next n text forest.nodes alone
 
   pub solids : solid_of (standing after) ≡ solid_of (standing forest)

@@ -10,7 +10,6 @@ use Rattle.xf_binds.specs.Table.{all_rolled_back, kept_at}
 use Rattle.xf_loader.specs.declared.loaded.Loaded.{Loaded}
 use Rattle.xf_undo.specs.Draft.{Draft, changed}
 use Rattle.xf_work.specs.declared.flags.Flags.{Flags}
-use Rattle.xf_work.specs.Built.{IsWhole}
 use Rattle.xf_work.specs.Flags.{none_due, with_texts}
 use Rattle.xf_work.specs.Parts.{IsSound}
 use Rattle.xf_work.specs.Setting.{due, mark_if, marked}
@@ -18,7 +17,7 @@ use Rattle.xf_work.specs.Settling.{StaysWhole}
 use Rattle.xf_work.proofs.Models.{flags-length, set-length}
 use Rattle.xf_work.proofs.SetLaws.{set-past}
 use Rattle.xf_work.proofs.SoundLaws.{sound-flags, sound-kept}
-use Rattle.xf_work.proofs.WholeLaws.{IsSame, whole-text}
+use Rattle.xf_work.proofs.WholeLaws.{IsSame, KeepsDue, set-keeps, text-stays}
 
 -- ---- marks and flags
 
@@ -50,9 +49,13 @@ marked-back (Some model) other n table = back-set table model (mark_if other n (
 -- ---- the invariant
 
 pub text-whole : (l : Loaded) (d e : Draft) (n : ℕ) (text : List ℕ) → HasTrees d.now → HasTrees e.now → IsSettable n d.now → e ≡ changed d (with_text n text d.now) → StaysWhole l d.now e.now
-text-whole l d e n text before after able is table built w =
+text-whole l d e n text before after able is =
     let now : e.now ≡ with_text n text d.now = ap (λ (x : Draft). x.now) is in
-    subst (λ f. IsWhole l f table built) (sym now) (whole-text l d.now n text table built before (subst HasTrees now after) able w)
+    subst (StaysWhole l d.now) (sym now) (text-stays l d.now n text before (subst HasTrees now after) able)
+
+due-keeps : (holder : Option ℕ) (flags : List Flags) → KeepsDue flags (due holder flags)
+due-keeps None flags = λ model h. h
+due-keeps (Some model) flags = set-keeps flags model (with_texts (get_or flags model none_due)) refl
 
 module _ (l : Loaded) (d : Draft) (table : List Kept) (flags olds : List Flags) (built old_built : ℕ) (s : IsSound l d table flags olds built old_built) where
   table-marked : (holder : Option ℕ) (other : Bool) (n : ℕ) → IsSound l d (marked holder other n table) flags olds built old_built
@@ -65,4 +68,4 @@ module _ (l : Loaded) (d : Draft) (table : List Kept) (flags olds : List Flags) 
 
   pub sound-marked : (holder : Option ℕ) (other : Bool) (n : ℕ) → IsSound l d (marked holder other n table) (due holder flags) olds built old_built
   sound-marked holder other n =
-      sound-flags l d (marked holder other n table) flags olds built old_built (table-marked holder other n) (due holder flags) (due-length holder flags)
+      sound-flags l d (marked holder other n table) flags olds built old_built (table-marked holder other n) (due holder flags) (due-length holder flags) (due-keeps holder flags)

@@ -18,7 +18,8 @@ use Rattle.xf_loader.specs.Computed as loader
 use Rattle.xf_loader.specs.declared.loaded.Loaded.{Loaded}
 use Rattle.xf_loader.proofs.StaticLaw.{loaded_static}
 use Rattle.xf_work.specs.Around.{given_in}
-use Rattle.xf_work.specs.Built.{IsBuilt, scope_at}
+use Rattle.xf_rebuild.specs.Built.{IsBuilt}
+use Rattle.xf_work.specs.Built.{scope_at}
 use Rattle.xf_work.specs.Parts.{IsLoaded}
 use Rattle.xf_work.proofs.SolidLaws.{documents-solid}
 use Rattle.xf_work.proofs.SurroundLaws.{surrounds}

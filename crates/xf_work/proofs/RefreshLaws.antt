@@ -1,10 +1,13 @@
 -- Controls that are made afresh, or of which the values of their nodes alone are looked at.
-use Rattle.std.proofs.Common.{◌≡◌, ℕ, Bool, true, false, List, [], map, length, nat_lt, Option, Some, None, Result, Ok, Err, refl, sym, ap, ◌∙◌, subst, ◌⊎◌, inl, inr}
+use Rattle.std.proofs.Common.{◌≡◌, ℕ, Bool, true, false, ◌&&◌, List, [], map, length, nat_lt, Option, Some, None, Result, Ok, Err, refl, sym, ap, ◌∙◌, subst, ◌⊎◌, inl, inr}
 use Rattle.std.specs.Bool.{OnTrue}
 use Rattle.std.specs.Prelude.{option_map}
+use Rattle.std.proofs.lemmas.Bool.{OnTrue_at}
 use Rattle.xf_doc.specs.declared.node.NodeId.{NodeId}
 use Rattle.xf_doc.specs.Forest.{Forest}
 use Rattle.xf_doc.specs.WellFormed.{HasTrees}
+use Rattle.xf_doc.proofs.BackLaws.{and-true}
+use Rattle.xf_agree_laws.specs.Hung.{are_hung}
 use Rattle.xf_lang.specs.declared.fault.EvalFault.{EvalFault}
 use Rattle.xf_lang.specs.declared.fault.EvalFault.TheVariants as eval
 use Rattle.xf_ui.specs.Copies as copies
@@ -36,18 +39,18 @@ use Rattle.xf_work.specs.declared.fault.WorkFault.TheVariants as fault
 use Rattle.xf_work.specs.declared.flags.Flags.{Flags}
 use Rattle.xf_work.specs.declared.tally.Tally.{Tally}
 use Rattle.xf_work.specs.Around.{given_in}
-use Rattle.xf_work.specs.Built.{IsWhole}
 use Rattle.xf_work.specs.Calls.{AreRefreshed, AreShown, Refreshes, Renews, ShowsOthers, long_or_memory}
 use Rattle.xf_processor.specs.Formed.{profile}
 use Rattle.xf_work.specs.Does.{Does, Finds, IsRefused}
+use Rattle.xf_work.specs.Fit.{AreAsPlanted}
 use Rattle.xf_work.specs.Held.{IsHeld, around_over}
 use Rattle.xf_work.specs.Parts.{IsLoaded, standing_of}
 use Rattle.xf_work.specs.Standing.{Standing, state_of}
 use Rattle.xf_work.specs.Steady.{AreSteady, IsShaped}
 use Rattle.xf_work.proofs.ShownLaws.{long-found, shown-given, shown-listed}
 
-pub whole-shaped : (l : Loaded) (forest : Forest) (table : List Kept) (built : ℕ) → IsWhole l forest table built → HasTrees forest → IsShaped l forest
-whole-shaped l forest table built w trees = record { trees = trees; hung = w.hung; shape = w.shape }
+pub planted-shaped : (l : Loaded) (forest : Forest) → are_hung forest.nodes ≡ true → AreAsPlanted l forest → HasTrees forest → IsShaped l forest
+planted-shaped l forest hung p trees = record { trees = trees; hung = hung; shape = p.shape }
 
 -- ---- copies that got the values of their nodes
 
@@ -118,6 +121,15 @@ module _ (l : Loaded) (is : IsLoaded l) (forest : Forest) (table : List Kept) (f
     pub renewed-fails : (e : WorkFault) (list : List ControlCopy) (after : Standing) → Renews {X = List Notification} (Err e) (renewed forest.nodes controls) list → ShowsOthers (Err e) (standing_of l forest table flags controls tally) after
     renewed-fails (fault.Refused refusal) list after h = subst (λ r. IsRefused r (update.shown profile here)) (sym h.0) (renewed-long controls steady h.1)
     renewed-fails fault.Memory list after h = tt
+
+-- controls that are taken: those over data of the shape that was planted are steady, where all that is shown is bound
+pub steady-taken : (l : Loaded) (is : IsLoaded l) (forest : Forest) (table : List Kept) (flags : List Flags) (controls : List ControlCopy) (tally : Tally) (many : length table ≡ length flags)
+    → are_hung forest.nodes ≡ true → HasTrees forest → (known : List Known) (list : List ControlCopy) (planted bound rising : Bool) → IsHeld l known → OnTrue planted (AreAsPlanted l forest)
+    → OnTrue bound (AllBound (interface_of l.form) known) → (planted && bound) ≡ true → rising ≡ is_rising list
+    → update.shown profile (state_of (standing_of l forest table flags controls tally)) ≡ Ok (map seen_copy list) → OnTrue rising (AreSteady l table list)
+steady-taken l is forest table flags controls tally many hung trees known list planted bound rising held p b both h e =
+    let parts = and-true planted bound both in
+    taken-steady l is forest table flags controls tally many (planted-shaped l forest hung (OnTrue_at parts.0 p) trees) known list rising held (OnTrue_at parts.1 b) h e
 
 -- the flags of a refresh are cleared besides
 pub cleared-done : (cleared : State → State) (answer : List Notification) (before mid after : Standing) → AreShown answer before mid → state_of after ≡ cleared (state_of mid) → AreRefreshed cleared answer before after

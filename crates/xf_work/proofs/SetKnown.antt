@@ -33,10 +33,10 @@ use Rattle.xf_binds.specs.Kept.{Kept}
 use Rattle.xf_binds.specs.Table.{kept_at}
 use Rattle.xf_loader.specs.declared.loaded.Loaded.{Loaded}
 use Rattle.xf_work.specs.Built.{scope_at}
-use Rattle.xf_work.specs.Known.{IsMarkedOrStood, IsKnownStill, IsRemembered, KeepsMarks, Knows}
+use Rattle.xf_work.specs.Known.{IsKnown, IsMarkedOrStood, IsKnownStill, IsRemembered, KeepsMarks, Knows}
 use Rattle.xf_work.specs.Setting.{mark_if, marked}
 use Rattle.xf_work.proofs.DeepLaws.{all-instances}
-use Rattle.xf_work.proofs.KnownLaws.{follows, free, is-numbered, keeps-set, known-text, knows-marks, numbered, scope-stays, solid-after, solids, takes}
+use Rattle.xf_work.proofs.KnownLaws.{alone-after, follows, free, is-numbered, keeps-set, known-text, knows-marks, numbered, scope-stays, solid-after, solids, takes}
 use Rattle.xf_work.proofs.MarkedLaws.{marked-length}
 use Rattle.xf_work.proofs.Models.{set-length}
 use Rattle.xf_work.proofs.SetLaws.{set-past}
@@ -159,18 +159,27 @@ module _ (l : Loaded) (forest : Forest) (n : ℕ) (text : List ℕ) (trees : Has
 
   -- ---- of the model of which it is known
 
-  held : (table : List Kept) (model : ℕ) (holder : Option ℕ) (other stood : Bool) → stood ≡ has_text n text forest.nodes → IsMarkedOrStood other holder stood model → Knows l forest table (Some model) →
-      Knows l then_set (marked holder other n table) (Some model)
-  held table model holder true stood is h k =
-      subst (λ o. Knows l then_set (marked o true n table) (Some model)) (sym h) (
-        subst (λ c. model < c) (sym (set-length table model (mark_if true n (kept_at table model)))) k.0,
-        subst (IsRemembered (scope_at l then_set model) then_set) (sym (kept-set table model (mark_if true n (kept_at table model)) k.0))
-            (known-text l forest n text trees trees_after hung alone able small model (kept_at table model) k.1),
-      )
+  held : (table : List Kept) (model : ℕ) (holder : Option ℕ) (other stood : Bool) → stood ≡ has_text n text forest.nodes → IsMarkedOrStood other holder stood model → IsKnown l forest table model →
+      IsKnown l then_set (marked holder other n table) model
+  held table model holder true stood is h k = subst (λ o. IsKnown l then_set (marked o true n table) model) (sym h) (record {
+    there = subst (λ c. model < c) (sym (set-length table model (mark_if true n (kept_at table model)))) k.there;
+    alone = alone-after l forest n text trees trees_after hung alone able small;
+    remembered =
+        subst (IsRemembered (scope_at l then_set model) then_set) (sym (kept-set table model (mark_if true n (kept_at table model)) k.there))
+        (known-text l forest n text trees trees_after hung alone able small model (kept_at table model) k.remembered);
+  })
   held table model holder false stood is h k =
-      knows-marks l then_set table (marked holder false n table) (Some model) (marked-length holder false n table) (keeps-unmarked holder n table) (k.0, known-again (sym is ∙ h) model (kept_at table model) k.1)
+      knows-marks l then_set table (marked holder false n table) (Some model) (marked-length holder false n table) (keeps-unmarked holder n table) (record {
+        there = k.there;
+        alone = alone-after l forest n text trees trees_after hung alone able small;
+        remembered = known-again (sym is ∙ h) model (kept_at table model) k.remembered;
+      })
 
-  pub knows-text : (table : List Kept) (known holder : Option ℕ) (other stood : Bool) (still : Option ℕ) → stood ≡ has_text n text forest.nodes → IsKnownStill known holder other stood still → Knows l forest table known →
-      Knows l then_set (marked holder other n table) still
-  knows-text table known holder other stood None is h k = tt
-  knows-text table known holder other stood (Some model) is h k = held table model holder other stood is h.1 (subst (Knows l forest table) h.0 k)
+-- of data with detached trees no recalculation is known
+pub knows-text : (l : Loaded) (forest : Forest) (n : ℕ) (text : List ℕ) → HasTrees forest → HasTrees (with_text n text forest) → are_hung forest.nodes ≡ true → IsSettable n forest → forest.next < 2 ^ 126
+    → (table : List Kept) (known holder : Option ℕ) (other stood : Bool) (still : Option ℕ) → stood ≡ has_text n text forest.nodes → IsKnownStill known holder other stood still → Knows l forest table known
+    → Knows l (with_text n text forest) (marked holder other n table) still
+knows-text l forest n text trees trees_after hung able small table known holder other stood None is h k = tt
+knows-text l forest n text trees trees_after hung able small table known holder other stood (Some model) is h k =
+    let one : IsKnown l forest table model = subst (Knows l forest table) h.0 k in
+    held l forest n text trees trees_after hung one.alone able small table model holder other stood is h.1 one

@@ -29,7 +29,7 @@ use Rattle.xf_recalc.specs.Settles.{IsLeft, MaySettle, contents_in, scope_in, se
 use Rattle.xf_work.specs.Settling.{StaysWhole}
 use Rattle.xf_work.proofs.Alone.{written-alone}
 use Rattle.xf_work.proofs.WholeLaws.{whole-still}
-use Rattle.xf_work.proofs.Written.{written-still}
+use Rattle.xf_work.proofs.Written.{IsStill, written-still}
 
 -- ---- contents that may be written
 
@@ -82,15 +82,18 @@ module _ (given : Given) (tables : Tables) (model : ℕ) (forest : Forest) (entr
   -- ---- what is left
 
   module _ (l : Loaded) (after : Forest) (trees : HasTrees after) where
-    written-whole : (done : ℕ → Bool) → after.nodes ≡ written done forest.next (contents_in scope entries forest) forest.nodes → StaysWhole l forest after
-    written-whole done is table built w =
-        let still = written-still done forest.next (contents_in scope entries forest) forest may-write w.hung in
-        whole-still l forest after may.around.trees trees table built w
-        (record { shaped = ap shape_of is ∙ still.shaped; hung = ap are_hung is ∙ still.hung })
-        (ap in_detached is ∙ written-alone done forest.next (contents_in scope entries forest) forest.nodes w.alone)
+    written-whole : (done : ℕ → Bool) → are_hung forest.nodes ≡ true → after.nodes ≡ written done forest.next (contents_in scope entries forest) forest.nodes → StaysWhole l forest after
+    written-whole done hung is =
+        let still = written-still done forest.next (contents_in scope entries forest) forest may-write hung in
+        let here : IsStill (shape_of forest.nodes) after.nodes = record { shaped = ap shape_of is ∙ still.shaped; hung = ap are_hung is ∙ still.hung } in
+        record {
+          whole = λ table flags built w. whole-still l forest after may.around.trees trees hung here table flags built w;
+          shape = here.shaped;
+          alone = λ none. ap in_detached is ∙ written-alone done forest.next (contents_in scope entries forest) forest.nodes none;
+        }
 
-    pub left-whole : IsLeft scope entries forest after → StaysWhole l forest after
-    left-whole left = written-whole left.done left.nodes
+    pub left-whole : are_hung forest.nodes ≡ true → IsLeft scope entries forest after → StaysWhole l forest after
+    left-whole hung left = written-whole left.done hung left.nodes
 
-    pub settled-whole : after ≡ settled_forest scope entries forest → StaysWhole l forest after
-    settled-whole is = written-whole all_done (ap (λ f. f.nodes) is ∙ sym (all-written forest.next (contents_in scope entries forest) forest.nodes))
+    pub settled-whole : are_hung forest.nodes ≡ true → after ≡ settled_forest scope entries forest → StaysWhole l forest after
+    settled-whole hung is = written-whole all_done hung (ap (λ f. f.nodes) is ∙ sym (all-written forest.next (contents_in scope entries forest) forest.nodes))

@@ -6,13 +6,11 @@ use Rattle.xf_binds.specs.Alike.{AreAlike}
 use Rattle.xf_binds.specs.Kept.{Kept, committed, recalculated, values_of}
 use Rattle.xf_binds.specs.Table.{all_committed, all_rolled_back, kept_at, with_kept}
 use Rattle.xf_controls.specs.declared.copy.ControlCopy.{ControlCopy}
-use Rattle.xf_controls.specs.Former.{Standing}
 use Rattle.xf_valid.specs.Nodes.{marks_in}
 use Rattle.xf_valid.proofs.AlikeLaws.{IsUnchanged, marks-committed, marks-kept, marks-with}
 use Rattle.xf_loader.specs.declared.loaded.Loaded.{Loaded}
 use Rattle.xf_work.specs.Setting.{mark_if, marked}
 use Rattle.xf_work.specs.Steady.{AreSteady}
-use Rattle.xf_work.proofs.Models.{back-again}
 use Rattle.xf_work.proofs.WholeLaws.{kept-set}
 
 -- nodes have the same properties by both
@@ -69,20 +67,7 @@ kept-again [] = refl
 kept-again (k ∷ ks) = ap (λ js. committed k ∷ js) (kept-again ks)
 
 -- what stands is kept
-pub committed-steady : (l : Loaded) (table : List Kept) (list : List ControlCopy) (b : Bool) → OnTrue b (AreSteady l table list) → (t : List Kept) (shown : Standing) → t ≡ all_committed table → shown ≡ record { now = list; kept = list }
-    → OnTrue b (AreSteady l t shown.now) × OnTrue b (AreSteady l (all_rolled_back t) shown.kept)
-committed-steady l table list b s t shown tabled listed =
-    let now : OnTrue b (AreSteady l (all_committed table) list) = on-steady l table (all_committed table) list b (marks-committed table) s in (
-      subst (λ (x : Standing). OnTrue b (AreSteady l t x.now)) (sym listed) (subst (λ ks. OnTrue b (AreSteady l ks list)) (sym tabled) now),
-      subst (λ (x : Standing). OnTrue b (AreSteady l (all_rolled_back t) x.kept)) (sym listed)
-          (subst (λ ks. OnTrue b (AreSteady l ks list)) (sym (ap all_rolled_back tabled ∙ kept-again table)) now),
-    )
-
--- what was kept stands
-pub back-steady : (l : Loaded) (table : List Kept) (before : Standing) (b : Bool) → OnTrue b (AreSteady l (all_rolled_back table) before.kept) → (t : List Kept) (shown : Standing) → t ≡ all_rolled_back table
-    → shown ≡ record { now = before.kept; kept = before.kept } → OnTrue b (AreSteady l t shown.now) × OnTrue b (AreSteady l (all_rolled_back t) shown.kept)
-back-steady l table before b s t shown tabled listed = (
-  subst (λ (x : Standing). OnTrue b (AreSteady l t x.now)) (sym listed) (subst (λ ks. OnTrue b (AreSteady l ks before.kept)) (sym tabled) s),
-  subst (λ (x : Standing). OnTrue b (AreSteady l (all_rolled_back t) x.kept)) (sym listed)
-      (subst (λ ks. OnTrue b (AreSteady l ks before.kept)) (sym (ap all_rolled_back tabled ∙ back-again table)) s),
-)
+pub committed-steady : (l : Loaded) (table : List Kept) (list : List ControlCopy) (b : Bool) → OnTrue b (AreSteady l table list) → OnTrue b (AreSteady l (all_committed table) list) × OnTrue b (AreSteady l (all_rolled_back (all_committed table)) list)
+committed-steady l table list b s =
+    let now : OnTrue b (AreSteady l (all_committed table) list) = on-steady l table (all_committed table) list b (marks-committed table) s in
+    (now, subst (λ ks. OnTrue b (AreSteady l ks list)) (sym (kept-again table)) now)

@@ -22,6 +22,12 @@ Does (Ok x) after given = given ≡ Ok (state_of after)
 Does (Err (fault.Refused refusal)) after given = IsRefused refusal given
 Does (Err fault.Memory) after given = Unit {0}
 
+-- a call that changes the state and gives a value, seen by view
+abbrev pub Makes : {X Y : Type 0} → (X → Y) → Result X WorkFault → Standing → Result (Y × State) Refused → Type 0
+Makes view (Ok x) after given = given ≡ Ok (view x, state_of after)
+Makes view (Err (fault.Refused refusal)) after given = IsRefused refusal given
+Makes view (Err fault.Memory) after given = Unit {0}
+
 -- a call that only gives a value, seen by view
 abbrev pub Finds : {X Y : Type 0} → (X → Y) → Result X WorkFault → Result Y Refused → Type 0
 Finds view (Ok x) given = given ≡ Ok (view x)

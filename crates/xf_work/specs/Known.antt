@@ -1,6 +1,7 @@
 -- What is known of the last recalculation of a model (XForms 1.1, section 4.3.2 and appendix C): how the data of now stand beside those that it
 -- left, by what the table keeps of it and what was marked since. So entries that are not pertinent may be passed over in the next one.
 use Rattle.std.specs.Prelude.{ℕ, ◌≡◌, ◌<◌, ◌==◌, Bool, true, false, List, [], length, Option, Some, None, slice_get}
+use Rattle.xf_doc.specs.Changes.{in_detached}
 use Rattle.xf_doc.specs.Forest.{Forest}
 use Rattle.xf_model.specs.Rules.{Scope}
 use Rattle.xf_model.specs.Applied.{Entry}
@@ -13,21 +14,11 @@ use Rattle.xf_marks_laws.specs.Outside.{IsOutside}
 use Rattle.xf_change_laws.specs.Carried.{Carried}
 use Rattle.xf_since_laws.specs.Since.{Before, Stood}
 use Rattle.xf_binds.specs.Kept.{Kept}
-use Rattle.xf_binds.specs.Table.{all_rolled_back, kept_at}
+use Rattle.xf_binds.specs.Table.{kept_at}
 use Rattle.xf_pertinent.specs.OfTable.{changes_in}
 use Rattle.xf_recalc.specs.Passes.{is_passed}
 use Rattle.xf_loader.specs.declared.loaded.Loaded.{Loaded}
-use Rattle.xf_undo.specs.Draft.{Draft}
-use Rattle.xf_work.specs.declared.flags.Flags.{Flags}
 use Rattle.xf_work.specs.Built.{scope_at}
-use Rattle.xf_controls.specs.declared.known.Known as bound
-use Rattle.xf_work.specs.Held.{IsHeld}
-use Rattle.xf_controls.specs.Bound.{AllBound}
-use Rattle.xf_controls.specs.Former.{Standing}
-use Rattle.xf_ui.specs.Interface.{interface_of}
-use Rattle.xf_work.specs.Parts.{IsSound}
-use Rattle.xf_work.specs.Steady.{AreSteady}
-use Rattle.std.specs.Bool.{OnTrue}
 
 -- the data as they were then, and what of them stands now
 pub record IsRemembered (scope : Scope) (forest : Forest) (k : Kept) : Type 0 where
@@ -41,22 +32,16 @@ pub record IsRemembered (scope : Scope) (forest : Forest) (k : Kept) : Type 0 wh
   pub unlisted : k.lists ≡ []
   pub solid : AllOf (λ n. IsSolid (standing forest) n) k.texts
 
+-- of a model: no tree is detached
+pub record IsKnown (l : Loaded) (forest : Forest) (table : List Kept) (model : ℕ) : Type 0 where
+  pub there : model < length table
+  pub alone : in_detached forest.nodes ≡ []
+  pub remembered : IsRemembered (scope_at l forest model) forest (kept_at table model)
+
 -- of the model that is told
 abbrev pub Knows : Loaded → Forest → List Kept → Option ℕ → Type 0
 Knows l forest table None = Unit {0}
-Knows l forest table (Some model) = (model < length table) × IsRemembered (scope_at l forest model) forest (kept_at table model)
-
--- all that is known of what an engine works on, as it stands and as it was kept
-pub record IsFit (l : Loaded) (draft : Draft) (table : List Kept) (flags old_flags : List Flags) (built old_built : ℕ) (known old_known : Option ℕ) (bound_nodes : List bound.Known) (is_bound : Bool) (shown : Standing) (is_steady was_steady : Bool) : Type 0 where
-  pub sound : IsSound l draft table flags old_flags built old_built
-  pub now : Knows l draft.now table known
-  pub before : Knows l draft.kept (all_rolled_back table) old_known
-  -- what is known of the nodes of controls is so
-  pub held : IsHeld l bound_nodes
-  pub bound : OnTrue is_bound (AllBound (interface_of l.form) bound_nodes)
-  -- what is known of the controls is so
-  pub steady : OnTrue is_steady (AreSteady l table shown.now)
-  pub steady_before : OnTrue was_steady (AreSteady l (all_rolled_back table) shown.kept)
+Knows l forest table (Some model) = IsKnown l forest table model
 
 -- ---- marks that stay
 
@@ -70,11 +55,16 @@ KeepsMarks before after = (model : ℕ) → HasMarks (kept_at before model) (kep
 
 -- ---- what may be passed over
 
--- entries that are not pertinent, where the last recalculation is known
+-- an entry that is not pertinent, where the last recalculation is known
+pub record MayPass (l : Loaded) (forest : Forest) (model : ℕ) (k : Kept) (e : Entry) : Type 0 where
+  pub alone : in_detached forest.nodes ≡ []
+  pub remembered : IsRemembered (scope_at l forest model) forest k
+  pub outside : IsOutside (scope_at l forest model) forest (changes_in k) k.entries e
+
+-- those that are not marked may be passed over
 abbrev pub MayBePassed : Loaded → Forest → ℕ → Kept → List Bool → Type 0
 MayBePassed l forest model k marks =
-    (place : ℕ) (e : Entry) → slice_get k.entries place ≡ Some e → is_passed marks place ≡ true → is_computed e ≡ true →
-    IsRemembered (scope_at l forest model) forest k × IsOutside (scope_at l forest model) forest (changes_in k) k.entries e
+    (place : ℕ) (e : Entry) → slice_get k.entries place ≡ Some e → is_passed marks place ≡ true → is_computed e ≡ true → MayPass l forest model k e
 
 abbrev pub is_of : Option ℕ → ℕ → Bool
 is_of None model = false

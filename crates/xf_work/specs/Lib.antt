@@ -13,5 +13,9 @@ pub mod Ground
 pub mod Grown
 pub mod Settling
 pub mod Setting
+pub mod Moving
 pub mod Known
 pub mod Steady
+pub mod Marked
+pub mod FirstData
+pub mod Fit

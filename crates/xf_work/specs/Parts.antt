@@ -67,5 +67,5 @@ pub record IsSound (l : Loaded) (draft : Draft) (table : List Kept) (flags old_f
   pub many : length table ≡ length flags
   pub kept : length old_flags ≡ length flags
   pub few : length flags < 2 ^ 32
-  pub now : IsWhole l draft.now table built
-  pub before : IsWhole l draft.kept (all_rolled_back table) old_built
+  pub now : IsWhole l draft.now table flags built
+  pub before : IsWhole l draft.kept (all_rolled_back table) old_flags old_built

@@ -1,6 +1,8 @@
 -- The settling of a model's texts over a draft, and why it is refused.
-use Rattle.std.specs.Prelude.{ℕ, ◌≡◌, List, map, Contains}
+use Rattle.std.specs.Prelude.{ℕ, ◌≡◌, List, [], map, Contains}
+use Rattle.xf_doc.specs.Changes.{in_detached}
 use Rattle.xf_doc.specs.Forest.{Forest}
+use Rattle.xf_doc.specs.Shape.{shape_of}
 use Rattle.xf_form_machine.specs.declared.limit.LimitWord.{LimitWord}
 use Rattle.xf_form_machine.specs.declared.limit.LimitWord.TheVariants as word
 use Rattle.xf_form_machine.specs.Refusal.{word_of}
@@ -12,11 +14,14 @@ use Rattle.xf_recalc.specs.declared.fault.SettleFault.{SettleFault}
 use Rattle.xf_recalc.specs.declared.fault.SettleFault.TheVariants as settle
 use Rattle.xf_work.specs.declared.fault.WorkFault.{WorkFault}
 use Rattle.xf_work.specs.declared.fault.WorkFault.TheVariants.{Refused, Memory}
+use Rattle.xf_work.specs.declared.flags.Flags.{Flags}
 use Rattle.xf_work.specs.Built.{IsWhole}
 
--- whatever is built over the one is so over the other
-abbrev pub StaysWhole : Loaded → Forest → Forest → Type 0
-StaysWhole l before after = (table : List Kept) (built : ℕ) → IsWhole l before table built → IsWhole l after table built
+-- whatever is built over the one is so over the other, which has its shape, and no detached tree where the one has none
+pub record StaysWhole (l : Loaded) (before after : Forest) : Type 0 where
+  pub whole : (table : List Kept) (flags : List Flags) (built : ℕ) → IsWhole l before table flags built → IsWhole l after table flags built
+  pub shape : shape_of after.nodes ≡ shape_of before.nodes
+  pub alone : in_detached before.nodes ≡ [] → in_detached after.nodes ≡ []
 
 abbrev pub fault_of : SettleFault → WorkFault
 fault_of settle.Long = Refused (Limit word.Long)

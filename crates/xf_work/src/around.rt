@@ -119,7 +119,7 @@ fn push_documents(
 }
 
 /// The document element of an instance.
-fn document(forest: &Forest, instance: u32) -> Option<NodeId>
+pub(crate) fn document(forest: &Forest, instance: u32) -> Option<NodeId>
     ensures { option_map (λ n. n.number) result ≡ document_below forest.now.forest.nodes (root_of instance forest.now.forest.nodes) }
 {
     match forest.root(instance) {

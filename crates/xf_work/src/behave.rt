@@ -11,9 +11,9 @@ ghost use Rattle.xf_work.specs.Does.{Does, built_after};
 ghost use Rattle.xf_work.specs.Standing.{state_of};
 
 use crate::fault::WorkFault;
-use crate::flags::{Flag, clear, set_refresh};
+use crate::flags::{Flag, clear, is_rebuild_due, set_refresh};
 use crate::growing::grown;
-use crate::knowing::{known_still, marks_for};
+use crate::knowing::{known_of, known_still, marks_for};
 use crate::rebuilding::rebuild;
 use crate::recalculating::settle_texts;
 use crate::setting::{holder, is_other, mark, may_set, set_text};
@@ -35,7 +35,7 @@ impl Work {
         let forest = self.draft.forest();
         match rebuild(self.alloc, &self.loaded, forest, model, &mut self.table) {
             Ok(()) => {
-                self.is_steady = false;
+                self.knowledge.is_steady = false;
                 clear(self.flags.as_mut_slice(), model, Flag::Rebuild);
                 self.built = self.built.max(model as u64 + 1);
                 Ok(())
@@ -45,7 +45,7 @@ impl Work {
     }
 
     /// Settles the texts that are calculated, and evaluates the other entries: the pertinent ones alone, where the last recalculation of the model
-    /// is known.
+    /// is known. A model whose rebuild is due is refused for want of memory.
     pub fn recalculate(&mut self, model: u32) -> Result<(), WorkFault>
         requires model { model < length self.old.now.models }
         requires built { model < self.old.built }
@@ -54,12 +54,16 @@ impl Work {
         ensures built { self.new.built ≡ self.old.built }
         ensures models { length self.new.now.models ≡ length self.old.now.models }
     {
+        if is_rebuild_due(self.flags.as_slice(), model) {
+            // Nobody asks it then: the rebuild of a model goes before.
+            return Err(WorkFault::Memory);
+        }
         let tables = &self.loaded.form.tables;
         let forest = self.draft.forest();
         let marks = pertinent_marks(self.alloc, tables, forest, &self.table, model)?;
         let count = pertinent_count(&marks);
-        let known = self.known;
-        self.known = None;
+        let known = self.knowledge.known;
+        self.knowledge.known = None;
         let before = self.draft.forest().next_number();
         let truths = settle_texts(
             self.alloc,
@@ -71,9 +75,10 @@ impl Work {
         )?;
         let made = self.draft.forest().next_number() - before;
         self.tally = grown(self.tally, made, count)?;
-        self.is_steady = self.is_steady && self.table.keeps_properties(model, &truths);
+        self.knowledge.is_steady = self.knowledge.is_steady
+            && self.table.keeps_properties(model, &truths);
         self.table.recalculated(model, truths);
-        self.known = Some(model);
+        self.knowledge.known = known_of(self.knowledge.is_alone, model);
         clear(self.flags.as_mut_slice(), model, Flag::Recalculate);
         Ok(())
     }
@@ -94,7 +99,7 @@ impl Work {
             model,
             &mut self.table,
         )?;
-        self.is_steady = self.is_steady && is_same;
+        self.knowledge.is_steady = self.knowledge.is_steady && is_same;
         clear(self.flags.as_mut_slice(), model, Flag::Revalidate);
         Ok(())
     }
@@ -133,8 +138,8 @@ impl Work {
         let is_other = is_other(forest, node, text)?;
         forest.are_trees();
         let stood = forest.has_text(node, text);
-        let known = known_still(self.known, holder, is_other, stood);
-        self.known = None;
+        let known = known_still(self.knowledge.known, holder, is_other, stood);
+        self.knowledge.known = None;
         let made = set_text(&mut self.draft, node, text)?;
         self.draft.forest().are_trees();
         self.tally = grown(self.tally, made, 0)?;
@@ -145,7 +150,7 @@ impl Work {
             node,
             is_other,
         )?;
-        self.known = known;
+        self.knowledge.known = known;
         Ok(())
     }
 }

@@ -43,15 +43,20 @@ impl Work {
     pub fn commit(&mut self)
         ensures { IsKept self.old self.new }
     {
+        let forest = self.draft.forest();
+        forest.are_trees();
+        let _ = forest.next_number();
+        self.draft.are_ahead();
         self.draft.commit();
+        self.draft.forest().are_trees();
         self.table.commit();
         self.shown.commit();
-        self.was_steady = self.is_steady;
         copy(self.flags.as_slice(), self.old_flags.as_mut_slice());
         self.tally = self.tally.begun();
         self.old_tally = self.tally;
         self.old_built = self.built;
-        self.old_known = self.known;
+        self.knowledge.is_alone = true;
+        self.old_knowledge = self.knowledge;
     }
 
     /// What was kept stands again. Takes no memory.
@@ -63,11 +68,10 @@ impl Work {
         self.draft.roll_back();
         self.table.roll_back();
         self.shown.roll_back();
-        self.is_steady = self.was_steady;
         copy(self.old_flags.as_slice(), self.flags.as_mut_slice());
         self.tally = self.old_tally;
         self.built = self.old_built;
-        self.known = self.old_known;
+        self.knowledge = self.old_knowledge;
     }
 }
 

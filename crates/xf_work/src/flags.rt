@@ -2,8 +2,8 @@
 
 ghost use Rattle.std.specs.Prelude.{◌≡◌, ◌<◌, map, length, get_or, slice_set};
 ghost use Rattle.std.specs.List.{list_any};
-ghost use Rattle.xf_form_machine.specs.Behave.{no_flags};
 ghost use Rattle.xf_form_machine.specs.Update.{has_flag};
+ghost use Rattle.xf_work.specs.Built.{is_rebuild_due};
 ghost use Rattle.xf_work.specs.Flags.{flag_of, flags_of, none_due, without, without_refresh, with_refresh, with_texts};
 
 /// A behaviour of a model that may be due alone.
@@ -130,6 +130,14 @@ pub(crate) fn is_due(flags: &[Flags]) -> bool
     ensures { result ≡ list_any (λ f. has_flag (flags_of f)) flags.now }
 {
     flags.iter().any(|flags| flags.is_some())
+}
+
+/// Whether the rebuild of a model is due.
+pub(crate) fn is_rebuild_due(flags: &[Flags], model: u32) -> bool
+    requires { model < length flags.now }
+    ensures { result ≡ is_rebuild_due flags.now model }
+{
+    flags[model as usize].rebuild
 }
 
 /// Whether the refresh of one of the models is due.

@@ -8,15 +8,15 @@ use xf_valid::marks_at;
 
 /// The properties of the nodes of a forest, as a table gives them.
 #[derive(Clone, Copy)]
-pub(crate) struct Marked<'a> {
-    pub forest: &'a Forest,
-    pub table: &'a Table,
+pub struct Marked<'a> {
+    pub(crate) forest: &'a Forest,
+    pub(crate) table: &'a Table,
 }
 
 impl<'a> NodeMarks for Marked<'a> {
-    ghost use Rattle.xf_valid.specs.Nodes.{marks_in};
+    ghost use Rattle.xf_work.specs.Marked.{properties_of};
 
-    ghost marks_of = { λ m n. marks_in m.table.now m.forest.now.forest.nodes n };
+    ghost marks_of = { properties_of };
 
     fn marks(&self, node: NodeId) -> Marks {
         marks_at(self.forest, self.table, node)

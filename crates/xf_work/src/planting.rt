@@ -11,6 +11,7 @@ use crate::fault::WorkFault;
 use crate::flags::Flags;
 use crate::growing::{MADE, NUMBERS};
 use crate::holding::held;
+use crate::knowing::Knowledge;
 use crate::tally::{TURNS, Tally};
 use crate::work::Work;
 use std::alloc::Global;
@@ -60,6 +61,12 @@ fn work_on(alloc: Global, loaded: Loaded, begun: Ground) -> Work
         made: begun.made,
         evaluated: 0,
     };
+    let knowledge = Knowledge {
+        known: None,
+        is_steady: false,
+        is_planted: true,
+        is_alone: true,
+    };
     Work {
         alloc,
         loaded,
@@ -72,12 +79,11 @@ fn work_on(alloc: Global, loaded: Loaded, begun: Ground) -> Work
         old_tally: tally,
         built: 0,
         old_built: 0,
-        known: None,
-        old_known: None,
+        knowledge,
+        old_knowledge: knowledge,
         bound_nodes: begun.bound_nodes,
         is_bound: begun.is_bound,
-        is_steady: false,
-        was_steady: false,
+        first_data: None,
     }
 }
 

@@ -6,7 +6,8 @@ ghost use Rattle.xf_agree_laws.specs.Hung.{are_hung};
 ghost use Rattle.xf_binds.specs.Kept.{recalculated};
 ghost use Rattle.xf_binds.specs.Table.{kept_at};
 ghost use Rattle.xf_recalc.specs.Settles.{IsSettled, words_of};
-ghost use Rattle.xf_work.specs.Built.{IsBuilt, scope_at};
+ghost use Rattle.xf_rebuild.specs.Built.{IsBuilt};
+ghost use Rattle.xf_work.specs.Built.{scope_at};
 ghost use Rattle.xf_work.specs.Known.{IsRemembered, MayBePassed};
 ghost use Rattle.xf_work.specs.Parts.{IsLoaded};
 ghost use Rattle.xf_work.specs.Settling.{IsPassed, StaysWhole, fault_of};
@@ -33,12 +34,11 @@ pub(crate) fn settle_texts(
 ) -> Result<TruthList, WorkFault>
     requires loaded { IsLoaded loaded.now }
     requires hung { are_hung draft.old.now.nodes ≡ true }
-    requires alone { in_detached draft.old.now.nodes ≡ [] }
     requires built { IsBuilt (scope_at loaded.now draft.old.now model) draft.old.now.nodes (kept_at table.now model) }
     requires passes { MayBePassed loaded.now draft.old.now model (kept_at table.now model) marks.now }
     ensures ok { IfOk result (λ truths. IsSettled (scope_at loaded.now draft.old.now model) (kept_at table.now model).entries draft.old.now draft.new.now truths) }
     ensures err { IfErr result (λ fault. IsPassed fault (words_of (scope_at loaded.now draft.old.now model) (kept_at table.now model).entries draft.old.now)) }
-    ensures known { IfOk result (λ truths. IsRemembered (scope_at loaded.now draft.new.now model) draft.new.now (recalculated truths (kept_at table.now model))) }
+    ensures known { IfOk result (λ truths. in_detached draft.old.now.nodes ≡ [] → IsRemembered (scope_at loaded.now draft.new.now model) draft.new.now (recalculated truths (kept_at table.now model))) }
     ensures whole { StaysWhole loaded.now draft.old.now draft.new.now }
     ensures kept { draft.new.kept ≡ draft.old.kept }
 {

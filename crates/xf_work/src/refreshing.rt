@@ -14,9 +14,11 @@ ghost use Rattle.xf_work.specs.Standing.{state_of};
 
 use crate::fault::WorkFault;
 use crate::flags::{clear_refresh, set_refresh};
+use crate::knowing::{may_be_steady, may_renew};
 use crate::showing::{shown, told};
 use crate::work::Work;
 use std::alloc::Global;
+use xf_base::Items;
 use xf_controls::{ControlList, NotificationList, Shown, notifications};
 use xf_tree::Forest;
 
@@ -61,12 +63,12 @@ impl Work {
         ensures kept { self.new.kept ≡ self.old.kept }
         ensures built { self.new.built ≡ self.old.built }
     {
-        if self.is_steady {
-            self.is_steady = false;
+        if may_renew(self.knowledge) {
+            self.knowledge.is_steady = false;
             let forest = self.draft.forest();
             forest.are_trees();
             let told = renew(self.alloc, forest, &mut self.shown)?;
-            self.is_steady = true;
+            self.knowledge.is_steady = true;
             return Ok(told);
         }
         self.show_others()
@@ -84,17 +86,23 @@ impl Work {
         Ok(told)
     }
 
-    /// The controls made afresh.
+    /// The controls made afresh. Over data of another shape than that which was planted nothing is known of their nodes.
     fn made_afresh(&self) -> Result<ControlList, WorkFault>
         ensures { Finds (map seen_copy) result (update.shown profile (state_of self.now.now)) }
     {
-        shown(
-            self.alloc,
-            &self.loaded,
-            self.draft.forest(),
-            &self.table,
-            &self.bound_nodes,
-        )
+        let forest = self.draft.forest();
+        forest.are_trees();
+        if self.knowledge.is_planted {
+            return shown(
+                self.alloc,
+                &self.loaded,
+                forest,
+                &self.table,
+                &self.bound_nodes,
+            );
+        }
+        let nothing = Items::new(self.alloc);
+        shown(self.alloc, &self.loaded, forest, &self.table, &nothing)
     }
 
     /// Takes these controls, which were made afresh.
@@ -106,7 +114,8 @@ impl Work {
     {
         self.draft.forest().are_trees();
         self.shown.take(list);
-        self.is_steady = self.is_bound && self.shown.is_rising();
+        let may_be = may_be_steady(self.knowledge, self.is_bound);
+        self.knowledge.is_steady = may_be && self.shown.is_rising();
     }
 }
 

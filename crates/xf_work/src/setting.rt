@@ -21,8 +21,8 @@ use xf_report::{instance_holding, path_in};
 use xf_tree::Forest;
 use xf_undo::Draft;
 
-/// Whether the text of a node may be set. An element with elements in it has none of its own: a binding exception (section 4.5.1). A control
-/// binds elements and attributes alone.
+/// Whether the text of a node may be set. An element with elements in it has none of its own: a binding exception (section 4.5.1). A binding
+/// gives elements and attributes alone.
 pub(crate) fn may_set(
     alloc: Global,
     instances: &[Instance],

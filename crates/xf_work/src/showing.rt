@@ -2,11 +2,12 @@
 
 ghost use Rattle.std.specs.Prelude.{◌≡◌, true, map, nat_lt};
 ghost use Rattle.xf_agree_laws.specs.Hung.{are_hung};
+ghost use Rattle.xf_controls.specs.Known.{AreKnown};
 ghost use Rattle.xf_controls.specs.Seen.{seen_copy};
-ghost use Rattle.xf_doc.specs.Shape.{shape_of};
 ghost use Rattle.xf_ui.specs.Copies.{copy_count};
+ghost use Rattle.xf_ui.specs.Interface.{interface_of};
 ghost use Rattle.xf_work.specs.Calls.{IsWithin, Shows, long_or_memory};
-ghost use Rattle.xf_work.specs.Held.{IsHeld, planted_shape};
+ghost use Rattle.xf_work.specs.Held.{around_over};
 ghost use Rattle.xf_work.specs.Parts.{IsLoaded};
 
 use crate::around::{Quiet, documents};
@@ -23,7 +24,7 @@ use xf_tree::Forest;
 /// The copies of controls and items that a form may have.
 const CONTROLS: usize = 65_536;
 
-/// The controls of a form made afresh over its data and what its binds set.
+/// The controls of a form made afresh over its data and what its binds set, by what is known of their nodes.
 pub(crate) fn shown(
     alloc: Global,
     loaded: &Loaded,
@@ -33,8 +34,7 @@ pub(crate) fn shown(
 ) -> Result<ControlList, WorkFault>
     requires loaded { IsLoaded loaded.now }
     requires hung { are_hung forest.now.forest.nodes ≡ true }
-    requires shape { shape_of forest.now.forest.nodes ≡ planted_shape loaded.now }
-    requires known { IsHeld loaded.now known.now }
+    requires known { AreKnown (interface_of loaded.now.form) (around_over loaded.now forest.now.forest) forest.now.forest.nodes known.now }
     ensures { Shows loaded.now forest.now.forest table.now result }
 {
     let instances = loaded.form.tables.instances.as_slice();

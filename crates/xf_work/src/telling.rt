@@ -1,6 +1,6 @@
 //! The text of a state.
 
-ghost use Rattle.std.specs.Prelude.{◌≡◌, ◌++◌, OnOk, length, string_bytes};
+ghost use Rattle.std.specs.Prelude.{OnOk, string_bytes};
 ghost use Rattle.xf_work.specs.Calls.{Writes};
 ghost use Rattle.xf_work.specs.Parts.{IsLoaded};
 

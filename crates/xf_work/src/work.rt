@@ -1,6 +1,6 @@
 //! What an engine works on, and what is read of it.
 
-ghost use Rattle.std.specs.Prelude.{◌≡◌, ◌<◌, ◌++◌, [], None, true, map, find, length, option_map, string_bytes, IfErr, OnOk};
+ghost use Rattle.std.specs.Prelude.{◌≡◌, ◌<◌, ◌++◌, [], None, true, find, length, option_map, string_bytes, IfErr, OnOk};
 ghost use Rattle.xf_controls.specs.Plain.{is_plain};
 ghost use Rattle.xf_controls.specs.Seen.{is_copy_at, seen_copy};
 ghost use Rattle.xf_doc.specs.Changes.{root_of};
@@ -9,7 +9,7 @@ ghost use Rattle.xf_form_machine.specs.ControlText.{state_text};
 ghost use Rattle.xf_form_machine.specs.Primitives.{spend as spent};
 ghost use Rattle.xf_form_machine.specs.Surround.{interface};
 ghost use Rattle.xf_form_machine.specs.Update as update;
-ghost use Rattle.xf_form_machine.specs.Properties.{readonly_in};
+ghost use Rattle.xf_form_machine.specs.Properties.{marks_in, readonly_in};
 ghost use Rattle.xf_machine_laws.specs.Rowless.{IsWithoutRows};
 ghost use Rattle.xf_processor.specs.Formed.{documents_in, profile, program_in};
 ghost use Rattle.xf_form_machine.specs.declared.refusal.Refusal.TheVariants.{Budget};
@@ -17,10 +17,13 @@ ghost use Rattle.xf_work.specs.declared.fault.WorkFault.TheVariants.{Refused};
 ghost use Rattle.xf_work.specs.Does.{Does};
 ghost use Rattle.xf_work.specs.Flags.{flag_of};
 ghost use Rattle.xf_work.specs.Held.{last_place};
+ghost use Rattle.xf_work.specs.Marked.{properties_of};
 ghost use Rattle.xf_work.specs.Standing.{state_of};
 
 use crate::fault::WorkFault;
 use crate::flags::{Flag, Flags, is_due, is_refresh_due};
+use crate::knowing::Knowledge;
+use crate::marks::Marked;
 use crate::tally::Tally;
 use crate::telling::push_text;
 use std::alloc::{AllocError, Global};
@@ -28,7 +31,7 @@ use std::marker::Model;
 use xf_ast::Form;
 use xf_binds::Table;
 use xf_controls::{ControlCopy, KnownList, Shown, control_of};
-use xf_doc::NodeId;
+use xf_doc::{BareList, NodeId};
 use xf_form_machine::Refusal;
 use xf_loaded_laws::loaded_forms_are_without_rows;
 use xf_loader::Loaded;
@@ -50,16 +53,15 @@ pub struct Work {
     pub(crate) old_tally: Tally,
     pub(crate) built: u64,
     pub(crate) old_built: u64,
-    // The model of which the last recalculation is known: since then its data have changed where they are marked alone.
-    pub(crate) known: Option<u32>,
-    pub(crate) old_known: Option<u32>,
+    // What is known of what stands, and of what was kept.
+    pub(crate) knowledge: Knowledge,
+    pub(crate) old_knowledge: Knowledge,
     // The nodes that controls bind whatever texts the data have.
     pub(crate) bound_nodes: KnownList,
     // Whether these are all that is shown.
     pub(crate) is_bound: bool,
-    // Whether the controls differ from those made afresh in the values of their nodes alone: texts alone have changed since the last refresh.
-    pub(crate) is_steady: bool,
-    pub(crate) was_steady: bool,
+    // Of each instance the document element as construction left it, once it has ended.
+    pub(crate) first_data: Option<BareList>,
 }
 
 impl Model for Work {
@@ -67,7 +69,7 @@ impl Model for Work {
     ghost use Rattle.xf_ast.specs.contracts.expr.Expr as expr;
     ghost use Rattle.xf_binds.specs.Table.{all_rolled_back};
     ghost use Rattle.xf_work.specs.Does.{Twin};
-    ghost use Rattle.xf_work.specs.Known.{IsFit};
+    ghost use Rattle.xf_work.specs.Fit.{IsFit};
     ghost use Rattle.xf_work.specs.Parts.{standing_of};
 
     ghost Value = { Twin };
@@ -83,7 +85,7 @@ impl Model for Work {
       built = w.built;
     } };
 
-    ghost invariant = { λ w. IsFit w.loaded w.draft w.table w.flags.items w.old_flags.items w.built w.old_built w.known w.old_known w.bound_nodes w.is_bound w.shown w.is_steady w.was_steady };
+    ghost invariant = { IsFit };
 }
 
 impl Work {
@@ -204,6 +206,16 @@ impl Work {
         ensures { result ≡ readonly_in (state_of self.now.now) node.number }
     {
         marks_at(self.draft.forest(), &self.table, node).readonly
+    }
+
+    /// The data with the properties of their nodes.
+    pub fn marks(&self) -> Marked<'_>
+        ensures { properties_of result ≡ marks_in (state_of self.now.now) }
+    {
+        Marked {
+            forest: self.draft.forest(),
+            table: &self.table,
+        }
     }
 
     /// The copy of an element that stands in no row.

@@ -3,22 +3,23 @@ use Rattle.xf_binds.specs.Table.{all_rolled_back}
 use Rattle.xf_controls.specs.Former.{Standing}
 use Rattle.xf_work.specs.Parts.{standing_of}
 use Rattle.xf_work.specs.Planting.{IsBegun, planted_by}
-use Rattle.xf_work.proofs.BegunLaws.{begun-is, begun-sound, first_tally, shape-planted}
+use Rattle.xf_work.proofs.BegunLaws.{begun-alone, begun-before, begun-is, begun-now, begun-sound, first_tally, shape-planted}
 use Rattle.xf_work.proofs.planting.work_on.Goals as goal
 
 pub invariant_of-result : goal.invariant_of-result
 invariant_of-result c =
     let g = c.args.begun in
     let given = c.requires.begun in
+    let shaped = shape-planted c.args.loaded g.forest.forest g.made given.grown in
     record {
+      sound = begun-sound c.args.loaded g.forest.forest g.made (length c.args.loaded.form.models) c.new.result g.table g.flags.items g.old_flags.items [] given.alone c.new.ensures given.table given.flags given.old_flags
+          c.requires.loaded given.hung (given.held.few g.forest.forest.nodes shaped) given.few;
+      now = begun-now c.args.loaded g.forest.forest g.made (length c.args.loaded.form.models) c.new.result g.table g.flags.items g.old_flags.items [] given.alone c.new.ensures given.table given.flags given.old_flags shaped _ _;
+      before = begun-before c.args.loaded g.forest.forest g.made (length c.args.loaded.form.models) c.new.result g.table g.flags.items g.old_flags.items [] given.alone c.new.ensures given.table given.flags given.old_flags shaped _ _;
+      alone = begun-alone c.args.loaded g.forest.forest g.made (length c.args.loaded.form.models) c.new.result g.table g.flags.items g.old_flags.items [] given.alone c.new.ensures given.table given.flags given.old_flags;
       held = given.held;
       bound = given.bound;
-      steady = tt;
-      steady_before = tt;
-      sound = begun-sound c.args.loaded g.forest.forest g.made (length c.args.loaded.form.models) c.new.result g.table g.flags.items g.old_flags.items [] given.alone c.new.ensures given.table given.flags given.old_flags
-          c.requires.loaded given.hung (shape-planted c.args.loaded g.forest.forest g.made given.grown) given.few;
-      now = tt;
-      before = tt;
+      first = tt;
     }
 
 pub returns : goal.returns

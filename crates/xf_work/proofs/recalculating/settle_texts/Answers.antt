@@ -53,10 +53,10 @@ settle-settled-requires-clause-passes c =
     let small : d.next < 2 ^ 126 = omega (arith, n, f, b) in
     let many : length k.entries < 2 ^ 64 = let e = c.len.ensures in let t = c.len.type_inv in omega (arith, e, t) in
     subst (λ g. ArePassed g l.form.tables c.args.model d k c.args.marks.now) (sym given)
-    (are-passed l d c.args.model k c.requires.loaded trees c.requires.hung c.requires.alone small many c.requires.built c.args.marks.now c.requires.passes)
+    (are-passed l d c.args.model k c.requires.loaded trees c.requires.hung small many c.requires.built c.args.marks.now c.requires.passes)
 
 pub returns-in-Ok-clause-known : goal.returns-in-Ok-clause-known
-returns-in-Ok-clause-known c =
+returns-in-Ok-clause-known c = λ alone.
     let l = c.args.loaded.now in
     let d = c.args.draft.now.now in
     let k = kept_at c.args.table.now c.args.model in
@@ -71,7 +71,7 @@ returns-in-Ok-clause-known c =
     let may = may-settle l d c.args.model k c.requires.loaded trees c.requires.hung small c.requires.built in
     let e = c.settle-settled.new.draft.now in
     let stands : HasTrees e = subst HasTrees c.forest-4.ensures (in_forest c.are_trees-2.ensures) in
-    known-anew l d c.args.model k c.requires.loaded trees c.requires.hung c.requires.alone small many c.requires.built e c.in-Ok.truths
+    known-anew l d c.args.model k c.requires.loaded trees c.requires.hung small many c.requires.built alone e c.in-Ok.truths
     (subst (λ g. IsSettled (scope_in g l.form.tables c.args.model) k.entries d e c.in-Ok.truths) given c.in-Ok.ensures.ok) may stands
 
 pub returns-in-Ok-clause-ok : goal.returns-in-Ok-clause-ok
@@ -97,7 +97,7 @@ returns-in-Ok-clause-whole c =
     let e = c.settle-settled.new.draft.now in
     let es = (kept_at c.args.table.now c.args.model).entries in
     let stands : HasTrees e = subst HasTrees c.forest-4.ensures (in_forest c.are_trees-2.ensures) in
-    settled-whole _ l.form.tables c.args.model d es may l e stands (subst (λ g. IsSettled (scope_in g l.form.tables c.args.model) es d e c.in-Ok.truths) given c.in-Ok.ensures.ok).written
+    settled-whole _ l.form.tables c.args.model d es may l e stands c.requires.hung (subst (λ g. IsSettled (scope_in g l.form.tables c.args.model) es d e c.in-Ok.truths) given c.in-Ok.ensures.ok).written
 
 pub returns-clause-err : goal.returns-clause-err
 returns-clause-err c =
@@ -124,4 +124,4 @@ returns-clause-whole c =
     let e = c.settle-settled.new.draft.now in
     let es = (kept_at c.args.table.now c.args.model).entries in
     let stands : HasTrees e = subst HasTrees c.forest-4.ensures (in_forest c.are_trees-2.ensures) in
-    left-whole _ l.form.tables c.args.model d es may l e stands (subst (λ g. IsLeft (scope_in g l.form.tables c.args.model) es d e) given c.in-Err.ensures.left)
+    left-whole _ l.form.tables c.args.model d es may l e stands c.requires.hung (subst (λ g. IsLeft (scope_in g l.form.tables c.args.model) es d e) given c.in-Err.ensures.left)

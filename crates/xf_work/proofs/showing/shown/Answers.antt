@@ -1,5 +1,4 @@
 use Rattle.std.proofs.Common.{◌≡◌, List, [], map, None, Err, sym, ap, ◌∙◌, subst, ◌⊎◌}
-use Rattle.xf_doc.proofs.TextLaws.{in_forest}
 use Rattle.xf_lang.specs.declared.fault.EvalFault.TheVariants as eval
 use Rattle.xf_ui.specs.Interface.{interface_of}
 use Rattle.xf_form_machine.specs.Update as update
@@ -35,7 +34,7 @@ controls-requires-clause-known c =
     subst (λ g. AreKnown (interface_of l.form) (around_in g l.form.tables forest.nodes) forest.nodes c.args.known.now)
     (sym (given-found l.form.tables.instances c.as_slice-instances.result.now l.prefixes l.form.decimals forest (numbers_of c.as_slice.result.now) c.as_slice-instances.ensures
     (ap numbers_of c.as_slice.ensures.value ∙ c.in_ok-documents.ensures.all)))
-    (c.requires.known.over forest (in_forest c.are_trees.ensures) c.requires.hung c.requires.shape)
+    c.requires.known
 
 pub returns-in-Ok : goal.returns-in-Ok
 returns-in-Ok c = λ flags controls tally many.

@@ -7,4 +7,4 @@ use Rattle.xf_work.proofs.work.Work.few_roots.Goals as goal
 pub returns : goal.returns
 returns c =
     let w = c.self.inside in
-    subst (λ (t : Twin). root_of last_place t.now.forest.nodes ≡ None) c.self.view_is (c.self.invariant.held.few w.draft.now.nodes c.self.invariant.sound.now.shape)
+    subst (λ (t : Twin). root_of last_place t.now.forest.nodes ≡ None) c.self.view_is c.self.invariant.sound.now.few

@@ -1,4 +1,4 @@
-use Rattle.std.proofs.Common.{◌≡◌, true, get_or, length, sym, ap, ◌∙◌}
+use Rattle.std.proofs.Common.{◌≡◌, true, get_or, length, refl, sym, ap, ◌∙◌, subst}
 use Rattle.std.proofs.lemmas.List.{with_items_is}
 use Rattle.std.specs.Prelude.{slice_set}
 use Rattle.std.specs.Vec.{with_items}
@@ -9,6 +9,7 @@ use Rattle.xf_work.specs.Parts.{standing_of}
 use Rattle.xf_work.specs.Standing.{state_of}
 use Rattle.xf_work.proofs.Models.{flags-length, refresh-due}
 use Rattle.xf_work.proofs.SoundLaws.{sound-flags}
+use Rattle.xf_work.proofs.WholeLaws.{KeepsDue, set-keeps}
 use Rattle.xf_work.proofs.work.Work.flag_refresh.Goals as goal
 
 pub invariant_of-self : goal.invariant_of-self
@@ -19,13 +20,14 @@ invariant_of-self c =
     let cleared : fs ≡ slice_set w.flags.items c.args.model (with_refresh true (get_or w.flags.items c.args.model none_due)) = c.set_refresh.ensures ∙ ap (λ gs. slice_set gs c.args.model (with_refresh true (get_or gs c.args.model none_due))) c.as_mut_slice.ensures.value in
     let items = with_items_is w.flags fs (ap length cleared ∙ flags-length w.flags.items c.args.model (with_refresh true (get_or w.flags.items c.args.model none_due)) ∙ sym w.flags.ok.0) in
     record {
-      sound = sound-flags w.loaded w.draft w.table w.flags.items w.old_flags.items w.built w.old_built i.sound (with_items w.flags fs).items (ap length (items ∙ cleared) ∙ flags-length w.flags.items c.args.model (with_refresh true (get_or w.flags.items c.args.model none_due)));
+      sound = sound-flags w.loaded w.draft w.table w.flags.items w.old_flags.items w.built w.old_built i.sound (with_items w.flags fs).items (ap length (items ∙ cleared) ∙ flags-length w.flags.items c.args.model (with_refresh true (get_or w.flags.items c.args.model none_due)))
+          (subst (KeepsDue w.flags.items) (sym (items ∙ cleared)) (set-keeps w.flags.items c.args.model (with_refresh true (get_or w.flags.items c.args.model none_due)) refl));
       now = i.now;
       before = i.before;
+      alone = i.alone;
       held = i.held;
       bound = i.bound;
-      steady = i.steady;
-      steady_before = i.steady_before;
+      first = i.first;
     }
 
 pub returns-clause-now : goal.returns-clause-now

@@ -2,22 +2,20 @@ use Rattle.std.proofs.Common.{◌≡◌, ◌<◌, ◌≤◌, ◌+◌, suc, max, 
 use Rattle.std.proofs.lemmas.List.{with_items_is}
 use Rattle.std.specs.Prelude.{slice_set}
 use Rattle.std.specs.Vec.{with_items}
-use Rattle.std.specs.Bool.{OnTrue}
 use Rattle.xf_form_machine.specs.Behave as machine
 use Rattle.xf_work.specs.declared.flags.Flag.TheVariants.{Rebuild}
 use Rattle.xf_work.specs.Built.{IsRenewed, scope_at}
 use Rattle.xf_work.specs.Calls.{Rebuilds, rebuilt_flags}
 use Rattle.xf_processor.specs.Formed.{profile}
 use Rattle.xf_work.specs.Does.{Does, Twin}
+use Rattle.xf_work.specs.Fit.{IsRight}
 use Rattle.xf_work.specs.Flags.{none_due, without}
-use Rattle.xf_work.specs.Known.{Knows}
 use Rattle.xf_work.specs.Parts.{IsSound, standing_of}
 use Rattle.xf_work.specs.Standing.{state_of}
-use Rattle.xf_work.specs.Steady.{AreSteady}
 use Rattle.xf_work.proofs.DoesLaws.{does-any}
 use Rattle.xf_work.proofs.KnownLaws.{knows-marks}
 use Rattle.xf_work.proofs.Models.{flags-length, models-length}
-use Rattle.xf_work.proofs.SoundLaws.{sound-flags, sound-renewed, within-table}
+use Rattle.xf_work.proofs.SoundLaws.{sound-renewed, within-table}
 use Rattle.xf_work.proofs.work.Work.rebuild.Goals as goal
 
 pub rebuild-requires-clause-model : goal.rebuild-requires-clause-model
@@ -44,14 +42,19 @@ invariant_of-self c =
     (subst (λ (t : Twin). c.args.model ≤ t.built) (sym c.self.view_is) c.requires.built) c.in-Ok.ensures.models c.in-Ok.ensures.kept renewed in
     let one : c.args.model + 1 ≡ suc c.args.model = omega arith in
     record {
-      held = c.self.invariant.held;
       sound = subst (λ n. IsSound w.loaded w.draft c.rebuild.new.table (with_items w.flags c.clear.new.flags).items w.old_flags.items n w.old_built) (sym (c.max-self-inside.ensures ∙ ap (max w.built) one))
-          (sound-flags w.loaded w.draft c.rebuild.new.table w.flags.items w.old_flags.items (max w.built (suc c.args.model)) w.old_built s (with_items w.flags c.clear.new.flags).items (ap length (items ∙ cleared) ∙ many));
-      now = knows-marks w.loaded w.draft.now w.table c.rebuild.new.table w.known c.in-Ok.ensures.models c.in-Ok.ensures.marks c.self.invariant.now;
-      before = subst (λ t. Knows w.loaded w.draft.kept t w.old_known) (sym c.in-Ok.ensures.kept) c.self.invariant.before;
+          (subst (λ fs. IsSound w.loaded w.draft c.rebuild.new.table fs w.old_flags.items (max w.built (suc c.args.model)) w.old_built) (sym (items ∙ cleared)) s);
+      now = record {
+        known = knows-marks w.loaded w.draft.now w.table c.rebuild.new.table w.knowledge.known c.in-Ok.ensures.models c.in-Ok.ensures.marks c.self.invariant.now.known;
+        steady = tt;
+        planted = c.self.invariant.now.planted;
+        alone = c.self.invariant.now.alone;
+      };
+      before = subst (λ t. IsRight w.loaded w.draft.kept t w.shown.kept w.old_knowledge) (sym c.in-Ok.ensures.kept) c.self.invariant.before;
+      alone = c.self.invariant.alone;
+      held = c.self.invariant.held;
       bound = c.self.invariant.bound;
-      steady = tt;
-      steady_before = subst (λ t. OnTrue w.was_steady (AreSteady w.loaded t w.shown.kept)) (sym c.in-Ok.ensures.kept) c.self.invariant.steady_before;
+      first = c.self.invariant.first;
     }
 
 pub returns-in-Ok-clause-done : goal.returns-in-Ok-clause-done

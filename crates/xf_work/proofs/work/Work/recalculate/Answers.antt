@@ -1,10 +1,12 @@
-use Rattle.std.proofs.Common.{◌≡◌, ◌<◌, ◌+◌, ◌-◌, ◌^◌, nat_lt, length, get_or, Some, Ok, Err, map, refl, sym, ap, ◌∙◌, subst}
+use Rattle.std.proofs.Common.{◌≡◌, ◌<◌, ◌+◌, ◌-◌, ◌^◌, false, [], nat_lt, length, get_or, None, Ok, Err, map, refl, sym, ap, ◌∙◌, subst}
 use Rattle.std.proofs.lemmas.List.{with_items_is}
 use Rattle.std.proofs.lemmas.Result.{err_from_is_err_and}
 use Rattle.std.specs.Prelude.{slice_set}
 use Rattle.std.specs.Vec.{with_items}
 use Rattle.std.proofs.lemmas.Bool.{OnTrue_at}
 use Rattle.std.specs.Bool.{OnTrue}
+use Rattle.xf_doc.specs.Changes.{in_detached}
+use Rattle.xf_doc.specs.Forest.{Forest}
 use Rattle.xf_doc.specs.Shape.{shape_of}
 use Rattle.xf_model.specs.Pertinent.{pertinent_count}
 use Rattle.xf_model.specs.Settled.{calculates}
@@ -13,9 +15,10 @@ use Rattle.xf_binds.specs.Kept.{recalculated}
 use Rattle.xf_binds.specs.Table.{all_rolled_back, kept_at, with_kept}
 use Rattle.xf_rebuild.specs.Web.{asks_of}
 use Rattle.xf_work.specs.declared.flags.Flag.TheVariants.{Recalculate}
-use Rattle.xf_work.specs.Built.{scope_at}
+use Rattle.xf_work.specs.Built.{is_rebuild_due, scope_at}
 use Rattle.xf_processor.specs.Formed.{profile}
 use Rattle.xf_work.specs.Does.{Does, Twin}
+use Rattle.xf_work.specs.Fit.{IsRight}
 use Rattle.xf_work.specs.Flags.{none_due, without}
 use Rattle.xf_work.specs.Grown.{with_more}
 use Rattle.xf_pertinent.specs.Marked.{pertinent_marks}
@@ -24,14 +27,29 @@ use Rattle.xf_work.specs.Known.{IsRemembered, Knows, MayBePassed}
 use Rattle.xf_work.specs.Parts.{IsSound, standing_of}
 use Rattle.xf_work.specs.Standing.{state_of}
 use Rattle.xf_work.specs.Steady.{AreSteady}
-use Rattle.xf_work.proofs.KnownLaws.{may-be_passed}
-use Rattle.xf_work.proofs.WholeLaws.{kept-set}
+use Rattle.xf_work.proofs.KnownLaws.{knows-of, may-be_passed}
+use Rattle.xf_work.proofs.WholeLaws.{KeepsDue, kept-set, set-keeps}
 use Rattle.xf_work.proofs.Models.{back-same, flags-length, models-length, set-length}
 use Rattle.xf_work.proofs.RecalculateLaws.{grown-refused, made-is, recalculate-done, recalculate-passed}
+use Rattle.xf_work.proofs.RightLaws.{alone-still, planted-still, right-still}
 use Rattle.xf_work.proofs.SoundLaws.{sound-draft, sound-flags, sound-kept, within-table}
 use Rattle.xf_work.proofs.SteadyLaws.{settled-steady}
-use Rattle.xf_work.proofs.work.Work.recalculate.Goals.{then-self, else-self}
+use Rattle.xf_work.proofs.work.Work.recalculate.Goals.{Else-is_rebuild_due, then-self, else-self}
 use Rattle.xf_work.proofs.work.Work.recalculate.Goals as goal
+
+-- the rebuild of the model is not due
+not-due : (c : Else-is_rebuild_due) → is_rebuild_due c.self.inside.flags.items c.args.model ≡ false
+not-due c = ap (λ fs. is_rebuild_due fs c.args.model) (sym c.as_slice.ensures.value) ∙ sym c.is_rebuild_due.ensures ∙ c.if-is_rebuild_due.false
+
+pub is_rebuild_due-requires : goal.is_rebuild_due-requires
+is_rebuild_due-requires c =
+    let w = c.self.inside in
+    let h = within-table w.table w.flags.items c.args.model c.self.invariant.sound.many (subst (λ (t : Twin). c.args.model < length t.now.models) (sym c.self.view_is) c.requires.model) in
+    subst (λ n. c.args.model < n) (c.self.invariant.sound.many ∙ ap length (sym c.as_slice.ensures.value)) h
+
+pub settle_texts-requires-clause-built : goal.settle_texts-requires-clause-built
+settle_texts-requires-clause-built c =
+    c.self.invariant.sound.now.models c.args.model (subst (λ (t : Twin). c.args.model < t.built) (sym c.self.view_is) c.requires.built) (not-due (goal.at.settle_texts-requires-clause-built c).Else-is_rebuild_due)
 
 pub settle_texts-requires-clause-passes : goal.settle_texts-requires-clause-passes
 settle_texts-requires-clause-passes c =
@@ -39,23 +57,23 @@ settle_texts-requires-clause-passes c =
     let i = c.self.invariant.sound in
     let k = kept_at w.table c.args.model in
     let x = scope_at w.loaded w.draft.now c.args.model in
-    let built = i.now.models c.args.model (subst (λ (t : Twin). c.args.model < t.built) (sym c.self.view_is) c.requires.built) in
+    let built = i.now.models c.args.model (subst (λ (t : Twin). c.args.model < t.built) (sym c.self.view_is) c.requires.built) (not-due (goal.at.settle_texts-requires-clause-passes c).Else-is_rebuild_due) in
     let marked = c.in_ok-marks.ensures x (record { rules = refl; asks = subst (λ f. k.asks ≡ map (asks_of x (shape_of f.nodes)) k.entries) (sym c.forest-forest.ensures) built.asks }) in
     subst (MayBePassed w.loaded w.draft.now c.args.model k) (sym c.marks_for.ensures)
-    (may-be_passed w.loaded w.draft.now w.table w.known c.args.model c.in_ok-marks.marks c.self.invariant.now
+    (may-be_passed w.loaded w.draft.now w.table w.knowledge.known c.args.model c.in_ok-marks.marks c.self.invariant.now.known
     (marked ∙ ap (λ f. pertinent_marks x (shape_of f.nodes) k.entries (changes_in k)) c.forest-forest.ensures))
 
 pub invariant_of-self : goal.invariant_of-self
 invariant_of-self c =
     let w = c.self.inside in
     record {
-      held = c.self.invariant.held;
       sound = sound-draft w.loaded w.draft w.table w.flags.items w.old_flags.items w.built w.old_built c.self.invariant.sound c.settle_texts.new.draft c.in_err-truths.ensures.whole c.in_err-truths.ensures.kept;
-      now = tt;
-      before = subst (λ f. Knows w.loaded f (all_rolled_back w.table) w.old_known) (sym c.in_err-truths.ensures.kept) c.self.invariant.before;
+      now = right-still w.loaded w.draft.now c.settle_texts.new.draft.now c.in_err-truths.ensures.whole w.table w.shown.now w.knowledge None tt c.self.invariant.now;
+      before = subst (λ f. IsRight w.loaded f (all_rolled_back w.table) w.shown.kept w.old_knowledge) (sym c.in_err-truths.ensures.kept) c.self.invariant.before;
+      alone = subst (λ (f : Forest). in_detached f.nodes ≡ []) (sym c.in_err-truths.ensures.kept) c.self.invariant.alone;
+      held = c.self.invariant.held;
       bound = c.self.invariant.bound;
-      steady = c.self.invariant.steady;
-      steady_before = c.self.invariant.steady_before;
+      first = c.self.invariant.first;
     }
 
 pub returns-in_err-truths-clause-done : goal.returns-in_err-truths-clause-done
@@ -72,13 +90,13 @@ pub invariant_of-self-in_err-self-inside : goal.invariant_of-self-in_err-self-in
 invariant_of-self-in_err-self-inside c =
     let w = c.self.inside in
     record {
-      held = c.self.invariant.held;
       sound = sound-draft w.loaded w.draft w.table w.flags.items w.old_flags.items w.built w.old_built c.self.invariant.sound c.settle_texts.new.draft c.in_ok-truths.ensures.whole c.in_ok-truths.ensures.kept;
-      now = tt;
-      before = subst (λ f. Knows w.loaded f (all_rolled_back w.table) w.old_known) (sym c.in_ok-truths.ensures.kept) c.self.invariant.before;
+      now = right-still w.loaded w.draft.now c.settle_texts.new.draft.now c.in_ok-truths.ensures.whole w.table w.shown.now w.knowledge None tt c.self.invariant.now;
+      before = subst (λ f. IsRight w.loaded f (all_rolled_back w.table) w.shown.kept w.old_knowledge) (sym c.in_ok-truths.ensures.kept) c.self.invariant.before;
+      alone = subst (λ (f : Forest). in_detached f.nodes ≡ []) (sym c.in_ok-truths.ensures.kept) c.self.invariant.alone;
+      held = c.self.invariant.held;
       bound = c.self.invariant.bound;
-      steady = c.self.invariant.steady;
-      steady_before = c.self.invariant.steady_before;
+      first = c.self.invariant.first;
     }
 
 pub returns-in_err-self-inside-clause-done : goal.returns-in_err-self-inside-clause-done
@@ -120,24 +138,32 @@ invariant_of-self-2 c =
     let s = sound-draft w.loaded w.draft w.table w.flags.items w.old_flags.items w.built w.old_built c.self.invariant.sound d c.in_ok-truths.ensures.whole c.in_ok-truths.ensures.kept in
     let k = recalculated c.in_ok-truths.truths (kept_at w.table c.args.model) in
     let t = sound-kept w.loaded d w.table w.flags.items w.old_flags.items w.built w.old_built s c.args.model k h (record { entries = refl; asks = refl }) refl in
+    let stays = c.in_ok-truths.ensures.whole in
     record {
-      held = c.self.invariant.held;
       sound = subst (λ x. IsSound w.loaded d x (with_items w.flags c.clear.new.flags).items w.old_flags.items w.built w.old_built) (sym c.recalculated.ensures)
-          (sound-flags w.loaded d (with_kept w.table c.args.model k) w.flags.items w.old_flags.items w.built w.old_built t _ (ap length (items ∙ cleared) ∙ many));
-      now = subst (λ x. Knows w.loaded d.now x (Some c.args.model)) (sym c.recalculated.ensures) (
-        subst (λ n. c.args.model < n) (sym (set-length w.table c.args.model k)) h,
-        subst (IsRemembered (scope_at w.loaded d.now c.args.model) d.now) (sym (kept-set w.table c.args.model k h)) c.in_ok-truths.ensures.known,
-      );
-      before = subst (λ x. Knows w.loaded d.kept (all_rolled_back x) w.old_known) (sym c.recalculated.ensures)
-          (subst (λ x. Knows w.loaded d.kept x w.old_known) (sym (back-same w.table c.args.model k h refl))
-          (subst (λ f. Knows w.loaded f (all_rolled_back w.table) w.old_known) (sym c.in_ok-truths.ensures.kept) c.self.invariant.before));
+          (sound-flags w.loaded d (with_kept w.table c.args.model k) w.flags.items w.old_flags.items w.built w.old_built t _ (ap length (items ∙ cleared) ∙ many)
+          (subst (KeepsDue w.flags.items) (sym (items ∙ cleared)) (set-keeps w.flags.items c.args.model (without Recalculate (get_or w.flags.items c.args.model none_due)) refl)));
+      now = record {
+        known = subst (λ x. Knows w.loaded d.now x c.known_of-self-inside.result) (sym c.recalculated.ensures)
+            (knows-of w.loaded d.now (with_kept w.table c.args.model k) c.known_of-self-inside.result c.args.model w.knowledge.is_alone c.known_of-self-inside.ensures (λ e. record {
+              there = subst (λ n. c.args.model < n) (sym (set-length w.table c.args.model k)) h;
+              alone = stays.alone (OnTrue_at e c.self.invariant.now.alone);
+              remembered = subst (IsRemembered (scope_at w.loaded d.now c.args.model) d.now) (sym (kept-set w.table c.args.model k h)) (c.in_ok-truths.ensures.known (OnTrue_at e c.self.invariant.now.alone));
+            }));
+        steady = elim c.if-self.branch [
+          | then-self t ↦ subst (λ b. OnTrue b (AreSteady w.loaded c.recalculated.new.self w.shown.now)) (sym t.self-is) (settled-steady w.loaded w.table w.shown.now (OnTrue_at t.if-self.true c.self.invariant.now.steady) t.keeps_properties-self-inside.result c.args.model c.in_ok-truths.truths c.recalculated.new.self c.recalculated.ensures t.keeps_properties-self-inside.ensures.alike)
+          | else-self e ↦ subst (λ b. OnTrue b (AreSteady w.loaded c.recalculated.new.self w.shown.now)) (sym (e.self-is ∙ e.if-self.false)) tt
+        ];
+        planted = planted-still w.loaded w.draft.now d.now stays w.knowledge.is_planted c.self.invariant.now.planted;
+        alone = alone-still w.loaded w.draft.now d.now stays w.knowledge.is_alone c.self.invariant.now.alone;
+      };
+      before = subst (λ x. IsRight w.loaded d.kept (all_rolled_back x) w.shown.kept w.old_knowledge) (sym c.recalculated.ensures)
+          (subst (λ x. IsRight w.loaded d.kept x w.shown.kept w.old_knowledge) (sym (back-same w.table c.args.model k h refl))
+          (subst (λ f. IsRight w.loaded f (all_rolled_back w.table) w.shown.kept w.old_knowledge) (sym c.in_ok-truths.ensures.kept) c.self.invariant.before));
+      alone = subst (λ (f : Forest). in_detached f.nodes ≡ []) (sym c.in_ok-truths.ensures.kept) c.self.invariant.alone;
+      held = c.self.invariant.held;
       bound = c.self.invariant.bound;
-      steady = elim c.if-self.branch [
-        | then-self t ↦ subst (λ b. OnTrue b (AreSteady w.loaded c.recalculated.new.self w.shown.now)) (sym t.self-is) (settled-steady w.loaded w.table w.shown.now (OnTrue_at t.if-self.true c.self.invariant.steady) t.keeps_properties-self-inside.result c.args.model c.in_ok-truths.truths c.recalculated.new.self c.recalculated.ensures t.keeps_properties-self-inside.ensures.alike)
-        | else-self e ↦ subst (λ b. OnTrue b (AreSteady w.loaded c.recalculated.new.self w.shown.now)) (sym (e.self-is ∙ e.if-self.false)) tt
-      ];
-      steady_before = subst (λ x. OnTrue w.was_steady (AreSteady w.loaded (all_rolled_back x) w.shown.kept)) (sym c.recalculated.ensures)
-          (subst (λ x. OnTrue w.was_steady (AreSteady w.loaded x w.shown.kept)) (sym (back-same w.table c.args.model k h refl)) c.self.invariant.steady_before);
+      first = c.self.invariant.first;
     }
 
 pub returns-clause-done : goal.returns-clause-done
@@ -153,7 +179,7 @@ returns-clause-done c =
     let cleared : c.clear.new.flags ≡ gs = c.clear.ensures ∙ ap (λ fs. slice_set fs c.args.model (without Recalculate (get_or fs c.args.model none_due))) c.as_mut_slice.ensures.value in
     let many = flags-length w.flags.items c.args.model (without Recalculate (get_or w.flags.items c.args.model none_due)) in
     let items = with_items_is w.flags c.clear.new.flags (ap length cleared ∙ many ∙ sym w.flags.ok.0) in
-    let built = i.now.models c.args.model (subst (λ (t : Twin). c.args.model < t.built) (sym c.self.view_is) c.requires.built) in
+    let built = i.now.models c.args.model (subst (λ (t : Twin). c.args.model < t.built) (sym c.self.view_is) c.requires.built) (not-due (goal.at.returns-clause-done c).Else-is_rebuild_due) in
     let marked = c.in_ok-marks.ensures x (record { rules = refl; asks = subst (λ f. k.asks ≡ map (asks_of x (shape_of f.nodes)) k.entries) (sym c.forest-forest.ensures) built.asks }) in
     let counted = c.pertinent_count-count.ensures x (shape_of c.forest-forest.result.now.forest.nodes) k.entries (changes_in k) marked in
     let made : c.next_number.result - c.next_number-before.result ≡ length (calculates k.entries) =

@@ -1,4 +1,4 @@
-use Rattle.std.proofs.Common.{◌≡◌, map, length, sym, ap, ◌∙◌}
+use Rattle.std.proofs.Common.{◌≡◌, map, length, sym, ap, ◌∙◌, subst}
 use Rattle.std.proofs.lemmas.List.{with_items_is}
 use Rattle.std.proofs.lemmas.Result.{err_from_is_err_and}
 use Rattle.std.specs.Vec.{with_items}
@@ -10,6 +10,7 @@ use Rattle.xf_work.specs.Standing.{state_of}
 use Rattle.xf_work.proofs.Models.{flags-map, none-refreshed}
 use Rattle.xf_work.proofs.RefreshLaws.{cleared-done, others-fail}
 use Rattle.xf_work.proofs.SoundLaws.{sound-flags}
+use Rattle.xf_work.proofs.WholeLaws.{KeepsDue, map-keeps}
 use Rattle.xf_work.proofs.work.Work.refresh.Goals as goal
 
 pub returns-in_err-told-clause-done : goal.returns-in_err-told-clause-done
@@ -25,13 +26,14 @@ invariant_of-self c =
     let cleared : fs ≡ map without_refresh w.flags.items = c.clear_refresh.ensures ∙ ap (λ gs. map without_refresh gs) c.as_mut_slice.ensures.value in
     let items = with_items_is w.flags fs (ap length cleared ∙ flags-map w.flags.items without_refresh ∙ sym w.flags.ok.0) in
     record {
-      sound = sound-flags w.loaded w.draft w.table w.flags.items w.old_flags.items w.built w.old_built i.sound (with_items w.flags fs).items (ap length (items ∙ cleared) ∙ flags-map w.flags.items without_refresh);
+      sound = sound-flags w.loaded w.draft w.table w.flags.items w.old_flags.items w.built w.old_built i.sound (with_items w.flags fs).items (ap length (items ∙ cleared) ∙ flags-map w.flags.items without_refresh)
+          (subst (KeepsDue w.flags.items) (sym (items ∙ cleared)) (map-keeps w.flags.items));
       now = i.now;
       before = i.before;
+      alone = i.alone;
       held = i.held;
       bound = i.bound;
-      steady = i.steady;
-      steady_before = i.steady_before;
+      first = i.first;
     }
 
 pub returns-clause-done : goal.returns-clause-done

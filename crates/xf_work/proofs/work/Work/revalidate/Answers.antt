@@ -13,6 +13,7 @@ use Rattle.xf_valid.specs.Invalid.{revalidated}
 use Rattle.xf_work.specs.declared.flags.Flag.TheVariants.{Revalidate}
 use Rattle.xf_processor.specs.Formed.{profile}
 use Rattle.xf_work.specs.Does.{Twin}
+use Rattle.xf_work.specs.Fit.{IsRight}
 use Rattle.xf_work.specs.Flags.{none_due, without}
 use Rattle.xf_work.specs.Known.{Knows}
 use Rattle.xf_work.specs.Parts.{IsSound, standing_of}
@@ -23,6 +24,7 @@ use Rattle.xf_work.proofs.KnownLaws.{keeps-set, knows-marks}
 use Rattle.xf_work.proofs.Models.{back-same, flags-length, models-length, set-length}
 use Rattle.xf_work.proofs.SoundLaws.{sound-flags, sound-kept, within-table}
 use Rattle.xf_work.proofs.SteadyLaws.{checked-steady}
+use Rattle.xf_work.proofs.WholeLaws.{KeepsDue, set-keeps}
 use Rattle.xf_work.proofs.work.Work.revalidate.Goals.{then-self, else-self}
 use Rattle.xf_work.proofs.work.Work.revalidate.Goals as goal
 
@@ -30,6 +32,21 @@ pub revalidate-requires : goal.revalidate-requires
 revalidate-requires c =
     let w = c.self.inside in
     within-table w.table w.flags.items c.args.model c.self.invariant.sound.many (subst (λ (t : Twin). c.args.model < length t.now.models) (sym c.self.view_is) c.requires.model)
+
+pub invariant_of-self : goal.invariant_of-self
+invariant_of-self c =
+    let w = c.self.inside in
+    let i = c.self.invariant in
+    let same = c.in_err-is_same.ensures.err in
+    record {
+      sound = subst (λ t. IsSound w.loaded w.draft t w.flags.items w.old_flags.items w.built w.old_built) (sym same) i.sound;
+      now = subst (λ t. IsRight w.loaded w.draft.now t w.shown.now w.knowledge) (sym same) i.now;
+      before = subst (λ t. IsRight w.loaded w.draft.kept (all_rolled_back t) w.shown.kept w.old_knowledge) (sym same) i.before;
+      alone = i.alone;
+      held = i.held;
+      bound = i.bound;
+      first = i.first;
+    }
 
 pub clear-requires : goal.clear-requires
 clear-requires c =
@@ -51,20 +68,25 @@ invariant_of-self-2 c =
     let items = with_items_is w.flags c.clear.new.flags (ap length cleared ∙ many ∙ sym w.flags.ok.0) in
     let s = sound-kept w.loaded w.draft w.table w.flags.items w.old_flags.items w.built w.old_built c.self.invariant.sound c.args.model k h (record { entries = refl; asks = refl }) refl in
     record {
-      held = c.self.invariant.held;
       sound = subst (λ t. IsSound w.loaded w.draft t (with_items w.flags c.clear.new.flags).items w.old_flags.items w.built w.old_built) (sym table)
-          (sound-flags w.loaded w.draft (with_kept w.table c.args.model k) w.flags.items w.old_flags.items w.built w.old_built s (with_items w.flags c.clear.new.flags).items (ap length (items ∙ cleared) ∙ many));
-      now = subst (λ t. Knows w.loaded w.draft.now t w.known) (sym table)
-          (knows-marks w.loaded w.draft.now w.table (with_kept w.table c.args.model k) w.known (set-length w.table c.args.model k) (keeps-set w.table c.args.model k h (record { stood = refl; texts = refl; lists = refl })) c.self.invariant.now);
-      before = subst (λ t. Knows w.loaded w.draft.kept (all_rolled_back t) w.old_known) (sym table)
-          (subst (λ t. Knows w.loaded w.draft.kept t w.old_known) (sym (back-same w.table c.args.model k h refl)) c.self.invariant.before);
+          (sound-flags w.loaded w.draft (with_kept w.table c.args.model k) w.flags.items w.old_flags.items w.built w.old_built s (with_items w.flags c.clear.new.flags).items (ap length (items ∙ cleared) ∙ many)
+          (subst (KeepsDue w.flags.items) (sym (items ∙ cleared)) (set-keeps w.flags.items c.args.model (without Revalidate (get_or w.flags.items c.args.model none_due)) refl)));
+      now = record {
+        known = subst (λ t. Knows w.loaded w.draft.now t w.knowledge.known) (sym table)
+            (knows-marks w.loaded w.draft.now w.table (with_kept w.table c.args.model k) w.knowledge.known (set-length w.table c.args.model k) (keeps-set w.table c.args.model k h (record { stood = refl; texts = refl; lists = refl })) c.self.invariant.now.known);
+        steady = elim c.if-self.branch [
+          | then-self t ↦ subst (λ b. OnTrue b (AreSteady w.loaded c.revalidate.new.table w.shown.now)) (sym t.self-is) (checked-steady w.loaded w.table w.shown.now (OnTrue_at t.if-self.true c.self.invariant.now.steady) c.in_ok-is_same.is_same c.args.model k.invalid c.revalidate.new.table h table c.in_ok-is_same.ensures.same)
+          | else-self e ↦ subst (λ b. OnTrue b (AreSteady w.loaded c.revalidate.new.table w.shown.now)) (sym (e.self-is ∙ e.if-self.false)) tt
+        ];
+        planted = c.self.invariant.now.planted;
+        alone = c.self.invariant.now.alone;
+      };
+      before = subst (λ t. IsRight w.loaded w.draft.kept (all_rolled_back t) w.shown.kept w.old_knowledge) (sym table)
+          (subst (λ t. IsRight w.loaded w.draft.kept t w.shown.kept w.old_knowledge) (sym (back-same w.table c.args.model k h refl)) c.self.invariant.before);
+      alone = c.self.invariant.alone;
+      held = c.self.invariant.held;
       bound = c.self.invariant.bound;
-      steady = elim c.if-self.branch [
-        | then-self t ↦ subst (λ b. OnTrue b (AreSteady w.loaded c.revalidate.new.table w.shown.now)) (sym t.self-is) (checked-steady w.loaded w.table w.shown.now (OnTrue_at t.if-self.true c.self.invariant.steady) c.in_ok-is_same.is_same c.args.model k.invalid c.revalidate.new.table h table c.in_ok-is_same.ensures.same)
-        | else-self e ↦ subst (λ b. OnTrue b (AreSteady w.loaded c.revalidate.new.table w.shown.now)) (sym (e.self-is ∙ e.if-self.false)) tt
-      ];
-      steady_before = subst (λ t. OnTrue w.was_steady (AreSteady w.loaded (all_rolled_back t) w.shown.kept)) (sym table)
-          (subst (λ t. OnTrue w.was_steady (AreSteady w.loaded t w.shown.kept)) (sym (back-same w.table c.args.model k h refl)) c.self.invariant.steady_before);
+      first = c.self.invariant.first;
     }
 
 pub returns-clause-done : goal.returns-clause-done

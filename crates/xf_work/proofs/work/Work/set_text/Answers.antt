@@ -1,9 +1,9 @@
-use Rattle.std.proofs.Common.{◌≡◌, ◌+◌, ◌^◌, nat_lt, length, Ok, Err, sym, ap, ◌∙◌, subst, inl, inr}
+use Rattle.std.proofs.Common.{◌≡◌, ◌+◌, ◌^◌, [], nat_lt, length, None, Ok, Err, sym, ap, ◌∙◌, subst, inl, inr}
 use Rattle.std.proofs.lemmas.List.{with_items_is}
 use Rattle.std.proofs.lemmas.Result.{err_from_is_err_and}
 use Rattle.std.specs.Vec.{with_items}
-use Rattle.std.specs.Bool.{OnTrue}
 use Rattle.xf_doc.specs.declared.content.Kind.TheVariants.{Attribute, Element}
+use Rattle.xf_doc.specs.Changes.{in_detached}
 use Rattle.xf_doc.specs.Forest.{Forest}
 use Rattle.xf_doc.specs.Needs.{IsSettable}
 use Rattle.xf_doc.specs.Settle.{has_text}
@@ -17,15 +17,17 @@ use Rattle.xf_binds.specs.Table.{all_rolled_back}
 use Rattle.xf_undo.specs.Draft.{Draft}
 use Rattle.xf_processor.specs.Formed.{profile}
 use Rattle.xf_work.specs.Does.{Does, Twin}
+use Rattle.xf_work.specs.Fit.{IsRight}
 use Rattle.xf_work.specs.Grown.{with_more}
 use Rattle.xf_work.specs.Known.{Knows}
 use Rattle.xf_work.specs.Parts.{IsSound, standing_of}
 use Rattle.xf_work.specs.Setting.{due, holder_of, is_other, marked}
+use Rattle.xf_work.specs.Settling.{StaysWhole}
 use Rattle.xf_work.specs.Standing.{state_of}
-use Rattle.xf_work.specs.Steady.{AreSteady}
 use Rattle.xf_work.proofs.SetKnown.{knows-text}
 use Rattle.xf_work.proofs.MarkedLaws.{due-length, marked-back, marked-length, sound-marked, text-whole}
 use Rattle.xf_work.proofs.Models.{models-length}
+use Rattle.xf_work.proofs.RightLaws.{alone-still, planted-still, right-still}
 use Rattle.xf_work.proofs.SetLaws.{grown-refused, limit-refused, set-done}
 use Rattle.xf_work.proofs.SoundLaws.{sound-draft}
 use Rattle.xf_work.proofs.SteadyLaws.{marked-steady}
@@ -40,17 +42,20 @@ able c = c.may_set_text.ensures.0 c.if-not-may_set_text.false
 settable : (c : Else-not-may_set_text) → IsSettable c.args.node.number c.self.inside.draft.now
 settable c = subst (IsSettable c.args.node.number) c.forest-forest.ensures (able c)
 
--- the text stands, and the draft was sound before
+-- the text stands, over which all is built that was
+stays : (c : After-are_trees-2) → StaysWhole c.self.inside.loaded c.self.inside.draft.now c.set_text.new.draft.now
+stays c =
+    let w = c.self.inside in
+    let d = c.set_text.new.draft in
+    let before : HasTrees w.draft.now = subst HasTrees c.forest-forest.ensures (in_forest c.are_trees.ensures) in
+    let after : HasTrees d.now = subst HasTrees c.forest.ensures (in_forest c.are_trees-2.ensures) in
+    text-whole w.loaded w.draft d c.args.node.number c.args.text.now before after (settable (goal.at.After-are_trees-2 c).Else-not-may_set_text) c.in_ok-made.ensures.done.0
+
+-- and the draft was sound before
 sound : (c : After-are_trees-2) → IsSound c.self.inside.loaded c.set_text.new.draft c.self.inside.table c.self.inside.flags.items c.self.inside.old_flags.items c.self.inside.built c.self.inside.old_built
 sound c =
     let w = c.self.inside in
-    let d = c.set_text.new.draft in
-    let is = c.in_ok-made.ensures.done.0 in
-    let before : HasTrees w.draft.now = subst HasTrees c.forest-forest.ensures (in_forest c.are_trees.ensures) in
-    let after : HasTrees d.now = subst HasTrees c.forest.ensures (in_forest c.are_trees-2.ensures) in
-    sound-draft w.loaded w.draft w.table w.flags.items w.old_flags.items w.built w.old_built c.self.invariant.sound d
-    (text-whole w.loaded w.draft d c.args.node.number c.args.text.now before after (settable (goal.at.After-are_trees-2 c).Else-not-may_set_text) is)
-    (ap (λ (x : Draft). x.kept) is)
+    sound-draft w.loaded w.draft w.table w.flags.items w.old_flags.items w.built w.old_built c.self.invariant.sound c.set_text.new.draft (stays c) (ap (λ (x : Draft). x.kept) c.in_ok-made.ensures.done.0)
 
 pub holder-requires : goal.holder-requires
 holder-requires c =
@@ -78,26 +83,29 @@ pub invariant_of-self : goal.invariant_of-self
 invariant_of-self c =
     let w = c.self.inside in
     record {
-      held = c.self.invariant.held;
       sound = subst (λ d. IsSound w.loaded d w.table w.flags.items w.old_flags.items w.built w.old_built) (sym c.in_err-made.ensures.err) c.self.invariant.sound;
-      now = tt;
-      before = subst (λ (d : Draft). Knows w.loaded d.kept (all_rolled_back w.table) w.old_known) (sym c.in_err-made.ensures.err) c.self.invariant.before;
+      now = subst (λ (d : Draft). IsRight w.loaded d.now w.table w.shown.now (record w.knowledge { known = None })) (sym c.in_err-made.ensures.err)
+          (record { known = tt; steady = c.self.invariant.now.steady; planted = c.self.invariant.now.planted; alone = c.self.invariant.now.alone });
+      before = subst (λ (d : Draft). IsRight w.loaded d.kept (all_rolled_back w.table) w.shown.kept w.old_knowledge) (sym c.in_err-made.ensures.err) c.self.invariant.before;
+      alone = subst (λ (d : Draft). in_detached d.kept.nodes ≡ []) (sym c.in_err-made.ensures.err) c.self.invariant.alone;
+      held = c.self.invariant.held;
       bound = c.self.invariant.bound;
-      steady = c.self.invariant.steady;
-      steady_before = c.self.invariant.steady_before;
+      first = c.self.invariant.first;
     }
 
 pub invariant_of-self-in_err-self-inside : goal.invariant_of-self-in_err-self-inside
 invariant_of-self-in_err-self-inside c =
     let w = c.self.inside in
+    let at = (goal.at.invariant_of-self-in_err-self-inside c).After-are_trees-2 in
+    let kept = ap (λ (x : Draft). x.kept) c.in_ok-made.ensures.done.0 in
     record {
+      sound = sound at;
+      now = right-still w.loaded w.draft.now c.set_text.new.draft.now (stays at) w.table w.shown.now w.knowledge None tt c.self.invariant.now;
+      before = subst (λ f. IsRight w.loaded f (all_rolled_back w.table) w.shown.kept w.old_knowledge) (sym kept) c.self.invariant.before;
+      alone = subst (λ (f : Forest). in_detached f.nodes ≡ []) (sym kept) c.self.invariant.alone;
       held = c.self.invariant.held;
-      sound = sound (goal.at.invariant_of-self-in_err-self-inside c).After-are_trees-2;
-      now = tt;
-      before = subst (λ f. Knows w.loaded f (all_rolled_back w.table) w.old_known) (sym (ap (λ (x : Draft). x.kept) c.in_ok-made.ensures.done.0)) c.self.invariant.before;
       bound = c.self.invariant.bound;
-      steady = c.self.invariant.steady;
-      steady_before = c.self.invariant.steady_before;
+      first = c.self.invariant.first;
     }
 
 pub returns-in_err-self-inside-clause-done : goal.returns-in_err-self-inside-clause-done
@@ -116,16 +124,19 @@ invariant_of-self-in_err-mark c =
     let w = c.self.inside in
     let flags : c.mark.new.flags ≡ w.flags.items = c.in_err-mark.ensures.flags ∙ c.as_mut_slice.ensures.value in
     let items = with_items_is w.flags c.mark.new.flags (ap length flags ∙ sym w.flags.ok.0) in
+    let at = (goal.at.invariant_of-self-in_err-mark c).After-are_trees-2 in
+    let kept = ap (λ (x : Draft). x.kept) c.in_ok-made.ensures.done.0 in
     record {
-      held = c.self.invariant.held;
       sound = subst (λ t. IsSound w.loaded c.set_text.new.draft t (with_items w.flags c.mark.new.flags).items w.old_flags.items w.built w.old_built) (sym c.in_err-mark.ensures.table)
-          (subst (λ fs. IsSound w.loaded c.set_text.new.draft w.table fs w.old_flags.items w.built w.old_built) (sym (items ∙ flags)) (sound (goal.at.invariant_of-self-in_err-mark c).After-are_trees-2));
-      now = tt;
-      before = subst (λ t. Knows w.loaded c.set_text.new.draft.kept (all_rolled_back t) w.old_known) (sym c.in_err-mark.ensures.table)
-          (subst (λ f. Knows w.loaded f (all_rolled_back w.table) w.old_known) (sym (ap (λ (x : Draft). x.kept) c.in_ok-made.ensures.done.0)) c.self.invariant.before);
+          (subst (λ fs. IsSound w.loaded c.set_text.new.draft w.table fs w.old_flags.items w.built w.old_built) (sym (items ∙ flags)) (sound at));
+      now = subst (λ t. IsRight w.loaded c.set_text.new.draft.now t w.shown.now (record w.knowledge { known = None })) (sym c.in_err-mark.ensures.table)
+          (right-still w.loaded w.draft.now c.set_text.new.draft.now (stays at) w.table w.shown.now w.knowledge None tt c.self.invariant.now);
+      before = subst (λ t. IsRight w.loaded c.set_text.new.draft.kept (all_rolled_back t) w.shown.kept w.old_knowledge) (sym c.in_err-mark.ensures.table)
+          (subst (λ f. IsRight w.loaded f (all_rolled_back w.table) w.shown.kept w.old_knowledge) (sym kept) c.self.invariant.before);
+      alone = subst (λ (f : Forest). in_detached f.nodes ≡ []) (sym kept) c.self.invariant.alone;
+      held = c.self.invariant.held;
       bound = c.self.invariant.bound;
-      steady = subst (λ t. OnTrue w.is_steady (AreSteady w.loaded t w.shown.now)) (sym c.in_err-mark.ensures.table) c.self.invariant.steady;
-      steady_before = subst (λ t. OnTrue w.was_steady (AreSteady w.loaded (all_rolled_back t) w.shown.kept)) (sym c.in_err-mark.ensures.table) c.self.invariant.steady_before;
+      first = c.self.invariant.first;
     }
 
 pub invariant_of-self-2 : goal.invariant_of-self-2
@@ -142,22 +153,27 @@ invariant_of-self-2 c =
     let now : c.set_text.new.draft.now ≡ with_text n text w.draft.now = ap (λ (x : Draft). x.now) is in
     let before : HasTrees w.draft.now = subst HasTrees c.forest-forest.ensures (in_forest c.are_trees.ensures) in
     let after : HasTrees c.set_text.new.draft.now = subst HasTrees c.forest.ensures (in_forest c.are_trees-2.ensures) in
+    let at = (goal.at.invariant_of-self-2 c).After-are_trees-2 in
+    let kept = ap (λ (x : Draft). x.kept) is in
     record {
-      held = c.self.invariant.held;
       sound = subst (λ t. IsSound w.loaded c.set_text.new.draft t (with_items w.flags c.mark.new.flags).items w.old_flags.items w.built w.old_built) (sym marks.marks)
           (subst (λ fs. IsSound w.loaded c.set_text.new.draft (marked holder other n w.table) fs w.old_flags.items w.built w.old_built) (sym (items ∙ flags))
-          (sound-marked w.loaded c.set_text.new.draft w.table w.flags.items w.old_flags.items w.built w.old_built (sound (goal.at.invariant_of-self-2 c).After-are_trees-2) holder other n));
-      now = subst (λ t. Knows w.loaded c.set_text.new.draft.now t c.known_still-known.result) (sym marks.marks)
-          (subst (λ f. Knows w.loaded f (marked holder other n w.table) c.known_still-known.result) (sym now)
-          (knows-text w.loaded w.draft.now n text before (subst HasTrees now after) c.self.invariant.sound.now.hung c.self.invariant.sound.now.alone (settable (goal.at.invariant_of-self-2 c).Else-not-may_set_text) c.in_ok-made.ensures.few
-          w.table w.known holder other c.has_text-stood.result c.known_still-known.result (c.has_text-stood.ensures ∙ ap (λ (f : Forest). has_text n text f.nodes) c.forest-forest.ensures) c.known_still-known.ensures c.self.invariant.now));
-      before = subst (λ t. Knows w.loaded c.set_text.new.draft.kept (all_rolled_back t) w.old_known) (sym marks.marks)
-          (subst (λ t. Knows w.loaded c.set_text.new.draft.kept t w.old_known) (sym (marked-back holder other n w.table))
-          (subst (λ f. Knows w.loaded f (all_rolled_back w.table) w.old_known) (sym (ap (λ (x : Draft). x.kept) is)) c.self.invariant.before));
+          (sound-marked w.loaded c.set_text.new.draft w.table w.flags.items w.old_flags.items w.built w.old_built (sound at) holder other n));
+      now = subst (λ t. IsRight w.loaded c.set_text.new.draft.now t w.shown.now (record w.knowledge { known = c.known_still-known.result })) (sym marks.marks) (record {
+        known = subst (λ f. Knows w.loaded f (marked holder other n w.table) c.known_still-known.result) (sym now)
+            (knows-text w.loaded w.draft.now n text before (subst HasTrees now after) c.self.invariant.sound.now.hung (settable (goal.at.invariant_of-self-2 c).Else-not-may_set_text) c.in_ok-made.ensures.few
+            w.table w.knowledge.known holder other c.has_text-stood.result c.known_still-known.result (c.has_text-stood.ensures ∙ ap (λ (f : Forest). has_text n text f.nodes) c.forest-forest.ensures) c.known_still-known.ensures c.self.invariant.now.known);
+        steady = marked-steady w.loaded w.table w.shown.now w.knowledge.is_steady c.self.invariant.now.steady holder other n;
+        planted = planted-still w.loaded w.draft.now c.set_text.new.draft.now (stays at) w.knowledge.is_planted c.self.invariant.now.planted;
+        alone = alone-still w.loaded w.draft.now c.set_text.new.draft.now (stays at) w.knowledge.is_alone c.self.invariant.now.alone;
+      });
+      before = subst (λ t. IsRight w.loaded c.set_text.new.draft.kept (all_rolled_back t) w.shown.kept w.old_knowledge) (sym marks.marks)
+          (subst (λ t. IsRight w.loaded c.set_text.new.draft.kept t w.shown.kept w.old_knowledge) (sym (marked-back holder other n w.table))
+          (subst (λ f. IsRight w.loaded f (all_rolled_back w.table) w.shown.kept w.old_knowledge) (sym kept) c.self.invariant.before));
+      alone = subst (λ (f : Forest). in_detached f.nodes ≡ []) (sym kept) c.self.invariant.alone;
+      held = c.self.invariant.held;
       bound = c.self.invariant.bound;
-      steady = subst (λ t. OnTrue w.is_steady (AreSteady w.loaded t w.shown.now)) (sym marks.marks) (marked-steady w.loaded w.table w.shown.now w.is_steady c.self.invariant.steady holder other n);
-      steady_before = subst (λ t. OnTrue w.was_steady (AreSteady w.loaded (all_rolled_back t) w.shown.kept)) (sym marks.marks)
-          (subst (λ t. OnTrue w.was_steady (AreSteady w.loaded t w.shown.kept)) (sym (marked-back holder other n w.table)) c.self.invariant.steady_before);
+      first = c.self.invariant.first;
     }
 
 pub returns-clause-done : goal.returns-clause-done

@@ -1,5 +1,4 @@
 use Rattle.std.proofs.Common.{◌≡◌, Ok, map, sym, ap, ◌∙◌, subst}
-use Rattle.std.proofs.lemmas.Bool.{OnTrue_at}
 use Rattle.std.specs.Bool.{OnTrue}
 use Rattle.xf_doc.specs.WellFormed.{HasTrees}
 use Rattle.xf_doc.proofs.TextLaws.{in_forest}
@@ -9,33 +8,39 @@ use Rattle.xf_controls.specs.Seen.{seen_copy}
 use Rattle.xf_form_machine.specs.Update as update
 use Rattle.xf_processor.specs.Formed.{profile}
 use Rattle.xf_work.specs.Does.{Twin}
+use Rattle.xf_work.specs.Fit.{IsRight}
 use Rattle.xf_work.specs.Parts.{standing_of}
 use Rattle.xf_work.specs.Standing.{state_of}
-use Rattle.xf_work.specs.Steady.{AreSteady, IsShaped}
-use Rattle.xf_work.proofs.RefreshLaws.{taken-steady, whole-shaped}
-use Rattle.xf_work.proofs.work.Work.take_controls.Goals.{then-self, else-self}
+use Rattle.xf_work.specs.Steady.{AreSteady}
+use Rattle.xf_work.proofs.RefreshLaws.{steady-taken}
+use Rattle.xf_work.proofs.work.Work.take_controls.Goals.{then-may_be, else-may_be}
 use Rattle.xf_work.proofs.work.Work.take_controls.Goals as goal
 
 pub invariant_of-self : goal.invariant_of-self
 invariant_of-self c =
     let w = c.self.inside in
     let i = c.self.invariant in
-    let shaped : IsShaped w.loaded w.draft.now = whole-shaped w.loaded w.draft.now w.table w.built i.sound.now (subst HasTrees c.forest.ensures (in_forest c.are_trees.ensures)) in
+    let trees : HasTrees w.draft.now = subst HasTrees c.forest.ensures (in_forest c.are_trees.ensures) in
     let shown : update.shown profile (state_of (standing_of w.loaded w.draft.now w.table w.flags.items w.shown.now w.tally)) ≡ Ok (map seen_copy c.args.list) =
     ap (λ (t : Twin). update.shown profile (state_of t.now)) c.self.view_is ∙ c.requires in
     record {
       sound = i.sound;
-      now = i.now;
-      before = i.before;
+      now = record {
+        known = i.now.known;
+        steady = subst (λ list. OnTrue c.if-may_be.self (AreSteady w.loaded w.table list)) (sym c.take.ensures.now) (elim c.if-may_be.branch [
+          | then-may_be t ↦ subst (λ b. OnTrue b (AreSteady w.loaded w.table c.args.list)) (sym t.self-is)
+              (steady-taken w.loaded i.sound.loaded w.draft.now w.table w.flags.items w.shown.now w.tally i.sound.many i.sound.now.hung trees w.bound_nodes c.args.list w.knowledge.is_planted w.is_bound t.is_rising-self-inside.result i.held
+              i.now.planted i.bound (sym c.may_be_steady-may_be.ensures ∙ t.if-may_be.true) (t.is_rising-self-inside.ensures ∙ ap is_rising c.take.ensures.now) shown)
+          | else-may_be e ↦ subst (λ b. OnTrue b (AreSteady w.loaded w.table c.args.list)) (sym (e.self-is ∙ e.if-may_be.false)) tt
+        ]);
+        planted = i.now.planted;
+        alone = i.now.alone;
+      };
+      before = subst (λ list. IsRight w.loaded w.draft.kept (all_rolled_back w.table) list w.old_knowledge) (sym c.take.ensures.kept) i.before;
+      alone = i.alone;
       held = i.held;
       bound = i.bound;
-      steady = subst (λ list. OnTrue c.if-self.self (AreSteady w.loaded w.table list)) (sym c.take.ensures.now) (elim c.if-self.branch [
-        | then-self t ↦ subst (λ b. OnTrue b (AreSteady w.loaded w.table c.args.list)) (sym t.self-is)
-            (taken-steady w.loaded i.sound.loaded w.draft.now w.table w.flags.items w.shown.now w.tally i.sound.many shaped w.bound_nodes c.args.list t.is_rising-self-inside.result i.held
-            (OnTrue_at t.if-self.true i.bound) (t.is_rising-self-inside.ensures ∙ ap is_rising c.take.ensures.now) shown)
-        | else-self e ↦ subst (λ b. OnTrue b (AreSteady w.loaded w.table c.args.list)) (sym (e.self-is ∙ e.if-self.false)) tt
-      ]);
-      steady_before = subst (λ list. OnTrue w.was_steady (AreSteady w.loaded (all_rolled_back w.table) list)) (sym c.take.ensures.kept) i.steady_before;
+      first = i.first;
     }
 
 pub returns-clause-now : goal.returns-clause-now

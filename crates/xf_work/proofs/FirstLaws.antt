@@ -1,0 +1,71 @@
+-- The trees of the document elements, kept when construction has ended, are those that a reset puts back.
+use Rattle.std.proofs.Common.{◌≡◌, ℕ, zero, suc, List, [], ◌∷◌, ◌++◌, map, length, Option, Some, None, Result, Ok, Err, refl, sym, ap, ◌∙◌, subst, ◌⊎◌, inl, inr}
+use Rattle.std.specs.Prelude.{slice_get}
+use Rattle.xf_ast.specs.declared.form.Instance.{Instance}
+use Rattle.xf_name.specs.Bindings.{Bindings}
+use Rattle.xf_name.specs.declared.lit.Lit.{Lit}
+use Rattle.xf_doc.specs.declared.bare.Bare.{Bare}
+use Rattle.xf_doc.specs.declared.content.Node.{Node}
+use Rattle.xf_doc.specs.Changes.{root_of}
+use Rattle.xf_doc.specs.Shape.{shape_of}
+use Rattle.xf_doc.specs.WellFormed.{HasTrees}
+use Rattle.xf_first_laws.specs.First.{AreElements}
+use Rattle.xf_first_laws.proofs.FirstLaws.{first_gives}
+use Rattle.xf_form_machine.specs.Construct.{build_model, construct, first_shown, start_indexes}
+use Rattle.xf_form_machine.specs.Cycles.{counted_from}
+use Rattle.xf_form_machine.specs.Flow.{◌>>=◌, in_turn}
+use Rattle.xf_form_machine.specs.Refusal.{Refused}
+use Rattle.xf_form_machine.specs.State.{State}
+use Rattle.xf_form_machine.specs.Surround.{document_under, interface}
+use Rattle.xf_lang.proofs.VisitFacts.{none-some, some-same}
+use Rattle.xf_loader.specs.declared.loaded.Loaded.{Loaded}
+use Rattle.xf_processor.specs.Formed.{contents_in, document_of, profile, program_in}
+use Rattle.xf_ui.specs.Cases.{first_cases}
+use Rattle.xf_work.specs.Around.{document_below}
+use Rattle.xf_work.specs.FirstData.{AreContents, AreDocuments, AreOfElements, IsDocument}
+use Rattle.xf_work.specs.Held.{planted_shape, shape_by}
+use Rattle.xf_work.specs.Planting.{planted_by}
+
+more-at : (trees : List Bare) (tree : Bare) (place : ℕ) (other : Bare) → slice_get (trees ++ tree ∷ []) place ≡ Some other → (slice_get trees place ≡ Some other) ⊎ ((place ≡ length trees) × (other ≡ tree))
+more-at [] tree zero other e = inr (refl, sym (some-same e))
+more-at [] tree (suc place) other e = none-some e
+more-at (t ∷ ts) tree zero other e = inl e
+more-at (t ∷ ts) tree (suc place) other e = elim (more-at ts tree place other e) [ inl i ↦ inl i | inr i ↦ inr (ap suc i.0, i.1) ]
+
+-- one tree more
+pub documents-more : (nodes : List Node) (trees : List Bare) (tree : Bare) → AreDocuments nodes trees → IsDocument (length trees) nodes tree → AreDocuments nodes (trees ++ tree ∷ [])
+documents-more nodes trees tree h one place other at = elim (more-at trees tree place other at) [
+  | inl i ↦ h place other i
+  | inr i ↦ subst (λ k. IsDocument k nodes other) (sym i.0) (subst (IsDocument (length trees) nodes) (sym i.1) one)
+]
+
+elements-are : (b : Bindings) (tree : Lit) (is : List Instance) → AreOfElements tree is → AreElements b (map (document_of b tree) is)
+elements-are b tree [] h = tt
+elements-are b tree (i ∷ is) h = ((h.0.0, i.space, ap (contents_in b i.space) h.0.1), elements-are b tree is h.1)
+
+below-under : (s : State) (o : Option ℕ) → document_below s.forest.nodes o ≡ document_under s o
+below-under s None = refl
+below-under s (Some r) = refl
+
+abbrev Begun : Loaded → Type 0
+Begun l = (planted : State) × (planted_by l ≡ Ok planted)
+
+abbrev then_built : State → Result State Refused
+then_built s =
+    in_turn (build_model profile) (counted_from 0 (length s.models)) s >>= λ t. start_indexes profile (record t { cases = first_cases (interface t) }) >>= first_shown profile
+
+begun : (l : Loaded) (first : State) → construct profile (program_in l) ≡ Ok first → Begun l
+begun l first e = by (planted_by l) refl e
+  where
+    by : (r : Result State Refused) → planted_by l ≡ r → (r >>= then_built) ≡ Ok first → Begun l
+    by (Err x) i j = cc j
+    by (Ok s) i j = (s, i)
+
+pub first-data : (l : Loaded) (first : State) (trees : List Bare) → AreOfElements l.lit l.form.tables.instances → construct profile (program_in l) ≡ Ok first → HasTrees first.forest
+    → shape_of first.forest.nodes ≡ planted_shape l → AreDocuments first.forest.nodes trees → AreContents l trees
+unfolding planted_shape
+first-data l first trees are built sound same documents place tree at =
+    let b = begun l first built in
+    let d = documents place tree at in
+    first_gives profile (program_in l) l.prefixes b.0 first (elements-are l.prefixes l.lit l.form.tables.instances are) b.1 built sound (same ∙ ap shape_by b.1) place d.number tree
+    (sym (below-under first (root_of place first.forest.nodes)) ∙ d.document) d.is_bare
