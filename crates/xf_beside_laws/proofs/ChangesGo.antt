@@ -2,10 +2,13 @@
 use Rattle.std.proofs.Common.{ℕ, zero, suc, ◌+◌, ◌≡◌, Bool, true, false, List, [], ◌∷◌, map, length, Option, Some, None, Result, Ok, Err, nat_lt, refl, ap, ◌∙◌}
 use Rattle.xf_doc.specs.declared.content.Content.{Content}
 use Rattle.xf_doc.specs.declared.fault.TreeFault.{TreeFault}
-use Rattle.xf_doc.specs.Forest.{Forest}
+use Rattle.xf_doc.specs.Changes.{copied, attached, detached, standing}
+use Rattle.xf_doc.specs.Forest.{Forest, tree_of}
 use Rattle.xf_doc.specs.Limits.{passed_by_text, unless}
+use Rattle.xf_doc.specs.Planted.{with_tree}
 use Rattle.xf_doc.specs.Shape.{has_elements, shape_of}
 use Rattle.xf_doc.specs.Texts.{with_text, new_texts}
+use Rattle.xf_doc.specs.Visit.{parent_of}
 use Rattle.xf_model.specs.Applied.{Entry, Exception, twice, on_parent, applied}
 use Rattle.xf_model.specs.Entries.{edge_count}
 use Rattle.xf_model.specs.Circular.{Reader}
@@ -18,17 +21,17 @@ use Rattle.xf_form_machine.specs.Profile.{Profile}
 use Rattle.xf_form_machine.specs.State.{Model, State}
 use Rattle.xf_form_machine.specs.Refusal.{Refused, or_long, unless_passed, if_over}
 use Rattle.xf_form_machine.specs.Flow.{Run, ◌>>=◌}
-use Rattle.xf_form_machine.specs.Surround.{interface, all_in, quiet, bind_scope, model_holding}
-use Rattle.xf_form_machine.specs.Primitives.{spent_from, in_model, in_some_model, texts_due, with_text_mark, is_other_text, if_other, grown, grown_to, over_made, set_text}
+use Rattle.xf_form_machine.specs.Surround.{interface, all_in, document_at, quiet, bind_scope, model_holding}
+use Rattle.xf_form_machine.specs.Primitives.{spent_from, in_model, in_some_model, all_due, texts_due, with_text_mark, with_list_mark, list_changed, is_other_text, if_other, with_forest, grown, grown_to, grown_by, over_made, set_text, copy, plant, attach, detach}
 use Rattle.xf_form_machine.specs.Properties.{marks_in}
 use Rattle.xf_form_machine.specs.SetValue.{unless_parent}
 use Rattle.xf_form_machine.specs.Behave.{asked_by_all, rebuilt_with, unless_cycle, no_cycle, by_applied, rebuild, recalculate, revalidate}
 use Rattle.xf_form_machine.specs.Update.{with_brought, reindex, within_controls, shown}
 use Rattle.xf_form_machine.specs.Events.{Fired, told_by}
-use Rattle.xf_form_machine.specs.Construct.{rooted, plant_document, build_model, first_shown}
+use Rattle.xf_form_machine.specs.Construct.{rooted, plant_document, build_model, first_shown, replace_at, replace, first_contents, put_back}
 use Rattle.xf_beside_laws.specs.Beside.{Beside, beside, besides, read_beside, made_beside, GoesBeside, ReadsBeside, MakesBeside, TurnsBeside}
 use Rattle.xf_beside_laws.specs.Laws.{refreshed, ChangesGoBeside}
-use Rattle.xf_beside_laws.proofs.Going.{then-goes, then-makes, then-reads, then-run, long-reads, passed-reads}
+use Rattle.xf_beside_laws.proofs.Going.{some-goes, then-goes, then-makes, made-then, then-reads, then-run, long-reads, passed-reads}
 
 -- ---- turns and texts
 
@@ -60,6 +63,46 @@ text-goes p n text b s =
 parent-goes : (b : Beside) (c : Bool) (n : ℕ) (s : State) → unless_parent c n (λ t. Ok t) (beside b s) ≡ besides b (unless_parent c n (λ t. Ok t) s)
 parent-goes b false n s = refl
 parent-goes b true n s = refl
+
+-- ---- trees that come and go
+
+made-past : (b : Beside) (words : List LimitWord) (top : ℕ) (forest : Forest) (s t : State)
+    → grown_by (unless_passed (beside b s) words ((top, forest), beside b t)) ≡ made_beside b (grown_by (unless_passed s words ((top, forest), t)))
+made-past b [] top forest s t = refl
+made-past b (word ∷ words) top forest s t = refl
+
+made-goes : (p : Profile) (count : ℕ) (r : Result (ℕ × Forest) TreeFault) → MakesBeside (λ s. grown_by (grown p count r s))
+made-goes p count (Err fault) b s = refl
+made-goes p count (Ok (top, forest)) b s = made-past b (over_made p (s.made + count)) top forest s (record s { made = s.made + count })
+
+copy-makes : (p : Profile) (n : ℕ) → MakesBeside (copy p n)
+copy-makes p n b s = made-goes p (length (tree_of n s.forest.nodes)) (copied p.bounds.limits n s.forest) b s
+
+plant-makes : (p : Profile) (contents : List (ℕ × Content)) → MakesBeside (plant p contents)
+plant-makes p contents b s = made-goes p (length contents) (with_tree p.bounds.limits contents s.forest) b s
+
+list-turns : (o : Option ℕ) → TurnsBeside (list_changed o)
+list-turns None b s = refl
+list-turns (Some parent) b s = some-model (λ m. all_due (with_list_mark parent m)) (model_holding s parent) b s
+
+attach-goes : (p : Profile) (n parent place : ℕ) → GoesBeside (attach p n parent place)
+attach-goes p n parent place b s =
+    let past = attached p.bounds.limits n parent place s.forest in
+    ap (λ m. grown_to (grown p 0 past m)) (list-turns (Some parent) b s) ∙ grown-goes p 0 past b (list_changed (Some parent) s)
+
+detach-turns : (n : ℕ) → TurnsBeside (detach n)
+detach-turns n b s = ap (with_forest (detached n s.forest)) (list-turns (parent_of n (all_in s)) b s)
+
+replace-goes : (p : Profile) (n : ℕ) (contents : List (ℕ × Content)) (at : ℕ × ℕ) → GoesBeside (replace_at p n contents at)
+replace-goes p n contents (parent, place) b s =
+    ap (λ r. r >>= λ made. attach p made.0 parent place (detach n made.1)) (plant-makes p contents b s)
+    ∙ made-then b (plant p contents s) (λ made. attach p made.0 parent place (detach n made.1))
+    (λ top t. ap (attach p top parent place) (detach-turns n b t) ∙ attach-goes p top parent place b (detach n t))
+
+put-goes : (p : Profile) (first : Result State Refused) (place : ℕ) → GoesBeside (put_back p first place)
+put-goes p first place b s =
+    let contents = first_contents first place in
+    some-goes (document_at s place) (λ n. replace p n contents) (λ n c t. some-goes (standing n t.forest.nodes) (replace_at p n contents) (replace-goes p n contents) c t) b s
 
 -- ---- the behaviours
 
@@ -174,6 +217,11 @@ changes_go_beside p = record {
   plant_document = document-goes p;
   build_model = build-goes p;
   first_shown = first-goes p;
+  copy = copy-makes p;
+  plant = plant-makes p;
+  attach = attach-goes p;
+  detach = detach-turns;
+  put_back = put-goes p;
   fresh = λ b s. refl;
   at_end = λ b s. refl;
 }

@@ -33,6 +33,12 @@ pub then-makes : {X : Type 0} (b : Beside) (r : Result State Refused) (next : St
 then-makes b (Err x) next g = refl
 then-makes b (Ok t) next g = g b t
 
+-- what a change gives is used in the next one
+pub made-then : {X : Type 0} (b : Beside) (r : Result (X × State) Refused) (next : X × State → Result State Refused)
+    → ((x : X) (t : State) → next (x, beside b t) ≡ besides b (next (x, t))) → made_beside b r >>= next ≡ besides b (r >>= next)
+made-then b (Err x) next g = refl
+made-then b (Ok (x, t)) next g = g x t
+
 -- ---- of readings
 
 pub then-reads : {X Y : Type 0} (b : Beside) (r : Result X Refused) (one other : X → Result Y Refused) → ((x : X) → one x ≡ read_beside b (other x))

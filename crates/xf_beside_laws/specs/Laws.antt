@@ -13,12 +13,12 @@ use Rattle.xf_form_machine.specs.State.{Model, State}
 use Rattle.xf_form_machine.specs.Refusal.{Refused, or_long}
 use Rattle.xf_form_machine.specs.Flow.{Run, ◌>>=◌}
 use Rattle.xf_form_machine.specs.Surround.{Told, interface, all_in, instance_holding, given, around, quiet}
-use Rattle.xf_form_machine.specs.Primitives.{in_model, spend, set_text}
+use Rattle.xf_form_machine.specs.Primitives.{in_model, spend, set_text, copy, plant, attach, detach}
 use Rattle.xf_form_machine.specs.Properties.{readonly_in, path_in}
 use Rattle.xf_form_machine.specs.SetValue.{unless_parent}
 use Rattle.xf_form_machine.specs.Behave.{model_at, rebuild, recalculate, revalidate}
 use Rattle.xf_form_machine.specs.Update.{reindex, shown, refresh_cleared, all_cleared, is_due, is_refresh_due}
-use Rattle.xf_form_machine.specs.Construct.{plant_document, build_model, first_shown}
+use Rattle.xf_form_machine.specs.Construct.{plant_document, build_model, first_shown, put_back}
 use Rattle.xf_form_machine.specs.Events.{Fired, told_by, fired_at}
 use Rattle.xf_form_machine.specs.Acting.{Acting, acting, surroundings, binding_of, value_for, truth_for, text_for, whole_for}
 use Rattle.xf_form_machine.specs.Choose.{named_copy}
@@ -48,6 +48,12 @@ pub record ChangesBeside (p : Profile) : Type 0 where
   pub plant_document : (contents : List (ℕ × Content)) → GoesBeside (plant_document p contents)
   pub build_model : (model : ℕ) → GoesBeside (build_model p model)
   pub first_shown : GoesBeside (first_shown p)
+  -- trees that come and go
+  pub copy : (n : ℕ) → MakesBeside (copy p n)
+  pub plant : (contents : List (ℕ × Content)) → MakesBeside (plant p contents)
+  pub attach : (n parent place : ℕ) → GoesBeside (attach p n parent place)
+  pub detach : (n : ℕ) → TurnsBeside (detach n)
+  pub put_back : (first : Result State Refused) (place : ℕ) → GoesBeside (put_back p first place)
   -- what an event begins and ends with
   pub fresh : SameBeside (fresh p)
   pub at_end : SameBeside (at_end p)

@@ -20,14 +20,15 @@ use Rattle.xf_form_machine.specs.Told.{told, Tells}
 use Rattle.xf_form_machine.specs.Update as update
 use Rattle.xf_machine_laws.specs.Rowless.{IsWithoutRows, Rowless, HasSteps}
 use Rattle.xf_machine_laws.proofs.RowlessLaws.{reindex-none, state_without_rows}
-use Rattle.xf_beside_laws.specs.Beside.{Beside, beside, besides, made_beside, GoesBeside, TurnsBeside}
+use Rattle.xf_beside_laws.specs.Beside.{Beside, beside, besides, made_beside, GoesBeside, MakesBeside, TurnsBeside}
 use Rattle.xf_beside_laws.proofs.ChangesGo.{changes_go_beside}
-use Rattle.xf_actions.specs.Performs.{Among, IsTold, RefusedAs, Refuses, Runs, Reads}
+use Rattle.xf_actions.specs.Performs.{Among, IsTold, RefusedAs, Refuses, Runs, Makes, Reads}
 use Rattle.xf_actions.specs.Told.{cleared_by, refreshed}
 use Rattle.xf_processor.specs.Formed.{profile}
 use Rattle.xf_work.specs.declared.fault.WorkFault.{WorkFault}
 use Rattle.xf_work.specs.declared.fault.WorkFault.TheVariants as fault
 use Rattle.xf_work.specs.Calls.{AreRefreshed}
+use Rattle.xf_work.specs.Does as work
 use Rattle.xf_work.specs.Does.{Does, IsRefused}
 use Rattle.xf_work.specs.Standing.{Standing, state_of}
 use Rattle.xf_world.specs.declared.fault.EventFault.{EventFault}
@@ -89,6 +90,27 @@ pub reads-told : {X : Type 0} (notes : List Note) (run : Run) → GoesBeside run
     → Does done now (run (state_of now)) → answer ≡ event_of done
     → Reads means (λ (x : X). beside (noted notes) (state_of now)) (beside (noted notes) (state_of now)) answer (run (beside (noted notes) (state_of now)))
 reads-told notes run g now done answer d e = runs-read (beside (noted notes) (state_of now)) answer _ (runs-told notes run g now now done answer d e)
+
+-- ---- changes that give a value
+
+refused-made : {X : Type 0} (notes : List Note) (refusal : Refusal) (given : Result (X × State) Refused) → IsRefused refusal given → RefusedAs (told refusal) [] (made_beside (noted notes) given)
+refused-made notes refusal (Ok (x, t)) h = h
+refused-made notes refusal (Err r) h = (tells-told refusal r.why h.0, refl)
+
+module _ {X Y : Type 0} (notes : List Note) (view : X → Y) (change : State → Result (Y × State) Refused) (g : MakesBeside change) (before after : Standing) where
+  makes-beside : (done : Result X WorkFault) → work.Makes view done after (change (state_of before))
+      → Makes means view (beside (noted notes) (state_of after)) (event_of done) (change (beside (noted notes) (state_of before)))
+  unfolding Refuses
+  makes-beside (Ok x) d = g (noted notes) (state_of before) ∙ ap (made_beside (noted notes)) d
+  makes-beside (Err (fault.Refused refusal)) d =
+      subst (RefusedAs (told refusal) []) (sym (g (noted notes) (state_of before))) (refused-made notes refusal (change (state_of before)) d)
+  makes-beside (Err fault.Memory) d = d
+
+  -- told as an answer of an event
+  pub makes-told : (done : Result X WorkFault) (answer : Result X EventFault) → work.Makes view done after (change (state_of before)) → answer ≡ event_of done
+      → Makes means view (beside (noted notes) (state_of after)) answer (change (beside (noted notes) (state_of before)))
+  makes-told done answer d e =
+      subst (λ r. Makes means view (beside (noted notes) (state_of after)) r (change (beside (noted notes) (state_of before)))) (sym e) (makes-beside done d)
 
 -- ---- a refresh
 

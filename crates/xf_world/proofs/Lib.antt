@@ -1,9 +1,7 @@
 pub mod AroundLaws
-pub mod AskLaws
 pub mod Besides
 pub mod MessageReads
 pub mod NoteLaws
 pub mod ReadLaws
-pub mod RowLaws
 pub mod HoldLaws
 pub mod OutsideLaws

@@ -12,7 +12,7 @@ use Rattle.xf_form_machine.specs.Surround.{interface, quiet}
 use Rattle.xf_machine_laws.specs.Rowless.{IsWithoutRows}
 use Rattle.xf_actions.specs.Texts.{message_text}
 use Rattle.xf_processor.specs.Formed.{profile}
-use Rattle.xf_world.proofs.RowLaws.{inside-rows, text-rows, with_rows}
+use Rattle.xf_context.proofs.RowLaws.{inside-rows, text-rows, with_rows}
 
 module _ (s : State) (rowless : IsWithoutRows (interface s)) (x : Acting) where
   abbrev f : Interface

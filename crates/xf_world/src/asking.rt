@@ -20,7 +20,7 @@ use xf_ast::Expr;
 use xf_context::value;
 use xf_doc::{NodeId, NodeList};
 use xf_eval::{nodes_in, single};
-use xf_small_forest::held_at;
+use xf_insert::held_at;
 
 /// The nodes to copy: those of `origin`, else the last one of the set.
 pub(crate) fn origin(

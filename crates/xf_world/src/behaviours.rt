@@ -19,10 +19,10 @@ ghost use Rattle.xf_actions.specs.Told.{cleared_by, is_set, refreshed};
 ghost use Rattle.xf_processor.specs.Formed.{profile};
 ghost use Rattle.xf_work.specs.Calls.{Refreshes};
 ghost use Rattle.xf_work.specs.Flags.{flag_of};
-ghost use Rattle.xf_world.specs.Fault.{event_of, means};
+ghost use Rattle.xf_world.specs.Fault.{means};
 ghost use Rattle.xf_world.specs.State.{kept_of, state_of};
 
-use crate::fault::EventFault;
+use crate::fault::{EventFault, as_event};
 use crate::form_world::FormWorld;
 use std::alloc::{AllocError, Global};
 use xf_actions::{Fired, FiredList, Flag};
@@ -151,16 +151,6 @@ pub(crate) fn revalidate(world: &mut FormWorld, model: u32) -> Result<(), EventF
     let done = world.work.revalidate(model);
     world.work.same_form();
     as_event(done)
-}
-
-/// The fault of what an engine works on is that of an event.
-fn as_event(done: Result<(), WorkFault>) -> Result<(), EventFault>
-    ensures { result ≡ event_of done }
-{
-    match done {
-        Ok(()) => Ok(()),
-        Err(fault) => Err(EventFault::from(fault)),
-    }
 }
 
 /// Makes the controls afresh, and gives what is told of the differences.

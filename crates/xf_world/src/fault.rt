@@ -1,5 +1,8 @@
 //! Why an event is refused.
 
+ghost use Rattle.std.specs.Prelude.{◌≡◌};
+ghost use Rattle.xf_world.specs.Fault.{event_of};
+
 use std::alloc::{AllocError, AllocFailed};
 use xf_actions::WorldFault;
 use xf_eval::EvalFault;
@@ -79,5 +82,15 @@ impl From<WorkFault> for EventFault {
             WorkFault::Refused(refusal) => EventFault::Refused(refusal),
             WorkFault::Memory => EventFault::Memory,
         }
+    }
+}
+
+/// The answer of a call on what an engine works on, as one of an event.
+pub(crate) fn as_event<T>(done: Result<T, WorkFault>) -> Result<T, EventFault>
+    ensures { result ≡ event_of done }
+{
+    match done {
+        Ok(value) => Ok(value),
+        Err(fault) => Err(EventFault::from(fault)),
     }
 }

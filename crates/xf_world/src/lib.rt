@@ -4,6 +4,7 @@
 mod absent;
 mod asking;
 mod behaviours;
+mod changed;
 mod elements;
 mod fault;
 mod form_world;
@@ -11,10 +12,12 @@ mod handlers;
 mod holding;
 mod noting;
 mod outside;
+mod planning;
 mod reading;
 mod speaking;
 mod surrounding;
 mod telling;
+mod trees;
 mod world;
 
 pub use fault::EventFault;

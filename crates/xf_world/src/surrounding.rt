@@ -20,6 +20,7 @@ pub(crate) fn over_event<'a>(world: &'a FormWorld, fired: &'a Fired) -> Over<'a>
         form: &loaded.form,
         prefixes: &loaded.prefixes,
         forest: world.work.forest(),
+        indexes: None,
         told: Some(fired.properties.as_slice()),
     }
 }
@@ -35,6 +36,7 @@ pub(crate) fn over_quiet(world: &FormWorld) -> Over<'_>
         form: &loaded.form,
         prefixes: &loaded.prefixes,
         forest: world.work.forest(),
+        indexes: None,
         told: None,
     }
 }

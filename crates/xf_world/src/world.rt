@@ -3,7 +3,8 @@
 use crate::fault::EventFault;
 use crate::form_world::FormWorld;
 use crate::{
-    absent, asking, behaviours, elements, handlers, holding, noting, reading, speaking, telling,
+    absent, asking, behaviours, changed, elements, handlers, holding, noting, planning, reading,
+    speaking, telling, trees,
 };
 use std::alloc::Global;
 use xf_actions::{
@@ -104,7 +105,7 @@ impl World for FormWorld {
     }
 
     fn put_back(&mut self, instance: u32) -> Result<(), EventFault> {
-        absent::put_back(self, instance)
+        trees::put_back(self, instance)
     }
 
     fn end_event(&self, ending: &Ending) -> Result<Option<Fired>, EventFault> {
@@ -276,7 +277,7 @@ impl World for FormWorld {
         origin: &NodeList,
         at: Option<i64>,
     ) -> Result<PlaceList, EventFault> {
-        absent::planned_insert(self, work, focus, set, origin, at)
+        planning::planned_insert(self, work, focus, set, origin, at)
     }
 
     fn insert_location(
@@ -289,7 +290,7 @@ impl World for FormWorld {
     }
 
     fn planned_delete(&self, set: &NodeList, at: Option<i64>) -> Result<NodeList, EventFault> {
-        absent::planned_delete(self, set, at)
+        planning::planned_delete(self, set, at)
     }
 
     fn instance_holding(&self, node: NodeId) -> Option<usize> {
@@ -297,15 +298,15 @@ impl World for FormWorld {
     }
 
     fn copy(&mut self, node: NodeId) -> Result<NodeId, EventFault> {
-        absent::copy(self, node)
+        trees::copy(self, node)
     }
 
     fn attach(&mut self, node: NodeId, parent: NodeId, place: usize) -> Result<(), EventFault> {
-        absent::attach(self, node, parent, place)
+        trees::attach(self, node, parent, place)
     }
 
     fn detach(&mut self, node: NodeId) -> Result<(), EventFault> {
-        absent::detach(self, node)
+        trees::detach(self, node)
     }
 
     fn reindex(&mut self, added: &NodeList) -> Result<(), EventFault> {
@@ -329,7 +330,7 @@ impl World for FormWorld {
         inserting: &Inserting,
         tops: &NodeList,
     ) -> Result<Fired, EventFault> {
-        absent::insert_event(self, instance, inserting, tops)
+        changed::insert_event(self, instance, inserting, tops)
     }
 
     fn delete_event(
@@ -339,7 +340,7 @@ impl World for FormWorld {
         set: &NodeList,
         at: Option<i64>,
     ) -> Result<Fired, EventFault> {
-        absent::delete_event(self, instance, nodes, set, at)
+        changed::delete_event(self, instance, nodes, set, at)
     }
 
     fn event_at(&self, name: &str, target: u32) -> Result<Fired, EventFault> {

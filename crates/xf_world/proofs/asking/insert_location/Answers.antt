@@ -6,7 +6,7 @@ use Rattle.xf_actions.specs.Seen.{focus_of}
 use Rattle.xf_actions.proofs.Flow.{same-reads}
 use Rattle.xf_world.specs.Fault.{means}
 use Rattle.xf_world.specs.State.{state_of}
-use Rattle.xf_world.proofs.AskLaws.{location-empty, location-named}
+use Rattle.xf_events.proofs.AskLaws.{location-empty, location-named}
 use Rattle.xf_world.proofs.asking.insert_location.Goals as goal
 
 pub returns-then-count-eq0 : goal.returns-then-count-eq0

@@ -1,5 +1,5 @@
 use Rattle.std.proofs.Common.{◌≡◌, ◌-◌, suc, length, Ok, sym, ap, ◌∙◌, arith}
-use Rattle.xf_world.proofs.AskLaws.{last-is}
+use Rattle.xf_events.proofs.AskLaws.{last-is}
 use Rattle.xf_world.proofs.asking.last_one.Goals as goal
 
 pub returns-in-Ok : goal.returns-in-Ok

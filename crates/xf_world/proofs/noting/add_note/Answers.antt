@@ -1,6 +1,6 @@
 use Rattle.std.proofs.Common.{sym, ap, ◌∙◌, Ok}
 use Rattle.xf_world.specs.State.{state_of}
-use Rattle.xf_world.proofs.NoteLaws.{note-added, note-over}
+use Rattle.xf_world.proofs.NoteLaws.{note-added}
 use Rattle.xf_world.proofs.noting.add_note.Goals as goal
 
 pub returns-in-Ok-clause-done : goal.returns-in-Ok-clause-done
