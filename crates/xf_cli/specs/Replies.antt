@@ -1,12 +1,12 @@
--- What is written for a line of the events, as far as the program can do it by now: what chooses a row, starts a submission or resets a model
--- is refused as not built; all else is answered as the form machine says.
-use Rattle.std.specs.Prelude.{ℕ, ◌≡◌, Bool, true, false, not, ◌&&◌, List, [], ◌∷◌, length, bytes_eq, codes, nat_lt, Result, Ok, Err, Contains, if◌then◌else◌}
+-- What is written for a line of the events, as far as the program can do it by now: what chooses a row or starts a submission is refused as not
+-- built; all else is answered as the form machine says.
+use Rattle.std.specs.Prelude.{ℕ, ◌≡◌, Bool, true, false, not, ◌&&◌, List, [], ◌∷◌, length, codes, nat_lt, Result, Ok, Err, Contains, if◌then◌else◌}
 use Rattle.std.specs.List.{list_all}
 use Rattle.xf_base.specs.Limits.{line_limit}
 use Rattle.xf_line.specs.declared.event.Asked.{Asked}
 use Rattle.xf_line.specs.declared.event.Asked.TheVariants as asked
 use Rattle.xf_line.specs.declared.event.Event.{Event}
-use Rattle.xf_line.specs.declared.event.Event.TheVariants.{Index, Send, Dispatch, Reset}
+use Rattle.xf_line.specs.declared.event.Event.TheVariants.{Index, Send}
 use Rattle.xf_line.specs.declared.fault.LineFault.{LineFault}
 use Rattle.xf_line.specs.Line.{asked_by}
 use Rattle.xf_form_machine.specs.State.{State}
@@ -19,8 +19,6 @@ use Rattle.xf_processor.specs.Formed.{profile}
 abbrev pub is_unbuilt : Event → Bool
 is_unbuilt (Index id k) = true
 is_unbuilt (Send id) = true
-is_unbuilt (Dispatch name id) = bytes_eq name (codes "xforms-reset")
-is_unbuilt (Reset id) = true
 is_unbuilt event = false
 
 abbrev pub asks_unbuilt : Result Asked LineFault → Bool

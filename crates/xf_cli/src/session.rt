@@ -96,8 +96,6 @@ fn is_unbuilt(event: &Event) -> bool
     match event {
         Event::Index(_, _) => true,
         Event::Send(_) => true,
-        Event::Dispatch(name, _) => name.is("xforms-reset"),
-        Event::Reset(_) => true,
         _ => false,
     }
 }

@@ -1,7 +1,7 @@
 -- What the events from outside do, step by step.
 use Rattle.std.proofs.Common.{codes, ℕ, zero, suc, ◌≡◌, Bool, true, false, ◌&&◌, List, [], ◌∷◌, Option, Some, None, Result, Ok, Err, get_or, refl, ap, ◌∙◌, not}
 use Rattle.std.specs.List.{list_all}
-use Rattle.xf_line.specs.declared.event.Event.TheVariants.{Set, Activate, Dispatch}
+use Rattle.xf_line.specs.declared.event.Event.TheVariants.{Set, Activate, Dispatch, Reset}
 use Rattle.xf_ast.specs.Ordered.{numbered_from, is_none}
 use Rattle.xf_store.specs.declared.call.StoreCall.{StoreCall}
 use Rattle.xf_ui.specs.Interface.{Element, Interface, Sort}
@@ -17,7 +17,7 @@ use Rattle.xf_form_machine.specs.Flow.{Run, ◌>>=◌}
 use Rattle.xf_form_machine.specs.SetValue.{unless_parent}
 use Rattle.xf_form_machine.specs.Surround.{interface}
 use Rattle.xf_form_machine.specs.Targets.{by_role, element_named, or_no_target, unless, takes_text}
-use Rattle.xf_form_machine.specs.Step.{activate, changed_by, set, set_bound, settle, tell, to_element, try_set}
+use Rattle.xf_form_machine.specs.Step.{activate, changed_by, model_named, set, set_bound, settle, tell, to_element, try_set}
 use Rattle.xf_machine_laws.specs.Rowless.{Rowless, copy_at}
 use Rattle.xf_machine_laws.proofs.RowlessLaws.{state_without_rows}
 use Rattle.xf_actions.specs.Performs.{Refuses}
@@ -190,6 +190,20 @@ pub dispatch-tells : (s : State) (name id : List ℕ) (n : ℕ) → Rowless s �
     → changed_by profile [] (Dispatch name id) s ≡ told_plainly profile name n s
 dispatch-tells s name id n q e =
     then-next (target_of Any id s) (λ m. to_element profile [] name m s) n e ∙ (state_without_rows profile s steps q).to_element [] name n
+
+-- ---- a model is reset
+
+pub reset-unnamed : (s : State) (id : List ℕ) (why : Option Refusal) (calls : List StoreCall)
+    → Refuses why calls (or_no_target s (model_named s id)) → Refuses why calls (changed_by profile [] (Reset id) s)
+reset-unnamed s id why calls r = refuses-then why calls (or_no_target s (model_named s id)) (λ n. to_element profile [] (codes "xforms-reset") n s) r
+
+pub reset-tells : (s : State) (id : List ℕ) (n : ℕ) → Rowless s → or_no_target s (model_named s id) ≡ Ok n
+    → changed_by profile [] (Reset id) s ≡ told_plainly profile (codes "xforms-reset") n s
+reset-tells s id n q e =
+    then-next (or_no_target s (model_named s id)) (λ m. to_element profile [] (codes "xforms-reset") m s) n e
+    ∙ (state_without_rows profile s steps q).to_element [] (codes "xforms-reset") n
+
+-- ---- an event at hand
 
 -- one that is made as it is asked for
 abbrev fine : Fired → Result Fired Refused

@@ -1,6 +1,7 @@
 -- The element that an id names, by the elements of a form as they are kept.
-use Rattle.std.proofs.Common.{ℕ, suc, ◌≡◌, ◌+◌, ◌<◌, Bool, true, false, ◌&&◌, List, [], ◌∷◌, map, length, drop, get_or, Option, Some, None, Result, Ok, refl, ap, sym, ◌∙◌, arith, subst}
+use Rattle.std.proofs.Common.{ℕ, suc, ◌≡◌, ◌+◌, ◌<◌, ◌==◌, Bool, true, false, ◌&&◌, List, [], ◌∷◌, map, length, drop, get_or, Option, Some, None, Result, Ok, refl, ap, sym, ◌∙◌, arith, subst}
 use Rattle.std.specs.Prelude.{find, option_map, bytes_eq, if◌then◌else◌}
+use Rattle.std.proofs.lemmas.Bool.{eqb-true}
 use Rattle.std.proofs.lemmas.List.{at_drop_more}
 use Rattle.xf_ast.specs.declared.element.Element.{Element}
 use Rattle.xf_ast.specs.declared.form.Form.{Form}
@@ -8,15 +9,19 @@ use Rattle.xf_ast.specs.declared.form.Tables.{Tables}
 use Rattle.xf_ast.specs.Ordered.{numbered_from}
 use Rattle.xf_ui.specs.Interface as ui
 use Rattle.xf_ui.specs.Interface.{Interface, element_of, interface_of}
+use Rattle.xf_form_machine.specs.Events.{model_element}
 use Rattle.xf_form_machine.specs.Program.{Role, other}
 use Rattle.xf_form_machine.specs.Refusal.{Refused, no_target}
 use Rattle.xf_form_machine.specs.State.{State}
-use Rattle.xf_form_machine.specs.Surround.{interface}
+use Rattle.xf_form_machine.specs.Step.{model_named}
 use Rattle.xf_form_machine.specs.Tables.{role_of}
 use Rattle.xf_form_machine.specs.Targets.{by_role, element_named, is_some_text, or_no_target}
-use Rattle.xf_actions.specs.Performs.{RefusedAs, Refuses}
+use Rattle.xf_actions.specs.Performs.{Reads, RefusedAs, Refuses}
 use Rattle.xf_actions.specs.Seen.{IsProgram}
+use Rattle.xf_world.specs.declared.fault.EventFault.{EventFault}
+use Rattle.xf_world.specs.Fault.{means}
 use Rattle.xf_engine.specs.declared.naming.Wanted.{Wanted}
+use Rattle.xf_engine.specs.declared.naming.Wanted.TheVariants.{Model}
 use Rattle.xf_engine.specs.Naming.{is_named, is_wanted, named_from}
 
 abbrev roles_of : List Element → List Role
@@ -67,6 +72,18 @@ pub target-refuses : (wanted : Wanted) (form : Form) (s : State) (id : List ℕ)
 unfolding Refuses
 target-refuses wanted form s id h e =
     subst (λ (r : Result ℕ Refused). RefusedAs no_target s.calls r) (sym (ap (or_no_target s) (named-target wanted form s id h ∙ e))) (refl, refl)
+
+-- ---- a model
+
+pub first-model : (s : State) (id : List ℕ) (n : ℕ) → (length id == 0) ≡ true → n ≡ model_element s 0 → or_no_target s (model_named s id) ≡ Ok n
+first-model s [] n h e = ap (λ k. or_no_target s (Some k)) (sym e)
+first-model s (b ∷ bs) n h e = absurd (omega (arith, eqb-true (length (b ∷ bs)) 0 h))
+
+-- one that is named by an id
+pub other-model : (s : State) (id : List ℕ) (r : Result ℕ EventFault) → (length id == 0) ≡ false
+    → Reads means (λ n. n) s r (or_no_target s (element_named s (by_role s (is_wanted Model)) id)) → Reads means (λ n. n) s r (or_no_target s (model_named s id))
+other-model s [] r h q = cc
+other-model s (b ∷ bs) r h q = q
 
 -- ---- the loop
 

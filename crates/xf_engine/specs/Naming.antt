@@ -3,13 +3,14 @@ use Rattle.std.specs.Prelude.{ℕ, suc, Bool, true, ◌&&◌, List, [], ◌∷�
 use Rattle.xf_ast.specs.declared.element.Element.{Element}
 use Rattle.xf_form_machine.specs.Program.{Role}
 use Rattle.xf_form_machine.specs.Tables.{role_of}
-use Rattle.xf_form_machine.specs.Targets.{is_some_text, is_entry, is_trigger}
+use Rattle.xf_form_machine.specs.Targets.{is_some_text, is_entry, is_trigger, is_model}
 use Rattle.xf_engine.specs.declared.naming.Wanted.{Wanted}
-use Rattle.xf_engine.specs.declared.naming.Wanted.TheVariants.{Entry, Trigger, Any}
+use Rattle.xf_engine.specs.declared.naming.Wanted.TheVariants.{Entry, Trigger, Model, Any}
 
 abbrev pub is_wanted : Wanted → Role → Bool
 is_wanted Entry role = is_entry role
 is_wanted Trigger role = is_trigger role
+is_wanted Model role = is_model role
 is_wanted Any role = true
 
 abbrev pub is_named : Wanted → List ℕ → Element → Bool

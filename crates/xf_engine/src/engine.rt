@@ -73,7 +73,8 @@ pub fn construct(alloc: Global, loaded: Loaded) -> Result<Constructed, EventFaul
 }
 
 impl Constructed {
-    /// Starts the form (XForms 1.1, section 4.2): an event of its own, with a whole budget. Appends the lines of its notes.
+    /// Starts the form (XForms 1.1, section 4.2): an event of its own, with a whole budget. Appends the lines of its notes. After an `Err` nothing is
+    /// told of the text.
     pub fn start(self, text: &mut String) -> Result<Engine, EventFault>
         ensures { IsStarted result (string_bytes text.old) (string_bytes text.new) (started (state_of self)) }
     {
@@ -93,8 +94,8 @@ impl Constructed {
 
 impl Engine {
     /// Does an event. Where it is accepted its lines are appended: the notes, and how many events were accepted. The answer is how many evaluations
-    /// count. A refusal leaves everything as it was. The index of a repeat, a submission and a reset are not built: they are told as want of
-    /// memory, and who asks for them answers so before.
+    /// count. An `Err` leaves everything as it was but the text, of which nothing is told then. The index of a repeat and a submission are not built:
+    /// they are told as want of memory, and who asks for them answers so before.
     pub fn post(&mut self, event: &Event, text: &mut String) -> Result<u64, EventFault>
         ensures { IsStepped self.old result self.new (string_bytes text.old) (string_bytes text.new) (step profile (state_of self.old) event.now []) }
     {

@@ -3,14 +3,14 @@
 ghost use Rattle.std.specs.Prelude.{◌≡◌, [], option_map};
 ghost use Rattle.xf_form_machine.specs.Step.{changed_by, set_bound as bound_set};
 ghost use Rattle.xf_form_machine.specs.SetValue.{set_node as node_set};
-ghost use Rattle.xf_line.specs.declared.event.Event.TheVariants.{Set, Activate, Dispatch};
+ghost use Rattle.xf_line.specs.declared.event.Event.TheVariants.{Set, Activate, Dispatch, Reset};
 ghost use Rattle.xf_processor.specs.Formed.{profile};
 ghost use Rattle.xf_actions.specs.Performs.{Reads, Runs};
 ghost use Rattle.xf_world.specs.Fault.{means};
 ghost use Rattle.xf_world.specs.State.{kept_of, state_of};
 ghost use Rattle.xf_engine.specs.Tried.{enabled_tried, node_tried, told_plainly};
 
-use crate::naming::{Wanted, copy_in, target};
+use crate::naming::{Wanted, copy_in, model, target};
 use crate::outermost::{settle, tell};
 use xf_actions::World;
 use xf_doc::{NodeId, NodeList};
@@ -27,10 +27,10 @@ pub(crate) fn change(world: &mut FormWorld, event: &Event) -> Result<(), EventFa
         Event::Set(id, rows, text) => set(world, id.as_str(), rows.as_slice(), text.as_str()),
         Event::Activate(id, rows) => activate(world, id.as_str(), rows.as_slice()),
         Event::Dispatch(name, id) => dispatch_to(world, name.as_str(), id.as_str()),
-        // There are no repeats, submissions and resets yet: who asks for them answers so, and does not come here.
+        Event::Reset(id) => reset(world, id.as_str()),
+        // There are no repeats and submissions yet: who asks for them answers so, and does not come here.
         Event::Index(_, _) => Err(EventFault::Memory),
         Event::Send(_) => Err(EventFault::Memory),
-        Event::Reset(_) => Err(EventFault::Memory),
     }
 }
 
@@ -115,6 +115,16 @@ fn dispatch_to(world: &mut FormWorld, name: &str, id: &str) -> Result<(), EventF
     world.without_rows();
     let element = target(world, Wanted::Any, id)?;
     tell_plainly(world, name, element)
+}
+
+/// Tells the model that has this id to reset its data: the first model where the id is empty.
+fn reset(world: &mut FormWorld, id: &str) -> Result<(), EventFault>
+    ensures done { Runs means (state_of world.new) result (changed_by profile [] (Reset id.now) (state_of world.old)) }
+    ensures kept { kept_of world.new ≡ kept_of world.old }
+{
+    world.without_rows();
+    let element = model(world, id)?;
+    tell_plainly(world, "xforms-reset", element)
 }
 
 /// Dispatches an event without properties to the one copy of an element.

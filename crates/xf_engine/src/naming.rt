@@ -2,6 +2,7 @@
 
 ghost use Rattle.std.specs.Prelude.{◌≡◌, option_map, IfOk};
 ghost use Rattle.xf_controls.specs.Seen.{seen_copy};
+ghost use Rattle.xf_form_machine.specs.Step.{model_named};
 ghost use Rattle.xf_form_machine.specs.Tables.{role_of};
 ghost use Rattle.xf_form_machine.specs.Targets.{by_role, element_named, or_no_target};
 ghost use Rattle.xf_machine_laws.specs.Rowless.{copy_at};
@@ -24,6 +25,7 @@ pub enum Wanted {
     Entry,
     /// It is activated.
     Trigger,
+    Model,
     Any,
 }
 
@@ -35,6 +37,16 @@ pub(crate) fn target(world: &FormWorld, wanted: Wanted, id: &str) -> Result<u32,
         Some(element) => Ok(element),
         None => Err(EventFault::Refused(Refusal::NoSuchTarget)),
     }
+}
+
+/// The model that has this id: the first model where the id is empty.
+pub(crate) fn model(world: &FormWorld, id: &str) -> Result<u32, EventFault>
+    ensures { Reads means (λ n. n) (state_of world.now) result (or_no_target (state_of world.now) (model_named (state_of world.now) id.now)) }
+{
+    if id.is_empty() {
+        return Ok(world.model_element(0));
+    }
+    target(world, Wanted::Model, id)
 }
 
 fn first_named(elements: &[Element], wanted: Wanted, id: &str) -> Result<Option<u32>, AllocError>
@@ -68,6 +80,7 @@ fn is_wanted(kind: &Kind, wanted: Wanted) -> bool
     match wanted {
         Wanted::Entry => takes_text(kind),
         Wanted::Trigger => is_activated(kind),
+        Wanted::Model => is_model(kind),
         Wanted::Any => true,
     }
 }
@@ -92,6 +105,15 @@ fn is_activated(kind: &Kind) -> bool
     match kind {
         Kind::Control(_, Control::Trigger) => true,
         Kind::Control(_, Control::Submit(_)) => true,
+        _ => false,
+    }
+}
+
+fn is_model(kind: &Kind) -> bool
+    ensures { result ≡ is_wanted Wanted.Model (role_of kind.now) }
+{
+    match kind {
+        Kind::Model(_) => true,
         _ => false,
     }
 }

@@ -1,5 +1,5 @@
 -- What was not refused as not built.
-use Rattle.std.proofs.Common.{◌≡◌, ℕ, suc, Bool, true, false, not, ◌&&◌, ◌||◌, cond, nat_lt, List, [], ◌∷◌, ◌++◌, length, Option, Some, None, Result, Ok, Err, refl, ap, subst}
+use Rattle.std.proofs.Common.{◌≡◌, ℕ, suc, Bool, true, false, not, ◌&&◌, cond, nat_lt, List, [], ◌∷◌, ◌++◌, length, Option, Some, None, Result, Ok, Err, refl, ap, subst}
 use Rattle.std.specs.Prelude.{option_map}
 use Rattle.std.proofs.lemmas.Bool.{and_from, and_parts}
 use Rattle.xf_ast.specs.declared.element.Control.TheVariants as control
@@ -21,7 +21,7 @@ use Rattle.xf_vocabulary.specs.declared.tag.Tag.{Tag}
 use Rattle.xf_vocabulary.specs.declared.tag.Tag.TheVariants as tag
 use Rattle.xf_refusals.specs.declared.classes.Class.TheVariants as class
 use Rattle.xf_refusals.specs.Classes.{is_of}
-use Rattle.xf_refusals.specs.Limits.{is_built, tells_reset, is_unbuilt, unbuilt_from, first_unbuilt}
+use Rattle.xf_refusals.specs.Limits.{is_built, is_unbuilt, unbuilt_from, first_unbuilt}
 use Rattle.xf_refusals.specs.Paths.{path_of}
 use Rattle.xf_refusals.specs.Refused.{refusal_of, unbuilt_of}
 use Rattle.xf_refusals.specs.Rows.{Seen, is_numbered, is_inline}
@@ -110,6 +110,8 @@ tag-simple d b all place r first known tag.Label e h p = refl
 tag-simple d b all place r first known tag.Trigger e h p = ap is_simple (by-class d b all place r first known tag.Trigger e)
 tag-simple d b all place r first known tag.Action e h p = ap is_simple (by-class d b all place r first known tag.Action e)
 tag-simple d b all place r first known tag.SetValue e h p = ap is_simple (by-class d b all place r first known tag.SetValue e)
+tag-simple d b all place r first known tag.Insert e h p = ap is_simple (by-class d b all place r first known tag.Insert e)
+tag-simple d b all place r first known tag.Delete e h p = ap is_simple (by-class d b all place r first known tag.Delete e)
 tag-simple d b all place r first known tag.Message e h p = ap is_simple (by-class d b all place r first known tag.Message e)
 tag-simple d b all place r first known tag.Load e h p = ap is_simple (by-class d b all place r first known tag.Load e)
 tag-simple d b all place r first known tag.SetFocus e h p = ap is_simple (by-class d b all place r first known tag.SetFocus e)
@@ -118,12 +120,13 @@ tag-simple d b all place r first known tag.Rebuild e h p = ap is_simple (by-clas
 tag-simple d b all place r first known tag.Recalculate e h p = ap is_simple (by-class d b all place r first known tag.Recalculate e)
 tag-simple d b all place r first known tag.Revalidate e h p = ap is_simple (by-class d b all place r first known tag.Revalidate e)
 tag-simple d b all place r first known tag.Refresh e h p = ap is_simple (by-class d b all place r first known tag.Refresh e)
+tag-simple d b all place r first known tag.Reset e h p = ap is_simple (by-class d b all place r first known tag.Reset e)
 tag-simple d b all place r first known t e h p = cc
 
-not-true : (a b more : Bool) → a ≡ true → a && (not b || more) ≡ false → b ≡ true
-not-true true true more h q = refl
-not-true true false more h q = cc
-not-true false b more h q = cc
+not-true : (a b : Bool) → a ≡ true → a && not b ≡ false → b ≡ true
+not-true true true h q = refl
+not-true true false h q = cc
+not-true false b h q = cc
 
 not-false : (b : Bool) → not b ≡ true → b ≡ false
 not-false false h = refl
@@ -133,7 +136,7 @@ row-simple : (d : ℕ) (b : Bindings) (all : List Seen) (place : ℕ) (r : Seen)
 row-simple d b all place r h numbered =
     let kept = and_parts (is_numbered r) true numbered in
     let outside = and_parts (is_outside r.standing.zone) (not (is_passed_over r.tag)) kept.0 in
-    tag-simple d b all place r _ (known_in b r.attributes) r.tag refl (not-true (is_outside r.standing.zone) (is_built r.tag) (tells_reset r) outside.0 h) (not-false (is_passed_over r.tag) outside.1)
+    tag-simple d b all place r _ (known_in b r.attributes) r.tag refl (not-true (is_outside r.standing.zone) (is_built r.tag) outside.0 h) (not-false (is_passed_over r.tag) outside.1)
 
 -- ---- all of them
 

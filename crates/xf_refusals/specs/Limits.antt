@@ -1,7 +1,6 @@
 -- The limits of a form, and what the program cannot run yet.
-use Rattle.std.specs.Prelude.{ℕ, suc, Bool, true, false, not, ◌&&◌, ◌||◌, nat_lt, if◌then◌else◌, List, [], ◌∷◌, codes, count_by, bytes_eq, Option, Some, None}
+use Rattle.std.specs.Prelude.{ℕ, suc, Bool, true, false, not, ◌&&◌, ◌||◌, nat_lt, if◌then◌else◌, List, [], ◌∷◌, codes, count_by, Option, Some, None}
 use Rattle.std.specs.List.{list_any}
-use Rattle.xf_name.specs.declared.lit.Pair.{Pair}
 use Rattle.xf_vocabulary.specs.declared.tag.Tag.{Tag}
 use Rattle.xf_vocabulary.specs.declared.tag.Tag.TheVariants as tag
 use Rattle.xf_refusals.specs.declared.classes.Class.{Class}
@@ -47,6 +46,8 @@ is_built tag.Extension = true
 is_built tag.Trigger = true
 is_built tag.Action = true
 is_built tag.SetValue = true
+is_built tag.Insert = true
+is_built tag.Delete = true
 is_built tag.Message = true
 is_built tag.Load = true
 is_built tag.SetFocus = true
@@ -55,22 +56,11 @@ is_built tag.Rebuild = true
 is_built tag.Recalculate = true
 is_built tag.Revalidate = true
 is_built tag.Refresh = true
+is_built tag.Reset = true
 is_built t = false
 
-abbrev pub is_dispatch : Tag → Bool
-is_dispatch tag.Dispatch = true
-is_dispatch t = false
-
--- an attribute that names the event by which a model is reset
-abbrev pub names_reset : Pair → Bool
-names_reset p = bytes_eq p.name (codes "name") && bytes_eq p.text (codes "xforms-reset")
-
--- it dispatches that event, which is not built
-abbrev pub tells_reset : Seen → Bool
-tells_reset r = is_dispatch r.tag && list_any names_reset r.attributes
-
 abbrev pub is_unbuilt : Seen → Bool
-is_unbuilt r = is_outside r.standing.zone && (not (is_built r.tag) || tells_reset r)
+is_unbuilt r = is_outside r.standing.zone && not (is_built r.tag)
 
 -- the first element that the program cannot run, where the first of these has the place
 abbrev pub unbuilt_from : ℕ → List Seen → Option ℕ

@@ -1,9 +1,12 @@
 use Rattle.std.proofs.lemmas.Result.{err_from_is_err_and}
-use Rattle.xf_engine.proofs.ConstructionLaws.{constructs, loaded-whole, planting-stops, beginning-stops}
+use Rattle.xf_engine.proofs.ConstructionLaws.{begins-as, constructs, loaded-whole, planting-stops, beginning-stops}
 use Rattle.xf_engine.proofs.construction.constructed.Goals as goal
 
 pub planted-requires : goal.planted-requires
 planted-requires c = loaded-whole c.args.loaded c.requires
+
+pub begin-requires-clause-planted : goal.begin-requires-clause-planted
+begin-requires-clause-planted c = begins-as c.args.loaded c.in_ok-work.work.now c.requires c.in_ok-work.ensures.now
 
 pub returns-in_err-work : goal.returns-in_err-work
 returns-in_err-work c =
