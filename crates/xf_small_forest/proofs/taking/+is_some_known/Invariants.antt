@@ -1,5 +1,0 @@
-use Rattle.std.proofs.Common.{length}
-use Rattle.xf_small_forest.proofs.taking.+is_some_known.Given as goal
-
-abbrev pub decreases-is_some_known : goal.decreases-is_some_known
-decreases-is_some_known l = length l.nodes.now

@@ -1,4 +1,0 @@
-pub mod Numbers
-pub mod Names
-pub mod Placing
-pub mod Documents

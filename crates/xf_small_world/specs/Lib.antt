@@ -1,9 +1,0 @@
-pub mod Fault
-pub mod Small
-pub mod Models
-pub mod State
-pub mod Seen
-pub mod Growing
-pub mod Setting
-pub mod Beginning
-pub mod Planting
