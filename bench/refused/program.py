@@ -2,9 +2,10 @@
 """Runs the built program with each of its allocations refused in turn: it must write the right bytes, or a front of them and `fault memory`,
 and end with the right status or with 9.
 
-    bench/refused/program.py REFUSE_SO [PROGRAM]
+    bench/refused/program.py REFUSE_SO [PROGRAM [NAME ..]]
 
-REFUSE_SO is refuse.c beside this file, built as run.sh builds it. What is run are the example of the program and those of `examples`."""
+REFUSE_SO is refuse.c beside this file, built as run.sh builds it. What is run are the example of the program and those of `examples`, or the named
+ones of these alone."""
 import os
 import subprocess
 import sys
@@ -43,8 +44,9 @@ def main():
     refuse = os.path.abspath(sys.argv[1])
     program = os.path.abspath(sys.argv[2] if len(sys.argv) > 2 else f"{TOP}/crates/xforms/out/xforms")
     own = f"{TOP}/crates/xforms"
-    runs = [(f"{own}/data", f"{own}/stdin", f"{own}/stdout")]
-    for name in sorted(os.listdir(f"{TOP}/examples")):
+    names = sys.argv[3:] or sorted(os.listdir(f"{TOP}/examples"))
+    runs = [] if sys.argv[3:] else [(f"{own}/data", f"{own}/stdin", f"{own}/stdout")]
+    for name in names:
         folder = f"{TOP}/examples/{name}"
         runs.append((folder, f"{folder}/events", f"{folder}/replies"))
     bad = 0

@@ -12,7 +12,7 @@ import sys
 
 SHEET = pathlib.Path(__file__).resolve().parents[2] / "crates" / "xf_vectors" / "stdin"
 MARK = "# ---- made by bench/vectors/make.py"
-CRATES = ["num", "types", "dates", "funcs", "path", "json", "name", "table", "line", "graph"]
+CRATES = ["num", "types", "dates", "funcs", "path", "json", "name", "table", "line", "graph", "schema"]
 
 
 def main():
