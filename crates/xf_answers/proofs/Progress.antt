@@ -8,14 +8,14 @@ use Rattle.std.proofs.Math.Seq.{take-append_seam, drop-append_seam, take-append-
 use Rattle.std.specs.Io.KnownBytes.{Appends, prepend_known}
 use Rattle.std.proofs.KnownBytes.{Appends-trans}
 use Rattle.xf_base.specs.Limits.{stream_limit}
-use Rattle.xf_io.specs.Ahead.{Ahead}
+use Rattle.xf_io.specs.Ahead.{Ahead, most_ahead}
 use Rattle.xf_io.specs.Front.{AppendsFront}
 use Rattle.xf_io.specs.Lines.{lines_of, ended_lines, CutsLine, LosesPart, CountsBytes}
 use Rattle.xf_io.proofs.Parts.{lines_of-ended, lines_of-last, ended_lines-ended, ended_lines-open}
 use Rattle.xf_answers.specs.declared.lines.Ending.{Ending}
 use Rattle.xf_answers.specs.declared.lines.Ending.TheVariants.{Done, ReadFault, SinkFault, TooMuch, Memory}
 use Rattle.xf_answers.specs.declared.lines.Next.TheVariants.{Reply, Ends}
-use Rattle.xf_answers.specs.Answers.{Replies, Takes, TakesAll, Exactly, IsBegun, AsFarAs, answered_lines, Answers, AnswersKnown}
+use Rattle.xf_answers.specs.Answers.{Replies, Takes, TakesAll, Exactly, IsBegun, AsFarAs, AllButOne, answered_lines, Answers, AnswersKnown}
 use Rattle.xf_answers.specs.Answering.{EndsOf, NextKnown, Answered}
 use Rattle.xf_answers.proofs.Said.{takes-more}
 
@@ -195,9 +195,10 @@ given_part replies first now all rest new part ended count done so_far running l
 )
 
 ends_fault : {A : Type 0} (replies : Replies A) (first now : A) (all rest left part : List ℕ) (ended : Bool) (count : ℕ) (done : List ℕ)
-    → Progress replies first now all rest ended count done → ended ≡ false → LosesPart rest left part → Answers replies ReadFault first all left done
-ends_fault replies first now all rest left part ended count done so_far running lost =
-    let parts = given_part replies first now all rest left part ended count done so_far running lost in (so_far.given ++ part, parts.0, parts.1)
+    → Progress replies first now all rest ended count done → ended ≡ false → LosesPart rest left part → count + length part ≤ stream_limit → Answers replies ReadFault first all left done
+ends_fault replies first now all rest left part ended count done so_far running lost within =
+    let parts = given_part replies first now all rest left part ended count done so_far running lost in
+    (so_far.given ++ part, parts.0, omega (arith, within, so_far.counted, length-append so_far.given part), parts.1)
 
 ends_much : {A : Type 0} (replies : Replies A) (first now : A) (all rest new part : List ℕ) (ended : Bool) (count total : ℕ) (left done : List ℕ)
     → Progress replies first now all rest ended count done → ended ≡ false → LosesPart rest new part → 0 < length new → total ≡ stream_limit → total ≡ count + length part
@@ -211,14 +212,35 @@ ends_much replies first now all rest new part ended count total left done so_far
       subst (λ g. Exactly replies first (ended_lines g) done) (sym front) parts.1,
     )
 
-ends_memory : {A : Type 0} (replies : Replies A) (first now : A) (all rest left : List ℕ) (ended : Bool) (count : ℕ) (done : List ℕ)
-    → Progress replies first now all rest ended count done → count ≤ stream_limit → Answers replies Memory first all left done
-ends_memory replies first now all rest left ended count done so_far within =
-    let b = begins replies first now all rest ended count done so_far within in (
-      length so_far.lines,
-      now,
-      subst (λ ls. TakesAll replies first ls done now) (sym (ap (take (length so_far.lines)) b.1 ∙ take-append_seam so_far.lines b.0)) so_far.said,
-    )
+-- of the line in work at most one is ended
+in_work : (old new bytes : List ℕ) (ahead : Ahead) → old ≡ bytes ++ new → EndsOf old new ahead Memory → (ended_lines bytes ≡ []) ⊎ ((line : List ℕ) × (ended_lines bytes ≡ line ∷ []))
+in_work old new bytes ahead taken (inl lost) =
+    inl (ap ended_lines (append_cancel_right bytes lost.0 new (sym taken ∙ lost.1.taken)) ∙ ended_lines-open lost.0 lost.1.without_line_feed)
+in_work old new bytes ahead taken (inr cut) =
+    let line : List ℕ = cut.0 in
+    elim cut.1.ends [
+      | inl fed ↦ inr (line, ap ended_lines (append_cancel_right bytes (line ++ 10 ∷ []) new (sym taken ∙ fed ∙ sym (append_assoc line (10 ∷ []) new))) ∙ ended_lines-ended line [] cut.1.without_line_feed)
+      | inr last ↦ inl (ap ended_lines (sym (append-nil bytes) ∙ ap (λ n. bytes ++ n) (sym last.none_left) ∙ sym taken ∙ last.all) ∙ ended_lines-open line cut.1.without_line_feed)
+    ]
+
+all_but_one : {A : Type 0} (replies : Replies A) (first now : A) (all lines : List (List ℕ)) (last done : List ℕ) → all ≡ lines ++ ended_lines last → TakesAll replies first lines done now
+    → (ended_lines last ≡ []) ⊎ ((line : List ℕ) × (ended_lines last ≡ line ∷ [])) → AllButOne replies first all done
+all_but_one replies first now all lines last done split said (inl none) =
+    inl (now, subst (λ ls. TakesAll replies first ls done now) (sym (split ∙ ap (λ l. lines ++ l) none ∙ append-nil lines)) said)
+all_but_one replies first now all lines last done split said (inr one) = inr (lines, one.0, split ∙ ap (λ l. lines ++ l) one.1, (now, said))
+
+ends_memory : {A : Type 0} (replies : Replies A) (first now : A) (all rest left bytes : List ℕ) (ended : Bool) (count : ℕ) (ahead : Ahead) (done : List ℕ)
+    → Progress replies first now all rest ended count done → ended ≡ false → EndsOf rest (ahead.bytes ++ left) ahead Memory → rest ≡ bytes ++ (ahead.bytes ++ left)
+    → count + length bytes ≤ stream_limit → length ahead.bytes ≤ most_ahead → Answers replies Memory first all left done
+ends_memory replies first now all rest left bytes ended count ahead done so_far running ends taken within few = (
+  so_far.given ++ bytes,
+  ahead.bytes,
+  so_far.taken ∙ ap (λ r. so_far.given ++ r) taken ∙ sym (append_assoc so_far.given bytes (ahead.bytes ++ left)),
+  omega (arith, within, so_far.counted, length-append so_far.given bytes),
+  few,
+  all_but_one replies first now (ended_lines (so_far.given ++ bytes)) so_far.lines bytes done (still_open replies first now all rest ended count done so_far running bytes) so_far.said
+      (in_work rest (ahead.bytes ++ left) bytes ahead taken ends),
+)
 
 -- ---- the same where the source tells its bytes, and not else
 
@@ -239,30 +261,33 @@ same_length bytes part new e = ap length (append_cancel_right bytes part new e)
 ends_of : {A : Type 0} (replies : Replies A) (ending : Ending) (first now : A) (all rest left : List ℕ) (before ahead : Ahead) (done : List ℕ)
     → Progress replies first now all rest before.ended before.given done
     → EndsOf rest (ahead.bytes ++ left) ahead ending → (before.ended ≡ true → Ends ending ≡ Ends Done) → CountsBytes (Some rest) (Some (ahead.bytes ++ left)) before.given ahead.given
-    → before.given ≤ stream_limit → Answers replies ending first all left done
-ends_of replies Done first now all rest left before ahead done so_far ends stays counts within =
+    → before.given ≤ stream_limit → length ahead.bytes ≤ most_ahead → Answers replies ending first all left done
+ends_of replies Done first now all rest left before ahead done so_far ends stays counts within few =
     ends_done replies first now all ahead.bytes left before.ended before.given done (subst (λ r. Progress replies first now all r before.ended before.given done) ends.0 so_far) ends.1 within
-ends_of replies ReadFault first now all rest left before ahead done so_far ends stays counts within =
-    ends_fault replies first now all rest left ends.0 before.ended before.given done so_far (running before.ended ReadFault stays (λ e. cc))
-    (subst (λ b. LosesPart rest (b ++ left) ends.0) ends.2 ends.1)
-ends_of replies SinkFault first now all rest left before ahead done so_far ends stays counts within = absurd ends
-ends_of replies TooMuch first now all rest left before ahead done so_far ends stays counts within =
+ends_of replies ReadFault first now all rest left before ahead done so_far ends stays counts within few =
+    let part : List ℕ = ends.0 in
+    let size : length counts.bytes ≡ length part = same_length counts.bytes part (ahead.bytes ++ left) (sym counts.taken ∙ ends.1.taken) in
+    ends_fault replies first now all rest left part before.ended before.given done so_far (running before.ended ReadFault stays (λ e. cc))
+    (subst (λ b. LosesPart rest (b ++ left) part) ends.2 ends.1) (omega (arith, counts.counted, counts.within, size))
+ends_of replies SinkFault first now all rest left before ahead done so_far ends stays counts within few = absurd ends
+ends_of replies TooMuch first now all rest left before ahead done so_far ends stays counts within few =
     let part : List ℕ = ends.0 in
     let size : length counts.bytes ≡ length part = same_length counts.bytes part (ahead.bytes ++ left) (sym counts.taken ∙ ends.1.taken) in
     ends_much replies first now all rest (ahead.bytes ++ left) part before.ended before.given ahead.given left done so_far (running before.ended TooMuch stays (λ e. cc)) ends.1 ends.2 ends.3
     (counts.counted ∙ ap (λ n. before.given + n) size)
-ends_of replies Memory first now all rest left before ahead done so_far ends stays counts within =
-    ends_memory replies first now all rest left before.ended before.given done so_far within
+ends_of replies Memory first now all rest left before ahead done so_far ends stays counts within few =
+    let total : before.given + length counts.bytes ≤ stream_limit = omega (arith, counts.counted, counts.within) in
+    ends_memory replies first now all rest left counts.bytes before.ended before.given ahead done so_far (running before.ended Memory stays (λ e. cc)) ends counts.taken total few
 
 pub ends_known : {A : Type 0} (replies : Replies A) (ending : Ending) (first now after : A) (all rest left : Option (List ℕ)) (before ahead : Ahead) (done : List ℕ)
     → ProgressKnown replies first now all rest before done → NextKnown replies now after rest (prepend_known ahead.bytes left) ahead (Ends ending)
     → (before.ended ≡ true → Ends ending ≡ Ends Done) → CountsBytes rest (prepend_known ahead.bytes left) before.given ahead.given → before.given ≤ stream_limit
-    → AnswersKnown replies ending first all left done
-ends_known replies ending first now after None rest left before ahead done so_far next stays counts within = tt
-ends_known replies ending first now after (Some all) None left before ahead done so_far next stays counts within = absurd so_far
-ends_known replies ending first now after (Some all) (Some rest) None before ahead done so_far next stays counts within = absurd next
-ends_known replies ending first now after (Some all) (Some rest) (Some left) before ahead done so_far next stays counts within =
-    ends_of replies ending first now all rest left before ahead done so_far next stays counts within
+    → length ahead.bytes ≤ most_ahead → AnswersKnown replies ending first all left done
+ends_known replies ending first now after None rest left before ahead done so_far next stays counts within few = tt
+ends_known replies ending first now after (Some all) None left before ahead done so_far next stays counts within few = absurd so_far
+ends_known replies ending first now after (Some all) (Some rest) None before ahead done so_far next stays counts within few = absurd next
+ends_known replies ending first now after (Some all) (Some rest) (Some left) before ahead done so_far next stays counts within few =
+    ends_of replies ending first now all rest left before ahead done so_far next stays counts within few
 
 -- ---- a reply of which only a front is written
 

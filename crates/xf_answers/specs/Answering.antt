@@ -1,7 +1,7 @@
 -- How the answers to the lines go on.
 use Rattle.std.specs.declared.alloc.AllocError.{AllocError}
 use Rattle.std.specs.declared.alloc.Global.{Global}
-use Rattle.std.specs.Prelude.{ℕ, ◌≡◌, ◌<◌, List, [], String, string_bytes, length, Option, Some, None, Result, Ok, Err}
+use Rattle.std.specs.Prelude.{ℕ, ◌≡◌, ◌⊎◌, ◌<◌, List, [], String, string_bytes, length, Option, Some, None, Result, Ok, Err}
 use Rattle.std.specs.Io.KnownBytes.{Appends}
 use Rattle.xf_base.specs.Limits.{stream_limit}
 use Rattle.xf_io.specs.Ahead.{Ahead}
@@ -23,7 +23,7 @@ EndsOf old new ahead Done = (old ≡ []) × (new ≡ [])
 EndsOf old new ahead ReadFault = (part : List ℕ) × LosesPart old new part × (ahead.bytes ≡ [])
 EndsOf old new ahead SinkFault = ⊥
 EndsOf old new ahead TooMuch = (part : List ℕ) × LosesPart old new part × (0 < length new) × (ahead.given ≡ stream_limit)
-EndsOf old new ahead Memory = Unit {0}
+EndsOf old new ahead Memory = ((part : List ℕ) × LosesPart old new part) ⊎ ((line : List ℕ) × CutsLine old new ahead.ended line)
 
 abbrev pub NextOf : {A : Type 0} → Replies A → A → A → List ℕ → List ℕ → Ahead → Next → Type 0
 NextOf replies state after old new ahead (Reply text) = IsAnswered replies state after old new ahead (string_bytes text)

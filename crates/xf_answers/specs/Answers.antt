@@ -1,8 +1,9 @@
 -- What is written for the lines of a stream by whoever answers one line (who answers it may be free to choose among several replies): each
 -- line is answered in the state that the one before left.
-use Rattle.std.specs.Prelude.{ℕ, ◌≡◌, ◌≤◌, ◌<◌, Bool, true, false, List, [], ◌∷◌, ◌++◌, length, take, drop, nat_lt, codes, Some, None, if◌then◌else◌}
+use Rattle.std.specs.Prelude.{ℕ, ◌≡◌, ◌⊎◌, ◌≤◌, ◌<◌, Bool, true, false, List, [], ◌∷◌, ◌++◌, length, take, drop, nat_lt, codes, Some, None, if◌then◌else◌}
 use Rattle.std.specs.declared.option.Option.{Option as Known}
 use Rattle.xf_base.specs.Limits.{line_limit, stream_limit}
+use Rattle.xf_io.specs.Ahead.{most_ahead}
 use Rattle.xf_io.specs.Lines.{lines_of, ended_lines}
 use Rattle.xf_answers.specs.declared.lines.Ending.{Ending}
 use Rattle.xf_answers.specs.declared.lines.Ending.TheVariants.{Done, ReadFault, SinkFault, TooMuch, Memory}
@@ -47,9 +48,10 @@ abbrev pub AsFarAs : {A : Type 0} → Replies A → A → List (List ℕ) → Li
 AsFarAs replies first lines part written =
     (count : ℕ) × (done : List ℕ) × (now : _) × TakesAll replies first (take count lines) done now × IsBegun replies now (drop count lines) part × (written ≡ done ++ part)
 
--- the first lines are answered
-abbrev pub SomeOf : {A : Type 0} → Replies A → A → List (List ℕ) → List ℕ → Type 0
-SomeOf replies first lines written = (count : ℕ) × (last : _) × TakesAll replies first (take count lines) written last
+-- all lines are answered, or all but the last one, which was in work
+abbrev pub AllButOne : {A : Type 0} → Replies A → A → List (List ℕ) → List ℕ → Type 0
+AllButOne replies first lines written =
+    Exactly replies first lines written ⊎ ((before : List (List ℕ)) × (line : List ℕ) × (lines ≡ before ++ line ∷ []) × Exactly replies first before written)
 
 -- ---- how the answers end
 
@@ -57,13 +59,19 @@ SomeOf replies first lines written = (count : ℕ) × (last : _) × TakesAll rep
 abbrev pub answered_lines : List ℕ → List (List ℕ)
 answered_lines events = if nat_lt stream_limit (length events) then ended_lines (take stream_limit events) else lines_of events
 
+-- so much of the events was taken as lines and as a part of the next one; the line that was in work when memory was wanting may be ended
+abbrev pub StopsAt : {A : Type 0} → Replies A → A → List ℕ → List ℕ → List ℕ → Type 0
+StopsAt replies first events left written =
+    (taken : List ℕ) × (ahead : List ℕ) × (events ≡ taken ++ (ahead ++ left)) × (length taken ≤ stream_limit) × (length ahead ≤ most_ahead)
+    × AllButOne replies first (ended_lines taken) written
+
 -- what is written as the answers to the lines end so: the events were these bytes, and those are left
 abbrev pub Answers : {A : Type 0} → Replies A → Ending → A → List ℕ → List ℕ → List ℕ → Type 0
 Answers replies Done first events left written = (left ≡ []) × (length events ≤ stream_limit) × Exactly replies first (lines_of events) written
-Answers replies ReadFault first events left written = (given : List ℕ) × (events ≡ given ++ left) × Exactly replies first (ended_lines given) written
+Answers replies ReadFault first events left written = (given : List ℕ) × (events ≡ given ++ left) × (length given ≤ stream_limit) × Exactly replies first (ended_lines given) written
 Answers replies SinkFault first events left written = (part : List ℕ) × AsFarAs replies first (answered_lines events) part written
 Answers replies TooMuch first events left written = (stream_limit < length events) × Exactly replies first (ended_lines (take stream_limit events)) written
-Answers replies Memory first events left written = SomeOf replies first (answered_lines events) written
+Answers replies Memory first events left written = StopsAt replies first events left written
 
 -- the same where the source tells its bytes
 abbrev pub AnswersKnown : {A : Type 0} → Replies A → Ending → A → Known (List ℕ) → Known (List ℕ) → List ℕ → Type 0

@@ -1,10 +1,11 @@
 //! The answers to lines, one after the other.
 
-ghost use Rattle.std.specs.Prelude.{◌≡◌, ◌≤◌, true};
+ghost use Rattle.std.specs.Prelude.{◌≡◌, ◌≤◌, true, length};
 ghost use Rattle.std.specs.Io.KnownBytes.{prepend_known, IsAtEnd};
 ghost use Rattle.xf_base.specs.Faults.{Rose};
 ghost use Rattle.xf_io.specs.Lines.{CountsBytes};
-ghost use Rattle.xf_answers.specs.Out.{IsOutOrFailed};
+ghost use Rattle.xf_io.specs.Ahead.{most_ahead};
+ghost use Rattle.xf_answers.specs.Out.{IsAllOut, IsSteady};
 ghost use Rattle.xf_answers.specs.Answering.{NextKnown, Answered, IsReplyOrEnd, Moves};
 
 use crate::answering::Answering;
@@ -43,7 +44,8 @@ pub fn answer_lines<A: Answering, E: Source, O: Sink>(
     ensures answered { Answered A.answers result session.old (E.left events.old) (E.left events.new) (O.taken out.old) (O.taken out.new) }
     ensures read { result ≡ Ending.ReadFault → Rose (E.faults events.old) (E.faults events.new) }
     ensures written { result ≡ Ending.SinkFault → Rose (O.faults out.old) (O.faults out.new) }
-    ensures flushed { IsOutOrFailed (O.taken out.old, O.flushed out.old) (O.taken out.new, O.flushed out.new) (O.faults out.old, O.faults out.new) }
+    ensures flushed { IsAllOut result (O.taken out.old, O.flushed out.old) (O.taken out.new, O.flushed out.new) }
+    ensures steady { IsSteady result (O.faults out.old) (O.faults out.new) }
     ensures later { O.faults out.old ≤ O.faults out.new }
 {
     let mut lines = Lines::new();
@@ -68,6 +70,7 @@ fn next_reply<A: Answering, E: Source>(
 ) -> Next
     requires one_source { lines.old.ended ≡ true → IsAtEnd (E.left events.old) }
     ensures next { NextKnown A.answers session.old session.new (prepend_known lines.old.bytes (E.left events.old)) (prepend_known lines.new.bytes (E.left events.new)) lines.new result }
+    ensures ahead { length lines.new.bytes ≤ most_ahead }
     ensures counts { CountsBytes (prepend_known lines.old.bytes (E.left events.old)) (prepend_known lines.new.bytes (E.left events.new)) lines.old.given lines.new.given }
     ensures moves { Moves result lines.old.given lines.new.given }
     ensures done { lines.old.ended ≡ true → result ≡ Next.Ends Ending.Done }

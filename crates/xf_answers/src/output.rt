@@ -14,6 +14,7 @@ pub fn write_reply<O: Sink>(out: &mut O, reply: &[u8]) -> Result<(), Failed>
     ensures err { OnErr result (AppendsFront (O.taken out.old) (O.taken out.new) reply.now) }
     ensures flushed { OnOk result (IsOut (O.taken out.old, O.flushed out.old) (O.taken out.new, O.flushed out.new)) }
     ensures cause { HasCause (O.faults out.old) (O.faults out.new) result }
+    ensures steady { OnOk result (O.faults out.new ≡ O.faults out.old) }
 {
     if reply.is_empty() {
         return Ok(());

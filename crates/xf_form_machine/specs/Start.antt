@@ -1,5 +1,5 @@
 -- How a form starts (XForms 1.1, section 4.2): it is constructed; then its models are told so, as one outermost event.
-use Rattle.std.specs.Prelude.{ℕ, List, [], codes, length, Some, Result}
+use Rattle.std.specs.Prelude.{ℕ, List, [], codes, length, Result}
 use Rattle.xf_store.specs.declared.answers.Answer.{Answer}
 use Rattle.xf_form_machine.specs.Profile.{Profile}
 use Rattle.xf_form_machine.specs.Program.{Program}

@@ -1,6 +1,6 @@
 -- The state of the form machine (XForms 1.1, section 4): the data, the indexes and cases, what the models keep, the controls as last shown,
 -- and what the event that is handled has done so far.
-use Rattle.std.specs.Prelude.{ℕ, Bool, List, Option}
+use Rattle.std.specs.Prelude.{ℕ, Bool, List}
 use Rattle.xf_store.specs.declared.call.StoreCall.{StoreCall}
 use Rattle.xf_doc.specs.Forest.{Forest}
 use Rattle.xf_model.specs.Applied.{Entry}

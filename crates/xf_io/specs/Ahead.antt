@@ -6,3 +6,7 @@ pub record Ahead : Type 0 where
   pub bytes : List ℕ
   pub given : ℕ
   pub ended : Bool
+
+-- so many bytes are ahead at the most
+abbrev pub most_ahead : ℕ
+most_ahead = 4096

@@ -4,6 +4,7 @@ ghost use Rattle.std.specs.Prelude.{◌≡◌, ◌≤◌, ◌<◌, ◌+◌, ◌-
 ghost use Rattle.std.specs.Io.KnownBytes.{prepend_known, Keeps, IsAtEnd};
 ghost use Rattle.xf_base.specs.Faults.{HasCause, Rose};
 ghost use Rattle.xf_base.specs.Limits.{stream_limit};
+ghost use Rattle.xf_io.specs.Ahead.{most_ahead};
 ghost use Rattle.xf_io.specs.Lines.{GivesLine, IsOpen, CountsBytes, Moves};
 ghost use Rattle.xf_io.specs.Part.{StepTakes, IsFeedAt};
 
@@ -90,6 +91,7 @@ impl Lines {
         ensures done { self.old.ended ≡ true → result ≡ Line.End }
         ensures one_source { self.new.ended ≡ true → IsAtEnd (S.left source.new) }
         ensures much { result ≡ Line.TooMuch → self.new.given ≡ stream_limit }
+        ensures ahead { length self.new.bytes ≤ most_ahead }
         ensures later { S.faults source.old ≤ S.faults source.new }
         ensures fault { result ≡ Line.ReadFault → Rose (S.faults source.old) (S.faults source.new) }
     {
@@ -112,6 +114,7 @@ impl Lines {
         requires one_source { self.old.ended ≡ true → IsAtEnd (S.left source.old) }
         ensures takes { StepTakes (prepend_known self.old.bytes (S.left source.old)) (prepend_known self.new.bytes (S.left source.new)) self.old.given self.new part.old part.new result }
         ensures within { self.new.given ≤ stream_limit }
+        ensures ahead { length self.new.bytes ≤ most_ahead }
         ensures done { self.old.ended ≡ true → result ≡ Step.End }
         ensures one_source { self.new.ended ≡ true → IsAtEnd (S.left source.new) }
         ensures later { S.faults source.old ≤ S.faults source.new }
@@ -136,6 +139,7 @@ impl Lines {
         ensures err { OnErr result (self.new.bytes ≡ []) }
         ensures given { self.new.given ≡ self.old.given }
         ensures within { self.new.given ≤ stream_limit }
+        ensures ahead { length self.new.bytes ≤ most_ahead }
         ensures cause { HasCause (S.faults source.old) (S.faults source.new) result }
     {
         if self.start < self.end {
@@ -159,6 +163,7 @@ impl Lines {
         ensures ended { self.new.ended ≡ self.old.ended }
         ensures takes { StepTakes (Some self.old.bytes) (Some self.new.bytes) self.old.given self.new part.old part.new result }
         ensures within { self.new.given ≤ stream_limit }
+        ensures ahead { length self.new.bytes ≤ most_ahead }
     {
         let piece = self.piece();
         if piece.is_empty() {
@@ -181,6 +186,7 @@ impl Lines {
     fn piece(&self) -> &[u8]
         ensures bytes { result.now ≡ take (stream_limit - self.now.given) self.now.bytes }
         ensures within { self.now.given ≤ stream_limit }
+        ensures ahead { length self.now.bytes ≤ most_ahead }
     {
         let ahead = &self.buffer[self.start..self.end];
         let most = (MAX_BYTES - self.given).min(ahead.len());
@@ -195,6 +201,7 @@ impl Lines {
         ensures ended { self.new.ended ≡ self.old.ended }
         ensures given { self.new.given ≡ self.old.given + count }
         ensures within { self.new.given ≤ stream_limit }
+        ensures ahead { length self.new.bytes ≤ most_ahead }
     {
         self.start += count;
         self.given += count;

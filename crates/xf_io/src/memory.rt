@@ -1,9 +1,9 @@
 //! Sources and sinks in memory, which tell what they hold, and of which calls may be made to fail.
 
-ghost use Rattle.std.specs.Prelude.{◌≡◌, ◌≤◌, ◌<◌, [], ◌^◌, ◌-◌, length, IfOk, OnOk, Ok, Some};
+ghost use Rattle.std.specs.Prelude.{◌≡◌, ◌≤◌, ◌<◌, [], ◌^◌, ◌-◌, length, IfOk, OnOk, Some};
 ghost use Rattle.std.specs.Io.{ReadsAtMost, WritesAtMost};
 ghost use Rattle.std.specs.Io.KnownBytes.{ReadConsumes, WriteAppends};
-ghost use Rattle.xf_base.specs.Faults.{HasCause, Rose};
+ghost use Rattle.xf_base.specs.Faults.{HasCause};
 ghost use Rattle.std.specs.Result.{result_ok, is_err};
 ghost use Rattle.xf_io.specs.Failing.{fails_next, one_more};
 ghost use Rattle.xf_io.specs.Memory.{read_count, after_read, write_count, after_write, takes_some, after_flush};
@@ -170,7 +170,8 @@ impl Sink for MemorySink {
         ensures bytes { WriteAppends (Some self.old.taken) (Some self.new.taken) result bytes.now }
         ensures flushed { self.old.flushed ≤ self.new.flushed }
         ensures cause { HasCause self.old.faults self.new.faults result }
-        ensures stalled { result ≡ Ok 0 → 0 < length bytes.now → Rose self.old.faults self.new.faults }
+        ensures some { 0 < length bytes.now → IfOk result (λ count. 0 < count) }
+        ensures steady { OnOk result (self.new.faults ≡ self.old.faults) }
         ensures answer { result_ok result ≡ write_count self.old (length bytes.now) }
         ensures after { self.new ≡ after_write self.old bytes.now (result_ok result) }
     {
@@ -190,6 +191,7 @@ impl Sink for MemorySink {
         ensures all { OnOk result (self.new.flushed ≡ length self.new.taken) }
         ensures flushed { self.old.flushed ≤ self.new.flushed }
         ensures cause { HasCause self.old.faults self.new.faults result }
+        ensures steady { OnOk result (self.new.faults ≡ self.old.faults) }
         ensures answer { is_err result ≡ fails_next self.old.calls }
         ensures after { self.new ≡ after_flush self.old }
     {

@@ -133,18 +133,13 @@ impl<W: Write> Sink for WriterSink<W> {
     ghost faults = { λ failed. failed };
 
     fn write(&mut self, bytes: &[u8]) -> Result<usize, Failed> {
-        match self.inner.write(bytes) {
-            Ok(count) => {
-                if count == 0 && !bytes.is_empty() {
-                    self.failed = self.failed.saturating_add(1);
-                }
-                Ok(count)
-            }
-            Err(_) => {
-                self.failed = self.failed.saturating_add(1);
-                Err(Failed)
+        if let Ok(count) = self.inner.write(bytes) {
+            if count > 0 || bytes.is_empty() {
+                return Ok(count);
             }
         }
+        self.failed = self.failed.saturating_add(1);
+        Err(Failed)
     }
 
     fn flush(&mut self) -> Result<(), Failed> {

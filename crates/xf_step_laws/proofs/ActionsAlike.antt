@@ -28,7 +28,7 @@ use Rattle.xf_form_machine.specs.Delete as delete
 use Rattle.xf_same_laws.proofs.ForestGoes.{map-length}
 use Rattle.xf_same_laws.proofs.ScopeGoes.{path-goes}
 use Rattle.xf_same_laws.proofs.StateGoes.{readonly-goes}
-use Rattle.xf_same_laws.proofs.AroundGoes.{BoundGoes, renumbered_context}
+use Rattle.xf_same_laws.proofs.AroundGoes.{renumbered_context}
 use Rattle.xf_same_laws.proofs.AroundGoes as around
 use Rattle.xf_same_laws.proofs.LabelsGo.{MeaningGoes}
 use Rattle.xf_step_laws.proofs.Alike.{Two, other, Fits, Alike, Goes, mapped, long-mapped, same-alike, eval-alike, kept-alike, when-alike, some-alike, kept-some}

@@ -1,8 +1,8 @@
-use Rattle.std.proofs.Common.{◌++◌, [], arith, inl, refl, sym, subst}
+use Rattle.std.proofs.Common.{◌++◌, ◌∙◌, [], arith, inl, refl, sym, subst}
 use Rattle.std.proofs.KnownBytes.{Appends-nil, Appends-trans}
 use Rattle.xf_io.specs.Front.{AppendsFront}
 use Rattle.xf_answers.proofs.Progress.{begun, one_more, running_reply, ends_known, answers_cut, true_false}
-use Rattle.xf_answers.proofs.Flushing.{out_again}
+use Rattle.xf_answers.proofs.Flushing.{all_out, out_again, steady}
 use Rattle.xf_answers.proofs.lines.answer_lines.Goals as goal
 
 pub loop-reply-init : goal.loop-reply-init
@@ -15,7 +15,7 @@ loop-reply-init g c = (
     within = omega (arith, c.new-lines.ensures.given);
     one_source = λ e. true_false c.new-lines.result.ended e c.new-lines.ensures.ended;
     read_later = omega arith;
-    written_later = omega arith;
+    written_steady = refl;
   },
 )
 
@@ -33,7 +33,7 @@ loop-reply-preserved g c =
         within = next.counts.within;
         one_source = next.one_source;
         read_later = omega (arith, so_far.1.read_later, next.later);
-        written_later = omega (arith, so_far.1.written_later, c.write_reply.ensures.cause.later);
+        written_steady = c.in-Ok.ensures.steady ∙ so_far.1.written_steady;
       },
     )
 
@@ -49,7 +49,10 @@ returns-in-Err-clause-answered g c =
 pub returns-in-Ends-clause-answered : goal.returns-in-Ends-clause-answered
 returns-in-Ends-clause-answered g c =
     let so_far = c.loop-reply.invariant in
-    (so_far.0, ends_known g.A.Answering.answers c.in-Ends.ending _ _ _ _ _ _ c.loop-reply.lines c.next_reply.new.lines so_far.0 so_far.1.progress c.in-Ends.ensures.next c.in-Ends.ensures.done c.in-Ends.ensures.counts so_far.1.within, so_far.1.appended)
+    (so_far.0, ends_known g.A.Answering.answers c.in-Ends.ending _ _ _ _ _ _ c.loop-reply.lines c.next_reply.new.lines so_far.0 so_far.1.progress c.in-Ends.ensures.next c.in-Ends.ensures.done c.in-Ends.ensures.counts so_far.1.within c.in-Ends.ensures.ahead, so_far.1.appended)
 
 pub returns-in-Ends-clause-flushed : goal.returns-in-Ends-clause-flushed
-returns-in-Ends-clause-flushed g c = inl c.loop-reply.invariant.1.is_out
+returns-in-Ends-clause-flushed g c = all_out c.in-Ends.ending _ _ c.loop-reply.invariant.1.is_out
+
+pub returns-in-Ends-clause-steady : goal.returns-in-Ends-clause-steady
+returns-in-Ends-clause-steady g c = steady c.in-Ends.ending _ _ c.loop-reply.invariant.1.written_steady

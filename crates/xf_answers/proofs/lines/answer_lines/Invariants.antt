@@ -16,7 +16,7 @@ invariant-loop-reply g l =
       within : l.lines.given ≤ stream_limit;
       one_source : l.lines.ended ≡ true → IsAtEnd (left l.events);
       read_later : g.E.Source.faults l.fn.events ≤ g.E.Source.faults l.events;
-      written_later : g.O.Sink.faults l.fn.out ≤ g.O.Sink.faults l.out;
+      written_steady : g.O.Sink.faults l.out ≡ g.O.Sink.faults l.fn.out;
     }
 
 abbrev pub decreases-loop-reply : goal.decreases-loop-reply

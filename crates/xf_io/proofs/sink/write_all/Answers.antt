@@ -16,20 +16,9 @@ loop-done-preserved g c =
     take-add done count bytes ∙ ap (λ l. take done bytes ++ take count l) (sym (rest_from bytes done)) in (
       omega (arith, c.in_ok-count.ensures.bound, ap length (rest_from bytes done), length-drop done bytes),
       rw joined both,
-      omega (arith, kept.2, c.in_ok-count.ensures.cause.later),
+      c.in_ok-count.ensures.steady ∙ kept.2,
       flushes-trans _ _ _ kept.3 c.in_ok-count.ensures.flushed,
     )
-
-pub returns-then-count-eq0-clause-err : goal.returns-then-count-eq0-clause-err
-returns-then-count-eq0-clause-err g c =
-    let kept = c.loop-done.invariant in
-    let done = c.loop-done.done in
-    let count = c.in_ok-count.count in
-    let bytes : List ℕ = c.args.bytes.now in
-    let both = Appends-trans _ _ _ _ _ kept.1 c.in_ok-count.ensures.bytes in
-    let joined : take (done + count) bytes ≡ take done bytes ++ take count (take (length bytes - done) (drop done bytes)) =
-    take-add done count bytes ∙ ap (λ l. take done bytes ++ take count l) (sym (rest_from bytes done)) in
-    (take (done + count) bytes, drop (done + count) bytes, sym (take-append-drop (done + count) bytes), rw joined both)
 
 pub returns-in_err-count-clause-err : goal.returns-in_err-count-clause-err
 returns-in_err-count-clause-err g c =
