@@ -1,0 +1,4 @@
+use Rattle.xf_repeat.proofs.starting.+is_above.Given as goal
+
+abbrev pub decreases-is_above : goal.decreases-is_above
+decreases-is_above l = l.most

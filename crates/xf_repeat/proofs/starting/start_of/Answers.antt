@@ -1,0 +1,8 @@
+use Rattle.std.proofs.Common.{sym, ap}
+use Rattle.xf_ui.specs.Elements.{repeat_start}
+use Rattle.xf_ui.specs.Interface.{Element}
+use Rattle.xf_elements.proofs.ElementLemmas.{no-element}
+use Rattle.xf_repeat.proofs.starting.start_of.Goals as goal
+
+pub returns-in-None : goal.returns-in-None
+returns-in-None c = sym (ap (λ (e : Element). repeat_start e.sort) (no-element c.args.form.now c.args.repeat c.in-None.ensures))

@@ -1,0 +1,5 @@
+pub mod Seeing
+pub mod Chains
+pub mod Placed
+pub mod Passes
+pub mod Starts
