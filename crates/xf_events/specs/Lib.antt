@@ -3,5 +3,4 @@ pub mod Handlers
 pub mod Inner
 pub mod Telling
 pub mod Places
-pub mod Cases
 pub mod Changed

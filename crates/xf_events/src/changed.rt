@@ -1,6 +1,6 @@
 //! What an insert and a delete tell an instance (XForms 1.1, sections 4.4.5 and 4.4.6).
 
-ghost use Rattle.std.specs.Prelude.{◌≡◌, ◌++◌, ◌∷◌, [], true, IfOk, OnOk, codes, get_or, map};
+ghost use Rattle.std.specs.Prelude.{◌≡◌, ◌++◌, ◌∷◌, [], true, IfOk, OnOk, codes, map};
 ghost use Rattle.xf_doc.specs.Visit.{visits};
 ghost use Rattle.xf_plain_values.specs.Conversions.{whole};
 ghost use Rattle.xf_form_machine.specs.Delete.{location_of};
@@ -8,11 +8,9 @@ ghost use Rattle.xf_form_machine.specs.Events as events;
 ghost use Rattle.xf_actions.specs.Seen.{fired_of, place_of, told_of};
 ghost use Rattle.xf_events.specs.Changed.{deleted_told, inserted_told};
 
-use crate::elements::number_in;
 use crate::telling::made;
 use std::alloc::{AllocError, Global};
 use xf_actions::{Fired, Inserting, Place, Property, PropertyList};
-use xf_ast::Form;
 use xf_base::Items;
 use xf_doc::NodeList;
 use xf_eval::append;
@@ -22,51 +20,58 @@ use xf_name::Word;
 use xf_num::{Decimals, Num};
 use xf_tree::Forest;
 
-/// The event that an insert tells an instance, which stands in no row.
+/// The copy of an instance that is told, over the data.
+#[derive(Clone, Copy)]
+pub struct ToInstance<'a> {
+    pub alloc: Global,
+    pub forest: &'a Forest,
+    /// The element of the instance.
+    pub target: u32,
+    /// The rows of the repeats around it.
+    pub rows: &'a NodeList,
+}
+
+/// The event that an insert tells an instance.
 pub fn insert_event(
-    alloc: Global,
-    form: &Form,
-    forest: &Forest,
-    instance: usize,
+    to: &ToInstance<'_>,
     inserting: &Inserting,
     tops: &NodeList,
 ) -> Result<Fired, AllocError>
-    ensures { IfOk result (λ e. fired_of e ≡ events.fired (codes "xforms-insert") true true (inserted_told (visits forest.now.forest.nodes) inserting.now.is_before tops.now (map (λ q. q.origin) (map place_of inserting.now.places)) inserting.now.location) (get_or form.now.instances instance 0) []) }
+    ensures { IfOk result (λ e. fired_of e ≡ events.fired (codes "xforms-insert") true true (inserted_told (visits to.now.forest.now.forest.nodes) inserting.now.is_before tops.now (map (λ q. q.origin) (map place_of inserting.now.places)) inserting.now.location) to.now.target to.now.rows.now) }
 {
-    let told = told_insert(alloc, forest, inserting, tops)?;
-    to_instance(alloc, "xforms-insert", form, instance, told)
+    let told = told_insert(to.alloc, to.forest, inserting, tops)?;
+    made(
+        to.alloc,
+        "xforms-insert",
+        true,
+        true,
+        to.target,
+        to.rows,
+        told,
+    )
 }
 
-/// The event that a delete of nodes of a set tells an instance, which stands in no row.
+/// The event that a delete of nodes of a set tells an instance.
 pub fn delete_event(
-    alloc: Global,
-    form: &Form,
-    forest: &Forest,
-    instance: usize,
+    to: &ToInstance<'_>,
+    decimals: Decimals,
     nodes: &NodeList,
     set: &NodeList,
     at: Option<i64>,
 ) -> Result<Fired, AllocError>
-    ensures { IfOk result (λ e. fired_of e ≡ events.fired (codes "xforms-delete") true true (deleted_told (visits forest.now.forest.nodes) nodes.now (location_of form.now.decimals set.now at)) (get_or form.now.instances instance 0) []) }
+    ensures { IfOk result (λ e. fired_of e ≡ events.fired (codes "xforms-delete") true true (deleted_told (visits to.now.forest.now.forest.nodes) nodes.now (location_of decimals set.now at)) to.now.target to.now.rows.now) }
 {
-    let location = delete_location(set, at, form.decimals);
-    let told = told_delete(alloc, forest, nodes, location)?;
-    to_instance(alloc, "xforms-delete", form, instance, told)
-}
-
-/// An event to the element of an instance.
-fn to_instance(
-    alloc: Global,
-    name: &str,
-    form: &Form,
-    instance: usize,
-    told: PropertyList,
-) -> Result<Fired, AllocError>
-    ensures { IfOk result (λ e. fired_of e ≡ events.fired name.now true true (told_of told) (get_or form.now.instances instance 0) []) }
-{
-    let target = number_in(&form.instances, instance);
-    let rows = NodeList::new(alloc);
-    made(alloc, name, true, true, target, &rows, told)
+    let location = delete_location(set, at, decimals);
+    let told = told_delete(to.alloc, to.forest, nodes, location)?;
+    made(
+        to.alloc,
+        "xforms-delete",
+        true,
+        true,
+        to.target,
+        to.rows,
+        told,
+    )
 }
 
 // ---- of an insert

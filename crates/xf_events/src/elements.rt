@@ -1,12 +1,13 @@
 //! Elements by their numbers.
 
 ghost use Rattle.std.specs.Prelude.{◌≡◌, ◌++◌, get_or, IfOk, OnOk};
+ghost use Rattle.xf_form_machine.specs.Choose.{switch_number as number_of_switch};
 ghost use Rattle.xf_ui.specs.Elements.{element_at};
-ghost use Rattle.xf_ui.specs.Interface.{interface_of};
+ghost use Rattle.xf_ui.specs.Interface.{interface_of, sort_of};
 ghost use Rattle.xf_events.specs.Places.{places_of};
 
 use std::alloc::{AllocError, Global};
-use xf_ast::{ElementList, Form, Instance};
+use xf_ast::{Control, ElementList, Form, Instance, Kind};
 use xf_base::Items;
 use xf_elements::element_in;
 
@@ -41,14 +42,43 @@ pub fn repeat_element(form: &Form, repeat: u32) -> u32
     number_at(&form.repeats, repeat)
 }
 
+/// The element of the instance at this place.
+pub fn instance_element(form: &Form, instance: usize) -> u32
+    ensures { result ≡ get_or form.now.instances instance 0 }
+{
+    number_in(&form.instances, instance)
+}
+
+/// The number of the switch that is this element: 0 where it is none.
+pub fn switch_number(form: &Form, element: u32) -> u32
+    ensures { result ≡ number_of_switch (element_at (interface_of form.now) element).sort }
+{
+    match element_in(form, element) {
+        Some(here) => number_of_switch(&here.kind),
+        None => 0,
+    }
+}
+
+fn number_of_switch(kind: &Kind) -> u32
+    ensures { result ≡ number_of_switch (sort_of kind.now) }
+{
+    match kind {
+        Kind::Control(_, control) => match control {
+            Control::Switch(number) => *number,
+            _ => 0,
+        },
+        _ => 0,
+    }
+}
+
 /// The number at a place: 0 where there is none.
-pub fn number_at(numbers: &ElementList, at: u32) -> u32
+fn number_at(numbers: &ElementList, at: u32) -> u32
     ensures { result ≡ get_or numbers.now at 0 }
 {
     number_in(numbers, at as usize)
 }
 
-pub(crate) fn number_in(numbers: &ElementList, place: usize) -> u32
+fn number_in(numbers: &ElementList, place: usize) -> u32
     ensures { result ≡ get_or numbers.now place 0 }
 {
     match numbers.as_slice().get(place) {

@@ -2,7 +2,6 @@
 //! event.
 #![tactic(auto)]
 
-mod cases;
 mod changed;
 mod elements;
 mod handlers;
@@ -10,10 +9,10 @@ mod inner;
 mod notes;
 mod telling;
 
-pub use cases::{case_at, place_of_case, switch_number};
-pub use changed::{delete_event, insert_event};
+pub use changed::{ToInstance, delete_event, insert_event};
 pub use elements::{
-    id_of, instances_at, model_element, number_at, repeat_element, submission_element,
+    id_of, instance_element, instances_at, model_element, repeat_element, submission_element,
+    switch_number,
 };
 pub use handlers::called;
 pub use inner::{actions_at, words_at};

@@ -29,12 +29,16 @@ pub fn event(
     made(alloc, name, bubbles, is_cancelable, target, rows, none)
 }
 
-/// An event to an element that stands in no row.
-pub fn event_at(alloc: Global, name: &str, target: u32) -> Result<Fired, AllocError>
-    ensures { IfOk result (λ e. fired_of e ≡ events.fired name.now true true [] target []) }
+/// An event to the copy of a model, an instance or a submission in these rows.
+pub fn event_at(
+    alloc: Global,
+    name: &str,
+    target: u32,
+    rows: &NodeList,
+) -> Result<Fired, AllocError>
+    ensures { IfOk result (λ e. fired_of e ≡ events.fired name.now true true [] target rows.now) }
 {
-    let rows = NodeList::new(alloc);
-    event(alloc, name, true, true, target, &rows)
+    event(alloc, name, true, true, target, rows)
 }
 
 /// An event with these properties.

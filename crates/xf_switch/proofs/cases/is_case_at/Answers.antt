@@ -2,7 +2,7 @@ use Rattle.std.proofs.Common.{sym, ap, ◌∙◌}
 use Rattle.xf_ui.specs.Cases.{is_case_sort}
 use Rattle.xf_ui.specs.Interface.{Element}
 use Rattle.xf_elements.proofs.ElementLemmas.{no-element, this-element}
-use Rattle.xf_events.proofs.cases.is_case_at.Goals as goal
+use Rattle.xf_switch.proofs.cases.is_case_at.Goals as goal
 
 pub returns-in-None : goal.returns-in-None
 returns-in-None c = sym (ap (λ (e : Element). is_case_sort e.sort) (no-element c.args.form.now c.args.element c.in-None.ensures))

@@ -2,7 +2,7 @@ use Rattle.std.proofs.Common.{sym, ap, ◌∙◌}
 use Rattle.xf_form_machine.specs.Choose.{switch_number}
 use Rattle.xf_ui.specs.Interface.{Element}
 use Rattle.xf_elements.proofs.ElementLemmas.{no-element, this-element}
-use Rattle.xf_events.proofs.cases.switch_number.Goals as goal
+use Rattle.xf_events.proofs.elements.switch_number.Goals as goal
 
 pub returns-in-None : goal.returns-in-None
 returns-in-None c = sym (ap (λ (e : Element). switch_number e.sort) (no-element c.args.form.now c.args.element c.in-None.ensures))
