@@ -1,8 +1,9 @@
 //! Copies of controls.
 
 ghost use Rattle.std.specs.Prelude.{◌≡◌, ◌↔◌, ◌<◌, ◌++◌, [], ◌∷◌, Some, map, find, length, option_map, slice_get, IsTrue, OnOk, OnErr};
+ghost use Rattle.std.specs.Str.{bytes_eq};
 ghost use Rattle.xf_controls.specs.Former.{with_value_at};
-ghost use Rattle.xf_controls.specs.Seen.{is_copy_at, seen_copy};
+ghost use Rattle.xf_controls.specs.Seen.{is_copy_at, number, seen_copy};
 
 use std::alloc::{AllocError, Global};
 use std::marker::Model;
@@ -80,7 +81,7 @@ impl ControlList {
     }
 
     /// Puts a copy behind the others.
-    pub(crate) fn push(&mut self, copy: ControlCopy) -> Result<(), AllocError>
+    pub fn push(&mut self, copy: ControlCopy) -> Result<(), AllocError>
         ensures ok { OnOk result (self.new ≡ self.old ++ copy ∷ []) }
         ensures err { OnErr result (self.new ≡ self.old) }
     {
@@ -97,23 +98,43 @@ impl ControlList {
     }
 }
 
-/// The copy of an element that stands in no row.
-pub fn control_of(controls: &ControlList, element: u32) -> Option<&ControlCopy>
-    ensures { option_map (λ c. seen_copy c.now) result ≡ find (is_copy_at element []) (map seen_copy controls.now) }
+/// The copy of an element under a chain of row nodes, the outermost first.
+pub fn control_of<'a>(
+    controls: &'a ControlList,
+    element: u32,
+    rows: &[NodeId],
+) -> Option<&'a ControlCopy>
+    ensures { option_map (λ c. seen_copy c.now) result ≡ find (is_copy_at element (map number rows.now)) (map seen_copy controls.now) }
 {
     for copy in controls.as_slice() {
-        if is_alone_at(copy, element) {
+        if is_copy_at(copy, element, rows) {
             return Some(copy);
         }
     }
     None
 }
 
-fn is_alone_at(copy: &ControlCopy, element: u32) -> bool
-    ensures { result ≡ is_copy_at element [] (seen_copy copy.now) }
+fn is_copy_at(copy: &ControlCopy, element: u32, rows: &[NodeId]) -> bool
+    ensures { result ≡ is_copy_at element (map number rows.now) (seen_copy copy.now) }
 {
     if copy.element != element {
         return false;
     }
-    copy.rows.is_empty()
+    same_rows(copy.rows.as_slice(), rows)
+}
+
+/// Whether two chains have the same rows.
+pub(crate) fn same_rows(one: &[NodeId], other: &[NodeId]) -> bool
+    ensures { result ≡ bytes_eq (map number one.now) (map number other.now) }
+{
+    if one.is_empty() {
+        return other.is_empty();
+    }
+    if other.is_empty() {
+        return false;
+    }
+    if one[0].number != other[0].number {
+        return false;
+    }
+    same_rows(&one[1..], &other[1..])
 }

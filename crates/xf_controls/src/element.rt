@@ -27,8 +27,8 @@ pub fn is_plain(form: &Form) -> bool
     all_plain(form, form.elements.as_slice())
 }
 
-/// The first element has no parent.
-fn is_first_alone(form: &Form) -> bool
+/// Whether the first element has no parent.
+pub fn is_first_alone(form: &Form) -> bool
     ensures { result ≡ is_top (element_at (interface_of form.now) 0).parent }
 {
     match element_in(form, 0) {
@@ -60,7 +60,8 @@ fn stands_plainly(form: &Form, at: usize, element: &Element) -> bool
     are_children(form, at, element.parts.as_slice())
 }
 
-fn are_children(form: &Form, at: usize, parts: &[Part]) -> bool
+/// Whether each element among parts has this one as parent.
+pub fn are_children(form: &Form, at: usize, parts: &[Part]) -> bool
     ensures { result ≡ are_children (interface_of form.now) at (flat_map child_in parts.now) }
 {
     for part in parts {

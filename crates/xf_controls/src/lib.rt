@@ -17,9 +17,9 @@ mod walk;
 
 pub use bound::are_bound;
 pub use copy::{ControlCopy, ControlList, control_of};
-pub use element::is_plain;
+pub use element::{are_children, is_first_alone, is_plain};
 pub use finding::known_nodes;
 pub use known::{Known, KnownList};
 pub use refresh::{Notification, NotificationList, notifications};
 pub use shown::Shown;
-pub use walk::controls;
+pub use walk::{controls, is_passed};

@@ -1,15 +1,14 @@
 //! What a refresh tells (XForms 1.1, sections 4.3.4 and 4.4): where the copies of two lists differ.
 
 ghost use Rattle.std.specs.Prelude.{◌≡◌, ◌++◌, [], ◌∷◌, IfOk, OnOk, find, map, option_map};
-ghost use Rattle.std.specs.Str.{bytes_eq};
 ghost use Rattle.xf_ui.specs.Notifications as told;
 ghost use Rattle.xf_controls.specs.Rising.{is_rising};
-ghost use Rattle.xf_controls.specs.Seen.{number, seen_copy, seen_notification};
+ghost use Rattle.xf_controls.specs.Seen.{seen_copy, seen_notification};
 
-use crate::copy::{ControlCopy, ControlList};
+use crate::copy::{ControlCopy, ControlList, same_rows};
 use std::alloc::{AllocError, Global};
 use xf_base::Items;
-use xf_doc::{NodeId, NodeList};
+use xf_doc::NodeList;
 use xf_eval::append;
 use xf_name::Word;
 
@@ -114,21 +113,6 @@ fn is_same(one: &ControlCopy, other: &ControlCopy) -> bool
         return false;
     }
     same_rows(one.rows.as_slice(), other.rows.as_slice())
-}
-
-fn same_rows(one: &[NodeId], other: &[NodeId]) -> bool
-    ensures { result ≡ bytes_eq (map number one.now) (map number other.now) }
-{
-    if one.is_empty() {
-        return other.is_empty();
-    }
-    if other.is_empty() {
-        return false;
-    }
-    if one[0].number != other[0].number {
-        return false;
-    }
-    same_rows(&one[1..], &other[1..])
 }
 
 /// Puts the differences of a copy behind others.

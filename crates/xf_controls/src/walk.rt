@@ -103,7 +103,7 @@ fn push_copies<A: Around, M: NodeMarks>(
 }
 
 /// Whether what an element selects is not asked, since neither it nor anything in it is a control or container.
-fn is_passed(form: &Form, most: usize, here: &Element) -> bool
+pub fn is_passed(form: &Form, most: usize, here: &Element) -> bool
     ensures { result ≡ below.is_passed most (interface_of form.now) (element_of form.now.tables here.now) }
 {
     if !is_bound(binding_of(&form.tables, here)) {

@@ -1,0 +1,11 @@
+pub mod MadeLaws
+pub mod PutLaws
+pub mod CopyLaws
+pub mod EnabledLaws
+pub mod GatherLaws
+pub mod HandedLaws
+pub mod LostLaws
+pub mod DownLaws
+pub mod ParentLaws
+pub mod WholeLaws
+pub mod StepLaws

@@ -1,0 +1,5 @@
+pub mod Handed
+pub mod Made
+pub mod Parents
+pub mod Seen
+pub mod Walk
