@@ -3,7 +3,6 @@ pub mod ControlLaws
 pub mod LineLaws
 pub mod NamedLemmas
 pub mod NodeLaws
-pub mod StateLaws
+pub mod InstanceLaws
 pub mod WordLemmas
-pub mod ShownLaws
 pub mod PathLaws

@@ -4,5 +4,3 @@ pub mod Lines
 pub mod Named
 pub mod Paths
 pub mod Refusals
-pub mod States
-pub mod Shown

@@ -1,14 +1,15 @@
 //! The lines of an instance in the text of a state.
-ghost use Rattle.std.specs.Prelude.{◌≡◌, ◌++◌, IfOk, OnOk, codes, string_bytes};
+ghost use Rattle.std.specs.Prelude.{◌≡◌, ◌++◌, ◌<◌, ◌^◌, IfOk, OnOk, codes, length, string_bytes};
 ghost use Rattle.std.specs.List.{flat_map};
 ghost use Rattle.xf_doc.specs.Forest.{IsLive};
 ghost use Rattle.xf_doc.specs.Path.{path_of};
 ghost use Rattle.xf_doc.specs.StringValue.{string_value};
 ghost use Rattle.xf_doc.specs.Visit.{visits, parent_of};
+ghost use Rattle.xf_form_machine.specs.Cycles.{counted_from};
 ghost use Rattle.xf_form_machine.specs.Properties.{braced, pair_text};
 ghost use Rattle.xf_form_machine.specs.State.{State};
 ghost use Rattle.xf_form_machine.specs.StateText.{instance_lines, line_of, marks_text, spaced};
-ghost use Rattle.xf_report.specs.Lines.{IsOf, block_text, has_elements_at, line_at, line_by, pair_among, text_line_if, value_text};
+ghost use Rattle.xf_report.specs.Lines.{IsOf, block_of, block_text, has_elements_at, line_at, line_by, pair_among, text_line_if, value_text};
 ghost use Rattle.xf_slots.specs.Seen.{seen_content};
 
 use crate::marks::push_marks;
@@ -38,8 +39,26 @@ pub fn push_instance<M: NodeMarks>(
     push_block(alloc, text, forest, marks, place, pair)
 }
 
+/// Appends the lines of all instances.
+pub fn push_instances<M: NodeMarks>(
+    alloc: Global,
+    text: &mut String,
+    forest: &Forest,
+    instances: &[Instance],
+    marks: &M,
+) -> Result<(), AllocError>
+    requires few { length instances.now < 2 ^ 32 }
+    ensures { OnOk result (string_bytes text.new ≡ string_bytes text.old ++ flat_map (block_of (M.marks_of marks.now) forest.now.forest.nodes instances.now) (counted_from 0 (length instances.now))) }
+{
+    for place in 0..instances.len() {
+        let pair = pair_among(instances, place);
+        push_block(alloc, text, forest, marks, place as u32, pair)?;
+    }
+    Ok(())
+}
+
 /// Appends the lines of the instance with this place, which has these numbers.
-pub(crate) fn push_block<M: NodeMarks>(
+fn push_block<M: NodeMarks>(
     alloc: Global,
     text: &mut String,
     forest: &Forest,

@@ -1,4 +1,4 @@
-//! The bytes that are written of a state and for an event.
+//! The lines that are written of a state and for an event.
 #![tactic(auto)]
 
 mod answer;
@@ -10,17 +10,13 @@ mod nodes;
 mod note;
 mod path;
 mod refusal;
-mod shown;
-mod state;
 mod text;
 
 pub use answer::push_ok;
 pub use control::{ShownCopy, push_copy, push_repeat, push_switch};
-pub use instance::push_instance;
+pub use instance::{push_instance, push_instances};
 pub use names::numbers_of;
 pub use note::push_notes;
 pub use path::{instance_holding, path_in};
 pub use refusal::{push_construct_refusal, push_ready_refusal, push_refusal};
-pub use shown::shown_copies;
-pub use state::{ShownControls, ShownRepeat, ShownSwitch, push_state};
 pub use xf_ui::{Marks, NodeMarks};

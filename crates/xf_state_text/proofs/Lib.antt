@@ -1,0 +1,3 @@
+mod LevelLaws
+mod PartLaws
+mod RowLaws
