@@ -15,6 +15,7 @@ use Rattle.xf_model.specs.Circular.{Reader}
 use Rattle.xf_ui.specs.Copies.{Copy, copies, copy_count}
 use Rattle.xf_ui.specs.Index.{Index, Stop, brought_up}
 use Rattle.xf_ui.specs.Notifications.{notifications}
+use Rattle.xf_ui.specs.Started.{index_set}
 use Rattle.xf_form_machine.specs.declared.limit.LimitWord.{LimitWord}
 use Rattle.xf_form_machine.specs.declared.limit.LimitWord.TheVariants.{Controls, Edges}
 use Rattle.xf_form_machine.specs.Profile.{Profile}
@@ -22,11 +23,12 @@ use Rattle.xf_form_machine.specs.State.{Model, State}
 use Rattle.xf_form_machine.specs.Refusal.{Refused, or_long, unless_passed, if_over}
 use Rattle.xf_form_machine.specs.Flow.{Run, ◌>>=◌}
 use Rattle.xf_form_machine.specs.Surround.{interface, all_in, document_at, quiet, bind_scope, model_holding}
-use Rattle.xf_form_machine.specs.Primitives.{spent_from, in_model, in_some_model, all_due, texts_due, with_text_mark, with_list_mark, list_changed, is_other_text, if_other, with_forest, grown, grown_to, grown_by, over_made, set_text, copy, plant, attach, detach}
+use Rattle.xf_form_machine.specs.Primitives.{spent_from, in_model, in_some_model, all_due, texts_due, with_indexes, refresh_due, with_text_mark, with_list_mark, list_changed, is_other_text, if_other, with_forest, grown, grown_to, grown_by, over_made, set_text, copy, plant, attach, detach}
 use Rattle.xf_form_machine.specs.Properties.{marks_in}
 use Rattle.xf_form_machine.specs.SetValue.{unless_parent}
 use Rattle.xf_form_machine.specs.Behave.{asked_by_all, rebuilt_with, unless_cycle, no_cycle, by_applied, rebuild, recalculate, revalidate}
 use Rattle.xf_form_machine.specs.Update.{with_brought, reindex, within_controls, shown}
+use Rattle.xf_form_machine.specs.Choose.{set_index}
 use Rattle.xf_form_machine.specs.Events.{Fired, told_by}
 use Rattle.xf_form_machine.specs.Construct.{rooted, plant_document, build_model, first_shown, replace_at, replace, first_contents, put_back}
 use Rattle.xf_beside_laws.specs.Beside.{Beside, beside, besides, read_beside, made_beside, GoesBeside, ReadsBeside, MakesBeside, TurnsBeside}
@@ -146,6 +148,13 @@ brought-goes b s (Ok indexes) = refl
 reindex-goes : (p : Profile) (added : List ℕ) → GoesBeside (reindex p added)
 reindex-goes p added b s = brought-goes b s (brought_up p.passes (interface s) (quiet p s) added s.indexes)
 
+index-goes : (p : Profile) (model repeat index : ℕ) → GoesBeside (set_index p model repeat index)
+index-goes p model repeat index b s =
+    let o = index_set (interface s) (quiet p s) repeat index s.indexes in
+    ap (λ r. r >>= λ indexes. Ok (in_model refresh_due model (with_indexes indexes (beside b s)))) (long-reads b s o)
+    ∙ then-run b (or_long s o) (λ indexes. Ok (in_model refresh_due model (with_indexes indexes (beside b s))))
+    (λ indexes. Ok (in_model refresh_due model (with_indexes indexes s))) (λ indexes. refl)
+
 shown-reads : (p : Profile) → ReadsBeside (shown p)
 shown-reads p b s =
     let o = copies (interface s) (quiet p s) (marks_in s) s.cases s.indexes in
@@ -210,6 +219,7 @@ changes_go_beside p = record {
   recalculate = recalculate-goes p;
   revalidate = λ model b s. refl;
   reindex = reindex-goes p;
+  set_index = index-goes p;
   shown = shown-reads p;
   refresh_cleared = λ model b s. refl;
   all_cleared = λ b s. refl;

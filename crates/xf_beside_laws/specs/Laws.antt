@@ -21,7 +21,7 @@ use Rattle.xf_form_machine.specs.Update.{reindex, shown, refresh_cleared, all_cl
 use Rattle.xf_form_machine.specs.Construct.{plant_document, build_model, first_shown, put_back}
 use Rattle.xf_form_machine.specs.Events.{Fired, told_by, fired_at}
 use Rattle.xf_form_machine.specs.Acting.{Acting, acting, surroundings, binding_of, value_for, truth_for, text_for, whole_for}
-use Rattle.xf_form_machine.specs.Choose.{named_copy}
+use Rattle.xf_form_machine.specs.Choose.{named_copy, set_index}
 use Rattle.xf_form_machine.specs.Telling.{loaded_text}
 use Rattle.xf_form_machine.specs.Step.{fresh, at_end}
 use Rattle.xf_beside_laws.specs.Beside.{beside_of, GoesBeside, TurnsBeside, ReadsBeside, MakesBeside, SameBeside}
@@ -41,6 +41,7 @@ pub record ChangesBeside (p : Profile) : Type 0 where
   pub recalculate : (model : ℕ) → GoesBeside (recalculate p model)
   pub revalidate : (model : ℕ) → TurnsBeside (revalidate p model)
   pub reindex : (added : List ℕ) → GoesBeside (reindex p added)
+  pub set_index : (model repeat index : ℕ) → GoesBeside (set_index p model repeat index)
   pub shown : ReadsBeside (shown p)
   pub refresh_cleared : (model : ℕ) → TurnsBeside (refresh_cleared model)
   pub all_cleared : TurnsBeside all_cleared

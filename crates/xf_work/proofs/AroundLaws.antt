@@ -18,10 +18,6 @@ use Rattle.xf_lang.specs.Given.{Document, document_of}
 use Rattle.xf_funcs.specs.Called.{called}
 use Rattle.xf_model.specs.Rules.{scope_of}
 use Rattle.xf_eval.specs.Live.{AllLive, AroundStands}
-use Rattle.xf_ui.specs.Interface.{Interface, interface_of}
-use Rattle.xf_ui.specs.Index.{named_indexes}
-use Rattle.xf_controls.specs.Plain.{is_plain}
-use Rattle.xf_controls.proofs.FormLaws.{repeats-none}
 use Rattle.xf_controls.proofs.NodeLaws.{live-first}
 use Rattle.xf_binds.specs.Kept.{Kept}
 use Rattle.xf_controls.specs.declared.copy.ControlCopy.{ControlCopy}
@@ -29,11 +25,11 @@ use Rattle.xf_loader.specs.declared.loaded.Loaded.{Loaded}
 use Rattle.xf_form_machine.specs.State.{State}
 use Rattle.xf_work.specs.declared.flags.Flags.{Flags}
 use Rattle.xf_work.specs.declared.tally.Tally.{Tally}
-use Rattle.xf_form_machine.specs.Surround.{document_in, document_under, document_at, documents, given, instances_in, bind_scope}
+use Rattle.xf_form_machine.specs.Surround.{document_in, document_under, document_at, documents, instances_in, bind_scope}
 use Rattle.xf_work.specs.Around.{document_below, documents_from, documents_by, given_by, given_in, AreThere}
 use Rattle.xf_processor.specs.Formed.{profile}
-use Rattle.xf_work.specs.Parts.{standing_of}
-use Rattle.xf_work.specs.Standing.{Standing, state_of}
+use Rattle.xf_work.specs.Parts.{Chosen, standing_of}
+use Rattle.xf_work.specs.Standing.{state_of}
 
 -- ---- children
 
@@ -79,21 +75,12 @@ documents-from s place (i ∷ is) =
 pub documents-same : (s : State) → documents s ≡ documents_by (instances_in s) (documents_from 0 (instances_in s) s.forest.nodes)
 documents-same s = documents-from s 0 (instances_in s)
 
-abbrev with_repeats : Interface → List ℕ → Interface
-with_repeats f rs = record f { repeats = rs }
-
--- outside an event, where no form has repeats
-pub given-same : (s : Standing) → is_plain (interface_of s.form) ≡ true → given (state_of s) None ≡ given_in s.form.tables.instances s.prefixes s.form.decimals s.forest
-given-same s plain =
-    ap (λ ds. record (given (state_of s) None) { documents = ds }) (documents-same (state_of s))
-    ∙ ap (λ rs. record (given_in s.form.tables.instances s.prefixes s.form.decimals s.forest) { indexes = named_indexes (with_repeats (interface_of s.form) rs) [] }) (repeats-none (interface_of s.form) plain)
-
 -- what the binds of a model share
-pub scope-same : (loaded : Loaded) (forest : Forest) (model : ℕ) (table : List Kept) (flags : List Flags) (controls : List ControlCopy) (tally : Tally)
-    → bind_scope profile (state_of (standing_of loaded forest table flags controls tally)) model ≡ scope_of called (given_in loaded.form.tables.instances loaded.prefixes loaded.form.decimals forest) loaded.form.tables model
-scope-same loaded forest model table flags controls tally =
+pub scope-same : (chosen : Chosen) (loaded : Loaded) (forest : Forest) (model : ℕ) (table : List Kept) (flags : List Flags) (controls : List ControlCopy) (tally : Tally)
+    → bind_scope profile (state_of (standing_of chosen loaded forest table flags controls tally)) model ≡ scope_of called (given_in loaded.form.tables.instances loaded.prefixes loaded.form.decimals forest) loaded.form.tables model
+scope-same chosen loaded forest model table flags controls tally =
     ap (λ ds. scope_of called (record (given_in loaded.form.tables.instances loaded.prefixes loaded.form.decimals forest) { documents = ds }) loaded.form.tables model)
-    (documents-same (state_of (standing_of loaded forest table flags controls tally)))
+    (documents-same (state_of (standing_of chosen loaded forest table flags controls tally)))
 
 -- ---- they stand
 

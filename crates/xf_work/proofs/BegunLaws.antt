@@ -1,6 +1,7 @@
 -- A form of which all data are planted and no model is built.
-use Rattle.std.proofs.Common.{◌≡◌, ℕ, zero, suc, true, false, List, [], ◌∷◌, map, length, None, Ok, refl, sym, ap, ◌∙◌, subst, arith}
+use Rattle.std.proofs.Common.{◌≡◌, ℕ, zero, suc, Bool, true, false, List, [], ◌∷◌, map, length, None, Ok, refl, sym, ap, ◌∙◌, subst, arith}
 use Rattle.std.specs.Prelude.{replicate, ◌≤◌}
+use Rattle.std.specs.Bool.{OnTrue}
 use Rattle.std.proofs.lemmas.List.{length-replicate}
 use Rattle.xf_doc.specs.Changes.{in_detached, in_instances, root_of}
 use Rattle.xf_doc.specs.Forest.{Forest}
@@ -19,7 +20,7 @@ use Rattle.xf_work.specs.Built.{IsWhole}
 use Rattle.xf_work.specs.Fit.{IsRight}
 use Rattle.xf_work.specs.Flags.{none_due}
 use Rattle.xf_work.specs.Held.{last_place, planted_shape, shape_by}
-use Rattle.xf_work.specs.Parts.{IsLoaded, IsSound, models_of, standing_of}
+use Rattle.xf_work.specs.Parts.{IsLoaded, IsSound, chosen_of, models_of, standing_of}
 use Rattle.xf_work.specs.Planting.{IsBegun, growing, planted_by}
 use Rattle.xf_work.specs.Standing.{Standing, state_of}
 use Rattle.xf_work.proofs.DeepLaws.{all-instances}
@@ -43,10 +44,10 @@ abbrev pub first_tally : ℕ → Tally
 first_tally made = record { accepted = 0; turns = 50000; made = made; evaluated = 0 }
 
 begun-same : (loaded : Loaded) (f : Forest) (made : ℕ) → in_detached f.nodes ≡ []
-    → growing loaded f made ≡ state_of (standing_of loaded (instances f) (replicate (length loaded.form.models) no_kept) (replicate (length loaded.form.models) none_due) [] (first_tally made))
+    → growing loaded f made ≡ state_of (standing_of (chosen_of [] []) loaded (instances f) (replicate (length loaded.form.models) no_kept) (replicate (length loaded.form.models) none_due) [] (first_tally made))
 begun-same loaded f made none =
     ap (λ ms. record (growing loaded f made) { models = ms }) (sym (models-none loaded.form.models))
-    ∙ ap (λ (g : Forest). state_of (standing_of loaded g (replicate (length loaded.form.models) no_kept) (replicate (length loaded.form.models) none_due) [] (first_tally made))) (sym (instances-same f none))
+    ∙ ap (λ (g : Forest). state_of (standing_of (chosen_of [] []) loaded g (replicate (length loaded.form.models) no_kept) (replicate (length loaded.form.models) none_due) [] (first_tally made))) (sym (instances-same f none))
 
 none-built : (loaded : Loaded) (f : Forest) (table : List Kept) (flags : List Flags) → in_detached f.nodes ≡ [] → are_hung f.nodes ≡ true → root_of last_place f.nodes ≡ None → IsWhole loaded (instances f) table flags 0
 none-built loaded f table flags none hung few = record {
@@ -73,6 +74,11 @@ right-planted loaded f table controls none shaped =
 pub shape-planted : (loaded : Loaded) (f : Forest) (made : ℕ) → planted_by loaded ≡ Ok (growing loaded f made) → shape_of f.nodes ≡ planted_shape loaded
 unfolding planted_shape
 shape-planted loaded f made e = sym (ap shape_by e)
+
+-- a test of the form that was made is right
+pub told-true : (b is : Bool) → b ≡ is → OnTrue b (is ≡ true)
+told-true true is e = sym e
+told-true false is e = tt
 
 -- ---- what an engine works on then
 
@@ -101,34 +107,34 @@ module _ (loaded : Loaded) (f : Forest) (made n : ℕ) (draft : Draft) (table : 
   begun-alone = subst (λ (d : Draft). in_detached d.kept.nodes ≡ []) (sym kept) (ap in_detached (all-instances f.nodes none) ∙ none)
 
   abbrev first : List Kept → Standing
-  first ks = standing_of loaded (instances f) ks (replicate n none_due) controls (first_tally made)
+  first ks = standing_of (chosen_of [] []) loaded (instances f) ks (replicate n none_due) controls (first_tally made)
 
   abbrev standing : Standing
-  standing = standing_of loaded draft.now table flags controls (first_tally made)
+  standing = standing_of (chosen_of [] []) loaded draft.now table flags controls (first_tally made)
 
   now-first : standing ≡ first (replicate n no_kept)
   now-first =
-      ap (λ (d : Draft). standing_of loaded d.now table flags controls (first_tally made)) kept
-      ∙ ap (λ ks. standing_of loaded (instances f) ks flags controls (first_tally made)) tables
-      ∙ ap (λ fs. standing_of loaded (instances f) (replicate n no_kept) fs controls (first_tally made)) now
+      ap (λ (d : Draft). standing_of (chosen_of [] []) loaded d.now table flags controls (first_tally made)) kept
+      ∙ ap (λ ks. standing_of (chosen_of [] []) loaded (instances f) ks flags controls (first_tally made)) tables
+      ∙ ap (λ fs. standing_of (chosen_of [] []) loaded (instances f) (replicate n no_kept) fs controls (first_tally made)) now
 
-  kept-first : standing_of loaded draft.kept (all_rolled_back table) old controls (first_tally made) ≡ first (replicate n no_kept)
+  kept-first : standing_of (chosen_of [] []) loaded draft.kept (all_rolled_back table) old controls (first_tally made) ≡ first (replicate n no_kept)
   kept-first =
-      ap (λ (d : Draft). standing_of loaded d.kept (all_rolled_back table) old controls (first_tally made)) kept
-      ∙ ap (λ ks. standing_of loaded (instances f) (all_rolled_back ks) old controls (first_tally made)) tables
-      ∙ ap (λ ks. standing_of loaded (instances f) ks old controls (first_tally made)) (none-rolled n)
-      ∙ ap (λ fs. standing_of loaded (instances f) (replicate n no_kept) fs controls (first_tally made)) before
+      ap (λ (d : Draft). standing_of (chosen_of [] []) loaded d.kept (all_rolled_back table) old controls (first_tally made)) kept
+      ∙ ap (λ ks. standing_of (chosen_of [] []) loaded (instances f) (all_rolled_back ks) old controls (first_tally made)) tables
+      ∙ ap (λ ks. standing_of (chosen_of [] []) loaded (instances f) ks old controls (first_tally made)) (none-rolled n)
+      ∙ ap (λ fs. standing_of (chosen_of [] []) loaded (instances f) (replicate n no_kept) fs controls (first_tally made)) before
 
   pub begun-is : n ≡ length loaded.form.models → controls ≡ [] → planted_by loaded ≡ Ok (growing loaded f made)
       → IsBegun (record {
-        kept = record { standing = standing_of loaded draft.kept (all_rolled_back table) old controls (first_tally made); built = 0 };
+        kept = record { standing = standing_of (chosen_of [] []) loaded draft.kept (all_rolled_back table) old controls (first_tally made); built = 0 };
         now = standing;
         built = 0;
       }) (planted_by loaded)
   begun-is count empty e = record {
     now = e ∙ ap Ok (begun-same loaded f made none
-        ∙ ap (λ m. state_of (standing_of loaded (instances f) (replicate m no_kept) (replicate m none_due) [] (first_tally made))) (sym count)
-        ∙ ap (λ cs. state_of (standing_of loaded (instances f) (replicate n no_kept) (replicate n none_due) cs (first_tally made))) (sym empty)
+        ∙ ap (λ m. state_of (standing_of (chosen_of [] []) loaded (instances f) (replicate m no_kept) (replicate m none_due) [] (first_tally made))) (sym count)
+        ∙ ap (λ cs. state_of (standing_of (chosen_of [] []) loaded (instances f) (replicate n no_kept) (replicate n none_due) cs (first_tally made))) (sym empty)
         ∙ ap state_of (sym now-first));
     kept = ap (λ s. record { standing = s; built = 0 }) (kept-first ∙ sym now-first);
     built = refl;

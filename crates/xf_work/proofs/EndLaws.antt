@@ -13,7 +13,7 @@ use Rattle.xf_work.specs.declared.flags.Flags.{Flags}
 use Rattle.xf_work.specs.declared.tally.Tally.{Tally}
 use Rattle.xf_work.specs.Built.{IsWhole}
 use Rattle.xf_processor.specs.Formed.{profile}
-use Rattle.xf_work.specs.Parts.{IsSound, standing_of}
+use Rattle.xf_work.specs.Parts.{Chosen, IsSound, standing_of}
 use Rattle.xf_work.specs.Standing.{Standing, state_of}
 use Rattle.xf_work.specs.Tally.{begun}
 use Rattle.xf_work.proofs.DroppedLaws.{dropped, whole-dropped}
@@ -78,33 +78,33 @@ module _ (l : Loaded) (draft : Draft) (table : List Kept) (flags old : List Flag
 
 -- ---- the states
 
-module _ (l : Loaded) (forest : Forest) (table : List Kept) (flags : List Flags) (controls : List ControlCopy) (tally : Tally) where
+module _ (chosen : Chosen) (l : Loaded) (forest : Forest) (table : List Kept) (flags : List Flags) (controls : List ControlCopy) (tally : Tally) where
   abbrev before : Standing
-  before = standing_of l forest table flags controls tally
+  before = standing_of chosen l forest table flags controls tally
 
   pub committed-state : (d : Draft) (t : List Kept) (u : Tally) → d ≡ kept_as (dropped forest) → t ≡ all_committed table → u ≡ begun tally
-      → state_of (standing_of l d.now t flags controls u) ≡ at_end profile (state_of before)
+      → state_of (standing_of chosen l d.now t flags controls u) ≡ at_end profile (state_of before)
   committed-state d t u drafted tabled tallied =
-      ap (λ (x : Draft). state_of (standing_of l x.now t flags controls u)) drafted
-      ∙ ap (λ x. state_of (standing_of l (dropped forest) x flags controls u)) tabled
-      ∙ ap (λ x. state_of (standing_of l (dropped forest) (all_committed table) flags controls x)) tallied
+      ap (λ (x : Draft). state_of (standing_of chosen l x.now t flags controls u)) drafted
+      ∙ ap (λ x. state_of (standing_of chosen l (dropped forest) x flags controls u)) tabled
+      ∙ ap (λ x. state_of (standing_of chosen l (dropped forest) (all_committed table) flags controls x)) tallied
       ∙ ap (λ ms. record (at_end profile (state_of before)) { models = ms }) (committed-models table flags)
 
   -- what is kept is what stands
   pub committed-kept : (d : Draft) (t : List Kept) (fs : List Flags) (u : Tally) → d ≡ kept_as (dropped forest) → t ≡ all_committed table → fs ≡ flags
-      → standing_of l d.kept (all_rolled_back t) fs controls u ≡ standing_of l d.now t flags controls u
+      → standing_of chosen l d.kept (all_rolled_back t) fs controls u ≡ standing_of chosen l d.now t flags controls u
   committed-kept d t fs u drafted tabled flagged =
-      ap (λ (x : Draft). standing_of l x.kept (all_rolled_back t) fs controls u) drafted
-      ∙ ap (λ x. standing_of l (dropped forest) (all_rolled_back x) fs controls u) tabled
-      ∙ ap (λ x. standing_of l (dropped forest) (all_rolled_back (all_committed table)) x controls u) flagged
-      ∙ ap (λ ms. record (standing_of l (dropped forest) (all_committed table) flags controls u) { models = ms }) (kept-models table flags)
-      ∙ ap (λ x. standing_of l (dropped forest) x flags controls u) (sym tabled)
-      ∙ ap (λ (x : Draft). standing_of l x.now t flags controls u) (sym drafted)
+      ap (λ (x : Draft). standing_of chosen l x.kept (all_rolled_back t) fs controls u) drafted
+      ∙ ap (λ x. standing_of chosen l (dropped forest) (all_rolled_back x) fs controls u) tabled
+      ∙ ap (λ x. standing_of chosen l (dropped forest) (all_rolled_back (all_committed table)) x controls u) flagged
+      ∙ ap (λ ms. record (standing_of chosen l (dropped forest) (all_committed table) flags controls u) { models = ms }) (kept-models table flags)
+      ∙ ap (λ x. standing_of chosen l (dropped forest) x flags controls u) (sym tabled)
+      ∙ ap (λ (x : Draft). standing_of chosen l x.now t flags controls u) (sym drafted)
 
 -- what was kept is kept after a roll-back
-pub back-kept : (l : Loaded) (table : List Kept) (flags : List Flags) (controls : List ControlCopy) (tally : Tally) (d e : Draft) (t : List Kept) → d ≡ kept_as e.kept → t ≡ all_rolled_back table
-    → standing_of l d.kept (all_rolled_back t) flags controls tally ≡ standing_of l e.kept (all_rolled_back table) flags controls tally
-back-kept l table flags controls tally d e t drafted tabled =
-    ap (λ (x : Draft). standing_of l x.kept (all_rolled_back t) flags controls tally) drafted
-    ∙ ap (λ x. standing_of l e.kept (all_rolled_back x) flags controls tally) tabled
-    ∙ ap (λ x. standing_of l e.kept x flags controls tally) (back-again table)
+pub back-kept : (chosen : Chosen) (l : Loaded) (table : List Kept) (flags : List Flags) (controls : List ControlCopy) (tally : Tally) (d e : Draft) (t : List Kept) → d ≡ kept_as e.kept → t ≡ all_rolled_back table
+    → standing_of chosen l d.kept (all_rolled_back t) flags controls tally ≡ standing_of chosen l e.kept (all_rolled_back table) flags controls tally
+back-kept chosen l table flags controls tally d e t drafted tabled =
+    ap (λ (x : Draft). standing_of chosen l x.kept (all_rolled_back t) flags controls tally) drafted
+    ∙ ap (λ x. standing_of chosen l e.kept (all_rolled_back x) flags controls tally) tabled
+    ∙ ap (λ x. standing_of chosen l e.kept x flags controls tally) (back-again table)

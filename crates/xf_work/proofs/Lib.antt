@@ -1,5 +1,6 @@
 pub mod Models
 pub mod AroundLaws
+pub mod ContextLaws
 pub mod FoundLaws
 pub mod RebuildLaws
 pub mod MarkLaws
@@ -45,3 +46,5 @@ pub mod SetKnown
 pub mod SteadyLaws
 pub mod RefreshLaws
 pub mod RightLaws
+pub mod SeeingLaws
+pub mod ChoosingLaws

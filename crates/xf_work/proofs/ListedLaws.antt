@@ -16,7 +16,7 @@ use Rattle.xf_work.specs.Built.{IsWhole, is_rebuild_due, scope_at}
 use Rattle.xf_work.specs.Flags.{none_due}
 use Rattle.xf_work.specs.Moving as moving
 use Rattle.xf_work.specs.Moving.{IsWithin, all_due_of, listed, with_list}
-use Rattle.xf_work.specs.Parts.{standing_of}
+use Rattle.xf_work.specs.Parts.{Chosen, standing_of}
 use Rattle.xf_work.specs.Setting.{holder_of}
 use Rattle.xf_work.specs.Standing.{state_of}
 use Rattle.xf_work.proofs.Models.{flags-length, model-changed, set-length}
@@ -92,16 +92,16 @@ whole-listed l forest table flags built holder n within w = record {
 
 -- ---- in the state
 
-module _ (loaded : Loaded) (forest : Forest) (table : List Kept) (flags : List Flags) (controls : List ControlCopy) (tally : Tally) (many : length table ≡ length flags) where
+module _ (chosen : Chosen) (loaded : Loaded) (forest : Forest) (table : List Kept) (flags : List Flags) (controls : List ControlCopy) (tally : Tally) (many : length table ≡ length flags) where
   abbrev s : State
-  s = state_of (standing_of loaded forest table flags controls tally)
+  s = state_of (standing_of chosen loaded forest table flags controls tally)
 
   listed-in : (holder : Option ℕ) (n : ℕ) → IsWithin holder flags
-      → in_some_model (λ m. all_due (with_list_mark n m)) holder s ≡ state_of (standing_of loaded forest (listed holder n table) (all_due_of holder flags) controls tally)
+      → in_some_model (λ m. all_due (with_list_mark n m)) holder s ≡ state_of (standing_of chosen loaded forest (listed holder n table) (all_due_of holder flags) controls tally)
   listed-in None n within = refl
   listed-in (Some held) n within =
       ap (λ ms. record s { models = ms }) (model-changed (λ m. all_due (with_list_mark n m)) table flags held (with_list n (kept_at table held)) moving.all_due many within refl)
 
   pub listed-state : (holder : Option ℕ) (n : ℕ) → holder ≡ holder_of loaded.form.tables.instances forest n → IsWithin holder flags
-      → list_changed (Some n) s ≡ state_of (standing_of loaded forest (listed holder n table) (all_due_of holder flags) controls tally)
+      → list_changed (Some n) s ≡ state_of (standing_of chosen loaded forest (listed holder n table) (all_due_of holder flags) controls tally)
   listed-state holder n held within = ap (λ o. in_some_model (λ m. all_due (with_list_mark n m)) o s) (sym held) ∙ listed-in holder n within

@@ -25,7 +25,7 @@ use Rattle.xf_work.specs.declared.flags.Flag.TheVariants.{Revalidate}
 use Rattle.xf_work.specs.declared.tally.Tally.{Tally}
 use Rattle.xf_processor.specs.Formed.{profile}
 use Rattle.xf_work.specs.Flags.{none_due, without}
-use Rattle.xf_work.specs.Parts.{model_of, models_of, standing_of}
+use Rattle.xf_work.specs.Parts.{Chosen, model_of, models_of, standing_of}
 use Rattle.xf_work.specs.Standing.{state_of}
 use Rattle.xf_work.proofs.Models.{model-at, model-changed}
 
@@ -41,9 +41,9 @@ invalid-same n [] fs e = refl
 invalid-same n (k ∷ ks) [] e = absurd (omega (arith, e))
 invalid-same n (k ∷ ks) (f ∷ fs) e = ap (λ b. has n k.invalid || b) (invalid-same n ks fs (omega (arith, e)))
 
-pub marks-at : (loaded : Loaded) (forest : Forest) (table : List Kept) (flags : List Flags) (controls : List ControlCopy) (tally : Tally) → length table ≡ length flags
-    → (n : ℕ) → machine_values.marks_in (state_of (standing_of loaded forest table flags controls tally)) n ≡ table_marks.marks_in table forest.nodes n
-marks-at loaded forest table flags controls tally many n =
+pub marks-at : (chosen : Chosen) (loaded : Loaded) (forest : Forest) (table : List Kept) (flags : List Flags) (controls : List ControlCopy) (tally : Tally) → length table ≡ length flags
+    → (n : ℕ) → machine_values.marks_in (state_of (standing_of chosen loaded forest table flags controls tally)) n ≡ table_marks.marks_in table forest.nodes n
+marks-at chosen loaded forest table flags controls tally many n =
     ap (λ vs. record {
       relevant = is_relevant (visits forest.nodes) vs n;
       readonly = is_readonly (visits forest.nodes) vs n;
@@ -52,9 +52,9 @@ marks-at loaded forest table flags controls tally many n =
     }) (values-same table flags many)
     ∙ ap (λ b. record (table_marks.marks_in table forest.nodes n) { valid = not b }) (invalid-same n table flags many)
 
-pub marks-same : (loaded : Loaded) (forest : Forest) (table : List Kept) (flags : List Flags) (controls : List ControlCopy) (tally : Tally) → length table ≡ length flags
-    → machine_values.marks_in (state_of (standing_of loaded forest table flags controls tally)) ≡ table_marks.marks_in table forest.nodes
-marks-same loaded forest table flags controls tally many = fun_ext (marks-at loaded forest table flags controls tally many)
+pub marks-same : (chosen : Chosen) (loaded : Loaded) (forest : Forest) (table : List Kept) (flags : List Flags) (controls : List ControlCopy) (tally : Tally) → length table ≡ length flags
+    → machine_values.marks_in (state_of (standing_of chosen loaded forest table flags controls tally)) ≡ table_marks.marks_in table forest.nodes
+marks-same chosen loaded forest table flags controls tally many = fun_ext (marks-at chosen loaded forest table flags controls tally many)
 
 -- ---- what is not valid
 
@@ -66,10 +66,10 @@ filter-same : {X : Type 0} (p q : X → Bool) (xs : List X) → ((x : X) → p x
 filter-same p q [] h = refl
 filter-same p q (x ∷ xs) h = ap (λ b. cond b (x ∷ filter p xs) (filter p xs)) (h x) ∙ ap (λ ys. cond (q x) (x ∷ ys) ys) (filter-same p q xs h)
 
-module _ (loaded : Loaded) (forest : Forest) (model : ℕ) (table : List Kept) (flags : List Flags) (controls : List ControlCopy) (tally : Tally)
+module _ (chosen : Chosen) (loaded : Loaded) (forest : Forest) (model : ℕ) (table : List Kept) (flags : List Flags) (controls : List ControlCopy) (tally : Tally)
     (many : length table ≡ length flags) (within : model < length flags) where
   abbrev before : State
-  before = state_of (standing_of loaded forest table flags controls tally)
+  before = state_of (standing_of chosen loaded forest table flags controls tally)
 
   abbrev k : Kept
   k = kept_at table model
@@ -83,10 +83,10 @@ module _ (loaded : Loaded) (forest : Forest) (model : ℕ) (table : List Kept) (
       ∙ ap (λ b. b && not (is_valid meets_type (bind_scope profile before model) (visits forest.nodes) (kept_at table model).entries (values_of (kept_at table model)) x.number)) (model-same model (model_holding before x.number))
 
   pub revalidate-done : (after : List Kept) → after ≡ with_kept table model (revalidated (bind_scope profile before model) loaded.form.tables.instances forest.nodes (kept_at table model))
-      → machine.revalidate profile model before ≡ state_of (standing_of loaded forest after (slice_set flags model (without Revalidate (get_or flags model none_due))) controls tally)
+      → machine.revalidate profile model before ≡ state_of (standing_of chosen loaded forest after (slice_set flags model (without Revalidate (get_or flags model none_due))) controls tally)
   revalidate-done after e =
       ap (λ ns. in_model (revalidated_with ns) model before) (ap (map (λ (x : Visit). x.number)) (filter-same (machine.is_invalid profile model before) (λ x. valid.is_invalid (bind_scope profile before model) loaded.form.tables.instances forest.nodes (kept_at table model) x.number) (visits forest.nodes) invalid-here))
       ∙ ap (λ ms. record before { models = ms })
       (model-changed (revalidated_with (invalid_in (bind_scope profile before model) loaded.form.tables.instances forest.nodes (kept_at table model))) table flags model
       (revalidated (bind_scope profile before model) loaded.form.tables.instances forest.nodes (kept_at table model)) (without Revalidate (get_or flags model none_due)) many within refl)
-      ∙ ap (λ t. state_of (standing_of loaded forest t (slice_set flags model (without Revalidate (get_or flags model none_due))) controls tally)) (sym e)
+      ∙ ap (λ t. state_of (standing_of chosen loaded forest t (slice_set flags model (without Revalidate (get_or flags model none_due))) controls tally)) (sym e)

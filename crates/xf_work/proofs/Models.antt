@@ -1,5 +1,5 @@
 -- The models of a state, by what a table keeps of each and what is due of it.
-use Rattle.std.proofs.Common.{◌≡◌, ℕ, zero, suc, ◌<◌, Bool, true, false, List, [], ◌∷◌, map, length, get_or, refl, ap, arith}
+use Rattle.std.proofs.Common.{◌≡◌, ℕ, zero, suc, ◌<◌, Bool, true, false, List, [], ◌∷◌, map, length, get_or, refl, ap, ◌∙◌, arith}
 use Rattle.std.specs.Prelude.{slice_set, ◌||◌}
 use Rattle.std.specs.List.{list_any}
 use Rattle.xf_form_machine.specs.State as machine
@@ -11,7 +11,8 @@ use Rattle.xf_binds.specs.Kept.{Kept, committed, no_kept, rolled_back}
 use Rattle.xf_binds.specs.Asked.{asked_of}
 use Rattle.xf_work.specs.declared.flags.Flags.{Flags}
 use Rattle.xf_work.specs.Flags.{flags_of, none_due, with_refresh, without_refresh}
-use Rattle.xf_work.specs.Parts.{model_of, models_of}
+use Rattle.xf_context.specs.declared.indexes.Index.{Index}
+use Rattle.xf_work.specs.Parts.{chosen_of, model_of, models_of}
 
 pub models-length : (ks : List Kept) (fs : List Flags) → length ks ≡ length fs → length (models_of ks fs) ≡ length fs
 models-length [] [] e = refl
@@ -109,3 +110,8 @@ kept-models (k ∷ ks) (f ∷ fs) = ap (λ ms. model_of k f ∷ ms) (kept-models
 pub back-again : (ks : List Kept) → map rolled_back (map rolled_back ks) ≡ map rolled_back ks
 back-again [] = refl
 back-again (k ∷ ks) = ap (λ bs. rolled_back k ∷ bs) (back-again ks)
+
+-- ---- what is chosen
+
+pub chosen-same : (is js : List Index) (cs ds : List ℕ) → is ≡ js → cs ≡ ds → chosen_of is cs ≡ chosen_of js ds
+chosen-same is js cs ds e h = ap (λ x. chosen_of x cs) e ∙ ap (chosen_of js) h

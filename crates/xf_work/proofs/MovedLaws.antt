@@ -35,7 +35,7 @@ use Rattle.xf_work.specs.declared.tally.Tally.{Tally}
 use Rattle.xf_work.specs.Does.{Does, IsRefused, Makes}
 use Rattle.xf_work.specs.Grown.{IsGrown, with_more}
 use Rattle.xf_work.specs.Moving.{IsGrownBy, IsRefusedBy, IsWithin, all_due_of, fault_in, listed}
-use Rattle.xf_work.specs.Parts.{standing_of}
+use Rattle.xf_work.specs.Parts.{Chosen, standing_of}
 use Rattle.xf_work.specs.Planting.{fault_of}
 use Rattle.xf_work.specs.Setting.{SaysLimit, holder_of}
 use Rattle.xf_work.specs.Standing.{Standing, state_of}
@@ -145,9 +145,9 @@ changed-made : (o : Option ℕ) (change : Model → Model) (s : State) → ((in_
 changed-made None change s = (refl, refl)
 changed-made (Some model) change s = (refl, refl)
 
-module _ (loaded : Loaded) (forest : Forest) (table : List Kept) (flags : List Flags) (controls : List ControlCopy) (tally : Tally) (many : length table ≡ length flags) where
+module _ (chosen : Chosen) (loaded : Loaded) (forest : Forest) (table : List Kept) (flags : List Flags) (controls : List ControlCopy) (tally : Tally) (many : length table ≡ length flags) where
   abbrev s : State
-  s = state_of (standing_of loaded forest table flags controls tally)
+  s = state_of (standing_of chosen loaded forest table flags controls tally)
 
   plus : (e : ℕ) → e ≡ e + 0
   plus e = omega arith
@@ -155,26 +155,26 @@ module _ (loaded : Loaded) (forest : Forest) (table : List Kept) (flags : List F
   -- ---- a tree that comes as a detached one
 
   pub tree-comes : (count n : ℕ) (f : Forest) (given : Result (ℕ × Forest) TreeFault) → given ≡ Ok (n, f) → nat_lt (2 ^ 32) (tally.made + count) ≡ false
-      → grown_by (grown profile count given s) ≡ Ok (n, state_of (standing_of loaded f table flags controls (with_more count 0 tally)))
+      → grown_by (grown profile count given s) ≡ Ok (n, state_of (standing_of chosen loaded f table flags controls (with_more count 0 tally)))
   tree-comes count n f given e fits =
       ap (λ g. grown_by (grown profile count g s)) e
       ∙ ap (λ b. grown_by (unless_passed s (if_over b word.Made) ((n, f), record s { made = tally.made + count }))) fits
       ∙ ap (λ (k : ℕ). Ok (n, record s { forest = f; made = tally.made + count; evaluated = k })) (plus tally.evaluated)
 
   pub tree-makes : (count : ℕ) (given : Result (ℕ × Forest) TreeFault) (e : Draft) (u : Tally) (r : Result NodeId WorkFault) → IsGrownBy r count given e tally u
-      → Makes (λ (n : NodeId). n.number) r (standing_of loaded e.now table flags controls u) (grown_by (grown profile count given s))
+      → Makes (λ (n : NodeId). n.number) r (standing_of chosen loaded e.now table flags controls u) (grown_by (grown profile count given s))
   tree-makes count given e u (Ok top) h =
-      tree-comes count top.number e.now given h.0 h.2 ∙ ap (λ v. Ok (top.number, state_of (standing_of loaded e.now table flags controls v))) (sym h.1)
+      tree-comes count top.number e.now given h.0 h.2 ∙ ap (λ v. Ok (top.number, state_of (standing_of chosen loaded e.now table flags controls v))) (sym h.1)
   tree-makes count given e u (Err (fault.Refused why)) h = by-refused why (grown profile count given s) (h s refl refl)
   tree-makes count given e u (Err fault.Memory) h = tt
 
   -- ---- a tree that is cut off
 
   pub tree-goes : (n parent : ℕ) (holder : Option ℕ) → parent_of n (visits forest.nodes) ≡ Some parent → holder ≡ holder_of loaded.form.tables.instances forest parent → IsWithin holder flags
-      → machine.detach n s ≡ state_of (standing_of loaded (detached n forest) (listed holder parent table) (all_due_of holder flags) controls tally)
+      → machine.detach n s ≡ state_of (standing_of chosen loaded (detached n forest) (listed holder parent table) (all_due_of holder flags) controls tally)
   tree-goes n parent holder below held within =
       ap (λ o. record (list_changed o s) { forest = detached n forest }) below
-      ∙ ap (λ (t : State). record t { forest = detached n forest }) (listed-state loaded forest table flags controls tally many holder parent held within)
+      ∙ ap (λ (t : State). record t { forest = detached n forest }) (listed-state chosen loaded forest table flags controls tally many holder parent held within)
 
   -- ---- a tree that comes below a parent
 
@@ -206,13 +206,13 @@ module _ (loaded : Loaded) (forest : Forest) (table : List Kept) (flags : List F
     count-refused fault.Memory h end = tt
 
     abbrev after_mark : Option ℕ → State
-    after_mark holder = state_of (standing_of loaded forest (listed holder parent table) (all_due_of holder flags) controls tally)
+    after_mark holder = state_of (standing_of chosen loaded forest (listed holder parent table) (all_due_of holder flags) controls tally)
 
     pub placed-done : (holder : Option ℕ) (f : Forest) → holder ≡ holder_of loaded.form.tables.instances forest parent → IsWithin holder flags → attached limits n parent place forest ≡ Ok f
         → nat_lt (2 ^ 32) (tally.made + 0) ≡ false
-        → machine.attach profile n parent place s ≡ Ok (state_of (standing_of loaded f (listed holder parent table) (all_due_of holder flags) controls (with_more 0 0 tally)))
+        → machine.attach profile n parent place s ≡ Ok (state_of (standing_of chosen loaded f (listed holder parent table) (all_due_of holder flags) controls (with_more 0 0 tally)))
     placed-done holder f held within e fits =
-        ap (λ t. grown_to (grown profile 0 given t)) (listed-state loaded forest table flags controls tally many holder parent held within)
+        ap (λ t. grown_to (grown profile 0 given t)) (listed-state chosen loaded forest table flags controls tally many holder parent held within)
         ∙ ap (λ g. grown_to (grown profile 0 g (after_mark holder))) e
         ∙ ap (λ b. grown_to (unless_passed (after_mark holder) (if_over b word.Made) (f, record (after_mark holder) { made = tally.made + 0 }))) fits
         ∙ ap (λ (k : ℕ). Ok (record (after_mark holder) { forest = f; made = tally.made + 0; evaluated = k })) (plus tally.evaluated)

@@ -34,7 +34,7 @@ use Rattle.xf_work.specs.Around.{given_in}
 use Rattle.xf_work.specs.Calls.{rebuilt_flags}
 use Rattle.xf_processor.specs.Formed.{profile}
 use Rattle.xf_work.specs.Does.{Does, IsRefused}
-use Rattle.xf_work.specs.Parts.{IsLoaded, standing_of}
+use Rattle.xf_work.specs.Parts.{Chosen, IsLoaded, standing_of}
 use Rattle.xf_work.specs.Standing.{Standing, state_of}
 use Rattle.xf_work.specs.Told.{IsSaid, IsTold}
 use Rattle.xf_work.proofs.AroundLaws.{scope-same}
@@ -87,16 +87,16 @@ kept-set [] model k h = absurd (omega (arith, h))
 kept-set (y ∷ ys) zero k h = refl
 kept-set (y ∷ ys) (suc model) k h = kept-set ys model k (omega (arith, h))
 
-module _ (loaded : Loaded) (is : IsLoaded loaded) (forest : Forest) (model : ℕ) (table : List Kept) (flags : List Flags) (controls : List ControlCopy) (tally : Tally)
+module _ (chosen : Chosen) (loaded : Loaded) (is : IsLoaded loaded) (forest : Forest) (model : ℕ) (table : List Kept) (flags : List Flags) (controls : List ControlCopy) (tally : Tally)
     (many : length table ≡ length flags) (within : model < length table) where
   abbrev before : Standing
-  before = standing_of loaded forest table flags controls tally
+  before = standing_of chosen loaded forest table flags controls tally
 
   abbrev surroundings : Scope
   surroundings = scope_of called (given_in loaded.form.tables.instances loaded.prefixes loaded.form.decimals forest) loaded.form.tables model
 
   here-same : bind_scope profile (state_of before) model ≡ surroundings
-  here-same = scope-same loaded forest model table flags controls tally
+  here-same = scope-same chosen loaded forest model table flags controls tally
 
   pub rebuild-told : machine.rebuild profile model (state_of before) ≡ told model (state_of before) (rebuilt surroundings forest.nodes table)
   rebuild-told =
@@ -104,19 +104,19 @@ module _ (loaded : Loaded) (is : IsLoaded loaded) (forest : Forest) (model : ℕ
       ∙ ap (λ x. told model (state_of before) (rebuilt x forest.nodes table)) here-same
 
   taken : (entries : List Entry) (asks : List Asks) → in_model (rebuilt_with (kept_at (table_with table model entries asks) model).entries (asked_of (kept_at (table_with table model entries asks) model).asks)) model (state_of before)
-      ≡ state_of (standing_of loaded forest (table_with table model entries asks) (rebuilt_flags flags model) controls tally)
+      ≡ state_of (standing_of chosen loaded forest (table_with table model entries asks) (rebuilt_flags flags model) controls tally)
   taken entries asks =
       ap (λ (k : Kept). in_model (rebuilt_with k.entries (asked_of k.asks)) model (state_of before)) (kept-set table model (record (kept_at table model) { entries = entries; asks = asks }) within)
       ∙ ap (λ ms. record (state_of before) { models = ms })
       (model-changed (rebuilt_with entries (asked_of asks)) table flags model (record (kept_at table model) { entries = entries; asks = asks }) _ many (subst (λ n. model < n) many within) refl)
 
   pub rebuild-done : (after : List Kept) → rebuilt surroundings forest.nodes table ≡ Ok after
-      → machine.rebuild profile model (state_of before) ≡ Ok (state_of (standing_of loaded forest after (rebuilt_flags flags model) controls tally))
+      → machine.rebuild profile model (state_of before) ≡ Ok (state_of (standing_of chosen loaded forest after (rebuilt_flags flags model) controls tally))
   rebuild-done after e =
       let i = after-rebuild surroundings forest.nodes table after e in
       rebuild-told
       ∙ ap (told model (state_of before)) e
-      ∙ ap Ok (ap (λ t. taken_over model (state_of before) t) i.is ∙ taken i.entries i.asks ∙ ap (λ t. state_of (standing_of loaded forest t (rebuilt_flags flags model) controls tally)) (sym i.is))
+      ∙ ap Ok (ap (λ t. taken_over model (state_of before) t) i.is ∙ taken i.entries i.asks ∙ ap (λ t. state_of (standing_of chosen loaded forest t (rebuilt_flags flags model) controls tally)) (sym i.is))
 
   pub rebuild-stopped : (stop : Stop) → rebuilt surroundings forest.nodes table ≡ Err stop
       → machine.rebuild profile model (state_of before) ≡ Err (record { why = refusal_of (state_of before) stop; calls = [] })

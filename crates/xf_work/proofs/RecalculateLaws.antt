@@ -39,7 +39,7 @@ use Rattle.xf_processor.specs.Formed.{profile}
 use Rattle.xf_work.specs.Does.{Does, IsRefused}
 use Rattle.xf_work.specs.Flags.{none_due, without}
 use Rattle.xf_work.specs.Grown.{IsGrown, with_more}
-use Rattle.xf_work.specs.Parts.{IsLoaded, model_of, models_of, standing_of}
+use Rattle.xf_work.specs.Parts.{Chosen, IsLoaded, model_of, models_of, standing_of}
 use Rattle.xf_work.specs.Settling.{IsPassed, fault_of}
 use Rattle.xf_work.specs.Standing.{Standing, state_of}
 use Rattle.xf_work.proofs.Models.{model-at, model-changed}
@@ -121,10 +121,10 @@ made-is x entries forest after truths s =
 
 -- ---- over a state
 
-module _ (loaded : Loaded) (is : IsLoaded loaded) (forest : Forest) (model : ℕ) (table : List Kept) (flags : List Flags) (controls : List ControlCopy) (tally : Tally)
+module _ (chosen : Chosen) (loaded : Loaded) (is : IsLoaded loaded) (forest : Forest) (model : ℕ) (table : List Kept) (flags : List Flags) (controls : List ControlCopy) (tally : Tally)
     (many : length table ≡ length flags) (within : model < length table) where
   abbrev before : Standing
-  before = standing_of loaded forest table flags controls tally
+  before = standing_of chosen loaded forest table flags controls tally
 
   abbrev s : State
   s = state_of before
@@ -139,7 +139,7 @@ module _ (loaded : Loaded) (is : IsLoaded loaded) (forest : Forest) (model : ℕ
   m = model_of k (get_or flags model none_due)
 
   scope-is : bind_scope profile s model ≡ x
-  scope-is = scope-same loaded forest model table flags controls tally
+  scope-is = scope-same chosen loaded forest model table flags controls tally
 
   there : model < length flags
   there = subst (λ n. model < n) many within
@@ -194,7 +194,7 @@ module _ (loaded : Loaded) (is : IsLoaded loaded) (forest : Forest) (model : ℕ
         (ap (λ vs. model_of (record k { stood = vs; texts = []; lists = [] }) (without Recalculate (get_or flags model none_due))) (sym settled.values))
 
     settled-is : settled_in profile model k.entries (settled_contents bounds x k.entries (visits forest.nodes)) s
-        ≡ state_of (standing_of loaded after (with_kept table model kept) (slice_set flags model (without Recalculate (get_or flags model none_due))) controls tally)
+        ≡ state_of (standing_of chosen loaded after (with_kept table model kept) (slice_set flags model (without Recalculate (get_or flags model none_due))) controls tally)
     settled-is =
         ap (λ f. in_model (recalculated_with (values_over bounds (bind_scope profile s model) k.entries (visits f.nodes))) model (record s { forest = f })) (sym settled.written)
         ∙ ap (λ y. in_model (recalculated_with (values y)) model (record s { forest = after })) scope-is
@@ -202,7 +202,7 @@ module _ (loaded : Loaded) (is : IsLoaded loaded) (forest : Forest) (model : ℕ
 
     pub recalculate-done : (count : ℕ) → count ≡ pertinent_count x (shape (visits forest.nodes)) k.entries (changes_of m) → nat_lt (2 ^ 32) (tally.made + length (calculates k.entries)) ≡ false
         → machine.recalculate profile model s
-        ≡ Ok (state_of (standing_of loaded after (with_kept table model kept) (slice_set flags model (without Recalculate (get_or flags model none_due))) controls (with_more (length (calculates k.entries)) count tally)))
+        ≡ Ok (state_of (standing_of chosen loaded after (with_kept table model kept) (slice_set flags model (without Recalculate (get_or flags model none_due))) controls (with_more (length (calculates k.entries)) count tally)))
     recalculate-done count counted fits =
         recalculate-is
         ∙ ap (λ ws. unless_passed s ws s >>= done x m) (ap (λ ps. map word_of ps ++ over_made profile (tally.made + length (calculates k.entries))) settled.within ∙ ap (λ b. if_over b word.Made) fits)

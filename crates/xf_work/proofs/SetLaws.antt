@@ -27,7 +27,7 @@ use Rattle.xf_processor.specs.Formed.{profile}
 use Rattle.xf_work.specs.Does.{Does, IsRefused}
 use Rattle.xf_work.specs.Flags.{none_due, with_texts}
 use Rattle.xf_work.specs.Grown.{IsGrown, with_more}
-use Rattle.xf_work.specs.Parts.{model_of, models_of, standing_of}
+use Rattle.xf_work.specs.Parts.{Chosen, model_of, models_of, standing_of}
 use Rattle.xf_work.specs.Setting.{IsBound, MayBeSet, SaysLimit, due, holder_of, is_other, mark_if, marked}
 use Rattle.xf_work.specs.Standing.{Standing, state_of}
 use Rattle.xf_work.proofs.Models.{model-changed}
@@ -74,10 +74,10 @@ models-marked (Some model) other n table flags many = elim (cases_lt model (leng
 
 -- ---- over a state
 
-module _ (loaded : Loaded) (forest : Forest) (table : List Kept) (flags : List Flags) (controls : List ControlCopy) (tally : Tally) (many : length table ≡ length flags)
+module _ (chosen : Chosen) (loaded : Loaded) (forest : Forest) (table : List Kept) (flags : List Flags) (controls : List ControlCopy) (tally : Tally) (many : length table ≡ length flags)
     (text : List ℕ) (n : ℕ) where
   abbrev s : State
-  s = state_of (standing_of loaded forest table flags controls tally)
+  s = state_of (standing_of chosen loaded forest table flags controls tally)
 
   abbrev holder : Option ℕ
   holder = holder_of loaded.form.tables.instances forest n
@@ -91,7 +91,7 @@ module _ (loaded : Loaded) (forest : Forest) (table : List Kept) (flags : List F
   abbrev made : ℕ
   made = length (new_texts n text forest)
 
-  marked-state : (o : Option ℕ) → in_some_model (change_of other n) o s ≡ state_of (standing_of loaded forest (marked o other n table) (due o flags) controls tally)
+  marked-state : (o : Option ℕ) → in_some_model (change_of other n) o s ≡ state_of (standing_of chosen loaded forest (marked o other n table) (due o flags) controls tally)
   marked-state None = refl
   marked-state (Some model) = ap (λ ms. record s { models = ms }) (models-marked (Some model) other n table flags many)
 
@@ -99,7 +99,7 @@ module _ (loaded : Loaded) (forest : Forest) (table : List Kept) (flags : List F
   with_passed o t = grown_to (grown profile made (unless o after) t)
 
   abbrev next : State
-  next = state_of (standing_of loaded forest (marked holder other n table) (due holder flags) controls tally)
+  next = state_of (standing_of chosen loaded forest (marked holder other n table) (due holder flags) controls tally)
 
   text-is : set_text profile n text s ≡ with_passed (passed_by_text limits (length text) after.nodes) next
   text-is = ap (with_passed (passed_by_text limits (length text) after.nodes)) (marked-state holder)
@@ -137,7 +137,7 @@ module _ (loaded : Loaded) (forest : Forest) (table : List Kept) (flags : List F
   -- ---- done
 
   pub set-done : passed_by_text limits (length text) after.nodes ≡ None → nat_lt (2 ^ 32) (tally.made + made) ≡ false
-      → set_text profile n text s ≡ Ok (state_of (standing_of loaded after (marked holder other n table) (due holder flags) controls (with_more made 0 tally)))
+      → set_text profile n text s ≡ Ok (state_of (standing_of chosen loaded after (marked holder other n table) (due holder flags) controls (with_more made 0 tally)))
   set-done passed fits =
       text-is ∙ ap (λ o. with_passed o next) passed
       ∙ ap (λ b. grown_to (unless_passed next (if_over b word.Made) (after, record next { made = tally.made + made }))) fits
@@ -148,9 +148,9 @@ module _ (loaded : Loaded) (forest : Forest) (table : List Kept) (flags : List F
 
 -- ---- whether it may be set
 
-module _ (loaded : Loaded) (forest : Forest) (table : List Kept) (flags : List Flags) (controls : List ControlCopy) (tally : Tally) (n : ℕ) where
+module _ (chosen : Chosen) (loaded : Loaded) (forest : Forest) (table : List Kept) (flags : List Flags) (controls : List ControlCopy) (tally : Tally) (n : ℕ) where
   abbrev now : State
-  now = state_of (standing_of loaded forest table flags controls tally)
+  now = state_of (standing_of chosen loaded forest table flags controls tally)
 
   abbrev asked : Run → Result State Refused
   asked run = unless_parent (has_elements (visits forest.nodes) n) n run now
@@ -174,7 +174,7 @@ module _ (loaded : Loaded) (forest : Forest) (table : List Kept) (flags : List F
   bound-refused run full (fault.Refused refusal.Sends) h end = absurd h
   bound-refused run full fault.Memory h end = tt
 
-  pub may-does : (told : Result (Unit {0}) WorkFault) → MayBeSet loaded.form.tables.instances forest n told → Does told (standing_of loaded forest table flags controls tally) (asked (λ t. Ok t))
+  pub may-does : (told : Result (Unit {0}) WorkFault) → MayBeSet loaded.form.tables.instances forest n told → Does told (standing_of chosen loaded forest table flags controls tally) (asked (λ t. Ok t))
   may-does (Ok x) h = ap (λ b. unless_parent b n (λ t. Ok t) now) h.childless
-  may-does (Err (fault.Refused why)) h = bound-refused (λ t. Ok t) h.0 (fault.Refused why) h.1 (standing_of loaded forest table flags controls tally)
+  may-does (Err (fault.Refused why)) h = bound-refused (λ t. Ok t) h.0 (fault.Refused why) h.1 (standing_of chosen loaded forest table flags controls tally)
   may-does (Err fault.Memory) h = tt

@@ -1,27 +1,29 @@
 -- The list of the controls over a forest and a table is that of the state.
-use Rattle.std.proofs.Common.{◌≡◌, Bool, true, false, List, [], ◌∷◌, map, length, Option, Some, None, Result, Ok, Err, refl, sym, ap, ◌∙◌, subst, ◌⊎◌, inl, inr, arith}
+use Rattle.std.proofs.Common.{◌≡◌, ℕ, Bool, true, false, List, [], ◌∷◌, map, length, Option, Some, None, Result, Ok, Err, refl, sym, ap, ◌∙◌, subst, ◌⊎◌, inl, inr, arith}
 use Rattle.std.specs.Prelude.{nat_lt}
 use Rattle.xf_base.specs.Limits.{string_limit}
 use Rattle.xf_doc.specs.Forest.{Forest}
 use Rattle.xf_doc.specs.Visit.{visits}
 use Rattle.xf_funcs.specs.Called.{called}
-use Rattle.xf_lang.specs.Given.{Given}
+use Rattle.xf_lang.specs.Given.{Document, Given}
 use Rattle.xf_lang.specs.declared.fault.EvalFault.{EvalFault}
 use Rattle.xf_lang.specs.declared.fault.EvalFault.TheVariants as eval
 use Rattle.xf_model.specs.Nested.{nested}
 use Rattle.xf_model.specs.Rules.{scope_of}
 use Rattle.xf_ui.specs.Around.{Around}
 use Rattle.xf_ui.specs.Copies as copies
+use Rattle.xf_ui.specs.declared.marks.Marks.{Marks}
 use Rattle.xf_ui.specs.Interface.{interface_of}
 use Rattle.xf_form_machine.specs.declared.limit.LimitWord.TheVariants.{Controls, Long}
 use Rattle.xf_form_machine.specs.Refusal.{limit, or_long, unless_passed, if_over}
 use Rattle.xf_form_machine.specs.Flow.{◌>>=◌}
 use Rattle.xf_form_machine.specs.State.{State}
-use Rattle.xf_form_machine.specs.Surround.{quiet}
-use Rattle.xf_form_machine.specs.Properties.{marks_in}
+use Rattle.xf_form_machine.specs.Surround.{documents, given, quiet}
 use Rattle.xf_form_machine.specs.Update as update
 use Rattle.xf_form_machine.specs.Update.{within_controls}
 use Rattle.xf_binds.specs.Kept.{Kept}
+use Rattle.xf_context.specs.Around.{Indexes}
+use Rattle.xf_context.specs.Over as context
 use Rattle.xf_controls.specs.declared.copy.ControlCopy.{ControlCopy}
 use Rattle.xf_controls.specs.Seen.{seen_copy}
 use Rattle.xf_controls.specs.Surrounded.{around_in}
@@ -36,15 +38,16 @@ use Rattle.xf_work.specs.Around.{given_in}
 use Rattle.xf_work.specs.Calls.{IsWithin, long_or_memory}
 use Rattle.xf_processor.specs.Formed.{profile}
 use Rattle.xf_work.specs.Does.{Finds, IsRefused}
-use Rattle.xf_work.specs.Parts.{IsLoaded, standing_of}
+use Rattle.xf_work.specs.Parts.{Chosen, IsLoaded, standing_of}
 use Rattle.xf_work.specs.Standing.{state_of}
-use Rattle.xf_work.proofs.AroundLaws.{given-same}
+use Rattle.xf_work.proofs.AroundLaws.{documents-same}
+use Rattle.xf_work.proofs.ContextLaws.{documents-given}
 use Rattle.xf_work.proofs.MarkLaws.{marks-same}
 
-module _ (loaded : Loaded) (is : IsLoaded loaded) (forest : Forest) (table : List Kept) (flags : List Flags) (controls : List ControlCopy) (tally : Tally)
+module _ (chosen : Chosen) (loaded : Loaded) (is : IsLoaded loaded) (forest : Forest) (table : List Kept) (flags : List Flags) (controls : List ControlCopy) (tally : Tally)
     (many : length table ≡ length flags) where
   abbrev here : State
-  here = state_of (standing_of loaded forest table flags controls tally)
+  here = state_of (standing_of chosen loaded forest table flags controls tally)
 
   abbrev around_with : Given → Around
   around_with g = record {
@@ -55,17 +58,23 @@ module _ (loaded : Loaded) (is : IsLoaded loaded) (forest : Forest) (table : Lis
     bound = λ k. nested (Some string_limit) (scope_of called (record g { indexes = []; event = None }) loaded.form.tables 0) (visits forest.nodes) k;
   }
 
-  abbrev listed : Option (List copies.Copy)
-  listed = copies.copies (interface_of loaded.form) (around_in (given_in loaded.form.tables.instances loaded.prefixes loaded.form.decimals forest) loaded.form.tables forest.nodes) (table_marks.marks_in table forest.nodes) [] []
+  abbrev copies_in : Around → (ℕ → Marks) → Option (List copies.Copy)
+  copies_in a marks = copies.copies (interface_of loaded.form) a marks chosen.cases chosen.indexes
 
-  around-same : quiet profile here ≡ around_in (given_in loaded.form.tables.instances loaded.prefixes loaded.form.decimals forest) loaded.form.tables forest.nodes
-  around-same = ap around_with (given-same (standing_of loaded forest table flags controls tally) is.plain)
+  abbrev listed : Option (List copies.Copy)
+  listed = copies_in (around_in (given_in loaded.form.tables.instances loaded.prefixes loaded.form.decimals forest) loaded.form.tables forest.nodes) (table_marks.marks_in table forest.nodes)
+
+  -- copies are evaluated with the indexes beside them, whatever is given
+  over-documents : (ds : List Document) → documents here ≡ ds → (marks : ℕ → Marks) → copies_in (quiet profile here) marks ≡ copies_in (around_with (record (given here None) { documents = ds })) marks
+  over-documents ds e marks = ap (λ all. copies_in (around_with (record (given here None) { documents = all })) marks) e
+
+  shown-by : (o : Option (List copies.Copy)) → copies_in (quiet profile here) (table_marks.marks_in table forest.nodes) ≡ o → update.shown profile here ≡ (or_long here o >>= λ list. within_controls profile list here)
+  shown-by o e =
+      ap (λ marks. or_long here (copies_in (quiet profile here) marks) >>= λ list. within_controls profile list here) (marks-same chosen loaded forest table flags controls tally many)
+      ∙ ap (λ given. or_long here given >>= λ list. within_controls profile list here) e
 
   pub shown-told : update.shown profile here ≡ (or_long here listed >>= λ list. within_controls profile list here)
-  shown-told =
-      ap (λ a. or_long here (copies.copies (interface_of loaded.form) a (marks_in here) [] []) >>= λ list. within_controls profile list here) around-same
-      ∙ ap (λ m. or_long here (copies.copies (interface_of loaded.form) (around_in (given_in loaded.form.tables.instances loaded.prefixes loaded.form.decimals forest) loaded.form.tables forest.nodes) m [] []) >>= λ list. within_controls profile list here)
-      (marks-same loaded forest table flags controls tally many)
+  shown-told = shown-by listed (over-documents _ (documents-same here) (table_marks.marks_in table forest.nodes))
 
   pub shown-long : listed ≡ None → update.shown profile here ≡ Err (record { why = limit (Long ∷ []); calls = [] })
   shown-long e = shown-told ∙ ap (λ o. or_long here o >>= λ list. within_controls profile list here) e
@@ -87,8 +96,13 @@ module _ (loaded : Loaded) (is : IsLoaded loaded) (forest : Forest) (table : Lis
 
   -- over surroundings that are the same
   pub listed-same : (g : Given) → g ≡ given_in loaded.form.tables.instances loaded.prefixes loaded.form.decimals forest
-      → copies.copies (interface_of loaded.form) (around_in g loaded.form.tables forest.nodes) (table_marks.marks_in table forest.nodes) [] [] ≡ listed
-  listed-same g e = ap (λ h. copies.copies (interface_of loaded.form) (around_in h loaded.form.tables forest.nodes) (table_marks.marks_in table forest.nodes) [] []) e
+      → copies_in (around_in g loaded.form.tables forest.nodes) (table_marks.marks_in table forest.nodes) ≡ listed
+  listed-same g e = ap (λ h. copies_in (around_in h loaded.form.tables forest.nodes) (table_marks.marks_in table forest.nodes)) e
+
+  -- over those of a context, whatever indexes it has
+  pub context-listed : (indexes : Indexes) → copies_in (context.around_with indexes loaded.form loaded.prefixes forest None) (table_marks.marks_in table forest.nodes) ≡ listed
+  context-listed indexes =
+      sym (over-documents _ (documents-given here) (table_marks.marks_in table forest.nodes)) ∙ over-documents _ (documents-same here) (table_marks.marks_in table forest.nodes)
 
   pub long-found : listed ≡ None → IsRefused (Limit Long) (update.shown profile here)
   long-found e = subst (λ given. IsRefused (Limit Long) given) (sym (shown-long e)) ((Long ∷ [], refl, (0, omega arith, refl)), refl)

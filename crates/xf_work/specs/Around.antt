@@ -1,4 +1,4 @@
--- What surrounds the expressions of a form without repeats, outside an event, where the document elements stand in a list beside the instances.
+-- What surrounds expressions that see no index of a repeat, outside an event, where the document elements stand in a list beside the instances.
 use Rattle.std.specs.Prelude.{ℕ, suc, ◌&&◌, Bool, List, [], ◌∷◌, ◌++◌, map, Option, Some, None, option_map, bytes_eq, ◌==◌}
 use Rattle.xf_name.specs.Bindings.{Bindings}
 use Rattle.xf_ast.specs.declared.form.Instance.{Instance}

@@ -1,5 +1,5 @@
 -- All that is known of what an engine works on, as it stands and as it was kept.
-use Rattle.std.specs.Prelude.{◌≡◌, List, []}
+use Rattle.std.specs.Prelude.{◌≡◌, true, List, [], length}
 use Rattle.std.specs.Bool.{OnTrue}
 use Rattle.xf_doc.specs.Changes.{in_detached}
 use Rattle.xf_doc.specs.Forest.{Forest}
@@ -7,6 +7,7 @@ use Rattle.xf_doc.specs.Shape.{shape_of}
 use Rattle.xf_binds.specs.Kept.{Kept}
 use Rattle.xf_binds.specs.Table.{all_rolled_back}
 use Rattle.xf_controls.specs.Bound.{AllBound}
+use Rattle.xf_controls.specs.Plain.{is_plain}
 use Rattle.xf_controls.specs.declared.copy.ControlCopy.{ControlCopy}
 use Rattle.xf_loader.specs.declared.loaded.Loaded.{Loaded}
 use Rattle.xf_ui.specs.Interface.{interface_of}
@@ -34,8 +35,13 @@ pub record IsFit (w : Inside) : Type 0 where
   pub sound : IsSound w.loaded w.draft w.table w.flags.items w.old_flags.items w.built w.old_built
   pub now : IsRight w.loaded w.draft.now w.table w.shown.now w.knowledge
   pub before : IsRight w.loaded w.draft.kept (all_rolled_back w.table) w.shown.kept w.old_knowledge
+  -- as many indexes and cases were kept as stand
+  pub indexes : length w.old_indexes.items ≡ length w.indexes.items
+  pub cases : length w.old_cases.items ≡ length w.cases.items
   -- no tree that is kept is detached
   pub alone : in_detached w.draft.kept.nodes ≡ []
+  -- whether each control and container has one copy
+  pub plain : OnTrue w.is_plain (is_plain (interface_of w.loaded.form) ≡ true)
   -- what is known of the nodes of controls is so
   pub held : IsHeld w.loaded w.bound_nodes
   pub bound : OnTrue w.is_bound (AllBound (interface_of w.loaded.form) w.bound_nodes)

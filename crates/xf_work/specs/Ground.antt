@@ -4,6 +4,7 @@ use Rattle.std.specs.Bool.{OnTrue}
 use Rattle.xf_agree_laws.specs.Hung.{are_hung}
 use Rattle.xf_binds.specs.Kept.{no_kept}
 use Rattle.xf_controls.specs.Bound.{AllBound}
+use Rattle.xf_controls.specs.Plain.{is_plain}
 use Rattle.xf_doc.specs.Changes.{in_detached}
 use Rattle.xf_loader.specs.declared.loaded.Loaded.{Loaded}
 use Rattle.xf_ui.specs.Interface.{interface_of}
@@ -18,6 +19,7 @@ pub record IsGround (loaded : Loaded) (g : Ground) : Type 0 where
   pub grown : planted_by loaded ≡ Ok (growing loaded g.forest.forest g.made)
   pub alone : in_detached g.forest.forest.nodes ≡ []
   pub hung : are_hung g.forest.forest.nodes ≡ true
+  pub plain : OnTrue g.is_plain (is_plain (interface_of loaded.form) ≡ true)
   pub held : IsHeld loaded g.bound_nodes
   pub bound : OnTrue g.is_bound (AllBound (interface_of loaded.form) g.bound_nodes)
   pub few : length loaded.form.models ≤ 4294967295

@@ -19,3 +19,4 @@ pub mod Steady
 pub mod Marked
 pub mod FirstData
 pub mod Fit
+pub mod Choosing

@@ -1,13 +1,14 @@
 -- How the state of a form is made of what an engine keeps of it.
-use Rattle.std.specs.Prelude.{ℕ, ◌≡◌, ◌<◌, ◌^◌, true, List, [], ◌∷◌, map, length, Ok}
+use Rattle.std.specs.Prelude.{ℕ, ◌≡◌, ◌<◌, ◌^◌, List, [], ◌∷◌, map, length, Ok}
 use Rattle.xf_doc.specs.Forest.{Forest}
-use Rattle.xf_ui.specs.Interface.{interface_of}
+use Rattle.xf_ui.specs.Index as ui
 use Rattle.xf_binds.specs.Kept.{Kept}
 use Rattle.xf_binds.specs.Asked.{asked_of}
 use Rattle.xf_binds.specs.Table.{all_rolled_back}
 use Rattle.xf_controls.specs.declared.copy.ControlCopy.{ControlCopy}
-use Rattle.xf_controls.specs.Plain.{is_plain}
 use Rattle.xf_controls.specs.Seen.{seen_copy}
+use Rattle.xf_context.specs.declared.indexes.Index.{Index}
+use Rattle.xf_context.specs.Indexes.{seen_index}
 use Rattle.xf_form_machine.specs.State.{Model}
 use Rattle.xf_loader.specs.declared.loaded.Loaded.{Loaded}
 use Rattle.xf_loader.specs.Loading.{loaded_in}
@@ -37,14 +38,25 @@ models_of [] fs = []
 models_of (k ∷ ks) [] = []
 models_of (k ∷ ks) (f ∷ fs) = model_of k f ∷ models_of ks fs
 
+-- ---- what is chosen: the indexes of repeats and the cases of switches
+
+pub record Chosen : Type 0 where
+  pub indexes : List ui.Index
+  pub cases : List ℕ
+
+abbrev pub chosen_of : List Index → List ℕ → Chosen
+chosen_of indexes cases = record { indexes = map seen_index indexes; cases = cases }
+
 -- ---- the state, and that at the end of the last event
 
-abbrev pub standing_of : Loaded → Forest → List Kept → List Flags → List ControlCopy → Tally → Standing
-standing_of loaded forest table flags controls tally = record {
+abbrev pub standing_of : Chosen → Loaded → Forest → List Kept → List Flags → List ControlCopy → Tally → Standing
+standing_of chosen loaded forest table flags controls tally = record {
   form = loaded.form;
   prefixes = loaded.prefixes;
   documents = documents_in loaded;
   forest = forest;
+  indexes = chosen.indexes;
+  cases = chosen.cases;
   models = models_of table flags;
   controls = map seen_copy controls;
   accepted = tally.accepted;
@@ -55,11 +67,10 @@ standing_of loaded forest table flags controls tally = record {
 
 -- ---- what is known of a form that is loaded and of what is kept of it
 
--- it was read from some bytes, and each control and container of it has one copy
+-- it was read from some bytes
 pub record IsLoaded (l : Loaded) : Type 0 where
   pub bytes : List ℕ
   pub read : loaded_in bytes ≡ Ok l
-  pub plain : is_plain (interface_of l.form) ≡ true
 
 -- of each model there is one, and what stands and what was kept are whole
 pub record IsSound (l : Loaded) (draft : Draft) (table : List Kept) (flags old_flags : List Flags) (built old_built : ℕ) : Type 0 where

@@ -1,10 +1,11 @@
--- What an engine has of the state of the form machine (XForms 1.1, section 4), of a form without repeats and switches, between events and in one.
+-- What an engine has of the state of the form machine (XForms 1.1, section 4), between events and in one.
 use Rattle.std.specs.Prelude.{ℕ, List, []}
 use Rattle.xf_name.specs.Bindings.{Bindings}
 use Rattle.xf_ast.specs.declared.form.Form.{Form}
 use Rattle.xf_doc.specs.declared.content.Content.{Content}
 use Rattle.xf_doc.specs.Forest.{Forest}
 use Rattle.xf_ui.specs.Copies.{Copy}
+use Rattle.xf_ui.specs.Index.{Index}
 use Rattle.xf_form_machine.specs.State.{Model, State}
 use Rattle.xf_form_machine.specs.Tables.{program_of}
 
@@ -14,6 +15,9 @@ pub record Standing : Type 0 where
   -- of each instance the nodes with which it begins, with their depths
   pub documents : List (List (ℕ × Content))
   pub forest : Forest
+  -- of each repeat, and of each switch its selected case, from 0
+  pub indexes : List Index
+  pub cases : List ℕ
   pub models : List Model
   -- those of the last refresh
   pub controls : List Copy
@@ -23,13 +27,13 @@ pub record Standing : Type 0 where
   pub made : ℕ
   pub evaluated : ℕ
 
--- there are no indexes and cases, no notes and no calls of the store
+-- there are no notes and no calls of the store
 abbrev pub state_of : Standing → State
 state_of s = record {
   form = program_of s.form s.prefixes s.documents;
   forest = s.forest;
-  indexes = [];
-  cases = [];
+  indexes = s.indexes;
+  cases = s.cases;
   models = s.models;
   controls = s.controls;
   accepted = s.accepted;

@@ -16,7 +16,8 @@ use xf_name::{Axis, Prefixes};
 use xf_num::Decimals;
 use xf_tree::Forest;
 
-/// What surrounds an expression of a form without repeats, outside an event: the document element of each instance beside it.
+/// What surrounds an expression that sees no index of a repeat, outside an event: the document element of each instance beside it. Binds see
+/// none, nor do the controls of a plain form.
 #[derive(Clone, Copy)]
 pub(crate) struct Quiet<'a> {
     pub instances: &'a [Instance],

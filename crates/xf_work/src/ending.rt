@@ -9,6 +9,7 @@ ghost use Rattle.xf_work.specs.Standing.{state_of};
 use crate::fault::WorkFault;
 use crate::flags::Flags;
 use crate::work::Work;
+use xf_context::Index;
 
 impl Work {
     /// An event begins, with a whole budget.
@@ -52,6 +53,8 @@ impl Work {
         self.table.commit();
         self.shown.commit();
         copy(self.flags.as_slice(), self.old_flags.as_mut_slice());
+        copy_indexes(self.indexes.as_slice(), self.old_indexes.as_mut_slice());
+        copy_cases(self.cases.as_slice(), self.old_cases.as_mut_slice());
         self.tally = self.tally.begun();
         self.old_tally = self.tally;
         self.old_built = self.built;
@@ -69,6 +72,8 @@ impl Work {
         self.table.roll_back();
         self.shown.roll_back();
         copy(self.old_flags.as_slice(), self.flags.as_mut_slice());
+        copy_indexes(self.old_indexes.as_slice(), self.indexes.as_mut_slice());
+        copy_cases(self.old_cases.as_slice(), self.cases.as_mut_slice());
         self.tally = self.old_tally;
         self.built = self.old_built;
         self.knowledge = self.old_knowledge;
@@ -76,6 +81,20 @@ impl Work {
 }
 
 fn copy(from: &[Flags], to: &mut [Flags])
+    requires { length from.now ≡ length to.old }
+    ensures { to.new ≡ from.now }
+{
+    to.copy_from_slice(from);
+}
+
+fn copy_indexes(from: &[Index], to: &mut [Index])
+    requires { length from.now ≡ length to.old }
+    ensures { to.new ≡ from.now }
+{
+    to.copy_from_slice(from);
+}
+
+fn copy_cases(from: &[usize], to: &mut [usize])
     requires { length from.now ≡ length to.old }
     ensures { to.new ≡ from.now }
 {

@@ -1,8 +1,11 @@
 //! The nodes that controls bind whatever texts the data have, found once.
 
 ghost use Rattle.std.specs.Prelude.{◌≡◌, true, IfOk};
+ghost use Rattle.std.specs.Bool.{OnTrue};
 ghost use Rattle.xf_agree_laws.specs.Hung.{are_hung};
+ghost use Rattle.xf_controls.specs.Plain.{is_plain as is_plain_form};
 ghost use Rattle.xf_doc.specs.Shape.{shape_of};
+ghost use Rattle.xf_ui.specs.Interface.{interface_of};
 ghost use Rattle.xf_work.specs.Held.{IsHeld, planted_shape};
 ghost use Rattle.xf_work.specs.Parts.{IsLoaded};
 
@@ -15,8 +18,14 @@ use xf_loader::Loaded;
 use xf_tree::Forest;
 
 /// The nodes of the controls of a form over the data that were planted. Where a string of these is too long, nothing is known of them.
-pub(crate) fn held(alloc: Global, loaded: &Loaded, forest: &Forest) -> Result<KnownList, AllocError>
+pub(crate) fn held(
+    alloc: Global,
+    loaded: &Loaded,
+    forest: &Forest,
+    is_plain: bool,
+) -> Result<KnownList, AllocError>
     requires loaded { IsLoaded loaded.now }
+    requires plain { OnTrue is_plain (is_plain_form (interface_of loaded.now.form) ≡ true) }
     requires hung { are_hung forest.now.forest.nodes ≡ true }
     requires shape { shape_of forest.now.forest.nodes ≡ planted_shape loaded.now }
     ensures { IfOk result (IsHeld loaded.now) }
@@ -33,6 +42,9 @@ pub(crate) fn held(alloc: Global, loaded: &Loaded, forest: &Forest) -> Result<Kn
     if forest.root(u32::MAX).is_some() {
         // No memory holds so many roots.
         return Err(AllocError);
+    }
+    if !is_plain {
+        return Ok(Items::new(alloc));
     }
     match known_nodes(alloc, &loaded.form, forest, &around) {
         Ok(known) => Ok(known),

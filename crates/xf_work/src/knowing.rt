@@ -34,11 +34,11 @@ impl Knowledge {
     }
 }
 
-/// Whether controls that are made afresh may be steady: the data have the shape that was planted, and all that is shown is bound.
-pub(crate) fn may_be_steady(knowledge: Knowledge, is_bound: bool) -> bool
-    ensures { result ≡ (knowledge.is_planted && is_bound) }
+/// Whether controls that are made afresh may be steady: the data have the shape that was planted, and all that a plain form shows is bound.
+pub(crate) fn may_be_steady(knowledge: Knowledge, is_plain: bool, is_bound: bool) -> bool
+    ensures { result ≡ (knowledge.is_planted && (is_plain && is_bound)) }
 {
-    knowledge.is_planted && is_bound
+    knowledge.is_planted && (is_plain && is_bound)
 }
 
 /// Whether copies may be renewed: the controls are steady, over data of the shape that was planted.

@@ -4,6 +4,7 @@
 
 mod around;
 mod behave;
+mod choosing;
 mod ending;
 mod fault;
 mod first;

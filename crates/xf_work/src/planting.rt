@@ -17,7 +17,7 @@ use crate::work::Work;
 use std::alloc::Global;
 use xf_ast::Instance;
 use xf_binds::Table;
-use xf_controls::{KnownList, Shown, are_bound};
+use xf_controls::{KnownList, Shown, are_bound, is_plain};
 use xf_doc::TreeFault;
 use xf_form_machine::{LimitWord, Refusal};
 use xf_loader::{Loaded, lit_at};
@@ -30,6 +30,7 @@ pub struct Ground {
     pub forest: Forest,
     /// How many nodes were made.
     pub made: u64,
+    pub is_plain: bool,
     pub bound_nodes: KnownList,
     pub is_bound: bool,
     pub table: Table,
@@ -81,6 +82,11 @@ fn work_on(alloc: Global, loaded: Loaded, begun: Ground) -> Work
         old_built: 0,
         knowledge,
         old_knowledge: knowledge,
+        indexes: Vec::new(alloc),
+        old_indexes: Vec::new(alloc),
+        cases: Vec::new(alloc),
+        old_cases: Vec::new(alloc),
+        is_plain: begun.is_plain,
         bound_nodes: begun.bound_nodes,
         is_bound: begun.is_bound,
         first_data: None,
@@ -102,11 +108,13 @@ fn ground_of(alloc: Global, loaded: &Loaded) -> Result<Ground, WorkFault>
     let old_flags = vec![in alloc; Flags::none(); count]?;
     let mut forest = Forest::new(alloc);
     let made = plant_all(&mut forest, loaded)?;
-    let bound_nodes = held(alloc, loaded, &forest)?;
+    let is_plain = is_plain(&loaded.form);
+    let bound_nodes = held(alloc, loaded, &forest, is_plain)?;
     let is_bound = are_bound(&loaded.form, &bound_nodes);
     Ok(Ground {
         forest,
         made,
+        is_plain,
         bound_nodes,
         is_bound,
         table,

@@ -1,11 +1,13 @@
 //! The refresh (XForms 1.1, section 4.3.4).
 
 ghost use Rattle.std.specs.Prelude.{◌≡◌, map, true, IfOk, Ok};
+ghost use Rattle.xf_controls.specs.Plain.{is_plain};
 ghost use Rattle.xf_controls.specs.Renewed.{AreThere, renewed};
 ghost use Rattle.xf_controls.specs.Rising.{is_rising};
 ghost use Rattle.xf_controls.specs.Seen.{seen_copy, seen_notification};
 ghost use Rattle.xf_ui.specs.Notifications.{notifications};
 ghost use Rattle.xf_form_machine.specs.Construct.{first_shown};
+ghost use Rattle.xf_ui.specs.Interface.{interface_of};
 ghost use Rattle.xf_form_machine.specs.Update as update;
 ghost use Rattle.xf_work.specs.Calls.{Refreshes, Renews, ShowsOthers};
 ghost use Rattle.xf_processor.specs.Formed.{profile};
@@ -15,11 +17,12 @@ ghost use Rattle.xf_work.specs.Standing.{state_of};
 use crate::fault::WorkFault;
 use crate::flags::{clear_refresh, set_refresh};
 use crate::knowing::{may_be_steady, may_renew};
-use crate::showing::{shown, told};
+use crate::showing::{Choice, shown, shown_in_rows, told};
 use crate::work::Work;
 use std::alloc::Global;
 use xf_base::Items;
 use xf_controls::{ControlList, NotificationList, Shown, notifications};
+use xf_doc::NodeList;
 use xf_tree::Forest;
 
 impl Work {
@@ -34,13 +37,13 @@ impl Work {
         Ok(())
     }
 
-    /// Makes the controls afresh, and no refresh is due any more. The answer is what is told of the differences.
+    /// Brings the indexes up to date and makes the controls afresh, and no refresh is due any more. The answer is what is told of the differences.
     pub fn refresh(&mut self) -> Result<NotificationList, WorkFault>
         ensures done { Refreshes update.all_cleared result self.old.now self.new.now }
         ensures kept { self.new.kept ≡ self.old.kept }
         ensures built { self.new.built ≡ self.old.built }
     {
-        let told = self.show_again()?;
+        let told = self.show_brought()?;
         clear_refresh(self.flags.as_mut_slice());
         Ok(told)
     }
@@ -51,9 +54,22 @@ impl Work {
         ensures kept { self.new.kept ≡ self.old.kept }
         ensures built { self.new.built ≡ self.old.built }
     {
-        let told = self.show_again()?;
+        let told = self.show_brought()?;
         set_refresh(self.flags.as_mut_slice(), model, false);
         Ok(told)
+    }
+
+    /// Brings the indexes up to date and makes the controls afresh, while what is due stays so.
+    fn show_brought(&mut self) -> Result<NotificationList, WorkFault>
+        ensures done { Refreshes (λ s. s) result self.old.now self.new.now }
+        ensures kept { self.new.kept ≡ self.old.kept }
+        ensures built { self.new.built ≡ self.old.built }
+    {
+        let added = NodeList::new(self.alloc);
+        match self.reindex(&added) {
+            Ok(()) => self.show_again(),
+            Err(fault) => Err(fault),
+        }
     }
 
     /// Makes the controls afresh, while what is due stays so. Where texts alone have changed since the last refresh, the values of the nodes of
@@ -86,8 +102,29 @@ impl Work {
         Ok(told)
     }
 
-    /// The controls made afresh. Over data of another shape than that which was planted nothing is known of their nodes.
+    /// The controls made afresh.
     fn made_afresh(&self) -> Result<ControlList, WorkFault>
+        ensures { Finds (map seen_copy) result (update.shown profile (state_of self.now.now)) }
+    {
+        if self.is_plain {
+            return self.made_plainly();
+        }
+        let choice = Choice {
+            indexes: self.indexes.as_slice(),
+            cases: self.cases.as_slice(),
+        };
+        shown_in_rows(
+            self.alloc,
+            &self.loaded,
+            self.draft.forest(),
+            &self.table,
+            choice,
+        )
+    }
+
+    /// Those of a plain form. Over data of another shape than that which was planted nothing is known of their nodes.
+    fn made_plainly(&self) -> Result<ControlList, WorkFault>
+        requires { is_plain (interface_of self.now.now.form) ≡ true }
         ensures { Finds (map seen_copy) result (update.shown profile (state_of self.now.now)) }
     {
         let forest = self.draft.forest();
@@ -114,7 +151,7 @@ impl Work {
     {
         self.draft.forest().are_trees();
         self.shown.take(list);
-        let may_be = may_be_steady(self.knowledge, self.is_bound);
+        let may_be = may_be_steady(self.knowledge, self.is_plain, self.is_bound);
         self.knowledge.is_steady = may_be && self.shown.is_rising();
     }
 }

@@ -3,19 +3,22 @@
 ghost use Rattle.std.specs.Prelude.{◌≡◌, true, map, nat_lt};
 ghost use Rattle.xf_agree_laws.specs.Hung.{are_hung};
 ghost use Rattle.xf_controls.specs.Known.{AreKnown};
+ghost use Rattle.xf_controls.specs.Plain.{is_plain};
 ghost use Rattle.xf_controls.specs.Seen.{seen_copy};
 ghost use Rattle.xf_ui.specs.Copies.{copy_count};
 ghost use Rattle.xf_ui.specs.Interface.{interface_of};
 ghost use Rattle.xf_work.specs.Calls.{IsWithin, Shows, long_or_memory};
 ghost use Rattle.xf_work.specs.Held.{around_over};
-ghost use Rattle.xf_work.specs.Parts.{IsLoaded};
+ghost use Rattle.xf_work.specs.Parts.{Chosen, IsLoaded, chosen_of};
 
 use crate::around::{Quiet, documents};
 use crate::fault::WorkFault;
 use crate::marks::Marked;
 use std::alloc::Global;
 use xf_binds::Table;
+use xf_context::{Index, Over};
 use xf_controls::{ControlCopy, ControlList, KnownList, controls};
+use xf_copies::copies;
 use xf_eval::EvalFault;
 use xf_form_machine::{LimitWord, Refusal};
 use xf_loader::Loaded;
@@ -24,7 +27,7 @@ use xf_tree::Forest;
 /// The copies of controls and items that a form may have.
 const CONTROLS: usize = 65_536;
 
-/// The controls of a form made afresh over its data and what its binds set, by what is known of their nodes.
+/// The controls of a plain form made afresh over its data and what its binds set, by what is known of their nodes: whatever is chosen.
 pub(crate) fn shown(
     alloc: Global,
     loaded: &Loaded,
@@ -33,9 +36,10 @@ pub(crate) fn shown(
     known: &KnownList,
 ) -> Result<ControlList, WorkFault>
     requires loaded { IsLoaded loaded.now }
+    requires plain { is_plain (interface_of loaded.now.form) ≡ true }
     requires hung { are_hung forest.now.forest.nodes ≡ true }
     requires known { AreKnown (interface_of loaded.now.form) (around_over loaded.now forest.now.forest) forest.now.forest.nodes known.now }
-    ensures { Shows loaded.now forest.now.forest table.now result }
+    ensures { (chosen : Chosen) → Shows chosen loaded.now forest.now.forest table.now result }
 {
     let instances = loaded.form.tables.instances.as_slice();
     let documents = documents(alloc, instances, forest)?;
@@ -48,6 +52,39 @@ pub(crate) fn shown(
     let marks = Marked { forest, table };
     forest.are_trees();
     match controls(alloc, &loaded.form, forest, &around, &marks, known) {
+        Ok(list) => within(list),
+        Err(fault) => Err(told(fault)),
+    }
+}
+
+/// What is chosen: the index of each repeat, and of each switch its selected case.
+#[derive(Clone, Copy)]
+pub(crate) struct Choice<'a> {
+    pub indexes: &'a [Index],
+    pub cases: &'a [usize],
+}
+
+/// The controls of any form made afresh over its data, what its binds set and what is chosen.
+pub(crate) fn shown_in_rows<'a>(
+    alloc: Global,
+    loaded: &'a Loaded,
+    forest: &'a Forest,
+    table: &Table,
+    choice: Choice<'a>,
+) -> Result<ControlList, WorkFault>
+    requires loaded { IsLoaded loaded.now }
+    ensures { Shows (chosen_of choice.entry.indexes.now choice.entry.cases.now) loaded.now forest.now.forest table.now result }
+{
+    let over = Over {
+        alloc,
+        form: &loaded.form,
+        prefixes: &loaded.prefixes,
+        forest,
+        indexes: Some(choice.indexes),
+        told: None,
+    };
+    let marks = Marked { forest, table };
+    match copies(&over, &marks, choice.cases, choice.indexes) {
         Ok(list) => within(list),
         Err(fault) => Err(told(fault)),
     }

@@ -2,38 +2,60 @@
 
 ghost use Rattle.std.specs.Prelude.{OnOk, string_bytes};
 ghost use Rattle.xf_work.specs.Calls.{Writes};
-ghost use Rattle.xf_work.specs.Parts.{IsLoaded};
+ghost use Rattle.xf_work.specs.Parts.{IsLoaded, chosen_of};
 
 use crate::marks::Marked;
 use std::alloc::{AllocError, Global};
 use xf_binds::Table;
+use xf_context::{Index, Over};
 use xf_controls::ControlList;
 use xf_loader::Loaded;
-use xf_report::{ShownControls, push_state, shown_copies};
+use xf_state_text::push_state;
 use xf_tree::Forest;
+
+/// The parts of a state that are told.
+#[derive(Clone, Copy)]
+pub(crate) struct Telling<'a> {
+    pub loaded: &'a Loaded,
+    pub forest: &'a Forest,
+    pub table: &'a Table,
+    pub indexes: &'a [Index],
+    pub cases: &'a [usize],
+    pub controls: &'a ControlList,
+}
 
 /// Appends the text of the state that has these parts.
 pub(crate) fn push_text(
     alloc: Global,
-    loaded: &Loaded,
-    forest: &Forest,
-    table: &Table,
-    controls: &ControlList,
+    telling: &Telling<'_>,
     text: &mut String,
 ) -> Result<(), AllocError>
-    requires { IsLoaded loaded.now }
-    ensures { OnOk result (Writes loaded.now forest.now.forest table.now controls.now (string_bytes text.old) (string_bytes text.new)) }
+    requires { IsLoaded telling.now.loaded.now }
+    ensures { OnOk result (Writes (chosen_of telling.now.indexes.now telling.now.cases.now) telling.now.loaded.now telling.now.forest.now.forest telling.now.table.now telling.now.controls.now (string_bytes text.old) (string_bytes text.new)) }
 {
-    if loaded.form.tables.instances.len() > u32::MAX as usize {
+    let form = &telling.loaded.form;
+    if form.tables.instances.len() > u32::MAX as usize {
         // No memory holds so many.
         return Err(AllocError);
     }
-    let copies = shown_copies(alloc, controls)?;
-    let shown = ShownControls {
-        repeats: &[],
-        switches: &[],
-        copies: copies.as_slice(),
+    let over = Over {
+        alloc,
+        form,
+        prefixes: &telling.loaded.prefixes,
+        forest: telling.forest,
+        indexes: Some(telling.indexes),
+        told: None,
     };
-    let marks = Marked { forest, table };
-    push_state(alloc, text, forest, &loaded.form, &marks, &shown)
+    let marks = Marked {
+        forest: telling.forest,
+        table: telling.table,
+    };
+    push_state(
+        &over,
+        text,
+        &marks,
+        telling.controls,
+        telling.indexes,
+        telling.cases,
+    )
 }

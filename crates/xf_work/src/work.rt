@@ -1,16 +1,14 @@
 //! What an engine works on, and what is read of it.
 
-ghost use Rattle.std.specs.Prelude.{◌≡◌, ◌<◌, ◌++◌, [], None, true, find, length, option_map, string_bytes, IfErr, OnOk};
-ghost use Rattle.xf_controls.specs.Plain.{is_plain};
+ghost use Rattle.std.specs.Prelude.{◌≡◌, ◌<◌, ◌++◌, None, find, length, map, option_map, string_bytes, IfErr, OnOk};
 ghost use Rattle.xf_controls.specs.Seen.{is_copy_at, seen_copy};
+ghost use Rattle.xf_context.specs.Indexes.{seen_index};
 ghost use Rattle.xf_doc.specs.Changes.{root_of};
 ghost use Rattle.xf_form_machine.specs.Behave.{model_at};
 ghost use Rattle.xf_form_machine.specs.ControlText.{state_text};
 ghost use Rattle.xf_form_machine.specs.Primitives.{spend as spent};
-ghost use Rattle.xf_form_machine.specs.Surround.{interface};
 ghost use Rattle.xf_form_machine.specs.Update as update;
 ghost use Rattle.xf_form_machine.specs.Properties.{marks_in, readonly_in};
-ghost use Rattle.xf_machine_laws.specs.Rowless.{IsWithoutRows};
 ghost use Rattle.xf_processor.specs.Formed.{documents_in, profile, program_in};
 ghost use Rattle.xf_form_machine.specs.declared.refusal.Refusal.TheVariants.{Budget};
 ghost use Rattle.xf_work.specs.declared.fault.WorkFault.TheVariants.{Refused};
@@ -25,15 +23,15 @@ use crate::flags::{Flag, Flags, is_due, is_refresh_due};
 use crate::knowing::Knowledge;
 use crate::marks::Marked;
 use crate::tally::Tally;
-use crate::telling::push_text;
+use crate::telling::{Telling, push_text};
 use std::alloc::{AllocError, Global};
 use std::marker::Model;
 use xf_ast::Form;
 use xf_binds::Table;
+use xf_context::Index;
 use xf_controls::{ControlCopy, KnownList, Shown, control_of};
 use xf_doc::{BareList, NodeId};
 use xf_form_machine::Refusal;
-use xf_loaded_laws::loaded_forms_are_without_rows;
 use xf_loader::Loaded;
 use xf_tree::Forest;
 use xf_undo::Draft;
@@ -56,7 +54,15 @@ pub struct Work {
     // What is known of what stands, and of what was kept.
     pub(crate) knowledge: Knowledge,
     pub(crate) old_knowledge: Knowledge,
-    // The nodes that controls bind whatever texts the data have.
+    // Of each repeat its index, as it stands and as it was kept.
+    pub(crate) indexes: Vec<Index>,
+    pub(crate) old_indexes: Vec<Index>,
+    // Of each switch its selected case, from 0.
+    pub(crate) cases: Vec<usize>,
+    pub(crate) old_cases: Vec<usize>,
+    // Whether each control and container has one copy.
+    pub(crate) is_plain: bool,
+    // The nodes that controls of such a form bind whatever texts the data have.
     pub(crate) bound_nodes: KnownList,
     // Whether these are all that is shown.
     pub(crate) is_bound: bool,
@@ -70,7 +76,7 @@ impl Model for Work {
     ghost use Rattle.xf_binds.specs.Table.{all_rolled_back};
     ghost use Rattle.xf_work.specs.Does.{Twin};
     ghost use Rattle.xf_work.specs.Fit.{IsFit};
-    ghost use Rattle.xf_work.specs.Parts.{standing_of};
+    ghost use Rattle.xf_work.specs.Parts.{chosen_of, standing_of};
 
     ghost Value = { Twin };
 
@@ -78,10 +84,10 @@ impl Model for Work {
 
     ghost view = { λ w. record {
       kept = record {
-        standing = standing_of w.loaded w.draft.kept (all_rolled_back w.table) w.old_flags.items w.shown.kept w.old_tally;
+        standing = standing_of (chosen_of w.old_indexes.items w.old_cases.items) w.loaded w.draft.kept (all_rolled_back w.table) w.old_flags.items w.shown.kept w.old_tally;
         built = w.old_built;
       };
-      now = standing_of w.loaded w.draft.now w.table w.flags.items w.shown.now w.tally;
+      now = standing_of (chosen_of w.indexes.items w.cases.items) w.loaded w.draft.now w.table w.flags.items w.shown.now w.tally;
       built = w.built;
     } };
 
@@ -127,25 +133,10 @@ impl Work {
         self.tally.turns
     }
 
-    /// Each control and container of the form has one copy. This tells contracts so, and does nothing.
-    pub fn plain(&self)
-        ensures { is_plain (interface (state_of self.now.now)) ≡ true }
-    {
-        let _ = &self.loaded;
-    }
-
     /// No root of the data stands where 32 bits do not number its place. This tells contracts so, and does nothing.
     pub fn few_roots(&self)
         ensures { root_of last_place self.now.now.forest.nodes ≡ None }
     {
-        let _ = &self.loaded;
-    }
-
-    /// Nothing of the form comes in rows or cases. This tells contracts so, and does nothing.
-    pub fn without_rows(&self)
-        ensures { IsWithoutRows (interface (state_of self.now.now)) }
-    {
-        loaded_forms_are_without_rows();
         let _ = &self.loaded;
     }
 
@@ -218,11 +209,25 @@ impl Work {
         }
     }
 
-    /// The copy of an element that stands in no row.
-    pub fn control(&self, element: u32) -> Option<&ControlCopy>
-        ensures { option_map (λ c. seen_copy c.now) result ≡ find (is_copy_at element []) self.now.now.controls }
+    /// The index of each repeat, with the node at it.
+    pub fn indexes(&self) -> &[Index]
+        ensures { map seen_index result.now ≡ self.now.now.indexes }
     {
-        control_of(self.shown.list(), element)
+        self.indexes.as_slice()
+    }
+
+    /// The selected case of each switch, from 0.
+    pub fn cases(&self) -> &[usize]
+        ensures { result.now ≡ self.now.now.cases }
+    {
+        self.cases.as_slice()
+    }
+
+    /// The copy of an element in these rows of the repeats around it, the outermost first.
+    pub fn control(&self, element: u32, rows: &[NodeId]) -> Option<&ControlCopy>
+        ensures { option_map (λ c. seen_copy c.now) result ≡ find (is_copy_at element (map (λ n. n.number) rows.now)) self.now.now.controls }
+    {
+        control_of(self.shown.list(), element, rows)
     }
 
     /// How many events were accepted.
@@ -243,14 +248,14 @@ impl Work {
     pub fn push_text(&self, text: &mut String) -> Result<(), AllocError>
         ensures { OnOk result (string_bytes text.new ≡ string_bytes text.old ++ state_text profile (state_of self.now.now)) }
     {
-        let forest = self.draft.forest();
-        push_text(
-            self.alloc,
-            &self.loaded,
-            forest,
-            &self.table,
-            self.shown.list(),
-            text,
-        )
+        let telling = Telling {
+            loaded: &self.loaded,
+            forest: self.draft.forest(),
+            table: &self.table,
+            indexes: self.indexes.as_slice(),
+            cases: self.cases.as_slice(),
+            controls: self.shown.list(),
+        };
+        push_text(self.alloc, &telling, text)
     }
 }

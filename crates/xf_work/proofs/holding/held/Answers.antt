@@ -23,4 +23,7 @@ returns-in-Ok c =
     (ap numbers_of c.as_slice.ensures.value ∙ c.in_ok-documents.ensures.all)) c.in-Ok.ensures)
 
 pub returns-in-Err-Long : goal.returns-in-Err-Long
-returns-in-Err-Long c = held-nothing c.args.loaded.now c.args.forest.now.forest c.new.result c.requires.shape (none-there c.root.result _ c.root.ensures (sym c.is_some.ensures ∙ c.if-is_some.false)) c.new.ensures
+returns-in-Err-Long c = held-nothing c.args.loaded.now c.args.forest.now.forest c.new-in-Err-Long.result c.requires.shape (none-there c.root.result _ c.root.ensures (sym c.is_some.ensures ∙ c.if-is_some.false)) c.new-in-Err-Long.ensures
+
+pub returns-then-not-is_plain : goal.returns-then-not-is_plain
+returns-then-not-is_plain c = held-nothing c.args.loaded.now c.args.forest.now.forest c.new.result c.requires.shape (none-there c.root.result _ c.root.ensures (sym c.is_some.ensures ∙ c.if-is_some.false)) c.new.ensures

@@ -33,8 +33,8 @@ rebuild-requires-clause-stands c =
     around-stands c.as_slice-instances.result.now c.args.loaded.now.prefixes c.args.loaded.now.form.decimals c.args.forest.now.forest.nodes (numbers_of c.as_slice.result.now) (ap numbers_of c.as_slice.ensures.value ∙ c.in_ok-documents.ensures.all)
 
 pub returns-in-Ok-clause-done : goal.returns-in-Ok-clause-done
-returns-in-Ok-clause-done c = λ flags controls tally many.
-    rebuild-done c.args.loaded.now c.requires.loaded c.args.forest.now.forest c.args.model c.args.table.now flags controls tally many c.requires.model c.rebuild.new.table (rebuilt-is (goal.at.returns-in-Ok-clause-done c).In-Ok)
+returns-in-Ok-clause-done c = λ chosen flags controls tally many.
+    rebuild-done chosen c.args.loaded.now c.requires.loaded c.args.forest.now.forest c.args.model c.args.table.now flags controls tally many c.requires.model c.rebuild.new.table (rebuilt-is (goal.at.returns-in-Ok-clause-done c).In-Ok)
 
 pub returns-in-Ok-clause-built : goal.returns-in-Ok-clause-built
 returns-in-Ok-clause-built c =
@@ -56,9 +56,9 @@ returns-in-Ok-clause-models c =
     (after-rebuild (scope_at c.args.loaded.now c.args.forest.now.forest c.args.model) c.args.forest.now.forest.nodes c.args.table.now c.rebuild.new.table (rebuilt-is (goal.at.returns-in-Ok-clause-models c).In-Ok))
 
 pub returns-clause-done : goal.returns-clause-done
-returns-clause-done c = λ flags controls tally many.
+returns-clause-done c = λ chosen flags controls tally many.
     let l = c.args.loaded.now in
     let forest = c.args.forest.now.forest in
-    stopped-does l c.requires.loaded forest c.args.model c.args.table.now flags controls tally many c.requires.model _ c.in-Err.fault c.told.result
+    stopped-does chosen l c.requires.loaded forest c.args.model c.args.table.now flags controls tally many c.requires.model _ c.in-Err.fault c.told.result
     (subst (λ g. IsStopped c.in-Err.fault (rebuilt (scope_of called g l.form.tables c.args.model) forest.nodes c.args.table.now)) (given-is (goal.at.returns-clause-done c).After-rebuild) c.in-Err.ensures.answer)
     (subst (λ is. IsTold is forest c.in-Err.fault c.told.result) c.as_slice-instances.ensures c.told.ensures)

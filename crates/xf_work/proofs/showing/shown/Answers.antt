@@ -1,4 +1,4 @@
-use Rattle.std.proofs.Common.{◌≡◌, List, [], map, None, Err, sym, ap, ◌∙◌, subst, ◌⊎◌}
+use Rattle.std.proofs.Common.{◌≡◌, List, map, None, Err, sym, ap, ◌∙◌, subst, ◌⊎◌}
 use Rattle.xf_lang.specs.declared.fault.EvalFault.TheVariants as eval
 use Rattle.xf_ui.specs.Interface.{interface_of}
 use Rattle.xf_form_machine.specs.Update as update
@@ -37,18 +37,18 @@ controls-requires-clause-known c =
     c.requires.known
 
 pub returns-in-Ok : goal.returns-in-Ok
-returns-in-Ok c = λ flags controls tally many.
+returns-in-Ok c = λ chosen flags controls tally many.
     let l = c.args.loaded.now in
     let forest = c.args.forest.now.forest in
-    list-found l c.requires.loaded forest c.args.table.now flags controls tally many c.in-Ok.list c.within.result
-    (sym (listed-same l c.requires.loaded forest c.args.table.now flags controls tally many _ (given-is (goal.at.returns-in-Ok c).After-controls)) ∙ c.in-Ok.ensures [] []) c.within.ensures
+    list-found chosen l c.requires.loaded forest c.args.table.now flags controls tally many c.in-Ok.list c.within.result
+    (sym (listed-same chosen l c.requires.loaded forest c.args.table.now flags controls tally many _ (given-is (goal.at.returns-in-Ok c).After-controls)) ∙ c.in-Ok.ensures chosen.cases chosen.indexes) c.within.ensures
 
 pub returns : goal.returns
-returns c = λ flags controls tally many.
+returns c = λ chosen flags controls tally many.
     let l = c.args.loaded.now in
     let forest = c.args.forest.now.forest in
     let fault = c.in-Err.fault in
-    subst (λ e. Finds {X = List ControlCopy} (map seen_copy) (Err e) (update.shown profile (state_of (standing_of l forest c.args.table.now flags controls tally)))) (sym c.told.ensures)
-    (told-found l c.requires.loaded forest c.args.table.now flags controls tally many fault
-    (subst (λ given. (fault ≡ eval.Memory) ⊎ ((fault ≡ eval.Long) × (given ≡ None))) (listed-same l c.requires.loaded forest c.args.table.now flags controls tally many _ (given-is (goal.at.returns c).After-controls))
-    (c.in-Err.ensures [] [])))
+    subst (λ e. Finds {X = List ControlCopy} (map seen_copy) (Err e) (update.shown profile (state_of (standing_of chosen l forest c.args.table.now flags controls tally)))) (sym c.told.ensures)
+    (told-found chosen l c.requires.loaded forest c.args.table.now flags controls tally many fault
+    (subst (λ given. (fault ≡ eval.Memory) ⊎ ((fault ≡ eval.Long) × (given ≡ None))) (listed-same chosen l c.requires.loaded forest c.args.table.now flags controls tally many _ (given-is (goal.at.returns c).After-controls))
+    (c.in-Err.ensures chosen.cases chosen.indexes)))

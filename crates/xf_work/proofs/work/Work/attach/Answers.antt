@@ -13,7 +13,7 @@ use Rattle.xf_work.specs.Does.{Does, Twin}
 use Rattle.xf_work.specs.Fit.{IsRight}
 use Rattle.xf_work.specs.Grown.{with_more}
 use Rattle.xf_work.specs.Moving.{IsWithin, MayCome, all_due_of, listed}
-use Rattle.xf_work.specs.Parts.{IsSound, standing_of}
+use Rattle.xf_work.specs.Parts.{IsSound, chosen_of, standing_of}
 use Rattle.xf_work.specs.Standing.{state_of}
 use Rattle.xf_work.proofs.ComeLaws.{right-listed, right-nothing, sound-listed, sound-marks, sound-with, whole-attached}
 use Rattle.xf_work.proofs.ListedLaws.{all-due-length, listed-back, not-held}
@@ -28,8 +28,8 @@ returns-in_err-tally-clause-done c =
     let told = c.in_err-tally.field-0.0 in
     let e = err_from_is_err_and c.from_residual-in_err-tally.result c.from_residual-in_err-tally.ensures.1 in
     rw (e.1, e.2) (subst (λ (t : Twin). Does {X = Unit {0}} (Err told) t.now (attached profile n p c.args.place (state_of t.now))) c.self.view_is
-    (count-refused w.loaded w.draft.now w.table w.flags.items w.shown.now w.tally c.self.invariant.sound.many n p c.args.place told c.in_err-tally.ensures
-    (standing_of w.loaded w.draft.now w.table w.flags.items w.shown.now w.tally)))
+    (count-refused (chosen_of w.indexes.items w.cases.items) w.loaded w.draft.now w.table w.flags.items w.shown.now w.tally c.self.invariant.sound.many n p c.args.place told c.in_err-tally.ensures
+    (standing_of (chosen_of w.indexes.items w.cases.items) w.loaded w.draft.now w.table w.flags.items w.shown.now w.tally)))
 
 pub invariant_of-self : goal.invariant_of-self
 invariant_of-self c =
@@ -42,6 +42,9 @@ invariant_of-self c =
       now = right-nothing w.loaded w.draft.now c.mark_list.new.table w.shown.now c.nothing-self-inside.result c.nothing-self-inside.ensures;
       before = subst (λ t. IsRight w.loaded w.draft.kept (all_rolled_back t) w.shown.kept w.old_knowledge) (sym c.in_err-mark_list.ensures.table) c.self.invariant.before;
       alone = c.self.invariant.alone;
+      indexes = c.self.invariant.indexes;
+      cases = c.self.invariant.cases;
+      plain = c.self.invariant.plain;
       held = c.self.invariant.held;
       bound = c.self.invariant.bound;
       first = c.self.invariant.first;
@@ -65,6 +68,9 @@ invariant_of-self-in_err-attach_in c =
       before = right-listed w.loaded c.attach_in.new.draft.kept w.table c.mark_list.new.table w.shown.kept w.old_knowledge holder p marks.marks
           (subst (λ (d : Draft). IsRight w.loaded d.kept (all_rolled_back w.table) w.shown.kept w.old_knowledge) (sym same) c.self.invariant.before);
       alone = subst (λ (d : Draft). in_detached d.kept.nodes ≡ []) (sym same) c.self.invariant.alone;
+      indexes = c.self.invariant.indexes;
+      cases = c.self.invariant.cases;
+      plain = c.self.invariant.plain;
       held = c.self.invariant.held;
       bound = c.self.invariant.bound;
       first = c.self.invariant.first;
@@ -76,18 +82,18 @@ returns-in_err-attach_in-clause-done c =
     let n = c.args.node.number in
     let p = c.args.parent.number in
     let told = c.in_err-attach_in.field-0.0 in
-    let after = standing_of w.loaded c.attach_in.new.draft.now c.mark_list.new.table (with_items w.flags c.mark_list.new.flags).items w.shown.now w.tally in
+    let after = standing_of (chosen_of w.indexes.items w.cases.items) w.loaded c.attach_in.new.draft.now c.mark_list.new.table (with_items w.flags c.mark_list.new.flags).items w.shown.now w.tally in
     let e = err_from_is_err_and c.from_residual-in_err-attach_in.result c.from_residual-in_err-attach_in.ensures.1 in
     rw (e.1, e.2) (subst (λ (t : Twin). Does {X = Unit {0}} (Err told) after (attached profile n p c.args.place (state_of t.now))) c.self.view_is
-    (place-refused w.loaded w.draft.now w.table w.flags.items w.shown.now w.tally c.self.invariant.sound.many n p c.args.place told c.in_err-attach_in.ensures.done after))
+    (place-refused (chosen_of w.indexes.items w.cases.items) w.loaded w.draft.now w.table w.flags.items w.shown.now w.tally c.self.invariant.sound.many n p c.args.place told c.in_err-attach_in.ensures.done after))
 
 pub returns-in_err-attach_in-clause-kept : goal.returns-in_err-attach_in-clause-kept
 returns-in_err-attach_in-clause-kept c =
     let w = c.self.inside in
     let holder = c.in_ok-holder.holder in
     let table : all_rolled_back c.mark_list.new.table ≡ all_rolled_back w.table = ap all_rolled_back c.in_ok-mark_list.ensures.ok.marks ∙ listed-back holder c.args.parent.number w.table in
-    ap (λ (x : Draft). record { standing = standing_of w.loaded x.kept (all_rolled_back c.mark_list.new.table) w.old_flags.items w.shown.kept w.old_tally; built = w.old_built }) c.in_err-attach_in.ensures.err
-    ∙ ap (λ t. record { standing = standing_of w.loaded w.draft.kept t w.old_flags.items w.shown.kept w.old_tally; built = w.old_built }) table
+    ap (λ (x : Draft). record { standing = standing_of (chosen_of w.old_indexes.items w.old_cases.items) w.loaded x.kept (all_rolled_back c.mark_list.new.table) w.old_flags.items w.shown.kept w.old_tally; built = w.old_built }) c.in_err-attach_in.ensures.err
+    ∙ ap (λ t. record { standing = standing_of (chosen_of w.old_indexes.items w.old_cases.items) w.loaded w.draft.kept t w.old_flags.items w.shown.kept w.old_tally; built = w.old_built }) table
     ∙ ap (λ (x : Twin). x.kept) c.self.view_is
 
 pub invariant_of-self-2 : goal.invariant_of-self-2
@@ -119,6 +125,9 @@ invariant_of-self-2 c =
       before = right-listed w.loaded c.attach_in.new.draft.kept w.table c.mark_list.new.table w.shown.kept w.old_knowledge holder p marks.marks
           (subst (λ f. IsRight w.loaded f (all_rolled_back w.table) w.shown.kept w.old_knowledge) (sym kept) c.self.invariant.before);
       alone = subst (λ (f : Forest). in_detached f.nodes ≡ []) (sym kept) c.self.invariant.alone;
+      indexes = c.self.invariant.indexes;
+      cases = c.self.invariant.cases;
+      plain = c.self.invariant.plain;
       held = c.self.invariant.held;
       bound = c.self.invariant.bound;
       first = c.self.invariant.first;
@@ -138,17 +147,17 @@ returns-clause-done c =
     subst (λ is. MayCome is n p c.args.place w.draft.now holder) c.as_slice-instances.ensures
     (subst (λ f. MayCome c.as_slice-instances.result.now n p c.args.place f holder) c.forest-forest.ensures c.in_ok-holder.ensures) in
     ap (λ (t : Twin). attached profile n p c.args.place (state_of t.now)) (sym c.self.view_is)
-    ∙ placed-done w.loaded w.draft.now w.table w.flags.items w.shown.now w.tally c.self.invariant.sound.many n p c.args.place holder c.attach_in.new.draft.now come.held within
+    ∙ placed-done (chosen_of w.indexes.items w.cases.items) w.loaded w.draft.now w.table w.flags.items w.shown.now w.tally c.self.invariant.sound.many n p c.args.place holder c.attach_in.new.draft.now come.held within
     c.in_ok-attach_in.ensures.done.1 c.in_ok-tally.ensures.1
-    ∙ ap (λ t. Ok (state_of (standing_of w.loaded c.attach_in.new.draft.now t (all_due_of holder w.flags.items) w.shown.now (with_more 0 0 w.tally)))) (sym marks.marks)
-    ∙ ap (λ fs. Ok (state_of (standing_of w.loaded c.attach_in.new.draft.now c.mark_list.new.table fs w.shown.now (with_more 0 0 w.tally)))) (sym (items ∙ flags))
-    ∙ ap (λ u. Ok (state_of (standing_of w.loaded c.attach_in.new.draft.now c.mark_list.new.table (with_items w.flags c.mark_list.new.flags).items w.shown.now u))) (sym c.in_ok-tally.ensures.0)
+    ∙ ap (λ t. Ok (state_of (standing_of (chosen_of w.indexes.items w.cases.items) w.loaded c.attach_in.new.draft.now t (all_due_of holder w.flags.items) w.shown.now (with_more 0 0 w.tally)))) (sym marks.marks)
+    ∙ ap (λ fs. Ok (state_of (standing_of (chosen_of w.indexes.items w.cases.items) w.loaded c.attach_in.new.draft.now c.mark_list.new.table fs w.shown.now (with_more 0 0 w.tally)))) (sym (items ∙ flags))
+    ∙ ap (λ u. Ok (state_of (standing_of (chosen_of w.indexes.items w.cases.items) w.loaded c.attach_in.new.draft.now c.mark_list.new.table (with_items w.flags c.mark_list.new.flags).items w.shown.now u))) (sym c.in_ok-tally.ensures.0)
 
 pub returns-clause-kept : goal.returns-clause-kept
 returns-clause-kept c =
     let w = c.self.inside in
     let holder = c.in_ok-holder.holder in
     let table : all_rolled_back c.mark_list.new.table ≡ all_rolled_back w.table = ap all_rolled_back c.in_ok-mark_list.ensures.ok.marks ∙ listed-back holder c.args.parent.number w.table in
-    ap (λ (x : Draft). record { standing = standing_of w.loaded x.kept (all_rolled_back c.mark_list.new.table) w.old_flags.items w.shown.kept w.old_tally; built = w.old_built }) c.in_ok-attach_in.ensures.done.0
-    ∙ ap (λ t. record { standing = standing_of w.loaded w.draft.kept t w.old_flags.items w.shown.kept w.old_tally; built = w.old_built }) table
+    ap (λ (x : Draft). record { standing = standing_of (chosen_of w.old_indexes.items w.old_cases.items) w.loaded x.kept (all_rolled_back c.mark_list.new.table) w.old_flags.items w.shown.kept w.old_tally; built = w.old_built }) c.in_ok-attach_in.ensures.done.0
+    ∙ ap (λ t. record { standing = standing_of (chosen_of w.old_indexes.items w.old_cases.items) w.loaded w.draft.kept t w.old_flags.items w.shown.kept w.old_tally; built = w.old_built }) table
     ∙ ap (λ (x : Twin). x.kept) c.self.view_is

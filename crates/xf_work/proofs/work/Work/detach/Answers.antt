@@ -11,7 +11,7 @@ use Rattle.xf_work.specs.Built.{IsWhole}
 use Rattle.xf_work.specs.Does.{Twin}
 use Rattle.xf_work.specs.Fit.{IsRight}
 use Rattle.xf_work.specs.Moving.{IsWithin, MayGo, all_due_of, listed}
-use Rattle.xf_work.specs.Parts.{IsSound, standing_of}
+use Rattle.xf_work.specs.Parts.{IsSound, chosen_of, standing_of}
 use Rattle.xf_work.specs.Standing.{state_of}
 use Rattle.xf_work.proofs.ComeLaws.{right-listed, right-nothing, sound-listed, sound-marks, sound-with, whole-detached}
 use Rattle.xf_work.proofs.ListedLaws.{all-due-length, listed-back, not-held}
@@ -29,6 +29,9 @@ invariant_of-self c =
       now = right-nothing w.loaded w.draft.now c.mark_list.new.table w.shown.now c.nothing-self-inside.result c.nothing-self-inside.ensures;
       before = subst (λ t. IsRight w.loaded w.draft.kept (all_rolled_back t) w.shown.kept w.old_knowledge) (sym c.in_err-mark_list.ensures.table) c.self.invariant.before;
       alone = c.self.invariant.alone;
+      indexes = c.self.invariant.indexes;
+      cases = c.self.invariant.cases;
+      plain = c.self.invariant.plain;
       held = c.self.invariant.held;
       bound = c.self.invariant.bound;
       first = c.self.invariant.first;
@@ -52,6 +55,9 @@ invariant_of-self-in_err-detach c =
       before = right-listed w.loaded c.detach.new.self.kept w.table c.mark_list.new.table w.shown.kept w.old_knowledge holder p marks.marks
           (subst (λ (d : Draft). IsRight w.loaded d.kept (all_rolled_back w.table) w.shown.kept w.old_knowledge) (sym same) c.self.invariant.before);
       alone = subst (λ (d : Draft). in_detached d.kept.nodes ≡ []) (sym same) c.self.invariant.alone;
+      indexes = c.self.invariant.indexes;
+      cases = c.self.invariant.cases;
+      plain = c.self.invariant.plain;
       held = c.self.invariant.held;
       bound = c.self.invariant.bound;
       first = c.self.invariant.first;
@@ -62,8 +68,8 @@ returns-in_err-detach-clause-kept c =
     let w = c.self.inside in
     let holder = c.in_ok-parent.holder in
     let table : all_rolled_back c.mark_list.new.table ≡ all_rolled_back w.table = ap all_rolled_back c.in_ok-mark_list.ensures.ok.marks ∙ listed-back holder c.in_ok-parent.parent.number w.table in
-    ap (λ (x : Draft). record { standing = standing_of w.loaded x.kept (all_rolled_back c.mark_list.new.table) w.old_flags.items w.shown.kept w.old_tally; built = w.old_built }) c.in_err-detach.ensures.err
-    ∙ ap (λ t. record { standing = standing_of w.loaded w.draft.kept t w.old_flags.items w.shown.kept w.old_tally; built = w.old_built }) table
+    ap (λ (x : Draft). record { standing = standing_of (chosen_of w.old_indexes.items w.old_cases.items) w.loaded x.kept (all_rolled_back c.mark_list.new.table) w.old_flags.items w.shown.kept w.old_tally; built = w.old_built }) c.in_err-detach.ensures.err
+    ∙ ap (λ t. record { standing = standing_of (chosen_of w.old_indexes.items w.old_cases.items) w.loaded w.draft.kept t w.old_flags.items w.shown.kept w.old_tally; built = w.old_built }) table
     ∙ ap (λ (x : Twin). x.kept) c.self.view_is
 
 pub invariant_of-self-2 : goal.invariant_of-self-2
@@ -95,6 +101,9 @@ invariant_of-self-2 c =
       before = right-listed w.loaded c.detach.new.self.kept w.table c.mark_list.new.table w.shown.kept w.old_knowledge holder p marks.marks
           (subst (λ f. IsRight w.loaded f (all_rolled_back w.table) w.shown.kept w.old_knowledge) (sym kept) c.self.invariant.before);
       alone = subst (λ (f : Forest). in_detached f.nodes ≡ []) (sym kept) c.self.invariant.alone;
+      indexes = c.self.invariant.indexes;
+      cases = c.self.invariant.cases;
+      plain = c.self.invariant.plain;
       held = c.self.invariant.held;
       bound = c.self.invariant.bound;
       first = c.self.invariant.first;
@@ -113,16 +122,16 @@ returns-clause-done c =
     let go : MayGo w.loaded.form.tables.instances n w.draft.now p holder =
     subst (λ is. MayGo is n w.draft.now p holder) c.as_slice-instances.ensures (subst (λ f. MayGo c.as_slice-instances.result.now n f p holder) c.forest-forest.ensures c.in_ok-parent.ensures) in
     ap (λ (t : Twin). Ok (detached n (state_of t.now))) (sym c.self.view_is)
-    ∙ ap Ok (tree-goes w.loaded w.draft.now w.table w.flags.items w.shown.now w.tally c.self.invariant.sound.many n p holder go.below go.held within)
-    ∙ ap (λ (x : Draft). Ok (state_of (standing_of w.loaded x.now (listed holder p w.table) (all_due_of holder w.flags.items) w.shown.now w.tally))) (sym c.in_ok-detach.ensures.ok)
-    ∙ ap (λ t. Ok (state_of (standing_of w.loaded c.detach.new.self.now t (all_due_of holder w.flags.items) w.shown.now w.tally))) (sym marks.marks)
-    ∙ ap (λ fs. Ok (state_of (standing_of w.loaded c.detach.new.self.now c.mark_list.new.table fs w.shown.now w.tally))) (sym (items ∙ flags))
+    ∙ ap Ok (tree-goes (chosen_of w.indexes.items w.cases.items) w.loaded w.draft.now w.table w.flags.items w.shown.now w.tally c.self.invariant.sound.many n p holder go.below go.held within)
+    ∙ ap (λ (x : Draft). Ok (state_of (standing_of (chosen_of w.indexes.items w.cases.items) w.loaded x.now (listed holder p w.table) (all_due_of holder w.flags.items) w.shown.now w.tally))) (sym c.in_ok-detach.ensures.ok)
+    ∙ ap (λ t. Ok (state_of (standing_of (chosen_of w.indexes.items w.cases.items) w.loaded c.detach.new.self.now t (all_due_of holder w.flags.items) w.shown.now w.tally))) (sym marks.marks)
+    ∙ ap (λ fs. Ok (state_of (standing_of (chosen_of w.indexes.items w.cases.items) w.loaded c.detach.new.self.now c.mark_list.new.table fs w.shown.now w.tally))) (sym (items ∙ flags))
 
 pub returns-clause-kept : goal.returns-clause-kept
 returns-clause-kept c =
     let w = c.self.inside in
     let holder = c.in_ok-parent.holder in
     let table : all_rolled_back c.mark_list.new.table ≡ all_rolled_back w.table = ap all_rolled_back c.in_ok-mark_list.ensures.ok.marks ∙ listed-back holder c.in_ok-parent.parent.number w.table in
-    ap (λ (x : Draft). record { standing = standing_of w.loaded x.kept (all_rolled_back c.mark_list.new.table) w.old_flags.items w.shown.kept w.old_tally; built = w.old_built }) c.in_ok-detach.ensures.ok
-    ∙ ap (λ t. record { standing = standing_of w.loaded w.draft.kept t w.old_flags.items w.shown.kept w.old_tally; built = w.old_built }) table
+    ap (λ (x : Draft). record { standing = standing_of (chosen_of w.old_indexes.items w.old_cases.items) w.loaded x.kept (all_rolled_back c.mark_list.new.table) w.old_flags.items w.shown.kept w.old_tally; built = w.old_built }) c.in_ok-detach.ensures.ok
+    ∙ ap (λ t. record { standing = standing_of (chosen_of w.old_indexes.items w.old_cases.items) w.loaded w.draft.kept t w.old_flags.items w.shown.kept w.old_tally; built = w.old_built }) table
     ∙ ap (λ (x : Twin). x.kept) c.self.view_is

@@ -5,7 +5,7 @@ use Rattle.std.specs.Vec.{with_items}
 use Rattle.xf_form_machine.specs.Primitives.{in_model, refresh_due}
 use Rattle.xf_work.specs.Does.{Twin}
 use Rattle.xf_work.specs.Flags.{none_due, with_refresh}
-use Rattle.xf_work.specs.Parts.{standing_of}
+use Rattle.xf_work.specs.Parts.{chosen_of, standing_of}
 use Rattle.xf_work.specs.Standing.{state_of}
 use Rattle.xf_work.proofs.Models.{flags-length, refresh-due}
 use Rattle.xf_work.proofs.SoundLaws.{sound-flags}
@@ -25,6 +25,9 @@ invariant_of-self c =
       now = i.now;
       before = i.before;
       alone = i.alone;
+      indexes = i.indexes;
+      cases = i.cases;
+      plain = i.plain;
       held = i.held;
       bound = i.bound;
       first = i.first;
@@ -36,7 +39,7 @@ returns-clause-now c =
     let fs = c.set_refresh.new.flags in
     let cleared : fs ≡ slice_set w.flags.items c.args.model (with_refresh true (get_or w.flags.items c.args.model none_due)) = c.set_refresh.ensures ∙ ap (λ gs. slice_set gs c.args.model (with_refresh true (get_or gs c.args.model none_due))) c.as_mut_slice.ensures.value in
     let items = with_items_is w.flags fs (ap length cleared ∙ flags-length w.flags.items c.args.model (with_refresh true (get_or w.flags.items c.args.model none_due)) ∙ sym w.flags.ok.0) in
-    let here = standing_of w.loaded w.draft.now w.table w.flags.items w.shown.now w.tally in
-    ap (λ gs. state_of (standing_of w.loaded w.draft.now w.table gs w.shown.now w.tally)) (items ∙ cleared)
+    let here = standing_of (chosen_of w.indexes.items w.cases.items) w.loaded w.draft.now w.table w.flags.items w.shown.now w.tally in
+    ap (λ gs. state_of (standing_of (chosen_of w.indexes.items w.cases.items) w.loaded w.draft.now w.table gs w.shown.now w.tally)) (items ∙ cleared)
     ∙ ap (λ ms. record (state_of here) { models = ms }) (sym (refresh-due w.table w.flags.items c.args.model))
     ∙ ap (λ (t : Twin). in_model refresh_due c.args.model (state_of t.now)) c.self.view_is

@@ -3,6 +3,7 @@ use Rattle.xf_doc.specs.Forest.{Forest}
 use Rattle.xf_form_machine.specs.Properties.{readonly_in}
 use Rattle.xf_ui.specs.declared.marks.Marks.{Marks}
 use Rattle.xf_valid.specs.Nodes.{marks_in}
+use Rattle.xf_work.specs.Parts.{chosen_of}
 use Rattle.xf_work.specs.Does.{Twin}
 use Rattle.xf_work.specs.Standing.{state_of}
 use Rattle.xf_work.proofs.MarkLaws.{marks-at}
@@ -13,5 +14,5 @@ returns c =
     let w = c.self.inside in
     let n = c.args.node.number in
     ap (λ (m : Marks). m.readonly)
-    (c.marks_at.ensures ∙ ap (λ (f : Forest). marks_in w.table f.nodes n) c.forest.ensures ∙ sym (marks-at w.loaded w.draft.now w.table w.flags.items w.shown.now w.tally c.self.invariant.sound.many n))
+    (c.marks_at.ensures ∙ ap (λ (f : Forest). marks_in w.table f.nodes n) c.forest.ensures ∙ sym (marks-at (chosen_of w.indexes.items w.cases.items) w.loaded w.draft.now w.table w.flags.items w.shown.now w.tally c.self.invariant.sound.many n))
     ∙ ap (λ (t : Twin). readonly_in (state_of t.now) n) c.self.view_is

@@ -7,7 +7,7 @@ use Rattle.xf_processor.specs.Formed.{profile, program_in}
 use Rattle.xf_work.specs.Does.{Twin}
 use Rattle.xf_work.specs.FirstData.{AreDocuments}
 use Rattle.xf_work.specs.Fit.{AreAsPlanted}
-use Rattle.xf_work.specs.Parts.{standing_of}
+use Rattle.xf_work.specs.Parts.{chosen_of, standing_of}
 use Rattle.xf_work.specs.Standing.{state_of}
 use Rattle.xf_work.proofs.FirstLaws.{first-data}
 use Rattle.xf_work.proofs.work.Work.keep_first_data.Goals as goal
@@ -15,8 +15,8 @@ use Rattle.xf_work.proofs.work.Work.keep_first_data.Goals as goal
 pub invariant_of-self : goal.invariant_of-self
 invariant_of-self c =
     let w = c.self.inside in
-    let s = state_of (standing_of w.loaded w.draft.now w.table w.flags.items w.shown.now w.tally) in
-    let built : construct profile (program_in w.loaded) ≡ Ok (state_of (standing_of w.loaded w.draft.now w.table w.flags.items w.shown.now w.tally)) =
+    let s = state_of (standing_of (chosen_of w.indexes.items w.cases.items) w.loaded w.draft.now w.table w.flags.items w.shown.now w.tally) in
+    let built : construct profile (program_in w.loaded) ≡ Ok (state_of (standing_of (chosen_of w.indexes.items w.cases.items) w.loaded w.draft.now w.table w.flags.items w.shown.now w.tally)) =
     subst (λ (t : Twin). construct profile (state_of t.now).form ≡ Ok (state_of t.now)) (sym c.self.view_is) c.requires in
     let planted : AreAsPlanted w.loaded w.draft.now = subst (λ b. OnTrue b (AreAsPlanted w.loaded w.draft.now)) c.if-not-self.false c.self.invariant.now.planted in
     let trees : HasTrees w.draft.now = subst HasTrees c.forest-forest.ensures c.are_counted.ensures.trees in
@@ -26,6 +26,9 @@ invariant_of-self c =
       now = c.self.invariant.now;
       before = c.self.invariant.before;
       alone = c.self.invariant.alone;
+      indexes = c.self.invariant.indexes;
+      cases = c.self.invariant.cases;
+      plain = c.self.invariant.plain;
       held = c.self.invariant.held;
       bound = c.self.invariant.bound;
       first = first-data w.loaded s c.in_ok-trees.trees c.in_ok-trees.ensures.elements built trees planted.shape documents;

@@ -2,6 +2,7 @@ use Rattle.std.proofs.Common.{sym, ap, ◌∙◌}
 use Rattle.xf_doc.specs.Forest.{Forest}
 use Rattle.xf_form_machine.specs.Properties as machine
 use Rattle.xf_valid.specs.Nodes.{marks_in}
+use Rattle.xf_work.specs.Parts.{chosen_of}
 use Rattle.xf_work.specs.Does.{Twin}
 use Rattle.xf_work.specs.Standing.{state_of}
 use Rattle.xf_work.proofs.MarkLaws.{marks-same}
@@ -11,5 +12,5 @@ pub returns : goal.returns
 returns c =
     let w = c.self.inside in
     ap (λ (f : Forest). marks_in w.table f.nodes) c.forest.ensures
-    ∙ sym (marks-same w.loaded w.draft.now w.table w.flags.items w.shown.now w.tally c.self.invariant.sound.many)
+    ∙ sym (marks-same (chosen_of w.indexes.items w.cases.items) w.loaded w.draft.now w.table w.flags.items w.shown.now w.tally c.self.invariant.sound.many)
     ∙ ap (λ (t : Twin). machine.marks_in (state_of t.now)) c.self.view_is

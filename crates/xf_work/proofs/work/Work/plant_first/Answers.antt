@@ -12,7 +12,7 @@ use Rattle.xf_processor.specs.Formed.{profile, program_in}
 use Rattle.xf_work.specs.Does.{Makes, Twin}
 use Rattle.xf_work.specs.FirstData.{AreFirst}
 use Rattle.xf_work.specs.Fit.{IsRight}
-use Rattle.xf_work.specs.Parts.{standing_of}
+use Rattle.xf_work.specs.Parts.{chosen_of, standing_of}
 use Rattle.xf_work.specs.Standing.{state_of}
 use Rattle.xf_work.proofs.ComeLaws.{kept-between, right-nothing, sound-between, whole-planted}
 use Rattle.xf_work.proofs.MovedLaws.{tree-makes}
@@ -35,6 +35,9 @@ invariant_of-self c =
       now = right-nothing w.loaded c.plant_in-planted.new.draft.now w.table w.shown.now c.nothing-self-inside.result c.nothing-self-inside.ensures;
       before = subst (λ f. IsRight w.loaded f (all_rolled_back w.table) w.shown.kept w.old_knowledge) (sym kept) c.self.invariant.before;
       alone = subst (λ (f : Forest). in_detached f.nodes ≡ []) (sym kept) c.self.invariant.alone;
+      indexes = c.self.invariant.indexes;
+      cases = c.self.invariant.cases;
+      plain = c.self.invariant.plain;
       held = c.self.invariant.held;
       bound = c.self.invariant.bound;
       first = c.self.invariant.first;
@@ -48,8 +51,8 @@ returns-in-Element-clause-done c =
     let contents = contents_of_bare w.loaded.prefixes c.in-Some-get.tree.now 0 0 in
     let first : AreFirst w.loaded (Some c.in-Some.trees) = subst (AreFirst w.loaded) c.in-Some.is c.self.invariant.first in
     let own : contents_of_bare w.loaded.prefixes c.in-Some-get.tree.now 0 0 ≡ first_contents (construct profile (program_in w.loaded)) c.args.instance = first place tree (sym c.in-Some-get.ensures.value) in
-    let after = standing_of w.loaded c.plant_in-planted.new.draft.now w.table w.flags.items w.shown.now c.plant_in-planted.new.tally in
+    let after = standing_of (chosen_of w.indexes.items w.cases.items) w.loaded c.plant_in-planted.new.draft.now w.table w.flags.items w.shown.now c.plant_in-planted.new.tally in
     subst (λ (t : Twin). Makes (λ (n : NodeId). n.number) c.plant_in-planted.result after (plant profile (first_contents (construct profile (state_of t.now).form) place) (state_of t.now))) c.self.view_is
-    (subst (λ d. Makes (λ (n : NodeId). n.number) c.plant_in-planted.result after (plant profile d (state_of (standing_of w.loaded w.draft.now w.table w.flags.items w.shown.now w.tally)))) own
-    (tree-makes w.loaded w.draft.now w.table w.flags.items w.shown.now w.tally c.self.invariant.sound.many (length contents) (with_tree limits contents w.draft.now) c.plant_in-planted.new.draft c.plant_in-planted.new.tally
+    (subst (λ d. Makes (λ (n : NodeId). n.number) c.plant_in-planted.result after (plant profile d (state_of (standing_of (chosen_of w.indexes.items w.cases.items) w.loaded w.draft.now w.table w.flags.items w.shown.now w.tally)))) own
+    (tree-makes (chosen_of w.indexes.items w.cases.items) w.loaded w.draft.now w.table w.flags.items w.shown.now w.tally c.self.invariant.sound.many (length contents) (with_tree limits contents w.draft.now) c.plant_in-planted.new.draft c.plant_in-planted.new.tally
     c.plant_in-planted.result c.plant_in-planted.ensures.done))

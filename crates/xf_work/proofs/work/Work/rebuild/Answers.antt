@@ -10,7 +10,7 @@ use Rattle.xf_processor.specs.Formed.{profile}
 use Rattle.xf_work.specs.Does.{Does, Twin}
 use Rattle.xf_work.specs.Fit.{IsRight}
 use Rattle.xf_work.specs.Flags.{none_due, without}
-use Rattle.xf_work.specs.Parts.{IsSound, standing_of}
+use Rattle.xf_work.specs.Parts.{IsSound, chosen_of, standing_of}
 use Rattle.xf_work.specs.Standing.{state_of}
 use Rattle.xf_work.proofs.DoesLaws.{does-any}
 use Rattle.xf_work.proofs.KnownLaws.{knows-marks}
@@ -52,6 +52,9 @@ invariant_of-self c =
       };
       before = subst (λ t. IsRight w.loaded w.draft.kept t w.shown.kept w.old_knowledge) (sym c.in-Ok.ensures.kept) c.self.invariant.before;
       alone = c.self.invariant.alone;
+      indexes = c.self.invariant.indexes;
+      cases = c.self.invariant.cases;
+      plain = c.self.invariant.plain;
       held = c.self.invariant.held;
       bound = c.self.invariant.bound;
       first = c.self.invariant.first;
@@ -66,8 +69,8 @@ returns-in-Ok-clause-done c =
     let items = with_items_is w.flags c.clear.new.flags (ap length cleared ∙ many ∙ sym w.flags.ok.0) in
     let done = subst (λ f. Rebuilds {X = Unit {0}} w.loaded f c.args.model w.table c.rebuild.new.table (Ok tt)) c.forest-forest.ensures c.in-Ok.ensures.done in
     ap (λ (t : Twin). machine.rebuild profile c.args.model (state_of t.now)) (sym c.self.view_is)
-    ∙ done w.flags.items w.shown.now w.tally c.self.invariant.sound.many
-    ∙ ap (λ fs. Ok (state_of (standing_of w.loaded w.draft.now c.rebuild.new.table fs w.shown.now w.tally))) (sym (items ∙ cleared))
+    ∙ done (chosen_of w.indexes.items w.cases.items) w.flags.items w.shown.now w.tally c.self.invariant.sound.many
+    ∙ ap (λ fs. Ok (state_of (standing_of (chosen_of w.indexes.items w.cases.items) w.loaded w.draft.now c.rebuild.new.table fs w.shown.now w.tally))) (sym (items ∙ cleared))
 
 pub returns-in-Ok-clause-models : goal.returns-in-Ok-clause-models
 returns-in-Ok-clause-models c =
@@ -84,6 +87,6 @@ pub returns-in-Err-clause-done : goal.returns-in-Err-clause-done
 returns-in-Err-clause-done c =
     let w = c.self.inside in
     let done = subst (λ f. Rebuilds {X = Unit {0}} w.loaded f c.args.model w.table c.rebuild.new.table (Err c.in-Err.fault)) c.forest-forest.ensures c.in-Err.ensures.done in
-    let after = standing_of w.loaded w.draft.now c.rebuild.new.table w.flags.items w.shown.now w.tally in
+    let after = standing_of (chosen_of w.indexes.items w.cases.items) w.loaded w.draft.now c.rebuild.new.table w.flags.items w.shown.now w.tally in
     subst (λ (t : Twin). Does {X = Unit {0}} (Err c.in-Err.fault) after (machine.rebuild profile c.args.model (state_of t.now))) c.self.view_is
-    (does-any c.in-Err.fault _ after (machine.rebuild profile c.args.model (state_of (standing_of w.loaded w.draft.now w.table w.flags.items w.shown.now w.tally))) (done w.flags.items w.shown.now w.tally c.self.invariant.sound.many))
+    (does-any c.in-Err.fault _ after (machine.rebuild profile c.args.model (state_of (standing_of (chosen_of w.indexes.items w.cases.items) w.loaded w.draft.now w.table w.flags.items w.shown.now w.tally))) (done (chosen_of w.indexes.items w.cases.items) w.flags.items w.shown.now w.tally c.self.invariant.sound.many))

@@ -24,7 +24,7 @@ use Rattle.xf_work.specs.Grown.{with_more}
 use Rattle.xf_pertinent.specs.Marked.{pertinent_marks}
 use Rattle.xf_pertinent.specs.OfTable.{changes_in}
 use Rattle.xf_work.specs.Known.{IsRemembered, Knows, MayBePassed}
-use Rattle.xf_work.specs.Parts.{IsSound, standing_of}
+use Rattle.xf_work.specs.Parts.{IsSound, chosen_of, standing_of}
 use Rattle.xf_work.specs.Standing.{state_of}
 use Rattle.xf_work.specs.Steady.{AreSteady}
 use Rattle.xf_work.proofs.KnownLaws.{knows-of, may-be_passed}
@@ -71,6 +71,9 @@ invariant_of-self c =
       now = right-still w.loaded w.draft.now c.settle_texts.new.draft.now c.in_err-truths.ensures.whole w.table w.shown.now w.knowledge None tt c.self.invariant.now;
       before = subst (λ f. IsRight w.loaded f (all_rolled_back w.table) w.shown.kept w.old_knowledge) (sym c.in_err-truths.ensures.kept) c.self.invariant.before;
       alone = subst (λ (f : Forest). in_detached f.nodes ≡ []) (sym c.in_err-truths.ensures.kept) c.self.invariant.alone;
+      indexes = c.self.invariant.indexes;
+      cases = c.self.invariant.cases;
+      plain = c.self.invariant.plain;
       held = c.self.invariant.held;
       bound = c.self.invariant.bound;
       first = c.self.invariant.first;
@@ -81,10 +84,10 @@ returns-in_err-truths-clause-done c =
     let w = c.self.inside in
     let i = c.self.invariant.sound in
     let h = within-table w.table w.flags.items c.args.model i.many (subst (λ (t : Twin). c.args.model < length t.now.models) (sym c.self.view_is) c.requires.model) in
-    let after = standing_of w.loaded c.settle_texts.new.draft.now w.table w.flags.items w.shown.now w.tally in
+    let after = standing_of (chosen_of w.indexes.items w.cases.items) w.loaded c.settle_texts.new.draft.now w.table w.flags.items w.shown.now w.tally in
     let p = err_from_is_err_and c.from_residual-in_err-truths.result c.from_residual-in_err-truths.ensures.1 in
     rw (p.1, p.2) (subst (λ (t : Twin). Does {X = Unit {0}} (Err c.in_err-truths.field-0.0) after (machine.recalculate profile c.args.model (state_of t.now))) c.self.view_is
-    (recalculate-passed w.loaded i.loaded w.draft.now c.args.model w.table w.flags.items w.shown.now w.tally i.many h c.in_err-truths.field-0.0 c.in_err-truths.ensures.err after))
+    (recalculate-passed (chosen_of w.indexes.items w.cases.items) w.loaded i.loaded w.draft.now c.args.model w.table w.flags.items w.shown.now w.tally i.many h c.in_err-truths.field-0.0 c.in_err-truths.ensures.err after))
 
 pub invariant_of-self-in_err-self-inside : goal.invariant_of-self-in_err-self-inside
 invariant_of-self-in_err-self-inside c =
@@ -94,6 +97,9 @@ invariant_of-self-in_err-self-inside c =
       now = right-still w.loaded w.draft.now c.settle_texts.new.draft.now c.in_ok-truths.ensures.whole w.table w.shown.now w.knowledge None tt c.self.invariant.now;
       before = subst (λ f. IsRight w.loaded f (all_rolled_back w.table) w.shown.kept w.old_knowledge) (sym c.in_ok-truths.ensures.kept) c.self.invariant.before;
       alone = subst (λ (f : Forest). in_detached f.nodes ≡ []) (sym c.in_ok-truths.ensures.kept) c.self.invariant.alone;
+      indexes = c.self.invariant.indexes;
+      cases = c.self.invariant.cases;
+      plain = c.self.invariant.plain;
       held = c.self.invariant.held;
       bound = c.self.invariant.bound;
       first = c.self.invariant.first;
@@ -104,13 +110,13 @@ returns-in_err-self-inside-clause-done c =
     let w = c.self.inside in
     let i = c.self.invariant.sound in
     let h = within-table w.table w.flags.items c.args.model i.many (subst (λ (t : Twin). c.args.model < length t.now.models) (sym c.self.view_is) c.requires.model) in
-    let after = standing_of w.loaded c.settle_texts.new.draft.now w.table w.flags.items w.shown.now w.tally in
+    let after = standing_of (chosen_of w.indexes.items w.cases.items) w.loaded c.settle_texts.new.draft.now w.table w.flags.items w.shown.now w.tally in
     let k = kept_at w.table c.args.model in
     let x = scope_at w.loaded w.draft.now c.args.model in
     let settled = c.in_ok-truths.ensures.ok in
     let p = err_from_is_err_and c.from_residual-in_err-self-inside.result c.from_residual-in_err-self-inside.ensures.1 in
     rw (p.1, p.2) (subst (λ (t : Twin). Does {X = Unit {0}} (Err c.in_err-self-inside.field-0.0) after (machine.recalculate profile c.args.model (state_of t.now))) c.self.view_is
-    (grown-refused w.loaded i.loaded w.draft.now c.args.model w.table w.flags.items w.shown.now w.tally i.many h c.in_err-self-inside.field-0.0 (c.next_number.result - c.next_number-before.result) c.pertinent_count-count.result
+    (grown-refused (chosen_of w.indexes.items w.cases.items) w.loaded i.loaded w.draft.now c.args.model w.table w.flags.items w.shown.now w.tally i.many h c.in_err-self-inside.field-0.0 (c.next_number.result - c.next_number-before.result) c.pertinent_count-count.result
     (ap (λ n. n - c.next_number-before.result) (c.next_number.ensures ∙ ap (λ f. f.next) c.forest-2.ensures) ∙ ap (λ n. c.settle_texts.new.draft.now.next - n) (c.next_number-before.ensures ∙ ap (λ f. f.next) c.forest.ensures)
     ∙ made-is x k.entries w.draft.now c.settle_texts.new.draft.now c.in_ok-truths.truths settled)
     settled.within c.in_err-self-inside.ensures after))
@@ -161,6 +167,9 @@ invariant_of-self-2 c =
           (subst (λ x. IsRight w.loaded d.kept x w.shown.kept w.old_knowledge) (sym (back-same w.table c.args.model k h refl))
           (subst (λ f. IsRight w.loaded f (all_rolled_back w.table) w.shown.kept w.old_knowledge) (sym c.in_ok-truths.ensures.kept) c.self.invariant.before));
       alone = subst (λ (f : Forest). in_detached f.nodes ≡ []) (sym c.in_ok-truths.ensures.kept) c.self.invariant.alone;
+      indexes = c.self.invariant.indexes;
+      cases = c.self.invariant.cases;
+      plain = c.self.invariant.plain;
       held = c.self.invariant.held;
       bound = c.self.invariant.bound;
       first = c.self.invariant.first;
@@ -186,12 +195,12 @@ returns-clause-done c =
     ap (λ n. n - c.next_number-before.result) (c.next_number.ensures ∙ ap (λ f. f.next) c.forest-2.ensures) ∙ ap (λ n. d.next - n) (c.next_number-before.ensures ∙ ap (λ f. f.next) c.forest.ensures)
     ∙ made-is x k.entries w.draft.now d c.in_ok-truths.truths settled in
     ap (λ (t : Twin). machine.recalculate profile c.args.model (state_of t.now)) (sym c.self.view_is)
-    ∙ recalculate-done w.loaded i.loaded w.draft.now c.args.model w.table w.flags.items w.shown.now w.tally i.many h d c.in_ok-truths.truths settled c.pertinent_count-count.result
+    ∙ recalculate-done (chosen_of w.indexes.items w.cases.items) w.loaded i.loaded w.draft.now c.args.model w.table w.flags.items w.shown.now w.tally i.many h d c.in_ok-truths.truths settled c.pertinent_count-count.result
     (counted ∙ ap (λ f. pertinent_count x (shape_of f.nodes) k.entries (changes_in k)) c.forest-forest.ensures)
     (ap (λ n. nat_lt (2 ^ 32) (w.tally.made + n)) (sym made) ∙ c.in_ok-self-inside.ensures.1)
-    ∙ ap (λ t. Ok (state_of (standing_of w.loaded d t gs w.shown.now (with_more (length (calculates k.entries)) c.pertinent_count-count.result w.tally)))) (sym c.recalculated.ensures)
-    ∙ ap (λ fs. Ok (state_of (standing_of w.loaded d c.recalculated.new.self fs w.shown.now (with_more (length (calculates k.entries)) c.pertinent_count-count.result w.tally)))) (sym (items ∙ cleared))
-    ∙ ap (λ u. Ok (state_of (standing_of w.loaded d c.recalculated.new.self (with_items w.flags c.clear.new.flags).items w.shown.now u))) (ap (λ n. with_more n c.pertinent_count-count.result w.tally) (sym made) ∙ sym c.in_ok-self-inside.ensures.0)
+    ∙ ap (λ t. Ok (state_of (standing_of (chosen_of w.indexes.items w.cases.items) w.loaded d t gs w.shown.now (with_more (length (calculates k.entries)) c.pertinent_count-count.result w.tally)))) (sym c.recalculated.ensures)
+    ∙ ap (λ fs. Ok (state_of (standing_of (chosen_of w.indexes.items w.cases.items) w.loaded d c.recalculated.new.self fs w.shown.now (with_more (length (calculates k.entries)) c.pertinent_count-count.result w.tally)))) (sym (items ∙ cleared))
+    ∙ ap (λ u. Ok (state_of (standing_of (chosen_of w.indexes.items w.cases.items) w.loaded d c.recalculated.new.self (with_items w.flags c.clear.new.flags).items w.shown.now u))) (ap (λ n. with_more n c.pertinent_count-count.result w.tally) (sym made) ∙ sym c.in_ok-self-inside.ensures.0)
 
 pub returns-clause-kept : goal.returns-clause-kept
 returns-clause-kept c =
@@ -199,8 +208,8 @@ returns-clause-kept c =
     let h = within-table w.table w.flags.items c.args.model c.self.invariant.sound.many (subst (λ (t : Twin). c.args.model < length t.now.models) (sym c.self.view_is) c.requires.model) in
     let k = recalculated c.in_ok-truths.truths (kept_at w.table c.args.model) in
     let table : all_rolled_back c.recalculated.new.self ≡ all_rolled_back w.table = ap all_rolled_back c.recalculated.ensures ∙ back-same w.table c.args.model k h refl in
-    ap (λ f. record { standing = standing_of w.loaded f (all_rolled_back c.recalculated.new.self) w.old_flags.items w.shown.kept w.old_tally; built = w.old_built }) c.in_ok-truths.ensures.kept
-    ∙ ap (λ t. record { standing = standing_of w.loaded w.draft.kept t w.old_flags.items w.shown.kept w.old_tally; built = w.old_built }) table
+    ap (λ f. record { standing = standing_of (chosen_of w.old_indexes.items w.old_cases.items) w.loaded f (all_rolled_back c.recalculated.new.self) w.old_flags.items w.shown.kept w.old_tally; built = w.old_built }) c.in_ok-truths.ensures.kept
+    ∙ ap (λ t. record { standing = standing_of (chosen_of w.old_indexes.items w.old_cases.items) w.loaded w.draft.kept t w.old_flags.items w.shown.kept w.old_tally; built = w.old_built }) table
     ∙ ap (λ (x : Twin). x.kept) c.self.view_is
 
 pub returns-clause-models : goal.returns-clause-models

@@ -6,7 +6,7 @@ use Rattle.std.specs.Vec.{with_items}
 use Rattle.xf_form_machine.specs.Update.{refresh_cleared}
 use Rattle.xf_work.specs.Does.{Twin}
 use Rattle.xf_work.specs.Flags.{none_due, with_refresh}
-use Rattle.xf_work.specs.Parts.{standing_of}
+use Rattle.xf_work.specs.Parts.{chosen_of, standing_of}
 use Rattle.xf_work.specs.Standing.{state_of}
 use Rattle.xf_work.proofs.Models.{flags-length, refresh-cleared}
 use Rattle.xf_work.proofs.RefreshLaws.{cleared-done, others-fail}
@@ -17,7 +17,7 @@ use Rattle.xf_work.proofs.work.Work.refresh_model.Goals as goal
 pub returns-in_err-told-clause-done : goal.returns-in_err-told-clause-done
 returns-in_err-told-clause-done c =
     let p = err_from_is_err_and c.from_residual.result c.from_residual.ensures.1 in
-    rw (p.1, p.2) (others-fail (refresh_cleared c.args.model) c.in_err-told.field-0.0 c.args.self.now.now c.show_again.new.self.now c.show_again.new.self.now c.in_err-told.ensures.done)
+    rw (p.1, p.2) (others-fail (refresh_cleared c.args.model) c.in_err-told.field-0.0 c.args.self.now.now c.show_brought.new.self.now c.show_brought.new.self.now c.in_err-told.ensures.done)
 
 pub invariant_of-self : goal.invariant_of-self
 invariant_of-self c =
@@ -32,6 +32,9 @@ invariant_of-self c =
       now = i.now;
       before = i.before;
       alone = i.alone;
+      indexes = i.indexes;
+      cases = i.cases;
+      plain = i.plain;
       held = i.held;
       bound = i.bound;
       first = i.first;
@@ -43,8 +46,8 @@ returns-clause-done c =
     let fs = c.set_refresh.new.flags in
     let cleared : fs ≡ slice_set w.flags.items c.args.model (with_refresh false (get_or w.flags.items c.args.model none_due)) = c.set_refresh.ensures ∙ ap (λ gs. slice_set gs c.args.model (with_refresh false (get_or gs c.args.model none_due))) c.as_mut_slice.ensures.value in
     let items = with_items_is w.flags fs (ap length cleared ∙ flags-length w.flags.items c.args.model (with_refresh false (get_or w.flags.items c.args.model none_due)) ∙ sym w.flags.ok.0) in
-    let here = standing_of w.loaded w.draft.now w.table w.flags.items w.shown.now w.tally in
-    cleared-done (refresh_cleared c.args.model) c.in_ok-told.told c.args.self.now.now c.show_again.new.self.now (standing_of w.loaded w.draft.now w.table (with_items w.flags fs).items w.shown.now w.tally) c.in_ok-told.ensures.done
-    (ap (λ gs. state_of (standing_of w.loaded w.draft.now w.table gs w.shown.now w.tally)) (items ∙ cleared)
+    let here = standing_of (chosen_of w.indexes.items w.cases.items) w.loaded w.draft.now w.table w.flags.items w.shown.now w.tally in
+    cleared-done (refresh_cleared c.args.model) c.in_ok-told.told c.args.self.now.now c.show_brought.new.self.now (standing_of (chosen_of w.indexes.items w.cases.items) w.loaded w.draft.now w.table (with_items w.flags fs).items w.shown.now w.tally) c.in_ok-told.ensures.done
+    (ap (λ gs. state_of (standing_of (chosen_of w.indexes.items w.cases.items) w.loaded w.draft.now w.table gs w.shown.now w.tally)) (items ∙ cleared)
     ∙ ap (λ ms. record (state_of here) { models = ms }) (sym (refresh-cleared w.table w.flags.items c.args.model))
     ∙ ap (λ (t : Twin). (refresh_cleared c.args.model) (state_of t.now)) c.self.view_is)

@@ -16,7 +16,7 @@ use Rattle.xf_work.specs.Does.{Twin}
 use Rattle.xf_work.specs.Fit.{IsRight}
 use Rattle.xf_work.specs.Flags.{none_due, without}
 use Rattle.xf_work.specs.Known.{Knows}
-use Rattle.xf_work.specs.Parts.{IsSound, standing_of}
+use Rattle.xf_work.specs.Parts.{IsSound, chosen_of, standing_of}
 use Rattle.xf_work.specs.Standing.{state_of}
 use Rattle.xf_work.specs.Steady.{AreSteady}
 use Rattle.xf_work.proofs.MarkLaws.{revalidate-done}
@@ -43,6 +43,9 @@ invariant_of-self c =
       now = subst (λ t. IsRight w.loaded w.draft.now t w.shown.now w.knowledge) (sym same) i.now;
       before = subst (λ t. IsRight w.loaded w.draft.kept (all_rolled_back t) w.shown.kept w.old_knowledge) (sym same) i.before;
       alone = i.alone;
+      indexes = i.indexes;
+      cases = i.cases;
+      plain = i.plain;
       held = i.held;
       bound = i.bound;
       first = i.first;
@@ -58,7 +61,7 @@ pub invariant_of-self-2 : goal.invariant_of-self-2
 invariant_of-self-2 c =
     let w = c.self.inside in
     let h = within-table w.table w.flags.items c.args.model c.self.invariant.sound.many (subst (λ (t : Twin). c.args.model < length t.now.models) (sym c.self.view_is) c.requires.model) in
-    let x = bind_scope profile (state_of (standing_of w.loaded w.draft.now w.table w.flags.items w.shown.now w.tally)) c.args.model in
+    let x = bind_scope profile (state_of (standing_of (chosen_of w.indexes.items w.cases.items) w.loaded w.draft.now w.table w.flags.items w.shown.now w.tally)) c.args.model in
     let k = revalidated x w.loaded.form.tables.instances w.draft.now.nodes (kept_at w.table c.args.model) in
     let table : c.revalidate.new.table ≡ with_kept w.table c.args.model k =
     c.in_ok-is_same.ensures.ok called x.given ∙ ap (λ (f : Forest). with_kept w.table c.args.model (revalidated x w.loaded.form.tables.instances f.nodes (kept_at w.table c.args.model))) c.forest-forest.ensures in
@@ -84,6 +87,9 @@ invariant_of-self-2 c =
       before = subst (λ t. IsRight w.loaded w.draft.kept (all_rolled_back t) w.shown.kept w.old_knowledge) (sym table)
           (subst (λ t. IsRight w.loaded w.draft.kept t w.shown.kept w.old_knowledge) (sym (back-same w.table c.args.model k h refl)) c.self.invariant.before);
       alone = c.self.invariant.alone;
+      indexes = c.self.invariant.indexes;
+      cases = c.self.invariant.cases;
+      plain = c.self.invariant.plain;
       held = c.self.invariant.held;
       bound = c.self.invariant.bound;
       first = c.self.invariant.first;
@@ -93,7 +99,7 @@ pub returns-clause-done : goal.returns-clause-done
 returns-clause-done c =
     let w = c.self.inside in
     let h = within-table w.table w.flags.items c.args.model c.self.invariant.sound.many (subst (λ (t : Twin). c.args.model < length t.now.models) (sym c.self.view_is) c.requires.model) in
-    let x = bind_scope profile (state_of (standing_of w.loaded w.draft.now w.table w.flags.items w.shown.now w.tally)) c.args.model in
+    let x = bind_scope profile (state_of (standing_of (chosen_of w.indexes.items w.cases.items) w.loaded w.draft.now w.table w.flags.items w.shown.now w.tally)) c.args.model in
     let table : c.revalidate.new.table ≡ with_kept w.table c.args.model (revalidated x w.loaded.form.tables.instances w.draft.now.nodes (kept_at w.table c.args.model)) =
     c.in_ok-is_same.ensures.ok called x.given ∙ ap (λ (f : Forest). with_kept w.table c.args.model (revalidated x w.loaded.form.tables.instances f.nodes (kept_at w.table c.args.model))) c.forest-forest.ensures in
     let many = flags-length w.flags.items c.args.model (without Revalidate (get_or w.flags.items c.args.model none_due)) in
@@ -101,23 +107,23 @@ returns-clause-done c =
     c.clear.ensures ∙ ap (λ fs. slice_set fs c.args.model (without Revalidate (get_or fs c.args.model none_due))) c.as_mut_slice.ensures.value in
     let items = with_items_is w.flags c.clear.new.flags (ap length cleared ∙ many ∙ sym w.flags.ok.0) in
     ap (λ (t : Twin). Ok (machine.revalidate profile c.args.model (state_of t.now))) (sym c.self.view_is)
-    ∙ ap Ok (revalidate-done w.loaded w.draft.now c.args.model w.table w.flags.items w.shown.now w.tally c.self.invariant.sound.many (subst (λ n. c.args.model < n) c.self.invariant.sound.many h) c.revalidate.new.table table)
-    ∙ ap (λ fs. Ok (state_of (standing_of w.loaded w.draft.now c.revalidate.new.table fs w.shown.now w.tally))) (sym (items ∙ cleared))
+    ∙ ap Ok (revalidate-done (chosen_of w.indexes.items w.cases.items) w.loaded w.draft.now c.args.model w.table w.flags.items w.shown.now w.tally c.self.invariant.sound.many (subst (λ n. c.args.model < n) c.self.invariant.sound.many h) c.revalidate.new.table table)
+    ∙ ap (λ fs. Ok (state_of (standing_of (chosen_of w.indexes.items w.cases.items) w.loaded w.draft.now c.revalidate.new.table fs w.shown.now w.tally))) (sym (items ∙ cleared))
 
 pub returns-clause-kept : goal.returns-clause-kept
 returns-clause-kept c =
     let w = c.self.inside in
     let h = within-table w.table w.flags.items c.args.model c.self.invariant.sound.many (subst (λ (t : Twin). c.args.model < length t.now.models) (sym c.self.view_is) c.requires.model) in
-    let x = bind_scope profile (state_of (standing_of w.loaded w.draft.now w.table w.flags.items w.shown.now w.tally)) c.args.model in
+    let x = bind_scope profile (state_of (standing_of (chosen_of w.indexes.items w.cases.items) w.loaded w.draft.now w.table w.flags.items w.shown.now w.tally)) c.args.model in
     let k = revalidated x w.loaded.form.tables.instances c.forest-forest.result.now.forest.nodes (kept_at w.table c.args.model) in
     let table : all_rolled_back c.revalidate.new.table ≡ all_rolled_back w.table = ap all_rolled_back (c.in_ok-is_same.ensures.ok called x.given) ∙ back-same w.table c.args.model k h refl in
-    ap (λ t. record { standing = standing_of w.loaded w.draft.kept t w.old_flags.items w.shown.kept w.old_tally; built = w.old_built }) table
+    ap (λ t. record { standing = standing_of (chosen_of w.old_indexes.items w.old_cases.items) w.loaded w.draft.kept t w.old_flags.items w.shown.kept w.old_tally; built = w.old_built }) table
     ∙ ap (λ (t : Twin). t.kept) c.self.view_is
 
 pub returns-clause-models : goal.returns-clause-models
 returns-clause-models c =
     let w = c.self.inside in
-    let x = bind_scope profile (state_of (standing_of w.loaded w.draft.now w.table w.flags.items w.shown.now w.tally)) c.args.model in
+    let x = bind_scope profile (state_of (standing_of (chosen_of w.indexes.items w.cases.items) w.loaded w.draft.now w.table w.flags.items w.shown.now w.tally)) c.args.model in
     let k = revalidated x w.loaded.form.tables.instances c.forest-forest.result.now.forest.nodes (kept_at w.table c.args.model) in
     let many = flags-length w.flags.items c.args.model (without Revalidate (get_or w.flags.items c.args.model none_due)) in
     let cleared : c.clear.new.flags ≡ slice_set w.flags.items c.args.model (without Revalidate (get_or w.flags.items c.args.model none_due)) =

@@ -20,7 +20,7 @@ use Rattle.xf_work.specs.Does.{Does, Twin}
 use Rattle.xf_work.specs.Fit.{IsRight}
 use Rattle.xf_work.specs.Grown.{with_more}
 use Rattle.xf_work.specs.Known.{Knows}
-use Rattle.xf_work.specs.Parts.{IsSound, standing_of}
+use Rattle.xf_work.specs.Parts.{IsSound, chosen_of, standing_of}
 use Rattle.xf_work.specs.Setting.{due, holder_of, is_other, marked}
 use Rattle.xf_work.specs.Settling.{StaysWhole}
 use Rattle.xf_work.specs.Standing.{state_of}
@@ -74,10 +74,10 @@ returns-in_err-made-clause-done c =
     let w = c.self.inside in
     let n = c.args.node.number in
     let told = c.in_err-made.field-0.0 in
-    let after = standing_of w.loaded c.set_text.new.draft.now w.table w.flags.items w.shown.now w.tally in
+    let after = standing_of (chosen_of w.indexes.items w.cases.items) w.loaded c.set_text.new.draft.now w.table w.flags.items w.shown.now w.tally in
     let p = err_from_is_err_and c.from_residual-in_err-made.result c.from_residual-in_err-made.ensures.1 in
     rw (p.1, p.2) (subst (λ (t : Twin). Does {X = Unit {0}} (Err told) after (text_set profile n c.args.text.now (state_of t.now))) c.self.view_is
-    (limit-refused w.loaded w.draft.now w.table w.flags.items w.shown.now w.tally c.self.invariant.sound.many c.args.text.now n told c.in_err-made.ensures.done after))
+    (limit-refused (chosen_of w.indexes.items w.cases.items) w.loaded w.draft.now w.table w.flags.items w.shown.now w.tally c.self.invariant.sound.many c.args.text.now n told c.in_err-made.ensures.done after))
 
 pub invariant_of-self : goal.invariant_of-self
 invariant_of-self c =
@@ -88,6 +88,9 @@ invariant_of-self c =
           (record { known = tt; steady = c.self.invariant.now.steady; planted = c.self.invariant.now.planted; alone = c.self.invariant.now.alone });
       before = subst (λ (d : Draft). IsRight w.loaded d.kept (all_rolled_back w.table) w.shown.kept w.old_knowledge) (sym c.in_err-made.ensures.err) c.self.invariant.before;
       alone = subst (λ (d : Draft). in_detached d.kept.nodes ≡ []) (sym c.in_err-made.ensures.err) c.self.invariant.alone;
+      indexes = c.self.invariant.indexes;
+      cases = c.self.invariant.cases;
+      plain = c.self.invariant.plain;
       held = c.self.invariant.held;
       bound = c.self.invariant.bound;
       first = c.self.invariant.first;
@@ -103,6 +106,9 @@ invariant_of-self-in_err-self-inside c =
       now = right-still w.loaded w.draft.now c.set_text.new.draft.now (stays at) w.table w.shown.now w.knowledge None tt c.self.invariant.now;
       before = subst (λ f. IsRight w.loaded f (all_rolled_back w.table) w.shown.kept w.old_knowledge) (sym kept) c.self.invariant.before;
       alone = subst (λ (f : Forest). in_detached f.nodes ≡ []) (sym kept) c.self.invariant.alone;
+      indexes = c.self.invariant.indexes;
+      cases = c.self.invariant.cases;
+      plain = c.self.invariant.plain;
       held = c.self.invariant.held;
       bound = c.self.invariant.bound;
       first = c.self.invariant.first;
@@ -113,11 +119,11 @@ returns-in_err-self-inside-clause-done c =
     let w = c.self.inside in
     let n = c.args.node.number in
     let told = c.in_err-self-inside.field-0.0 in
-    let after = standing_of w.loaded c.set_text.new.draft.now w.table w.flags.items w.shown.now w.tally in
+    let after = standing_of (chosen_of w.indexes.items w.cases.items) w.loaded c.set_text.new.draft.now w.table w.flags.items w.shown.now w.tally in
     let set = c.in_ok-made.ensures.done in
     let p = err_from_is_err_and c.from_residual-in_err-self-inside.result c.from_residual-in_err-self-inside.ensures.1 in
     rw (p.1, p.2) (subst (λ (t : Twin). Does {X = Unit {0}} (Err told) after (text_set profile n c.args.text.now (state_of t.now))) c.self.view_is
-    (grown-refused w.loaded w.draft.now w.table w.flags.items w.shown.now w.tally c.self.invariant.sound.many c.args.text.now n set.2 told c.in_ok-made.made set.1 c.in_err-self-inside.ensures after))
+    (grown-refused (chosen_of w.indexes.items w.cases.items) w.loaded w.draft.now w.table w.flags.items w.shown.now w.tally c.self.invariant.sound.many c.args.text.now n set.2 told c.in_ok-made.made set.1 c.in_err-self-inside.ensures after))
 
 pub invariant_of-self-in_err-mark : goal.invariant_of-self-in_err-mark
 invariant_of-self-in_err-mark c =
@@ -134,6 +140,9 @@ invariant_of-self-in_err-mark c =
       before = subst (λ t. IsRight w.loaded c.set_text.new.draft.kept (all_rolled_back t) w.shown.kept w.old_knowledge) (sym c.in_err-mark.ensures.table)
           (subst (λ f. IsRight w.loaded f (all_rolled_back w.table) w.shown.kept w.old_knowledge) (sym kept) c.self.invariant.before);
       alone = subst (λ (f : Forest). in_detached f.nodes ≡ []) (sym kept) c.self.invariant.alone;
+      indexes = c.self.invariant.indexes;
+      cases = c.self.invariant.cases;
+      plain = c.self.invariant.plain;
       held = c.self.invariant.held;
       bound = c.self.invariant.bound;
       first = c.self.invariant.first;
@@ -171,6 +180,9 @@ invariant_of-self-2 c =
           (subst (λ t. IsRight w.loaded c.set_text.new.draft.kept t w.shown.kept w.old_knowledge) (sym (marked-back holder other n w.table))
           (subst (λ f. IsRight w.loaded f (all_rolled_back w.table) w.shown.kept w.old_knowledge) (sym kept) c.self.invariant.before));
       alone = subst (λ (f : Forest). in_detached f.nodes ≡ []) (sym kept) c.self.invariant.alone;
+      indexes = c.self.invariant.indexes;
+      cases = c.self.invariant.cases;
+      plain = c.self.invariant.plain;
       held = c.self.invariant.held;
       bound = c.self.invariant.bound;
       first = c.self.invariant.first;
@@ -194,13 +206,13 @@ returns-clause-done c =
     c.in_ok-holder.ensures ∙ ap (λ is. holder_of is c.forest-forest.result.now.forest n) c.as_slice-instances.ensures ∙ ap (λ f. holder_of w.loaded.form.tables.instances f n) c.forest-forest.ensures in
     let told : other ≡ is_other (visits w.draft.now.nodes) n text = c.in_ok-is_other.ensures ∙ ap (λ (f : Forest). is_other (visits f.nodes) n text) c.forest-forest.ensures in
     ap (λ (t : Twin). text_set profile n text (state_of t.now)) (sym c.self.view_is)
-    ∙ set-done w.loaded w.draft.now w.table w.flags.items w.shown.now w.tally c.self.invariant.sound.many text n set.2 (ap (λ m. nat_lt (2 ^ 32) (w.tally.made + m)) (sym set.1) ∙ c.in_ok-self-inside.ensures.1)
-    ∙ ap (λ h. Ok (state_of (standing_of w.loaded after (marked h (is_other (visits w.draft.now.nodes) n text) n w.table) (due h w.flags.items) w.shown.now (with_more made 0 w.tally)))) (sym held)
-    ∙ ap (λ o. Ok (state_of (standing_of w.loaded after (marked holder o n w.table) (due holder w.flags.items) w.shown.now (with_more made 0 w.tally)))) (sym told)
-    ∙ ap (λ (x : Draft). Ok (state_of (standing_of w.loaded x.now (marked holder other n w.table) (due holder w.flags.items) w.shown.now (with_more made 0 w.tally)))) (sym set.0)
-    ∙ ap (λ t. Ok (state_of (standing_of w.loaded d.now t (due holder w.flags.items) w.shown.now (with_more made 0 w.tally)))) (sym marks.marks)
-    ∙ ap (λ fs. Ok (state_of (standing_of w.loaded d.now c.mark.new.table fs w.shown.now (with_more made 0 w.tally)))) (sym (items ∙ flags))
-    ∙ ap (λ u. Ok (state_of (standing_of w.loaded d.now c.mark.new.table (with_items w.flags c.mark.new.flags).items w.shown.now u))) (ap (λ m. with_more m 0 w.tally) (sym set.1) ∙ sym c.in_ok-self-inside.ensures.0)
+    ∙ set-done (chosen_of w.indexes.items w.cases.items) w.loaded w.draft.now w.table w.flags.items w.shown.now w.tally c.self.invariant.sound.many text n set.2 (ap (λ m. nat_lt (2 ^ 32) (w.tally.made + m)) (sym set.1) ∙ c.in_ok-self-inside.ensures.1)
+    ∙ ap (λ h. Ok (state_of (standing_of (chosen_of w.indexes.items w.cases.items) w.loaded after (marked h (is_other (visits w.draft.now.nodes) n text) n w.table) (due h w.flags.items) w.shown.now (with_more made 0 w.tally)))) (sym held)
+    ∙ ap (λ o. Ok (state_of (standing_of (chosen_of w.indexes.items w.cases.items) w.loaded after (marked holder o n w.table) (due holder w.flags.items) w.shown.now (with_more made 0 w.tally)))) (sym told)
+    ∙ ap (λ (x : Draft). Ok (state_of (standing_of (chosen_of w.indexes.items w.cases.items) w.loaded x.now (marked holder other n w.table) (due holder w.flags.items) w.shown.now (with_more made 0 w.tally)))) (sym set.0)
+    ∙ ap (λ t. Ok (state_of (standing_of (chosen_of w.indexes.items w.cases.items) w.loaded d.now t (due holder w.flags.items) w.shown.now (with_more made 0 w.tally)))) (sym marks.marks)
+    ∙ ap (λ fs. Ok (state_of (standing_of (chosen_of w.indexes.items w.cases.items) w.loaded d.now c.mark.new.table fs w.shown.now (with_more made 0 w.tally)))) (sym (items ∙ flags))
+    ∙ ap (λ u. Ok (state_of (standing_of (chosen_of w.indexes.items w.cases.items) w.loaded d.now c.mark.new.table (with_items w.flags c.mark.new.flags).items w.shown.now u))) (ap (λ m. with_more m 0 w.tally) (sym set.1) ∙ sym c.in_ok-self-inside.ensures.0)
 
 pub returns-clause-kept : goal.returns-clause-kept
 returns-clause-kept c =
@@ -209,8 +221,8 @@ returns-clause-kept c =
     let holder = c.in_ok-holder.holder in
     let other = c.in_ok-is_other.is_other in
     let table : all_rolled_back c.mark.new.table ≡ all_rolled_back w.table = ap all_rolled_back c.in_ok-mark.ensures.ok.marks ∙ marked-back holder other n w.table in
-    ap (λ (x : Draft). record { standing = standing_of w.loaded x.kept (all_rolled_back c.mark.new.table) w.old_flags.items w.shown.kept w.old_tally; built = w.old_built }) c.in_ok-made.ensures.done.0
-    ∙ ap (λ t. record { standing = standing_of w.loaded w.draft.kept t w.old_flags.items w.shown.kept w.old_tally; built = w.old_built }) table
+    ap (λ (x : Draft). record { standing = standing_of (chosen_of w.old_indexes.items w.old_cases.items) w.loaded x.kept (all_rolled_back c.mark.new.table) w.old_flags.items w.shown.kept w.old_tally; built = w.old_built }) c.in_ok-made.ensures.done.0
+    ∙ ap (λ t. record { standing = standing_of (chosen_of w.old_indexes.items w.old_cases.items) w.loaded w.draft.kept t w.old_flags.items w.shown.kept w.old_tally; built = w.old_built }) table
     ∙ ap (λ (x : Twin). x.kept) c.self.view_is
 
 pub returns-clause-models : goal.returns-clause-models

@@ -9,7 +9,7 @@ use Rattle.xf_form_machine.specs.Update as update
 use Rattle.xf_processor.specs.Formed.{profile}
 use Rattle.xf_work.specs.Does.{Twin}
 use Rattle.xf_work.specs.Fit.{IsRight}
-use Rattle.xf_work.specs.Parts.{standing_of}
+use Rattle.xf_work.specs.Parts.{chosen_of, standing_of}
 use Rattle.xf_work.specs.Standing.{state_of}
 use Rattle.xf_work.specs.Steady.{AreSteady}
 use Rattle.xf_work.proofs.RefreshLaws.{steady-taken}
@@ -21,7 +21,7 @@ invariant_of-self c =
     let w = c.self.inside in
     let i = c.self.invariant in
     let trees : HasTrees w.draft.now = subst HasTrees c.forest.ensures (in_forest c.are_trees.ensures) in
-    let shown : update.shown profile (state_of (standing_of w.loaded w.draft.now w.table w.flags.items w.shown.now w.tally)) ≡ Ok (map seen_copy c.args.list) =
+    let shown : update.shown profile (state_of (standing_of (chosen_of w.indexes.items w.cases.items) w.loaded w.draft.now w.table w.flags.items w.shown.now w.tally)) ≡ Ok (map seen_copy c.args.list) =
     ap (λ (t : Twin). update.shown profile (state_of t.now)) c.self.view_is ∙ c.requires in
     record {
       sound = i.sound;
@@ -29,8 +29,8 @@ invariant_of-self c =
         known = i.now.known;
         steady = subst (λ list. OnTrue c.if-may_be.self (AreSteady w.loaded w.table list)) (sym c.take.ensures.now) (elim c.if-may_be.branch [
           | then-may_be t ↦ subst (λ b. OnTrue b (AreSteady w.loaded w.table c.args.list)) (sym t.self-is)
-              (steady-taken w.loaded i.sound.loaded w.draft.now w.table w.flags.items w.shown.now w.tally i.sound.many i.sound.now.hung trees w.bound_nodes c.args.list w.knowledge.is_planted w.is_bound t.is_rising-self-inside.result i.held
-              i.now.planted i.bound (sym c.may_be_steady-may_be.ensures ∙ t.if-may_be.true) (t.is_rising-self-inside.ensures ∙ ap is_rising c.take.ensures.now) shown)
+              (steady-taken (chosen_of w.indexes.items w.cases.items) w.loaded i.sound.loaded w.draft.now w.table w.flags.items w.shown.now w.tally i.sound.many i.sound.now.hung trees w.bound_nodes c.args.list w.knowledge.is_planted w.is_plain w.is_bound t.is_rising-self-inside.result i.held
+              i.now.planted i.plain i.bound (sym c.may_be_steady-may_be.ensures ∙ t.if-may_be.true) (t.is_rising-self-inside.ensures ∙ ap is_rising c.take.ensures.now) shown)
           | else-may_be e ↦ subst (λ b. OnTrue b (AreSteady w.loaded w.table c.args.list)) (sym (e.self-is ∙ e.if-may_be.false)) tt
         ]);
         planted = i.now.planted;
@@ -38,6 +38,9 @@ invariant_of-self c =
       };
       before = subst (λ list. IsRight w.loaded w.draft.kept (all_rolled_back w.table) list w.old_knowledge) (sym c.take.ensures.kept) i.before;
       alone = i.alone;
+      indexes = i.indexes;
+      cases = i.cases;
+      plain = i.plain;
       held = i.held;
       bound = i.bound;
       first = i.first;
@@ -46,4 +49,4 @@ invariant_of-self c =
 pub returns-clause-now : goal.returns-clause-now
 returns-clause-now c =
     let w = c.self.inside in
-    ap (λ list. standing_of w.loaded w.draft.now w.table w.flags.items list w.tally) c.take.ensures.now ∙ ap (λ (t : Twin). record t.now { controls = map seen_copy c.args.list }) c.self.view_is
+    ap (λ list. standing_of (chosen_of w.indexes.items w.cases.items) w.loaded w.draft.now w.table w.flags.items list w.tally) c.take.ensures.now ∙ ap (λ (t : Twin). record t.now { controls = map seen_copy c.args.list }) c.self.view_is
