@@ -9,21 +9,20 @@ use Rattle.xf_base.specs.Limits.{string_limit}
 use Rattle.xf_doc.specs.Changes.{root_of}
 use Rattle.xf_doc.specs.Forest.{Forest}
 use Rattle.xf_doc.specs.Visit.{visits}
-use Rattle.xf_lang.specs.Given.{Given}
+use Rattle.xf_lang.specs.Given.{Document, Given}
 use Rattle.xf_funcs.specs.Called.{called}
 use Rattle.xf_model.specs.Nested.{nested}
 use Rattle.xf_model.specs.Rules.{scope_of}
 use Rattle.xf_ui.specs.Around.{Around}
-use Rattle.xf_ui.specs.Index.{named_indexes}
-use Rattle.xf_ui.specs.Interface.{Interface, interface_of}
+use Rattle.xf_ui.specs.Index.{Index, named_indexes}
+use Rattle.xf_ui.specs.Interface.{interface_of}
 use Rattle.xf_form_machine.specs.declared.note.Note.{Note}
 use Rattle.xf_form_machine.specs.State.{State}
 use Rattle.xf_form_machine.specs.Surround as machine
 use Rattle.xf_form_machine.specs.Surround.{Told, around, document_at, document_under, documents, given, instances_in}
-use Rattle.xf_machine_laws.specs.Rowless.{IsWithoutRows}
 use Rattle.xf_processor.specs.Formed.{profile}
-use Rattle.xf_context.specs.Around.{document_below, document_in, documents_by, documents_from, given_in}
-use Rattle.xf_context.specs.Over.{around_of}
+use Rattle.xf_context.specs.Around.{document_below, document_in, documents_by, documents_from}
+use Rattle.xf_context.specs.Over.{around_with}
 use Rattle.xf_work.specs.Standing.{Standing, state_of}
 
 -- ---- documents
@@ -49,43 +48,37 @@ from-same s place (i ∷ is) =
 documents-same : (s : State) → documents s ≡ documents_by (instances_in s) (documents_from 0 (instances_in s) s.forest.nodes)
 documents-same s = from-same s 0 (instances_in s)
 
--- ---- what is given: no index is kept
+-- ---- what is given
 
-abbrev with_repeats : Interface → List ℕ → Interface
-with_repeats f rs = record f { repeats = rs }
+-- over a form and its data, with these indexes
+abbrev pub surrounding : List Index → Form → Bindings → Forest → Option Told → Around
+surrounding indexes form prefixes forest event = around_with (named_indexes (interface_of form) indexes) form prefixes forest event
 
-module _ (s : Standing) (notes : List Note) (rowless : IsWithoutRows (interface_of s.form)) where
+module _ (s : Standing) (notes : List Note) where
   abbrev here : State
   here = record (state_of s) { notes = notes; calls = [] }
 
-  abbrev given_here : Option Told → Given
-  given_here event = given_in s.form.tables.instances s.prefixes s.form.decimals s.forest event
+  abbrev given_by : List Document → Option Told → Given
+  given_by documents event = record (given here event) { documents = documents }
 
-  given-same : (event : Option Told) → given here event ≡ given_here event
-  given-same event =
-      ap (λ ds. record (given here event) { documents = ds }) (documents-same here)
-      ∙ ap (λ rs. record (given_here event) { indexes = named_indexes (with_repeats (interface_of s.form) rs) [] }) rowless.repeats
-
-  abbrev around_with : Given → Given → Around
-  around_with g h = record {
+  abbrev around_by : List Document → Option Told → Around
+  around_by documents event = record {
     functions = called;
     most = Some string_limit;
-    given = g;
+    given = given_by documents event;
     all = visits s.forest.nodes;
-    bound = λ k. nested (Some string_limit) (scope_of called h s.form.tables 0) (visits s.forest.nodes) k;
+    bound = λ k. nested (Some string_limit) (scope_of called (record (given_by documents None) { indexes = [] }) s.form.tables 0) (visits s.forest.nodes) k;
   }
 
-  -- binds see no indexes anyway
-  pub around-same : (event : Option Told) → around profile here event ≡ around_of s.form s.prefixes s.forest event
-  around-same event =
-      ap (λ g. around_with g (record (given here None) { indexes = [] })) (given-same event)
-      ∙ ap (λ ds. around_with (given_here event) (record (given here None) { documents = ds; indexes = [] })) (documents-same here)
+  around-same : (event : Option Told) → around profile here event ≡ surrounding s.indexes s.form s.prefixes s.forest event
+  around-same event = ap (λ ds. around_by ds event) (documents-same here)
 
   -- over a form and data that are these
-  pub over-same : (form : Form) (b : Bindings) (forest : Forest) (event : Option Told) → form ≡ s.form → b ≡ s.prefixes → forest ≡ s.forest
-      → around profile here event ≡ around_of form b forest event
-  over-same form b forest event e i j =
+  pub over-same : (indexes : List Index) (form : Form) (b : Bindings) (forest : Forest) (event : Option Told) → indexes ≡ s.indexes → form ≡ s.form → b ≡ s.prefixes → forest ≡ s.forest
+      → around profile here event ≡ surrounding indexes form b forest event
+  over-same indexes form b forest event h e i j =
       around-same event
-      ∙ ap (λ f. around_of f s.prefixes s.forest event) (sym e)
-      ∙ ap (λ c. around_of form c s.forest event) (sym i)
-      ∙ ap (λ g. around_of form b g event) (sym j)
+      ∙ ap (λ os. surrounding os s.form s.prefixes s.forest event) (sym h)
+      ∙ ap (λ f. surrounding indexes f s.prefixes s.forest event) (sym e)
+      ∙ ap (λ c. surrounding indexes form c s.forest event) (sym i)
+      ∙ ap (λ g. surrounding indexes form b g event) (sym j)

@@ -9,17 +9,13 @@ use Rattle.xf_form_machine.specs.declared.limit.LimitWord.{LimitWord}
 use Rattle.xf_form_machine.specs.declared.note.Note.{Note}
 use Rattle.xf_form_machine.specs.declared.refusal.Refusal.{Refusal}
 use Rattle.xf_form_machine.specs.declared.refusal.Refusal.TheVariants.{NoSuchTarget, Disabled, ReadOnly, NotAnItem, BadIndex, PropertyTwice, CalculateOnParent, Binding, Circular, Limit, Budget, Depth, Sends}
-use Rattle.xf_form_machine.specs.Choose.{named_copy}
 use Rattle.xf_form_machine.specs.Events as events
 use Rattle.xf_form_machine.specs.Flow.{Run, ◌>>=◌}
 use Rattle.xf_form_machine.specs.Refusal as machine
 use Rattle.xf_form_machine.specs.Refusal.{Refused}
 use Rattle.xf_form_machine.specs.State.{State}
-use Rattle.xf_form_machine.specs.Surround.{interface}
 use Rattle.xf_form_machine.specs.Told.{told, Tells}
 use Rattle.xf_form_machine.specs.Update as update
-use Rattle.xf_machine_laws.specs.Rowless.{IsWithoutRows, Rowless, HasSteps}
-use Rattle.xf_machine_laws.proofs.RowlessLaws.{reindex-none, state_without_rows}
 use Rattle.xf_beside_laws.specs.Beside.{Beside, beside, besides, made_beside, GoesBeside, MakesBeside, TurnsBeside}
 use Rattle.xf_beside_laws.proofs.ChangesGo.{changes_go_beside}
 use Rattle.xf_actions.specs.Performs.{Among, IsTold, RefusedAs, Refuses, Runs, Makes, Reads}
@@ -27,12 +23,12 @@ use Rattle.xf_actions.specs.Told.{cleared_by, refreshed}
 use Rattle.xf_processor.specs.Formed.{profile}
 use Rattle.xf_work.specs.declared.fault.WorkFault.{WorkFault}
 use Rattle.xf_work.specs.declared.fault.WorkFault.TheVariants as fault
-use Rattle.xf_work.specs.Calls.{AreRefreshed}
+use Rattle.xf_work.specs.Calls.{AreRefreshed, Refreshes}
 use Rattle.xf_work.specs.Does as work
 use Rattle.xf_work.specs.Does.{Does, IsRefused}
 use Rattle.xf_work.specs.Standing.{Standing, state_of}
 use Rattle.xf_world.specs.declared.fault.EventFault.{EventFault}
-use Rattle.xf_world.specs.Fault.{event_of, means}
+use Rattle.xf_world.specs.Fault.{event_of, fault_of_work, means}
 
 -- ---- refusals
 
@@ -114,48 +110,55 @@ module _ {X Y : Type 0} (notes : List Note) (view : X → Y) (change : State →
 
 -- ---- a refresh
 
-steps : HasSteps profile
-steps = record { left = 63; depth = refl; more = 63; passes = refl }
-
-pub rowless : (s : Standing) → IsWithoutRows (interface (state_of s)) → Rowless (state_of s)
-rowless s h = record { form = h; indexes = refl }
-
--- what an id names has its one copy
-pub one-copy : (s : Standing) (n : ℕ) → IsWithoutRows (interface (state_of s)) → named_copy (state_of s) n ≡ Some []
-one-copy s n h = (state_without_rows profile (state_of s) steps (rowless s h)).copy n
-
 cleared-turns : (model : Option ℕ) → TurnsBeside (cleared_by model)
 cleared-turns None b s = refl
 cleared-turns (Some model) b s = refl
 
+refreshed-is : (notes : List Note) (model : Option ℕ) (s : Standing)
+    → refreshed profile (cleared_by model) (beside (noted notes) (state_of s)) ≡ made_beside (noted notes) (refreshed profile (cleared_by model) (state_of s))
+refreshed-is notes model s = (changes_go_beside profile).refreshed (cleared_by model) (cleared-turns model) (noted notes) (state_of s)
+
+-- what follows the list
+abbrev after_list : (State → State) → State → List Copy → Result (List events.Fired × State) Refused
+after_list cleared t list = Ok (map events.told_by (notifications t.controls list), cleared (record t { controls = list }))
+
 -- what follows the indexes
 abbrev after_indexes : (State → State) → State → Result (List events.Fired × State) Refused
-after_indexes cleared t = update.shown profile t >>= λ list. Ok (map events.told_by (notifications t.controls list), cleared (record t { controls = list }))
+after_indexes cleared t = update.shown profile t >>= after_list cleared t
 
-refreshed-is : (notes : List Note) (model : Option ℕ) (s : Standing) → IsWithoutRows (interface (state_of s))
-    → refreshed profile (cleared_by model) (beside (noted notes) (state_of s)) ≡ made_beside (noted notes) (after_indexes (cleared_by model) (state_of s))
-refreshed-is notes model s h =
-    (changes_go_beside profile).refreshed (cleared_by model) (cleared-turns model) (noted notes) (state_of s)
-    ∙ ap (λ r. made_beside (noted notes) (r >>= after_indexes (cleared_by model))) (reindex-none profile [] (state_of s) steps (rowless s h))
+refused-shown : (notes : List Note) (refusal : Refusal) (cleared : State → State) (t : State) (r : Result (List Copy) Refused) → IsRefused refusal r
+    → RefusedAs (told refusal) [] (made_beside (noted notes) (r >>= after_list cleared t))
+refused-shown notes refusal cleared t (Ok list) h = h
+refused-shown notes refusal cleared t (Err r) h = (tells-told refusal r.why h.0, refl)
 
-refused-shown : (notes : List Note) (refusal : Refusal) (cleared : State → State) (s : State) (r : Result (List Copy) Refused) → IsRefused refusal r
-    → RefusedAs (told refusal) [] (made_beside (noted notes) (r >>= λ list. Ok (map events.told_by (notifications s.controls list), cleared (record s { controls = list }))))
-refused-shown notes refusal cleared s (Ok list) h = h
-refused-shown notes refusal cleared s (Err r) h = (tells-told refusal r.why h.0, refl)
+refused-brought : (notes : List Note) (refusal : Refusal) (cleared : State → State) (r : Result State Refused) → IsRefused refusal (r >>= update.shown profile)
+    → RefusedAs (told refusal) [] (made_beside (noted notes) (r >>= after_indexes cleared))
+refused-brought notes refusal cleared (Ok t) h = refused-shown notes refusal cleared t (update.shown profile t) h
+refused-brought notes refusal cleared (Err r) h = (tells-told refusal r.why h.0, refl)
 
-pub refresh-refused : (notes : List Note) (model : Option ℕ) (before : Standing) (refusal : Refusal) → IsWithoutRows (interface (state_of before))
-    → IsRefused refusal (update.shown profile (state_of before)) → RefusedAs (told refusal) [] (refreshed profile (cleared_by model) (beside (noted notes) (state_of before)))
-refresh-refused notes model before refusal h r =
-    subst (RefusedAs (told refusal) []) (sym (refreshed-is notes model before h))
-    (refused-shown notes refusal (cleared_by model) (state_of before) (update.shown profile (state_of before)) r)
+pub refresh-refused : (notes : List Note) (model : Option ℕ) (before : Standing) (refusal : Refusal)
+    → IsRefused refusal (update.reindex profile [] (state_of before) >>= update.shown profile)
+    → RefusedAs (told refusal) [] (refreshed profile (cleared_by model) (beside (noted notes) (state_of before)))
+refresh-refused notes model before refusal r =
+    subst (RefusedAs (told refusal) []) (sym (refreshed-is notes model before))
+    (refused-brought notes refusal (cleared_by model) (update.reindex profile [] (state_of before)) r)
 
-pub refresh-made : (notes : List Note) (model : Option ℕ) (before after : Standing) (answer : List Notification) (told : List events.Fired) → IsWithoutRows (interface (state_of before))
+pub refresh-made : (notes : List Note) (model : Option ℕ) (before after : Standing) (answer : List Notification) (told : List events.Fired)
     → AreRefreshed (cleared_by model) answer before after → told ≡ map events.told_by (map seen_notification answer)
     → refreshed profile (cleared_by model) (beside (noted notes) (state_of before)) ≡ Ok (told, beside (noted notes) (state_of after))
-refresh-made notes model before after answer told h a e =
-    let s = state_of before in
-    refreshed-is notes model before h
-    ∙ ap (λ r. made_beside (noted notes) (r >>= λ list. Ok (map events.told_by (notifications s.controls list), cleared_by model (record s { controls = list })))) a.shown
-    ∙ ap (λ ns. Ok (map events.told_by ns, beside (noted notes) (cleared_by model (record s { controls = a.list })))) (sym a.told)
-    ∙ ap (λ t. Ok (map events.told_by (map seen_notification answer), beside (noted notes) t)) (sym a.now)
+refresh-made notes model before after answer told a e =
+    let cleared = cleared_by model in
+    refreshed-is notes model before
+    ∙ ap (λ r. made_beside (noted notes) (r >>= after_indexes cleared)) a.brought
+    ∙ ap (λ r. made_beside (noted notes) (r >>= after_list cleared a.t)) a.shown
+    ∙ ap (λ ns. Ok (map events.told_by ns, beside (noted notes) (cleared (record a.t { controls = a.list })))) (sym a.told)
+    ∙ ap (λ u. Ok (map events.told_by (map seen_notification answer), beside (noted notes) u)) (sym a.now)
     ∙ ap (λ es. Ok (es, beside (noted notes) (state_of after))) (sym e)
+
+pub refresh-stopped : (notes : List Note) (model : Option ℕ) (before after : Standing) (fault : WorkFault) (e : EventFault) → Refreshes (cleared_by model) (Err fault) before after
+    → e ≡ fault_of_work fault → Refuses (means e) [] (refreshed profile (cleared_by model) (beside (noted notes) (state_of before)))
+unfolding Refuses
+refresh-stopped notes model before after (fault.Refused refusal) e h i =
+    subst (λ x. Refuses (means x) [] (refreshed profile (cleared_by model) (beside (noted notes) (state_of before)))) (sym i) (refresh-refused notes model before refusal h)
+refresh-stopped notes model before after fault.Memory e h i =
+    subst (λ x. Refuses (means x) [] (refreshed profile (cleared_by model) (beside (noted notes) (state_of before)))) (sym i) tt

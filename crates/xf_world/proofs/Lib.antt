@@ -1,6 +1,5 @@
 pub mod AroundLaws
 pub mod Besides
-pub mod MessageReads
 pub mod NoteLaws
 pub mod ReadLaws
 pub mod HoldLaws

@@ -1,5 +1,5 @@
 -- How an event begins and ends, the notes being beside the state of what the engine works on.
-use Rattle.std.proofs.Common.{suc, ◌≡◌, ◌+◌, List, [], ap, sym, ◌∙◌, arith}
+use Rattle.std.proofs.Common.{suc, ◌≡◌, ◌+◌, List, [], ap, ◌∙◌, arith}
 use Rattle.xf_form_machine.specs.declared.note.Note.{Note}
 use Rattle.xf_form_machine.specs.State.{State}
 use Rattle.xf_form_machine.specs.Step.{at_end, fresh, one_more}

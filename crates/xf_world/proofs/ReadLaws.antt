@@ -1,5 +1,5 @@
 -- What is read over the data and the event is what the machine reads in its state.
-use Rattle.std.proofs.Common.{◌≡◌, ℕ, List, [], ◌∷◌, Option, Some, None, option_map, Ok, refl, sym, ap, ◌∙◌, subst, ◌⊎◌, inl, inr}
+use Rattle.std.proofs.Common.{◌≡◌, ℕ, List, [], ◌∷◌, Option, Some, None, option_map, Result, Ok, refl, sym, ap, ◌∙◌, subst, ◌⊎◌, inl, inr}
 use Rattle.xf_lang.specs.declared.fault.EvalFault.{EvalFault}
 use Rattle.xf_lang.specs.declared.fault.EvalFault.TheVariants as eval
 use Rattle.xf_lang.specs.declared.value.Value.{Value}
@@ -7,14 +7,16 @@ use Rattle.xf_lang.specs.Conversions.{number_of, truth_of}
 use Rattle.xf_lang.specs.Setting.{Focus}
 use Rattle.xf_plain_values.specs.Conversions.{Decimal}
 use Rattle.xf_ui.specs.Around.{Around, alone, setting}
-use Rattle.xf_ui.specs.Context.{Context}
+use Rattle.xf_ui.specs.Context.{Context, Inside}
+use Rattle.xf_ui.specs.Elements.{element_at}
 use Rattle.xf_ui.specs.Interface.{Bound, unbound, nodes, by_bind}
+use Rattle.xf_ui.specs.Labels.{text_in}
 use Rattle.xf_form_machine.specs.declared.limit.LimitWord.TheVariants as word
 use Rattle.xf_form_machine.specs.Acting.{Acting, surroundings, whole_of}
 use Rattle.xf_form_machine.specs.Flow.{◌>>=◌}
-use Rattle.xf_form_machine.specs.Refusal.{limit, or_long}
+use Rattle.xf_form_machine.specs.Refusal.{Refused, limit, or_long}
 use Rattle.xf_form_machine.specs.State.{State}
-use Rattle.xf_form_machine.specs.Surround.{Told, around}
+use Rattle.xf_form_machine.specs.Surround.{Told, around, interface}
 use Rattle.xf_form_machine.specs.Telling.{loaded_text}
 use Rattle.xf_actions.specs.Performs.{Refuses, RefusedAs}
 use Rattle.xf_context.specs.declared.over.Over.{Over}
@@ -72,3 +74,9 @@ pub loaded-by : (s : State) (x : Acting) (resource : List ℕ) (binding : Bound)
 loaded-by s x resource unbound = refl
 loaded-by s x resource (nodes m) = refl
 loaded-by s x resource (by_bind k) = refl
+
+-- ---- the text of a message
+
+-- by what the elements around the message give it
+abbrev pub spoken_in : State → Acting → Inside → Result (List ℕ) Refused
+spoken_in s x within = or_long s (text_in (interface s) (surroundings profile x s) within (element_at (interface s) x.element))

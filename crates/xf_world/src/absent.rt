@@ -1,12 +1,9 @@
-//! What no event of such a form asks for: nothing of it is a repeat, a switch or a submission. Were it asked for, it would be told as want of memory,
-//! and nothing changes.
+//! What no event of such a form asks for: nothing of it is a submission. Were it asked for, it would be told as want of memory, and nothing changes.
 
 ghost use Rattle.std.specs.Prelude.{◌≡◌, Ok, option_map, slice_get};
 ghost use Rattle.xf_store.specs.Called.{Called};
-ghost use Rattle.xf_form_machine.specs.Choose.{set_index as index_set};
-ghost use Rattle.xf_form_machine.specs.Primitives.{set_case as case_set};
 ghost use Rattle.xf_actions.specs.Defaulted.{submitted, told_by_end};
-ghost use Rattle.xf_actions.specs.Performs.{LeavesOver, Reads, Runs};
+ghost use Rattle.xf_actions.specs.Performs.{LeavesOver, Reads};
 ghost use Rattle.xf_actions.specs.Seen.{concluded_of, ending_of, fired_of};
 ghost use Rattle.xf_processor.specs.Formed.{profile};
 ghost use Rattle.xf_world.specs.Fault.{means};
@@ -16,8 +13,6 @@ use crate::fault::EventFault;
 use crate::form_world::FormWorld;
 use xf_actions::{Concluded, Ending, Fired};
 use xf_store::Store;
-
-// ---- submissions
 
 /// A submission: there is none, and the store is not called.
 pub(crate) fn submit<S: Store>(
@@ -43,35 +38,4 @@ pub(crate) fn end_event(world: &FormWorld, ending: &Ending) -> Result<Option<Fir
     let _ = &world.work;
     let _ = ending;
     Err(EventFault::Memory)
-}
-
-// ---- rows and cases
-
-/// The index of a repeat is set: there is none.
-pub(crate) fn set_index(
-    world: &mut FormWorld,
-    model: u32,
-    repeat: u32,
-    index: u64,
-) -> Result<(), EventFault>
-    ensures done { Runs means (state_of world.new) result (index_set profile model repeat index (state_of world.old)) }
-    ensures kept { kept_of world.new ≡ kept_of world.old }
-    ensures form { (state_of world.new).form ≡ (state_of world.old).form }
-    ensures calls { (state_of world.new).calls ≡ (state_of world.old).calls }
-{
-    let _ = &world.work;
-    let _ = model;
-    let _ = repeat;
-    let _ = index;
-    Err(EventFault::Memory)
-}
-
-/// A case is selected: no case is kept of a form without switches.
-pub(crate) fn set_case(world: &mut FormWorld, switch: u32, place: usize)
-    ensures done { state_of world.new ≡ case_set switch place (state_of world.old) }
-    ensures kept { kept_of world.new ≡ kept_of world.old }
-{
-    let _ = &world.work;
-    let _ = switch;
-    let _ = place;
 }

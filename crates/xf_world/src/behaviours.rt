@@ -5,7 +5,6 @@ ghost use Rattle.std.specs.Bool.{OnTrue};
 ghost use Rattle.xf_controls.specs.Seen.{seen_notification};
 ghost use Rattle.xf_form_machine.specs.Behave as behave;
 ghost use Rattle.xf_form_machine.specs.Behave.{model_at};
-ghost use Rattle.xf_form_machine.specs.Choose.{named_copy as copy_named};
 ghost use Rattle.xf_form_machine.specs.Events.{told_by};
 ghost use Rattle.xf_form_machine.specs.Primitives.{in_model, refresh_due, set_text as text_set, spend as spent};
 ghost use Rattle.xf_form_machine.specs.Properties.{readonly_in};
@@ -27,7 +26,7 @@ use crate::form_world::FormWorld;
 use std::alloc::{AllocError, Global};
 use xf_actions::{Fired, FiredList, Flag};
 use xf_controls::{Notification, NotificationList};
-use xf_doc::{NodeId, NodeList};
+use xf_doc::NodeId;
 use xf_events::event;
 use xf_form_machine::Refusal;
 use xf_work::{Flag as WorkFlag, WorkFault};
@@ -153,14 +152,13 @@ pub(crate) fn revalidate(world: &mut FormWorld, model: u32) -> Result<(), EventF
     as_event(done)
 }
 
-/// Makes the controls afresh, and gives what is told of the differences.
+/// Brings the indexes up to date, makes the controls afresh, and gives what is told of the differences.
 pub(crate) fn refresh(world: &mut FormWorld, model: Option<u32>) -> Result<FiredList, EventFault>
     ensures done { Makes means (map fired_of) (state_of world.new) result (refreshed profile (cleared_by model) (state_of world.old)) }
     ensures kept { kept_of world.new ≡ kept_of world.old }
     ensures form { (state_of world.new).form ≡ (state_of world.old).form }
     ensures calls { (state_of world.new).calls ≡ (state_of world.old).calls }
 {
-    world.work.without_rows();
     world.work.same_form();
     let told = told_of(world, model);
     world.work.same_form();
@@ -236,25 +234,4 @@ pub(crate) fn flag_refresh(world: &mut FormWorld, model: u32)
     ensures kept { kept_of world.new ≡ kept_of world.old }
 {
     world.work.flag_refresh(model);
-}
-
-/// The rows of the copy that an id names: it stands in none.
-pub(crate) fn named_copy(world: &FormWorld, element: u32) -> Result<Option<NodeList>, EventFault>
-    ensures { Reads means (λ rows. rows) (state_of world.now) result (Ok (copy_named (state_of world.now) element)) }
-{
-    let _ = element;
-    world.work.without_rows();
-    Ok(Some(NodeList::new(world.alloc)))
-}
-
-/// Brings the indexes up to date: there are none.
-pub(crate) fn reindex(world: &mut FormWorld, added: &NodeList) -> Result<(), EventFault>
-    ensures done { Runs means (state_of world.new) result (update.reindex profile added.now (state_of world.old)) }
-    ensures kept { kept_of world.new ≡ kept_of world.old }
-    ensures form { (state_of world.new).form ≡ (state_of world.old).form }
-    ensures calls { (state_of world.new).calls ≡ (state_of world.old).calls }
-{
-    let _ = added;
-    world.work.without_rows();
-    Ok(())
 }

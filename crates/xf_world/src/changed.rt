@@ -11,10 +11,12 @@ ghost use Rattle.xf_world.specs.State.{state_of};
 
 use crate::fault::EventFault;
 use crate::form_world::FormWorld;
+use crate::telling::rows_around;
 use xf_actions::{Fired, Inserting};
 use xf_doc::NodeList;
+use xf_events::{ToInstance, instance_element};
 
-/// The event that an insert tells an instance.
+/// The event that an insert tells an instance, in the indexed rows around that, as far as there are some.
 pub(crate) fn insert_event(
     world: &FormWorld,
     instance: usize,
@@ -23,16 +25,21 @@ pub(crate) fn insert_event(
 ) -> Result<Fired, EventFault>
     ensures { Reads means fired_of (state_of world.now) result (Ok (instance_event (codes "xforms-insert") (insert_told (state_of world.now) inserting.now.is_before tops.now (map (λ q. q.origin) (map place_of inserting.now.places)) inserting.now.location) instance (state_of world.now))) }
 {
-    world.work.without_rows();
-    let form = world.work.form();
-    let forest = world.work.forest();
-    match xf_events::insert_event(world.alloc, form, forest, instance, inserting, tops) {
+    let target = instance_element(world.work.form(), instance);
+    let rows = rows_around(world, target)?;
+    let to = ToInstance {
+        alloc: world.alloc,
+        forest: world.work.forest(),
+        target,
+        rows: &rows,
+    };
+    match xf_events::insert_event(&to, inserting, tops) {
         Ok(event) => Ok(event),
         Err(_) => Err(EventFault::Memory),
     }
 }
 
-/// The event that a delete tells an instance.
+/// The event that a delete tells an instance, in the indexed rows around that.
 pub(crate) fn delete_event(
     world: &FormWorld,
     instance: usize,
@@ -42,10 +49,16 @@ pub(crate) fn delete_event(
 ) -> Result<Fired, EventFault>
     ensures { Reads means fired_of (state_of world.now) result (Ok (instance_event (codes "xforms-delete") (delete_told (state_of world.now) nodes.now (location_of (state_of world.now).form.decimals set.now at)) instance (state_of world.now))) }
 {
-    world.work.without_rows();
     let form = world.work.form();
-    let forest = world.work.forest();
-    match xf_events::delete_event(world.alloc, form, forest, instance, nodes, set, at) {
+    let target = instance_element(form, instance);
+    let rows = rows_around(world, target)?;
+    let to = ToInstance {
+        alloc: world.alloc,
+        forest: world.work.forest(),
+        target,
+        rows: &rows,
+    };
+    match xf_events::delete_event(&to, form.decimals, nodes, set, at) {
         Ok(event) => Ok(event),
         Err(_) => Err(EventFault::Memory),
     }

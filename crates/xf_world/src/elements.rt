@@ -72,23 +72,14 @@ pub(crate) fn switch_number(world: &FormWorld, element: u32) -> u32
 pub(crate) fn place_of_case(world: &FormWorld, element: u32, case: u32) -> usize
     ensures { result ≡ case_place (interface (state_of world.now)) element case }
 {
-    events::place_of_case(world.work.form(), element, case)
+    xf_switch::place_of_case(world.work.form(), element, case)
 }
 
 /// The case at a place of the switch of this number.
 pub(crate) fn case_at(world: &FormWorld, switch: u32, place: usize) -> u32
     ensures { result ≡ get_or (cases_of (interface (state_of world.now)) (get_or (interface (state_of world.now)).switches switch 0)) place 0 }
 {
-    events::case_at(world.work.form(), switch, place)
-}
-
-/// The place of the case that is selected in the switch of this number: of no switch a case is kept.
-pub(crate) fn selected(world: &FormWorld, switch: u32) -> usize
-    ensures { result ≡ get_or (state_of world.now).cases switch 0 }
-{
-    let _ = &world.work;
-    let _ = switch;
-    0
+    xf_switch::case_at(world.work.form(), switch, place)
 }
 
 /// The instances of a model.

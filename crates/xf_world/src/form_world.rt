@@ -4,7 +4,7 @@ use std::alloc::Global;
 use xf_events::NoteList;
 use xf_work::Work;
 
-/// A form without repeats, switches and submissions as the form machine, while an event is handled.
+/// A form without submissions as the form machine, while an event is handled.
 #[derive(Drop)]
 pub struct FormWorld {
     pub(crate) alloc: Global,

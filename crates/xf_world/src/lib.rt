@@ -5,6 +5,7 @@ mod absent;
 mod asking;
 mod behaviours;
 mod changed;
+mod choosing;
 mod elements;
 mod fault;
 mod form_world;

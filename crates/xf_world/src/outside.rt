@@ -1,21 +1,23 @@
 //! What an engine asks of a world beside what the form machine does: where it begins, where an event begins and ends, and what is read between.
 
-ghost use Rattle.std.specs.Prelude.{◌≡◌, ◌++◌, [], true, find, option_map, string_bytes, IfErr, OnOk};
-ghost use Rattle.xf_controls.specs.Plain.{is_plain};
+ghost use Rattle.std.specs.Prelude.{◌≡◌, ◌++◌, None, find, map, option_map, string_bytes, IfErr, OnOk};
+ghost use Rattle.xf_context.specs.Indexes.{seen_index};
 ghost use Rattle.xf_controls.specs.Seen.{is_copy_at, seen_copy};
 ghost use Rattle.xf_form_machine.specs.ControlText.{state_text};
 ghost use Rattle.xf_form_machine.specs.Step.{fresh, one_more};
-ghost use Rattle.xf_form_machine.specs.Surround.{interface};
-ghost use Rattle.xf_machine_laws.specs.Rowless.{Rowless};
 ghost use Rattle.xf_processor.specs.Formed.{profile};
 ghost use Rattle.xf_work.specs.Standing as standing;
 ghost use Rattle.xf_world.specs.Outside.{IsKept, standing_of};
+ghost use Rattle.xf_world.specs.Seen.{IsOver};
 ghost use Rattle.xf_world.specs.State.{kept_of, state_of};
 
 use crate::fault::EventFault;
 use crate::form_world::FormWorld;
+use crate::surrounding::over_quiet;
 use std::alloc::{AllocError, Global};
+use xf_context::{Index, Over};
 use xf_controls::ControlCopy;
+use xf_doc::NodeId;
 use xf_events::NoteList;
 use xf_form_machine::Note;
 use xf_work::Work;
@@ -96,25 +98,25 @@ impl FormWorld {
         self.work.accepted()
     }
 
-    /// The copy of an element that stands in no row.
-    pub fn control(&self, element: u32) -> Option<&ControlCopy>
-        ensures { option_map (λ c. seen_copy c.now) result ≡ find (is_copy_at element []) (state_of self.now).controls }
+    /// What expressions are evaluated over outside an event.
+    pub fn over(&self) -> Over<'_>
+        ensures { IsOver result (state_of self.now) None }
     {
-        self.work.control(element)
+        over_quiet(self)
     }
 
-    /// Each control and container of the form has one copy. This tells contracts so, and does nothing.
-    pub fn plain(&self)
-        ensures { is_plain (interface (state_of self.now)) ≡ true }
+    /// The indexes of the repeats, in document order.
+    pub fn indexes(&self) -> &[Index]
+        ensures { map seen_index result.now ≡ (state_of self.now).indexes }
     {
-        self.work.plain();
+        self.work.indexes()
     }
 
-    /// Nothing of the form comes in rows or cases, and no index is kept. This tells contracts so, and does nothing.
-    pub fn without_rows(&self)
-        ensures { Rowless (state_of self.now) }
+    /// The copy of an element in these rows.
+    pub fn control(&self, element: u32, rows: &[NodeId]) -> Option<&ControlCopy>
+        ensures { option_map (λ c. seen_copy c.now) result ≡ find (is_copy_at element (map (λ n. n.number) rows.now)) (state_of self.now).controls }
     {
-        self.work.without_rows();
+        self.work.control(element, rows)
     }
 
     /// Appends the text of the state.

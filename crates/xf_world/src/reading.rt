@@ -18,13 +18,15 @@ use crate::surrounding::{over_event, over_quiet};
 use xf_actions::{Acting, Fired, Focus};
 use xf_ast::Expr;
 use xf_context::{
-    all_bound, alone, binding_at, context_of, first_bound, first_selected, text,
+    all_bound, alone, binding_at, context_under, first_bound, first_selected, text,
     truth as truth_value, whole as whole_value,
 };
 use xf_doc::{NodeId, NodeList};
 use xf_name::Word;
+use xf_repeat::{Target, handler_rows};
 
-/// The action that is this element, called for this event: none where it has no context node. It stands in no row.
+/// The action that is this element, called for this event: none where an index is 0 or it has no context node. It stands in the rows of the
+/// event's target for each repeat around both, else in the indexed ones.
 pub(crate) fn acting(
     world: &FormWorld,
     fired: &Fired,
@@ -32,12 +34,20 @@ pub(crate) fn acting(
 ) -> Result<Option<Acting>, EventFault>
     ensures { Reads means (option_map (acting_of fired.now)) (state_of world.now) result (acts profile (fired_of fired.now) element (state_of world.now)) }
 {
-    world.work.without_rows();
-    let situation = context_of(&over_quiet(world), element)?;
+    let target = Target {
+        element: fired.target,
+        rows: fired.rows.as_slice(),
+    };
+    let work = &world.work;
+    let chain = handler_rows(world.alloc, work.form(), work.indexes(), target, element)?;
+    let Some(rows) = chain else {
+        return Ok(None);
+    };
+    let situation = context_under(&over_quiet(world), rows.as_slice(), element)?;
     match situation.focus {
         Some(focus) => Ok(Some(Acting {
             element,
-            rows: NodeList::new(world.alloc),
+            rows,
             model: situation.model,
             focus,
         })),

@@ -13,15 +13,14 @@ use crate::fault::EventFault;
 use crate::form_world::FormWorld;
 use crate::surrounding::{over_event, over_quiet};
 use xf_actions::{Acting, Fired};
-use xf_context::{binding_at, entered, text_in, text_or};
+use xf_context::{binding_at, inside_under, text_in, text_or};
 use xf_name::Word;
 
-/// The text of a message.
+/// The text of a message, in the rows in which its action stands.
 pub(crate) fn message(world: &FormWorld, fired: &Fired, acting: &Acting) -> Result<Word, EventFault>
     ensures { Reads means (λ w. w) (state_of world.now) result (message_text profile (acting_of fired.now acting.now) (state_of world.now)) }
 {
-    world.work.without_rows();
-    let within = entered(&over_quiet(world), acting.element)?;
+    let within = inside_under(&over_quiet(world), acting.rows.as_slice(), acting.element)?;
     let text = text_in(&over_event(world, fired), &within, acting.element)?;
     Ok(text)
 }

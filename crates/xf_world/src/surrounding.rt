@@ -13,14 +13,13 @@ use xf_context::Over;
 pub(crate) fn over_event<'a>(world: &'a FormWorld, fired: &'a Fired) -> Over<'a>
     ensures { IsOver result (state_of world.now) (Some (told_of fired.now.properties)) }
 {
-    world.work.without_rows();
     let loaded = world.work.loaded();
     Over {
         alloc: world.alloc,
         form: &loaded.form,
         prefixes: &loaded.prefixes,
         forest: world.work.forest(),
-        indexes: None,
+        indexes: Some(world.work.indexes()),
         told: Some(fired.properties.as_slice()),
     }
 }
@@ -29,14 +28,13 @@ pub(crate) fn over_event<'a>(world: &'a FormWorld, fired: &'a Fired) -> Over<'a>
 pub(crate) fn over_quiet(world: &FormWorld) -> Over<'_>
     ensures { IsOver result (state_of world.now) None }
 {
-    world.work.without_rows();
     let loaded = world.work.loaded();
     Over {
         alloc: world.alloc,
         form: &loaded.form,
         prefixes: &loaded.prefixes,
         forest: world.work.forest(),
-        indexes: None,
+        indexes: Some(world.work.indexes()),
         told: None,
     }
 }

@@ -3,8 +3,8 @@
 use crate::fault::EventFault;
 use crate::form_world::FormWorld;
 use crate::{
-    absent, asking, behaviours, changed, elements, handlers, holding, noting, planning, reading,
-    speaking, telling, trees,
+    absent, asking, behaviours, changed, choosing, elements, handlers, holding, noting, planning,
+    reading, speaking, telling, trees,
 };
 use std::alloc::Global;
 use xf_actions::{
@@ -187,19 +187,19 @@ impl World for FormWorld {
     }
 
     fn named_copy(&self, element: u32) -> Result<Option<NodeList>, EventFault> {
-        behaviours::named_copy(self, element)
+        choosing::named_copy(self, element)
     }
 
     fn set_index(&mut self, model: u32, repeat: u32, index: u64) -> Result<(), EventFault> {
-        absent::set_index(self, model, repeat, index)
+        choosing::set_index(self, model, repeat, index)
     }
 
     fn selected(&self, switch: u32) -> usize {
-        elements::selected(self, switch)
+        choosing::selected(self, switch)
     }
 
     fn set_case(&mut self, switch: u32, place: usize) {
-        absent::set_case(self, switch, place);
+        choosing::set_case(self, switch, place);
     }
 
     fn flag_refresh(&mut self, model: u32) {
@@ -310,7 +310,7 @@ impl World for FormWorld {
     }
 
     fn reindex(&mut self, added: &NodeList) -> Result<(), EventFault> {
-        behaviours::reindex(self, added)
+        choosing::reindex(self, added)
     }
 
     fn event(

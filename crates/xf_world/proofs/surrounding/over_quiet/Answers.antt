@@ -1,5 +1,6 @@
-use Rattle.std.proofs.Common.{None, sym, ap}
+use Rattle.std.proofs.Common.{None, map, sym, ap}
 use Rattle.xf_ui.specs.Interface.{interface_of}
+use Rattle.xf_context.specs.Indexes.{seen_index}
 use Rattle.xf_world.proofs.AroundLaws.{over-same}
 use Rattle.xf_world.proofs.surrounding.over_quiet.Goals as goal
 
@@ -8,6 +9,8 @@ returns c =
     let w = c.args.world.now in
     let l = c.loaded-loaded.result.now in
     record {
-      around = over-same w.work.now w.notes c.without_rows.ensures l.form l.prefixes c.forest.result.now.forest None c.loaded-loaded.ensures.form c.loaded-loaded.ensures.prefixes c.forest.ensures;
+      around =
+          over-same w.work.now w.notes (map seen_index c.indexes.result.now) l.form l.prefixes c.forest.result.now.forest None c.indexes.ensures
+          c.loaded-loaded.ensures.form c.loaded-loaded.ensures.prefixes c.forest.ensures;
       interface = ap interface_of (sym c.loaded-loaded.ensures.form);
     }
