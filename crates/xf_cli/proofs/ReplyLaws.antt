@@ -52,35 +52,35 @@ by_tests s long blank unbuilt r =
 
 -- one that is not too long
 by-length : (s : State) (line : List ℕ) → length line ≤ line_limit
-    → built_reply s line ≡ by_tests s false (list_all is_blank line) (asks_unbuilt (asked_by line)) (reply_read profile false s [] (asked_by line))
+    → built_reply s line ≡ by_tests s false (list_all is_blank line) (asks_unbuilt (asked_by line)) (reply_read profile true s [] (asked_by line))
 by-length s line h =
-    ap (λ l. by_tests s l (list_all is_blank line) (asks_unbuilt (asked_by line)) (reply_read profile false s [] (asked_by line))) (le-ltb line_limit (length line) h)
+    ap (λ l. by_tests s l (list_all is_blank line) (asks_unbuilt (asked_by line)) (reply_read profile true s [] (asked_by line))) (le-ltb line_limit (length line) h)
 
 pub blank_reply : (s : State) (line text : List ℕ) → length line ≤ line_limit → list_all is_blank line ≡ true → text ≡ [] → IsReply s line text s
 blank_reply s line text h b e =
-    let same = by-length s line h ∙ ap (λ c. by_tests s false c (asks_unbuilt (asked_by line)) (reply_read profile false s [] (asked_by line))) b in
+    let same = by-length s line h ∙ ap (λ c. by_tests s false c (asks_unbuilt (asked_by line)) (reply_read profile true s [] (asked_by line))) b in
     subst (λ r. Gives r text s) (sym same) (record { text = subst (λ t. Contains ([] ∷ []) t) (sym e) (only []); after = refl; calls = refl })
 
 pub read_reply : (s after : State) (line text : List ℕ) (given : Result Asked LineFault) → length line ≤ line_limit → list_all is_blank line ≡ false → asked_by line ≡ given
     → Gives (built_read s given) text after → IsReply s line text after
 read_reply s after line text given h b e k =
-    let same = by-length s line h ∙ ap (λ c. by_tests s false c (asks_unbuilt (asked_by line)) (reply_read profile false s [] (asked_by line))) b
-    ∙ ap (λ g. by_tests s false false (asks_unbuilt g) (reply_read profile false s [] g)) e in
+    let same = by-length s line h ∙ ap (λ c. by_tests s false c (asks_unbuilt (asked_by line)) (reply_read profile true s [] (asked_by line))) b
+    ∙ ap (λ g. by_tests s false false (asks_unbuilt g) (reply_read profile true s [] g)) e in
     subst (λ r. Gives r text after) (sym same) k
 
 -- ---- an event
 
 -- of what is built
-by-event : (s : State) (event : Event) → is_unbuilt event ≡ false → built_read s (Ok (asked.Event event)) ≡ reply_outcome false s (step profile s event [])
-by-event s event h = ap (λ b. if b then unbuilt_reply s else reply_outcome false s (step profile s event [])) h
+by-event : (s : State) (event : Event) → is_unbuilt event ≡ false → built_read s (Ok (asked.Event event)) ≡ reply_outcome true s (step profile s event [])
+by-event s event h = ap (λ b. if b then unbuilt_reply s else reply_outcome true s (step profile s event [])) h
 
-accepted-reply : (s after : State) (posted : Posted) (text : List ℕ) (given : Outcome) → IsAccepted given after posted → text ≡ ok_text false after posted
-    → Gives (reply_outcome false s given) text after
+accepted-reply : (s after : State) (posted : Posted) (text : List ℕ) (given : Outcome) → IsAccepted given after posted → text ≡ ok_text true after posted
+    → Gives (reply_outcome true s given) text after
 accepted-reply s after posted text given h e =
-    subst (λ o. Gives (reply_outcome false s o) text after) (sym h.is)
-    (record { text = subst (λ t. Contains (ok_text false after posted ∷ []) t) (sym e) (only (ok_text false after posted)); after = refl; calls = h.calls })
+    subst (λ o. Gives (reply_outcome true s o) text after) (sym h.is)
+    (record { text = subst (λ t. Contains (ok_text true after posted ∷ []) t) (sym e) (only (ok_text true after posted)); after = refl; calls = h.calls })
 
-refused-reply : (s : State) (refusal : Refusal) (given : Outcome) → IsRefused refusal (as_result given) → Gives (reply_outcome false s given) (line_of (refusal_text refusal)) s
+refused-reply : (s : State) (refusal : Refusal) (given : Outcome) → IsRefused refusal (as_result given) → Gives (reply_outcome true s given) (line_of (refusal_text refusal)) s
 refused-reply s refusal (accepted t posted) h = absurd h
 refused-reply s refusal (refused why calls) h = record { text = contains-line refusal why h.0; after = refl; calls = h.1 }
   where
@@ -167,7 +167,7 @@ refused-text : (s after : Standing) (refusal : Refusal) (event : Event) (text : 
 refused-text s after refusal event text built h same k =
     subst (λ u. GivesFor s event text u) (sym same)
     (subst (λ r. Gives r text (state_of s)) (sym (by-event (state_of s) event built))
-    (subst (λ t. Gives (reply_outcome false (state_of s) (step profile (state_of s) event [])) t (state_of s)) (sym k)
+    (subst (λ t. Gives (reply_outcome true (state_of s) (step profile (state_of s) event [])) t (state_of s)) (sym k)
     (refused-reply (state_of s) refusal (step profile (state_of s) event []) h)))
 
 refused-if : (s after : Standing) (refusal : Refusal) (event : Event) (r : Result (String Global) AllocError) → is_unbuilt event ≡ false
@@ -194,5 +194,5 @@ pub unbuilt_with : (s : Standing) (event : Event) (r : Result (String Global) Al
     → IfOk r (λ t. string_bytes t ≡ codes "no E15 NotBuilt\n") → IfOk r (λ t. GivesFor s event (string_bytes t) s)
 unbuilt_with s event (Err e) h k = tt
 unbuilt_with s event (Ok t) h k =
-    subst (λ b. Gives (if b then unbuilt_reply (state_of s) else reply_outcome false (state_of s) (step profile (state_of s) event [])) (string_bytes t) (state_of s)) (sym h)
+    subst (λ b. Gives (if b then unbuilt_reply (state_of s) else reply_outcome true (state_of s) (step profile (state_of s) event [])) (string_bytes t) (state_of s)) (sym h)
     (record { text = subst (λ x. Contains (codes "no E15 NotBuilt\n" ∷ []) x) (sym k) (only (codes "no E15 NotBuilt\n")); after = refl; calls = refl })

@@ -1,8 +1,7 @@
 -- How a run comes to its end.
-use Rattle.std.specs.Prelude.{◌≡◌, ◌⊎◌, ◌≤◌, ◌^◌, ℕ, List, [], length, string_bytes, Contains, Option, Some, None, Ok, Err}
+use Rattle.std.specs.Prelude.{◌≡◌, ◌≤◌, ◌^◌, ℕ, List, [], length, string_bytes, Contains, Option, Some, None, Ok, Err}
 use Rattle.std.specs.Io.KnownBytes.{Appends, Consumes, IsAtEnd}
-use Rattle.xf_base.specs.Faults.{Rose}
-use Rattle.xf_answers.specs.Answers.{IsFront}
+use Rattle.xf_answers.specs.Out.{IsSteady}
 use Rattle.xf_answers.specs.declared.lines.Ending.{Ending}
 use Rattle.xf_loader.specs.declared.fault.FormFault.TheVariants as fault
 use Rattle.xf_loader.specs.declared.loaded.Loaded as loader
@@ -27,8 +26,8 @@ use Rattle.xf_cli.specs.declared.status.Command.{Command}
 use Rattle.xf_cli.specs.declared.status.Command.TheVariants.{Try, Check}
 use Rattle.xf_cli.specs.declared.status.Status.{Status}
 use Rattle.xf_cli.specs.declared.status.Status.TheVariants as status
-use Rattle.xf_cli.specs.Outside.{Outside}
-use Rattle.xf_cli.specs.Written.{Give, Spells, refusal_line, RefusesProgram, IsStartRefused, AnswersBehind, Writes, status_line, status_code}
+use Rattle.xf_cli.specs.Outside.{Object, Outside, IsUntouched}
+use Rattle.xf_cli.specs.Written.{Give, Spells, refusal_line, RefusesProgram, IsStartRefused, AnswersBehind, Writes, AppendsLine, status_line, status_code}
 
 -- ---- reading a form
 
@@ -52,17 +51,18 @@ IsRefusedWith number place other = ⊥
 
 -- ---- the status and its line
 
--- the line was written, or a front of it where the sink failed
-abbrev pub Says : Option (List ℕ) → Option (List ℕ) → List ℕ → ℕ → ℕ → Type 0
-Says before after line faults now = Appends before after line ⊎ (Rose faults now × ((front : List ℕ) × IsFront front line × Appends before after front))
-
 -- the number is that of the status, whose line is written
-abbrev pub Finishes : Status → ℕ → Option (List ℕ) → Option (List ℕ) → ℕ → ℕ → Type 0
-Finishes s number before after faults now = (number ≡ status_code s) × Says before after (status_line s) faults now
+abbrev pub Finishes : Status → ℕ → Object → Type 0
+Finishes s number out = (number ≡ status_code s) × AppendsLine out out.first_faults [] (status_line s)
 
 -- the run comes to this status, and its line is still to be written
 abbrev pub Runs : Status → Outside → Type 0
-Runs s outside = (written : List ℕ) × Writes s outside written × Appends outside.before outside.after written
+Runs s outside = (written : List ℕ) × Writes s outside outside.out.faults written × Appends outside.out.before outside.out.after written
+
+-- the sink failed neither at the notes nor in a reply, unless the answers end so
+abbrev pub IsSteadyAt : Status → ℕ → ℕ → Type 0
+IsSteadyAt (status.Answered e) before after = IsSteady e before after
+IsSteadyAt s before after = after ≡ before
 
 -- ---- a form that is loaded
 
@@ -82,36 +82,34 @@ IsStarted c (outset.Refused line) = IsStartRefused (started c) (string_bytes lin
 IsStarted c outset.NoRoom = Unit {0}
 
 -- nothing of the events was read, and nothing was written
-pub record IsQuietly (events left before after : Option (List ℕ)) : Type 0 where
-  pub unread : left ≡ events
-  pub unwritten : after ≡ before
+pub record IsQuietly (events out : Object) : Type 0 where
+  pub unread : IsUntouched events
+  pub unwritten : out.after ≡ out.before
 
 -- the notes of the start and the answers to the lines were written, and the lines end so
-abbrev pub AnsweredBehind : List ℕ → Ending → Standing → Option (List ℕ) → Option (List ℕ) → Option (List ℕ) → Option (List ℕ) → Type 0
-AnsweredBehind notes ending first events left before after = (written : List ℕ) × AnswersBehind notes ending first events left written × Appends before after written
+abbrev pub AnsweredBehind : List ℕ → Ending → Standing → Object → Object → Type 0
+AnsweredBehind notes ending first events out = (written : List ℕ) × AnswersBehind notes ending first events written × Appends out.before out.after written
 
 -- the form has started so, and then the lines were answered
-abbrev pub StartedAndAnswered : Outcome → Ending → Option (List ℕ) → Option (List ℕ) → Option (List ℕ) → Option (List ℕ) → Type 0
-StartedAndAnswered given ending events left before after =
-    (first : Standing) × (posted : Posted) × IsAccepted given (state_of first) posted × AnsweredBehind (note_lines posted.notes) ending first events left before after
+abbrev pub StartedAndAnswered : Outcome → Ending → Object → Object → Type 0
+StartedAndAnswered given ending events out =
+    (first : Standing) × (posted : Posted) × IsAccepted given (state_of first) posted × AnsweredBehind (note_lines posted.notes) ending first events out
 
 -- ---- what the run comes to over a form that is loaded
 
-abbrev pub RunsLoaded : Command → loader.Loaded → Option (List ℕ) → Option (List ℕ) → Option (List ℕ) → Option (List ℕ) → Status → Type 0
-RunsLoaded command l events left before after (status.Refused line) = IsQuietly events left before after × RefusesProgram command (program_in l) (string_bytes line)
-RunsLoaded command l events left before after status.Checked =
-    IsQuietly events left before after × (command ≡ Check) × ((s : State) × (construct profile (program_in l) ≡ Ok s))
-RunsLoaded command l events left before after status.NoRoom = IsQuietly events left before after
-RunsLoaded command l events left before after (status.Answered e) =
-    (command ≡ Try) × StartedAndAnswered (start profile (program_in l) []) e events left before after
-RunsLoaded command l events left before after status.Usage = ⊥
-RunsLoaded command l events left before after status.Unread = ⊥
+abbrev pub RunsLoaded : Command → loader.Loaded → Object → Object → Status → Type 0
+RunsLoaded command l events out (status.Refused line) = IsQuietly events out × RefusesProgram command (program_in l) (string_bytes line)
+RunsLoaded command l events out status.Checked = IsQuietly events out × (command ≡ Check) × ((s : State) × (construct profile (program_in l) ≡ Ok s))
+RunsLoaded command l events out status.NoRoom = IsQuietly events out
+RunsLoaded command l events out (status.Answered e) = (command ≡ Try) × StartedAndAnswered (start profile (program_in l) []) e events out
+RunsLoaded command l events out status.Usage = ⊥
+RunsLoaded command l events out status.Unread = ⊥
 
 -- the same over a form that is constructed
-abbrev pub RunsConstructed : State → Option (List ℕ) → Option (List ℕ) → Option (List ℕ) → Option (List ℕ) → Status → Type 0
-RunsConstructed c events left before after (status.Refused line) = IsQuietly events left before after × IsStartRefused (started c) (string_bytes line)
-RunsConstructed c events left before after status.NoRoom = IsQuietly events left before after
-RunsConstructed c events left before after (status.Answered e) = StartedAndAnswered (started c) e events left before after
-RunsConstructed c events left before after status.Checked = ⊥
-RunsConstructed c events left before after status.Usage = ⊥
-RunsConstructed c events left before after status.Unread = ⊥
+abbrev pub RunsConstructed : State → Object → Object → Status → Type 0
+RunsConstructed c events out (status.Refused line) = IsQuietly events out × IsStartRefused (started c) (string_bytes line)
+RunsConstructed c events out status.NoRoom = IsQuietly events out
+RunsConstructed c events out (status.Answered e) = StartedAndAnswered (started c) e events out
+RunsConstructed c events out status.Checked = ⊥
+RunsConstructed c events out status.Usage = ⊥
+RunsConstructed c events out status.Unread = ⊥

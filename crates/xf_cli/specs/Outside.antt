@@ -4,29 +4,29 @@ use Rattle.std.specs.declared.option.Option.{Option as Known}
 use Rattle.std.specs.Io.KnownBytes.{Consumes}
 use Rattle.xf_base.specs.Faults.{Rose}
 
--- their bytes, where they tell them, and their faults before and after
-pub record Outside : Type 0 where
-  pub words : List (List ℕ)
-  pub form : Known (List ℕ)
-  pub form_left : Known (List ℕ)
-  pub form_faults : ℕ × ℕ
-  pub events : Known (List ℕ)
-  pub left : Known (List ℕ)
-  pub event_faults : ℕ × ℕ
+-- the bytes that a source has left, or that a sink has taken, where it tells them, and how often it has failed: before and after
+pub record Object : Type 0 where
   pub before : Known (List ℕ)
   pub after : Known (List ℕ)
-  pub out_faults : ℕ × ℕ
+  pub first_faults : ℕ
+  pub faults : ℕ
 
-abbrev pub HasRisen : ℕ × ℕ → Type 0
-HasRisen faults = Rose faults.0 faults.1
+abbrev pub object_of : Known (List ℕ) → Known (List ℕ) → ℕ → ℕ → Object
+object_of before after first_faults faults = record { before = before; after = after; first_faults = first_faults; faults = faults }
 
--- the events were not touched
-abbrev pub IsUntouched : Outside → Type 0
-IsUntouched outside = outside.left ≡ outside.events
+pub record Outside : Type 0 where
+  pub words : List (List ℕ)
+  pub form : Object
+  pub events : Object
+  pub out : Object
 
--- the form was not touched
-abbrev pub IsFormUntouched : Outside → Type 0
-IsFormUntouched outside = outside.form_left ≡ outside.form
+-- no call of it was made
+pub record IsUntouched (object : Object) : Type 0 where
+  pub bytes : object.after ≡ object.before
+  pub faults : object.faults ≡ object.first_faults
+
+abbrev pub HasRisen : Object → Type 0
+HasRisen object = Rose object.first_faults object.faults
 
 -- as many bytes of a form are read at the most: one more than a form may have
 abbrev pub form_read_limit : ℕ
@@ -38,4 +38,4 @@ TakesForm form left = (taken : List ℕ) × Consumes form left taken × (length 
 
 -- no more was read of the form
 abbrev pub IsFormRead : Outside → Type 0
-IsFormRead outside = TakesForm outside.form outside.form_left
+IsFormRead outside = TakesForm outside.form.before outside.form.after

@@ -1,12 +1,12 @@
--- What is written for a line of the events, as far as the program can do it by now: what chooses a row or starts a submission is refused as not
--- built; all else is answered as the form machine says.
+-- What is written for a line of the events, as far as the program can do it by now: what starts a submission is refused as not built; all else is
+-- answered as the form machine says.
 use Rattle.std.specs.Prelude.{ℕ, ◌≡◌, Bool, true, false, not, ◌&&◌, List, [], ◌∷◌, length, codes, nat_lt, Result, Ok, Err, Contains, if◌then◌else◌}
 use Rattle.std.specs.List.{list_all}
 use Rattle.xf_base.specs.Limits.{line_limit}
 use Rattle.xf_line.specs.declared.event.Asked.{Asked}
 use Rattle.xf_line.specs.declared.event.Asked.TheVariants as asked
 use Rattle.xf_line.specs.declared.event.Event.{Event}
-use Rattle.xf_line.specs.declared.event.Event.TheVariants.{Index, Send}
+use Rattle.xf_line.specs.declared.event.Event.TheVariants.{Send}
 use Rattle.xf_line.specs.declared.fault.LineFault.{LineFault}
 use Rattle.xf_line.specs.Line.{asked_by}
 use Rattle.xf_form_machine.specs.State.{State}
@@ -17,7 +17,6 @@ use Rattle.xf_processor.specs.Formed.{profile}
 -- ---- what is not built
 
 abbrev pub is_unbuilt : Event → Bool
-is_unbuilt (Index id k) = true
 is_unbuilt (Send id) = true
 is_unbuilt event = false
 
@@ -33,14 +32,14 @@ is_unbuilt_line line = not (nat_lt line_limit (length line)) && (not (list_all i
 abbrev pub unbuilt_reply : State → Reply
 unbuilt_reply s = without_event s (codes "no E15 NotBuilt\n" ∷ [])
 
--- ---- a line: evaluations are not counted, and no answer of the store is asked for
+-- ---- a line: evaluations are counted, and no answer of the store is asked for
 
 abbrev pub built_reply : State → List ℕ → Reply
-built_reply s line = if is_unbuilt_line line then unbuilt_reply s else reply profile false s [] line
+built_reply s line = if is_unbuilt_line line then unbuilt_reply s else reply profile true s [] line
 
 -- the same by what was read of it
 abbrev pub built_read : State → Result Asked LineFault → Reply
-built_read s given = if asks_unbuilt given then unbuilt_reply s else reply_read profile false s [] given
+built_read s given = if asks_unbuilt given then unbuilt_reply s else reply_read profile true s [] given
 
 -- these bytes may be written, and that state stands after it; the store is not called
 pub record Gives (r : Reply) (written : List ℕ) (next : State) : Type 0 where

@@ -1,7 +1,8 @@
 -- What a run has written as it ends.
-use Rattle.std.specs.Prelude.{ℕ, ◌≡◌, ◌⊎◌, List, [], ◌∷◌, ◌++◌, codes, decimal, string_bytes, Some, None, Result, Ok, Err, Contains, ◌==◌, if◌then◌else◌}
+use Rattle.std.specs.Prelude.{ℕ, ◌≡◌, ◌⊎◌, ◌<◌, List, [], ◌∷◌, ◌++◌, length, codes, decimal, string_bytes, Some, None, Result, Ok, Err, Contains, ◌==◌, if◌then◌else◌}
 use Rattle.std.specs.declared.option.Option.{Option as Known}
 use Rattle.std.specs.Io.KnownBytes.{Appends}
+use Rattle.xf_base.specs.Faults.{Rose}
 use Rattle.xf_answers.specs.declared.lines.Ending.{Ending}
 use Rattle.xf_answers.specs.declared.lines.Ending.TheVariants.{Done, ReadFault, SinkFault, TooMuch, Memory}
 use Rattle.xf_answers.specs.Answers.{IsFront, AnswersKnown}
@@ -25,7 +26,7 @@ use Rattle.xf_cli.specs.declared.status.Command.{Command}
 use Rattle.xf_cli.specs.declared.status.Command.TheVariants.{Try, Check}
 use Rattle.xf_cli.specs.declared.status.Status.{Status}
 use Rattle.xf_cli.specs.declared.status.Status.TheVariants.{Usage, Refused, Checked, Unread, NoRoom, Answered}
-use Rattle.xf_cli.specs.Outside.{Outside, HasRisen, IsUntouched, IsFormUntouched, IsFormRead}
+use Rattle.xf_cli.specs.Outside.{Object, Outside, HasRisen, IsUntouched, IsFormRead}
 use Rattle.xf_cli.specs.Replies.{Answers}
 
 -- ---- words
@@ -116,32 +117,40 @@ FromForm form holds =
 
 -- ---- a whole run
 
--- the notes of the start are written, and then the answers to the lines; or the sink failed at the notes, and no line was read
-abbrev pub AnswersBehind : List ℕ → Ending → Standing → Known (List ℕ) → Known (List ℕ) → List ℕ → Type 0
-AnswersBehind notes ending first events left written =
-    ((rest : List ℕ) × AnswersKnown Answers ending first events left rest × (written ≡ notes ++ rest)) ⊎ ((ending ≡ SinkFault) × (left ≡ events) × IsFront written notes)
+-- the notes of the start are written, and then the answers to the lines; or the sink failed at the notes, and no line was asked for
+abbrev pub AnswersBehind : List ℕ → Ending → Standing → Object → List ℕ → Type 0
+AnswersBehind notes ending first events written =
+    ((rest : List ℕ) × AnswersKnown Answers ending first events.before events.after rest × (written ≡ notes ++ rest))
+    ⊎ ((ending ≡ SinkFault) × IsUntouched events × IsFront written notes)
 
--- a fault is told only where the object that was handed in counted one
-abbrev pub HasCauseIn : Ending → Outside → Type 0
-HasCauseIn Done outside = Unit {0}
-HasCauseIn ReadFault outside = HasRisen outside.event_faults
-HasCauseIn SinkFault outside = HasRisen outside.out_faults
-HasCauseIn TooMuch outside = Unit {0}
-HasCauseIn Memory outside = Unit {0}
+-- why the answers end so, where the sink had failed so often before the line for the status: a fault is told only where the object that was handed
+-- in counted one, and where the notes or a reply could not be written or flushed the answers end so and not otherwise
+abbrev pub HasCauseIn : Ending → Outside → ℕ → Type 0
+HasCauseIn Done outside faults = faults ≡ outside.out.first_faults
+HasCauseIn ReadFault outside faults = HasRisen outside.events × (faults ≡ outside.out.first_faults)
+HasCauseIn SinkFault outside faults = Rose outside.out.first_faults faults
+HasCauseIn TooMuch outside faults = faults ≡ outside.out.first_faults
+HasCauseIn Memory outside faults = faults ≡ outside.out.first_faults
+
+-- nothing is written, and no call of the sink was made
+abbrev pub IsUnwritten : Outside → ℕ → List ℕ → Type 0
+IsUnwritten outside faults written = (written ≡ []) × (faults ≡ outside.out.first_faults)
 
 -- the words spell a command, no more of the form was read than a form may have, and nothing of the events
-abbrev pub BeforeEvents : Command → Outside → List ℕ → Type 0
-BeforeEvents command outside written = Spells outside.words command × IsFormRead outside × IsUntouched outside × (written ≡ [])
+abbrev pub BeforeEvents : Command → Outside → ℕ → List ℕ → Type 0
+BeforeEvents command outside faults written = Spells outside.words command × IsFormRead outside × IsUntouched outside.events × IsUnwritten outside faults written
 
--- when a run ends so, and what it has written then, the line for its status left out
-abbrev pub Writes : Status → Outside → List ℕ → Type 0
-Writes Usage outside written = ((command : Command) → ¬ Spells outside.words command) × IsFormUntouched outside × IsUntouched outside × (written ≡ [])
-Writes (Refused line) outside written = (command : Command) × BeforeEvents command outside written × RefusesBytes command outside.form (string_bytes line)
-Writes Checked outside written = BeforeEvents Check outside written × IsAcceptable outside.form
-Writes Unread outside written = (command : Command) × BeforeEvents command outside written × HasRisen outside.form_faults
-Writes NoRoom outside written = (command : Command) × BeforeEvents command outside written
-Writes (Answered ending) outside written =
-    Spells outside.words Try × IsFormRead outside × FromForm outside.form (λ notes first. AnswersBehind notes ending first outside.events outside.left written) × HasCauseIn ending outside
+-- when a run ends so, and what it has written then, the line for its status left out; so often had the sink failed before that line
+abbrev pub Writes : Status → Outside → ℕ → List ℕ → Type 0
+Writes Usage outside faults written =
+    ((command : Command) → ¬ Spells outside.words command) × IsUntouched outside.form × IsUntouched outside.events × IsUnwritten outside faults written
+Writes (Refused line) outside faults written = (command : Command) × BeforeEvents command outside faults written × RefusesBytes command outside.form.before (string_bytes line)
+Writes Checked outside faults written = BeforeEvents Check outside faults written × IsAcceptable outside.form.before
+Writes Unread outside faults written = (command : Command) × BeforeEvents command outside faults written × HasRisen outside.form
+Writes NoRoom outside faults written = (command : Command) × BeforeEvents command outside faults written
+Writes (Answered ending) outside faults written =
+    Spells outside.words Try × IsFormRead outside × FromForm outside.form.before (λ notes first. AnswersBehind notes ending first outside.events written)
+    × HasCauseIn ending outside faults
 
 -- ---- the line for a status
 
@@ -176,13 +185,21 @@ status_code Unread = 4
 status_code NoRoom = 9
 status_code (Answered ending) = ending_code ending
 
--- after some bytes the line was written, or a front of it where the sink failed
-abbrev pub AppendsLine : Known (List ℕ) → Known (List ℕ) → List ℕ → List ℕ → Type 0 → Type 0
-AppendsLine before after written line failed = Appends before after (written ++ line) ⊎ (failed × ((front : List ℕ) × IsFront front line × Appends before after (written ++ front)))
+-- a front of the line was written, where the sink failed then
+pub record CutsLine (out : Object) (faults : ℕ) (written line : List ℕ) : Type 0 where
+  pub some : 0 < length line
+  pub failed : Rose faults out.faults
+  pub front : List ℕ
+  pub is_front : IsFront front line
+  pub appended : Appends out.before out.after (written ++ front)
+
+-- after some bytes the line was written and flushed, or a front of it where the sink failed; so often had it failed before the line
+abbrev pub AppendsLine : Object → ℕ → List ℕ → List ℕ → Type 0
+AppendsLine out faults written line = (Appends out.before out.after (written ++ line) × (out.faults ≡ faults)) ⊎ CutsLine out faults written line
 
 -- the run ends with this status
 abbrev pub EndsWith : Status → Outside → Type 0
-EndsWith status outside = (written : List ℕ) × Writes status outside written × AppendsLine outside.before outside.after written (status_line status) (HasRisen outside.out_faults)
+EndsWith status outside = (written : List ℕ) × (faults : ℕ) × Writes status outside faults written × AppendsLine outside.out faults written (status_line status)
 
 -- the run ends with this number
 abbrev pub Ends : ℕ → Outside → Type 0

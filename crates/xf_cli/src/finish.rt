@@ -1,9 +1,10 @@
 //! The line for the status of a run.
 
-ghost use Rattle.std.specs.Prelude.{◌≡◌, ◌≤◌};
+ghost use Rattle.std.specs.Prelude.{◌≡◌, ◌≤◌, []};
 ghost use Rattle.xf_answers.specs.Out.{IsOutOrFailed};
-ghost use Rattle.xf_cli.specs.Written.{ending_code, ending_line};
-ghost use Rattle.xf_cli.specs.Finish.{Finishes, Says};
+ghost use Rattle.xf_cli.specs.Outside.{object_of};
+ghost use Rattle.xf_cli.specs.Written.{AppendsLine, ending_code, ending_line};
+ghost use Rattle.xf_cli.specs.Finish.{Finishes};
 
 use crate::status::Status;
 use xf_answers::{Ending, write_reply};
@@ -11,7 +12,7 @@ use xf_io::Sink;
 
 /// Writes the line for the status, and gives its number.
 pub(crate) fn finish<O: Sink>(out: &mut O, status: Status) -> u8
-    ensures finishes { Finishes status result (O.taken out.old) (O.taken out.new) (O.faults out.old) (O.faults out.new) }
+    ensures finishes { Finishes status result (object_of (O.taken out.old) (O.taken out.new) (O.faults out.old) (O.faults out.new)) }
     ensures flushed { IsOutOrFailed (O.taken out.old, O.flushed out.old) (O.taken out.new, O.flushed out.new) (O.faults out.old, O.faults out.new) }
     ensures later { O.faults out.old ≤ O.faults out.new }
 {
@@ -27,7 +28,7 @@ pub(crate) fn finish<O: Sink>(out: &mut O, status: Status) -> u8
 
 fn finish_answers<O: Sink>(out: &mut O, ending: Ending) -> u8
     ensures number { result ≡ ending_code ending }
-    ensures says { Says (O.taken out.old) (O.taken out.new) (ending_line ending) (O.faults out.old) (O.faults out.new) }
+    ensures says { AppendsLine (object_of (O.taken out.old) (O.taken out.new) (O.faults out.old) (O.faults out.new)) (O.faults out.old) [] (ending_line ending) }
     ensures flushed { IsOutOrFailed (O.taken out.old, O.flushed out.old) (O.taken out.new, O.flushed out.new) (O.faults out.old, O.faults out.new) }
     ensures later { O.faults out.old ≤ O.faults out.new }
 {
@@ -40,13 +41,15 @@ fn finish_answers<O: Sink>(out: &mut O, ending: Ending) -> u8
     }
 }
 
-/// Writes a line for a status, whose number stays as it is where the sink fails.
+/// Writes a line for a status, whose number stays as it is where the sink fails. An empty line is none: the sink is not called.
 pub(crate) fn say<O: Sink>(out: &mut O, line: &[u8], number: u8) -> u8
     ensures number { result ≡ number }
-    ensures says { Says (O.taken out.old) (O.taken out.new) line.now (O.faults out.old) (O.faults out.new) }
+    ensures says { AppendsLine (object_of (O.taken out.old) (O.taken out.new) (O.faults out.old) (O.faults out.new)) (O.faults out.old) [] line.now }
     ensures flushed { IsOutOrFailed (O.taken out.old, O.flushed out.old) (O.taken out.new, O.flushed out.new) (O.faults out.old, O.faults out.new) }
     ensures later { O.faults out.old ≤ O.faults out.new }
 {
-    let _ = write_reply(out, line);
+    if !line.is_empty() {
+        let _ = write_reply(out, line);
+    }
     number
 }

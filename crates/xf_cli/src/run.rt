@@ -2,11 +2,12 @@
 
 ghost use Rattle.std.specs.Prelude.{◌≡◌, ◌≤◌, [], map, string_bytes};
 ghost use Rattle.xf_base.specs.Faults.{Rose};
-ghost use Rattle.xf_answers.specs.Out.{IsOutOrFailed};
+ghost use Rattle.xf_answers.specs.Out.{IsOutOrFailed, IsSteady};
 ghost use Rattle.xf_work.specs.Standing.{state_of};
 ghost use Rattle.xf_processor.specs.Formed.{IsFromBytes};
+ghost use Rattle.xf_cli.specs.Outside.{object_of};
 ghost use Rattle.xf_cli.specs.Written.{Ends, AppendsLine, status_code, status_line};
-ghost use Rattle.xf_cli.specs.Finish.{AnsweredBehind, GivesCommand, Runs, RunsConstructed, RunsLoaded};
+ghost use Rattle.xf_cli.specs.Finish.{AnsweredBehind, GivesCommand, IsSteadyAt, Runs, RunsConstructed, RunsLoaded};
 
 use crate::begin::{Begun, Started, construct, start};
 use crate::finish::{finish, say};
@@ -33,15 +34,9 @@ pub fn xforms<F: Source, E: Source, O: Sink>(
 ) -> u8
     ensures ends { Ends result record {
       words = map string_bytes words.now;
-      form = F.left form.old;
-      form_left = F.left form.new;
-      form_faults = (F.faults form.old, F.faults form.new);
-      events = E.left events.old;
-      left = E.left events.new;
-      event_faults = (E.faults events.old, E.faults events.new);
-      before = O.taken out.old;
-      after = O.taken out.new;
-      out_faults = (O.faults out.old, O.faults out.new);
+      form = object_of (F.left form.old) (F.left form.new) (F.faults form.old) (F.faults form.new);
+      events = object_of (E.left events.old) (E.left events.new) (E.faults events.old) (E.faults events.new);
+      out = object_of (O.taken out.old) (O.taken out.new) (O.faults out.old) (O.faults out.new);
     } }
     ensures flushed { IsOutOrFailed (O.taken out.old, O.flushed out.old) (O.taken out.new, O.flushed out.new) (O.faults out.old, O.faults out.new) }
 {
@@ -52,7 +47,7 @@ pub fn xforms<F: Source, E: Source, O: Sink>(
 /// Tells that there is no memory for the words of the command, and gives the number that the program ends with.
 pub fn no_room<O: Sink>(out: &mut O) -> u8
     ensures number { result ≡ status_code Status.NoRoom }
-    ensures says { AppendsLine (O.taken out.old) (O.taken out.new) [] (status_line Status.NoRoom) (Rose (O.faults out.old) (O.faults out.new)) }
+    ensures says { AppendsLine (object_of (O.taken out.old) (O.taken out.new) (O.faults out.old) (O.faults out.new)) (O.faults out.old) [] (status_line Status.NoRoom) }
     ensures flushed { IsOutOrFailed (O.taken out.old, O.flushed out.old) (O.taken out.new, O.flushed out.new) (O.faults out.old, O.faults out.new) }
 {
     say(out, b"fault memory\n", 9)
@@ -68,15 +63,9 @@ fn run<F: Source, E: Source, O: Sink>(
 ) -> Status
     ensures runs { Runs result record {
       words = map string_bytes words.now;
-      form = F.left form.old;
-      form_left = F.left form.new;
-      form_faults = (F.faults form.old, F.faults form.new);
-      events = E.left events.old;
-      left = E.left events.new;
-      event_faults = (E.faults events.old, E.faults events.new);
-      before = O.taken out.old;
-      after = O.taken out.new;
-      out_faults = (O.faults out.old, O.faults out.new);
+      form = object_of (F.left form.old) (F.left form.new) (F.faults form.old) (F.faults form.new);
+      events = object_of (E.left events.old) (E.left events.new) (E.faults events.old) (E.faults events.new);
+      out = object_of (O.taken out.old) (O.taken out.new) (O.faults out.old) (O.faults out.new);
     } }
     ensures flushed { IsOutOrFailed (O.taken out.old, O.flushed out.old) (O.taken out.new, O.flushed out.new) (O.faults out.old, O.faults out.new) }
     ensures later { O.faults out.old ≤ O.faults out.new }
@@ -118,9 +107,10 @@ fn run_loaded<E: Source, O: Sink>(
     out: &mut O,
 ) -> Status
     requires { IsFromBytes loaded }
-    ensures runs { RunsLoaded command loaded (E.left events.old) (E.left events.new) (O.taken out.old) (O.taken out.new) result }
+    ensures runs { RunsLoaded command loaded (object_of (E.left events.old) (E.left events.new) (E.faults events.old) (E.faults events.new)) (object_of (O.taken out.old) (O.taken out.new) (O.faults out.old) (O.faults out.new)) result }
     ensures read { result ≡ Status.Answered Ending.ReadFault → Rose (E.faults events.old) (E.faults events.new) }
     ensures written { result ≡ Status.Answered Ending.SinkFault → Rose (O.faults out.old) (O.faults out.new) }
+    ensures steady { IsSteadyAt result (O.faults out.old) (O.faults out.new) }
     ensures flushed { IsOutOrFailed (O.taken out.old, O.flushed out.old) (O.taken out.new, O.flushed out.new) (O.faults out.old, O.faults out.new) }
     ensures later { O.faults out.old ≤ O.faults out.new }
 {
@@ -141,9 +131,10 @@ fn answer_events<E: Source, O: Sink>(
     events: &mut E,
     out: &mut O,
 ) -> Status
-    ensures runs { RunsConstructed (state_of constructed) (E.left events.old) (E.left events.new) (O.taken out.old) (O.taken out.new) result }
+    ensures runs { RunsConstructed (state_of constructed) (object_of (E.left events.old) (E.left events.new) (E.faults events.old) (E.faults events.new)) (object_of (O.taken out.old) (O.taken out.new) (O.faults out.old) (O.faults out.new)) result }
     ensures read { result ≡ Status.Answered Ending.ReadFault → Rose (E.faults events.old) (E.faults events.new) }
     ensures written { result ≡ Status.Answered Ending.SinkFault → Rose (O.faults out.old) (O.faults out.new) }
+    ensures steady { IsSteadyAt result (O.faults out.old) (O.faults out.new) }
     ensures flushed { IsOutOrFailed (O.taken out.old, O.flushed out.old) (O.taken out.new, O.flushed out.new) (O.faults out.old, O.faults out.new) }
     ensures later { O.faults out.old ≤ O.faults out.new }
 {
@@ -165,9 +156,10 @@ fn answer_session<E: Source, O: Sink>(
     events: &mut E,
     out: &mut O,
 ) -> Ending
-    ensures answered { AnsweredBehind notes.now result session (E.left events.old) (E.left events.new) (O.taken out.old) (O.taken out.new) }
+    ensures answered { AnsweredBehind notes.now result session (object_of (E.left events.old) (E.left events.new) (E.faults events.old) (E.faults events.new)) (object_of (O.taken out.old) (O.taken out.new) (O.faults out.old) (O.faults out.new)) }
     ensures read { result ≡ Ending.ReadFault → Rose (E.faults events.old) (E.faults events.new) }
     ensures written { result ≡ Ending.SinkFault → Rose (O.faults out.old) (O.faults out.new) }
+    ensures steady { IsSteady result (O.faults out.old) (O.faults out.new) }
     ensures flushed { IsOutOrFailed (O.taken out.old, O.flushed out.old) (O.taken out.new, O.flushed out.new) (O.faults out.old, O.faults out.new) }
     ensures later { O.faults out.old ≤ O.faults out.new }
 {
@@ -183,9 +175,10 @@ fn answer_behind<E: Source, O: Sink>(
     events: &mut E,
     out: &mut O,
 ) -> Ending
-    ensures answered { AnsweredBehind notes.now result session.old (E.left events.old) (E.left events.new) (O.taken out.old) (O.taken out.new) }
+    ensures answered { AnsweredBehind notes.now result session.old (object_of (E.left events.old) (E.left events.new) (E.faults events.old) (E.faults events.new)) (object_of (O.taken out.old) (O.taken out.new) (O.faults out.old) (O.faults out.new)) }
     ensures read { result ≡ Ending.ReadFault → Rose (E.faults events.old) (E.faults events.new) }
     ensures written { result ≡ Ending.SinkFault → Rose (O.faults out.old) (O.faults out.new) }
+    ensures steady { IsSteady result (O.faults out.old) (O.faults out.new) }
     ensures flushed { IsOutOrFailed (O.taken out.old, O.flushed out.old) (O.taken out.new, O.flushed out.new) (O.faults out.old, O.faults out.new) }
     ensures later { O.faults out.old ≤ O.faults out.new }
 {

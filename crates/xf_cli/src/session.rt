@@ -94,7 +94,6 @@ fn is_unbuilt(event: &Event) -> bool
     ensures { result ≡ is_unbuilt event.now }
 {
     match event {
-        Event::Index(_, _) => true,
         Event::Send(_) => true,
         _ => false,
     }

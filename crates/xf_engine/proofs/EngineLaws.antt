@@ -1,5 +1,5 @@
 -- What an event that is handled, and a start, come to at their end.
-use Rattle.std.proofs.Common.{ℕ, ◌≡◌, ◌++◌, false, List, [], Result, Ok, Err, refl, ap, sym, ◌∙◌, subst}
+use Rattle.std.proofs.Common.{ℕ, ◌≡◌, ◌++◌, true, List, [], Result, Ok, Err, refl, ap, sym, ◌∙◌, subst}
 use Rattle.std.specs.Result.{IsErrAnd}
 use Rattle.xf_line.specs.declared.event.Event.{Event}
 use Rattle.xf_form_machine.specs.declared.refusal.Refusal.{Refusal}
@@ -49,7 +49,7 @@ unwritten (Ok count) after old new given is = absurd is
 unwritten (Err y) after old new given is = subst (λ f. Handles (Err f) after old new given) (sym is) tt
 
 pub handled : (before mid after : State) (event : Event) (count : ℕ) (old new : List ℕ) → changed_by profile [] event before ≡ Ok mid → after ≡ one_more mid
-    → count ≡ mid.evaluated → new ≡ old ++ ok_text false after (posted after) → IsHandled count after old new (changed_by profile [] event before)
+    → count ≡ mid.evaluated → new ≡ old ++ ok_text true after (posted after) → IsHandled count after old new (changed_by profile [] event before)
 handled before mid after event count old new e a k w =
     record {
       is = ap (λ r. r >>= (λ t. Ok (one_more t))) e ∙ ap fine (sym a);
@@ -70,7 +70,7 @@ ends mid after k = sym k.now ∙ k.plain
 -- what is given out of an event that is counted
 abbrev Stands : Outcome → ℕ → Standing → List ℕ → List ℕ → Type 0
 Stands given count after old new =
-    (posted : Posted) × IsAccepted given (work.state_of after) posted × (posted.evaluated ≡ count) × (new ≡ old ++ ok_text false (work.state_of after) posted)
+    (posted : Posted) × IsAccepted given (work.state_of after) posted × (posted.evaluated ≡ count) × (new ≡ old ++ ok_text true (work.state_of after) posted)
 
 accepted-by : (given : Result State Refused) (mid after : FormWorld) (count : ℕ) (old new : List ℕ) → IsHandled count (state_of mid) old new given → IsKept mid after
     → Stands (outcome (λ t. one_more (at_end profile t)) given) count (standing_of after) old new
@@ -86,8 +86,8 @@ accepted-by (Ok t) mid after count old new h k =
       },
       ap (λ (x : State). x.evaluated) same ∙ h.evaluated,
       h.lines
-          ∙ ap (λ (x : State). old ++ ok_text false x (posted (state_of mid))) last
-          ∙ ap (λ (x : State). old ++ ok_text false (work.state_of (standing_of after)) (posted x)) (sym same),
+          ∙ ap (λ (x : State). old ++ ok_text true x (posted (state_of mid))) last
+          ∙ ap (λ (x : State). old ++ ok_text true (work.state_of (standing_of after)) (posted x)) (sym same),
     )
 
 -- the event begins with a whole budget

@@ -1,127 +1,103 @@
 -- What the events from outside do, step by step.
-use Rattle.std.proofs.Common.{codes, ℕ, zero, suc, ◌≡◌, Bool, true, false, ◌&&◌, List, [], ◌∷◌, Option, Some, None, Result, Ok, Err, get_or, refl, ap, ◌∙◌, not}
-use Rattle.std.specs.List.{list_all}
-use Rattle.xf_line.specs.declared.event.Event.TheVariants.{Set, Activate, Dispatch, Reset}
-use Rattle.xf_ast.specs.Ordered.{numbered_from, is_none}
+use Rattle.std.proofs.Common.{codes, ℕ, ◌≡◌, Bool, true, false, List, [], Option, Some, Result, Ok, Err, refl, ap, ◌∙◌, not}
+use Rattle.xf_line.specs.declared.event.Event.TheVariants.{Set, Activate, Index, Dispatch, Reset}
 use Rattle.xf_store.specs.declared.call.StoreCall.{StoreCall}
-use Rattle.xf_ui.specs.Interface.{Element, Interface, Sort}
-use Rattle.xf_ui.specs.Interface as sort
-use Rattle.xf_ui.specs.Elements.{element_at, no_element}
 use Rattle.xf_ui.specs.Copies.{Copy}
-use Rattle.xf_controls.specs.Plain.{is_plain, is_plain_sort, is_top, stands_plainly}
-use Rattle.xf_form_machine.specs.Events.{Fired, plainly}
-use Rattle.xf_form_machine.specs.Profile.{Profile}
+use Rattle.xf_ui.specs.Elements.{element_at}
+use Rattle.xf_ui.specs.Index.{rows_now}
+use Rattle.xf_form_machine.specs.Choose.{named_copy, set_index}
+use Rattle.xf_form_machine.specs.Events.{Fired, fired, plainly}
 use Rattle.xf_form_machine.specs.State.{State}
-use Rattle.xf_form_machine.specs.Refusal.{Refusal, Refused, disabled, readonly, not_an_item}
-use Rattle.xf_form_machine.specs.Flow.{Run, ◌>>=◌}
+use Rattle.xf_form_machine.specs.Refusal.{Refusal, Refused, bad_index, disabled, readonly, not_an_item, or_long}
+use Rattle.xf_form_machine.specs.Flow.{Run, ◌>>=◌, where_some}
 use Rattle.xf_form_machine.specs.SetValue.{unless_parent}
-use Rattle.xf_form_machine.specs.Surround.{interface}
-use Rattle.xf_form_machine.specs.Targets.{by_role, element_named, or_no_target, unless, takes_text}
-use Rattle.xf_form_machine.specs.Step.{activate, changed_by, model_named, set, set_bound, settle, tell, to_element, try_set}
-use Rattle.xf_machine_laws.specs.Rowless.{Rowless, copy_at}
-use Rattle.xf_machine_laws.proofs.RowlessLaws.{state_without_rows}
+use Rattle.xf_form_machine.specs.Surround.{interface, quiet}
+use Rattle.xf_form_machine.specs.Targets.{copy_named, element_named, model_around, or_no_target, take_rows, takes_text, unless}
+use Rattle.xf_form_machine.specs.Step.{activate, changed_by, index, is_row, model_named, set, set_bound, settle, tell, to_element, try_set}
 use Rattle.xf_actions.specs.Performs.{Refuses}
 use Rattle.xf_actions.proofs.Flow.{refuses-any, refuses-then, same-refuses}
 use Rattle.xf_processor.specs.Formed.{profile}
 use Rattle.xf_engine.specs.declared.naming.Wanted.{Wanted}
-use Rattle.xf_engine.specs.declared.naming.Wanted.TheVariants.{Entry, Trigger, Any}
-use Rattle.xf_engine.specs.Naming.{is_wanted}
-use Rattle.xf_engine.specs.Tried.{copy_tried, enabled_tried, node_tried, set_tried, told_plainly}
-use Rattle.xf_engine.proofs.ConstructionLaws.{steps}
+use Rattle.xf_engine.specs.declared.naming.Wanted.TheVariants.{Entry, Trigger, Repeat, Any}
+use Rattle.xf_engine.specs.Naming.{wanted_in}
+use Rattle.xf_engine.specs.Tried.{activation_tried, index_tried, node_tried}
 use Rattle.xf_engine.proofs.Flow.{then-next}
-
--- ---- no selects
-
-both-first : (a b : Bool) → a && b ≡ true → a ≡ true
-both-first true b h = refl
-both-first false b h = cc
-
-both-second : (a b : Bool) → a && b ≡ true → b ≡ true
-both-second true b h = h
-both-second false b h = cc
-
-plain-among : (f : Interface) (es : List Element) (k n : ℕ)
-    → list_all (stands_plainly f) (numbered_from k es) ≡ true → is_plain_sort (get_or es n no_element).sort ≡ true
-plain-among f [] k n h = refl
-plain-among f (e ∷ es) k zero h = both-first (is_plain_sort e.sort) _ (both-first (stands_plainly f (k, e)) _ h)
-plain-among f (e ∷ es) k (suc n) h = plain-among f es (suc k) n (both-second (stands_plainly f (k, e)) _ h)
-
-plain-at : (f : Interface) (n : ℕ) → is_plain f ≡ true → is_plain_sort (element_at f n).sort ≡ true
-plain-at f n h = plain-among f f.elements 0 n (both-second (is_none f.repeats) _ (both-second (is_top (element_at f 0).parent) _ h))
-
-takes-any : (s : Sort) (c : Copy) (text : List ℕ) → is_plain_sort s ≡ true → takes_text s c text ≡ true
-takes-any sort.host c text h = refl
-takes-any sort.other c text h = refl
-takes-any sort.group c text h = refl
-takes-any (sort.switch k) c text h = refl
-takes-any (sort.one_case b) c text h = refl
-takes-any (sort.repeated k start) c text h = refl
-takes-any sort.field c text h = refl
-takes-any (sort.output m) c text h = refl
-takes-any (sort.select many is_free) c text h = cc
-takes-any sort.item c text h = refl
-takes-any sort.itemset c text h = refl
-takes-any sort.choices c text h = refl
-takes-any sort.label c text h = refl
-takes-any (sort.item_value m) c text h = refl
-takes-any (sort.inline m) c text h = refl
-takes-any (sort.action a) c text h = refl
-
-tried-plainly : (a b k : Bool) (s : State) (bound : Option ℕ) (next : Option ℕ → Run) (last : Run) → k ≡ true
-    → unless a disabled s >>= unless b readonly >>= unless (not k) not_an_item >>= next bound >>= last
-    ≡ unless a disabled s >>= unless b readonly >>= (λ t. Ok bound) >>= (λ m. next m s >>= last)
-tried-plainly true b k s bound next last h = refl
-tried-plainly false true k s bound next last h = refl
-tried-plainly false false false s bound next last h = cc
-tried-plainly false false true s bound next last h = refl
-
-set-some : (p : Profile) (n : ℕ) (text : List ℕ) (s : State) (o : Option Copy) (last : Run) → is_plain (interface s) ≡ true
-    → or_no_target s o >>= (λ c. try_set n c text s >>= set_bound p text c.node >>= last)
-    ≡ or_no_target s o >>= copy_tried s >>= (λ node. set_bound p text node s >>= last)
-set-some p n text s None last h = refl
-set-some p n text s (Some c) last h =
-    tried-plainly (not c.enabled) (not c.readwrite) (takes_text (element_at (interface s) n).sort c text) s c.node (set_bound p text) last
-    (takes-any (element_at (interface s) n).sort c text (plain-at (interface s) n h))
-
-set-is : (n : ℕ) (rows text : List ℕ) (s : State) → Rowless s → is_plain (interface s) ≡ true → set profile [] n rows text s ≡ set_tried profile n rows text s
-set-is n rows text s q h = (state_without_rows profile s steps q).sets [] n rows text ∙ set-some profile n text s (copy_at n rows s) (settle profile []) h
 
 -- ---- what an event names
 
 abbrev target_of : Wanted → List ℕ → State → Result ℕ Refused
-target_of wanted id s = or_no_target s (element_named s (by_role s (is_wanted wanted)) id)
+target_of wanted id s = or_no_target s (element_named s (wanted_in wanted s) id)
 
 -- ---- a text is set
+
+-- what is done with the node that is found
+abbrev set_at : ℕ → List ℕ → List ℕ → State → Option ℕ → Result State Refused
+set_at n rows text s node = take_rows profile n rows s >>= set_bound profile text node >>= settle profile []
+
+set-tried : (a b k : Bool) (s : State) (bound : Option ℕ) (take : Run) (next : Option ℕ → Run) (last : Run)
+    → unless a disabled s >>= unless b readonly >>= unless k not_an_item >>= take >>= next bound >>= last
+    ≡ unless a disabled s >>= unless b readonly >>= unless k not_an_item >>= (λ t. Ok bound) >>= (λ node. take s >>= next node >>= last)
+set-tried true b k s bound take next last = refl
+set-tried false true k s bound take next last = refl
+set-tried false false true s bound take next last = refl
+set-tried false false false s bound take next last = refl
+
+set-some : (g : Result Copy Refused) (n : ℕ) (rows text : List ℕ) (s : State)
+    → g >>= (λ c. try_set n c text s >>= take_rows profile n rows >>= set_bound profile text c.node >>= settle profile [])
+    ≡ g >>= (λ c. try_set n c text s >>= λ t. Ok c.node) >>= set_at n rows text s
+set-some (Err r) n rows text s = refl
+set-some (Ok c) n rows text s =
+    set-tried (not c.enabled) (not c.readwrite) (not (takes_text (element_at (interface s) n).sort c text)) s c.node (take_rows profile n rows) (set_bound profile text) (settle profile [])
+
+set-is : (n : ℕ) (rows text : List ℕ) (s : State) → set profile [] n rows text s ≡ node_tried profile n rows text s >>= set_at n rows text s
+set-is n rows text s = set-some (copy_named profile s n rows) n rows text s
 
 pub set-unnamed : (s : State) (id rows text : List ℕ) (why : Option Refusal) (calls : List StoreCall)
     → Refuses why calls (target_of Entry id s) → Refuses why calls (changed_by profile [] (Set id rows text) s)
 set-unnamed s id rows text why calls r = refuses-then why calls (target_of Entry id s) (λ n. set profile [] n rows text s) r
 
-set-named : (s : State) (id rows text : List ℕ) (n : ℕ) → Rowless s → is_plain (interface s) ≡ true → target_of Entry id s ≡ Ok n
-    → changed_by profile [] (Set id rows text) s ≡ set_tried profile n rows text s
-set-named s id rows text n q h e = then-next (target_of Entry id s) (λ m. set profile [] m rows text s) n e ∙ set-is n rows text s q h
+set-named : (s : State) (id rows text : List ℕ) (n : ℕ) → target_of Entry id s ≡ Ok n
+    → changed_by profile [] (Set id rows text) s ≡ node_tried profile n rows text s >>= set_at n rows text s
+set-named s id rows text n e = then-next (target_of Entry id s) (λ m. set profile [] m rows text s) n e ∙ set-is n rows text s
 
-pub set-untried : (s : State) (id rows text : List ℕ) (n : ℕ) (why : Option Refusal) (calls : List StoreCall) → Rowless s → is_plain (interface s) ≡ true
-    → target_of Entry id s ≡ Ok n → Refuses why calls (node_tried n rows s) → Refuses why calls (changed_by profile [] (Set id rows text) s)
-set-untried s id rows text n why calls q h e r =
-    same-refuses why calls _ _ (set-named s id rows text n q h e)
-    (refuses-then why calls (node_tried n rows s) (λ node. set_bound profile text node s >>= settle profile []) r)
+pub set-untried : (s : State) (id rows text : List ℕ) (n : ℕ) (why : Option Refusal) (calls : List StoreCall) → target_of Entry id s ≡ Ok n
+    → Refuses why calls (node_tried profile n rows text s) → Refuses why calls (changed_by profile [] (Set id rows text) s)
+set-untried s id rows text n why calls e r =
+    same-refuses why calls _ _ (set-named s id rows text n e) (refuses-then why calls (node_tried profile n rows text s) (set_at n rows text s) r)
 
-set-found : (s : State) (id rows text : List ℕ) (n : ℕ) (node : Option ℕ) → Rowless s → is_plain (interface s) ≡ true
-    → target_of Entry id s ≡ Ok n → node_tried n rows s ≡ Ok node → changed_by profile [] (Set id rows text) s ≡ set_bound profile text node s >>= settle profile []
-set-found s id rows text n node q h e k =
-    set-named s id rows text n q h e ∙ then-next (node_tried n rows s) (λ m. set_bound profile text m s >>= settle profile []) node k
+set-found : (s : State) (id rows text : List ℕ) (n : ℕ) (node : Option ℕ) → target_of Entry id s ≡ Ok n → node_tried profile n rows text s ≡ Ok node
+    → changed_by profile [] (Set id rows text) s ≡ set_at n rows text s node
+set-found s id rows text n node e k = set-named s id rows text n e ∙ then-next (node_tried profile n rows text s) (set_at n rows text s) node k
 
-pub set-unset : (s : State) (id rows text : List ℕ) (n : ℕ) (node : Option ℕ) (why : Option Refusal) (calls : List StoreCall) → Rowless s
-    → is_plain (interface s) ≡ true → target_of Entry id s ≡ Ok n → node_tried n rows s ≡ Ok node → Refuses why calls (set_bound profile text node s)
+pub set-untaken : (s : State) (id rows text : List ℕ) (n : ℕ) (node : Option ℕ) (why : Option Refusal) (calls : List StoreCall)
+    → target_of Entry id s ≡ Ok n → node_tried profile n rows text s ≡ Ok node → Refuses why calls (take_rows profile n rows s)
     → Refuses why calls (changed_by profile [] (Set id rows text) s)
-set-unset s id rows text n node why calls q h e k r =
-    same-refuses why calls _ _ (set-found s id rows text n node q h e k) (refuses-then why calls (set_bound profile text node s) (settle profile []) r)
+set-untaken s id rows text n node why calls e k r =
+    same-refuses why calls _ _ (set-found s id rows text n node e k)
+    (refuses-then why calls (take_rows profile n rows s >>= set_bound profile text node) (settle profile [])
+    (refuses-then why calls (take_rows profile n rows s) (set_bound profile text node) r))
 
-pub set-settles : (s t : State) (id rows text : List ℕ) (n : ℕ) (node : Option ℕ) → Rowless s → is_plain (interface s) ≡ true
-    → target_of Entry id s ≡ Ok n → node_tried n rows s ≡ Ok node → set_bound profile text node s ≡ Ok t
-    → changed_by profile [] (Set id rows text) s ≡ settle profile [] t
-set-settles s t id rows text n node q h e k b = set-found s id rows text n node q h e k ∙ then-next (set_bound profile text node s) (settle profile []) t b
+set-taken : (s t : State) (id rows text : List ℕ) (n : ℕ) (node : Option ℕ) → target_of Entry id s ≡ Ok n → node_tried profile n rows text s ≡ Ok node
+    → take_rows profile n rows s ≡ Ok t → changed_by profile [] (Set id rows text) s ≡ set_bound profile text node t >>= settle profile []
+set-taken s t id rows text n node e k b =
+    set-found s id rows text n node e k ∙ ap (λ r. r >>= set_bound profile text node >>= settle profile []) b
+
+pub set-unset : (s t : State) (id rows text : List ℕ) (n : ℕ) (node : Option ℕ) (why : Option Refusal) (calls : List StoreCall)
+    → target_of Entry id s ≡ Ok n → node_tried profile n rows text s ≡ Ok node → take_rows profile n rows s ≡ Ok t
+    → Refuses why calls (set_bound profile text node t) → Refuses why calls (changed_by profile [] (Set id rows text) s)
+set-unset s t id rows text n node why calls e k b r =
+    same-refuses why calls _ _ (set-taken s t id rows text n node e k b) (refuses-then why calls (set_bound profile text node t) (settle profile []) r)
+
+pub set-settles : (s t u : State) (id rows text : List ℕ) (n : ℕ) (node : Option ℕ) → target_of Entry id s ≡ Ok n
+    → node_tried profile n rows text s ≡ Ok node → take_rows profile n rows s ≡ Ok t → set_bound profile text node t ≡ Ok u
+    → changed_by profile [] (Set id rows text) s ≡ settle profile [] u
+set-settles s t u id rows text n node e k b j =
+    set-taken s t id rows text n node e k b ∙ then-next (set_bound profile text node t) (settle profile []) u j
+
+-- where no copy stands in the rows, nothing is tried
+pub node-uncopied : (s : State) (n : ℕ) (rows text : List ℕ) (why : Option Refusal) (calls : List StoreCall)
+    → Refuses why calls (copy_named profile s n rows) → Refuses why calls (node_tried profile n rows text s)
+node-uncopied s n rows text why calls r = refuses-then why calls (copy_named profile s n rows) (λ c. try_set n c text s >>= λ t. Ok c.node) r
 
 -- ---- the text of a node
 
@@ -137,48 +113,114 @@ parent-allows false n next s h = refl
 
 -- ---- a trigger is activated
 
--- so much is done before it is told
-abbrev settled : ℕ → List ℕ → Run
-settled n rows s = enabled_tried n rows s >>= settle profile []
+-- what is done with the event that is made
+abbrev activate_by : ℕ → List ℕ → State → Fired → Result State Refused
+activate_by n rows s e = take_rows profile n rows s >>= settle profile [] >>= tell profile [] e
 
-first-two : (g : Result Copy Refused) (tried : Copy → Result State Refused) (next last : Run) → g >>= (λ c. tried c >>= next >>= last) ≡ (g >>= tried) >>= next >>= last
-first-two (Err r) tried next last = refl
-first-two (Ok c) tried next last = refl
+activate-tried : (a : Bool) (s : State) (take settled : Run) (last : Fired → Run) (e : Fired)
+    → unless a disabled s >>= take >>= settled >>= last e ≡ unless a disabled s >>= (λ t. Ok e) >>= (λ x. take s >>= settled >>= last x)
+activate-tried true s take settled last e = refl
+activate-tried false s take settled last e = refl
 
-activate-is : (n : ℕ) (rows : List ℕ) (s : State) → Rowless s → activate profile [] n rows s ≡ settled n rows s >>= told_plainly profile (codes "DOMActivate") n
-activate-is n rows s q =
-    (state_without_rows profile s steps q).activates [] n rows
-    ∙ first-two (or_no_target s (copy_at n rows s)) (λ c. unless (not c.enabled) disabled s) (settle profile []) (tell profile [] (plainly (codes "DOMActivate") n []))
+activate-some : (g : Result Copy Refused) (n : ℕ) (rows : List ℕ) (s : State)
+    → g >>= (λ c. unless (not c.enabled) disabled s >>= take_rows profile n rows >>= settle profile [] >>= tell profile [] (plainly (codes "DOMActivate") n c.rows))
+    ≡ g >>= (λ c. unless (not c.enabled) disabled s >>= λ t. Ok (plainly (codes "DOMActivate") n c.rows)) >>= activate_by n rows s
+activate-some (Err r) n rows s = refl
+activate-some (Ok c) n rows s =
+    activate-tried (not c.enabled) s (take_rows profile n rows) (settle profile []) (tell profile []) (plainly (codes "DOMActivate") n c.rows)
+
+activate-is : (n : ℕ) (rows : List ℕ) (s : State) → activate profile [] n rows s ≡ activation_tried profile n rows s >>= activate_by n rows s
+activate-is n rows s = activate-some (copy_named profile s n rows) n rows s
 
 pub activate-unnamed : (s : State) (id rows : List ℕ) (why : Option Refusal) (calls : List StoreCall)
     → Refuses why calls (target_of Trigger id s) → Refuses why calls (changed_by profile [] (Activate id rows) s)
 activate-unnamed s id rows why calls r = refuses-then why calls (target_of Trigger id s) (λ n. activate profile [] n rows s) r
 
-activate-named : (s : State) (id rows : List ℕ) (n : ℕ) → Rowless s → target_of Trigger id s ≡ Ok n
-    → changed_by profile [] (Activate id rows) s ≡ settled n rows s >>= told_plainly profile (codes "DOMActivate") n
-activate-named s id rows n q e = then-next (target_of Trigger id s) (λ m. activate profile [] m rows s) n e ∙ activate-is n rows s q
+activate-named : (s : State) (id rows : List ℕ) (n : ℕ) → target_of Trigger id s ≡ Ok n
+    → changed_by profile [] (Activate id rows) s ≡ activation_tried profile n rows s >>= activate_by n rows s
+activate-named s id rows n e = then-next (target_of Trigger id s) (λ m. activate profile [] m rows s) n e ∙ activate-is n rows s
 
-pub activate-untried : (s : State) (id rows : List ℕ) (n : ℕ) (why : Option Refusal) (calls : List StoreCall) → Rowless s
-    → target_of Trigger id s ≡ Ok n → Refuses why calls (enabled_tried n rows s) → Refuses why calls (changed_by profile [] (Activate id rows) s)
-activate-untried s id rows n why calls q e r =
-    same-refuses why calls _ _ (activate-named s id rows n q e)
-    (refuses-then why calls (settled n rows s) (told_plainly profile (codes "DOMActivate") n) (refuses-then why calls (enabled_tried n rows s) (settle profile []) r))
+pub activate-untried : (s : State) (id rows : List ℕ) (n : ℕ) (why : Option Refusal) (calls : List StoreCall) → target_of Trigger id s ≡ Ok n
+    → Refuses why calls (activation_tried profile n rows s) → Refuses why calls (changed_by profile [] (Activate id rows) s)
+activate-untried s id rows n why calls e r =
+    same-refuses why calls _ _ (activate-named s id rows n e) (refuses-then why calls (activation_tried profile n rows s) (activate_by n rows s) r)
 
-activate-tried : (s t : State) (id rows : List ℕ) (n : ℕ) → Rowless s → target_of Trigger id s ≡ Ok n → enabled_tried n rows s ≡ Ok t
-    → changed_by profile [] (Activate id rows) s ≡ settle profile [] t >>= told_plainly profile (codes "DOMActivate") n
-activate-tried s t id rows n q e k =
-    activate-named s id rows n q e ∙ ap (λ r. r >>= settle profile [] >>= told_plainly profile (codes "DOMActivate") n) k
+activate-found : (s : State) (id rows : List ℕ) (n : ℕ) (x : Fired) → target_of Trigger id s ≡ Ok n → activation_tried profile n rows s ≡ Ok x
+    → changed_by profile [] (Activate id rows) s ≡ activate_by n rows s x
+activate-found s id rows n x e k = activate-named s id rows n e ∙ then-next (activation_tried profile n rows s) (activate_by n rows s) x k
 
-pub activate-unsettled : (s t : State) (id rows : List ℕ) (n : ℕ) (why : Option Refusal) (calls : List StoreCall) → Rowless s
-    → target_of Trigger id s ≡ Ok n → enabled_tried n rows s ≡ Ok t → Refuses why calls (settle profile [] t)
+pub activate-untaken : (s : State) (id rows : List ℕ) (n : ℕ) (x : Fired) (why : Option Refusal) (calls : List StoreCall) → target_of Trigger id s ≡ Ok n
+    → activation_tried profile n rows s ≡ Ok x → Refuses why calls (take_rows profile n rows s)
     → Refuses why calls (changed_by profile [] (Activate id rows) s)
-activate-unsettled s t id rows n why calls q e k r =
-    same-refuses why calls _ _ (activate-tried s t id rows n q e k) (refuses-then why calls (settle profile [] t) (told_plainly profile (codes "DOMActivate") n) r)
+activate-untaken s id rows n x why calls e k r =
+    same-refuses why calls _ _ (activate-found s id rows n x e k)
+    (refuses-then why calls (take_rows profile n rows s >>= settle profile []) (tell profile [] x)
+    (refuses-then why calls (take_rows profile n rows s) (settle profile []) r))
 
-pub activate-tells : (s t u : State) (id rows : List ℕ) (n : ℕ) → Rowless s → target_of Trigger id s ≡ Ok n → enabled_tried n rows s ≡ Ok t
-    → settle profile [] t ≡ Ok u → changed_by profile [] (Activate id rows) s ≡ told_plainly profile (codes "DOMActivate") n u
-activate-tells s t u id rows n q e k b =
-    activate-tried s t id rows n q e k ∙ then-next (settle profile [] t) (told_plainly profile (codes "DOMActivate") n) u b
+activate-taken : (s t : State) (id rows : List ℕ) (n : ℕ) (x : Fired) → target_of Trigger id s ≡ Ok n → activation_tried profile n rows s ≡ Ok x
+    → take_rows profile n rows s ≡ Ok t → changed_by profile [] (Activate id rows) s ≡ settle profile [] t >>= tell profile [] x
+activate-taken s t id rows n x e k b = activate-found s id rows n x e k ∙ ap (λ r. r >>= settle profile [] >>= tell profile [] x) b
+
+pub activate-unsettled : (s t : State) (id rows : List ℕ) (n : ℕ) (x : Fired) (why : Option Refusal) (calls : List StoreCall)
+    → target_of Trigger id s ≡ Ok n → activation_tried profile n rows s ≡ Ok x → take_rows profile n rows s ≡ Ok t
+    → Refuses why calls (settle profile [] t) → Refuses why calls (changed_by profile [] (Activate id rows) s)
+activate-unsettled s t id rows n x why calls e k b r =
+    same-refuses why calls _ _ (activate-taken s t id rows n x e k b) (refuses-then why calls (settle profile [] t) (tell profile [] x) r)
+
+pub activate-tells : (s t u : State) (id rows : List ℕ) (n : ℕ) (x : Fired) → target_of Trigger id s ≡ Ok n → activation_tried profile n rows s ≡ Ok x
+    → take_rows profile n rows s ≡ Ok t → settle profile [] t ≡ Ok u → changed_by profile [] (Activate id rows) s ≡ tell profile [] x u
+activate-tells s t u id rows n x e k b j = activate-taken s t id rows n x e k b ∙ then-next (settle profile [] t) (tell profile [] x) u j
+
+pub activation-uncopied : (s : State) (n : ℕ) (rows : List ℕ) (why : Option Refusal) (calls : List StoreCall)
+    → Refuses why calls (copy_named profile s n rows) → Refuses why calls (activation_tried profile n rows s)
+activation-uncopied s n rows why calls r =
+    refuses-then why calls (copy_named profile s n rows) (λ c. unless (not c.enabled) disabled s >>= λ t. Ok (plainly (codes "DOMActivate") n c.rows)) r
+
+-- ---- an index is set
+
+index-some : (g : Result (List ℕ) Refused) (tried : List ℕ → Result State Refused) (next last : Run)
+    → g >>= (λ rows. tried rows >>= next >>= last) ≡ (g >>= λ rows. tried rows) >>= next >>= last
+index-some (Err r) tried next last = refl
+index-some (Ok rows) tried next last = refl
+
+index-is : (r k : ℕ) (s : State)
+    → index profile [] r k s ≡ index_tried profile r k s >>= set_index profile (model_around (interface s) r) r k >>= settle profile []
+index-is r k s =
+    index-some (or_long s (rows_now (interface s) (quiet profile s) s.indexes r)) (λ rows. unless (not (is_row rows k)) bad_index s)
+    (set_index profile (model_around (interface s) r) r k) (settle profile [])
+
+pub index-unnamed : (s : State) (id : List ℕ) (k : ℕ) (why : Option Refusal) (calls : List StoreCall)
+    → Refuses why calls (target_of Repeat id s) → Refuses why calls (changed_by profile [] (Index id k) s)
+index-unnamed s id k why calls q = refuses-then why calls (target_of Repeat id s) (λ r. index profile [] r k s) q
+
+index-named : (s : State) (id : List ℕ) (k r : ℕ) → target_of Repeat id s ≡ Ok r
+    → changed_by profile [] (Index id k) s ≡ index_tried profile r k s >>= set_index profile (model_around (interface s) r) r k >>= settle profile []
+index-named s id k r e = then-next (target_of Repeat id s) (λ m. index profile [] m k s) r e ∙ index-is r k s
+
+pub index-untried : (s : State) (id : List ℕ) (k r : ℕ) (why : Option Refusal) (calls : List StoreCall) → target_of Repeat id s ≡ Ok r
+    → Refuses why calls (index_tried profile r k s) → Refuses why calls (changed_by profile [] (Index id k) s)
+index-untried s id k r why calls e q =
+    let model = model_around (interface s) r in
+    same-refuses why calls _ _ (index-named s id k r e)
+    (refuses-then why calls (index_tried profile r k s >>= set_index profile model r k) (settle profile [])
+    (refuses-then why calls (index_tried profile r k s) (set_index profile model r k) q))
+
+index-tried : (s : State) (id : List ℕ) (k r model : ℕ) → target_of Repeat id s ≡ Ok r → index_tried profile r k s ≡ Ok s
+    → model_around (interface s) r ≡ model → changed_by profile [] (Index id k) s ≡ set_index profile model r k s >>= settle profile []
+index-tried s id k r model e t m =
+    index-named s id k r e
+    ∙ ap (λ g. g >>= set_index profile (model_around (interface s) r) r k >>= settle profile []) t
+    ∙ ap (λ n. set_index profile n r k s >>= settle profile []) m
+
+pub index-unset : (s : State) (id : List ℕ) (k r model : ℕ) (why : Option Refusal) (calls : List StoreCall) → target_of Repeat id s ≡ Ok r
+    → index_tried profile r k s ≡ Ok s → model_around (interface s) r ≡ model → Refuses why calls (set_index profile model r k s)
+    → Refuses why calls (changed_by profile [] (Index id k) s)
+index-unset s id k r model why calls e t m q =
+    same-refuses why calls _ _ (index-tried s id k r model e t m) (refuses-then why calls (set_index profile model r k s) (settle profile []) q)
+
+pub index-settles : (s u : State) (id : List ℕ) (k r model : ℕ) → target_of Repeat id s ≡ Ok r → index_tried profile r k s ≡ Ok s
+    → model_around (interface s) r ≡ model → set_index profile model r k s ≡ Ok u → changed_by profile [] (Index id k) s ≡ settle profile [] u
+index-settles s u id k r model e t m j = index-tried s id k r model e t m ∙ then-next (set_index profile model r k s) (settle profile []) u j
 
 -- ---- an event is dispatched
 
@@ -186,10 +228,8 @@ pub dispatch-unnamed : (s : State) (name id : List ℕ) (why : Option Refusal) (
     → Refuses why calls (target_of Any id s) → Refuses why calls (changed_by profile [] (Dispatch name id) s)
 dispatch-unnamed s name id why calls r = refuses-then why calls (target_of Any id s) (λ n. to_element profile [] name n s) r
 
-pub dispatch-tells : (s : State) (name id : List ℕ) (n : ℕ) → Rowless s → target_of Any id s ≡ Ok n
-    → changed_by profile [] (Dispatch name id) s ≡ told_plainly profile name n s
-dispatch-tells s name id n q e =
-    then-next (target_of Any id s) (λ m. to_element profile [] name m s) n e ∙ (state_without_rows profile s steps q).to_element [] name n
+pub dispatch-tells : (s : State) (name id : List ℕ) (n : ℕ) → target_of Any id s ≡ Ok n → changed_by profile [] (Dispatch name id) s ≡ to_element profile [] name n s
+dispatch-tells s name id n e = then-next (target_of Any id s) (λ m. to_element profile [] name m s) n e
 
 -- ---- a model is reset
 
@@ -197,17 +237,24 @@ pub reset-unnamed : (s : State) (id : List ℕ) (why : Option Refusal) (calls : 
     → Refuses why calls (or_no_target s (model_named s id)) → Refuses why calls (changed_by profile [] (Reset id) s)
 reset-unnamed s id why calls r = refuses-then why calls (or_no_target s (model_named s id)) (λ n. to_element profile [] (codes "xforms-reset") n s) r
 
-pub reset-tells : (s : State) (id : List ℕ) (n : ℕ) → Rowless s → or_no_target s (model_named s id) ≡ Ok n
-    → changed_by profile [] (Reset id) s ≡ told_plainly profile (codes "xforms-reset") n s
-reset-tells s id n q e =
-    then-next (or_no_target s (model_named s id)) (λ m. to_element profile [] (codes "xforms-reset") m s) n e
-    ∙ (state_without_rows profile s steps q).to_element [] (codes "xforms-reset") n
+pub reset-tells : (s : State) (id : List ℕ) (n : ℕ) → or_no_target s (model_named s id) ≡ Ok n
+    → changed_by profile [] (Reset id) s ≡ to_element profile [] (codes "xforms-reset") n s
+reset-tells s id n e = then-next (or_no_target s (model_named s id)) (λ m. to_element profile [] (codes "xforms-reset") m s) n e
 
--- ---- an event at hand
+-- ---- an event at hand, and one at a copy in the indexed rows
 
 -- one that is made as it is asked for
-abbrev fine : Fired → Result Fired Refused
-fine e = Ok e
+abbrev fine : {X : Type 0} → X → Result X Refused
+fine x = Ok x
 
 pub told-as : (e made : Fired) (s : State) → fine e ≡ Ok made → tell profile [] e s ≡ tell profile [] made s
 told-as e made s h = let same : e ≡ made = cc in ap (λ (x : Fired). tell profile [] x s) same
+
+abbrev tells_in : List ℕ → ℕ → List ℕ → Run
+tells_in name n rows t = tell profile [] (fired name true true [] n rows) t
+
+pub told-in : (s : State) (name : List ℕ) (n : ℕ) (o : Option (List ℕ)) (rows : List ℕ) (made : Fired) → fine (named_copy s n) ≡ Ok o → o ≡ Some rows
+    → fine (fired name true true [] n rows) ≡ Ok made → to_element profile [] name n s ≡ tell profile [] made s
+told-in s name n o rows made h is q =
+    let found : named_copy s n ≡ o = cc in
+    ap (λ o. where_some o (tells_in name n) s) (found ∙ is) ∙ told-as (fired name true true [] n rows) made s q

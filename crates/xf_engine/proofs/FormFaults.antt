@@ -8,14 +8,17 @@ use Rattle.xf_doc.specs.Shape.{shape_of}
 use Rattle.xf_model.specs.Applied.{Entry, Exception, twice, on_parent, applied}
 use Rattle.xf_model.specs.Circular.{Reader}
 use Rattle.xf_model.specs.Entries.{edge_count}
+use Rattle.xf_ui.specs.Cases.{first_cases}
 use Rattle.xf_ui.specs.Copies.{Copy, copies, copy_count}
+use Rattle.xf_ui.specs.Index.{Index, Stop, brought_up}
+use Rattle.xf_ui.specs.Started.{started}
 use Rattle.xf_form_machine.specs.declared.limit.LimitWord.{LimitWord}
 use Rattle.xf_form_machine.specs.declared.limit.LimitWord.TheVariants.{Controls, Edges}
 use Rattle.xf_form_machine.specs.Behave.{asked_by_all, rebuilt_with, unless_cycle, no_cycle, by_applied, rebuild, recalculate, revalidate}
-use Rattle.xf_form_machine.specs.Construct.{plant_document, rooted, build_model, first_shown, unbuilt, construct}
+use Rattle.xf_form_machine.specs.Construct.{plant_document, rooted, build_model, first_shown, start_indexes, unbuilt, construct}
 use Rattle.xf_form_machine.specs.Cycles.{counted_from}
 use Rattle.xf_form_machine.specs.Flow.{Run, ◌>>=◌, in_turn}
-use Rattle.xf_form_machine.specs.Primitives.{grown, in_model, over_made}
+use Rattle.xf_form_machine.specs.Primitives.{grown, in_model, over_made, with_indexes}
 use Rattle.xf_form_machine.specs.Profile.{Profile}
 use Rattle.xf_form_machine.specs.Program.{Program}
 use Rattle.xf_form_machine.specs.Properties.{marks_in}
@@ -23,13 +26,12 @@ use Rattle.xf_form_machine.specs.Refusal as machine
 use Rattle.xf_form_machine.specs.Refusal.{Refused, unless_passed, if_over, or_long}
 use Rattle.xf_form_machine.specs.State.{State}
 use Rattle.xf_form_machine.specs.Surround.{interface, quiet, bind_scope}
-use Rattle.xf_form_machine.specs.Update.{shown}
-use Rattle.xf_machine_laws.specs.Rowless.{IsWithoutRows, HasSteps, construct_plainly}
-use Rattle.xf_machine_laws.proofs.RowlessLaws.{constructs_plainly}
+use Rattle.xf_form_machine.specs.Update.{reindex, shown, with_brought}
 use Rattle.xf_form_machine.specs.declared.refusal.Refusal.{Refusal}
 use Rattle.xf_form_machine.specs.declared.refusal.Refusal.TheVariants.{NoSuchTarget, Disabled, ReadOnly, NotAnItem, BadIndex, PropertyTwice, CalculateOnParent, Binding, Circular, Limit, Budget, Depth, Sends}
 use Rattle.xf_form_machine.specs.Told.{Tells}
 use Rattle.xf_work.specs.Does.{IsRefused}
+use Rattle.xf_engine.specs.Constructed.{all_built, built_and_shown, rows_started}
 use Rattle.xf_engine.specs.Stepped.{is_of_form}
 
 -- ---- a reason
@@ -135,19 +137,33 @@ of-shown p s =
 of-first-shown : (p : Profile) (s : State) → OfForm (first_shown p s)
 of-first-shown p s = of-then (shown p s) (λ list. Ok (record s { controls = list })) (of-shown p s) (λ list. so _ refl)
 
-of-constructed : (p : Profile) (form : Program) → OfForm (construct_plainly p form)
+of-long : {X : Type 0} (s : State) (o : Option X) → OfForm (or_long s o)
+of-long s None = so _ refl
+of-long s (Some x) = so _ refl
+
+of-brought : (s : State) (r : Result (List Index) Stop) → OfForm (with_brought s r)
+of-brought s (Err stop) = so _ refl
+of-brought s (Ok indexes) = so _ refl
+
+of-started : (p : Profile) (s : State) → OfForm (start_indexes p s)
+of-started p s =
+    of-then (or_long s (started (interface s) (quiet p s))) (λ indexes. reindex p [] (with_indexes indexes s))
+    (of-long s (started (interface s) (quiet p s)))
+    (λ indexes. let t = with_indexes indexes s in of-brought t (brought_up p.passes (interface t) (quiet p t) [] t.indexes))
+
+of-shown-rows : (p : Profile) (s : State) → OfForm (rows_started p s >>= first_shown p)
+of-shown-rows p s = of-then (rows_started p s) (first_shown p) (of-started p (record s { cases = first_cases (interface s) })) (of-first-shown p)
+
+of-constructed : (p : Profile) (form : Program) → OfForm (construct p form)
 of-constructed p form =
-    of-then (in_turn (plant_document p) form.documents (unbuilt p form)) (λ s. in_turn (build_model p) (counted_from 0 (length s.models)) s >>= first_shown p)
+    of-then (in_turn (plant_document p) form.documents (unbuilt p form)) (built_and_shown p)
     (of-turn (plant_document p) form.documents (unbuilt p form) (of-planted p))
-    (λ s. of-then (in_turn (build_model p) (counted_from 0 (length s.models)) s) (first_shown p)
-    (of-turn (build_model p) (counted_from 0 (length s.models)) s (of-built p)) (of-first-shown p))
+    (λ s. of-then (all_built p s) (λ t. rows_started p t >>= first_shown p)
+    (of-turn (build_model p) (counted_from 0 (length s.models)) s (of-built p)) (of-shown-rows p))
 
 refused-fault : {X : Type 0} (refusal : Refusal) (r : Result X Refused) → OfForm r → IsRefused refusal r → is_of_form refusal ≡ true
 refused-fault refusal (Ok x) h q = absurd q
 refused-fault refusal (Err r) h q = told-fault refusal r.why q.0 h.is
 
-pub construct-fault : (p : Profile) (form : Program) (refusal : Refusal) → HasSteps p → IsWithoutRows form.interface
-    → IsRefused refusal (construct p form) → is_of_form refusal ≡ true
-construct-fault p form refusal st q h =
-    refused-fault refusal (construct p form)
-    (subst (λ (r : Result State Refused). OfForm r) (sym (constructs_plainly p form st q)) (of-constructed p form)) h
+pub construct-fault : (p : Profile) (form : Program) (refusal : Refusal) → IsRefused refusal (construct p form) → is_of_form refusal ≡ true
+construct-fault p form refusal h = refused-fault refusal (construct p form) (of-constructed p form) h

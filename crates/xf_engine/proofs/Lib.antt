@@ -3,6 +3,7 @@ pub mod Keeps
 pub mod FormFaults
 pub mod ConstructionLaws
 pub mod NamingLaws
+pub mod RowLaws
 pub mod EventLaws
 pub mod StartLaws
 pub mod Told

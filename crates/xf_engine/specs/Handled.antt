@@ -1,5 +1,5 @@
 -- An event that is handled and counted, and what stands between events.
-use Rattle.std.specs.Prelude.{ℕ, ◌≡◌, false, List, ◌++◌, Result, Ok, Err}
+use Rattle.std.specs.Prelude.{ℕ, ◌≡◌, true, List, ◌++◌, Result, Ok, Err}
 use Rattle.xf_form_machine.specs.State.{State}
 use Rattle.xf_form_machine.specs.Refusal.{Refused}
 use Rattle.xf_form_machine.specs.Flow.{◌>>=◌}
@@ -18,7 +18,7 @@ use Rattle.xf_world.specs.State.{kept_of, state_of}
 pub record IsHandled (count : ℕ) (after : State) (old new : List ℕ) (given : Result State Refused) : Type 0 where
   pub is : given >>= (λ t. Ok (one_more t)) ≡ Ok after
   pub evaluated : after.evaluated ≡ count
-  pub lines : new ≡ old ++ ok_text false after (posted after)
+  pub lines : new ≡ old ++ ok_text true after (posted after)
 
 abbrev pub Handles : Result ℕ EventFault → State → List ℕ → List ℕ → Result State Refused → Type 0
 Handles (Ok count) after old new given = IsHandled count after old new given

@@ -43,7 +43,7 @@ as_result (refused why calls) = Err (record { why = why; calls = calls })
 -- so many evaluations count, and the lines of the answer are appended to a text
 abbrev pub IsStepped : Standing → Result ℕ EventFault → Standing → List ℕ → List ℕ → Outcome → Type 0
 IsStepped before (Ok count) after old new given =
-    (posted : Posted) × IsAccepted given (state_of after) posted × (posted.evaluated ≡ count) × (new ≡ old ++ ok_text false (state_of after) posted)
+    (posted : Posted) × IsAccepted given (state_of after) posted × (posted.evaluated ≡ count) × (new ≡ old ++ ok_text true (state_of after) posted)
 IsStepped before (Err (Refused refusal)) after old new given = IsRefused refusal (as_result given) × (after ≡ before)
 IsStepped before (Err Memory) after old new given = after ≡ before
 

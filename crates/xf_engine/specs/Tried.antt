@@ -1,28 +1,28 @@
--- What is tried before the text of a control is set and before a trigger is activated, in a form without selects and rows: all texts are allowed.
-use Rattle.std.specs.Prelude.{ℕ, true, not, List, [], Option, Result, Ok}
-use Rattle.xf_ui.specs.Copies.{Copy}
-use Rattle.xf_form_machine.specs.Events.{fired}
+-- What is tried before the text of a control is set, a trigger activated and an index set.
+use Rattle.std.specs.Prelude.{ℕ, not, List, codes, Option, Result, Ok}
+use Rattle.xf_ui.specs.Index.{rows_now}
+use Rattle.xf_form_machine.specs.Choose.{set_index}
+use Rattle.xf_form_machine.specs.Events.{Fired, plainly}
 use Rattle.xf_form_machine.specs.Profile.{Profile}
 use Rattle.xf_form_machine.specs.State.{State}
-use Rattle.xf_form_machine.specs.Refusal.{Refused, disabled, readonly}
+use Rattle.xf_form_machine.specs.Refusal.{Refused, bad_index, disabled, or_long}
 use Rattle.xf_form_machine.specs.Flow.{Run, ◌>>=◌}
-use Rattle.xf_form_machine.specs.Targets.{or_no_target, unless}
-use Rattle.xf_form_machine.specs.Step.{set_bound, settle, tell}
-use Rattle.xf_machine_laws.specs.Rowless.{copy_at}
+use Rattle.xf_form_machine.specs.Surround.{interface, quiet}
+use Rattle.xf_form_machine.specs.Targets.{copy_named, model_around, unless}
+use Rattle.xf_form_machine.specs.Step.{is_row, try_set}
 
-abbrev pub copy_tried : State → Copy → Result (Option ℕ) Refused
-copy_tried s c = unless (not c.enabled) disabled s >>= unless (not c.readwrite) readonly >>= λ t. Ok c.node
+-- the node that the copy binds, where the text may be set
+abbrev pub node_tried : Profile → ℕ → List ℕ → List ℕ → State → Result (Option ℕ) Refused
+node_tried p n rows text s = copy_named p s n rows >>= λ c. try_set n c text s >>= λ t. Ok c.node
 
--- the node that the control binds
-abbrev pub node_tried : ℕ → List ℕ → State → Result (Option ℕ) Refused
-node_tried n rows s = or_no_target s (copy_at n rows s) >>= copy_tried s
+-- the event that tells the copy, where it is enabled
+abbrev pub activation_tried : Profile → ℕ → List ℕ → State → Result Fired Refused
+activation_tried p n rows s = copy_named p s n rows >>= λ c. unless (not c.enabled) disabled s >>= λ t. Ok (plainly (codes "DOMActivate") n c.rows)
 
-abbrev pub set_tried : Profile → ℕ → List ℕ → List ℕ → Run
-set_tried p n rows text s = node_tried n rows s >>= λ node. set_bound p text node s >>= settle p []
+-- the number is one of the rows
+abbrev pub index_tried : Profile → ℕ → ℕ → Run
+index_tried p r k s = or_long s (rows_now (interface s) (quiet p s) s.indexes r) >>= λ rows. unless (not (is_row rows k)) bad_index s
 
-abbrev pub enabled_tried : ℕ → List ℕ → Run
-enabled_tried n rows s = or_no_target s (copy_at n rows s) >>= λ c. unless (not c.enabled) disabled s
-
--- an event without properties to the one copy of an element
-abbrev pub told_plainly : Profile → List ℕ → ℕ → Run
-told_plainly p name n = tell p [] (fired name true true [] n [])
+-- a repeat takes its number, as by setindex
+abbrev pub row_taken : Profile → ℕ × ℕ → Run
+row_taken p q s = set_index p (model_around (interface s) q.0) q.0 q.1 s

@@ -1,5 +1,5 @@
-//! How a form is constructed (XForms 1.1, section 4.2.1): its data are planted, its models built, its controls shown. A reset puts back the data as
-//! they are then.
+//! How a form is constructed (XForms 1.1, section 4.2.1): its data are planted, its models built, its indexes start, its controls are shown. A reset
+//! puts back the data as they are then.
 
 ghost use Rattle.std.specs.Prelude.{◌≡◌, ◌<◌, ◌+◌, length, OnOk};
 ghost use Rattle.xf_form_machine.specs.Construct.{build_model as builds, construct as constructs};
@@ -28,7 +28,7 @@ pub(crate) fn constructed(alloc: Global, loaded: Loaded) -> Result<Work, WorkFau
     }
 }
 
-/// Its models are built and its controls shown, and its data are kept as they are then.
+/// What follows the planting, and its data are kept as they are then.
 fn begin(work: &mut Work) -> Result<(), WorkFault>
     requires built { work.old.built ≡ 0 }
     requires planted { constructs profile (state_of work.old.now).form ≡ built_and_shown profile (state_of work.old.now) }
@@ -38,12 +38,13 @@ fn begin(work: &mut Work) -> Result<(), WorkFault>
     work.keep_first_data()
 }
 
-/// Its models are built and its controls shown.
+/// Its models are built, its indexes start, and its controls are shown.
 fn build_and_show(work: &mut Work) -> Result<(), WorkFault>
     requires { work.old.built ≡ 0 }
     ensures { Does result work.new.now (built_and_shown profile (state_of work.old.now)) }
 {
     build(work)?;
+    work.start_rows()?;
     work.show()
 }
 

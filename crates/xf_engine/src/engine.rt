@@ -93,9 +93,9 @@ impl Constructed {
 }
 
 impl Engine {
-    /// Does an event. Where it is accepted its lines are appended: the notes, and how many events were accepted. The answer is how many evaluations
-    /// count. An `Err` leaves everything as it was but the text, of which nothing is told then. The index of a repeat and a submission are not built:
-    /// they are told as want of memory, and who asks for them answers so before.
+    /// Does an event. Where it is accepted its lines are appended: the notes, how many events were accepted, and how many evaluations count, which is
+    /// the answer too. An `Err` leaves everything as it was but the text, of which nothing is told then. A submission is not built: it is told as want
+    /// of memory, and who asks for it answers so before.
     pub fn post(&mut self, event: &Event, text: &mut String) -> Result<u64, EventFault>
         ensures { IsStepped self.old result self.new (string_bytes text.old) (string_bytes text.new) (step profile (state_of self.old) event.now []) }
     {
@@ -136,6 +136,12 @@ fn handle(world: &mut FormWorld, event: &Event, text: &mut String) -> Result<u64
     let Ok(()) = world.count_event() else {
         return Err(EventFault::Memory);
     };
-    push_ok(world.alloc(), text, world.notes(), world.accepted(), None)?;
+    push_ok(
+        world.alloc(),
+        text,
+        world.notes(),
+        world.accepted(),
+        Some(count),
+    )?;
     Ok(count)
 }

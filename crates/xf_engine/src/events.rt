@@ -1,21 +1,25 @@
 //! The events that come from outside.
 
 ghost use Rattle.std.specs.Prelude.{◌≡◌, [], option_map};
-ghost use Rattle.xf_form_machine.specs.Step.{changed_by, set_bound as bound_set};
+ghost use Rattle.xf_form_machine.specs.Step.{changed_by, set_bound as bound_set, to_element};
 ghost use Rattle.xf_form_machine.specs.SetValue.{set_node as node_set};
-ghost use Rattle.xf_line.specs.declared.event.Event.TheVariants.{Set, Activate, Dispatch, Reset};
+ghost use Rattle.xf_line.specs.declared.event.Event.TheVariants.{Set, Activate, Index, Dispatch, Reset};
 ghost use Rattle.xf_processor.specs.Formed.{profile};
 ghost use Rattle.xf_actions.specs.Performs.{Reads, Runs};
+ghost use Rattle.xf_actions.specs.Seen.{fired_of};
 ghost use Rattle.xf_world.specs.Fault.{means};
 ghost use Rattle.xf_world.specs.State.{kept_of, state_of};
-ghost use Rattle.xf_engine.specs.Tried.{enabled_tried, node_tried, told_plainly};
+ghost use Rattle.xf_engine.specs.Tried.{activation_tried, index_tried, node_tried};
 
-use crate::naming::{Wanted, copy_in, model, target};
+use crate::naming::{Wanted, model, target};
 use crate::outermost::{settle, tell};
-use xf_actions::World;
-use xf_doc::{NodeId, NodeList};
+use crate::rows::{copy_named, is_row, take_rows, takes_text};
+use xf_actions::{Fired, World};
+use xf_doc::NodeId;
+use xf_elements::model_at;
 use xf_form_machine::Refusal;
 use xf_line::Event;
+use xf_repeat::rows_now;
 use xf_world::{EventFault, FormWorld};
 
 /// Does what an event asks for.
@@ -26,39 +30,46 @@ pub(crate) fn change(world: &mut FormWorld, event: &Event) -> Result<(), EventFa
     match event {
         Event::Set(id, rows, text) => set(world, id.as_str(), rows.as_slice(), text.as_str()),
         Event::Activate(id, rows) => activate(world, id.as_str(), rows.as_slice()),
+        Event::Index(id, number) => index(world, id.as_str(), *number),
         Event::Dispatch(name, id) => dispatch_to(world, name.as_str(), id.as_str()),
         Event::Reset(id) => reset(world, id.as_str()),
-        // There are no repeats and submissions yet: who asks for them answers so, and does not come here.
-        Event::Index(_, _) => Err(EventFault::Memory),
+        // There are no submissions yet: who asks for one answers so, and does not come here.
         Event::Send(_) => Err(EventFault::Memory),
     }
 }
+
+// ---- a text is set
 
 /// Sets the text of the control that has this id, and does what is due.
 fn set(world: &mut FormWorld, id: &str, rows: &[u64], text: &str) -> Result<(), EventFault>
     ensures done { Runs means (state_of world.new) result (changed_by profile [] (Set id.now rows.now text.now) (state_of world.old)) }
     ensures kept { kept_of world.new ≡ kept_of world.old }
 {
-    world.plain();
-    world.without_rows();
     let element = target(world, Wanted::Entry, id)?;
-    let node = node_to_set(world, element, rows)?;
+    let node = node_to_set(world, element, rows, text)?;
+    take_rows(world, element, rows)?;
     set_bound(world, node, text)?;
     settle(world)
 }
 
-/// The node that the control binds, where its text may be set from outside.
-fn node_to_set(world: &FormWorld, element: u32, rows: &[u64]) -> Result<Option<NodeId>, EventFault>
-    ensures { Reads means (option_map (λ n. n.number)) (state_of world.now) result (node_tried element rows.now (state_of world.now)) }
+/// The node that the copy of a control in these rows binds, where this text may be set from outside.
+fn node_to_set(
+    world: &FormWorld,
+    element: u32,
+    rows: &[u64],
+    text: &str,
+) -> Result<Option<NodeId>, EventFault>
+    ensures { Reads means (option_map (λ n. n.number)) (state_of world.now) result (node_tried profile element rows.now text.now (state_of world.now)) }
 {
-    let Some(copy) = copy_in(world, element, rows) else {
-        return Err(EventFault::Refused(Refusal::NoSuchTarget));
-    };
+    let copy = copy_named(world, element, rows)?;
     if !copy.enabled {
         return Err(EventFault::Refused(Refusal::Disabled));
     }
     if !copy.readwrite {
         return Err(EventFault::Refused(Refusal::ReadOnly));
+    }
+    if !takes_text(world, element, copy, text) {
+        return Err(EventFault::Refused(Refusal::NotAnItem));
     }
     Ok(copy.node)
 }
@@ -82,39 +93,65 @@ fn set_node(world: &mut FormWorld, node: NodeId, text: &str) -> Result<(), Event
     world.set_text(node, text)
 }
 
+// ---- a trigger is activated
+
 /// Activates the trigger that has this id: what is due is done, and then it is told.
 fn activate(world: &mut FormWorld, id: &str, rows: &[u64]) -> Result<(), EventFault>
     ensures done { Runs means (state_of world.new) result (changed_by profile [] (Activate id.now rows.now) (state_of world.old)) }
     ensures kept { kept_of world.new ≡ kept_of world.old }
 {
-    world.without_rows();
     let element = target(world, Wanted::Trigger, id)?;
-    enabled(world, element, rows)?;
+    let event = activation(world, element, rows)?;
+    take_rows(world, element, rows)?;
     settle(world)?;
-    tell_plainly(world, "DOMActivate", element)
+    tell(world, &event)
 }
 
-/// Refuses a control that is not enabled.
-fn enabled(world: &FormWorld, element: u32, rows: &[u64]) -> Result<(), EventFault>
-    ensures { Reads means (λ u. state_of world.now) (state_of world.now) result (enabled_tried element rows.now (state_of world.now)) }
+/// The event that tells the copy of a trigger in these rows, where it is enabled.
+fn activation(world: &FormWorld, element: u32, rows: &[u64]) -> Result<Fired, EventFault>
+    ensures { Reads means fired_of (state_of world.now) result (activation_tried profile element rows.now (state_of world.now)) }
 {
-    let Some(copy) = copy_in(world, element, rows) else {
-        return Err(EventFault::Refused(Refusal::NoSuchTarget));
-    };
+    let copy = copy_named(world, element, rows)?;
     if !copy.enabled {
         return Err(EventFault::Refused(Refusal::Disabled));
     }
+    world.event("DOMActivate", true, true, element, &copy.rows)
+}
+
+// ---- an index is set
+
+/// Sets the index of the repeat that has this id, and does what is due.
+fn index(world: &mut FormWorld, id: &str, number: u64) -> Result<(), EventFault>
+    ensures done { Runs means (state_of world.new) result (changed_by profile [] (Index id.now number) (state_of world.old)) }
+    ensures kept { kept_of world.new ≡ kept_of world.old }
+{
+    let repeat = target(world, Wanted::Repeat, id)?;
+    try_index(world, repeat, number)?;
+    let model = model_at(world.form(), repeat);
+    world.set_index(model, repeat, number)?;
+    settle(world)
+}
+
+/// Refuses a number that is none of the rows of a repeat.
+fn try_index(world: &FormWorld, repeat: u32, number: u64) -> Result<(), EventFault>
+    ensures { Reads means (λ u. state_of world.now) (state_of world.now) result (index_tried profile repeat number (state_of world.now)) }
+{
+    let rows = rows_now(&world.over(), world.indexes(), repeat)?;
+    if !is_row(&rows, number) {
+        return Err(EventFault::Refused(Refusal::BadIndex));
+    }
     Ok(())
 }
+
+// ---- an event is dispatched
 
 /// Dispatches an event of this name to the element that has this id.
 fn dispatch_to(world: &mut FormWorld, name: &str, id: &str) -> Result<(), EventFault>
     ensures done { Runs means (state_of world.new) result (changed_by profile [] (Dispatch name.now id.now) (state_of world.old)) }
     ensures kept { kept_of world.new ≡ kept_of world.old }
 {
-    world.without_rows();
     let element = target(world, Wanted::Any, id)?;
-    tell_plainly(world, name, element)
+    tell_element(world, name, element)
 }
 
 /// Tells the model that has this id to reset its data: the first model where the id is empty.
@@ -122,17 +159,20 @@ fn reset(world: &mut FormWorld, id: &str) -> Result<(), EventFault>
     ensures done { Runs means (state_of world.new) result (changed_by profile [] (Reset id.now) (state_of world.old)) }
     ensures kept { kept_of world.new ≡ kept_of world.old }
 {
-    world.without_rows();
     let element = model(world, id)?;
-    tell_plainly(world, "xforms-reset", element)
+    tell_element(world, "xforms-reset", element)
 }
 
-/// Dispatches an event without properties to the one copy of an element.
-fn tell_plainly(world: &mut FormWorld, name: &str, element: u32) -> Result<(), EventFault>
-    ensures done { Runs means (state_of world.new) result (told_plainly profile name.now element (state_of world.old)) }
+/// Dispatches an event without properties to the copy of an element in the indexed rows: to none where an index is 0.
+fn tell_element(world: &mut FormWorld, name: &str, element: u32) -> Result<(), EventFault>
+    ensures done { Runs means (state_of world.new) result (to_element profile [] name.now element (state_of world.old)) }
     ensures kept { kept_of world.new ≡ kept_of world.old }
 {
-    let rows = NodeList::new(world.alloc());
-    let event = world.event(name, true, true, element, &rows)?;
-    tell(world, &event)
+    match world.named_copy(element)? {
+        Some(rows) => {
+            let event = world.event(name, true, true, element, &rows)?;
+            tell(world, &event)
+        }
+        None => Ok(()),
+    }
 }

@@ -6,6 +6,7 @@ mod engine;
 mod events;
 mod naming;
 mod outermost;
+mod rows;
 mod start;
 
 pub use engine::{Constructed, Engine, construct};

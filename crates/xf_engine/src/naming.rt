@@ -1,20 +1,16 @@
 //! The elements that events from outside name.
 
-ghost use Rattle.std.specs.Prelude.{◌≡◌, option_map, IfOk};
-ghost use Rattle.xf_controls.specs.Seen.{seen_copy};
+ghost use Rattle.std.specs.Prelude.{◌≡◌, IfOk};
 ghost use Rattle.xf_form_machine.specs.Step.{model_named};
-ghost use Rattle.xf_form_machine.specs.Tables.{role_of};
-ghost use Rattle.xf_form_machine.specs.Targets.{by_role, element_named, or_no_target};
-ghost use Rattle.xf_machine_laws.specs.Rowless.{copy_at};
+ghost use Rattle.xf_form_machine.specs.Targets.{element_named, or_no_target};
 ghost use Rattle.xf_actions.specs.Performs.{Reads};
 ghost use Rattle.xf_world.specs.Fault.{means};
 ghost use Rattle.xf_world.specs.State.{state_of};
-ghost use Rattle.xf_engine.specs.Naming.{is_named, is_wanted, named_from};
+ghost use Rattle.xf_engine.specs.Naming.{is_named, is_wanted, named_from, wanted_in};
 
 use std::alloc::AllocError;
 use xf_actions::World;
 use xf_ast::{Control, Element, Kind};
-use xf_controls::ControlCopy;
 use xf_form_machine::Refusal;
 use xf_world::{EventFault, FormWorld};
 
@@ -25,13 +21,15 @@ pub enum Wanted {
     Entry,
     /// It is activated.
     Trigger,
+    /// Its index is set.
+    Repeat,
     Model,
     Any,
 }
 
 /// The first element with this id that is wanted.
 pub(crate) fn target(world: &FormWorld, wanted: Wanted, id: &str) -> Result<u32, EventFault>
-    ensures { Reads means (λ n. n) (state_of world.now) result (or_no_target (state_of world.now) (element_named (state_of world.now) (by_role (state_of world.now) (is_wanted wanted)) id.now)) }
+    ensures { Reads means (λ n. n) (state_of world.now) result (or_no_target (state_of world.now) (element_named (state_of world.now) (wanted_in wanted (state_of world.now)) id.now)) }
 {
     match first_named(world.form().elements.as_slice(), wanted, id)? {
         Some(element) => Ok(element),
@@ -75,11 +73,12 @@ fn is_named(element: &Element, wanted: Wanted, id: &str) -> bool
 }
 
 fn is_wanted(kind: &Kind, wanted: Wanted) -> bool
-    ensures { result ≡ is_wanted wanted (role_of kind.now) }
+    ensures { result ≡ is_wanted wanted kind.now }
 {
     match wanted {
         Wanted::Entry => takes_text(kind),
         Wanted::Trigger => is_activated(kind),
+        Wanted::Repeat => is_repeat(kind),
         Wanted::Model => is_model(kind),
         Wanted::Any => true,
     }
@@ -87,7 +86,7 @@ fn is_wanted(kind: &Kind, wanted: Wanted) -> bool
 
 /// Whether an element of this kind takes a text from outside.
 fn takes_text(kind: &Kind) -> bool
-    ensures { result ≡ is_wanted Wanted.Entry (role_of kind.now) }
+    ensures { result ≡ is_wanted Wanted.Entry kind.now }
 {
     match kind {
         Kind::Control(_, Control::Input) => true,
@@ -100,7 +99,7 @@ fn takes_text(kind: &Kind) -> bool
 }
 
 fn is_activated(kind: &Kind) -> bool
-    ensures { result ≡ is_wanted Wanted.Trigger (role_of kind.now) }
+    ensures { result ≡ is_wanted Wanted.Trigger kind.now }
 {
     match kind {
         Kind::Control(_, Control::Trigger) => true,
@@ -109,26 +108,20 @@ fn is_activated(kind: &Kind) -> bool
     }
 }
 
-fn is_model(kind: &Kind) -> bool
-    ensures { result ≡ is_wanted Wanted.Model (role_of kind.now) }
+fn is_repeat(kind: &Kind) -> bool
+    ensures { result ≡ is_wanted Wanted.Repeat kind.now }
 {
     match kind {
-        Kind::Model(_) => true,
+        Kind::Control(_, Control::Repeat(_, _)) => true,
         _ => false,
     }
 }
 
-/// The copy of a control in these rows: it stands in none.
-pub(crate) fn copy_in<'a>(
-    world: &'a FormWorld,
-    element: u32,
-    rows: &[u64],
-) -> Option<&'a ControlCopy>
-    ensures { option_map (λ c. seen_copy c.now) result ≡ copy_at element rows.now (state_of world.now) }
+fn is_model(kind: &Kind) -> bool
+    ensures { result ≡ is_wanted Wanted.Model kind.now }
 {
-    if rows.is_empty() {
-        world.control(element)
-    } else {
-        None
+    match kind {
+        Kind::Model(_) => true,
+        _ => false,
     }
 }

@@ -2,5 +2,4 @@ pub mod ChainLaws
 pub mod FailedLaws
 pub mod SameLaws
 pub mod QuietKeeps
-pub mod RowlessLaws
 pub mod WrittenContents

@@ -1,4 +1,3 @@
 pub mod Chain
 pub mod Failed
 pub mod Renumbered
-pub mod Rowless

@@ -4,7 +4,6 @@
 ghost use Rattle.xf_machine_laws.specs.Chain.{FlagsStayChained};
 ghost use Rattle.xf_machine_laws.specs.Failed.{FailedKeeps};
 ghost use Rattle.xf_machine_laws.specs.Renumbered.{StayTheSame};
-ghost use Rattle.xf_machine_laws.specs.Rowless.{RowlessLaws};
 
 /// A behaviour that is due carries those after it, whatever is changed. This tells contracts so, and does nothing.
 pub fn flags_stay_chained()
@@ -20,9 +19,4 @@ pub fn failed_submission_keeps_data()
 /// so, and does nothing.
 pub fn renumbered_states_stay_the_same()
     ensures { StayTheSame }
-{}
-
-/// Where nothing comes in rows, what the machine does is said without them. This tells contracts so, and does nothing.
-pub fn forms_without_rows_have_no_indexes()
-    ensures { RowlessLaws }
 {}

@@ -29,35 +29,11 @@ limit_of all = if has_too_many all then Some (codes "counts") else (if list_any 
 
 -- the program can run it: the one place to widen
 abbrev pub is_built : Tag → Bool
-is_built tag.Host = true
-is_built tag.Model = true
-is_built tag.Instance = true
-is_built tag.Bind = true
-is_built tag.Input = true
-is_built tag.Secret = true
-is_built tag.Textarea = true
-is_built tag.Output = true
-is_built tag.Group = true
-is_built tag.Label = true
-is_built tag.Help = true
-is_built tag.Hint = true
-is_built tag.Alert = true
-is_built tag.Extension = true
-is_built tag.Trigger = true
-is_built tag.Action = true
-is_built tag.SetValue = true
-is_built tag.Insert = true
-is_built tag.Delete = true
-is_built tag.Message = true
-is_built tag.Load = true
-is_built tag.SetFocus = true
-is_built tag.Dispatch = true
-is_built tag.Rebuild = true
-is_built tag.Recalculate = true
-is_built tag.Revalidate = true
-is_built tag.Refresh = true
-is_built tag.Reset = true
-is_built t = false
+is_built tag.Unknown = false
+is_built tag.Submission = false
+is_built tag.Submit = false
+is_built tag.Send = false
+is_built t = true
 
 abbrev pub is_unbuilt : Seen → Bool
 is_unbuilt r = is_outside r.standing.zone && not (is_built r.tag)

@@ -3,6 +3,7 @@ use Rattle.xf_answers.specs.declared.lines.Ending.{Ending}
 use Rattle.xf_answers.specs.declared.lines.Ending.TheVariants.{ReadFault, SinkFault}
 use Rattle.xf_cli.specs.declared.status.Status.{Status}
 use Rattle.xf_cli.specs.declared.status.Status.TheVariants.{Usage, Refused, Checked, Unread, NoRoom, Answered}
+use Rattle.xf_cli.specs.Outside.{object_of}
 use Rattle.xf_cli.proofs.Ends.{answered_so}
 use Rattle.xf_cli.proofs.run.answer_events.Goals as goal
 
@@ -22,4 +23,7 @@ pub returns-in-Session-clause-written : goal.returns-in-Session-clause-written
 returns-in-Session-clause-written g c = λ e. c.answer_session-ending.ensures.written (ap (ending_or SinkFault) e)
 
 pub returns-in-Session-clause-runs : goal.returns-in-Session-clause-runs
-returns-in-Session-clause-runs g c = answered_so _ _ _ _ _ _ _ _ _ c.in-Session.ensures c.as_bytes.ensures.value c.answer_session-ending.ensures.answered
+returns-in-Session-clause-runs g c =
+    let events = object_of (g.E.Source.left c.args.events.now) (g.E.Source.left c.answer_session-ending.new.events) (g.E.Source.faults c.args.events.now) (g.E.Source.faults c.answer_session-ending.new.events) in
+    let out = object_of (g.O.Sink.taken c.args.out.now) (g.O.Sink.taken c.answer_session-ending.new.out) (g.O.Sink.faults c.args.out.now) (g.O.Sink.faults c.answer_session-ending.new.out) in
+    answered_so _ _ _ _ _ events out c.in-Session.ensures c.as_bytes.ensures.value c.answer_session-ending.ensures.answered

@@ -3,4 +3,4 @@ use Rattle.xf_cli.proofs.run.run_loaded.Goals as goal
 
 pub returns-in-Try-clause-runs : goal.returns-in-Try-clause-runs
 returns-in-Try-clause-runs g c =
-    tried_by c.args.command c.args.loaded c.in-Constructed.constructed c.answer_events.result _ _ _ _ c.in-Try.is c.in-Constructed.ensures c.answer_events.ensures.runs
+    tried_by c.args.command c.args.loaded c.in-Constructed.constructed c.answer_events.result _ _ c.in-Try.is c.in-Constructed.ensures c.answer_events.ensures.runs

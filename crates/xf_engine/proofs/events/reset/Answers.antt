@@ -9,6 +9,4 @@ returns-in_err-element-clause-done c =
 
 pub returns-clause-done : goal.returns-clause-done
 returns-clause-done c =
-    same-runs _ _ _ _ _
-    (reset-tells (state_of c.args.world.now) c.args.id.now c.in_ok-element.element c.without_rows.ensures c.in_ok-element.ensures)
-    c.tell_plainly.ensures.done
+    same-runs _ _ _ _ _ (reset-tells (state_of c.args.world.now) c.args.id.now c.in_ok-element.element c.in_ok-element.ensures) c.tell_element.ensures.done

@@ -1,6 +1,6 @@
 use Rattle.xf_actions.proofs.Flow.{same-runs, stopped}
 use Rattle.xf_world.specs.State.{state_of}
-use Rattle.xf_engine.proofs.EventLaws.{set-settles, set-unnamed, set-unset, set-untried}
+use Rattle.xf_engine.proofs.EventLaws.{set-settles, set-unnamed, set-unset, set-untaken, set-untried}
 use Rattle.xf_engine.proofs.events.set.Goals as goal
 
 pub returns-in_err-element-clause-done : goal.returns-in_err-element-clause-done
@@ -10,17 +10,23 @@ returns-in_err-element-clause-done c =
 pub returns-in_err-node-clause-done : goal.returns-in_err-node-clause-done
 returns-in_err-node-clause-done c =
     stopped _ _ _ _ _ c.from_residual-in_err-node.ensures.1
-    (set-untried (state_of c.args.world.now) c.args.id.now c.args.rows.now c.args.text.now c.in_ok-element.element _ _ c.without_rows.ensures c.plain.ensures c.in_ok-element.ensures c.in_err-node.ensures)
+    (set-untried (state_of c.args.world.now) c.args.id.now c.args.rows.now c.args.text.now c.in_ok-element.element _ _ c.in_ok-element.ensures c.in_err-node.ensures)
+
+pub returns-in_err-take_rows-clause-done : goal.returns-in_err-take_rows-clause-done
+returns-in_err-take_rows-clause-done c =
+    stopped _ _ _ _ _ c.from_residual-in_err-take_rows.ensures.1
+    (set-untaken (state_of c.args.world.now) c.args.id.now c.args.rows.now c.args.text.now c.in_ok-element.element _ _ _ c.in_ok-element.ensures c.in_ok-node.ensures
+    c.in_err-take_rows.ensures.done)
 
 pub returns-in_err-set_bound-clause-done : goal.returns-in_err-set_bound-clause-done
 returns-in_err-set_bound-clause-done c =
     stopped _ _ _ _ _ c.from_residual-in_err-set_bound.ensures.1
-    (set-unset (state_of c.args.world.now) c.args.id.now c.args.rows.now c.args.text.now c.in_ok-element.element _ _ _ c.without_rows.ensures c.plain.ensures c.in_ok-element.ensures c.in_ok-node.ensures
-    c.in_err-set_bound.ensures.done)
+    (set-unset (state_of c.args.world.now) (state_of c.take_rows.new.world) c.args.id.now c.args.rows.now c.args.text.now c.in_ok-element.element _ _ _ c.in_ok-element.ensures
+    c.in_ok-node.ensures c.in_ok-take_rows.ensures.done c.in_err-set_bound.ensures.done)
 
 pub returns-clause-done : goal.returns-clause-done
 returns-clause-done c =
     same-runs _ _ _ _ _
-    (set-settles (state_of c.args.world.now) (state_of c.set_bound.new.world) c.args.id.now c.args.rows.now c.args.text.now c.in_ok-element.element _ c.without_rows.ensures c.plain.ensures
-    c.in_ok-element.ensures c.in_ok-node.ensures c.in_ok-set_bound.ensures.done)
+    (set-settles (state_of c.args.world.now) (state_of c.take_rows.new.world) (state_of c.set_bound.new.world) c.args.id.now c.args.rows.now c.args.text.now
+    c.in_ok-element.element _ c.in_ok-element.ensures c.in_ok-node.ensures c.in_ok-take_rows.ensures.done c.in_ok-set_bound.ensures.done)
     c.settle.ensures.done

@@ -1,3 +1,0 @@
-pub mod Simple
-pub mod Built
-pub mod Laws
