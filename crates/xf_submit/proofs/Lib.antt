@@ -1,0 +1,6 @@
+mod CallLaws
+mod TextLaws
+mod BelowLaws
+mod NodeLaws
+mod SourceLaws
+mod LeftLaws
