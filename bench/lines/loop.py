@@ -11,7 +11,7 @@ for line in sys.stdin:
     if event[0] == "set" and event[1] in values and event[2] == []:
         values[event[1]] = event[3]
         accepted += 1
-        out.write(f"ok {accepted}\n")
+        out.write(f"ok {accepted} 0\n")
     else:
         out.write("no E4 NoSuchTarget\n")
     out.flush()

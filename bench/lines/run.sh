@@ -10,7 +10,7 @@ for count in 10000 50000 200000; do
     idle=$(least_of_five replies "$program" try </dev/null)
     idle_python=$(least_of_five replies python3 "$here/loop.py" </dev/null)
     ours=$(least_of_five replies bash -c '"$0" try <events' "$program")
-    tail -n 1 replies | grep -qx "ok $count"
+    tail -n 1 replies | grep -qx "ok $count 0"
     theirs=$(least_of_five replies bash -c 'python3 "$0" <events' "$here/loop.py")
     # nanoseconds a line
     last=$(((ours - idle) * 100000 / count))

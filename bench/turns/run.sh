@@ -32,7 +32,7 @@ shown=('instance 1.1' '/person ew-v')
 turns=100
 for turn in $(seq $turns); do
     echo "[\"set\",\"name\",[],\"$turn\"]" >&8
-    wants "ok $turn"
+    wants "ok $turn 0"
     echo '["show"]' >&8
     wants "${shown[@]}" "/person/name ew-v \"$turn\"" "control name [] ew-v \"$turn\"" end
 done
@@ -48,7 +48,7 @@ case $line in
 esac
 printf '["set","name",[],"last"]' >&8
 exec 8>&-
-wants "ok $((turns + 1))"
+wants "ok $((turns + 1)) 0"
 if IFS= read -r -t "$wait_most" -u 9 line; then stuck "'$line' came after the last reply"; fi
 status=0
 wait "$runs" || status=$?
