@@ -9,6 +9,7 @@ pub mod CodeLaws
 pub mod NodeLaws
 pub mod WalkLaws
 pub mod ToldLaws
+pub mod BeforeLaws
 pub mod FixedLaws
 pub mod KnownLaws
 pub mod NotedLaws

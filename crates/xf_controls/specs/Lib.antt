@@ -3,6 +3,7 @@ pub mod Surrounded
 pub mod Seen
 pub mod Handed
 pub mod Found
+pub mod Before
 pub mod Below
 pub mod Rising
 pub mod Fixed

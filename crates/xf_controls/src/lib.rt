@@ -1,6 +1,7 @@
 //! The copies of the controls and containers of a form, made afresh over the data, and what a refresh tells of them.
 #![tactic(auto)]
 
+mod before;
 mod binding;
 mod bound;
 mod copy;

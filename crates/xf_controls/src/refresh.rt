@@ -2,9 +2,10 @@
 
 ghost use Rattle.std.specs.Prelude.{◌≡◌, ◌++◌, [], ◌∷◌, IfOk, OnOk, find, map, option_map};
 ghost use Rattle.xf_ui.specs.Notifications as told;
-ghost use Rattle.xf_controls.specs.Rising.{is_rising};
+ghost use Rattle.xf_controls.specs.Before.{Knows};
 ghost use Rattle.xf_controls.specs.Seen.{seen_copy, seen_notification};
 
+use crate::before::{Before, before_of, first_place};
 use crate::copy::{ControlCopy, ControlList, same_rows};
 use std::alloc::{AllocError, Global};
 use xf_base::Items;
@@ -27,7 +28,7 @@ pub struct Notification {
 pub type NotificationList = Items<Notification>;
 
 /// Where the copies of a new list differ from those of the list before, in the order of the new one. Where both lists have the same elements,
-/// each once and in document order, it is one pass.
+/// each once and in document order, it is one pass; else each copy is sought from the first one of its row on.
 pub fn notifications(
     alloc: Global,
     old: &ControlList,
@@ -35,70 +36,65 @@ pub fn notifications(
 ) -> Result<NotificationList, AllocError>
     ensures { IfOk result (λ all. map seen_notification all ≡ told.notifications (map seen_copy old.now) (map seen_copy new.now)) }
 {
-    let before = old.as_slice();
-    let rising = is_rising(before);
+    let before = before_of(alloc, old.as_slice())?;
     let mut all = Items::new(alloc);
     for (at, copy) in new.as_slice().iter().enumerate() {
-        push_since(alloc, before, rising, at, copy, &mut all)?;
+        push_since(alloc, &before, at, copy, &mut all)?;
     }
     Ok(all)
-}
-
-/// Whether each element has one copy at most, in document order.
-pub(crate) fn is_rising(copies: &[ControlCopy]) -> bool
-    ensures { result ≡ is_rising copies.now }
-{
-    let mut least = 0;
-    for copy in copies {
-        let element = copy.element as u64;
-        if element < least {
-            return false;
-        }
-        least = element + 1;
-    }
-    true
 }
 
 /// Puts what is told of a copy behind others; it may stand at the same place in the list before.
 fn push_since(
     alloc: Global,
-    before: &[ControlCopy],
-    rising: bool,
+    before: &Before<'_>,
     at: usize,
     copy: &ControlCopy,
     all: &mut NotificationList,
 ) -> Result<(), AllocError>
-    requires { rising ≡ is_rising before.now }
-    ensures { OnOk result (map seen_notification all.new ≡ map seen_notification all.old ++ told.told_since (find (told.is_same_copy (seen_copy copy.now)) (map seen_copy before.now)) (seen_copy copy.now)) }
+    requires { Knows before.now }
+    ensures { OnOk result (map seen_notification all.new ≡ map seen_notification all.old ++ told.told_since (find (told.is_same_copy (seen_copy copy.now)) (map seen_copy before.now.copies.now)) (seen_copy copy.now)) }
 {
-    match same_copy(before, rising, at, copy) {
+    match same_copy(before, at, copy) {
         Some(old) => push_differences(alloc, old, copy, all),
         None => Ok(()),
     }
 }
 
 /// The same copy in the list before.
-fn same_copy<'a>(
-    before: &'a [ControlCopy],
-    rising: bool,
-    at: usize,
-    copy: &ControlCopy,
-) -> Option<&'a ControlCopy>
-    requires { rising ≡ is_rising before.now }
-    ensures { option_map (λ c. seen_copy c.now) result ≡ find (told.is_same_copy (seen_copy copy.now)) (map seen_copy before.now) }
+fn same_copy<'a>(before: &Before<'a>, at: usize, copy: &ControlCopy) -> Option<&'a ControlCopy>
+    requires { Knows before.now }
+    ensures { option_map (λ c. seen_copy c.now) result ≡ find (told.is_same_copy (seen_copy copy.now)) (map seen_copy before.now.copies.now) }
 {
-    if rising && at < before.len() {
-        if is_same(copy, &before[at]) {
-            return Some(&before[at]);
+    let copies = before.copies;
+    let rising = before.rising;
+    if rising && at < copies.len() {
+        if is_same(copy, &copies[at]) {
+            return Some(&copies[at]);
         }
     }
-    searched(before, copy)
+    sought(before, copy)
 }
 
-fn searched<'a>(before: &'a [ControlCopy], copy: &ControlCopy) -> Option<&'a ControlCopy>
-    ensures { option_map (λ c. seen_copy c.now) result ≡ find (told.is_same_copy (seen_copy copy.now)) (map seen_copy before.now) }
+/// The same copy, from the first one of its row on.
+fn sought<'a>(before: &Before<'a>, copy: &ControlCopy) -> Option<&'a ControlCopy>
+    requires { Knows before.now }
+    ensures { option_map (λ c. seen_copy c.now) result ≡ find (told.is_same_copy (seen_copy copy.now)) (map seen_copy before.now.copies.now) }
 {
-    for other in before {
+    let copies = before.copies;
+    let Some(place) = first_place(before, copy) else {
+        return None;
+    };
+    if place >= copies.len() {
+        return None;
+    }
+    searched(&copies[place..], copy)
+}
+
+fn searched<'a>(copies: &'a [ControlCopy], copy: &ControlCopy) -> Option<&'a ControlCopy>
+    ensures { option_map (λ c. seen_copy c.now) result ≡ find (told.is_same_copy (seen_copy copy.now)) (map seen_copy copies.now) }
+{
+    for other in copies {
         if is_same(copy, other) {
             return Some(other);
         }

@@ -10,8 +10,9 @@ ghost use Rattle.xf_controls.specs.Renewed.{AreThere, renewed};
 ghost use Rattle.xf_controls.specs.Rising.{is_rising};
 ghost use Rattle.xf_controls.specs.Seen.{IsThere, number, seen_copy, seen_notification};
 
+use crate::before::is_rising;
 use crate::copy::{ControlCopy, ControlList};
-use crate::refresh::{NotificationList, is_rising, push_told, same_value};
+use crate::refresh::{NotificationList, push_told, same_value};
 use crate::value::{has_value, value_over};
 use std::alloc::{AllocError, Global};
 use std::marker::Model;

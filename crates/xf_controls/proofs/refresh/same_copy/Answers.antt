@@ -5,5 +5,5 @@ use Rattle.xf_controls.proofs.refresh.same_copy.Goals as goal
 
 pub returns-then-is_same : goal.returns-then-is_same
 returns-then-is_same c =
-    given-at c.args.before.now (seen_copy c.args.copy.now) c.args.at c.index-before-at.result c.index-before-at-then-is_same.result (sym c.requires ∙ c.if-rising.true) c.if-at-before.true c.index-before-at.is c.index-before-at-then-is_same.is
-    (sym c.is_same.ensures ∙ c.if-is_same.true)
+    given-at c.args.before.now.copies.now (seen_copy c.args.copy.now) c.args.at c.index-copies-at.result c.index-copies-at-then-is_same.result (sym c.requires.rising ∙ c.if-rising.true) c.if-at-copies.true
+    c.index-copies-at.is c.index-copies-at-then-is_same.is (sym c.is_same.ensures ∙ c.if-is_same.true)
