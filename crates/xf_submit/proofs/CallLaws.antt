@@ -64,6 +64,6 @@ uncalled before after left rest old new a r n =
 -- the last one is taken off again
 pub popped : (o : Option StoreCall) (old pushed new : List StoreCall) (none : StoreCall) → pushed ≡ old ++ none ∷ []
     → MatchOption o ((pushed ≡ []) × (new ≡ [])) (λ last. pushed ≡ new ++ last ∷ []) → new ≡ old
-popped None [] pushed new none p h = cc (p, h.0)
+popped None [] pushed new none p h = h.1
 popped None (c ∷ cs) pushed new none p h = cc (p, h.0)
 popped (Some last) old pushed new none p h = (same_from_push new old last none (sym h ∙ p)).0

@@ -4,3 +4,4 @@ mod BelowLaws
 mod NodeLaws
 mod SourceLaws
 mod LeftLaws
+pub mod MachineLaws
