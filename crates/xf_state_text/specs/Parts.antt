@@ -1,5 +1,5 @@
 -- The text of a state, by what it is made of.
-use Rattle.std.specs.Prelude.{ℕ, ◌≡◌, Bool, true, false, List, [], ◌∷◌, ◌++◌, map, filter, length, zip, get_or, codes, unwrap_or, if◌then◌else◌}
+use Rattle.std.specs.Prelude.{ℕ, ◌≡◌, List, [], ◌++◌, length, zip, get_or, codes, unwrap_or, if◌then◌else◌}
 use Rattle.std.specs.List.{flat_map}
 use Rattle.xf_ui.specs.Around.{Around}
 use Rattle.xf_ui.specs.Cases.{cases_of}

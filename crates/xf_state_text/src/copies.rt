@@ -1,6 +1,6 @@
 //! The copies of controls, with the numbers of their rows.
 
-ghost use Rattle.std.specs.Prelude.{◌≡◌, ◌++◌, [], ◌∷◌, OnOk, map, option_map, string_bytes};
+ghost use Rattle.std.specs.Prelude.{◌≡◌, ◌++◌, [], OnOk, map, option_map, string_bytes};
 ghost use Rattle.xf_form_machine.specs.ControlText.{has_line};
 ghost use Rattle.xf_ui.specs.Elements.{element_at};
 ghost use Rattle.xf_ui.specs.Interface.{interface_of, sort_of};

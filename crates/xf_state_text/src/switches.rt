@@ -1,8 +1,7 @@
 //! The lines of repeats and switches.
 
-ghost use Rattle.std.specs.Prelude.{◌≡◌, ◌++◌, OnOk, drop, get_or, map, string_bytes, zip};
+ghost use Rattle.std.specs.Prelude.{◌≡◌, ◌++◌, OnOk, map, string_bytes, zip};
 ghost use Rattle.std.specs.List.{flat_map};
-ghost use Rattle.xf_ui.specs.Cases.{cases_of};
 ghost use Rattle.xf_ui.specs.Interface.{interface_of};
 ghost use Rattle.xf_context.specs.Indexes.{seen_index};
 ghost use Rattle.xf_context.specs.Over.{around_over};
