@@ -6,7 +6,7 @@ use crate::expr::Expr;
 use xf_base::Items;
 use xf_name::Word;
 use xf_num::Decimals;
-use xf_types::SimpleType;
+use xf_schema::{NamedType, Restriction};
 
 /// Places among the parts of elements, each within the one before.
 pub type PlaceList = Items<u32>;
@@ -30,7 +30,7 @@ pub type InstanceList = Items<Instance>;
 /// The properties that a bind gives to the nodes it selects (XForms 1.1, section 6.1).
 #[derive(Drop)]
 pub struct Properties {
-    pub kind: Option<SimpleType>,
+    pub kind: Option<NamedType>,
     pub calculate: Option<Expr>,
     pub relevant: Option<Expr>,
     pub readonly: Option<Expr>,
@@ -107,6 +107,9 @@ pub struct Submission {
 /// The submissions of all models.
 pub type SubmissionList = Items<Submission>;
 
+/// The types by restriction of all schemas of a form.
+pub type TypeList = Items<Restriction>;
+
 /// The tables of all models of a form.
 #[derive(Drop)]
 pub struct Tables {
@@ -115,6 +118,8 @@ pub struct Tables {
     pub instances: InstanceList,
     pub binds: BindList,
     pub submissions: SubmissionList,
+    /// In document order: a bind names one by its number.
+    pub types: TypeList,
 }
 
 /// A form: its models, and all elements outside its instances.

@@ -11,6 +11,7 @@ pub use element::{Binding, Control, Element, ElementList, Elements, Kind, Part, 
 pub use expr::{Expr, ExprList, Link, LinkList, Operator, Start, Step, StepList, Test};
 pub use form::{
     Bind, BindList, Form, Instance, InstanceList, Method, PlaceList, Properties, Replace,
-    Selection, Submission, SubmissionList, Tables,
+    Selection, Submission, SubmissionList, Tables, TypeList,
 };
 pub use xf_name::Axis;
+pub use xf_schema::{NamedType, Restriction};

@@ -1,6 +1,10 @@
 -- Model item properties, on small data.
-use Rattle.std.proofs.Common.{◌≡◌, ℕ, Bool, true, false, List, [], ◌∷◌, map, None, refl, codes}
-use Rattle.xf_types.specs.Meets.{meets_type}
+use Rattle.std.proofs.Common.{◌≡◌, ℕ, Bool, true, false, List, [], ◌∷◌, map, Some, None, refl, codes}
+use Rattle.xf_types.specs.declared.kind.BuiltIn.TheVariants as built_in
+use Rattle.xf_schema.specs.declared.written.FacetKind.TheVariants.{Enumeration}
+use Rattle.xf_schema.specs.declared.written.NamedType.TheVariants.{BuiltIn, Declared}
+use Rattle.xf_schema.specs.declared.written.Restriction.{Restriction}
+use Rattle.xf_schema.specs.Facets.{is_of_type}
 use Rattle.xf_doc.specs.declared.content.Node.{Node}
 use Rattle.xf_doc.specs.Visit.{visits}
 use Rattle.xf_doc.specs.Shape.{shape_of}
@@ -23,8 +27,18 @@ readonly_on ns rules n = is_readonly (visits ns) (values_on ns rules) n
 abbrev required_on : List Node → List Rule → ℕ → Bool
 required_on ns rules n = is_required (values_on ns rules) n
 
+-- a type of the form: the string `1`
+abbrev ones : List Restriction
+ones = record {
+  name = record { space = codes "urn:t"; local = codes "one" };
+  type_place = 2;
+  base = Some (BuiltIn (record { kind = built_in.Text; may_be_empty = false }));
+  place = 3;
+  facets = record { kind = Enumeration; value = codes "1"; place = 4 } ∷ [];
+} ∷ []
+
 abbrev valid_on : List Node → List Rule → ℕ → Bool
-valid_on ns rules n = is_valid meets_type (Examples.scope rules) (visits ns) (all_entries (Examples.scope rules) (shape_of ns)) (values_on ns rules) n
+valid_on ns rules n = is_valid (is_of_type ones) (Examples.scope rules) (visits ns) (all_entries (Examples.scope rules) (shape_of ns)) (values_on ns rules) n
 
 abbrev on : List ℕ → Rule
 on name = Examples.bind (Examples.to name)
@@ -47,7 +61,7 @@ x_in_g = Examples.bind (path (child g ∷ child (codes "x") ∷ []))
 -- ---- without a bind
 
 by_default :
-    properties_at meets_type (Examples.scope []) (visits Examples.four) [] [] 2
+    properties_at (is_of_type []) (Examples.scope []) (visits Examples.four) [] [] 2
     ≡ record { relevant = true; readonly = false; required = false; valid = true }
 by_default = refl
 
@@ -131,6 +145,13 @@ of_the_forms_type = refl
 
 of_the_schema_type : valid_on Examples.four (Examples.typed (Examples.integer false) (on b) ∷ []) 4 ≡ false
 of_the_schema_type = refl
+
+-- a type of the form by its number: a is `1`, and b is empty
+of_a_type_of_the_form : valid_on Examples.four (Examples.typed (Declared 0) (on a) ∷ []) 2 ≡ true
+of_a_type_of_the_form = refl
+
+not_of_a_type_of_the_form : valid_on Examples.four (Examples.typed (Declared 0) (on b) ∷ []) 4 ≡ false
+not_of_a_type_of_the_form = refl
 
 -- the string value of an element with elements counts
 of_a_group : valid_on Examples.groups (Examples.typed (Examples.integer false) (on g) ∷ []) 2 ≡ true

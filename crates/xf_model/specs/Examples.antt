@@ -5,6 +5,8 @@ use Rattle.xf_name.specs.declared.axis.Axis.TheVariants as axis
 use Rattle.xf_ast.specs.declared.expr.Operator.TheVariants as operator
 use Rattle.xf_types.specs.declared.kind.BuiltIn.TheVariants as built_in
 use Rattle.xf_types.specs.declared.kind.SimpleType.{SimpleType}
+use Rattle.xf_schema.specs.declared.written.NamedType.{NamedType}
+use Rattle.xf_schema.specs.declared.written.NamedType.TheVariants.{BuiltIn}
 use Rattle.xf_doc.specs.declared.content.Node.{Node}
 use Rattle.xf_doc.specs.declared.content.Content.TheVariants.{Root}
 use Rattle.xf_doc.specs.Examples.{node, element, attribute, text}
@@ -55,10 +57,13 @@ required t r = record r { required = Some (plainly t) }
 abbrev pub constraint : Trace → Rule → Rule
 constraint t r = record r { constraint = Some (plainly t) }
 
-abbrev pub integer : Bool → SimpleType
-integer may_be_empty = record { kind = built_in.Integer; may_be_empty = may_be_empty }
+abbrev pub simple_type : Bool → SimpleType
+simple_type may_be_empty = record { kind = built_in.Integer; may_be_empty = may_be_empty }
 
-abbrev pub typed : SimpleType → Rule → Rule
+abbrev pub integer : Bool → NamedType
+integer may_be_empty = BuiltIn (simple_type may_be_empty)
+
+abbrev pub typed : NamedType → Rule → Rule
 typed kind r = record r { kind = Some kind }
 
 -- the first instance of the first model, whose document element is node 1, with these binds

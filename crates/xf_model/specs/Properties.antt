@@ -2,7 +2,7 @@
 use Rattle.std.specs.Prelude.{ℕ, Bool, true, false, not, ◌&&◌, List, ◌∷◌, find, Option, Some, None, option_and_then, slice_get, ◌==◌}
 use Rattle.std.specs.List.{list_any, list_all}
 use Rattle.xf_num.specs.Written.{is_empty}
-use Rattle.xf_types.specs.declared.kind.SimpleType.{SimpleType}
+use Rattle.xf_schema.specs.declared.written.NamedType.{NamedType}
 use Rattle.xf_doc.specs.Visit.{Visit, ancestors_of}
 use Rattle.xf_doc.specs.StringValue.{string_value}
 use Rattle.xf_lang.specs.declared.value.Value.{Value}
@@ -13,9 +13,9 @@ use Rattle.xf_model.specs.Rules.{Scope}
 use Rattle.xf_model.specs.Applied.{Entry, is_property}
 use Rattle.xf_model.specs.Settled.{Valued}
 
--- whether a text meets a type
+-- whether a text meets a type that is named
 abbrev pub Meets : Type 0
-Meets = SimpleType → List ℕ → Bool
+Meets = NamedType → List ℕ → Bool
 
 -- ---- of the node itself
 
@@ -54,10 +54,10 @@ is_required values n = own values Required false n
 
 -- ---- validity (sections 4.3.3, 6.1.1 and 6.1.6)
 
-abbrev pub kind_of : Scope → List Entry → ℕ → Option SimpleType
+abbrev pub kind_of : Scope → List Entry → ℕ → Option NamedType
 kind_of scope entries n = option_and_then (λ e. option_and_then (λ r. r.kind) (slice_get scope.rules e.bind)) (find (sets_on n Kind) entries)
 
-abbrev pub meets_kind : Meets → Option SimpleType → List ℕ → Bool
+abbrev pub meets_kind : Meets → Option NamedType → List ℕ → Bool
 meets_kind meets None text = true
 meets_kind meets (Some kind) text = meets kind text
 

@@ -7,7 +7,7 @@ use Rattle.xf_ast.specs.declared.expr.Expr.TheOpen.{Expr-F, Link-F, Step-F}
 use Rattle.xf_ast.specs.declared.expr.Expr.TheFolds.{fold-Expr}
 use Rattle.xf_ast.specs.declared.form.Bind.{Bind}
 use Rattle.xf_ast.specs.declared.form.Tables.{Tables}
-use Rattle.xf_types.specs.declared.kind.SimpleType.{SimpleType}
+use Rattle.xf_schema.specs.declared.written.NamedType.{NamedType}
 use Rattle.xf_lang.specs.Given.{Given}
 use Rattle.xf_plain_values.specs.Functions.{Functions}
 use Rattle.xf_lang.specs.Table.{Function, function_at}
@@ -27,7 +27,7 @@ pub record Rule : Type 0 where
   -- the bind in which it stands
   pub around : Option ℕ
   pub node_set : Trace
-  pub kind : Option SimpleType
+  pub kind : Option NamedType
   pub calculate : Option Computed
   pub relevant : Option Computed
   pub readonly : Option Computed

@@ -60,19 +60,19 @@ module _ (p : Profile) (f : ℕ → ℕ) (first second : ℕ) (r : Runs p f firs
   t = image f second s
 
   valid-goes : (n : ℕ)
-      → is_valid p.meets (bind_scope p t model) (visits (map (renumbered f) s.forest.nodes)) (model_at t model).entries (values_of (model_at t model)) (f n)
-      ≡ is_valid p.meets (bind_scope p s model) (all_in s) (model_at s model).entries (values_of (model_at s model)) n
+      → is_valid (p.meets s.form.types) (bind_scope p t model) (visits (map (renumbered f) s.forest.nodes)) (model_at t model).entries (values_of (model_at t model)) (f n)
+      ≡ is_valid (p.meets s.form.types) (bind_scope p s model) (all_in s) (model_at s model).entries (values_of (model_at s model)) n
   valid-goes n =
       let m = model_at s model in
-      ap (λ x. is_valid p.meets (bind_scope p t model) (visits (map (renumbered f) s.forest.nodes)) x.entries (values_of x) (f n)) (model-at f model s.models)
-      ∙ ap (λ vs. is_valid p.meets (bind_scope p t model) (visits (map (renumbered f) s.forest.nodes)) (map (renumbered_entry f) m.entries) vs (f n)) (values-go f r.renumbers m)
-      ∙ ap (λ x. is_valid p.meets x (visits (map (renumbered f) s.forest.nodes)) (map (renumbered_entry f) m.entries) (map (renumbered_valued f) (values_of m)) (f n)) (bind_scope-is f r.renumbers second s p model)
-      ∙ ap (λ v. is_valid p.meets (renumbered_scope f (bind_scope p s model)) v (map (renumbered_entry f) m.entries) (map (renumbered_valued f) (values_of m)) (f n)) (visits-renumbered f r.renumbers s.forest.nodes)
-      ∙ is_valid-renumbered f r.renumbers (values_of m) p.meets (bind_scope p s model) (all_in s) m.entries n
+      ap (λ x. is_valid (p.meets s.form.types) (bind_scope p t model) (visits (map (renumbered f) s.forest.nodes)) x.entries (values_of x) (f n)) (model-at f model s.models)
+      ∙ ap (λ vs. is_valid (p.meets s.form.types) (bind_scope p t model) (visits (map (renumbered f) s.forest.nodes)) (map (renumbered_entry f) m.entries) vs (f n)) (values-go f r.renumbers m)
+      ∙ ap (λ x. is_valid (p.meets s.form.types) x (visits (map (renumbered f) s.forest.nodes)) (map (renumbered_entry f) m.entries) (map (renumbered_valued f) (values_of m)) (f n)) (bind_scope-is f r.renumbers second s p model)
+      ∙ ap (λ v. is_valid (p.meets s.form.types) (renumbered_scope f (bind_scope p s model)) v (map (renumbered_entry f) m.entries) (map (renumbered_valued f) (values_of m)) (f n)) (visits-renumbered f r.renumbers s.forest.nodes)
+      ∙ is_valid-renumbered f r.renumbers (values_of m) (p.meets s.form.types) (bind_scope p s model) (all_in s) m.entries n
 
   one-goes : (x : Visit) → is_invalid p model t (renumbered_visit f x) ≡ is_invalid p model s x
   one-goes x =
-      ap (λ o. is_model model o && not (is_valid p.meets (bind_scope p t model) (visits (map (renumbered f) s.forest.nodes)) (model_at t model).entries (values_of (model_at t model)) (f x.number)))
+      ap (λ o. is_model model o && not (is_valid (p.meets s.form.types) (bind_scope p t model) (visits (map (renumbered f) s.forest.nodes)) (model_at t model).entries (values_of (model_at t model)) (f x.number)))
       (model-goes f r.renumbers second s x.number)
       ∙ ap (λ b. is_model model (model_holding s x.number) && not b) (valid-goes x.number)
 

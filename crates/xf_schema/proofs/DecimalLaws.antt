@@ -5,7 +5,6 @@ use Rattle.std.specs.Char.{digit_value}
 use Rattle.std.specs.Str.Parse.{digits_value, digits_value_after}
 use Rattle.std.proofs.Math.Nat.{pow-suc, mul-le-mul_left}
 use Rattle.std.proofs.lemmas.Bool.Decides.{nat_tests}
-use Rattle.std.proofs.lemmas.List.{take_more, take_all}
 use Rattle.xf_num.specs.Number.{size_limit}
 use Rattle.xf_num.specs.Written.{is_digit, is_empty, after_digits, leading_digits}
 use Rattle.xf_num.proofs.TextLemmas.{front_and_last, leading_digits-all}

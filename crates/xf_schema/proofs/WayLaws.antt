@@ -1,27 +1,22 @@
--- Types by their names, one after the other, and one step of a way.
-use Rattle.std.proofs.Common.{◌≡◌, ℕ, zero, suc, ◌+◌, ◌<◌, ◌≤◌, List, [], ◌∷◌, length, get_or, drop, Some, None, refl, sym, ap, ◌∙◌, arith}
+-- Names, one after the other, and a type by its number.
+use Rattle.std.proofs.Common.{◌≡◌, ℕ, zero, suc, ◌+◌, ◌<◌, ◌≤◌, List, [], ◌∷◌, length, get_or, drop, Option, Some, None, refl, sym, ap, ◌∙◌, arith}
 use Rattle.std.specs.Prelude.{if◌then◌else◌, slice_get}
 use Rattle.std.proofs.lemmas.List.{drop_more}
-use Rattle.xf_schema.specs.declared.bases.Base.{Base}
 use Rattle.xf_schema.specs.declared.written.Restriction.{Restriction}
 use Rattle.xf_schema.specs.declared.written.TypeName.{TypeName}
-use Rattle.xf_schema.specs.Types.{base_of, declared_from, end_of, end_on, is_endless, is_endless_on, is_named, way, way_on}
+use Rattle.xf_schema.specs.declared.written.NamedType.{NamedType}
+use Rattle.xf_schema.specs.Types.{declared_from, end_of, end_on, is_named}
 
-pub declared-more : (types : List Restriction) (i : ℕ) (r : Restriction) (space local : List ℕ) → i < length types → r ≡ get_or types i r
-    → declared_from i (drop i types) space local ≡ (if is_named space local r.name then Some i else declared_from (i + 1) (drop (i + 1) types) space local)
-declared-more types i r space local l is =
-    ap (λ rs. declared_from i rs space local) (drop_more types i r l ∙ ap (λ x. x ∷ drop (i + 1) types) (sym is))
-    ∙ ap (λ k. if is_named space local r.name then Some i else declared_from k (drop (i + 1) types) space local) (let j : suc i ≡ i + 1 = omega arith in j)
+pub declared-more : (names : List TypeName) (i : ℕ) (r : TypeName) (space local : List ℕ) → i < length names → r ≡ get_or names i r
+    → declared_from i (drop i names) space local ≡ (if is_named space local r then Some i else declared_from (i + 1) (drop (i + 1) names) space local)
+declared-more names i r space local l is =
+    ap (λ rs. declared_from i rs space local) (drop_more names i r l ∙ ap (λ x. x ∷ drop (i + 1) names) (sym is))
+    ∙ ap (λ k. if is_named space local r then Some i else declared_from k (drop (i + 1) names) space local) (let j : suc i ≡ i + 1 = omega arith in j)
 
-module _ (types : List Restriction) (name : TypeName) (most k : ℕ) where
-  pub way-step : most ≡ suc k → (b : Base) → b ≡ base_of types name → way most types name ≡ way_on (way k types) types b
-  way-step h b e = ap (λ n. way n types name) h ∙ sym (ap (way_on (way k types) types) e)
+-- ---- one step of a way
 
-  pub end-step : most ≡ suc k → (b : Base) → b ≡ base_of types name → end_of most types name ≡ end_on (end_of k types) types b
-  end-step h b e = ap (λ n. end_of n types name) h ∙ sym (ap (end_on (end_of k types) types) e)
-
-  pub endless-step : most ≡ suc k → (b : Base) → b ≡ base_of types name → is_endless most types name ≡ is_endless_on (is_endless k types) types b
-  endless-step h b e = ap (λ n. is_endless n types name) h ∙ sym (ap (is_endless_on (is_endless k types) types) e)
+pub end-step : (types : List Restriction) (base given : Option NamedType) (most k : ℕ) → most ≡ suc k → base ≡ given → end_of most types base ≡ end_on (end_of k types) types given
+end-step types base given most k h e = ap (λ n. end_of n types base) h ∙ ap (end_on (end_of k types) types) e
 
 -- ---- a type by its number
 

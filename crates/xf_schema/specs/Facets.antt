@@ -1,6 +1,6 @@
 -- Facets (XML Schema part 2, section 4.3), and which texts meet a type by restriction: after its white space rule the text meets the built-in
 -- type at the end of its bases and every facet on the way. The empty text meets each type that ends in one of XForms.
-use Rattle.std.specs.Prelude.{ℕ, ◌/◌, Bool, true, false, ◌&&◌, ◌||◌, not, ◌==◌, nat_lt, nat_le, List, [], ◌∷◌, filter, find, length, bytes_eq, chars, unwrap_or, slice_get, Option, Some, None, option_and_then, if◌then◌else◌}
+use Rattle.std.specs.Prelude.{ℕ, ◌/◌, Bool, true, false, ◌&&◌, ◌||◌, not, ◌==◌, nat_le, List, [], ◌∷◌, find, length, bytes_eq, chars, unwrap_or, slice_get, Option, Some, None, if◌then◌else◌}
 use Rattle.std.specs.List.{list_all, list_any}
 use Rattle.std.specs.Str.Parse.{digits_value}
 use Rattle.xf_num.specs.Written.{is_empty, after_digits}
@@ -12,6 +12,8 @@ use Rattle.xf_schema.specs.declared.spaces.Space.{Space}
 use Rattle.xf_schema.specs.declared.written.Facet.{Facet}
 use Rattle.xf_schema.specs.declared.written.FacetKind.{FacetKind}
 use Rattle.xf_schema.specs.declared.written.FacetKind.TheVariants.{Length, MinLength, MaxLength, Enumeration, MinInclusive, MaxInclusive, MinExclusive, MaxExclusive, TotalDigits, FractionDigits, WhiteSpace}
+use Rattle.xf_schema.specs.declared.written.NamedType.{NamedType}
+use Rattle.xf_schema.specs.declared.written.NamedType.TheVariants.{BuiltIn as built_in, Declared}
 use Rattle.xf_schema.specs.declared.written.Restriction.{Restriction}
 use Rattle.xf_schema.specs.Decimals as decimals
 use Rattle.xf_schema.specs.Decimals.{decimal_of, is_less, is_same, total_digits}
@@ -165,3 +167,9 @@ meets_some types (Some r) text = meets_type_of types r text
 -- the text meets the type of this number
 abbrev pub meets_named : List Restriction → ℕ → List ℕ → Bool
 meets_named types number text = meets_some types (slice_get types number) text
+
+-- ---- a type that is named, among those of a form
+
+abbrev pub is_of_type : List Restriction → NamedType → List ℕ → Bool
+is_of_type types (built_in type) text = meets_type type text
+is_of_type types (Declared number) text = meets_named types number text

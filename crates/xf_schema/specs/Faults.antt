@@ -1,23 +1,19 @@
--- The first element of the schemas of a form, in document order, that breaks one of their rules.
-use Rattle.std.specs.Prelude.{ℕ, zero, suc, Bool, true, false, ◌||◌, not, ◌==◌, nat_lt, List, [], ◌∷◌, take, find, is_some, length, Option, Some, None, option_map, Result, Ok, Err, if◌then◌else◌}
+-- The place of the first element of the schemas of a form, in document order, that breaks one of their rules.
+use Rattle.std.specs.Prelude.{ℕ, suc, Bool, true, false, ◌||◌, not, ◌==◌, nat_lt, List, [], ◌∷◌, take, find, is_some, length, Option, Some, None, option_map, if◌then◌else◌}
 use Rattle.std.specs.List.{list_any}
 use Rattle.xf_types.specs.declared.kind.BuiltIn.{BuiltIn}
 use Rattle.xf_types.specs.declared.kind.BuiltIn.TheVariants.{AnyUri, HexBinary, NormalizedString, Text, Token}
 use Rattle.xf_types.specs.declared.kind.SimpleType.{SimpleType}
-use Rattle.xf_schema.specs.declared.bases.Base.{Base}
-use Rattle.xf_schema.specs.declared.bases.Base.TheVariants.{BuiltIn as built_in, Restricted, Missing}
-use Rattle.xf_schema.specs.declared.fault.SchemaFault.{SchemaFault}
-use Rattle.xf_schema.specs.declared.fault.SchemaFault.TheVariants.{Bad}
 use Rattle.xf_schema.specs.declared.written.Facet.{Facet}
 use Rattle.xf_schema.specs.declared.written.FacetKind.{FacetKind}
 use Rattle.xf_schema.specs.declared.written.FacetKind.TheVariants.{Length, MinLength, MaxLength, Enumeration, MinInclusive, MaxInclusive, MinExclusive, MaxExclusive, TotalDigits, FractionDigits, WhiteSpace}
+use Rattle.xf_schema.specs.declared.written.NamedType.{NamedType}
+use Rattle.xf_schema.specs.declared.written.NamedType.TheVariants.{BuiltIn as built_in, Declared}
 use Rattle.xf_schema.specs.declared.written.Restriction.{Restriction}
-use Rattle.xf_schema.specs.declared.written.Site.{Site}
-use Rattle.xf_schema.specs.declared.written.Written.{Written}
 use Rattle.xf_schema.specs.Decimals.{is_decimal_text}
 use Rattle.xf_schema.specs.Facets.{count_of, is_decimal_kind}
 use Rattle.xf_schema.specs.Spaces.{space_named}
-use Rattle.xf_schema.specs.Types.{base_of, end_of, is_endless, is_named}
+use Rattle.xf_schema.specs.Types.{end_of, is_endless, is_named}
 
 -- ---- facets
 
@@ -69,53 +65,46 @@ is_bad_facet end WhiteSpace value = is_bad_space end value
 is_bad_facet end Enumeration value = false
 
 -- the first of these facets that is bad
-abbrev pub bad_facet_among : Option SimpleType → List Facet → Option Site
-bad_facet_among end facets = option_map (λ f. f.site) (find (λ f. is_bad_facet end f.kind f.value) facets)
+abbrev pub bad_facet_among : Option SimpleType → List Facet → Option ℕ
+bad_facet_among end facets = option_map (λ f. f.place) (find (λ f. is_bad_facet end f.kind f.value) facets)
 
 -- ---- a simple type
 
 -- the base is no type, or the way from it has no end
-abbrev pub is_bad_base_by : Bool → Base → Bool
-is_bad_base_by endless (built_in type) = false
-is_bad_base_by endless (Restricted n) = endless
-is_bad_base_by endless Missing = true
+abbrev pub is_bad_base_by : Bool → Option NamedType → Bool
+is_bad_base_by endless None = true
+is_bad_base_by endless (Some (built_in type)) = false
+is_bad_base_by endless (Some (Declared n)) = endless
 
 abbrev pub is_bad_base : List Restriction → Restriction → Bool
-is_bad_base types r = is_bad_base_by (is_endless (length types) types r.base) (base_of types r.base)
+is_bad_base types r = is_bad_base_by (is_endless (length types) types r.base) r.base
 
 -- one of these has its name
 abbrev pub is_named_among : List Restriction → Restriction → Bool
 is_named_among before r = list_any (λ b. is_named r.name.space r.name.local b.name) before
 
 -- the first bad one of the simple type, its restriction and its facets, where these types stand before it
-abbrev pub bad_in : List Restriction → List Restriction → Restriction → Option Site
+abbrev pub bad_in : List Restriction → List Restriction → Restriction → Option ℕ
 bad_in types before r =
-    if is_named_among before r then Some r.type_site else (if is_bad_base types r then Some r.site else bad_facet_among (end_of (length types) types r.base) r.facets)
+    if is_named_among before r then Some r.type_place else (if is_bad_base types r then Some r.place else bad_facet_among (end_of (length types) types r.base) r.facets)
 
-abbrev pub or_next : Option Site → Option Site → Option Site
+abbrev pub or_next : Option ℕ → Option ℕ → Option ℕ
 or_next None next = next
-or_next (Some site) next = Some site
+or_next (Some place) next = Some place
 
 -- of the types from the number n on
-abbrev pub first_bad_from : List Restriction → ℕ → List Restriction → Option Site
+abbrev pub first_bad_from : List Restriction → ℕ → List Restriction → Option ℕ
 first_bad_from types n [] = None
 first_bad_from types n (r ∷ rs) = or_next (bad_in types (take n types) r) (first_bad_from types (suc n) rs)
 
 -- ---- all
 
 -- the one that stands first in the document
-abbrev pub earlier : Option Site → Option Site → Option Site
+abbrev pub earlier : Option ℕ → Option ℕ → Option ℕ
 earlier None second = second
 earlier (Some x) None = Some x
-earlier (Some x) (Some y) = if nat_lt y.place x.place then Some y else Some x
+earlier (Some x) (Some y) = if nat_lt y x then Some y else Some x
 
-abbrev pub first_bad : Written → Option Site
-first_bad written = earlier written.first_bad (first_bad_from written.types 0 written.types)
-
-abbrev pub checked : List Restriction → Option Site → Result (List Restriction) SchemaFault
-checked types None = Ok types
-checked types (Some site) = Err (Bad site.path)
-
--- the types of a form, or the path of the first bad element
-abbrev pub compiled : Written → Result (List Restriction) SchemaFault
-compiled written = checked written.types (first_bad written)
+-- of all that the schemas of a form hold: these types, and the first element that is none of theirs by itself, if there is one
+abbrev pub first_bad : List Restriction → Option ℕ → Option ℕ
+first_bad types strange = earlier strange (first_bad_from types 0 types)

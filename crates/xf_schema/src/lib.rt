@@ -5,14 +5,12 @@ mod bases;
 mod counts;
 mod decimals;
 mod facets;
-mod fault;
 mod meets;
 mod rules;
 mod schemas;
 mod spaces;
 mod written;
 
-pub use bases::declared;
-pub use fault::SchemaFault;
-pub use schemas::{Schemas, compile, meets_named};
-pub use written::{Facet, FacetKind, Restriction, Site, TypeName, Written};
+pub use bases::type_called;
+pub use schemas::{first_bad, is_of_type, meets_named};
+pub use written::{Facet, FacetKind, NamedType, Restriction, TypeName};

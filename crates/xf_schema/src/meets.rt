@@ -5,10 +5,10 @@ ghost use Rattle.std.specs.List.{list_all};
 ghost use Rattle.xf_schema.specs.Facets.{meets_restriction, meets_type_of, meets_under, nearest_space, space_on};
 ghost use Rattle.xf_schema.specs.Types.{way};
 
-use crate::bases::{Base, base_of, end_of};
+use crate::bases::end_of;
 use crate::facets::{meets_restriction, own_space};
 use crate::spaces::{Space, under, usual_space};
-use crate::written::{Restriction, TypeName};
+use crate::written::{NamedType, Restriction};
 use std::alloc::{AllocError, Global};
 use xf_types::{BuiltIn, SimpleType, meets};
 
@@ -21,7 +21,7 @@ pub(crate) fn meets_type_of(
 ) -> Result<bool, AllocError>
     ensures { IfOk result (λ b. b ≡ meets_type_of types.now restriction.now text.now) }
 {
-    let Some(end) = end_of(types, types.len(), &restriction.base) else {
+    let Some(end) = end_of(types, types.len(), restriction.base) else {
         return Ok(false);
     };
     let rule = space_of(types, restriction, end.kind);
@@ -36,24 +36,24 @@ fn space_of(types: &[Restriction], restriction: &Restriction, kind: BuiltIn) -> 
     if let Some(own) = own_space(restriction) {
         return own;
     }
-    match space_along(types, types.len(), &restriction.base) {
+    match space_along(types, types.len(), restriction.base) {
         Some(further) => further,
         None => usual_space(kind),
     }
 }
 
 /// The nearest rule from a base on, past so many types at most.
-fn space_along(types: &[Restriction], most: usize, name: &TypeName) -> Option<Space>
-    ensures { result ≡ nearest_space (way most types.now name.now) }
+fn space_along(types: &[Restriction], most: usize, base: Option<NamedType>) -> Option<Space>
+    ensures { result ≡ nearest_space (way most types.now base) }
 {
     if most == 0 {
         return None;
     }
-    match base_of(types, name) {
-        Base::Restricted(number) => match types.get(number) {
+    match base {
+        Some(NamedType::Declared(number)) => match types.get(number) {
             Some(restriction) => match own_space(restriction) {
                 Some(own) => Some(own),
-                None => space_along(types, most - 1, &restriction.base),
+                None => space_along(types, most - 1, restriction.base),
             },
             None => None,
         },
@@ -76,27 +76,27 @@ fn meets_under(
     if !meets(end, text) || !meets_restriction(end.kind, text, restriction) {
         return false;
     }
-    meets_along(types, types.len(), &restriction.base, end.kind, text)
+    meets_along(types, types.len(), restriction.base, end.kind, text)
 }
 
 /// Whether a text meets the restrictions from a base on, past so many types at most.
 fn meets_along(
     types: &[Restriction],
     most: usize,
-    name: &TypeName,
+    base: Option<NamedType>,
     kind: BuiltIn,
     text: &str,
 ) -> bool
-    ensures { result ≡ list_all (meets_restriction kind text.now) (way most types.now name.now) }
+    ensures { result ≡ list_all (meets_restriction kind text.now) (way most types.now base) }
 {
     if most == 0 {
         return true;
     }
-    match base_of(types, name) {
-        Base::Restricted(number) => match types.get(number) {
+    match base {
+        Some(NamedType::Declared(number)) => match types.get(number) {
             Some(restriction) => {
                 meets_restriction(kind, text, restriction)
-                    && meets_along(types, most - 1, &restriction.base, kind, text)
+                    && meets_along(types, most - 1, restriction.base, kind, text)
             }
             None => true,
         },

@@ -1,20 +1,20 @@
 //! Which elements of schemas are bad.
 
-ghost use Rattle.std.specs.Prelude.{◌≡◌, ◌≤◌, drop, length, option_map};
+ghost use Rattle.std.specs.Prelude.{◌≡◌, ◌≤◌, drop, length};
 ghost use Rattle.xf_schema.specs.Facets.{is_decimal_kind};
 ghost use Rattle.xf_schema.specs.Faults as faults;
 
-use crate::bases::{Base, base_of, end_of, is_endless, is_named};
+use crate::bases::{end_of, is_endless, is_named};
 use crate::counts::{count_of, is_decimal_kind};
 use crate::decimals::is_decimal;
 use crate::spaces::space_named;
-use crate::written::{Facet, FacetKind, Restriction, Site};
+use crate::written::{Facet, FacetKind, NamedType, Restriction};
 use xf_types::{BuiltIn, SimpleType};
 
 /// The first bad element of the types from a number on.
-pub(crate) fn first_bad_from(types: &[Restriction], number: usize) -> Option<&Site>
+pub(crate) fn first_bad_from(types: &[Restriction], number: usize) -> Option<u32>
     requires { number ≤ length types.now }
-    ensures { option_map (λ s. s.now) result ≡ faults.first_bad_from types.now number (drop number types.now) }
+    ensures { result ≡ faults.first_bad_from types.now number (drop number types.now) }
 {
     if number == types.len() {
         return None;
@@ -26,20 +26,16 @@ pub(crate) fn first_bad_from(types: &[Restriction], number: usize) -> Option<&Si
 }
 
 /// The first bad one of a simple type, its restriction and its facets, where these types stand before it.
-fn bad_in<'a>(
-    types: &[Restriction],
-    before: &[Restriction],
-    restriction: &'a Restriction,
-) -> Option<&'a Site>
-    ensures { option_map (λ s. s.now) result ≡ faults.bad_in types.now before.now restriction.now }
+fn bad_in(types: &[Restriction], before: &[Restriction], restriction: &Restriction) -> Option<u32>
+    ensures { result ≡ faults.bad_in types.now before.now restriction.now }
 {
     if is_named_among(before, restriction) {
-        return Some(&restriction.type_site);
+        return Some(restriction.type_place);
     }
     if is_bad_base(types, restriction) {
-        return Some(&restriction.site);
+        return Some(restriction.place);
     }
-    let end = end_of(types, types.len(), &restriction.base);
+    let end = end_of(types, types.len(), restriction.base);
     first_bad_facet(end, restriction.facets.as_slice())
 }
 
@@ -60,23 +56,23 @@ fn is_named_among(before: &[Restriction], restriction: &Restriction) -> bool
 fn is_bad_base(types: &[Restriction], restriction: &Restriction) -> bool
     ensures { result ≡ faults.is_bad_base types.now restriction.now }
 {
-    match base_of(types, &restriction.base) {
-        Base::BuiltIn(_) => false,
-        Base::Restricted(_) => is_endless(types, types.len(), &restriction.base),
-        Base::Missing => true,
+    match restriction.base {
+        Some(NamedType::BuiltIn(_)) => false,
+        Some(NamedType::Declared(_)) => is_endless(types, types.len(), restriction.base),
+        None => true,
     }
 }
 
 // ---- facets
 
-fn first_bad_facet(end: Option<SimpleType>, facets: &[Facet]) -> Option<&Site>
-    ensures { option_map (λ s. s.now) result ≡ faults.bad_facet_among end facets.now }
+fn first_bad_facet(end: Option<SimpleType>, facets: &[Facet]) -> Option<u32>
+    ensures { result ≡ faults.bad_facet_among end facets.now }
 {
     if facets.is_empty() {
         return None;
     }
     if is_bad_facet(end, &facets[0]) {
-        return Some(&facets[0].site);
+        return Some(facets[0].place);
     }
     first_bad_facet(end, &facets[1..])
 }

@@ -1,14 +1,8 @@
-//! The elements of schemas as they are read.
+//! The elements of schemas as they are read. The place of an element is that among all elements of the form, in document order.
 
 use xf_base::Items;
 use xf_name::Word;
-
-/// Where an element stands: its place among the elements of the form in document order, and its path.
-#[derive(Debug, Drop)]
-pub struct Site {
-    pub place: u32,
-    pub path: Word,
-}
+use xf_types::SimpleType;
 
 /// The name of a type: its namespace, empty without one, and its local part.
 #[derive(Debug, Drop)]
@@ -38,7 +32,14 @@ pub enum FacetKind {
 pub struct Facet {
     pub kind: FacetKind,
     pub value: Word,
-    pub site: Site,
+    pub place: u32,
+}
+
+/// A type that is named: a built-in one, or the one of this number.
+#[derive(Clone, Copy, Debug, PartialEq, Eq)]
+pub enum NamedType {
+    BuiltIn(SimpleType),
+    Declared(usize),
 }
 
 /// A simple type, which restricts another.
@@ -46,17 +47,10 @@ pub struct Facet {
 pub struct Restriction {
     pub name: TypeName,
     /// That of the simple type.
-    pub type_site: Site,
-    pub base: TypeName,
+    pub type_place: u32,
+    /// None where what is written names no type.
+    pub base: Option<NamedType>,
     /// That of the restriction in it.
-    pub site: Site,
+    pub place: u32,
     pub facets: Items<Facet>,
-}
-
-/// What the schemas of a form hold, in document order.
-#[derive(Debug, Drop)]
-pub struct Written {
-    pub types: Items<Restriction>,
-    /// The first element that is none of a schema: it is not known there, lacks an attribute or has another, or has not what it needs in it.
-    pub first_bad: Option<Site>,
 }

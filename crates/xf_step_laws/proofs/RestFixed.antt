@@ -131,18 +131,18 @@ module _ (p : Profile) (f : ℕ → ℕ) (same : IsRenumbering f) (texts : Keeps
         ap (λ st. map (value_from st) (filter is_computed two.entries)) (sym stood-are)
         ∙ ap (λ es. map (value_from (map (renumbered_valued f) one.stood)) (filter is_computed es)) (sym entries-are) ∙ valid.values-go f same one
 
-    valid-are : (n : ℕ) → is_valid p.meets (bind_scope p (with_data t) k) (visits (map (renumbered f) s.forest.nodes)) two.entries (values_of two) (f n)
-        ≡ is_valid p.meets (bind_scope p s k) (all_in s) one.entries (values_of one) n
+    valid-are : (n : ℕ) → is_valid (p.meets s.form.types) (bind_scope p (with_data t) k) (visits (map (renumbered f) s.forest.nodes)) two.entries (values_of two) (f n)
+        ≡ is_valid (p.meets s.form.types) (bind_scope p s k) (all_in s) one.entries (values_of one) n
     valid-are n =
-        ap (λ vs. is_valid p.meets (bind_scope p (with_data t) k) (visits (map (renumbered f) s.forest.nodes)) two.entries vs (f n)) values-are
-        ∙ ap (λ es. is_valid p.meets (bind_scope p (with_data t) k) (visits (map (renumbered f) s.forest.nodes)) es (map (renumbered_valued f) (values_of one)) (f n)) (sym entries-are)
-        ∙ ap (λ x. is_valid p.meets x (visits (map (renumbered f) s.forest.nodes)) (map (renumbered_entry f) one.entries) (map (renumbered_valued f) (values_of one)) (f n)) scopes
-        ∙ ap (λ v. is_valid p.meets (renumbered_scope f (bind_scope p s k)) v (map (renumbered_entry f) one.entries) (map (renumbered_valued f) (values_of one)) (f n)) (visits-renumbered f same s.forest.nodes)
-        ∙ is_valid-renumbered f same (values_of one) p.meets (bind_scope p s k) (all_in s) one.entries n
+        ap (λ vs. is_valid (p.meets s.form.types) (bind_scope p (with_data t) k) (visits (map (renumbered f) s.forest.nodes)) two.entries vs (f n)) values-are
+        ∙ ap (λ es. is_valid (p.meets s.form.types) (bind_scope p (with_data t) k) (visits (map (renumbered f) s.forest.nodes)) es (map (renumbered_valued f) (values_of one)) (f n)) (sym entries-are)
+        ∙ ap (λ x. is_valid (p.meets s.form.types) x (visits (map (renumbered f) s.forest.nodes)) (map (renumbered_entry f) one.entries) (map (renumbered_valued f) (values_of one)) (f n)) scopes
+        ∙ ap (λ v. is_valid (p.meets s.form.types) (renumbered_scope f (bind_scope p s k)) v (map (renumbered_entry f) one.entries) (map (renumbered_valued f) (values_of one)) (f n)) (visits-renumbered f same s.forest.nodes)
+        ∙ is_valid-renumbered f same (values_of one) (p.meets s.form.types) (bind_scope p s k) (all_in s) one.entries n
 
     each-is : (x : Visit) → is_invalid p k (with_data t) (renumbered_visit f x) ≡ is_invalid p k s x
     each-is x =
-        ap (λ o. is_model k o && not (is_valid p.meets (bind_scope p (with_data t) k) (visits (map (renumbered f) s.forest.nodes)) two.entries (values_of two) (f x.number))) (model-goes f same 0 s x.number)
+        ap (λ o. is_model k o && not (is_valid (p.meets s.form.types) (bind_scope p (with_data t) k) (visits (map (renumbered f) s.forest.nodes)) two.entries (values_of two) (f x.number))) (model-goes f same 0 s x.number)
         ∙ ap (λ b. is_model k (model_holding s x.number) && not b) (valid-are x.number)
 
     invalid-are : map f one.invalid ≡ two.invalid

@@ -27,7 +27,7 @@ elements =
 abbrev form : List written.Element → List ℕ → Form
 form all repeats = record {
   decimals = 6;
-  tables = record { models = 1; instances = []; binds = []; submissions = [] };
+  tables = record { models = 1; instances = []; binds = []; submissions = []; types = [] };
   elements = all;
   models = 1 ∷ [];
   instances = [];

@@ -5,7 +5,8 @@ use Rattle.std.proofs.lemmas.Bool.{eqb-true}
 use Rattle.std.proofs.lemmas.Bool.Decides.{nat_tests}
 use Rattle.std.proofs.lemmas.Option.{slice_get-map, slice_get_read}
 use Rattle.xf_num.specs.Written.{is_empty}
-use Rattle.xf_types.specs.Meets.{meets_type}
+use Rattle.xf_schema.specs.declared.written.Restriction.{Restriction}
+use Rattle.xf_schema.specs.Facets.{is_of_type}
 use Rattle.xf_ast.specs.declared.form.Bind.{Bind}
 use Rattle.xf_ast.specs.declared.form.Instance.{Instance}
 use Rattle.xf_doc.specs.declared.content.Node.{Node}
@@ -192,12 +193,12 @@ roots-held n model nodes is a = by (instance_of n nodes) refl
 
 -- ---- among the nodes of entries
 
-has-failed : (scope : Scope) (nodes : List Node) (roots : List ℕ) (k : Kept) (n : ℕ) (es : List Entry)
-    → has n (failed_among scope nodes roots k es) ≡ (is_failed scope nodes roots k n && list_any (λ e. n == e.node) es)
-has-failed scope nodes roots k n [] = sym (and-none (is_failed scope nodes roots k n))
-has-failed scope nodes roots k n (x ∷ xs) =
-    has-append n (failed_by scope nodes roots k x) (failed_among scope nodes roots k xs)
-    ∙ ap (λ b. has n (failed_by scope nodes roots k x) || b) (has-failed scope nodes roots k n xs)
+has-failed : (types : List Restriction) (scope : Scope) (nodes : List Node) (roots : List ℕ) (k : Kept) (n : ℕ) (es : List Entry)
+    → has n (failed_among types scope nodes roots k es) ≡ (is_failed types scope nodes roots k n && list_any (λ e. n == e.node) es)
+has-failed types scope nodes roots k n [] = sym (and-none (is_failed types scope nodes roots k n))
+has-failed types scope nodes roots k n (x ∷ xs) =
+    has-append n (failed_by types scope nodes roots k x) (failed_among types scope nodes roots k xs)
+    ∙ ap (λ b. has n (failed_by types scope nodes roots k x) || b) (has-failed types scope nodes roots k n xs)
     ∙ by (n == x.node) refl
   where
     one : (f : Bool) → has n (cond f (x.node ∷ []) []) ≡ (f && ((n == x.node) || false))
@@ -209,16 +210,16 @@ has-failed scope nodes roots k n (x ∷ xs) =
     joined false r = refl
 
     by : (c : Bool) → (n == x.node) ≡ c
-        → (has n (failed_by scope nodes roots k x) || (is_failed scope nodes roots k n && list_any (λ e. n == e.node) xs)) ≡ (is_failed scope nodes roots k n && ((n == x.node) || list_any (λ e. n == e.node) xs))
+        → (has n (failed_by types scope nodes roots k x) || (is_failed types scope nodes roots k n && list_any (λ e. n == e.node) xs)) ≡ (is_failed types scope nodes roots k n && ((n == x.node) || list_any (λ e. n == e.node) xs))
     by true c =
-        ap (λ b. b || (is_failed scope nodes roots k n && list_any (λ e. n == e.node) xs))
-        (one (is_failed scope nodes roots k x.node) ∙ ap (λ b. is_failed scope nodes roots k x.node && (b || false)) c ∙ ap (λ m. is_failed scope nodes roots k m && true) (sym (eqb-true n x.node c)))
-        ∙ joined (is_failed scope nodes roots k n) (list_any (λ e. n == e.node) xs)
-        ∙ ap (λ b. is_failed scope nodes roots k n && (b || list_any (λ e. n == e.node) xs)) (sym c)
+        ap (λ b. b || (is_failed types scope nodes roots k n && list_any (λ e. n == e.node) xs))
+        (one (is_failed types scope nodes roots k x.node) ∙ ap (λ b. is_failed types scope nodes roots k x.node && (b || false)) c ∙ ap (λ m. is_failed types scope nodes roots k m && true) (sym (eqb-true n x.node c)))
+        ∙ joined (is_failed types scope nodes roots k n) (list_any (λ e. n == e.node) xs)
+        ∙ ap (λ b. is_failed types scope nodes roots k n && (b || list_any (λ e. n == e.node) xs)) (sym c)
     by false c =
-        ap (λ b. b || (is_failed scope nodes roots k n && list_any (λ e. n == e.node) xs))
-        (one (is_failed scope nodes roots k x.node) ∙ ap (λ b. is_failed scope nodes roots k x.node && (b || false)) c ∙ and-none (is_failed scope nodes roots k x.node))
-        ∙ ap (λ b. is_failed scope nodes roots k n && (b || list_any (λ e. n == e.node) xs)) (sym c)
+        ap (λ b. b || (is_failed types scope nodes roots k n && list_any (λ e. n == e.node) xs))
+        (one (is_failed types scope nodes roots k x.node) ∙ ap (λ b. is_failed types scope nodes roots k x.node && (b || false)) c ∙ and-none (is_failed types scope nodes roots k x.node))
+        ∙ ap (λ b. is_failed types scope nodes roots k n && (b || list_any (λ e. n == e.node) xs)) (sym c)
 
 -- a node without an entry is valid
 
@@ -229,17 +230,17 @@ unset n p (x ∷ xs) h = let q = or-parts (n == x.node) (list_any (λ e. n == e.
 own-not : (k : Kept) (n : ℕ) (p : Property) (d : Bool) → is_property p Kind ≡ false → find (sets_on n p) k.entries ≡ None → own (values_of k) p d n ≡ d
 own-not k n p d c h = own-in k n p d c ∙ ap (λ o. truth_told d (option_map (truth_from k.stood) o)) h
 
-pub valid-unset : (scope : Scope) (nodes : List Node) (k : Kept) (n : ℕ) → find (sets_on n Constraint) k.entries ≡ None → find (sets_on n Required) k.entries ≡ None → find (sets_on n Kind) k.entries ≡ None → fails scope nodes k n ≡ false
-valid-unset scope nodes k n c r t =
-    ap not (ap (λ a. (a && not (own (values_of k) Required false n && is_empty s)) && meets_kind meets_type (kind_of scope k.entries n) s) (own-not k n Constraint true refl c)
-    ∙ ap (λ r. not (r && is_empty s) && meets_kind meets_type (kind_of scope k.entries n) s) (own-not k n Required false refl r)
-    ∙ ap (λ o. meets_kind meets_type (option_and_then (λ e. option_and_then (λ r. r.kind) (slice_get scope.rules e.bind)) o) s) t)
+pub valid-unset : (types : List Restriction) (scope : Scope) (nodes : List Node) (k : Kept) (n : ℕ) → find (sets_on n Constraint) k.entries ≡ None → find (sets_on n Required) k.entries ≡ None → find (sets_on n Kind) k.entries ≡ None → fails types scope nodes k n ≡ false
+valid-unset types scope nodes k n c r t =
+    ap not (ap (λ a. (a && not (own (values_of k) Required false n && is_empty s)) && meets_kind (is_of_type types) (kind_of scope k.entries n) s) (own-not k n Constraint true refl c)
+    ∙ ap (λ r. not (r && is_empty s) && meets_kind (is_of_type types) (kind_of scope k.entries n) s) (own-not k n Required false refl r)
+    ∙ ap (λ o. meets_kind (is_of_type types) (option_and_then (λ e. option_and_then (λ r. r.kind) (slice_get scope.rules e.bind)) o) s) t)
   where
     s : List ℕ
     s = string_value n (visits nodes)
 
-valid-none : (scope : Scope) (nodes : List Node) (k : Kept) (n : ℕ) → list_any (λ e. n == e.node) k.entries ≡ false → fails scope nodes k n ≡ false
-valid-none scope nodes k n h = valid-unset scope nodes k n (unset n Constraint k.entries h) (unset n Required k.entries h) (unset n Kind k.entries h)
+valid-none : (types : List Restriction) (scope : Scope) (nodes : List Node) (k : Kept) (n : ℕ) → list_any (λ e. n == e.node) k.entries ≡ false → fails types scope nodes k n ≡ false
+valid-none types scope nodes k n h = valid-unset types scope nodes k n (unset n Constraint k.entries h) (unset n Required k.entries h) (unset n Kind k.entries h)
 
 -- ---- in document order
 
@@ -254,56 +255,56 @@ filter-visits p q above (x ∷ xs) h =
     right true b h = refl
     right false b h = h
 
-pub invalid-found : (scope : Scope) (instances : List Instance) (nodes : List Node) (k : Kept) → are_apart nodes ≡ true
-    → in_order (visits nodes) (failed_among scope nodes (roots_from scope.model nodes 0 instances) k k.entries) ≡ invalid_in scope instances nodes k
-invalid-found scope instances nodes k a =
-    ap (map (λ (v : Visit). v.number)) (filter-visits (λ n. has n (failed_among scope nodes roots k k.entries)) (is_invalid scope instances nodes k) [] nodes at)
+pub invalid-found : (types : List Restriction) (scope : Scope) (instances : List Instance) (nodes : List Node) (k : Kept) → are_apart nodes ≡ true
+    → in_order (visits nodes) (failed_among types scope nodes (roots_from scope.model nodes 0 instances) k k.entries) ≡ invalid_in types scope instances nodes k
+invalid-found types scope instances nodes k a =
+    ap (map (λ (v : Visit). v.number)) (filter-visits (λ n. has n (failed_among types scope nodes roots k k.entries)) (is_invalid types scope instances nodes k) [] nodes at)
   where
     roots : List ℕ
     roots = roots_from scope.model nodes 0 instances
 
-    at : (n : ℕ) → has_number n nodes ≡ true → has n (failed_among scope nodes roots k k.entries) ≡ is_invalid scope instances nodes k n
-    at n live = has-failed scope nodes roots k n k.entries ∙ by (list_any (λ e. n == e.node) k.entries) refl
+    at : (n : ℕ) → has_number n nodes ≡ true → has n (failed_among types scope nodes roots k k.entries) ≡ is_invalid types scope instances nodes k n
+    at n live = has-failed types scope nodes roots k n k.entries ∙ by (list_any (λ e. n == e.node) k.entries) refl
       where
-        failed : is_failed scope nodes roots k n ≡ (is_held instances scope.model nodes n && fails scope nodes k n)
+        failed : is_failed types scope nodes roots k n ≡ (is_held instances scope.model nodes n && fails types scope nodes k n)
         failed =
-            ap (λ b. (b && has (top_of n (visits nodes)) roots) && fails scope nodes k n) live
-            ∙ ap (λ b. b && fails scope nodes k n) (roots-held (top_of n (visits nodes)) scope.model nodes instances a)
+            ap (λ b. (b && has (top_of n (visits nodes)) roots) && fails types scope nodes k n) live
+            ∙ ap (λ b. b && fails types scope nodes k n) (roots-held (top_of n (visits nodes)) scope.model nodes instances a)
 
-        by : (b : Bool) → list_any (λ e. n == e.node) k.entries ≡ b → (is_failed scope nodes roots k n && list_any (λ e. n == e.node) k.entries) ≡ is_invalid scope instances nodes k n
-        by true e = ap (λ b. is_failed scope nodes roots k n && b) e ∙ and-some (is_failed scope nodes roots k n) ∙ failed
+        by : (b : Bool) → list_any (λ e. n == e.node) k.entries ≡ b → (is_failed types scope nodes roots k n && list_any (λ e. n == e.node) k.entries) ≡ is_invalid types scope instances nodes k n
+        by true e = ap (λ b. is_failed types scope nodes roots k n && b) e ∙ and-some (is_failed types scope nodes roots k n) ∙ failed
         by false e =
-            ap (λ b. is_failed scope nodes roots k n && b) e ∙ and-none (is_failed scope nodes roots k n)
-            ∙ sym (and-none (is_held instances scope.model nodes n)) ∙ ap (λ b. is_held instances scope.model nodes n && b) (sym (valid-none scope nodes k n e))
+            ap (λ b. is_failed types scope nodes roots k n && b) e ∙ and-none (is_failed types scope nodes roots k n)
+            ∙ sym (and-none (is_held instances scope.model nodes n)) ∙ ap (λ b. is_held instances scope.model nodes n && b) (sym (valid-none types scope nodes k n e))
 
 -- ---- what makes a node fail
 
-pub failed-not : (scope : Scope) (nodes : List Node) (roots : List ℕ) (k : Kept) (n : ℕ) → has_number n nodes ≡ false → false ≡ is_failed scope nodes roots k n
-failed-not scope nodes roots k n h = sym (ap (λ b. (b && has (top_of n (visits nodes)) roots) && fails scope nodes k n) h)
+pub failed-not : (types : List Restriction) (scope : Scope) (nodes : List Node) (roots : List ℕ) (k : Kept) (n : ℕ) → has_number n nodes ≡ false → false ≡ is_failed types scope nodes roots k n
+failed-not types scope nodes roots k n h = sym (ap (λ b. (b && has (top_of n (visits nodes)) roots) && fails types scope nodes k n) h)
 
-pub failed-outside : (scope : Scope) (nodes : List Node) (roots : List ℕ) (k : Kept) (n : ℕ) → has (top_of n (visits nodes)) roots ≡ false → false ≡ is_failed scope nodes roots k n
-failed-outside scope nodes roots k n h = sym (ap (λ b. (has_number n nodes && b) && fails scope nodes k n) h ∙ ap (λ b. b && fails scope nodes k n) (and-none (has_number n nodes)))
+pub failed-outside : (types : List Restriction) (scope : Scope) (nodes : List Node) (roots : List ℕ) (k : Kept) (n : ℕ) → has (top_of n (visits nodes)) roots ≡ false → false ≡ is_failed types scope nodes roots k n
+failed-outside types scope nodes roots k n h = sym (ap (λ b. (has_number n nodes && b) && fails types scope nodes k n) h ∙ ap (λ b. b && fails types scope nodes k n) (and-none (has_number n nodes)))
 
-pub failed-inside : (scope : Scope) (nodes : List Node) (roots : List ℕ) (k : Kept) (n : ℕ) → has_number n nodes ≡ true → has (top_of n (visits nodes)) roots ≡ true → fails scope nodes k n ≡ is_failed scope nodes roots k n
-failed-inside scope nodes roots k n h i = sym (ap (λ b. (b && has (top_of n (visits nodes)) roots) && fails scope nodes k n) h ∙ ap (λ b. b && fails scope nodes k n) i)
+pub failed-inside : (types : List Restriction) (scope : Scope) (nodes : List Node) (roots : List ℕ) (k : Kept) (n : ℕ) → has_number n nodes ≡ true → has (top_of n (visits nodes)) roots ≡ true → fails types scope nodes k n ≡ is_failed types scope nodes roots k n
+failed-inside types scope nodes roots k n h i = sym (ap (λ b. (b && has (top_of n (visits nodes)) roots) && fails types scope nodes k n) h ∙ ap (λ b. b && fails types scope nodes k n) i)
 
 -- ---- for loops over entries and instances
 
-pub failed-step : (scope : Scope) (nodes : List Node) (roots : List ℕ) (k : Kept) (es : List Entry) (at : ℕ)
-    → failed_at scope nodes roots k (slice_get es at) ++ failed_among scope nodes roots k (drop (suc at) es) ≡ failed_among scope nodes roots k (drop at es)
-failed-step scope nodes roots k [] zero = refl
-failed-step scope nodes roots k [] (suc at) = refl
-failed-step scope nodes roots k (x ∷ xs) zero = refl
-failed-step scope nodes roots k (x ∷ xs) (suc at) = failed-step scope nodes roots k xs at
+pub failed-step : (types : List Restriction) (scope : Scope) (nodes : List Node) (roots : List ℕ) (k : Kept) (es : List Entry) (at : ℕ)
+    → failed_at types scope nodes roots k (slice_get es at) ++ failed_among types scope nodes roots k (drop (suc at) es) ≡ failed_among types scope nodes roots k (drop at es)
+failed-step types scope nodes roots k [] zero = refl
+failed-step types scope nodes roots k [] (suc at) = refl
+failed-step types scope nodes roots k (x ∷ xs) zero = refl
+failed-step types scope nodes roots k (x ∷ xs) (suc at) = failed-step types scope nodes roots k xs at
 
-pub failed-more : (scope : Scope) (nodes : List Node) (roots : List ℕ) (k : Kept) (es : List Entry) (at : ℕ) (old new : List ℕ)
-    → old ++ failed_among scope nodes roots k (drop at es) ≡ failed_among scope nodes roots k es → new ≡ old ++ failed_at scope nodes roots k (slice_get es at)
-    → new ++ failed_among scope nodes roots k (drop (at + 1) es) ≡ failed_among scope nodes roots k es
-failed-more scope nodes roots k es at old new so_far added =
-    ap (λ j. new ++ failed_among scope nodes roots k (drop j es)) (let e : at + 1 ≡ suc at = omega arith in e)
-    ∙ ap (λ l. l ++ failed_among scope nodes roots k (drop (suc at) es)) added
-    ∙ append_assoc old (failed_at scope nodes roots k (slice_get es at)) (failed_among scope nodes roots k (drop (suc at) es))
-    ∙ ap (λ l. old ++ l) (failed-step scope nodes roots k es at) ∙ so_far
+pub failed-more : (types : List Restriction) (scope : Scope) (nodes : List Node) (roots : List ℕ) (k : Kept) (es : List Entry) (at : ℕ) (old new : List ℕ)
+    → old ++ failed_among types scope nodes roots k (drop at es) ≡ failed_among types scope nodes roots k es → new ≡ old ++ failed_at types scope nodes roots k (slice_get es at)
+    → new ++ failed_among types scope nodes roots k (drop (at + 1) es) ≡ failed_among types scope nodes roots k es
+failed-more types scope nodes roots k es at old new so_far added =
+    ap (λ j. new ++ failed_among types scope nodes roots k (drop j es)) (let e : at + 1 ≡ suc at = omega arith in e)
+    ∙ ap (λ l. l ++ failed_among types scope nodes roots k (drop (suc at) es)) added
+    ∙ append_assoc old (failed_at types scope nodes roots k (slice_get es at)) (failed_among types scope nodes roots k (drop (suc at) es))
+    ∙ ap (λ l. old ++ l) (failed-step types scope nodes roots k es at) ∙ so_far
 
 pub drop-get : {X : Type 0} (xs : List X) (i : ℕ) (x : X) → slice_get xs i ≡ Some x → drop i xs ≡ x ∷ drop (i + 1) xs
 drop-get [] i x e = cc e
@@ -319,10 +320,10 @@ drop-past [] (suc at) h = refl
 drop-past (x ∷ xs) zero h = absurd (let z : suc (length xs) ≤ 0 = h in omega (arith, z))
 drop-past (x ∷ xs) (suc at) h = drop-past xs at (let z : suc (length xs) ≤ suc at = h in omega (arith, z))
 
-pub failed-all : (scope : Scope) (nodes : List Node) (roots : List ℕ) (k : Kept) (es : List Entry) (at : ℕ) (found : List ℕ)
-    → found ++ failed_among scope nodes roots k (drop at es) ≡ failed_among scope nodes roots k es → length es ≤ at → found ≡ failed_among scope nodes roots k es
-failed-all scope nodes roots k es at found so_far past =
-    sym (append-nil found) ∙ ap (λ l. found ++ failed_among scope nodes roots k l) (sym (drop-past es at past)) ∙ so_far
+pub failed-all : (types : List Restriction) (scope : Scope) (nodes : List Node) (roots : List ℕ) (k : Kept) (es : List Entry) (at : ℕ) (found : List ℕ)
+    → found ++ failed_among types scope nodes roots k (drop at es) ≡ failed_among types scope nodes roots k es → length es ≤ at → found ≡ failed_among types scope nodes roots k es
+failed-all types scope nodes roots k es at found so_far past =
+    sym (append-nil found) ∙ ap (λ l. found ++ failed_among types scope nodes roots k l) (sym (drop-past es at past)) ∙ so_far
 
 pub roots-more : (model : ℕ) (nodes : List Node) (is : List Instance) (place : ℕ) (x : Instance) (old new all : List ℕ) → place < length is → x ≡ get_or is place x
     → old ++ roots_from model nodes place (drop place is) ≡ all → new ≡ old ++ cond (x.model == model) (as_list (root_of place nodes)) []

@@ -3,7 +3,7 @@
 ghost use Rattle.std.specs.Prelude.{◌≡◌, ◌<◌, ◌==◌, ◌&&◌, ◌++◌, ◌∷◌, [], if◌then◌else◌, length, false, IfOk, OnOk, OnErr, option_map, slice_get};
 ghost use Rattle.std.specs.Bool.{OnFalse, OnTrue};
 ghost use Rattle.xf_num.specs.Written.{is_empty};
-ghost use Rattle.xf_types.specs.Meets.{meets_type};
+ghost use Rattle.xf_schema.specs.Facets.{is_of_type};
 ghost use Rattle.xf_plain_values.specs.Functions.{Functions};
 ghost use Rattle.xf_doc.specs.Changes.{root_of};
 ghost use Rattle.xf_doc.specs.Forest.{IsLive};
@@ -26,8 +26,8 @@ use xf_ast::{Bind, Instance, Tables};
 use xf_binds::{Entry, NodeSet, Table};
 use xf_doc::{NodeId, NodeList};
 use xf_model::Property;
+use xf_schema::{NamedType, is_of_type};
 use xf_tree::Forest;
-use xf_types::{SimpleType, meets};
 
 /// What the entries of a node ask of it.
 #[derive(Clone, Copy, Debug)]
@@ -50,7 +50,7 @@ pub fn revalidate(
     ensures same { IfOk result (λ same. OnTrue same ((kept_at table.new model).invalid ≡ (kept_at table.old model).invalid)) }
     ensures differs { IfOk result (λ same. OnFalse same ((kept_at table.new model).invalid ≡ (kept_at table.old model).invalid → ⊥)) }
     ensures ok { OnOk result ((functions : Functions) (given : Given)
-        → table.new ≡ with_kept table.old model (revalidated (scope_of functions given tables.now model) tables.now.instances forest.now.forest.nodes (kept_at table.old model))) }
+        → table.new ≡ with_kept table.old model (revalidated tables.now.types (scope_of functions given tables.now model) tables.now.instances forest.now.forest.nodes (kept_at table.old model))) }
     ensures err { OnErr result (table.new ≡ table.old) }
 {
     let is_asked = asks_any(table, model);
@@ -75,12 +75,12 @@ fn all_failed(
     roots: &NodeSet,
 ) -> Result<NodeList, AllocError>
     ensures { IfOk result (λ found. (functions : Functions) (given : Given)
-        → found ≡ failed_among (scope_of functions given tables.now model) forest.now.forest.nodes roots.now (kept_at table.now model) (kept_at table.now model).entries) }
+        → found ≡ failed_among tables.now.types (scope_of functions given tables.now model) forest.now.forest.nodes roots.now (kept_at table.now model) (kept_at table.now model).entries) }
 {
     let mut found = NodeList::new(alloc);
     let count = table.len(model);
     for at in 0..count {
-        push_failed(&mut found, tables, forest, model, table, roots, at)?;
+        push_failed(alloc, &mut found, tables, forest, model, table, roots, at)?;
     }
     Ok(found)
 }
@@ -96,6 +96,7 @@ fn asks_any(table: &Table, model: u32) -> bool
 
 /// Adds the node of an entry, where it stands in an instance with one of these roots and is not valid.
 fn push_failed(
+    alloc: Global,
     found: &mut NodeList,
     tables: &Tables,
     forest: &Forest,
@@ -105,12 +106,12 @@ fn push_failed(
     at: usize,
 ) -> Result<(), AllocError>
     ensures { OnOk result ((functions : Functions) (given : Given) → found.new ≡ found.old
-        ++ failed_at (scope_of functions given tables.now model) forest.now.forest.nodes roots.now (kept_at table.now model) (slice_get (kept_at table.now model).entries at)) }
+        ++ failed_at tables.now.types (scope_of functions given tables.now model) forest.now.forest.nodes roots.now (kept_at table.now model) (slice_get (kept_at table.now model).entries at)) }
 {
     let Some(entry) = table.entry(model, at) else {
         return Ok(());
     };
-    let failed = is_failed(tables, forest, model, table, roots, entry.node)?;
+    let failed = is_failed(alloc, tables, forest, model, table, roots, entry.node)?;
     push_where(found, failed, entry.node)
 }
 
@@ -125,6 +126,7 @@ fn push_where(found: &mut NodeList, is_wanted: bool, node: NodeId) -> Result<(),
 
 /// Whether a node stands in an instance with one of these roots and is not valid.
 fn is_failed(
+    alloc: Global,
     tables: &Tables,
     forest: &Forest,
     model: u32,
@@ -133,7 +135,7 @@ fn is_failed(
     node: NodeId,
 ) -> Result<bool, AllocError>
     ensures { IfOk result (λ failed. (functions : Functions) (given : Given)
-        → failed ≡ is_failed (scope_of functions given tables.now model) forest.now.forest.nodes roots.now (kept_at table.now model) node.number) }
+        → failed ≡ is_failed tables.now.types (scope_of functions given tables.now model) forest.now.forest.nodes roots.now (kept_at table.now model) node.number) }
 {
     let asked = asked_of(table, model, node);
     let can_fail = can_fail(&asked);
@@ -148,7 +150,7 @@ fn is_failed(
     if !is_under {
         return Ok(false);
     }
-    fails(tables, forest, &asked, node)
+    fails(alloc, tables, forest, &asked, node)
 }
 
 fn asked_of(table: &Table, model: u32, node: NodeId) -> Asked
@@ -169,9 +171,15 @@ fn can_fail(asked: &Asked) -> bool
 }
 
 /// Whether a node that is asked this is not valid.
-fn fails(tables: &Tables, forest: &Forest, asked: &Asked, node: NodeId) -> Result<bool, AllocError>
+fn fails(
+    alloc: Global,
+    tables: &Tables,
+    forest: &Forest,
+    asked: &Asked,
+    node: NodeId,
+) -> Result<bool, AllocError>
     requires { IsLive node.number forest.now.forest }
-    ensures { IfOk result (λ failed. failed ≡ fails_asked tables.now.binds asked.now (string_value node.number (visits forest.now.forest.nodes))) }
+    ensures { IfOk result (λ failed. failed ≡ fails_asked tables.now.types tables.now.binds asked.now (string_value node.number (visits forest.now.forest.nodes))) }
 {
     if !asked.is_met {
         return Ok(true);
@@ -180,7 +188,7 @@ fn fails(tables: &Tables, forest: &Forest, asked: &Asked, node: NodeId) -> Resul
     if is_missing {
         return Ok(true);
     }
-    let fits = is_of_kind(tables, forest, asked.kind, node)?;
+    let fits = is_of_kind(alloc, tables, forest, asked.kind, node)?;
     Ok(!fits)
 }
 
@@ -194,16 +202,17 @@ fn is_missing(is_required: bool, forest: &Forest, node: NodeId) -> bool
 
 /// Whether the string value of a node meets the type that an entry gives.
 fn is_of_kind(
+    alloc: Global,
     tables: &Tables,
     forest: &Forest,
     entry: Option<Entry>,
     node: NodeId,
 ) -> Result<bool, AllocError>
     requires { IsLive node.number forest.now.forest }
-    ensures { IfOk result (λ met. met ≡ meets_kind meets_type (kind_in tables.now.binds (option_map entry_of entry)) (string_value node.number (visits forest.now.forest.nodes))) }
+    ensures { IfOk result (λ met. met ≡ meets_kind (is_of_type tables.now.types) (kind_in tables.now.binds (option_map entry_of entry)) (string_value node.number (visits forest.now.forest.nodes))) }
 {
     match kind_in(tables.binds.as_slice(), entry) {
-        Some(kind) => meets_at(forest, kind, node),
+        Some(named) => meets_at(alloc, tables, forest, named, node),
         None => Ok(true),
     }
 }
@@ -258,7 +267,7 @@ fn own(table: &Table, model: u32, node: NodeId, property: Property, default: boo
 }
 
 /// The type that an entry gives.
-fn kind_in(binds: &[Bind], entry: Option<Entry>) -> Option<&SimpleType>
+fn kind_in(binds: &[Bind], entry: Option<Entry>) -> Option<&NamedType>
     ensures { option_map (λ kind. kind.now) result ≡ kind_in binds.now (option_map entry_of entry) }
 {
     match entry {
@@ -287,16 +296,23 @@ fn is_empty_text(text: &str) -> bool
     text.is_empty()
 }
 
-/// Whether the string value of a node meets a type. One with more bytes than any memory has is told as want of memory.
-fn meets_at(forest: &Forest, kind: &SimpleType, node: NodeId) -> Result<bool, AllocError>
+/// Whether the string value of a node meets a type that is named. One with more bytes than any memory has is told as want of memory.
+fn meets_at(
+    alloc: Global,
+    tables: &Tables,
+    forest: &Forest,
+    named: &NamedType,
+    node: NodeId,
+) -> Result<bool, AllocError>
     requires { IsLive node.number forest.now.forest }
-    ensures { IfOk result (λ met. met ≡ meets_type kind.now (string_value node.number (visits forest.now.forest.nodes))) }
+    ensures { IfOk result (λ met. met ≡ is_of_type tables.now.types named.now (string_value node.number (visits forest.now.forest.nodes))) }
 {
+    let types = tables.types.as_slice();
     if let Some(text) = forest.whole_value(node) {
-        return Ok(meets(kind, text));
+        return is_of_type(alloc, types, named, text);
     }
     match forest.string_value(node, u32::MAX)? {
-        Some(text) => Ok(meets(kind, text.as_str())),
+        Some(text) => is_of_type(alloc, types, named, text.as_str()),
         None => Err(AllocError),
     }
 }

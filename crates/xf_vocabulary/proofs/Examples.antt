@@ -4,6 +4,7 @@ use Rattle.std.specs.Prelude.{codes}
 use Rattle.xf_name.specs.Bindings.{Bindings}
 use Rattle.xf_name.specs.declared.fault.NameFault.TheVariants.{PrefixUnknown}
 use Rattle.xf_table.specs.Contents.{element_entries, attribute_entries}
+use Rattle.xf_schema.specs.declared.written.FacetKind.TheVariants as facet
 use Rattle.xf_vocabulary.specs.declared.attribute.TheConstants as at
 use Rattle.xf_vocabulary.specs.declared.rules.Wanted.TheVariants as wanted
 use Rattle.xf_vocabulary.specs.declared.tag.Tag.TheVariants as tag
@@ -13,11 +14,11 @@ use Rattle.xf_vocabulary.specs.Faults.{is_bad_text, type_by}
 use Rattle.xf_vocabulary.specs.Needs.{lacks}
 use Rattle.xf_vocabulary.specs.Placement.{may_stand}
 use Rattle.xf_vocabulary.specs.Rules.{is_expression, is_computed, choice_of, wanted_of}
-use Rattle.xf_vocabulary.specs.Tags.{tag_by, forms_uri}
+use Rattle.xf_vocabulary.specs.Tags.{tag_by, schema_tag_by, schema_tag_named, forms_uri, schema_uri}
 use Rattle.xf_vocabulary.specs.Texts.{allows, decimals_in}
 
 abbrev b : Bindings
-b = record { spaces = forms_uri ∷ codes "urn:u" ∷ []; prefixes = (codes "xf", 1) ∷ (codes "u", 2) ∷ [] }
+b = record { spaces = forms_uri ∷ codes "urn:u" ∷ schema_uri ∷ []; prefixes = (codes "xf", 1) ∷ (codes "u", 2) ∷ (codes "xs", 3) ∷ [] }
 
 -- ---- names
 
@@ -31,6 +32,25 @@ no_element = refl
 
 other_space : tag_by b (Ok (record { space = 2; prefix = 2; local = codes "input" })) ≡ tag.Host
 other_space = refl
+
+a_schema : tag_by b (Ok (record { space = 3; prefix = 3; local = codes "schema" })) ≡ tag.Schema
+a_schema = refl
+
+-- outside a schema the other names of XML Schema have no meaning
+no_schema : tag_by b (Ok (record { space = 3; prefix = 3; local = codes "simpleType" })) ≡ tag.Host
+no_schema = refl
+
+in_a_schema : schema_tag_by b (Ok (record { space = 3; prefix = 3; local = codes "simpleType" })) ≡ tag.SimpleType
+in_a_schema = refl
+
+of_other_spaces : schema_tag_by b (Ok (record { space = 2; prefix = 2; local = codes "simpleType" })) ≡ tag.Unknown
+of_other_spaces = refl
+
+a_facet : schema_tag_named (codes "maxInclusive") ≡ tag.Facet facet.MaxInclusive
+a_facet = refl
+
+no_facet : schema_tag_named (codes "pattern") ≡ tag.Unknown
+no_facet = refl
 
 target_of_events : code_in true (codes "target") ≡ Some at.EVENT_TARGET
 unfolding attribute_entries
@@ -47,6 +67,12 @@ item_in_host = refl
 
 message_in_switch : may_stand tag.Message tag.Switch ≡ false
 message_in_switch = refl
+
+schema_in_model : may_stand tag.Schema tag.Model ≡ true
+schema_in_model = refl
+
+schema_in_host : may_stand tag.Schema tag.Host ≡ false
+schema_in_host = refl
 
 help_in_item : may_stand tag.Help tag.Item ≡ true
 help_in_item = refl
@@ -103,5 +129,5 @@ unbound_input = refl
 message_without_event : lacks tag.Message true [] ≡ true
 message_without_event = refl
 
-unknown_prefix : type_by b (Err PrefixUnknown) ≡ None
+unknown_prefix : type_by b [] (Err PrefixUnknown) ≡ None
 unknown_prefix = refl

@@ -46,12 +46,13 @@ is_action tag.Revalidate = true
 is_action tag.Refresh = true
 is_action t = false
 
--- its content is passed over
+-- it has no number: what stands in it is passed over, or is read as a schema
 abbrev pub is_passed_over : Tag → Bool
 is_passed_over tag.Help = true
 is_passed_over tag.Hint = true
 is_passed_over tag.Alert = true
 is_passed_over tag.Extension = true
+is_passed_over tag.Schema = true
 is_passed_over t = false
 
 -- an output in it is part of its text, and no control

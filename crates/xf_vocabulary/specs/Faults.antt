@@ -8,8 +8,9 @@ use Rattle.xf_name.specs.declared.fault.NameFault.{NameFault}
 use Rattle.xf_path.specs.Grammar.{parsed}
 use Rattle.xf_path.specs.Static.{static_fault}
 use Rattle.xf_path.specs.declared.fault.ParseFault.{ParseFault}
-use Rattle.xf_types.specs.Named.{type_named}
-use Rattle.xf_types.specs.declared.kind.SimpleType.{SimpleType}
+use Rattle.xf_schema.specs.declared.written.NamedType.{NamedType}
+use Rattle.xf_schema.specs.declared.written.TypeName.{TypeName}
+use Rattle.xf_schema.specs.Types.{type_called}
 use Rattle.xf_vocabulary.specs.declared.attribute.TheConstants as at
 use Rattle.xf_vocabulary.specs.declared.tag.Tag.{Tag}
 use Rattle.xf_vocabulary.specs.declared.texts.Choice.{Choice}
@@ -48,13 +49,13 @@ is_bad_text t is_handler k = is_outside (choice_of t is_handler k.0) k.1
 
 -- ---- types
 
-abbrev pub type_by : Bindings → Result QName NameFault → Option SimpleType
-type_by b (Err fault) = None
-type_by b (Ok name) = type_named (unwrap_or (text_of_space b name.space) []) name.local
+abbrev pub type_by : Bindings → List TypeName → Result QName NameFault → Option NamedType
+type_by b names (Err fault) = None
+type_by b names (Ok name) = type_called names (unwrap_or (text_of_space b name.space) []) name.local
 
--- the simple type that a written name means
-abbrev pub type_of : Bindings → List ℕ → Option SimpleType
-type_of b written = type_by b (resolved b written 0)
+-- the simple type that a written name means, where the schemas of the form have these
+abbrev pub type_of : Bindings → List TypeName → List ℕ → Option NamedType
+type_of b names written = type_by b names (resolved b written 0)
 
-abbrev pub is_bad_type : Bindings → Tag → Shown → Bool
-is_bad_type b t k = has_properties t && (k.0 == at.TYPE) && is_none (type_of b k.1)
+abbrev pub is_bad_type : Bindings → List TypeName → Tag → Shown → Bool
+is_bad_type b names t k = has_properties t && (k.0 == at.TYPE) && is_none (type_of b names k.1)

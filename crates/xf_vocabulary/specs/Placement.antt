@@ -1,4 +1,4 @@
--- In which elements an element may stand (XForms 1.1, sections 3, 8, 9 and 10). The root of a form stands as in a host element.
+-- In which elements an element outside schemas may stand (XForms 1.1, sections 3, 8, 9 and 10). The root of a form stands as in a host element.
 use Rattle.std.specs.Prelude.{Bool, true, false, not, ◌||◌, if◌then◌else◌}
 use Rattle.xf_vocabulary.specs.declared.tag.Tag.{Tag}
 use Rattle.xf_vocabulary.specs.declared.tag.Tag.TheVariants as tag
@@ -62,6 +62,7 @@ may_stand tag.Host around = true
 may_stand tag.Unknown around = false
 may_stand tag.Instance around = is_model around
 may_stand tag.Submission around = is_model around
+may_stand tag.Schema around = is_model around
 may_stand tag.Bind around = holds_binds around
 may_stand tag.Case around = is_switch around
 may_stand tag.Output around = is_open around || tells_outputs around

@@ -69,7 +69,7 @@ pub fn is_action(tag: Tag) -> bool
     }
 }
 
-/// Whether its content is passed over.
+/// Whether it has no number: what stands in it is passed over, or is read as a schema.
 pub fn is_passed_over(tag: Tag) -> bool
     ensures { result ≡ classes.is_passed_over tag }
 {
@@ -78,6 +78,7 @@ pub fn is_passed_over(tag: Tag) -> bool
         Tag::Hint => true,
         Tag::Alert => true,
         Tag::Extension => true,
+        Tag::Schema => true,
         _ => false,
     }
 }

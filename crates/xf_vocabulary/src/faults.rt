@@ -15,7 +15,7 @@ use std::alloc::{AllocError, Global};
 use xf_name::{NameFault, Prefixes};
 use xf_num::Decimals;
 use xf_path::{ParseFault, parse, static_fault};
-use xf_types::{SimpleType, named};
+use xf_schema::{NamedType, TypeName, type_called};
 
 // ---- expressions
 
@@ -111,12 +111,17 @@ pub fn has_bad_text(tag: Tag, is_handler: bool, known: &[Known<'_>]) -> bool
 
 // ---- types
 
-/// The simple type that a written name means.
-pub fn type_of(prefixes: &Prefixes, written: &str) -> Result<Option<SimpleType>, AllocError>
-    ensures { IfOk result (λ kind. kind ≡ faults.type_of prefixes.now written.now) }
+/// The simple type that a written name means, where the schemas of the form have types of these names.
+pub fn type_of(
+    prefixes: &Prefixes,
+    names: &[TypeName],
+    written: &str,
+) -> Result<Option<NamedType>, AllocError>
+    ensures { IfOk result (λ named. named ≡ faults.type_of prefixes.now names.now written.now) }
 {
     match prefixes.resolve(written, 0) {
-        Ok(name) => Ok(named(
+        Ok(name) => Ok(type_called(
+            names,
             prefixes.space_text(name.space).unwrap_or(""),
             name.local.as_str(),
         )),
@@ -125,21 +130,31 @@ pub fn type_of(prefixes: &Prefixes, written: &str) -> Result<Option<SimpleType>,
     }
 }
 
-fn is_bad_type(prefixes: &Prefixes, tag: Tag, one: Known<'_>) -> Result<bool, AllocError>
-    ensures { IfOk result (λ found. found ≡ faults.is_bad_type prefixes.now tag (shown one.entry)) }
+fn is_bad_type(
+    prefixes: &Prefixes,
+    names: &[TypeName],
+    tag: Tag,
+    one: Known<'_>,
+) -> Result<bool, AllocError>
+    ensures { IfOk result (λ found. found ≡ faults.is_bad_type prefixes.now names.now tag (shown one.entry)) }
 {
     if !has_properties(tag) || one.code != at::TYPE {
         return Ok(false);
     }
-    Ok(type_of(prefixes, one.text)?.is_none())
+    Ok(type_of(prefixes, names, one.text)?.is_none())
 }
 
 /// Whether one of the attributes is the type of a bind and names none.
-pub fn has_bad_type(prefixes: &Prefixes, tag: Tag, known: &[Known<'_>]) -> Result<bool, AllocError>
-    ensures { IfOk result (λ found. found ≡ list_any (faults.is_bad_type prefixes.now tag) (map shown known.now)) }
+pub fn has_bad_type(
+    prefixes: &Prefixes,
+    names: &[TypeName],
+    tag: Tag,
+    known: &[Known<'_>],
+) -> Result<bool, AllocError>
+    ensures { IfOk result (λ found. found ≡ list_any (faults.is_bad_type prefixes.now names.now tag) (map shown known.now)) }
 {
     for one in known {
-        if is_bad_type(prefixes, tag, *one)? {
+        if is_bad_type(prefixes, names, tag, *one)? {
             return Ok(true);
         }
     }

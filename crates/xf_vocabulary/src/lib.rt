@@ -23,5 +23,5 @@ pub use needs::lacks;
 pub use placement::may_stand;
 pub use rules::{Wanted, choice_of, is_computed, is_expression, wanted_of};
 pub use tag::Tag;
-pub use tags::{is_space, tag_of};
+pub use tags::{is_space, schema_tag_of, tag_of};
 pub use texts::{Choice, allows, decimals_in, is_count};

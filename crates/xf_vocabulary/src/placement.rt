@@ -15,6 +15,7 @@ pub fn may_stand(tag: Tag, around: Tag) -> bool
         Tag::Unknown => false,
         Tag::Instance => is_model(around),
         Tag::Submission => is_model(around),
+        Tag::Schema => is_model(around),
         Tag::Bind => holds_binds(around),
         Tag::Case => is_switch(around),
         Tag::Output => is_open(around) || tells_outputs(around),

@@ -1,11 +1,13 @@
 //! What an element is by its name.
 
-/// What an element is by its name (XForms 1.1).
+use xf_schema::FacetKind;
+
+/// What an element is by its name (XForms 1.1; XML Schema part 2, section 4).
 #[derive(Clone, Copy, Debug, PartialEq, Eq)]
 pub enum Tag {
     /// Outside the namespace of XForms.
     Host,
-    /// In the namespace of XForms, by a name that none of its elements has.
+    /// In the namespace of XForms, by a name that none of its elements has; in a schema, any that is none of those below.
     Unknown,
     Action,
     Alert,
@@ -48,4 +50,11 @@ pub enum Tag {
     Toggle,
     Trigger,
     Value,
+    /// A schema, of XML Schema.
+    Schema,
+    /// The elements that stand in a schema.
+    SimpleType,
+    Restriction,
+    Facet(FacetKind),
+    Annotation,
 }

@@ -7,21 +7,21 @@ use Rattle.xf_schema.proofs.bases.declared.Goals as goal
 
 pub loop-number-preserved : goal.loop-number-preserved
 loop-number-preserved c =
-    let types = c.args.types.now in
+    let names = c.args.names.now in
     let i = c.loop-number.number in
     c.loop-number.invariant
-    ∙ declared-more types i c.index-types-number.result c.args.space.now c.args.local.now c.loop-number-test.true c.index-types-number.is
-    ∙ ap (λ b. if b then Some i else declared_from (i + 1) (drop (i + 1) types) c.args.space.now c.args.local.now) (sym c.is_named.ensures ∙ c.if-is_named.false)
+    ∙ declared-more names i c.index-names-number.result c.args.space.now c.args.local.now c.loop-number-test.true c.index-names-number.is
+    ∙ ap (λ b. if b then Some i else declared_from (i + 1) (drop (i + 1) names) c.args.space.now c.args.local.now) (sym c.is_named.ensures ∙ c.if-is_named.false)
 
 pub returns-then-is_named : goal.returns-then-is_named
 returns-then-is_named c =
-    let types = c.args.types.now in
+    let names = c.args.names.now in
     let i = c.loop-number.number in
     sym (c.loop-number.invariant
-    ∙ declared-more types i c.index-types-number.result c.args.space.now c.args.local.now c.loop-number-test.true c.index-types-number.is
-    ∙ ap (λ b. if b then Some i else declared_from (i + 1) (drop (i + 1) types) c.args.space.now c.args.local.now) (sym c.is_named.ensures ∙ c.if-is_named.true))
+    ∙ declared-more names i c.index-names-number.result c.args.space.now c.args.local.now c.loop-number-test.true c.index-names-number.is
+    ∙ ap (λ b. if b then Some i else declared_from (i + 1) (drop (i + 1) names) c.args.space.now c.args.local.now) (sym c.is_named.ensures ∙ c.if-is_named.true))
 
 pub returns : goal.returns
 returns c =
     let i = c.loop-number.number in
-    sym (c.loop-number.invariant ∙ ap (λ l. declared_from i l c.args.space.now c.args.local.now) (drop_all i c.args.types.now c.loop-number-test.false))
+    sym (c.loop-number.invariant ∙ ap (λ l. declared_from i l c.args.space.now c.args.local.now) (drop_all i c.args.names.now c.loop-number-test.false))

@@ -7,11 +7,11 @@ use Rattle.xf_valid.proofs.invalid.all_failed.Goals as goal
 pub loop-at-preserved : goal.loop-at-preserved
 loop-at-preserved c = λ functions given.
     let k = kept_at c.args.table.now c.args.model in
-    failed-more (scope_of functions given c.args.tables.now c.args.model) c.args.forest.now.forest.nodes c.args.roots.now k k.entries c.loop-at.at c.loop-at.found c.push_failed.new.found
+    failed-more c.args.tables.now.types (scope_of functions given c.args.tables.now c.args.model) c.args.forest.now.forest.nodes c.args.roots.now k k.entries c.loop-at.at c.loop-at.found c.push_failed.new.found
     (c.loop-at.invariant functions given) (c.in_ok-push_failed.ensures functions given)
 
 pub returns : goal.returns
 returns c = λ functions given.
     let k = kept_at c.args.table.now c.args.model in
     let past : length k.entries ≤ c.loop-at.at = omega (arith, c.len-count.ensures, c.loop-at-test.false) in
-    failed-all (scope_of functions given c.args.tables.now c.args.model) c.args.forest.now.forest.nodes c.args.roots.now k k.entries c.loop-at.at c.loop-at.found (c.loop-at.invariant functions given) past
+    failed-all c.args.tables.now.types (scope_of functions given c.args.tables.now c.args.model) c.args.forest.now.forest.nodes c.args.roots.now k k.entries c.loop-at.at c.loop-at.found (c.loop-at.invariant functions given) past

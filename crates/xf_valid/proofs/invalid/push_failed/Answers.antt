@@ -13,5 +13,5 @@ returns c =
     (λ h functions given.
     h
     ∙ ap (λ b. c.args.found.now ++ cond b (c.in-Some.entry.node.number ∷ []) []) (c.in_ok-failed.ensures functions given)
-    ∙ ap (λ e. c.args.found.now ++ failed_at (scope_of functions given c.args.tables.now c.args.model) nodes c.args.roots.now k e) c.in-Some.ensures)
+    ∙ ap (λ e. c.args.found.now ++ failed_at c.args.tables.now.types (scope_of functions given c.args.tables.now c.args.model) nodes c.args.roots.now k e) c.in-Some.ensures)
     c.push_where.ensures

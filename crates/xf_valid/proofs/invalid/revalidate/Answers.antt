@@ -18,8 +18,8 @@ returns-clause-ok c = λ functions given.
     ∙ ap (λ ns. with_kept c.args.table.now c.args.model (record k { invalid = ns }))
     (c.in_ok-invalid.ensures ∙ c.in_ok-ordered.ensures
     ∙ ap (in_order (visits nodes))
-    (c.in_ok-found.ensures functions given ∙ ap (λ rs. failed_among scope nodes rs k k.entries) (c.in_ok-roots.ensures ∙ ap (roots_from c.args.model nodes 0) c.as_slice.ensures))
-    ∙ invalid-found scope c.args.tables.now.instances nodes k c.are_trees.ensures.apart)
+    (c.in_ok-found.ensures functions given ∙ ap (λ rs. failed_among c.args.tables.now.types scope nodes rs k k.entries) (c.in_ok-roots.ensures ∙ ap (roots_from c.args.model nodes 0) c.as_slice.ensures))
+    ∙ invalid-found c.args.tables.now.types scope c.args.tables.now.instances nodes k c.are_trees.ensures.apart)
 
 pub returns-clause-same : goal.returns-clause-same
 returns-clause-same c = same-invalid c.args.table.now c.set_invalid-2.new.self c.args.model c.in_ok-invalid.invalid c.set_invalid-2.result c.requires c.set_invalid-2.ensures.done c.set_invalid-2.ensures.same
@@ -30,7 +30,7 @@ returns-then-not-is_asked-clause-ok c = λ functions given.
     let k = kept_at c.args.table.now c.args.model in
     c.set_invalid.ensures.done
     ∙ ap (λ ns. with_kept c.args.table.now c.args.model (record k { invalid = ns }))
-    (c.new.ensures ∙ sym (invalid-nothing scope c.args.tables.now.instances c.args.forest.now.forest.nodes k (sym c.asks_any-is_asked.ensures ∙ c.if-not-is_asked.true)))
+    (c.new.ensures ∙ sym (invalid-nothing c.args.tables.now.types scope c.args.tables.now.instances c.args.forest.now.forest.nodes k (sym c.asks_any-is_asked.ensures ∙ c.if-not-is_asked.true)))
 
 pub returns-then-not-is_asked-clause-same : goal.returns-then-not-is_asked-clause-same
 returns-then-not-is_asked-clause-same c = same-invalid c.args.table.now c.set_invalid.new.self c.args.model c.new.result c.set_invalid.result c.requires c.set_invalid.ensures.done c.set_invalid.ensures.same
