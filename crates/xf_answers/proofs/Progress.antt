@@ -15,8 +15,8 @@ use Rattle.xf_io.proofs.Parts.{lines_of-ended, lines_of-last, ended_lines-ended,
 use Rattle.xf_answers.specs.declared.lines.Ending.{Ending}
 use Rattle.xf_answers.specs.declared.lines.Ending.TheVariants.{Done, ReadFault, SinkFault, TooMuch, Memory}
 use Rattle.xf_answers.specs.declared.lines.Next.TheVariants.{Reply, Ends}
-use Rattle.xf_answers.specs.Answers.{Replies, Takes, TakesAll, Exactly, IsBegun, AsFarAs, AllButOne, answered_lines, Answers, AnswersKnown}
-use Rattle.xf_answers.specs.Answering.{EndsOf, NextKnown, Answered}
+use Rattle.xf_answers.specs.Answers.{Replies, Leaves, Takes, TakesAll, IsBegun, IsLeft, AsFarAs, AllButOne, answered_lines, Answers, AnswersKnown}
+use Rattle.xf_answers.specs.Answering.{EndsOf, NextKnown, StandsBy, Answered}
 use Rattle.xf_answers.proofs.Said.{takes-more}
 
 -- these lines are answered: all are ended, or the last one ends with the bytes
@@ -106,13 +106,13 @@ more_of replies first now after all rest new old_ended ended old_count count don
   ended_split = cut_split rest new line bytes so_far.given so_far.lines old_ended ended cut running taken so_far.ended_split;
 }
 
-pub one_more : {A : Type 0} (replies : Replies A) (first now after : A) (all rest new : Option (List ℕ)) (before ahead : Ahead) (done reply : List ℕ) (text : String Global)
-    → ProgressKnown replies first now all rest before done → NextKnown replies now after rest new ahead (Reply text) → string_bytes text ≡ reply → before.ended ≡ false
+pub one_more : {A : Type 0} (replies : Replies A) (leaves : Leaves A) (first now after : A) (all rest new : Option (List ℕ)) (before ahead : Ahead) (done reply : List ℕ) (text : String Global)
+    → ProgressKnown replies first now all rest before done → NextKnown replies leaves now after rest new ahead (Reply text) → string_bytes text ≡ reply → before.ended ≡ false
     → CountsBytes rest new before.given ahead.given → ProgressKnown replies first after all new ahead (done ++ reply)
-one_more replies first now after None rest new before ahead done reply text so_far next is running counts = tt
-one_more replies first now after (Some all) None new before ahead done reply text so_far next is running counts = absurd so_far
-one_more replies first now after (Some all) (Some rest) None before ahead done reply text so_far next is running counts = absurd next
-one_more replies first now after (Some all) (Some rest) (Some new) before ahead done reply text so_far next is running counts =
+one_more replies leaves first now after None rest new before ahead done reply text so_far next is running counts = tt
+one_more replies leaves first now after (Some all) None new before ahead done reply text so_far next is running counts = absurd so_far
+one_more replies leaves first now after (Some all) (Some rest) None before ahead done reply text so_far next is running counts = absurd next
+one_more replies leaves first now after (Some all) (Some rest) (Some new) before ahead done reply text so_far next is running counts =
     more_of replies first now after all rest new before.ended ahead.ended before.given ahead.given done reply next.line counts.bytes so_far next.cut
     (subst (λ r. Takes replies now next.line r after) is next.answered) running counts.taken counts.counted
 
@@ -150,14 +150,14 @@ begins : {A : Type 0} (replies : Replies A) (first now : A) (all rest : List ℕ
 begins replies first now all rest ended count done so_far within = begins_by replies first now all rest ended count done so_far within (nat_lt stream_limit (length all)) refl
 
 -- so many lines of these are answered, and the next one is begun
-as_far : {A : Type 0} (replies : Replies A) (first now : A) (all lines more : List (List ℕ)) (done part : List ℕ) → all ≡ lines ++ more → TakesAll replies first lines done now
-    → IsBegun replies now more part → AsFarAs replies first all part (done ++ part)
-as_far replies first now all lines more done part split said next = (
+as_far : {A : Type 0} (replies : Replies A) (first now last : A) (all lines more : List (List ℕ)) (done part : List ℕ) → all ≡ lines ++ more → TakesAll replies first lines done now
+    → IsBegun replies now more part last → AsFarAs replies first all part (done ++ part) last
+as_far replies first now last all lines more done part split said next = (
   length lines,
   done,
   now,
   subst (λ ls. TakesAll replies first ls done now) (sym (ap (take (length lines)) split ∙ take-append_seam lines more)) said,
-  subst (λ ls. IsBegun replies now ls part) (sym (ap (drop (length lines)) split ∙ drop-append_seam lines more)) next,
+  subst (λ ls. IsBegun replies now ls part last) (sym (ap (drop (length lines)) split ∙ drop-append_seam lines more)) next,
   refl,
 )
 
@@ -167,12 +167,12 @@ no_rest : (xs ys : List ℕ) → xs ++ ys ≡ [] → ys ≡ []
 no_rest [] ys e = e
 no_rest (x ∷ xs) ys e = absurd (cc)
 
-ends_done : {A : Type 0} (replies : Replies A) (first now : A) (all ahead left : List ℕ) (ended : Bool) (count : ℕ) (done : List ℕ)
-    → Progress replies first now all [] ended count done → ahead ++ left ≡ [] → count ≤ stream_limit → Answers replies Done first all left done
-ends_done replies first now all ahead left ended count done so_far none within = (
+ends_done : {A : Type 0} (replies : Replies A) (leaves : Leaves A) (first now : A) (all ahead left : List ℕ) (ended : Bool) (count : ℕ) (done : List ℕ)
+    → Progress replies first now all [] ended count done → ahead ++ left ≡ [] → count ≤ stream_limit → Answers replies leaves Done first all left done now
+ends_done replies leaves first now all ahead left ended count done so_far none within = (
   no_rest ahead left none,
   omega (arith, within, so_far.counted, ap length so_far.taken, length-append so_far.given []),
-  (now, subst (λ ls. TakesAll replies first ls done now) (sym (so_far.split ∙ append-nil so_far.lines)) so_far.said),
+  subst (λ ls. TakesAll replies first ls done now) (sym (so_far.split ∙ append-nil so_far.lines)) so_far.said,
 )
 
 still_open : {A : Type 0} (replies : Replies A) (first now : A) (all rest : List ℕ) (ended : Bool) (count : ℕ) (done : List ℕ) (so_far : Progress replies first now all rest ended count done)
@@ -183,33 +183,30 @@ still_open replies first now all rest ended count done so_far running = elim so_
 ]
 
 given_part : {A : Type 0} (replies : Replies A) (first now : A) (all rest new part : List ℕ) (ended : Bool) (count : ℕ) (done : List ℕ) (so_far : Progress replies first now all rest ended count done)
-    → ended ≡ false → LosesPart rest new part → (all ≡ (so_far.given ++ part) ++ new) × (Exactly replies first (ended_lines (so_far.given ++ part)) done)
+    → ended ≡ false → LosesPart rest new part → (all ≡ (so_far.given ++ part) ++ new) × TakesAll replies first (ended_lines (so_far.given ++ part)) done now
 given_part replies first now all rest new part ended count done so_far running lost = (
   so_far.taken ∙ ap (λ r. so_far.given ++ r) lost.taken ∙ sym (append_assoc so_far.given part new),
-  (
-    now,
-    subst (λ ls. TakesAll replies first ls done now)
-        (sym (still_open replies first now all rest ended count done so_far running part ∙ ap (λ l. so_far.lines ++ l) (ended_lines-open part lost.without_line_feed) ∙ append-nil so_far.lines))
-        so_far.said,
-  ),
+  subst (λ ls. TakesAll replies first ls done now)
+      (sym (still_open replies first now all rest ended count done so_far running part ∙ ap (λ l. so_far.lines ++ l) (ended_lines-open part lost.without_line_feed) ∙ append-nil so_far.lines))
+      so_far.said,
 )
 
-ends_fault : {A : Type 0} (replies : Replies A) (first now : A) (all rest left part : List ℕ) (ended : Bool) (count : ℕ) (done : List ℕ)
-    → Progress replies first now all rest ended count done → ended ≡ false → LosesPart rest left part → count + length part ≤ stream_limit → Answers replies ReadFault first all left done
-ends_fault replies first now all rest left part ended count done so_far running lost within =
+ends_fault : {A : Type 0} (replies : Replies A) (leaves : Leaves A) (first now : A) (all rest left part : List ℕ) (ended : Bool) (count : ℕ) (done : List ℕ)
+    → Progress replies first now all rest ended count done → ended ≡ false → LosesPart rest left part → count + length part ≤ stream_limit → Answers replies leaves ReadFault first all left done now
+ends_fault replies leaves first now all rest left part ended count done so_far running lost within =
     let parts = given_part replies first now all rest left part ended count done so_far running lost in
     (so_far.given ++ part, parts.0, omega (arith, within, so_far.counted, length-append so_far.given part), parts.1)
 
-ends_much : {A : Type 0} (replies : Replies A) (first now : A) (all rest new part : List ℕ) (ended : Bool) (count total : ℕ) (left done : List ℕ)
+ends_much : {A : Type 0} (replies : Replies A) (leaves : Leaves A) (first now : A) (all rest new part : List ℕ) (ended : Bool) (count total : ℕ) (left done : List ℕ)
     → Progress replies first now all rest ended count done → ended ≡ false → LosesPart rest new part → 0 < length new → total ≡ stream_limit → total ≡ count + length part
-    → Answers replies TooMuch first all left done
-ends_much replies first now all rest new part ended count total left done so_far running lost some limit counted =
+    → Answers replies leaves TooMuch first all left done now
+ends_much replies leaves first now all rest new part ended count total left done so_far running lost some limit counted =
     let parts = given_part replies first now all rest new part ended count done so_far running lost in
     let given = so_far.given ++ part in
     let size : length given ≡ stream_limit = omega (arith, limit, counted, so_far.counted, length-append so_far.given part) in
     let front : take stream_limit all ≡ given = ap (take stream_limit) parts.0 ∙ ap (λ n. take n (given ++ new)) (sym size) ∙ take-append_seam given new in (
       omega (arith, ap length parts.0, length-append given new, size, some),
-      subst (λ g. Exactly replies first (ended_lines g) done) (sym front) parts.1,
+      subst (λ g. TakesAll replies first (ended_lines g) done now) (sym front) parts.1,
     )
 
 -- of the line in work at most one is ended
@@ -224,22 +221,24 @@ in_work old new bytes ahead taken (inr cut) =
     ]
 
 all_but_one : {A : Type 0} (replies : Replies A) (first now : A) (all lines : List (List ℕ)) (last done : List ℕ) → all ≡ lines ++ ended_lines last → TakesAll replies first lines done now
-    → (ended_lines last ≡ []) ⊎ ((line : List ℕ) × (ended_lines last ≡ line ∷ [])) → AllButOne replies first all done
+    → (ended_lines last ≡ []) ⊎ ((line : List ℕ) × (ended_lines last ≡ line ∷ [])) → AllButOne replies first all done now
 all_but_one replies first now all lines last done split said (inl none) =
-    inl (now, subst (λ ls. TakesAll replies first ls done now) (sym (split ∙ ap (λ l. lines ++ l) none ∙ append-nil lines)) said)
-all_but_one replies first now all lines last done split said (inr one) = inr (lines, one.0, split ∙ ap (λ l. lines ++ l) one.1, (now, said))
+    inl (subst (λ ls. TakesAll replies first ls done now) (sym (split ∙ ap (λ l. lines ++ l) none ∙ append-nil lines)) said)
+all_but_one replies first now all lines last done split said (inr one) = inr (lines, one.0, split ∙ ap (λ l. lines ++ l) one.1, said)
 
-ends_memory : {A : Type 0} (replies : Replies A) (first now : A) (all rest left bytes : List ℕ) (ended : Bool) (count : ℕ) (ahead : Ahead) (done : List ℕ)
+ends_memory : {A : Type 0} (replies : Replies A) (leaves : Leaves A) (first now after : A) (all rest left bytes : List ℕ) (ended : Bool) (count : ℕ) (ahead : Ahead) (done : List ℕ)
     → Progress replies first now all rest ended count done → ended ≡ false → EndsOf rest (ahead.bytes ++ left) ahead Memory → rest ≡ bytes ++ (ahead.bytes ++ left)
-    → count + length bytes ≤ stream_limit → length ahead.bytes ≤ most_ahead → Answers replies Memory first all left done
-ends_memory replies first now all rest left bytes ended count ahead done so_far running ends taken within few = (
+    → count + length bytes ≤ stream_limit → length ahead.bytes ≤ most_ahead → IsLeft leaves now after → Answers replies leaves Memory first all left done after
+ends_memory replies leaves first now after all rest left bytes ended count ahead done so_far running ends taken within few stands = (
   so_far.given ++ bytes,
   ahead.bytes,
   so_far.taken ∙ ap (λ r. so_far.given ++ r) taken ∙ sym (append_assoc so_far.given bytes (ahead.bytes ++ left)),
   omega (arith, within, so_far.counted, length-append so_far.given bytes),
   few,
+  now,
   all_but_one replies first now (ended_lines (so_far.given ++ bytes)) so_far.lines bytes done (still_open replies first now all rest ended count done so_far running bytes) so_far.said
       (in_work rest (ahead.bytes ++ left) bytes ahead taken ends),
+  stands,
 )
 
 -- ---- the same where the source tells its bytes, and not else
@@ -258,64 +257,69 @@ running_reply false text h = refl
 same_length : (bytes part new : List ℕ) → bytes ++ new ≡ part ++ new → length bytes ≡ length part
 same_length bytes part new e = ap length (append_cancel_right bytes part new e)
 
-ends_of : {A : Type 0} (replies : Replies A) (ending : Ending) (first now : A) (all rest left : List ℕ) (before ahead : Ahead) (done : List ℕ)
+ends_of : {A : Type 0} (replies : Replies A) (leaves : Leaves A) (ending : Ending) (first now after : A) (all rest left : List ℕ) (before ahead : Ahead) (done : List ℕ)
     → Progress replies first now all rest before.ended before.given done
-    → EndsOf rest (ahead.bytes ++ left) ahead ending → (before.ended ≡ true → Ends ending ≡ Ends Done) → CountsBytes (Some rest) (Some (ahead.bytes ++ left)) before.given ahead.given
-    → before.given ≤ stream_limit → length ahead.bytes ≤ most_ahead → Answers replies ending first all left done
-ends_of replies Done first now all rest left before ahead done so_far ends stays counts within few =
-    ends_done replies first now all ahead.bytes left before.ended before.given done (subst (λ r. Progress replies first now all r before.ended before.given done) ends.0 so_far) ends.1 within
-ends_of replies ReadFault first now all rest left before ahead done so_far ends stays counts within few =
+    → EndsOf rest (ahead.bytes ++ left) ahead ending → StandsBy leaves ending now after
+    → (before.ended ≡ true → Ends ending ≡ Ends Done) → CountsBytes (Some rest) (Some (ahead.bytes ++ left)) before.given ahead.given
+    → before.given ≤ stream_limit → length ahead.bytes ≤ most_ahead → Answers replies leaves ending first all left done after
+ends_of replies leaves Done first now after all rest left before ahead done so_far ends stands stays counts within few =
+    subst (λ a. Answers replies leaves Done first all left done a) (sym stands)
+    (ends_done replies leaves first now all ahead.bytes left before.ended before.given done (subst (λ r. Progress replies first now all r before.ended before.given done) ends.0 so_far) ends.1 within)
+ends_of replies leaves ReadFault first now after all rest left before ahead done so_far ends stands stays counts within few =
     let part : List ℕ = ends.0 in
     let size : length counts.bytes ≡ length part = same_length counts.bytes part (ahead.bytes ++ left) (sym counts.taken ∙ ends.1.taken) in
-    ends_fault replies first now all rest left part before.ended before.given done so_far (running before.ended ReadFault stays (λ e. cc))
-    (subst (λ b. LosesPart rest (b ++ left) part) ends.2 ends.1) (omega (arith, counts.counted, counts.within, size))
-ends_of replies SinkFault first now all rest left before ahead done so_far ends stays counts within few = absurd ends
-ends_of replies TooMuch first now all rest left before ahead done so_far ends stays counts within few =
+    subst (λ a. Answers replies leaves ReadFault first all left done a) (sym stands)
+    (ends_fault replies leaves first now all rest left part before.ended before.given done so_far (running before.ended ReadFault stays (λ e. cc))
+    (subst (λ b. LosesPart rest (b ++ left) part) ends.2 ends.1) (omega (arith, counts.counted, counts.within, size)))
+ends_of replies leaves SinkFault first now after all rest left before ahead done so_far ends stands stays counts within few = absurd ends
+ends_of replies leaves TooMuch first now after all rest left before ahead done so_far ends stands stays counts within few =
     let part : List ℕ = ends.0 in
     let size : length counts.bytes ≡ length part = same_length counts.bytes part (ahead.bytes ++ left) (sym counts.taken ∙ ends.1.taken) in
-    ends_much replies first now all rest (ahead.bytes ++ left) part before.ended before.given ahead.given left done so_far (running before.ended TooMuch stays (λ e. cc)) ends.1 ends.2 ends.3
-    (counts.counted ∙ ap (λ n. before.given + n) size)
-ends_of replies Memory first now all rest left before ahead done so_far ends stays counts within few =
+    subst (λ a. Answers replies leaves TooMuch first all left done a) (sym stands)
+    (ends_much replies leaves first now all rest (ahead.bytes ++ left) part before.ended before.given ahead.given left done so_far (running before.ended TooMuch stays (λ e. cc)) ends.1 ends.2 ends.3
+    (counts.counted ∙ ap (λ n. before.given + n) size))
+ends_of replies leaves Memory first now after all rest left before ahead done so_far ends stands stays counts within few =
     let total : before.given + length counts.bytes ≤ stream_limit = omega (arith, counts.counted, counts.within) in
-    ends_memory replies first now all rest left counts.bytes before.ended before.given ahead done so_far (running before.ended Memory stays (λ e. cc)) ends counts.taken total few
+    ends_memory replies leaves first now after all rest left counts.bytes before.ended before.given ahead done so_far (running before.ended Memory stays (λ e. cc)) ends counts.taken total few
+    stands
 
-pub ends_known : {A : Type 0} (replies : Replies A) (ending : Ending) (first now after : A) (all rest left : Option (List ℕ)) (before ahead : Ahead) (done : List ℕ)
-    → ProgressKnown replies first now all rest before done → NextKnown replies now after rest (prepend_known ahead.bytes left) ahead (Ends ending)
+pub ends_known : {A : Type 0} (replies : Replies A) (leaves : Leaves A) (ending : Ending) (first now after : A) (all rest left : Option (List ℕ)) (before ahead : Ahead) (done : List ℕ)
+    → ProgressKnown replies first now all rest before done → NextKnown replies leaves now after rest (prepend_known ahead.bytes left) ahead (Ends ending)
     → (before.ended ≡ true → Ends ending ≡ Ends Done) → CountsBytes rest (prepend_known ahead.bytes left) before.given ahead.given → before.given ≤ stream_limit
-    → length ahead.bytes ≤ most_ahead → AnswersKnown replies ending first all left done
-ends_known replies ending first now after None rest left before ahead done so_far next stays counts within few = tt
-ends_known replies ending first now after (Some all) None left before ahead done so_far next stays counts within few = absurd so_far
-ends_known replies ending first now after (Some all) (Some rest) None before ahead done so_far next stays counts within few = absurd next
-ends_known replies ending first now after (Some all) (Some rest) (Some left) before ahead done so_far next stays counts within few =
-    ends_of replies ending first now all rest left before ahead done so_far next stays counts within few
+    → length ahead.bytes ≤ most_ahead → AnswersKnown replies leaves ending first all left done after
+ends_known replies leaves ending first now after None rest left before ahead done so_far next stays counts within few = tt
+ends_known replies leaves ending first now after (Some all) None left before ahead done so_far next stays counts within few = absurd so_far
+ends_known replies leaves ending first now after (Some all) (Some rest) None before ahead done so_far next stays counts within few = absurd next
+ends_known replies leaves ending first now after (Some all) (Some rest) (Some left) before ahead done so_far next stays counts within few =
+    ends_of replies leaves ending first now after all rest left before ahead done so_far next.0 next.1 stays counts within few
 
 -- ---- a reply of which only a front is written
 
-cut_of : {A : Type 0} (replies : Replies A) (first now after : A) (all rest new left : List ℕ) (old_ended ended : Bool) (old_count count : ℕ) (done reply front back line bytes : List ℕ)
+cut_of : {A : Type 0} (replies : Replies A) (leaves : Leaves A) (first now after : A) (all rest new left : List ℕ) (old_ended ended : Bool) (old_count count : ℕ) (done reply front back line bytes : List ℕ)
     → Progress replies first now all rest old_ended old_count done → CutsLine rest new ended line → Takes replies now line reply after → old_ended ≡ false
-    → rest ≡ bytes ++ new → count ≡ old_count + length bytes → count ≤ stream_limit → reply ≡ front ++ back → Answers replies SinkFault first all left (done ++ front)
+    → rest ≡ bytes ++ new → count ≡ old_count + length bytes → count ≤ stream_limit → reply ≡ front ++ back → Answers replies leaves SinkFault first all left (done ++ front) after
 unfolding more_of
-cut_of replies first now after all rest new left old_ended ended old_count count done reply front back line bytes so_far cut is runs taken counted within parts =
+cut_of replies leaves first now after all rest new left old_ended ended old_count count done reply front back line bytes so_far cut is runs taken counted within parts =
     let more = more_of replies first now after all rest new old_ended ended old_count count done reply line bytes so_far cut is runs taken counted in
     let b = begins replies first after all new ended count (done ++ reply) more within in (
       front,
-      as_far replies first now (answered_lines all) so_far.lines (line ∷ b.0) done front (b.1 ∙ append_assoc so_far.lines (line ∷ []) b.0) so_far.said
-          (reply, after, is, (back, parts)),
+      as_far replies first now after (answered_lines all) so_far.lines (line ∷ b.0) done front (b.1 ∙ append_assoc so_far.lines (line ∷ []) b.0) so_far.said
+          (reply, is, (back, parts)),
     )
 
-cut_known : {A : Type 0} (replies : Replies A) (first now after : A) (all rest left : Option (List ℕ)) (before ahead : Ahead) (done : List ℕ) (text : String Global) (front back : List ℕ)
-    → ProgressKnown replies first now all rest before done → NextKnown replies now after rest (prepend_known ahead.bytes left) ahead (Reply text) → before.ended ≡ false
-    → CountsBytes rest (prepend_known ahead.bytes left) before.given ahead.given → string_bytes text ≡ front ++ back → AnswersKnown replies SinkFault first all left (done ++ front)
-cut_known replies first now after None rest left before ahead done text front back so_far next running counts parts = tt
-cut_known replies first now after (Some all) None left before ahead done text front back so_far next running counts parts = absurd so_far
-cut_known replies first now after (Some all) (Some rest) None before ahead done text front back so_far next running counts parts = absurd next
-cut_known replies first now after (Some all) (Some rest) (Some left) before ahead done text front back so_far next running counts parts =
-    cut_of replies first now after all rest (ahead.bytes ++ left) left before.ended ahead.ended before.given ahead.given done (string_bytes text) front back next.line counts.bytes
+cut_known : {A : Type 0} (replies : Replies A) (leaves : Leaves A) (first now after : A) (all rest left : Option (List ℕ)) (before ahead : Ahead) (done : List ℕ) (text : String Global) (front back : List ℕ)
+    → ProgressKnown replies first now all rest before done → NextKnown replies leaves now after rest (prepend_known ahead.bytes left) ahead (Reply text) → before.ended ≡ false
+    → CountsBytes rest (prepend_known ahead.bytes left) before.given ahead.given → string_bytes text ≡ front ++ back → AnswersKnown replies leaves SinkFault first all left (done ++ front) after
+cut_known replies leaves first now after None rest left before ahead done text front back so_far next running counts parts = tt
+cut_known replies leaves first now after (Some all) None left before ahead done text front back so_far next running counts parts = absurd so_far
+cut_known replies leaves first now after (Some all) (Some rest) None before ahead done text front back so_far next running counts parts = absurd next
+cut_known replies leaves first now after (Some all) (Some rest) (Some left) before ahead done text front back so_far next running counts parts =
+    cut_of replies leaves first now after all rest (ahead.bytes ++ left) left before.ended ahead.ended before.given ahead.given done (string_bytes text) front back next.line counts.bytes
     so_far next.cut next.answered running counts.taken counts.counted counts.within parts
 
-pub answers_cut : {A : Type 0} (replies : Replies A) (first now after : A) (all rest left : Option (List ℕ)) (before ahead : Ahead) (done : List ℕ) (text : String Global) (old mid new : Option (List ℕ))
-    → ProgressKnown replies first now all rest before done → NextKnown replies now after rest (prepend_known ahead.bytes left) ahead (Reply text) → before.ended ≡ false
+pub answers_cut : {A : Type 0} (replies : Replies A) (leaves : Leaves A) (first now after : A) (all rest left : Option (List ℕ)) (before ahead : Ahead) (done : List ℕ) (text : String Global) (old mid new : Option (List ℕ))
+    → ProgressKnown replies first now all rest before done → NextKnown replies leaves now after rest (prepend_known ahead.bytes left) ahead (Reply text) → before.ended ≡ false
     → CountsBytes rest (prepend_known ahead.bytes left) before.given ahead.given → Appends old mid done → AppendsFront mid new (string_bytes text)
-    → Answered replies SinkFault first all left old new
-answers_cut replies first now after all rest left before ahead done text old mid new so_far next running counts wrote cut =
-    (done ++ cut.0, cut_known replies first now after all rest left before ahead done text cut.0 cut.1 so_far next running counts cut.2, Appends-trans old mid new done cut.0 wrote cut.3)
+    → Answered replies leaves SinkFault first after all left old new
+answers_cut replies leaves first now after all rest left before ahead done text old mid new so_far next running counts wrote cut =
+    (done ++ cut.0, cut_known replies leaves first now after all rest left before ahead done text cut.0 cut.1 so_far next running counts cut.2, Appends-trans old mid new done cut.0 wrote cut.3)

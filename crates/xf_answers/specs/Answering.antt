@@ -10,7 +10,7 @@ use Rattle.xf_answers.specs.declared.lines.Ending.{Ending}
 use Rattle.xf_answers.specs.declared.lines.Ending.TheVariants.{Done, ReadFault, SinkFault, TooMuch, Memory}
 use Rattle.xf_answers.specs.declared.lines.Next.{Next}
 use Rattle.xf_answers.specs.declared.lines.Next.TheVariants.{Reply, Ends}
-use Rattle.xf_answers.specs.Answers.{Replies, Takes, AnswersKnown}
+use Rattle.xf_answers.specs.Answers.{Replies, Leaves, Takes, IsLeft, AnswersKnown}
 
 -- the first line of the bytes is answered, and cut off them
 pub record IsAnswered {A : Type 0} (replies : Replies A) (state after : A) (old new : List ℕ) (ahead : Ahead) (reply : List ℕ) : Type 0 where
@@ -25,15 +25,20 @@ EndsOf old new ahead SinkFault = ⊥
 EndsOf old new ahead TooMuch = (part : List ℕ) × LosesPart old new part × (0 < length new) × (ahead.given ≡ stream_limit)
 EndsOf old new ahead Memory = ((part : List ℕ) × LosesPart old new part) ⊎ ((line : List ℕ) × CutsLine old new ahead.ended line)
 
-abbrev pub NextOf : {A : Type 0} → Replies A → A → A → List ℕ → List ℕ → Ahead → Next → Type 0
-NextOf replies state after old new ahead (Reply text) = IsAnswered replies state after old new ahead (string_bytes text)
-NextOf replies state after old new ahead (Ends ending) = EndsOf old new ahead ending
+-- what stands then
+abbrev pub StandsBy : {A : Type 0} → Leaves A → Ending → A → A → Type 0
+StandsBy leaves Memory state after = IsLeft leaves state after
+StandsBy leaves ending state after = after ≡ state
+
+abbrev pub NextOf : {A : Type 0} → Replies A → Leaves A → A → A → List ℕ → List ℕ → Ahead → Next → Type 0
+NextOf replies leaves state after old new ahead (Reply text) = IsAnswered replies state after old new ahead (string_bytes text)
+NextOf replies leaves state after old new ahead (Ends ending) = EndsOf old new ahead ending × StandsBy leaves ending state after
 
 -- the reply to the next line and the state after it, or how the lines end
-abbrev pub NextKnown : {A : Type 0} → Replies A → A → A → Option (List ℕ) → Option (List ℕ) → Ahead → Next → Type 0
-NextKnown replies state after None new ahead result = Unit {0}
-NextKnown replies state after (Some old) None ahead result = ⊥
-NextKnown replies state after (Some old) (Some new) ahead result = NextOf replies state after old new ahead result
+abbrev pub NextKnown : {A : Type 0} → Replies A → Leaves A → A → A → Option (List ℕ) → Option (List ℕ) → Ahead → Next → Type 0
+NextKnown replies leaves state after None new ahead result = Unit {0}
+NextKnown replies leaves state after (Some old) None ahead result = ⊥
+NextKnown replies leaves state after (Some old) (Some new) ahead result = NextOf replies leaves state after old new ahead result
 
 -- a line takes a byte at least
 abbrev pub Moves : Next → ℕ → ℕ → Type 0
@@ -45,5 +50,6 @@ IsReplyOrEnd (Ok text) next = next ≡ Reply text
 IsReplyOrEnd (Err e) next = next ≡ Ends Memory
 
 -- the answers were written, and the lines end so
-abbrev pub Answered : {A : Type 0} → Replies A → Ending → A → Option (List ℕ) → Option (List ℕ) → Option (List ℕ) → Option (List ℕ) → Type 0
-Answered replies ending first events left before after = (written : List ℕ) × AnswersKnown replies ending first events left written × Appends before after written
+abbrev pub Answered : {A : Type 0} → Replies A → Leaves A → Ending → A → A → Option (List ℕ) → Option (List ℕ) → Option (List ℕ) → Option (List ℕ) → Type 0
+Answered replies leaves ending first last events left before after =
+    (written : List ℕ) × AnswersKnown replies leaves ending first events left written last × Appends before after written

@@ -12,6 +12,10 @@ use Rattle.xf_answers.specs.declared.lines.Ending.TheVariants.{Done, ReadFault, 
 abbrev pub Replies : Type 0 → Type 1
 Replies A = A → List ℕ → List ℕ → A → Type 0
 
+-- where memory was wanting for a reply in a state, that state may stand after it
+abbrev pub Leaves : Type 0 → Type 1
+Leaves A = A → A → Type 0
+
 abbrev pub too_long_reply : List ℕ
 too_long_reply = codes "no E1 LineTooLong\n"
 
@@ -32,26 +36,27 @@ TakesAll replies s [] written last = (written ≡ []) × (last ≡ s)
 TakesAll replies s (line ∷ lines) written last =
     (text rest : List ℕ) × (after : _) × Takes replies s line text after × TakesAll replies after lines rest last × (written ≡ text ++ rest)
 
-abbrev pub Exactly : {A : Type 0} → Replies A → A → List (List ℕ) → List ℕ → Type 0
-Exactly replies first lines written = (last : _) × TakesAll replies first lines written last
-
 abbrev pub IsFront : List ℕ → List ℕ → Type 0
 IsFront front whole = (rest : List ℕ) × (whole ≡ front ++ rest)
 
 -- of the next line, if there is one, a front of a reply is written
-abbrev pub IsBegun : {A : Type 0} → Replies A → A → List (List ℕ) → List ℕ → Type 0
-IsBegun replies s [] part = part ≡ []
-IsBegun replies s (line ∷ lines) part = (text : List ℕ) × (after : _) × Takes replies s line text after × IsFront part text
+abbrev pub IsBegun : {A : Type 0} → Replies A → A → List (List ℕ) → List ℕ → A → Type 0
+IsBegun replies s [] part last = (part ≡ []) × (last ≡ s)
+IsBegun replies s (line ∷ lines) part last = (text : List ℕ) × Takes replies s line text last × IsFront part text
 
 -- the first lines are answered, and so much of the next one
-abbrev pub AsFarAs : {A : Type 0} → Replies A → A → List (List ℕ) → List ℕ → List ℕ → Type 0
-AsFarAs replies first lines part written =
-    (count : ℕ) × (done : List ℕ) × (now : _) × TakesAll replies first (take count lines) done now × IsBegun replies now (drop count lines) part × (written ≡ done ++ part)
+abbrev pub AsFarAs : {A : Type 0} → Replies A → A → List (List ℕ) → List ℕ → List ℕ → A → Type 0
+AsFarAs replies first lines part written last =
+    (count : ℕ) × (done : List ℕ) × (now : _) × TakesAll replies first (take count lines) done now × IsBegun replies now (drop count lines) part last × (written ≡ done ++ part)
 
 -- all lines are answered, or all but the last one, which was in work
-abbrev pub AllButOne : {A : Type 0} → Replies A → A → List (List ℕ) → List ℕ → Type 0
-AllButOne replies first lines written =
-    Exactly replies first lines written ⊎ ((before : List (List ℕ)) × (line : List ℕ) × (lines ≡ before ++ line ∷ []) × Exactly replies first before written)
+abbrev pub AllButOne : {A : Type 0} → Replies A → A → List (List ℕ) → List ℕ → A → Type 0
+AllButOne replies first lines written now =
+    TakesAll replies first lines written now ⊎ ((before : List (List ℕ)) × (line : List ℕ) × (lines ≡ before ++ line ∷ []) × TakesAll replies first before written now)
+
+-- the line that was in work changed nothing, or memory was wanting for its reply
+abbrev pub IsLeft : {A : Type 0} → Leaves A → A → A → Type 0
+IsLeft leaves now last = (last ≡ now) ⊎ leaves now last
 
 -- ---- how the answers end
 
@@ -60,21 +65,22 @@ abbrev pub answered_lines : List ℕ → List (List ℕ)
 answered_lines events = if nat_lt stream_limit (length events) then ended_lines (take stream_limit events) else lines_of events
 
 -- so much of the events was taken as lines and as a part of the next one; the line that was in work when memory was wanting may be ended
-abbrev pub StopsAt : {A : Type 0} → Replies A → A → List ℕ → List ℕ → List ℕ → Type 0
-StopsAt replies first events left written =
+abbrev pub StopsAt : {A : Type 0} → Replies A → Leaves A → A → List ℕ → List ℕ → List ℕ → A → Type 0
+StopsAt replies leaves first events left written last =
     (taken : List ℕ) × (ahead : List ℕ) × (events ≡ taken ++ (ahead ++ left)) × (length taken ≤ stream_limit) × (length ahead ≤ most_ahead)
-    × AllButOne replies first (ended_lines taken) written
+    × (now : _) × AllButOne replies first (ended_lines taken) written now × IsLeft leaves now last
 
--- what is written as the answers to the lines end so: the events were these bytes, and those are left
-abbrev pub Answers : {A : Type 0} → Replies A → Ending → A → List ℕ → List ℕ → List ℕ → Type 0
-Answers replies Done first events left written = (left ≡ []) × (length events ≤ stream_limit) × Exactly replies first (lines_of events) written
-Answers replies ReadFault first events left written = (given : List ℕ) × (events ≡ given ++ left) × (length given ≤ stream_limit) × Exactly replies first (ended_lines given) written
-Answers replies SinkFault first events left written = (part : List ℕ) × AsFarAs replies first (answered_lines events) part written
-Answers replies TooMuch first events left written = (stream_limit < length events) × Exactly replies first (ended_lines (take stream_limit events)) written
-Answers replies Memory first events left written = StopsAt replies first events left written
+-- what is written as the answers to the lines end so, and the state that is left: the events were these bytes, and those are left
+abbrev pub Answers : {A : Type 0} → Replies A → Leaves A → Ending → A → List ℕ → List ℕ → List ℕ → A → Type 0
+Answers replies leaves Done first events left written last = (left ≡ []) × (length events ≤ stream_limit) × TakesAll replies first (lines_of events) written last
+Answers replies leaves ReadFault first events left written last =
+    (given : List ℕ) × (events ≡ given ++ left) × (length given ≤ stream_limit) × TakesAll replies first (ended_lines given) written last
+Answers replies leaves SinkFault first events left written last = (part : List ℕ) × AsFarAs replies first (answered_lines events) part written last
+Answers replies leaves TooMuch first events left written last = (stream_limit < length events) × TakesAll replies first (ended_lines (take stream_limit events)) written last
+Answers replies leaves Memory first events left written last = StopsAt replies leaves first events left written last
 
 -- the same where the source tells its bytes
-abbrev pub AnswersKnown : {A : Type 0} → Replies A → Ending → A → Known (List ℕ) → Known (List ℕ) → List ℕ → Type 0
-AnswersKnown replies ending first None left written = Unit {0}
-AnswersKnown replies ending first (Some events) None written = ⊥
-AnswersKnown replies ending first (Some events) (Some left) written = Answers replies ending first events left written
+abbrev pub AnswersKnown : {A : Type 0} → Replies A → Leaves A → Ending → A → Known (List ℕ) → Known (List ℕ) → List ℕ → A → Type 0
+AnswersKnown replies leaves ending first None left written last = Unit {0}
+AnswersKnown replies leaves ending first (Some events) None written last = ⊥
+AnswersKnown replies leaves ending first (Some events) (Some left) written last = Answers replies leaves ending first events left written last

@@ -1,4 +1,4 @@
-//! The answers to the lines of a stream, by whoever answers one line.
+//! The answers to the lines of a stream, by whoever answers one line over a store.
 #![tactic(auto)]
 
 mod answering;

@@ -12,6 +12,7 @@ use crate::answering::Answering;
 use crate::output::write_reply;
 use std::alloc::{AllocError, Global};
 use xf_io::{Line, Lines, Sink, Source};
+use xf_store::Store;
 
 /// How the answers to the lines end.
 #[derive(Clone, Copy, Debug, PartialEq, Eq)]
@@ -35,13 +36,14 @@ enum Next {
 }
 
 /// Answers the lines of the events, one after the other, each reply written before the next line is read.
-pub fn answer_lines<A: Answering, E: Source, O: Sink>(
+pub fn answer_lines<A: Answering, S: Store, E: Source, O: Sink>(
     alloc: Global,
     session: &mut A,
+    store: &mut S,
     events: &mut E,
     out: &mut O,
 ) -> Ending
-    ensures answered { Answered A.answers result session.old (E.left events.old) (E.left events.new) (O.taken out.old) (O.taken out.new) }
+    ensures answered { Answered A.answers A.leaves result (session.old, (S.calls store.old, S.to_come store.old)) (session.new, (S.calls store.new, S.to_come store.new)) (E.left events.old) (E.left events.new) (O.taken out.old) (O.taken out.new) }
     ensures read { result ≡ Ending.ReadFault → Rose (E.faults events.old) (E.faults events.new) }
     ensures written { result ≡ Ending.SinkFault → Rose (O.faults out.old) (O.faults out.new) }
     ensures flushed { IsAllOut result (O.taken out.old, O.flushed out.old) (O.taken out.new, O.flushed out.new) }
@@ -50,7 +52,7 @@ pub fn answer_lines<A: Answering, E: Source, O: Sink>(
 {
     let mut lines = Lines::new();
     loop {
-        match next_reply(alloc, session, &mut lines, events) {
+        match next_reply(alloc, session, store, &mut lines, events) {
             Next::Reply(reply) => match write_reply(out, reply.as_bytes()) {
                 Ok(()) => continue,
                 Err(_) => return Ending::SinkFault,
@@ -62,14 +64,15 @@ pub fn answer_lines<A: Answering, E: Source, O: Sink>(
 
 // Reads the next line and does what it asks for.
 #[tactic(auto, using(crate::proofs::Said::takes_short, crate::proofs::Said::takes_long))]
-fn next_reply<A: Answering, E: Source>(
+fn next_reply<A: Answering, S: Store, E: Source>(
     alloc: Global,
     session: &mut A,
+    store: &mut S,
     lines: &mut Lines,
     events: &mut E,
 ) -> Next
     requires one_source { lines.old.ended ≡ true → IsAtEnd (E.left events.old) }
-    ensures next { NextKnown A.answers session.old session.new (prepend_known lines.old.bytes (E.left events.old)) (prepend_known lines.new.bytes (E.left events.new)) lines.new result }
+    ensures next { NextKnown A.answers A.leaves (session.old, (S.calls store.old, S.to_come store.old)) (session.new, (S.calls store.new, S.to_come store.new)) (prepend_known lines.old.bytes (E.left events.old)) (prepend_known lines.new.bytes (E.left events.new)) lines.new result }
     ensures ahead { length lines.new.bytes ≤ most_ahead }
     ensures counts { CountsBytes (prepend_known lines.old.bytes (E.left events.old)) (prepend_known lines.new.bytes (E.left events.new)) lines.old.given lines.new.given }
     ensures moves { Moves result lines.old.given lines.new.given }
@@ -80,7 +83,7 @@ fn next_reply<A: Answering, E: Source>(
     ensures no_sink { result ≡ Next.Ends Ending.SinkFault → ⊥ }
 {
     match lines.next(alloc, events) {
-        Line::Text(line) => reply_or_end(session.answer(alloc, line.as_slice())),
+        Line::Text(line) => reply_or_end(session.answer(alloc, line.as_slice(), store)),
         Line::TooLong => reply_or_end(String::from_str(alloc, "no E1 LineTooLong\n")),
         Line::End => Next::Ends(Ending::Done),
         Line::ReadFault => Next::Ends(Ending::ReadFault),

@@ -10,6 +10,9 @@ use Rattle.xf_answers.specs.declared.lines.Ending.TheVariants as ending
 use Rattle.xf_answers.specs.Out.{IsSteady}
 use Rattle.xf_loader.specs.declared.fault.FormFault.TheVariants as fault
 use Rattle.xf_loader.specs.declared.loaded.Loaded.{Loaded}
+use Rattle.xf_store.specs.declared.answers.Answer.{Answer}
+use Rattle.xf_store.specs.Called.{Called, Told}
+use Rattle.xf_store.proofs.CalledLaws.{called-none}
 use Rattle.xf_form_machine.specs.Program.{Program}
 use Rattle.xf_form_machine.specs.State.{State}
 use Rattle.xf_form_machine.specs.Refusal.{Refused}
@@ -18,7 +21,7 @@ use Rattle.xf_form_machine.specs.Construct.{construct}
 use Rattle.xf_form_machine.specs.FormReplies.{construct_texts}
 use Rattle.xf_form_machine.specs.Start.{start, readied}
 use Rattle.xf_form_machine.specs.Step.{Posted, Outcome, outcome, at_end}
-use Rattle.xf_form_machine.specs.Replies.{note_lines}
+use Rattle.xf_form_machine.specs.Replies.{answers_in, note_lines}
 use Rattle.xf_processor.specs.Formed.{program_in, profile}
 use Rattle.xf_work.specs.Standing.{Standing, state_of}
 use Rattle.xf_engine.specs.Stepped.{started, IsAccepted}
@@ -26,60 +29,88 @@ use Rattle.xf_cli.specs.declared.status.Command.{Command}
 use Rattle.xf_cli.specs.declared.status.Command.TheVariants.{Try, Check}
 use Rattle.xf_cli.specs.declared.status.Status.{Status}
 use Rattle.xf_cli.specs.declared.status.Status.TheVariants as status
-use Rattle.xf_cli.specs.Outside.{Object, Outside, HasRisen, IsFormRead, IsUntouched}
-use Rattle.xf_cli.specs.Written.{Give, Spells, RefusesStart, RefusesProgram, RefusesBytes, IsAcceptable, FromForm, AnswersBehind, HasCauseIn, Writes, AppendsLine, status_line, Ends, IsStartRefused, refusal_line}
-use Rattle.xf_cli.specs.Replies.{Answers}
+use Rattle.xf_cli.specs.Outside.{Object, Outside, Stored, HasRisen, IsCalled, IsFormRead, IsUncalled, IsUntouched}
+use Rattle.xf_cli.specs.Written.{Give, Spells, RefusesStart, RefusesProgram, RefusesBytes, IsAcceptable, FromForm, AnswersUpTo, HasCauseIn, RefusesWith, StartsSo, Writes, AppendsLine, status_line, Ends, IsStartRefused, refusal_line}
+use Rattle.xf_cli.specs.Replies.{Answers, Leaves}
 use Rattle.xf_cli.specs.Finish.{IsRefusedWith, IsSteadyAt, Finishes, Runs, AnsweredBehind, StartedAndAnswered, RunsLoaded, RunsConstructed}
+use Rattle.xf_cli.proofs.Replied.{told_so}
 
 -- ---- a form that is constructed, and started
 
-start-same : (program : Program) (s : State) → construct profile program ≡ Ok s → start profile program [] ≡ started s
-start-same program s e =
-    ap (λ (r : Result State Refused). outcome (at_end profile) (r >>= readied profile [])) e
+start-same : (program : Program) (s : State) (answers : List Answer) → construct profile program ≡ Ok s → start profile program answers ≡ started s answers
+start-same program s answers e =
+    ap (λ (r : Result State Refused). outcome (at_end profile) (r >>= readied profile answers)) e
 
-pub tried : (l : Loaded) (c : Standing) (s : Status) (events out : Object) → construct profile (program_in l) ≡ Ok (state_of c) → RunsConstructed (state_of c) events out s
-    → RunsLoaded Try l events out s
-tried l c (status.Refused line) events out e h =
-    let started : IsStartRefused (start profile (program_in l) []) (string_bytes line) = subst (λ o. IsStartRefused o (string_bytes line)) (sym (start-same (program_in l) (state_of c) e)) h.1 in
-    (h.0, inr (subst (λ r. RefusesStart r (start profile (program_in l) []) (string_bytes line)) (sym e) started))
-tried l c status.NoRoom events out e h = h
-tried l c (status.Answered ending) events out e h = (refl, subst (λ o. StartedAndAnswered o ending events out) (sym (start-same (program_in l) (state_of c) e)) h)
-tried l c status.Checked events out e h = absurd h
-tried l c status.Usage events out e h = absurd h
-tried l c status.Unread events out e h = absurd h
+starts-same : (program : Program) (s : State) (before : Told) (first : State × Told) (posted : Posted) → construct profile program ≡ Ok s
+    → StartsSo (started s) before first posted → StartsSo (start profile program) before first posted
+starts-same program s before first posted e h = record {
+  made = h.made;
+  called = h.called;
+  is = subst (λ o. IsAccepted o first.0 h.made posted) (sym (start-same program s (answers_in h.made) e)) h.is;
+}
 
-pub tried_by : (command : Command) (l : Loaded) (c : Standing) (s : Status) (events out : Object) → command ≡ Try
-    → construct profile (program_in l) ≡ Ok (state_of c) → RunsConstructed (state_of c) events out s → RunsLoaded command l events out s
-tried_by command l c s events out is e h = subst (λ k. RunsLoaded k l events out s) (sym is) (tried l c s events out e h)
+refused-same : (program : Program) (s : State) (store : Stored) (line : List ℕ) → construct profile program ≡ Ok s → IsStartRefused (started s) store line
+    → IsStartRefused (start profile program) store line
+refused-same program s store line e h = record {
+  made = h.made;
+  called = h.called;
+  refused = subst (λ o. RefusesWith o h.made line) (sym (start-same program s (answers_in h.made) e)) h.refused;
+}
 
-pub refused_by : (command : Command) (l : Loaded) (line : List ℕ) → Contains (construct_texts (construct profile (program_in l))) line → RefusesProgram command (program_in l) line
-refused_by Try l line h = inl h
-refused_by Check l line h = h
+pub tried : (l : Loaded) (c : Standing) (s : Status) (events out : Object) (store : Stored) → construct profile (program_in l) ≡ Ok (state_of c)
+    → RunsConstructed (state_of c) events out store s → RunsLoaded Try l events out store s
+tried l c (status.Refused line) events out store e h =
+    (h.0, inr (subst (λ r. RefusesStart r (start profile (program_in l)) store (string_bytes line)) (sym e) (refused-same (program_in l) (state_of c) store (string_bytes line) e h.1)))
+tried l c status.NoRoom events out store e h = h
+tried l c (status.Answered ending) events out store e h =
+    (refl, (h.0, h.1, starts-same (program_in l) (state_of c) store.before h.0 h.1 e h.2, h.3))
+tried l c status.Checked events out store e h = absurd h
+tried l c status.Usage events out store e h = absurd h
+tried l c status.Unread events out store e h = absurd h
+
+pub tried_by : (command : Command) (l : Loaded) (c : Standing) (s : Status) (events out : Object) (store : Stored) → command ≡ Try
+    → construct profile (program_in l) ≡ Ok (state_of c) → RunsConstructed (state_of c) events out store s → RunsLoaded command l events out store s
+tried_by command l c s events out store is e h = subst (λ k. RunsLoaded k l events out store s) (sym is) (tried l c s events out store e h)
+
+pub refused_by : (command : Command) (l : Loaded) (store : Stored) (line : List ℕ) → Contains (construct_texts (construct profile (program_in l))) line → IsUncalled store
+    → RefusesProgram command (program_in l) store line
+refused_by Try l store line h k = inl (h, k)
+refused_by Check l store line h k = (h, k)
+
+-- no call of the store was made
+pub uncalled_so : (store : Stored) → IsUncalled store → IsCalled store
+uncalled_so store h = ([], subst (λ (t : Told). Called store.before t [] []) (sym h) (called-none store.before []))
 
 -- ---- the run over a form
 
-from_form : (form : Option (List ℕ)) (l : Loaded) (first : Standing) (posted : Posted) (holds : List ℕ → Standing → Type 0) → Give form (Ok l)
-    → IsAccepted (start profile (program_in l) []) (state_of first) posted → holds (note_lines posted.notes) first → FromForm form holds
-from_form form l first posted holds is a h = (l, first, posted, is, a, h)
+from_form : (form : Option (List ℕ)) (l : Loaded) (before : Told) (first : State × Told) (posted : Posted) (holds : List ℕ → State × Told → Type 0) → Give form (Ok l)
+    → StartsSo (start profile (program_in l)) before first posted → holds (note_lines posted.notes) first → FromForm form before holds
+from_form form l before first posted holds is a h = (l, first, posted, is, a, h)
 
 -- the notes were written, and then the answers to the lines
-pub behind : (notes : List ℕ) (e : Ending) (first : Standing) (events out : Object) (mid : Option (List ℕ)) → Appends out.before mid notes
-    → Answered Answers e first events.before events.after mid out.after → AnsweredBehind notes e first events out
-behind notes e first events out mid wrote h = (notes ++ h.0, inl (h.0, h.1, refl), Appends-trans out.before mid out.after notes h.0 wrote h.2)
+pub behind : (notes : List ℕ) (e : Ending) (first : Standing) (told : Told) (last : Standing) (later : Told) (events out : Object) (mid : Option (List ℕ)) → Appends out.before mid notes
+    → Answered Answers Leaves e (first, told) (last, later) events.before events.after mid out.after → AnsweredBehind notes e (state_of first, told) later events out
+behind notes e first told last later events out mid wrote h = (
+  notes ++ h.0,
+  inl (told_so notes e (first, told) (last, later) events.before events.after h.0 h.1),
+  Appends-trans out.before mid out.after notes h.0 wrote h.2,
+)
 
 -- of a start that is accepted
-pub answered_so : (given : Outcome) (s : Standing) (notes text : List ℕ) (e : Ending) (events out : Object)
-    → ((posted : Posted) × IsAccepted given (state_of s) posted × (text ≡ note_lines posted.notes)) → notes ≡ text
-    → AnsweredBehind notes e s events out → StartedAndAnswered given e events out
-answered_so given s notes text e events out h is k = (s, h.0, h.1, subst (λ n. AnsweredBehind n e s events out) (is ∙ h.2) k)
+pub answered_so : (given : List Answer → Outcome) (s : State) (mid : Told) (store : Stored) (notes text : List ℕ) (e : Ending) (events out : Object)
+    → ((posted : Posted) × StartsSo given store.before (s, mid) posted × (text ≡ note_lines posted.notes)) → notes ≡ text
+    → AnsweredBehind notes e (s, mid) store.after events out → StartedAndAnswered given e events out store
+answered_so given s mid store notes text e events out h is k =
+    ((s, mid), h.0, h.1, subst (λ n. AnsweredBehind n e (s, mid) store.after events out) (is ∙ h.2) k)
 
 -- the sink failed at the notes
-pub cut_off : (notes : List ℕ) (e : Ending) (first : Standing) (events out : Object) → AppendsFront out.before out.after notes → e ≡ ending.SinkFault → IsUntouched events
-    → AnsweredBehind notes e first events out
-cut_off notes e first events out h is unread = (h.0, inr (is, unread, (h.1, h.2)), h.3)
+pub cut_off : (notes : List ℕ) (e : Ending) (first : State) (told : Told) (events out : Object) → AppendsFront out.before out.after notes → e ≡ ending.SinkFault → IsUntouched events
+    → AnsweredBehind notes e (first, told) told events out
+cut_off notes e first told events out h is unread = (h.0, inr (is, unread, (h.1, h.2), refl), h.3)
 
-refuses : (command : Command) (form : Option (List ℕ)) (l : Loaded) (line : List ℕ) → Give form (Ok l) → RefusesProgram command (program_in l) line → RefusesBytes command form line
-refuses command form l line is h = (Ok l, is, h)
+refuses : (command : Command) (form : Option (List ℕ)) (store : Stored) (l : Loaded) (line : List ℕ) → Give form (Ok l) → RefusesProgram command (program_in l) store line
+    → RefusesBytes command form store line
+refuses command form store l line is h = (Ok l, is, h)
 
 acceptable : (form : Option (List ℕ)) (l : Loaded) (s : State) → Give form (Ok l) → construct profile (program_in l) ≡ Ok s → IsAcceptable form
 acceptable form l s is e = (l, s, is, e)
@@ -102,37 +133,47 @@ spells-check : (words : List (List ℕ)) (command : Command) → Spells words co
 spells-check words command h e = subst (λ c. Spells words c) e h
 
 pub runs_loaded : (s : Status) (command : Command) (l : Loaded) (outside : Outside) → Spells outside.words command → IsFormRead outside → Give outside.form.before (Ok l)
-    → RunsLoaded command l outside.events outside.out s
+    → RunsLoaded command l outside.events outside.out outside.store s
     → (s ≡ status.Answered ending.ReadFault → HasRisen outside.events) → (s ≡ status.Answered ending.SinkFault → HasRisen outside.out)
     → IsSteadyAt s outside.out.first_faults outside.out.faults → Runs s outside
 runs_loaded (status.Answered e) command l outside spells taken is h read written steady =
-    let form = from_form outside.form.before l h.1.0 h.1.1 (λ notes first. AnswersBehind notes e first outside.events h.1.3.0) is h.1.2 h.1.3.1 in
+    let form = from_form outside.form.before l outside.store.before h.1.0 h.1.1 (λ notes first. AnswersUpTo notes e first outside.store.after outside.events h.1.3.0) is h.1.2 h.1.3.1 in
     (h.1.3.0, (spells-try outside.words command spells h.0, taken, form, cause_of e outside read written steady), h.1.3.2)
 runs_loaded (status.Refused line) command l outside spells taken is h read written steady =
-    ([], (command, (spells, taken, h.0.unread, (refl, steady)), refuses command outside.form.before l (string_bytes line) is h.1), unwritten outside.out h.0.unwritten)
+    ([], (command, (spells, taken, h.0.unread, (refl, steady)), refuses command outside.form.before outside.store l (string_bytes line) is h.1), unwritten outside.out h.0.unwritten)
 runs_loaded status.Checked command l outside spells taken is h read written steady =
-    ([], ((spells-check outside.words command spells h.1, taken, h.0.unread, (refl, steady)), acceptable outside.form.before l h.2.0 is h.2.1), unwritten outside.out h.0.unwritten)
+    ([], ((spells-check outside.words command spells h.1, taken, h.0.unread, (refl, steady)), acceptable outside.form.before l h.2.0 is h.2.1, h.3), unwritten outside.out h.0.unwritten)
 runs_loaded status.NoRoom command l outside spells taken is h read written steady =
-    ([], (command, (spells, taken, h.unread, (refl, steady))), unwritten outside.out h.unwritten)
+    ([], (command, (spells, taken, h.0.unread, (refl, steady)), h.1), unwritten outside.out h.0.unwritten)
 runs_loaded status.Usage command l outside spells taken is h read written steady = absurd h
 runs_loaded status.Unread command l outside spells taken is h read written steady = absurd h
 
 -- ---- a form that is not loaded
 
-refuses-bytes : (command : Command) (form : Option (List ℕ)) (number : ℕ) (place line : List ℕ) → Give form (Err (fault.Refused number place)) → line ≡ refusal_line number place
-    → RefusesBytes command form line
-refuses-bytes command form number place line is e = (Err (fault.Refused number place), is, e)
+refuses-bytes : (command : Command) (form : Option (List ℕ)) (store : Stored) (number : ℕ) (place line : List ℕ) → Give form (Err (fault.Refused number place)) → line ≡ refusal_line number place
+    → IsUncalled store → RefusesBytes command form store line
+refuses-bytes command form store number place line is e uncalled = (Err (fault.Refused number place), is, (e, uncalled))
 
 pub runs_refused : (s : Status) (command : Command) (number : ℕ) (place : List ℕ) (outside : Outside) → Spells outside.words command → IsFormRead outside
-    → Give outside.form.before (Err (fault.Refused number place)) → IsRefusedWith number place s → IsUntouched outside.events → IsUntouched outside.out → Runs s outside
-runs_refused (status.Refused line) command number place outside spells taken is h unread unwrote =
-    ([], (command, (spells, taken, unread, (refl, unwrote.faults)), refuses-bytes command outside.form.before number place (string_bytes line) is h), unwritten outside.out unwrote.bytes)
-runs_refused status.NoRoom command number place outside spells taken is h unread unwrote =
-    ([], (command, (spells, taken, unread, (refl, unwrote.faults))), unwritten outside.out unwrote.bytes)
-runs_refused status.Checked command number place outside spells taken is h unread unwrote = absurd h
-runs_refused status.Usage command number place outside spells taken is h unread unwrote = absurd h
-runs_refused status.Unread command number place outside spells taken is h unread unwrote = absurd h
-runs_refused (status.Answered e) command number place outside spells taken is h unread unwrote = absurd h
+    → Give outside.form.before (Err (fault.Refused number place)) → IsRefusedWith number place s → IsUntouched outside.events → IsUntouched outside.out → IsUncalled outside.store
+    → Runs s outside
+runs_refused (status.Refused line) command number place outside spells taken is h unread unwrote uncalled = (
+  [],
+  (command, (spells, taken, unread, (refl, unwrote.faults)), refuses-bytes command outside.form.before outside.store number place (string_bytes line) is h uncalled),
+  unwritten outside.out unwrote.bytes,
+)
+runs_refused status.NoRoom command number place outside spells taken is h unread unwrote uncalled =
+    ([], (command, (spells, taken, unread, (refl, unwrote.faults)), uncalled_so outside.store uncalled), unwritten outside.out unwrote.bytes)
+runs_refused status.Checked command number place outside spells taken is h unread unwrote uncalled = absurd h
+runs_refused status.Usage command number place outside spells taken is h unread unwrote uncalled = absurd h
+runs_refused status.Unread command number place outside spells taken is h unread unwrote uncalled = absurd h
+runs_refused (status.Answered e) command number place outside spells taken is h unread unwrote uncalled = absurd h
+
+-- no memory for the form
+pub runs_out : (command : Command) (outside : Outside) → Spells outside.words command → IsFormRead outside → IsUntouched outside.events → IsUntouched outside.out → IsUncalled outside.store
+    → Runs status.NoRoom outside
+runs_out command outside spells taken unread unwrote uncalled =
+    ([], (command, (spells, taken, unread, (refl, unwrote.faults)), uncalled_so outside.store uncalled), unwritten outside.out unwrote.bytes)
 
 -- ---- the line for the status
 

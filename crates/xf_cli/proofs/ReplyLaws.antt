@@ -1,6 +1,6 @@
 -- What is written for a line, by what it asks for.
-use Rattle.std.proofs.Common.{ℕ, ◌≡◌, ◌≤◌, Bool, true, false, not, ◌&&◌, List, [], ◌∷◌, ◌++◌, map, length, codes, Result, Ok, Err, refl, ap, sym, ◌∙◌, subst, lit<, arith, ◌<◌, if◌then◌else◌}
-use Rattle.std.specs.Prelude.{Contains, IfOk, String, string_bytes}
+use Rattle.std.proofs.Common.{ℕ, ◌≡◌, ◌≤◌, Bool, true, false, List, [], ◌∷◌, ◌++◌, map, length, nat_lt, codes, Result, Ok, Err, refl, ap, sym, ◌∙◌, subst, lit<, arith, ◌<◌, ◌⊎◌, inl, inr, if◌then◌else◌}
+use Rattle.std.specs.Prelude.{Contains, IfOk, OnErr, String, string_bytes}
 use Rattle.std.specs.declared.alloc.AllocError.{AllocError}
 use Rattle.std.specs.declared.alloc.Global.{Global}
 use Rattle.std.specs.List.{list_all}
@@ -11,13 +11,18 @@ use Rattle.xf_line.specs.declared.event.Asked.{Asked}
 use Rattle.xf_line.specs.declared.event.Asked.TheVariants as asked
 use Rattle.xf_line.specs.declared.event.Event.{Event}
 use Rattle.xf_line.specs.declared.fault.LineFault.{LineFault}
+use Rattle.xf_line.specs.declared.fault.LineFault.TheVariants as line_fault
 use Rattle.xf_line.specs.Line.{asked_by}
+use Rattle.xf_store.specs.declared.answers.Answer.{Answer}
+use Rattle.xf_store.specs.declared.call.StoreCall.{StoreCall}
+use Rattle.xf_store.specs.Called.{Told}
+use Rattle.xf_store.proofs.CalledLaws.{called-none}
 use Rattle.xf_form_machine.specs.State.{State}
 use Rattle.xf_form_machine.specs.Refusal as machine
 use Rattle.xf_form_machine.specs.FormReplies.{form_texts, construct_texts, ready_text}
 use Rattle.xf_form_machine.specs.StateText.{line_of}
 use Rattle.xf_form_machine.specs.Step.{Outcome, accepted, refused, Posted, step}
-use Rattle.xf_form_machine.specs.Replies.{Reply, without_event, note_lines, ok_text, limit_text, refusal_texts, reply_outcome, reply_read, is_blank}
+use Rattle.xf_form_machine.specs.Replies.{Reply, without_event, note_lines, ok_text, limit_text, refusal_texts, reply, reply_outcome, reply_read, is_blank, answers_in}
 use Rattle.xf_form_machine.specs.declared.refusal.Refusal.{Refusal}
 use Rattle.xf_form_machine.specs.declared.refusal.Refusal.TheVariants as told
 use Rattle.xf_form_machine.specs.Told.{Tells}
@@ -27,12 +32,13 @@ use Rattle.xf_report.proofs.AnswerLaws.{tells-text}
 use Rattle.xf_form_machine.specs.ControlText.{state_text}
 use Rattle.xf_work.specs.Standing.{Standing, state_of}
 use Rattle.xf_world.specs.declared.fault.EventFault.{EventFault}
-use Rattle.xf_world.specs.declared.fault.EventFault.TheVariants.{Refused}
+use Rattle.xf_world.specs.declared.fault.EventFault.TheVariants.{Refused, Memory}
 use Rattle.xf_processor.specs.Formed.{profile}
 use Rattle.xf_work.specs.Does.{IsRefused}
-use Rattle.xf_engine.specs.Stepped.{is_of_form, IsConstructed, IsStarted, IsStepped, IsAccepted, as_result}
-use Rattle.xf_cli.specs.Written.{IsStartRefused}
-use Rattle.xf_cli.specs.Replies.{is_unbuilt, asks_unbuilt, unbuilt_reply, built_read, built_reply, Gives, IsReply}
+use Rattle.xf_engine.specs.Stepped.{is_of_form, IsConstructed, IsRefusedAfter, IsAccepted, Starts, Steps}
+use Rattle.xf_cli.specs.Outside.{IsCalled, stored_of}
+use Rattle.xf_cli.specs.Written.{IsStartRefused, RefusesWith, StartsSo}
+use Rattle.xf_cli.specs.Replies.{Gives, IsReplied, IsReply, Leaves}
 
 only : {X : Type 0} (x : X) → Contains (x ∷ []) x
 only x = (0, lit< tt, refl)
@@ -44,45 +50,54 @@ contains-map f xs x h =
 
 -- ---- by its length, and whether it is blank
 
-abbrev by_tests : State → Bool → Bool → Bool → Reply → Reply
-by_tests s long blank unbuilt r =
-    if not long && (not blank && unbuilt) then unbuilt_reply s
-    else if long then without_event s (codes "no E1 LineTooLong\n" ∷ [])
-    else if blank then without_event s ([] ∷ []) else r
+abbrev by_tests : State → Bool → Bool → Reply → Reply
+by_tests s long blank r = if long then without_event s (codes "no E1 LineTooLong\n" ∷ []) else if blank then without_event s ([] ∷ []) else r
 
 -- one that is not too long
-by-length : (s : State) (line : List ℕ) → length line ≤ line_limit
-    → built_reply s line ≡ by_tests s false (list_all is_blank line) (asks_unbuilt (asked_by line)) (reply_read profile true s [] (asked_by line))
-by-length s line h =
-    ap (λ l. by_tests s l (list_all is_blank line) (asks_unbuilt (asked_by line)) (reply_read profile true s [] (asked_by line))) (le-ltb line_limit (length line) h)
+by-length : (s : State) (answers : List Answer) (line : List ℕ) → length line ≤ line_limit
+    → reply profile true s answers line ≡ by_tests s false (list_all is_blank line) (reply_read profile true s answers (asked_by line))
+by-length s answers line h =
+    ap (λ l. by_tests s l (list_all is_blank line) (reply_read profile true s answers (asked_by line))) (le-ltb line_limit (length line) h)
 
-pub blank_reply : (s : State) (line text : List ℕ) → length line ≤ line_limit → list_all is_blank line ≡ true → text ≡ [] → IsReply s line text s
-blank_reply s line text h b e =
-    let same = by-length s line h ∙ ap (λ c. by_tests s false c (asks_unbuilt (asked_by line)) (reply_read profile true s [] (asked_by line))) b in
-    subst (λ r. Gives r text s) (sym same) (record { text = subst (λ t. Contains ([] ∷ []) t) (sym e) (only []); after = refl; calls = refl })
+-- without a call of the store
+pub quiet_reply : (s : State) (told : Told) (given : List Answer → Reply) (text : List ℕ) → Gives (given []) text s [] → IsReplied given told told text s
+quiet_reply s told given text h = record { made = []; called = called-none told []; gives = h }
 
-pub read_reply : (s after : State) (line text : List ℕ) (given : Result Asked LineFault) → length line ≤ line_limit → list_all is_blank line ≡ false → asked_by line ≡ given
-    → Gives (built_read s given) text after → IsReply s line text after
-read_reply s after line text given h b e k =
-    let same = by-length s line h ∙ ap (λ c. by_tests s false c (asks_unbuilt (asked_by line)) (reply_read profile true s [] (asked_by line))) b
-    ∙ ap (λ g. by_tests s false false (asks_unbuilt g) (reply_read profile true s [] g)) e in
-    subst (λ r. Gives r text after) (sym same) k
+pub blank_reply : (s : State) (line text : List ℕ) (told : Told) → length line ≤ line_limit → list_all is_blank line ≡ true → text ≡ [] → IsReply s line text s told told
+blank_reply s line text told h b e =
+    let same = by-length s [] line h ∙ ap (λ c. by_tests s false c (reply_read profile true s [] (asked_by line))) b in
+    quiet_reply s told (λ answers. reply profile true s answers line) text
+    (subst (λ r. Gives r text s []) (sym same) (record { text = subst (λ t. Contains ([] ∷ []) t) (sym e) (only []); after = refl; calls = refl }))
+
+-- one that is
+pub long_reply : (s : State) (line text : List ℕ) (told : Told) → nat_lt line_limit (length line) ≡ true → text ≡ codes "no E1 LineTooLong\n" → IsReply s line text s told told
+long_reply s line text told h e =
+    let same : reply profile true s [] line ≡ without_event s (codes "no E1 LineTooLong\n" ∷ []) =
+    ap (λ l. by_tests s l (list_all is_blank line) (reply_read profile true s [] (asked_by line))) h in
+    quiet_reply s told (λ answers. reply profile true s answers line) text
+    (subst (λ r. Gives r text s []) (sym same)
+    (record { text = subst (λ t. Contains (codes "no E1 LineTooLong\n" ∷ []) t) (sym e) (only (codes "no E1 LineTooLong\n")); after = refl; calls = refl }))
+
+pub read_reply : (s after : State) (line text : List ℕ) (given : Result Asked LineFault) (first last : Told) → length line ≤ line_limit → list_all is_blank line ≡ false
+    → asked_by line ≡ given → IsReplied (λ answers. reply_read profile true s answers given) first last text after → IsReply s line text after first last
+read_reply s after line text given first last h b e k =
+    let answers = answers_in k.made in
+    let same = by-length s answers line h ∙ ap (λ c. by_tests s false c (reply_read profile true s answers (asked_by line))) b
+    ∙ ap (λ g. reply_read profile true s answers g) e in
+    record { made = k.made; called = k.called; gives = subst (λ r. Gives r text after k.made) (sym same) k.gives }
 
 -- ---- an event
 
--- of what is built
-by-event : (s : State) (event : Event) → is_unbuilt event ≡ false → built_read s (Ok (asked.Event event)) ≡ reply_outcome true s (step profile s event [])
-by-event s event h = ap (λ b. if b then unbuilt_reply s else reply_outcome true s (step profile s event [])) h
-
-accepted-reply : (s after : State) (posted : Posted) (text : List ℕ) (given : Outcome) → IsAccepted given after posted → text ≡ ok_text true after posted
-    → Gives (reply_outcome true s given) text after
-accepted-reply s after posted text given h e =
-    subst (λ o. Gives (reply_outcome true s o) text after) (sym h.is)
+accepted-reply : (s after : State) (made : List StoreCall) (posted : Posted) (text : List ℕ) (given : Outcome) → IsAccepted given after made posted → text ≡ ok_text true after posted
+    → Gives (reply_outcome true s given) text after made
+accepted-reply s after made posted text given h e =
+    subst (λ o. Gives (reply_outcome true s o) text after made) (sym h.is)
     (record { text = subst (λ t. Contains (ok_text true after posted ∷ []) t) (sym e) (only (ok_text true after posted)); after = refl; calls = h.calls })
 
-refused-reply : (s : State) (refusal : Refusal) (given : Outcome) → IsRefused refusal (as_result given) → Gives (reply_outcome true s given) (line_of (refusal_text refusal)) s
-refused-reply s refusal (accepted t posted) h = absurd h
-refused-reply s refusal (refused why calls) h = record { text = contains-line refusal why h.0; after = refl; calls = h.1 }
+refused-reply : (s : State) (refusal : Refusal) (made : List StoreCall) (given : Outcome) → IsRefusedAfter refusal made given
+    → Gives (reply_outcome true s given) (line_of (refusal_text refusal)) s made
+refused-reply s refusal made (accepted t posted) h = absurd h
+refused-reply s refusal made (refused why calls) h = record { text = contains-line refusal why h.0; after = refl; calls = h.1 }
   where
     contains-line : (r : Refusal) (w : machine.Refusal) → Tells r w → Contains (map line_of (refusal_texts w)) (line_of (refusal_text r))
     contains-line r w t = contains-map line_of (refusal_texts w) (refusal_text r) (tells-text r w t)
@@ -126,17 +141,20 @@ ready-same told.Budget why h = ap ready_text h
 ready-same told.Depth why h = ap ready_text h
 ready-same told.Sends why h = ap ready_text h
 
-pub start_refused : (r : Refusal) (given : Outcome) (line : List ℕ) → IsRefused r (as_result given) → line ≡ line_of (ready_text (meaning.told r)) → IsStartRefused given line
-start_refused r (accepted s posted) line h e = absurd h
-start_refused r (refused why calls) line h e = e ∙ ap line_of (sym (ready-same r why h.0))
+pub start_refused : (r : Refusal) (made : List StoreCall) (given : Outcome) (line : List ℕ) → IsRefusedAfter r made given → line ≡ line_of (ready_text (meaning.told r))
+    → RefusesWith given made line
+start_refused r made (accepted s posted) line h e = absurd h
+start_refused r made (refused why calls) line h e = (e ∙ ap line_of (sym (ready-same r why h.0)), h.1)
 
 -- ---- texts that were empty before
 
 pub from_empty : (new old text : List ℕ) → new ≡ old ++ text → old ≡ [] → new ≡ text
 from_empty new old text e h = e ∙ ap (λ b. b ++ text) h
 
-pub show_reply : (s : State) (text : List ℕ) → text ≡ state_text profile s → Gives (built_read s (Ok asked.Show)) text s
-show_reply s text e = record { text = subst (λ t. Contains (state_text profile s ∷ []) t) (sym e) (only (state_text profile s)); after = refl; calls = refl }
+pub show_reply : (s : State) (told : Told) (text : List ℕ) → text ≡ state_text profile s → IsReplied (λ answers. reply_read profile true s answers (Ok asked.Show)) told told text s
+show_reply s told text e =
+    quiet_reply s told (λ answers. reply_read profile true s answers (Ok asked.Show)) text
+    (record { text = subst (λ t. Contains (state_text profile s ∷ []) t) (sym e) (only (state_text profile s)); after = refl; calls = refl })
 
 -- ---- by the fault that an engine gives
 
@@ -144,55 +162,118 @@ pub constructed_refused : (fault : EventFault) (r : Refusal) (given : Result Sta
     → Contains (construct_texts given) line
 constructed_refused fault r given line e h k = let g = subst (λ f. IsConstructed (Err f) given) e h in construct_refused r given line g.0 g.1 k
 
-pub started_refused : (fault : EventFault) (r : Refusal) (old new : List ℕ) (given : Outcome) (line : List ℕ) → fault ≡ Refused r → IsStarted (Err fault) old new given
-    → line ≡ line_of (ready_text (meaning.told r)) → IsStartRefused given line
-started_refused fault r old new given line e h k = start_refused r given line (subst (λ f. IsStarted (Err f) old new given) e h) k
+pub started_refused : (fault : EventFault) (r : Refusal) (first last : Told) (old new : List ℕ) (given : List Answer → Outcome) (line : List ℕ) → fault ≡ Refused r
+    → Starts (Err fault) first last old new given → line ≡ line_of (ready_text (meaning.told r)) → IsStartRefused given (stored_of first last) line
+started_refused fault r first last old new given line e h k =
+    let g = subst (λ f. Starts (Err f) first last old new given) e h in
+    record { made = g.made; called = g.called; refused = start_refused r g.made (given (answers_in g.made)) line g.is k }
 
 -- with the notes in a text that was empty before
-pub started_noted : (s : Standing) (old new : List ℕ) (given : Outcome) → IsStarted (Ok s) old new given → old ≡ []
-    → (posted : Posted) × IsAccepted given (state_of s) posted × (new ≡ note_lines posted.notes)
-started_noted s old new given h e = (h.0, h.1, from_empty new old (note_lines h.0.notes) h.2 e)
+pub started_noted : (s : Standing) (first last : Told) (old new : List ℕ) (given : List Answer → Outcome) → Starts (Ok s) first last old new given → old ≡ []
+    → (posted : Posted) × StartsSo given first (state_of s, last) posted × (new ≡ note_lines posted.notes)
+started_noted s first last old new given h e =
+    let is = h.is in
+    (is.0, record { made = h.made; called = h.called; is = is.1 }, from_empty new old (note_lines is.0.notes) is.2 e)
+
+-- some calls of the store were made
+pub started_called : (result : Result Standing EventFault) (first last : Told) (old new : List ℕ) (given : List Answer → Outcome) → Starts result first last old new given
+    → IsCalled (stored_of first last)
+started_called result first last old new given h = (h.made, h.called)
+
+-- none was
+pub uncalled : (told : Told) → IsCalled (stored_of told told)
+uncalled told = ([], called-none told [])
 
 -- ---- a session has the state of its engine
 
-pub shown_by : (s engine : Standing) (text : List ℕ) → s ≡ engine → text ≡ state_text profile (state_of engine) → Gives (built_read (state_of s) (Ok asked.Show)) text (state_of s)
-shown_by s engine text e h = subst (λ t. Gives (built_read (state_of t) (Ok asked.Show)) text (state_of t)) (sym e) (show_reply (state_of engine) text h)
+pub shown_by : (s engine : Standing) (told : Told) (text : List ℕ) → s ≡ engine → text ≡ state_text profile (state_of engine)
+    → IsReplied (λ answers. reply_read profile true (state_of s) answers (Ok asked.Show)) told told text (state_of s)
+shown_by s engine told text e h =
+    subst (λ t. IsReplied (λ answers. reply_read profile true (state_of t) answers (Ok asked.Show)) told told text (state_of t)) (sym e) (show_reply (state_of engine) told text h)
 
 -- what is given for an event by a state that an engine has
-abbrev GivesFor : Standing → Event → List ℕ → Standing → Type 0
-GivesFor s event text after = Gives (built_read (state_of s) (Ok (asked.Event event))) text (state_of after)
+abbrev GivesFor : Standing → Event → List StoreCall → List ℕ → Standing → Type 0
+GivesFor s event made text after = Gives (reply_read profile true (state_of s) (answers_in made) (Ok (asked.Event event))) text (state_of after) made
 
-refused-text : (s after : Standing) (refusal : Refusal) (event : Event) (text : List ℕ) → is_unbuilt event ≡ false
-    → IsRefused refusal (as_result (step profile (state_of s) event [])) → after ≡ s → text ≡ line_of (refusal_text refusal) → GivesFor s event text after
-refused-text s after refusal event text built h same k =
-    subst (λ u. GivesFor s event text u) (sym same)
-    (subst (λ r. Gives r text (state_of s)) (sym (by-event (state_of s) event built))
-    (subst (λ t. Gives (reply_outcome true (state_of s) (step profile (state_of s) event [])) t (state_of s)) (sym k)
-    (refused-reply (state_of s) refusal (step profile (state_of s) event []) h)))
+abbrev RepliesFor : Standing → Event → Told → Told → List ℕ → Standing → Type 0
+RepliesFor s event first last text after = IsReplied (λ answers. reply_read profile true (state_of s) answers (Ok (asked.Event event))) first last text (state_of after)
 
-refused-if : (s after : Standing) (refusal : Refusal) (event : Event) (r : Result (String Global) AllocError) → is_unbuilt event ≡ false
-    → IsRefused refusal (as_result (step profile (state_of s) event [])) → after ≡ s → IfOk r (λ t. string_bytes t ≡ line_of (refusal_text refusal))
-    → IfOk r (λ t. GivesFor s event (string_bytes t) after)
-refused-if s after refusal event (Err e) built h same k = tt
-refused-if s after refusal event (Ok t) built h same k = refused-text s after refusal event (string_bytes t) built h same k
+refused-text : (s after : Standing) (refusal : Refusal) (event : Event) (made : List StoreCall) (text : List ℕ)
+    → IsRefusedAfter refusal made (step profile (state_of s) event (answers_in made)) → after ≡ s → text ≡ line_of (refusal_text refusal) → GivesFor s event made text after
+refused-text s after refusal event made text h same k =
+    subst (λ u. GivesFor s event made text u) (sym same)
+    (subst (λ t. Gives (reply_outcome true (state_of s) (step profile (state_of s) event (answers_in made))) t (state_of s) made) (sym k)
+    (refused-reply (state_of s) refusal made (step profile (state_of s) event (answers_in made)) h))
 
-pub refused_with : (s engine after : Standing) (fault : EventFault) (refusal : Refusal) (event : Event) (old new : List ℕ) (r : Result (String Global) AllocError) → s ≡ engine
-    → is_unbuilt event ≡ false → fault ≡ Refused refusal → IsStepped engine (Err fault) after old new (step profile (state_of engine) event [])
-    → IfOk r (λ t. string_bytes t ≡ line_of (refusal_text refusal)) → IfOk r (λ t. GivesFor s event (string_bytes t) after)
-refused_with s engine after fault refusal event old new r same built e h k =
-    let g = subst (λ f. IsStepped engine (Err f) after old new (step profile (state_of engine) event [])) e h in
-    subst (λ u. IfOk r (λ t. GivesFor u event (string_bytes t) after)) (sym same) (refused-if engine after refusal event r built g.0 g.1 k)
+refused-if : (s after : Standing) (refusal : Refusal) (event : Event) (first last : Told) (old new : List ℕ) (r : Result (String Global) AllocError)
+    → Steps s (Err (Refused refusal)) after first last old new (step profile (state_of s) event) → IfOk r (λ t. string_bytes t ≡ line_of (refusal_text refusal))
+    → IfOk r (λ t. RepliesFor s event first last (string_bytes t) after)
+refused-if s after refusal event first last old new (Err e) h k = tt
+refused-if s after refusal event first last old new (Ok t) h k =
+    let is = h.is in
+    record { made = h.made; called = h.called; gives = refused-text s after refusal event h.made (string_bytes t) is.0 is.1 k }
 
-pub accepted_with : (s engine after : Standing) (count : ℕ) (event : Event) (old new : List ℕ) → s ≡ engine → is_unbuilt event ≡ false
-    → IsStepped engine (Ok count) after old new (step profile (state_of engine) event []) → old ≡ [] → GivesFor s event new after
-accepted_with s engine after count event old new same built h e =
-    subst (λ u. GivesFor u event new after) (sym same)
-    (subst (λ r. Gives r new (state_of after)) (sym (by-event (state_of engine) event built))
-    (accepted-reply (state_of engine) (state_of after) h.0 new (step profile (state_of engine) event []) h.1 (from_empty new old _ h.3 e)))
+pub refused_with : (s engine after : Standing) (fault : EventFault) (refusal : Refusal) (event : Event) (first last : Told) (old new : List ℕ) (r : Result (String Global) AllocError)
+    → s ≡ engine → fault ≡ Refused refusal → Steps engine (Err fault) after first last old new (step profile (state_of engine) event)
+    → IfOk r (λ t. string_bytes t ≡ line_of (refusal_text refusal)) → IfOk r (λ t. RepliesFor s event first last (string_bytes t) after)
+refused_with s engine after fault refusal event first last old new r same e h k =
+    subst (λ u. IfOk r (λ t. RepliesFor u event first last (string_bytes t) after)) (sym same)
+    (refused-if engine after refusal event first last old new r (subst (λ f. Steps engine (Err f) after first last old new (step profile (state_of engine) event)) e h) k)
 
-pub unbuilt_with : (s : Standing) (event : Event) (r : Result (String Global) AllocError) → is_unbuilt event ≡ true
-    → IfOk r (λ t. string_bytes t ≡ codes "no E15 NotBuilt\n") → IfOk r (λ t. GivesFor s event (string_bytes t) s)
-unbuilt_with s event (Err e) h k = tt
-unbuilt_with s event (Ok t) h k =
-    subst (λ b. Gives (if b then unbuilt_reply (state_of s) else reply_outcome true (state_of s) (step profile (state_of s) event [])) (string_bytes t) (state_of s)) (sym h)
-    (record { text = subst (λ x. Contains (codes "no E15 NotBuilt\n" ∷ []) x) (sym k) (only (codes "no E15 NotBuilt\n")); after = refl; calls = refl })
+pub accepted_with : (s engine after : Standing) (count : ℕ) (event : Event) (first last : Told) (old new : List ℕ) → s ≡ engine
+    → Steps engine (Ok count) after first last old new (step profile (state_of engine) event) → old ≡ [] → RepliesFor s event first last new after
+accepted_with s engine after count event first last old new same h e =
+    let is = h.is in
+    let answers = answers_in h.made in
+    subst (λ u. RepliesFor u event first last new after) (sym same)
+    (record {
+      made = h.made;
+      called = h.called;
+      gives = accepted-reply (state_of engine) (state_of after) h.made is.0 new (step profile (state_of engine) event answers) is.1 (from_empty new old _ is.3 e);
+    })
+
+-- where memory was wanting the engine is as before
+left-by : (engine after : Standing) (fault : EventFault) (first last : Told) (old new : List ℕ) (given : List Answer → Outcome) → Steps engine (Err fault) after first last old new given
+    → Leaves (engine, first) (after, last)
+left-by engine after (Refused refusal) first last old new given h = let is = h.is in (is.1, (h.made, h.called))
+left-by engine after Memory first last old new given h = (h.is, (h.made, h.called))
+
+pub left_so : (s engine after : Standing) (fault : EventFault) (first last : Told) (old new : List ℕ) (given : List Answer → Outcome) → s ≡ engine
+    → Steps engine (Err fault) after first last old new given → Leaves (s, first) (after, last)
+left_so s engine after fault first last old new given same h = subst (λ u. Leaves (u, first) (after, last)) (sym same) (left-by engine after fault first last old new given h)
+
+-- so without a call of the store
+pub left_still : (s : Standing) (told : Told) → Leaves (s, told) (s, told)
+left_still s told = (refl, ([], called-none told []))
+
+-- ---- by whether there is a text
+
+pub on_err : {T E P : Type 0} (r : Result T E) → P → OnErr r P
+on_err (Ok x) p = tt
+on_err (Err e) p = p
+
+pub if_told : {T E : Type 0} (r : Result T E) (holds : Told → T → Type 0) (told : Told) → IfOk r (λ x. (t : Told) → holds t x) → IfOk r (λ x. holds told x)
+if_told (Ok x) holds told h = h told
+if_told (Err e) holds told h = tt
+
+pub read_if : (r : Result (String Global) AllocError) (s after : State) (line : List ℕ) (given : Result Asked LineFault) (first last : Told) → list_all is_blank line ≡ false
+    → asked_by line ≡ given → IfOk r (λ text. IsReplied (λ answers. reply_read profile true s answers given) first last (string_bytes text) after) → length line ≤ line_limit
+    → IfOk r (λ text. IsReply s line (string_bytes text) after first last)
+read_if (Ok text) s after line given first last b e k h = read_reply s after line (string_bytes text) given first last h b e k
+read_if (Err fault) s after line given first last b e k h = tt
+
+-- why a line cannot be read, which is no want of memory
+pub known_fault : (e fault : LineFault) (given : Result Asked LineFault) → e ≡ fault → (line_fault.Memory ≡ fault → ⊥) → (e ≡ line_fault.Memory) ⊎ (given ≡ Err e) → given ≡ Err fault
+known_fault e fault given is other (inl m) = absurd (other (sym m ∙ is))
+known_fault e fault given is other (inr h) = h ∙ ap Err is
+
+-- a line that cannot be read
+pub fault_if : (r : Result (String Global) AllocError) (s : State) (line said : List ℕ) (fault : LineFault) (told : Told) → list_all is_blank line ≡ false
+    → asked_by line ≡ Err fault → reply_read profile true s [] (Err fault) ≡ without_event s (said ∷ []) → IfOk r (λ text. string_bytes text ≡ said) → length line ≤ line_limit
+    → IfOk r (λ text. IsReply s line (string_bytes text) s told told)
+fault_if (Ok text) s line said fault told b e f k h =
+    read_reply s s line (string_bytes text) (Err fault) told told h b e
+    (quiet_reply s told (λ answers. reply_read profile true s answers (Err fault)) (string_bytes text)
+    (subst (λ r. Gives r (string_bytes text) s []) (sym f)
+    (record { text = subst (λ t. Contains (said ∷ []) t) (sym k) (only said); after = refl; calls = refl })))
+fault_if (Err failed) s line said fault told b e f k h = tt

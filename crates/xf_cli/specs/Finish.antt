@@ -5,6 +5,8 @@ use Rattle.xf_answers.specs.Out.{IsSteady}
 use Rattle.xf_answers.specs.declared.lines.Ending.{Ending}
 use Rattle.xf_loader.specs.declared.fault.FormFault.TheVariants as fault
 use Rattle.xf_loader.specs.declared.loaded.Loaded as loader
+use Rattle.xf_store.specs.declared.answers.Answer.{Answer}
+use Rattle.xf_store.specs.Called.{Told}
 use Rattle.xf_form_machine.specs.State.{State}
 use Rattle.xf_form_machine.specs.Construct.{construct}
 use Rattle.xf_form_machine.specs.Start.{start}
@@ -12,8 +14,8 @@ use Rattle.xf_form_machine.specs.Step.{Posted, Outcome}
 use Rattle.xf_form_machine.specs.Replies.{note_lines}
 use Rattle.xf_form_machine.specs.FormReplies.{construct_texts}
 use Rattle.xf_processor.specs.Formed.{program_in, profile}
-use Rattle.xf_work.specs.Standing.{Standing, state_of}
-use Rattle.xf_engine.specs.Stepped.{started, IsAccepted}
+use Rattle.xf_work.specs.Standing.{state_of}
+use Rattle.xf_engine.specs.Stepped.{started}
 use Rattle.xf_cli.specs.declared.begin.Begun.{Begun}
 use Rattle.xf_cli.specs.declared.begin.Begun.TheVariants as begun
 use Rattle.xf_cli.specs.declared.begin.Started.{Started}
@@ -26,8 +28,8 @@ use Rattle.xf_cli.specs.declared.status.Command.{Command}
 use Rattle.xf_cli.specs.declared.status.Command.TheVariants.{Try, Check}
 use Rattle.xf_cli.specs.declared.status.Status.{Status}
 use Rattle.xf_cli.specs.declared.status.Status.TheVariants as status
-use Rattle.xf_cli.specs.Outside.{Object, Outside, IsUntouched}
-use Rattle.xf_cli.specs.Written.{Give, Spells, refusal_line, RefusesProgram, IsStartRefused, AnswersBehind, Writes, AppendsLine, status_line, status_code}
+use Rattle.xf_cli.specs.Outside.{Object, Outside, Stored, IsUntouched, IsUncalled, IsCalled}
+use Rattle.xf_cli.specs.Written.{Give, Spells, refusal_line, RefusesProgram, IsStartRefused, StartsSo, AnswersUpTo, Writes, AppendsLine, status_line, status_code}
 
 -- ---- reading a form
 
@@ -76,40 +78,42 @@ IsBegun l (begun.Refused line) = Contains (construct_texts (construct profile (p
 IsBegun l begun.NoRoom = Unit {0}
 
 -- with the lines of the notes
-abbrev pub IsStarted : State → Started → Type 0
-IsStarted c (outset.Session s notes) = (posted : Posted) × IsAccepted (started c) (state_of s) posted × (string_bytes notes ≡ note_lines posted.notes)
-IsStarted c (outset.Refused line) = IsStartRefused (started c) (string_bytes line)
-IsStarted c outset.NoRoom = Unit {0}
+abbrev pub IsStarted : State → Stored → Started → Type 0
+IsStarted c store (outset.Session s notes) = (posted : Posted) × StartsSo (started c) store.before (state_of s, store.after) posted × (string_bytes notes ≡ note_lines posted.notes)
+IsStarted c store (outset.Refused line) = IsStartRefused (started c) store (string_bytes line)
+IsStarted c store outset.NoRoom = IsCalled store
 
 -- nothing of the events was read, and nothing was written
 pub record IsQuietly (events out : Object) : Type 0 where
   pub unread : IsUntouched events
   pub unwritten : out.after ≡ out.before
 
--- the notes of the start and the answers to the lines were written, and the lines end so
-abbrev pub AnsweredBehind : List ℕ → Ending → Standing → Object → Object → Type 0
-AnsweredBehind notes ending first events out = (written : List ℕ) × AnswersBehind notes ending first events written × Appends out.before out.after written
+-- the notes of the start and the answers to the lines were written, and the lines end so; the store tells this then
+abbrev pub AnsweredBehind : List ℕ → Ending → State × Told → Told → Object → Object → Type 0
+AnsweredBehind notes ending first later events out =
+    (written : List ℕ) × AnswersUpTo notes ending first later events written × Appends out.before out.after written
 
 -- the form has started so, and then the lines were answered
-abbrev pub StartedAndAnswered : Outcome → Ending → Object → Object → Type 0
-StartedAndAnswered given ending events out =
-    (first : Standing) × (posted : Posted) × IsAccepted given (state_of first) posted × AnsweredBehind (note_lines posted.notes) ending first events out
+abbrev pub StartedAndAnswered : (List Answer → Outcome) → Ending → Object → Object → Stored → Type 0
+StartedAndAnswered given ending events out store =
+    (first : State × Told) × (posted : Posted) × StartsSo given store.before first posted × AnsweredBehind (note_lines posted.notes) ending first store.after events out
 
 -- ---- what the run comes to over a form that is loaded
 
-abbrev pub RunsLoaded : Command → loader.Loaded → Object → Object → Status → Type 0
-RunsLoaded command l events out (status.Refused line) = IsQuietly events out × RefusesProgram command (program_in l) (string_bytes line)
-RunsLoaded command l events out status.Checked = IsQuietly events out × (command ≡ Check) × ((s : State) × (construct profile (program_in l) ≡ Ok s))
-RunsLoaded command l events out status.NoRoom = IsQuietly events out
-RunsLoaded command l events out (status.Answered e) = (command ≡ Try) × StartedAndAnswered (start profile (program_in l) []) e events out
-RunsLoaded command l events out status.Usage = ⊥
-RunsLoaded command l events out status.Unread = ⊥
+abbrev pub RunsLoaded : Command → loader.Loaded → Object → Object → Stored → Status → Type 0
+RunsLoaded command l events out store (status.Refused line) = IsQuietly events out × RefusesProgram command (program_in l) store (string_bytes line)
+RunsLoaded command l events out store status.Checked =
+    IsQuietly events out × (command ≡ Check) × ((s : State) × (construct profile (program_in l) ≡ Ok s)) × IsUncalled store
+RunsLoaded command l events out store status.NoRoom = IsQuietly events out × IsCalled store
+RunsLoaded command l events out store (status.Answered e) = (command ≡ Try) × StartedAndAnswered (start profile (program_in l)) e events out store
+RunsLoaded command l events out store status.Usage = ⊥
+RunsLoaded command l events out store status.Unread = ⊥
 
 -- the same over a form that is constructed
-abbrev pub RunsConstructed : State → Object → Object → Status → Type 0
-RunsConstructed c events out (status.Refused line) = IsQuietly events out × IsStartRefused (started c) (string_bytes line)
-RunsConstructed c events out status.NoRoom = IsQuietly events out
-RunsConstructed c events out (status.Answered e) = StartedAndAnswered (started c) e events out
-RunsConstructed c events out status.Checked = ⊥
-RunsConstructed c events out status.Usage = ⊥
-RunsConstructed c events out status.Unread = ⊥
+abbrev pub RunsConstructed : State → Object → Object → Stored → Status → Type 0
+RunsConstructed c events out store (status.Refused line) = IsQuietly events out × IsStartRefused (started c) store (string_bytes line)
+RunsConstructed c events out store status.NoRoom = IsQuietly events out × IsCalled store
+RunsConstructed c events out store (status.Answered e) = StartedAndAnswered (started c) e events out store
+RunsConstructed c events out store status.Checked = ⊥
+RunsConstructed c events out store status.Usage = ⊥
+RunsConstructed c events out store status.Unread = ⊥

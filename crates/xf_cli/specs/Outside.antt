@@ -1,8 +1,10 @@
 -- What is known of the objects that a run is given, before it and after.
-use Rattle.std.specs.Prelude.{◌≡◌, ◌≤◌, ◌+◌, ◌^◌, ℕ, List, length}
+use Rattle.std.specs.Prelude.{◌≡◌, ◌≤◌, ◌+◌, ◌^◌, ℕ, List, [], length}
 use Rattle.std.specs.declared.option.Option.{Option as Known}
 use Rattle.std.specs.Io.KnownBytes.{Consumes}
 use Rattle.xf_base.specs.Faults.{Rose}
+use Rattle.xf_store.specs.declared.call.StoreCall.{StoreCall}
+use Rattle.xf_store.specs.Called.{Called, Told}
 
 -- the bytes that a source has left, or that a sink has taken, where it tells them, and how often it has failed: before and after
 pub record Object : Type 0 where
@@ -14,16 +16,33 @@ pub record Object : Type 0 where
 abbrev pub object_of : Known (List ℕ) → Known (List ℕ) → ℕ → ℕ → Object
 object_of before after first_faults faults = record { before = before; after = after; first_faults = first_faults; faults = faults }
 
+-- what a store tells: before and after
+pub record Stored : Type 0 where
+  pub before : Told
+  pub after : Told
+
+abbrev pub stored_of : Told → Told → Stored
+stored_of before after = record { before = before; after = after }
+
 pub record Outside : Type 0 where
   pub words : List (List ℕ)
   pub form : Object
   pub events : Object
   pub out : Object
+  pub store : Stored
 
 -- no call of it was made
 pub record IsUntouched (object : Object) : Type 0 where
   pub bytes : object.after ≡ object.before
   pub faults : object.faults ≡ object.first_faults
+
+-- no call was made of the store
+abbrev pub IsUncalled : Stored → Type 0
+IsUncalled store = store.after ≡ store.before
+
+-- some calls were made of it
+abbrev pub IsCalled : Stored → Type 0
+IsCalled store = (made : List StoreCall) × Called store.before store.after [] made
 
 abbrev pub HasRisen : Object → Type 0
 HasRisen object = Rose object.first_faults object.faults

@@ -1,15 +1,20 @@
--- What a run has written as it ends.
-use Rattle.std.specs.Prelude.{ℕ, ◌≡◌, ◌⊎◌, ◌<◌, List, [], ◌∷◌, ◌++◌, length, codes, decimal, string_bytes, Some, None, Result, Ok, Err, Contains, ◌==◌, if◌then◌else◌}
+-- What a run has written as it ends, and which calls it made of the store.
+use Rattle.std.specs.Prelude.{ℕ, ◌≡◌, ◌⊎◌, ◌<◌, ◌≤◌, ◌+◌, true, List, [], ◌∷◌, ◌++◌, length, codes, decimal, string_bytes, Some, None, Result, Ok, Err, Contains, ◌==◌, if◌then◌else◌}
 use Rattle.std.specs.declared.option.Option.{Option as Known}
 use Rattle.std.specs.Io.KnownBytes.{Appends}
 use Rattle.xf_base.specs.Faults.{Rose}
+use Rattle.xf_base.specs.Limits.{stream_limit}
+use Rattle.xf_io.specs.Ahead.{most_ahead}
+use Rattle.xf_io.specs.Lines.{ended_lines}
 use Rattle.xf_answers.specs.declared.lines.Ending.{Ending}
 use Rattle.xf_answers.specs.declared.lines.Ending.TheVariants.{Done, ReadFault, SinkFault, TooMuch, Memory}
-use Rattle.xf_answers.specs.Answers.{IsFront, AnswersKnown}
 use Rattle.xf_loader.specs.declared.fault.FormFault.{FormFault}
 use Rattle.xf_loader.specs.declared.fault.FormFault.TheVariants as fault
 use Rattle.xf_loader.specs.declared.loaded.Loaded.{Loaded}
 use Rattle.xf_loader.specs.Loading.{loaded_in}
+use Rattle.xf_store.specs.declared.answers.Answer.{Answer}
+use Rattle.xf_store.specs.declared.call.StoreCall.{StoreCall}
+use Rattle.xf_store.specs.Called.{Called, Told}
 use Rattle.xf_form_machine.specs.Program.{Program}
 use Rattle.xf_form_machine.specs.State.{State}
 use Rattle.xf_form_machine.specs.Refusal as machine
@@ -17,17 +22,16 @@ use Rattle.xf_form_machine.specs.Construct.{construct}
 use Rattle.xf_form_machine.specs.Start.{start}
 use Rattle.xf_form_machine.specs.Step.{Posted, Outcome, accepted, refused}
 use Rattle.xf_form_machine.specs.FormReplies.{construct_texts, ready_text}
-use Rattle.xf_form_machine.specs.Replies.{note_lines}
+use Rattle.xf_form_machine.specs.Replies.{Replies, answers_in, note_lines}
 use Rattle.xf_form_machine.specs.StateText.{line_of}
+use Rattle.xf_form_machine.specs.Written.{Answering, Answers, Exactly, IsFront, answered_lines, done, read_fault, sink_fault, too_much}
 use Rattle.xf_processor.specs.Formed.{program_in, profile}
-use Rattle.xf_work.specs.Standing.{Standing, state_of}
 use Rattle.xf_engine.specs.Stepped.{IsAccepted}
 use Rattle.xf_cli.specs.declared.status.Command.{Command}
 use Rattle.xf_cli.specs.declared.status.Command.TheVariants.{Try, Check}
 use Rattle.xf_cli.specs.declared.status.Status.{Status}
 use Rattle.xf_cli.specs.declared.status.Status.TheVariants.{Usage, Refused, Checked, Unread, NoRoom, Answered}
-use Rattle.xf_cli.specs.Outside.{Object, Outside, HasRisen, IsUntouched, IsFormRead}
-use Rattle.xf_cli.specs.Replies.{Answers}
+use Rattle.xf_cli.specs.Outside.{Object, Outside, Stored, HasRisen, IsUntouched, IsUncalled, IsCalled, IsFormRead}
 
 -- ---- words
 
@@ -55,8 +59,8 @@ refusal_name number =
     else if number == 11 then codes "DoubleId"
     else if number == 12 then codes "NoSuchId"
     else if number == 13 then codes "UnknownType"
-    else if number == 17 then codes "Limit"
-    else codes "NotBuilt"
+    else if number == 20 then codes "BadSchema"
+    else codes "Limit"
 
 abbrev pub place_part : List ℕ → List ℕ
 place_part [] = []
@@ -67,26 +71,35 @@ refusal_line number place = codes "form F" ++ decimal number ++ codes " " ++ ref
 
 -- ---- a form that is loaded
 
--- the start is refused
-abbrev pub IsStartRefused : Outcome → List ℕ → Type 0
-IsStartRefused (accepted s posted) line = ⊥
-IsStartRefused (refused why calls) line = line ≡ line_of (ready_text why)
+-- the start is refused with this line, after these calls of the store
+abbrev pub RefusesWith : Outcome → List StoreCall → List ℕ → Type 0
+RefusesWith (accepted s posted) made line = ⊥
+RefusesWith (refused why calls) made line = (line ≡ line_of (ready_text why)) × (calls ≡ made)
+
+-- so it is with the answers that the calls got which were made of the store
+pub record IsStartRefused (given : List Answer → Outcome) (store : Stored) (line : List ℕ) : Type 0 where
+  pub made : List StoreCall
+  pub called : Called store.before store.after [] made
+  pub refused : RefusesWith (given (answers_in made)) made line
 
 -- the construction is accepted, and the start refused
-abbrev pub RefusesStart : Result State machine.Refused → Outcome → List ℕ → Type 0
-RefusesStart (Ok s) started line = IsStartRefused started line
-RefusesStart (Err refusal) started line = ⊥
+abbrev pub RefusesStart : Result State machine.Refused → (List Answer → Outcome) → Stored → List ℕ → Type 0
+RefusesStart (Ok s) started store line = IsStartRefused started store line
+RefusesStart (Err refusal) started store line = ⊥
+
+-- the construction is refused
+abbrev pub RefusesConstruction : Program → Stored → List ℕ → Type 0
+RefusesConstruction program store line = Contains (construct_texts (construct profile program)) line × IsUncalled store
 
 -- the construction is refused, or the start where it is asked for
-abbrev pub RefusesProgram : Command → Program → List ℕ → Type 0
-RefusesProgram Try program line =
-    Contains (construct_texts (construct profile program)) line ⊎ RefusesStart (construct profile program) (start profile program []) line
-RefusesProgram Check program line = Contains (construct_texts (construct profile program)) line
+abbrev pub RefusesProgram : Command → Program → Stored → List ℕ → Type 0
+RefusesProgram Try program store line = RefusesConstruction program store line ⊎ RefusesStart (construct profile program) (start profile program) store line
+RefusesProgram Check program store line = RefusesConstruction program store line
 
-abbrev pub RefusesForm : Command → Result Loaded FormFault → List ℕ → Type 0
-RefusesForm command (Err (fault.Refused number place)) line = line ≡ refusal_line number place
-RefusesForm command (Err fault.Memory) line = ⊥
-RefusesForm command (Ok loaded) line = RefusesProgram command (program_in loaded) line
+abbrev pub RefusesForm : Command → Result Loaded FormFault → Stored → List ℕ → Type 0
+RefusesForm command (Err (fault.Refused number place)) store line = (line ≡ refusal_line number place) × IsUncalled store
+RefusesForm command (Err fault.Memory) store line = ⊥
+RefusesForm command (Ok loaded) store line = RefusesProgram command (program_in loaded) store line
 
 -- ---- the bytes of a form
 
@@ -102,26 +115,75 @@ pub record Give (form : Known (List ℕ)) (given : Result Loaded FormFault) : Ty
   pub give : loaded_in bytes ≡ given
 
 -- they are refused with this line
-abbrev pub RefusesBytes : Command → Known (List ℕ) → List ℕ → Type 0
-RefusesBytes command form line = (given : Result Loaded FormFault) × Give form given × RefusesForm command given line
+abbrev pub RefusesBytes : Command → Known (List ℕ) → Stored → List ℕ → Type 0
+RefusesBytes command form store line = (given : Result Loaded FormFault) × Give form given × RefusesForm command given store line
 
 -- they give a form that is constructed
 abbrev pub IsAcceptable : Known (List ℕ) → Type 0
 IsAcceptable form = (loaded : Loaded) × (s : State) × Give form (Ok loaded) × (construct profile (program_in loaded) ≡ Ok s)
 
--- they give a form of whose start, by the lines of its notes and the state after it, this holds
-abbrev pub FromForm : Known (List ℕ) → (List ℕ → Standing → Type 0) → Type 0
-FromForm form holds =
-    (loaded : Loaded) × (first : Standing) × (posted : Posted) × Give form (Ok loaded) × IsAccepted (start profile (program_in loaded) []) (state_of first) posted
+-- the start is accepted with the answers that the calls got which were made of the store, and this stands after it
+pub record StartsSo (given : List Answer → Outcome) (before : Told) (first : State × Told) (posted : Posted) : Type 0 where
+  pub made : List StoreCall
+  pub called : Called before first.1 [] made
+  pub is : IsAccepted (given (answers_in made)) first.0 made posted
+
+-- they give a form of whose start, by the lines of its notes and what stands after it, this holds
+abbrev pub FromForm : Known (List ℕ) → Told → (List ℕ → State × Told → Type 0) → Type 0
+FromForm form before holds =
+    (loaded : Loaded) × (first : State × Told) × (posted : Posted) × Give form (Ok loaded) × StartsSo (start profile (program_in loaded)) before first posted
     × holds (note_lines posted.notes) first
 
--- ---- a whole run
+-- ---- the answers to the lines
 
--- the notes of the start are written, and then the answers to the lines; or the sink failed at the notes, and no line was asked for
-abbrev pub AnswersBehind : List ℕ → Ending → Standing → Object → List ℕ → Type 0
-AnswersBehind notes ending first events written =
-    ((rest : List ℕ) × AnswersKnown Answers ending first events.before events.after rest × (written ≡ notes ++ rest))
-    ⊎ ((ending ≡ SinkFault) × IsUntouched events × IsFront written notes)
+-- memory was wanting: so much of the events was taken as lines and as a part of the next one, and of the lines that ended all are answered but at most
+-- the last one, which was in work; none in part
+pub record StopsIn (a : Answering) : Type 0 where
+  pub taken : List ℕ
+  pub ahead : List ℕ
+  pub bytes : a.events ≡ taken ++ (ahead ++ a.left)
+  pub within : length taken ≤ stream_limit
+  pub buffered : length ahead ≤ most_ahead
+  pub lines : List (List ℕ)
+  pub most : (ended_lines taken ≡ lines) ⊎ ((line : List ℕ) × (ended_lines taken ≡ lines ++ line ∷ []))
+  pub replied : Exactly profile a lines
+
+-- the calls are those of whole lines: a reply is written when all calls of its line are made
+abbrev pub AreOfWholeLines : Answering → Type 0
+AreOfWholeLines a =
+    (whole more : List (List ℕ)) × (text : List ℕ) × (last : State) × (answered_lines a.events ≡ whole ++ more) × Replies profile a.counts a.first whole a.calls text last
+
+-- the answers end so by the form machine, with the calls that it makes in the lines and with no more; but where memory was wanting the line in work may
+-- have made some more
+abbrev pub EndsSo : Ending → Answering → List StoreCall → Type 0
+EndsSo Done a more = Answers profile done a × (more ≡ [])
+EndsSo ReadFault a more = Answers profile read_fault a × (length a.events ≤ length a.left + stream_limit) × (more ≡ [])
+EndsSo SinkFault a more = Answers profile sink_fault a × AreOfWholeLines a × (more ≡ [])
+EndsSo TooMuch a more = Answers profile too_much a × (more ≡ [])
+EndsSo Memory a more = StopsIn a
+
+-- evaluations are counted; the notes of the start are written before any reply
+abbrev pub answering_of : List ℕ → State → List ℕ → List ℕ → List ℕ → List StoreCall → Answering
+answering_of notes first events left written calls =
+    record { counts = true; first = first; before = notes; events = events; left = left; written = written; calls = calls }
+
+-- these calls were made of the store between what it tells before and after, and the answers are the form machine's, where the source tells its bytes
+abbrev pub AnswersTold : List ℕ → Ending → State × Told → Told → Known (List ℕ) → Known (List ℕ) → List ℕ → Type 0
+AnswersTold notes ending first later None left written = IsFront notes written
+AnswersTold notes ending first later (Some events) None written = ⊥
+AnswersTold notes ending first later (Some events) (Some left) written =
+    (calls more : List StoreCall) × Called first.1 later [] (calls ++ more) × EndsSo ending (answering_of notes first.0 events left written calls) more
+
+-- the sink failed at the notes, and no line was asked for
+abbrev pub StopsAtNotes : List ℕ → Ending → Told → Told → Object → List ℕ → Type 0
+StopsAtNotes notes ending before later events written = (ending ≡ SinkFault) × IsUntouched events × IsFront written notes × (later ≡ before)
+
+-- the notes of the start are written, and then the answers to the lines
+abbrev pub AnswersUpTo : List ℕ → Ending → State × Told → Told → Object → List ℕ → Type 0
+AnswersUpTo notes ending first later events written =
+    AnswersTold notes ending first later events.before events.after written ⊎ StopsAtNotes notes ending first.1 later events written
+
+-- ---- a whole run
 
 -- why the answers end so, where the sink had failed so often before the line for the status: a fault is told only where the object that was handed
 -- in counted one, and where the notes or a reply could not be written or flushed the answers end so and not otherwise
@@ -143,13 +205,16 @@ BeforeEvents command outside faults written = Spells outside.words command × Is
 -- when a run ends so, and what it has written then, the line for its status left out; so often had the sink failed before that line
 abbrev pub Writes : Status → Outside → ℕ → List ℕ → Type 0
 Writes Usage outside faults written =
-    ((command : Command) → ¬ Spells outside.words command) × IsUntouched outside.form × IsUntouched outside.events × IsUnwritten outside faults written
-Writes (Refused line) outside faults written = (command : Command) × BeforeEvents command outside faults written × RefusesBytes command outside.form.before (string_bytes line)
-Writes Checked outside faults written = BeforeEvents Check outside faults written × IsAcceptable outside.form.before
-Writes Unread outside faults written = (command : Command) × BeforeEvents command outside faults written × HasRisen outside.form
-Writes NoRoom outside faults written = (command : Command) × BeforeEvents command outside faults written
+    ((command : Command) → ¬ Spells outside.words command) × IsUntouched outside.form × IsUntouched outside.events × IsUncalled outside.store
+    × IsUnwritten outside faults written
+Writes (Refused line) outside faults written =
+    (command : Command) × BeforeEvents command outside faults written × RefusesBytes command outside.form.before outside.store (string_bytes line)
+Writes Checked outside faults written = BeforeEvents Check outside faults written × IsAcceptable outside.form.before × IsUncalled outside.store
+Writes Unread outside faults written = (command : Command) × BeforeEvents command outside faults written × HasRisen outside.form × IsUncalled outside.store
+Writes NoRoom outside faults written = (command : Command) × BeforeEvents command outside faults written × IsCalled outside.store
 Writes (Answered ending) outside faults written =
-    Spells outside.words Try × IsFormRead outside × FromForm outside.form.before (λ notes first. AnswersBehind notes ending first outside.events written)
+    Spells outside.words Try × IsFormRead outside
+    × FromForm outside.form.before outside.store.before (λ notes first. AnswersUpTo notes ending first outside.store.after outside.events written)
     × HasCauseIn ending outside faults
 
 -- ---- the line for a status

@@ -2,6 +2,7 @@
 
 ghost use Rattle.xf_work.specs.Standing.{state_of};
 ghost use Rattle.xf_processor.specs.Formed.{IsFromBytes};
+ghost use Rattle.xf_cli.specs.Outside.{stored_of};
 ghost use Rattle.xf_cli.specs.Finish.{IsBegun, IsStarted};
 
 use crate::session::Session;
@@ -10,6 +11,7 @@ use xf_engine as engine;
 use xf_engine::Constructed;
 use xf_loader::Loaded;
 use xf_report::{push_construct_refusal, push_ready_refusal};
+use xf_store::Store;
 use xf_world::EventFault;
 
 /// What comes of constructing a form.
@@ -50,11 +52,11 @@ pub(crate) fn construct(alloc: Global, loaded: Loaded) -> Begun
 }
 
 /// Starts a form that is constructed.
-pub(crate) fn start(alloc: Global, constructed: Constructed) -> Started
-    ensures { IsStarted (state_of constructed) result }
+pub(crate) fn start<S: Store>(alloc: Global, constructed: Constructed, store: &mut S) -> Started
+    ensures { IsStarted (state_of constructed) (stored_of (S.calls store.old, S.to_come store.old) (S.calls store.new, S.to_come store.new)) result }
 {
     let mut notes = String::new(alloc);
-    match constructed.start(&mut notes) {
+    match constructed.start(store, &mut notes) {
         Ok(engine) => Started::Session(Session { engine }, notes),
         Err(EventFault::Refused(refusal)) => {
             let mut line = String::new(alloc);

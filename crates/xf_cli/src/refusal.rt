@@ -68,9 +68,9 @@ fn refusal_name(number: u8) -> &'static str
         "NoSuchId"
     } else if number == 13 {
         "UnknownType"
-    } else if number == 17 {
-        "Limit"
+    } else if number == 20 {
+        "BadSchema"
     } else {
-        "NotBuilt"
+        "Limit"
     }
 }

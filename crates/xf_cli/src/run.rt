@@ -5,7 +5,7 @@ ghost use Rattle.xf_base.specs.Faults.{Rose};
 ghost use Rattle.xf_answers.specs.Out.{IsOutOrFailed, IsSteady};
 ghost use Rattle.xf_work.specs.Standing.{state_of};
 ghost use Rattle.xf_processor.specs.Formed.{IsFromBytes};
-ghost use Rattle.xf_cli.specs.Outside.{object_of};
+ghost use Rattle.xf_cli.specs.Outside.{object_of, stored_of};
 ghost use Rattle.xf_cli.specs.Written.{Ends, AppendsLine, status_code, status_line};
 ghost use Rattle.xf_cli.specs.Finish.{AnsweredBehind, GivesCommand, IsSteadyAt, Runs, RunsConstructed, RunsLoaded};
 
@@ -20,27 +20,30 @@ use xf_answers::{Ending, answer_lines, write_reply};
 use xf_engine::Constructed;
 use xf_io::{Sink, Source};
 use xf_loader as loader;
+use xf_store::Store;
 
 /// Does all that the program does, and gives the number that it ends with.
 ///
 /// The words are those after the name of the program. The form is read; then, as the words ask for, it is told whether it is accepted, or the
-/// lines of the events are answered on `out`, each reply flushed before the next line is read.
-pub fn xforms<F: Source, E: Source, O: Sink>(
+/// lines of the events are answered on `out`, each reply flushed before the next line is read. Submissions put into the store and get from it.
+pub fn xforms<F: Source, E: Source, O: Sink, S: Store>(
     alloc: Global,
     words: &[String],
     form: &mut F,
     events: &mut E,
     out: &mut O,
+    store: &mut S,
 ) -> u8
     ensures ends { Ends result record {
       words = map string_bytes words.now;
       form = object_of (F.left form.old) (F.left form.new) (F.faults form.old) (F.faults form.new);
       events = object_of (E.left events.old) (E.left events.new) (E.faults events.old) (E.faults events.new);
       out = object_of (O.taken out.old) (O.taken out.new) (O.faults out.old) (O.faults out.new);
+      store = stored_of (S.calls store.old, S.to_come store.old) (S.calls store.new, S.to_come store.new);
     } }
     ensures flushed { IsOutOrFailed (O.taken out.old, O.flushed out.old) (O.taken out.new, O.flushed out.new) (O.faults out.old, O.faults out.new) }
 {
-    let status = run(alloc, words, form, events, out);
+    let status = run(alloc, words, form, events, out, store);
     finish(out, status)
 }
 
@@ -54,18 +57,20 @@ pub fn no_room<O: Sink>(out: &mut O) -> u8
 }
 
 // Does the work, and leaves the line for the status.
-fn run<F: Source, E: Source, O: Sink>(
+fn run<F: Source, E: Source, O: Sink, S: Store>(
     alloc: Global,
     words: &[String],
     form: &mut F,
     events: &mut E,
     out: &mut O,
+    store: &mut S,
 ) -> Status
     ensures runs { Runs result record {
       words = map string_bytes words.now;
       form = object_of (F.left form.old) (F.left form.new) (F.faults form.old) (F.faults form.new);
       events = object_of (E.left events.old) (E.left events.new) (E.faults events.old) (E.faults events.new);
       out = object_of (O.taken out.old) (O.taken out.new) (O.faults out.old) (O.faults out.new);
+      store = stored_of (S.calls store.old, S.to_come store.old) (S.calls store.new, S.to_come store.new);
     } }
     ensures flushed { IsOutOrFailed (O.taken out.old, O.flushed out.old) (O.taken out.new, O.flushed out.new) (O.faults out.old, O.faults out.new) }
     ensures later { O.faults out.old ≤ O.faults out.new }
@@ -74,7 +79,7 @@ fn run<F: Source, E: Source, O: Sink>(
         return Status::Usage;
     };
     match load_form(alloc, form) {
-        Loaded::Form(loaded) => run_loaded(alloc, command, loaded, events, out),
+        Loaded::Form(loaded) => run_loaded(alloc, command, loaded, events, out, store),
         Loaded::Refused(number, place) => refused(alloc, number, &place),
         Loaded::Unread => Status::Unread,
         Loaded::NoRoom => Status::NoRoom,
@@ -99,15 +104,16 @@ fn command_of(words: &[String]) -> Option<Command>
 }
 
 // Does what the command asks for with a form that is loaded.
-fn run_loaded<E: Source, O: Sink>(
+fn run_loaded<E: Source, O: Sink, S: Store>(
     alloc: Global,
     command: Command,
     loaded: loader::Loaded,
     events: &mut E,
     out: &mut O,
+    store: &mut S,
 ) -> Status
     requires { IsFromBytes loaded }
-    ensures runs { RunsLoaded command loaded (object_of (E.left events.old) (E.left events.new) (E.faults events.old) (E.faults events.new)) (object_of (O.taken out.old) (O.taken out.new) (O.faults out.old) (O.faults out.new)) result }
+    ensures runs { RunsLoaded command loaded (object_of (E.left events.old) (E.left events.new) (E.faults events.old) (E.faults events.new)) (object_of (O.taken out.old) (O.taken out.new) (O.faults out.old) (O.faults out.new)) (stored_of (S.calls store.old, S.to_come store.old) (S.calls store.new, S.to_come store.new)) result }
     ensures read { result ≡ Status.Answered Ending.ReadFault → Rose (E.faults events.old) (E.faults events.new) }
     ensures written { result ≡ Status.Answered Ending.SinkFault → Rose (O.faults out.old) (O.faults out.new) }
     ensures steady { IsSteadyAt result (O.faults out.old) (O.faults out.new) }
@@ -116,7 +122,7 @@ fn run_loaded<E: Source, O: Sink>(
 {
     match construct(alloc, loaded) {
         Begun::Constructed(constructed) => match command {
-            Command::Try => answer_events(alloc, constructed, events, out),
+            Command::Try => answer_events(alloc, constructed, events, out, store),
             Command::Check => Status::Checked,
         },
         Begun::Refused(line) => Status::Refused(line),
@@ -125,22 +131,23 @@ fn run_loaded<E: Source, O: Sink>(
 }
 
 // Starts a form that is constructed, and answers the lines of the events.
-fn answer_events<E: Source, O: Sink>(
+fn answer_events<E: Source, O: Sink, S: Store>(
     alloc: Global,
     constructed: Constructed,
     events: &mut E,
     out: &mut O,
+    store: &mut S,
 ) -> Status
-    ensures runs { RunsConstructed (state_of constructed) (object_of (E.left events.old) (E.left events.new) (E.faults events.old) (E.faults events.new)) (object_of (O.taken out.old) (O.taken out.new) (O.faults out.old) (O.faults out.new)) result }
+    ensures runs { RunsConstructed (state_of constructed) (object_of (E.left events.old) (E.left events.new) (E.faults events.old) (E.faults events.new)) (object_of (O.taken out.old) (O.taken out.new) (O.faults out.old) (O.faults out.new)) (stored_of (S.calls store.old, S.to_come store.old) (S.calls store.new, S.to_come store.new)) result }
     ensures read { result ≡ Status.Answered Ending.ReadFault → Rose (E.faults events.old) (E.faults events.new) }
     ensures written { result ≡ Status.Answered Ending.SinkFault → Rose (O.faults out.old) (O.faults out.new) }
     ensures steady { IsSteadyAt result (O.faults out.old) (O.faults out.new) }
     ensures flushed { IsOutOrFailed (O.taken out.old, O.flushed out.old) (O.taken out.new, O.flushed out.new) (O.faults out.old, O.faults out.new) }
     ensures later { O.faults out.old ≤ O.faults out.new }
 {
-    match start(alloc, constructed) {
+    match start(alloc, constructed, store) {
         Started::Session(session, notes) => {
-            let ending = answer_session(alloc, session, notes.as_bytes(), events, out);
+            let ending = answer_session(alloc, session, notes.as_bytes(), events, out, store);
             Status::Answered(ending)
         }
         Started::Refused(line) => Status::Refused(line),
@@ -149,14 +156,15 @@ fn answer_events<E: Source, O: Sink>(
 }
 
 // Writes the notes of the start, answers the lines of the events, and lets the session go.
-fn answer_session<E: Source, O: Sink>(
+fn answer_session<E: Source, O: Sink, S: Store>(
     alloc: Global,
     session: Session,
     notes: &[u8],
     events: &mut E,
     out: &mut O,
+    store: &mut S,
 ) -> Ending
-    ensures answered { AnsweredBehind notes.now result session (object_of (E.left events.old) (E.left events.new) (E.faults events.old) (E.faults events.new)) (object_of (O.taken out.old) (O.taken out.new) (O.faults out.old) (O.faults out.new)) }
+    ensures answered { AnsweredBehind notes.now result (state_of session, (S.calls store.old, S.to_come store.old)) (S.calls store.new, S.to_come store.new) (object_of (E.left events.old) (E.left events.new) (E.faults events.old) (E.faults events.new)) (object_of (O.taken out.old) (O.taken out.new) (O.faults out.old) (O.faults out.new)) }
     ensures read { result ≡ Ending.ReadFault → Rose (E.faults events.old) (E.faults events.new) }
     ensures written { result ≡ Ending.SinkFault → Rose (O.faults out.old) (O.faults out.new) }
     ensures steady { IsSteady result (O.faults out.old) (O.faults out.new) }
@@ -164,18 +172,19 @@ fn answer_session<E: Source, O: Sink>(
     ensures later { O.faults out.old ≤ O.faults out.new }
 {
     let mut session = session;
-    answer_behind(alloc, &mut session, notes, events, out)
+    answer_behind(alloc, &mut session, notes, events, out, store)
 }
 
 // Writes the notes of the start, and answers the lines of the events.
-fn answer_behind<E: Source, O: Sink>(
+fn answer_behind<E: Source, O: Sink, S: Store>(
     alloc: Global,
     session: &mut Session,
     notes: &[u8],
     events: &mut E,
     out: &mut O,
+    store: &mut S,
 ) -> Ending
-    ensures answered { AnsweredBehind notes.now result session.old (object_of (E.left events.old) (E.left events.new) (E.faults events.old) (E.faults events.new)) (object_of (O.taken out.old) (O.taken out.new) (O.faults out.old) (O.faults out.new)) }
+    ensures answered { AnsweredBehind notes.now result (state_of session.old, (S.calls store.old, S.to_come store.old)) (S.calls store.new, S.to_come store.new) (object_of (E.left events.old) (E.left events.new) (E.faults events.old) (E.faults events.new)) (object_of (O.taken out.old) (O.taken out.new) (O.faults out.old) (O.faults out.new)) }
     ensures read { result ≡ Ending.ReadFault → Rose (E.faults events.old) (E.faults events.new) }
     ensures written { result ≡ Ending.SinkFault → Rose (O.faults out.old) (O.faults out.new) }
     ensures steady { IsSteady result (O.faults out.old) (O.faults out.new) }
@@ -183,7 +192,7 @@ fn answer_behind<E: Source, O: Sink>(
     ensures later { O.faults out.old ≤ O.faults out.new }
 {
     match write_reply(out, notes) {
-        Ok(()) => answer_lines(alloc, session, events, out),
+        Ok(()) => answer_lines(alloc, session, store, events, out),
         Err(_) => Ending::SinkFault,
     }
 }

@@ -1,13 +1,15 @@
-//! What a line of the events asks for, done by an engine.
+//! What a line of the events asks for, done by an engine over a store.
 
-ghost use Rattle.std.specs.Prelude.{◌≡◌, codes, string_bytes, Ok, IfOk, OnErr};
+ghost use Rattle.std.specs.Prelude.{◌≡◌, true, string_bytes, Ok, IfOk, OnErr};
 ghost use Rattle.std.specs.List.{list_all};
 ghost use Rattle.xf_line.specs.declared.event.Asked.TheVariants as asked;
-ghost use Rattle.xf_form_machine.specs.Replies.{is_blank};
+ghost use Rattle.xf_form_machine.specs.Replies.{is_blank, reply_read};
 ghost use Rattle.xf_form_machine.specs.StateText.{line_of};
+ghost use Rattle.xf_processor.specs.Formed.{profile};
 ghost use Rattle.xf_report.specs.Refusals.{refusal_text};
 ghost use Rattle.xf_work.specs.Standing.{state_of};
-ghost use Rattle.xf_cli.specs.Replies.{Gives, built_read, is_unbuilt};
+ghost use Rattle.xf_store.specs.Called.{Told};
+ghost use Rattle.xf_cli.specs.Replies.{IsReplied, Leaves};
 
 use std::alloc::{AllocError, Global};
 use std::marker::Model;
@@ -16,6 +18,7 @@ use xf_engine::Engine;
 use xf_form_machine::Refusal;
 use xf_line::{Asked, Event, LineFault, read_line};
 use xf_report::push_refusal;
+use xf_store::Store;
 use xf_world::EventFault;
 
 /// A form at work, whose events come as lines. Contracts see the state of the form machine.
@@ -37,16 +40,23 @@ impl Model for Session {
 }
 
 impl Answering for Session {
-    ghost use Rattle.xf_cli.specs.Replies.{Answers};
+    ghost use Rattle.xf_cli.specs.Replies.{Answers, Leaves};
 
     ghost answers = { Answers };
 
-    fn answer(&mut self, alloc: Global, line: &[u8]) -> Result<String, AllocError> {
+    ghost leaves = { Leaves };
+
+    fn answer<S: Store>(
+        &mut self,
+        alloc: Global,
+        line: &[u8],
+        store: &mut S,
+    ) -> Result<String, AllocError> {
         if is_blank_line(line) {
             return Ok(String::new(alloc));
         }
         match read_line(alloc, line) {
-            Ok(asked) => self.answer_asked(alloc, asked),
+            Ok(asked) => self.answer_asked(alloc, asked, store),
             Err(LineFault::NotJson) => String::from_str(alloc, "no E2 NotJson\n"),
             Err(LineFault::NotEvent) => String::from_str(alloc, "no E3 NotEvent\n"),
             Err(LineFault::Memory) => Err(AllocError),
@@ -55,47 +65,44 @@ impl Answering for Session {
 }
 
 impl Session {
-    fn answer_asked(&mut self, alloc: Global, asked: Asked) -> Result<String, AllocError>
-        ensures reply { IfOk result (λ text. Gives (built_read (state_of self.old) (Ok asked)) (string_bytes text) (state_of self.new)) }
-        ensures err { OnErr result (self.new ≡ self.old) }
+    fn answer_asked<S: Store>(
+        &mut self,
+        alloc: Global,
+        asked: Asked,
+        store: &mut S,
+    ) -> Result<String, AllocError>
+        ensures reply { IfOk result (λ text. IsReplied (λ answers. reply_read profile true (state_of self.old) answers (Ok asked)) (S.calls store.old, S.to_come store.old) (S.calls store.new, S.to_come store.new) (string_bytes text) (state_of self.new)) }
+        ensures err { OnErr result (Leaves (self.old, (S.calls store.old, S.to_come store.old)) (self.new, (S.calls store.new, S.to_come store.new))) }
     {
         match asked {
             Asked::Show => self.state_text(alloc),
-            Asked::Event(event) => self.post(alloc, &event),
+            Asked::Event(event) => self.post(alloc, &event, store),
         }
     }
 
     fn state_text(&self, alloc: Global) -> Result<String, AllocError>
-        ensures { IfOk result (λ text. Gives (built_read (state_of self.now) (Ok asked.Show)) (string_bytes text) (state_of self.now)) }
+        ensures { IfOk result (λ text. (told : Told) → IsReplied (λ answers. reply_read profile true (state_of self.now) answers (Ok asked.Show)) told told (string_bytes text) (state_of self.now)) }
     {
         let mut text = String::new(alloc);
         self.engine.push_text(&mut text)?;
         Ok(text)
     }
 
-    fn post(&mut self, alloc: Global, event: &Event) -> Result<String, AllocError>
-        ensures reply { IfOk result (λ text. Gives (built_read (state_of self.old) (Ok (asked.Event event.now))) (string_bytes text) (state_of self.new)) }
-        ensures err { OnErr result (self.new ≡ self.old) }
+    fn post<S: Store>(
+        &mut self,
+        alloc: Global,
+        event: &Event,
+        store: &mut S,
+    ) -> Result<String, AllocError>
+        ensures reply { IfOk result (λ text. IsReplied (λ answers. reply_read profile true (state_of self.old) answers (Ok (asked.Event event.now))) (S.calls store.old, S.to_come store.old) (S.calls store.new, S.to_come store.new) (string_bytes text) (state_of self.new)) }
+        ensures err { OnErr result (Leaves (self.old, (S.calls store.old, S.to_come store.old)) (self.new, (S.calls store.new, S.to_come store.new))) }
     {
-        if is_unbuilt(event) {
-            return not_built(alloc);
-        }
         let mut text = String::new(alloc);
-        match self.engine.post(event, &mut text) {
+        match self.engine.post(event, store, &mut text) {
             Ok(_) => Ok(text),
             Err(EventFault::Refused(refusal)) => refused_text(alloc, &refusal),
             Err(EventFault::Memory) => Err(AllocError),
         }
-    }
-}
-
-/// Whether what the event asks for is not built.
-fn is_unbuilt(event: &Event) -> bool
-    ensures { result ≡ is_unbuilt event.now }
-{
-    match event {
-        Event::Send(_) => true,
-        _ => false,
     }
 }
 
@@ -105,12 +112,6 @@ fn refused_text(alloc: Global, refusal: &Refusal) -> Result<String, AllocError>
     let mut text = String::new(alloc);
     push_refusal(&mut text, refusal)?;
     Ok(text)
-}
-
-fn not_built(alloc: Global) -> Result<String, AllocError>
-    ensures { IfOk result (λ text. string_bytes text ≡ codes "no E15 NotBuilt\n") }
-{
-    String::from_str(alloc, "no E15 NotBuilt\n")
 }
 
 fn is_blank_line(line: &[u8]) -> bool

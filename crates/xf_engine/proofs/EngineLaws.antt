@@ -1,11 +1,15 @@
 -- What an event that is handled, and a start, come to at their end.
 use Rattle.std.proofs.Common.{ℕ, ◌≡◌, ◌++◌, true, List, [], Result, Ok, Err, refl, ap, sym, ◌∙◌, subst}
 use Rattle.std.specs.Result.{IsErrAnd}
+use Rattle.xf_store.specs.declared.answers.Answer.{Answer}
+use Rattle.xf_store.specs.declared.call.StoreCall.{StoreCall}
+use Rattle.xf_store.specs.Replay.{Covers}
+use Rattle.xf_store.specs.Called.{Called, Told}
 use Rattle.xf_line.specs.declared.event.Event.{Event}
 use Rattle.xf_form_machine.specs.declared.refusal.Refusal.{Refusal}
 use Rattle.xf_form_machine.specs.Flow.{◌>>=◌}
 use Rattle.xf_form_machine.specs.Refusal.{Refused}
-use Rattle.xf_form_machine.specs.Replies.{note_lines, ok_text}
+use Rattle.xf_form_machine.specs.Replies.{answers_in, note_lines, ok_text}
 use Rattle.xf_form_machine.specs.State.{State}
 use Rattle.xf_form_machine.specs.Start.{readied}
 use Rattle.xf_form_machine.specs.Step.{Outcome, Posted, accepted, outcome, posted, at_end, fresh, one_more, step, changed_by}
@@ -13,7 +17,7 @@ use Rattle.xf_processor.specs.Formed.{profile}
 use Rattle.xf_actions.specs.Performs.{Refuses}
 use Rattle.xf_work.specs.declared.fault.WorkFault.{WorkFault}
 use Rattle.xf_work.specs.declared.fault.WorkFault.TheVariants as of_work
-use Rattle.xf_work.specs.Does.{IsRefused, Stage}
+use Rattle.xf_work.specs.Does.{Stage}
 use Rattle.xf_work.specs.Standing.{Standing}
 use Rattle.xf_work.specs.Standing as work
 use Rattle.xf_world.specs.declared.fault.EventFault.{EventFault}
@@ -22,9 +26,9 @@ use Rattle.xf_world.specs.declared.form_world.FormWorld.{FormWorld}
 use Rattle.xf_world.specs.Fault.{fault_of_work, means}
 use Rattle.xf_world.specs.Outside.{IsKept, standing_of}
 use Rattle.xf_world.specs.State.{kept_of, state_of}
-use Rattle.xf_engine.specs.Handled.{Handles, IsAtEnd, IsHandled}
+use Rattle.xf_engine.specs.Handled.{Handles, HandlesOver, IsAtEnd, IsHandled, IsStopped}
 use Rattle.xf_engine.specs.Constructed.{Builds}
-use Rattle.xf_engine.specs.Stepped.{IsAccepted, IsConstructed, IsStarted, IsStepped, as_result, started}
+use Rattle.xf_engine.specs.Stepped.{IsAccepted, IsConstructed, IsRefusedAfter, Starts, Steps, started}
 use Rattle.xf_engine.proofs.Told.{refused-for}
 
 abbrev fine : State → Result State Refused
@@ -32,13 +36,13 @@ fine s = Ok s
 
 -- ---- it is handled
 
-handles-fault : (e : EventFault) (after : State) (old new : List ℕ) (given : Result State Refused) → Refuses (means e) [] given → Handles (Err e) after old new given
-handles-fault (fault.Refused refusal) after old new given h = refused-for refusal given h
+handles-fault : (e : EventFault) (after : State) (old new : List ℕ) (given : Result State Refused) → Refuses (means e) after.calls given → Handles (Err e) after old new given
+handles-fault (fault.Refused refusal) after old new given h = refused-for refusal after.calls given h
 handles-fault fault.Memory after old new given h = tt
 
 -- a change that is refused
 pub unhandled : (r : Result ℕ EventFault) (e : EventFault) (after : State) (old new : List ℕ) (given : Result State Refused)
-    → IsErrAnd r (λ y. y ≡ e) → Refuses (means e) [] given → Handles r after old new given
+    → IsErrAnd r (λ y. y ≡ e) → Refuses (means e) after.calls given → Handles r after old new given
 unhandled (Ok count) e after old new given is h = absurd is
 unhandled (Err y) e after old new given is h = subst (λ f. Handles (Err f) after old new given) (sym is) (handles-fault e after old new given h)
 
@@ -48,9 +52,10 @@ pub unwritten : (r : Result ℕ EventFault) (after : State) (old new : List ℕ)
 unwritten (Ok count) after old new given is = absurd is
 unwritten (Err y) after old new given is = subst (λ f. Handles (Err f) after old new given) (sym is) tt
 
-pub handled : (before mid after : State) (event : Event) (count : ℕ) (old new : List ℕ) → changed_by profile [] event before ≡ Ok mid → after ≡ one_more mid
-    → count ≡ mid.evaluated → new ≡ old ++ ok_text true after (posted after) → IsHandled count after old new (changed_by profile [] event before)
-handled before mid after event count old new e a k w =
+pub handled : (answers : List Answer) (before mid after : State) (event : Event) (count : ℕ) (old new : List ℕ) → changed_by profile answers event before ≡ Ok mid
+    → after ≡ one_more mid → count ≡ mid.evaluated → new ≡ old ++ ok_text true after (posted after)
+    → IsHandled count after old new (changed_by profile answers event before)
+handled answers before mid after event count old new e a k w =
     record {
       is = ap (λ r. r >>= (λ t. Ok (one_more t))) e ∙ ap fine (sym a);
       evaluated = ap (λ (s : State). s.evaluated) a ∙ sym k;
@@ -59,21 +64,22 @@ handled before mid after event count old new e a k w =
 
 -- ---- the end of an event
 
-refused-outcome : (refusal : Refusal) (ended : State → State) (given : Result State Refused) → IsRefused refusal given → IsRefused refusal (as_result (outcome ended given))
-refused-outcome refusal ended (Ok t) h = h
-refused-outcome refusal ended (Err r) h = h
+refused-outcome : (refusal : Refusal) (made : List StoreCall) (ended : State → State) (given : Result State Refused) → IsStopped refusal made given
+    → IsRefusedAfter refusal made (outcome ended given)
+refused-outcome refusal made ended (Ok t) h = h
+refused-outcome refusal made ended (Err r) h = h
 
 -- the state at the end of what an event left
 ends : (mid after : FormWorld) → IsKept mid after → at_end profile (state_of mid) ≡ work.state_of (standing_of after)
 ends mid after k = sym k.now ∙ k.plain
 
 -- what is given out of an event that is counted
-abbrev Stands : Outcome → ℕ → Standing → List ℕ → List ℕ → Type 0
-Stands given count after old new =
-    (posted : Posted) × IsAccepted given (work.state_of after) posted × (posted.evaluated ≡ count) × (new ≡ old ++ ok_text true (work.state_of after) posted)
+abbrev Stands : Outcome → ℕ → Standing → List StoreCall → List ℕ → List ℕ → Type 0
+Stands given count after made old new =
+    (posted : Posted) × IsAccepted given (work.state_of after) made posted × (posted.evaluated ≡ count) × (new ≡ old ++ ok_text true (work.state_of after) posted)
 
 accepted-by : (given : Result State Refused) (mid after : FormWorld) (count : ℕ) (old new : List ℕ) → IsHandled count (state_of mid) old new given → IsKept mid after
-    → Stands (outcome (λ t. one_more (at_end profile t)) given) count (standing_of after) old new
+    → Stands (outcome (λ t. one_more (at_end profile t)) given) count (standing_of after) (state_of mid).calls old new
 accepted-by (Err r) mid after count old new h k = absurd (let e : Err r >>= (λ t. fine (one_more t)) ≡ Ok (state_of mid) = h.is in cc)
 accepted-by (Ok t) mid after count old new h k =
     let e : fine (one_more t) ≡ Ok (state_of mid) = h.is in
@@ -91,31 +97,60 @@ accepted-by (Ok t) mid after count old new h k =
     )
 
 -- the event begins with a whole budget
-step-is : (before : FormWorld) (event : Event) → IsAtEnd before
-    → step profile (work.state_of (standing_of before)) event [] ≡ outcome (λ t. one_more (at_end profile t)) (changed_by profile [] event (state_of before))
-step-is before event end = ap (λ t. outcome (λ t. one_more (at_end profile t)) (changed_by profile [] event t)) (end.fresh ∙ sym end.plain)
+step-is : (before : FormWorld) (event : Event) (answers : List Answer) → IsAtEnd before
+    → step profile (work.state_of (standing_of before)) event answers ≡ outcome (λ t. one_more (at_end profile t)) (changed_by profile answers event (state_of before))
+step-is before event answers end = ap (λ t. outcome (λ t. one_more (at_end profile t)) (changed_by profile answers event t)) (end.fresh ∙ sym end.plain)
 
-pub stepped : (before mid after : FormWorld) (event : Event) (count : ℕ) (old new : List ℕ) → IsAtEnd before
-    → IsHandled count (state_of mid) old new (changed_by profile [] event (state_of before)) → IsKept mid after
-    → IsStepped (standing_of before) (Ok count) (standing_of after) old new (step profile (work.state_of (standing_of before)) event [])
-stepped before mid after event count old new end h k =
-    subst (λ (o : Outcome). Stands o count (standing_of after) old new) (sym (step-is before event end))
-    (accepted-by (changed_by profile [] event (state_of before)) mid after count old new h k)
+-- and without a call of the store
+called-anew : (before : FormWorld) (first last : Told) (made : List StoreCall) → IsAtEnd before → Called first last (state_of before).calls made → Called first last [] made
+called-anew before first last made end called = subst (λ calls. Called first last calls made) (ap (λ (s : State). s.calls) end.plain) called
+
+-- the answers that the calls got which were made
+abbrev answers_of : FormWorld → List Answer
+answers_of w = answers_in (state_of w).calls
+
+abbrev IsCovered : FormWorld → Type 0
+IsCovered w = Covers (answers_of w) (state_of w).calls
+
+-- what the machine does over these
+abbrev changed_over : Event → State → List Answer → Result State Refused
+changed_over event s answers = changed_by profile answers event s
+
+pub stepped : (before mid after : FormWorld) (event : Event) (count : ℕ) (first last : Told) (old new : List ℕ) → IsAtEnd before
+    → Called first last (state_of before).calls (state_of mid).calls → IsCovered mid
+    → HandlesOver (Ok count) (state_of mid) old new (changed_over event (state_of before)) → IsKept mid after
+    → Steps (standing_of before) (Ok count) (standing_of after) first last old new (step profile (work.state_of (standing_of before)) event)
+stepped before mid after event count first last old new end called covered h k = record {
+  made = (state_of mid).calls;
+  called = called-anew before first last (state_of mid).calls end called;
+  is =
+      subst (λ (o : Outcome). Stands o count (standing_of after) (state_of mid).calls old new) (sym (step-is before event (answers_of mid) end))
+      (accepted-by (changed_by profile (answers_of mid) event (state_of before)) mid after count old new (h (answers_of mid) covered) k);
+}
 
 -- what was kept stands again
 again : (before mid after : FormWorld) → IsAtEnd before → kept_of mid ≡ kept_of before → standing_of after ≡ (kept_of mid).standing → standing_of after ≡ standing_of before
 again before mid after end k now = now ∙ ap (λ (s : Stage). s.standing) k ∙ end.kept
 
-pub unstepped : (before mid after : FormWorld) (event : Event) (e : EventFault) (old new : List ℕ) → IsAtEnd before
-    → Handles (Err e) (state_of mid) old new (changed_by profile [] event (state_of before)) → kept_of mid ≡ kept_of before
+pub unstepped : (before mid after : FormWorld) (event : Event) (e : EventFault) (first last : Told) (old new : List ℕ) → IsAtEnd before
+    → Called first last (state_of before).calls (state_of mid).calls → IsCovered mid
+    → HandlesOver (Err e) (state_of mid) old new (changed_over event (state_of before)) → kept_of mid ≡ kept_of before
     → standing_of after ≡ (kept_of mid).standing
-    → IsStepped (standing_of before) (Err e) (standing_of after) old new (step profile (work.state_of (standing_of before)) event [])
-unstepped before mid after event (fault.Refused refusal) old new end h k now = (
-  subst (λ (o : Outcome). IsRefused refusal (as_result o)) (sym (step-is before event end))
-      (refused-outcome refusal (λ t. one_more (at_end profile t)) (changed_by profile [] event (state_of before)) h),
-  again before mid after end k now,
-)
-unstepped before mid after event fault.Memory old new end h k now = again before mid after end k now
+    → Steps (standing_of before) (Err e) (standing_of after) first last old new (step profile (work.state_of (standing_of before)) event)
+unstepped before mid after event (fault.Refused refusal) first last old new end called covered h k now = record {
+  made = (state_of mid).calls;
+  called = called-anew before first last (state_of mid).calls end called;
+  is = (
+    subst (λ (o : Outcome). IsRefusedAfter refusal (state_of mid).calls o) (sym (step-is before event (answers_of mid) end))
+        (refused-outcome refusal (state_of mid).calls (λ t. one_more (at_end profile t)) (changed_by profile (answers_of mid) event (state_of before)) (h (answers_of mid) covered)),
+    again before mid after end k now,
+  );
+}
+unstepped before mid after event fault.Memory first last old new end called covered h k now = record {
+  made = (state_of mid).calls;
+  called = called-anew before first last (state_of mid).calls end called;
+  is = again before mid after end k now;
+}
 
 -- what is kept at the end of an event is as it has to be
 pub ended : (mid after : FormWorld) → IsKept mid after → IsAtEnd after
@@ -137,27 +172,39 @@ back before mid after end k plain now kept =
 
 -- ---- the start
 
-pub starts : (before : Standing) (first mid after : FormWorld) (old new : List ℕ) → state_of first ≡ work.state_of before
-    → readied profile [] (state_of first) ≡ Ok (state_of mid) → new ≡ old ++ note_lines (state_of mid).notes → IsKept mid after
-    → IsStarted (Ok (standing_of after)) old new (started (work.state_of before))
-starts before first mid after old new f e w k = (
-  posted (state_of mid),
-  record {
-    is =
-        ap (λ s. outcome (at_end profile) (readied profile [] s)) (sym f)
-        ∙ ap (outcome (at_end profile)) e
-        ∙ ap (λ x. accepted x (posted (state_of mid))) (ends mid after k);
-    calls = refl;
-  },
-  w,
-)
+pub starts : (before : Standing) (first mid after : FormWorld) (told last : Told) (old new : List ℕ) → state_of first ≡ work.state_of before
+    → Called told last [] (state_of mid).calls → IsCovered mid → ((answers : List Answer) → Covers answers (state_of mid).calls → readied profile answers (state_of first) ≡ Ok (state_of mid))
+    → new ≡ old ++ note_lines (state_of mid).notes → IsKept mid after
+    → Starts (Ok (standing_of after)) told last old new (started (work.state_of before))
+starts before first mid after told last old new f called covered e w k = record {
+  made = (state_of mid).calls;
+  called = called;
+  is = (
+    posted (state_of mid),
+    record {
+      is =
+          ap (λ s. outcome (at_end profile) (readied profile (answers_of mid) s)) (sym f)
+          ∙ ap (outcome (at_end profile)) (e (answers_of mid) covered)
+          ∙ ap (λ x. accepted x (posted (state_of mid))) (ends mid after k);
+      calls = refl;
+    },
+    w,
+  );
+}
 
-pub start-stops : (before : Standing) (first : FormWorld) (e : EventFault) (old new : List ℕ) → state_of first ≡ work.state_of before
-    → Refuses (means e) [] (readied profile [] (state_of first)) → IsStarted (Err e) old new (started (work.state_of before))
-start-stops before first (fault.Refused refusal) old new f h =
-    refused-outcome refusal (at_end profile) (readied profile [] (work.state_of before))
-    (subst (λ s. IsRefused refusal (readied profile [] s)) f (refused-for refusal (readied profile [] (state_of first)) h))
-start-stops before first fault.Memory old new f h = tt
+pub start-stops : (before : Standing) (first mid : FormWorld) (e : EventFault) (told last : Told) (old new : List ℕ) → state_of first ≡ work.state_of before
+    → Called told last [] (state_of mid).calls → IsCovered mid
+    → ((answers : List Answer) → Covers answers (state_of mid).calls → Refuses (means e) (state_of mid).calls (readied profile answers (state_of first)))
+    → Starts (Err e) told last old new (started (work.state_of before))
+start-stops before first mid (fault.Refused refusal) told last old new f called covered h = record {
+  made = (state_of mid).calls;
+  called = called;
+  is =
+      refused-outcome refusal (state_of mid).calls (at_end profile) (readied profile (answers_of mid) (work.state_of before))
+      (subst (λ s. IsStopped refusal (state_of mid).calls (readied profile (answers_of mid) s)) f
+      (refused-for refusal (state_of mid).calls (readied profile (answers_of mid) (state_of first)) (h (answers_of mid) covered)));
+}
+start-stops before first mid fault.Memory told last old new f called covered h = record { made = (state_of mid).calls; called = called; is = tt }
 
 -- ---- the construction
 

@@ -17,13 +17,13 @@ use Rattle.xf_form_machine.specs.Refusal.{Refused, no_target}
 use Rattle.xf_form_machine.specs.State.{State}
 use Rattle.xf_form_machine.specs.Step.{model_named}
 use Rattle.xf_form_machine.specs.Tables.{role_of}
-use Rattle.xf_form_machine.specs.Targets.{by_role, element_named, is_entry, is_model, is_repeat_in, is_some_text, is_trigger, or_no_target}
+use Rattle.xf_form_machine.specs.Targets.{by_role, element_named, is_entry, is_model, is_repeat_in, is_some_text, is_submission, is_trigger, or_no_target}
 use Rattle.xf_actions.specs.Performs.{Reads, RefusedAs, Refuses}
 use Rattle.xf_actions.specs.Seen.{IsProgram}
 use Rattle.xf_world.specs.declared.fault.EventFault.{EventFault}
 use Rattle.xf_world.specs.Fault.{means}
 use Rattle.xf_engine.specs.declared.naming.Wanted.{Wanted}
-use Rattle.xf_engine.specs.declared.naming.Wanted.TheVariants.{Entry, Trigger, Repeat, Model, Any}
+use Rattle.xf_engine.specs.declared.naming.Wanted.TheVariants.{Entry, Trigger, Repeat, Model, Submission, Any}
 use Rattle.xf_engine.specs.Naming.{is_named, is_wanted, named_from, wanted_in}
 
 abbrev wants : Wanted → List Element → List Bool
@@ -85,6 +85,7 @@ wanted-as Entry form s i h = role-wanted is_entry form s i h
 wanted-as Trigger form s i h = role-wanted is_trigger form s i h
 wanted-as Repeat form s i h = repeat-wanted form s i h
 wanted-as Model form s i h = role-wanted is_model form s i h
+wanted-as Submission form s i h = role-wanted is_submission form s i h
 wanted-as Any form s i h = all-wanted form.elements i
 
 -- ---- the element that is named

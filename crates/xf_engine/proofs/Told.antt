@@ -8,9 +8,11 @@ use Rattle.xf_form_machine.specs.Refusal as machine
 use Rattle.xf_form_machine.specs.Refusal.{Refused}
 use Rattle.xf_form_machine.specs.Told.{Tells, told}
 use Rattle.xf_actions.specs.Performs.{Among, IsTold, RefusedAs, Refuses}
-use Rattle.xf_work.specs.Does.{IsRefused}
+use Rattle.xf_form_machine.specs.State.{State}
+use Rattle.xf_store.specs.declared.call.StoreCall.{StoreCall}
 use Rattle.xf_world.specs.declared.fault.EventFault.TheVariants as fault
 use Rattle.xf_world.specs.Fault.{means}
+use Rattle.xf_engine.specs.Handled.{IsStopped}
 
 among-contains : (w : LimitWord) (words : List LimitWord) → Among w words → Contains words w
 among-contains w [] h = absurd h
@@ -78,11 +80,11 @@ tells Budget why h = other-why _ why h refl
 tells Depth why h = other-why _ why h refl
 tells Sends why h = other-why _ why h refl
 
-refused-as : {X : Type 0} (refusal : Refusal) (given : Result X Refused) → RefusedAs (told refusal) [] given → IsRefused refusal given
-refused-as refusal (Ok x) h = absurd h
-refused-as refusal (Err r) h = (tells refusal r.why h.0, h.1)
+refused-as : (refusal : Refusal) (made : List StoreCall) (given : Result State Refused) → RefusedAs (told refusal) made given → IsStopped refusal made given
+refused-as refusal made (Ok t) h = absurd h
+refused-as refusal made (Err r) h = (tells refusal r.why h.0, h.1)
 
 -- what a fault of an event tells
-pub refused-for : {X : Type 0} (refusal : Refusal) (given : Result X Refused) → Refuses (means (fault.Refused refusal)) [] given → IsRefused refusal given
+pub refused-for : (refusal : Refusal) (made : List StoreCall) (given : Result State Refused) → Refuses (means (fault.Refused refusal)) made given → IsStopped refusal made given
 unfolding Refuses
-refused-for refusal given h = refused-as refusal given h
+refused-for refusal made given h = refused-as refusal made given h

@@ -1,12 +1,16 @@
 -- An event that is handled and counted, and what stands between events.
 use Rattle.std.specs.Prelude.{ℕ, ◌≡◌, true, List, ◌++◌, Result, Ok, Err}
+use Rattle.xf_store.specs.declared.answers.Answer.{Answer}
+use Rattle.xf_store.specs.declared.call.StoreCall.{StoreCall}
+use Rattle.xf_store.specs.Replay.{Covers}
 use Rattle.xf_form_machine.specs.State.{State}
 use Rattle.xf_form_machine.specs.Refusal.{Refused}
+use Rattle.xf_form_machine.specs.declared.refusal.Refusal.{Refusal}
+use Rattle.xf_form_machine.specs.Told.{Tells}
 use Rattle.xf_form_machine.specs.Flow.{◌>>=◌}
 use Rattle.xf_form_machine.specs.Replies.{ok_text}
 use Rattle.xf_form_machine.specs.Step.{fresh, one_more, posted}
 use Rattle.xf_processor.specs.Formed.{profile}
-use Rattle.xf_work.specs.Does.{IsRefused}
 use Rattle.xf_work.specs.Standing as work
 use Rattle.xf_world.specs.declared.fault.EventFault.{EventFault}
 use Rattle.xf_world.specs.declared.fault.EventFault.TheVariants as fault
@@ -20,10 +24,19 @@ pub record IsHandled (count : ℕ) (after : State) (old new : List ℕ) (given :
   pub evaluated : after.evaluated ≡ count
   pub lines : new ≡ old ++ ok_text true after (posted after)
 
+-- it is refused for this reason, after these calls of the store
+abbrev pub IsStopped : Refusal → List StoreCall → Result State Refused → Type 0
+IsStopped refusal made (Ok t) = ⊥
+IsStopped refusal made (Err r) = Tells refusal r.why × (r.calls ≡ made)
+
 abbrev pub Handles : Result ℕ EventFault → State → List ℕ → List ℕ → Result State Refused → Type 0
 Handles (Ok count) after old new given = IsHandled count after old new given
-Handles (Err (fault.Refused refusal)) after old new given = IsRefused refusal given
+Handles (Err (fault.Refused refusal)) after old new given = IsStopped refusal after.calls given
 Handles (Err fault.Memory) after old new given = Unit {0}
+
+-- the same for all answers that cover the calls of the store in the event
+abbrev pub HandlesOver : Result ℕ EventFault → State → List ℕ → List ℕ → (List Answer → Result State Refused) → Type 0
+HandlesOver result after old new given = (answers : List Answer) → Covers answers after.calls → Handles result after old new (given answers)
 
 -- no event is handled: there are no notes, the next event has a whole budget, and what stands is kept
 pub record IsAtEnd (w : FormWorld) : Type 0 where

@@ -6,9 +6,9 @@ use Rattle.xf_ui.specs.Elements.{is_repeat_sort}
 use Rattle.xf_ui.specs.Interface.{sort_of}
 use Rattle.xf_form_machine.specs.State.{State}
 use Rattle.xf_form_machine.specs.Tables.{role_of}
-use Rattle.xf_form_machine.specs.Targets.{by_role, is_some_text, is_entry, is_repeat_in, is_trigger, is_model}
+use Rattle.xf_form_machine.specs.Targets.{by_role, is_some_text, is_entry, is_repeat_in, is_trigger, is_model, is_submission}
 use Rattle.xf_engine.specs.declared.naming.Wanted.{Wanted}
-use Rattle.xf_engine.specs.declared.naming.Wanted.TheVariants.{Entry, Trigger, Repeat, Model, Any}
+use Rattle.xf_engine.specs.declared.naming.Wanted.TheVariants.{Entry, Trigger, Repeat, Model, Submission, Any}
 
 -- of the elements of a state, by their numbers
 abbrev pub wanted_in : Wanted → State → ℕ → Bool
@@ -16,6 +16,7 @@ wanted_in Entry s = by_role s is_entry
 wanted_in Trigger s = by_role s is_trigger
 wanted_in Repeat s = is_repeat_in s
 wanted_in Model s = by_role s is_model
+wanted_in Submission s = by_role s is_submission
 wanted_in Any s = λ n. true
 
 -- by what an element is
@@ -24,6 +25,7 @@ is_wanted Entry kind = is_entry (role_of kind)
 is_wanted Trigger kind = is_trigger (role_of kind)
 is_wanted Repeat kind = is_repeat_sort (sort_of kind)
 is_wanted Model kind = is_model (role_of kind)
+is_wanted Submission kind = is_submission (role_of kind)
 is_wanted Any kind = true
 
 abbrev pub is_named : Wanted → List ℕ → Element → Bool

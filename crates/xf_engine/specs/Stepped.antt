@@ -1,11 +1,15 @@
 -- How the calls of an engine stand to the form machine: what they answer, what they leave, and what each refusal means. Only want of memory is
 -- free.
 use Rattle.std.specs.Prelude.{ℕ, Bool, true, false, ◌≡◌, List, [], ◌++◌, Result, Ok, Err}
+use Rattle.xf_store.specs.declared.answers.Answer.{Answer}
+use Rattle.xf_store.specs.declared.call.StoreCall.{StoreCall}
+use Rattle.xf_store.specs.Called.{Called, Told}
 use Rattle.xf_form_machine.specs.State.{State}
 use Rattle.xf_form_machine.specs.Refusal as machine
-use Rattle.xf_form_machine.specs.Replies.{note_lines, ok_text}
+use Rattle.xf_form_machine.specs.Replies.{answers_in, note_lines, ok_text}
 use Rattle.xf_form_machine.specs.Start.{readied}
 use Rattle.xf_form_machine.specs.Step.{Posted, Outcome, accepted, refused, outcome, at_end}
+use Rattle.xf_form_machine.specs.Told.{Tells}
 use Rattle.xf_form_machine.specs.declared.refusal.Refusal.{Refusal}
 use Rattle.xf_form_machine.specs.declared.refusal.Refusal.TheVariants as refusal
 use Rattle.xf_processor.specs.Formed.{profile}
@@ -31,30 +35,43 @@ IsConstructed (Err Memory) given = Unit {0}
 
 -- ---- steps
 
--- with this state after it, and no calls of the store
-pub record IsAccepted (given : Outcome) (after : State) (posted : Posted) : Type 0 where
+-- with this state after it, and these calls of the store
+pub record IsAccepted (given : Outcome) (after : State) (made : List StoreCall) (posted : Posted) : Type 0 where
   pub is : given ≡ accepted after posted
-  pub calls : posted.calls ≡ []
+  pub calls : posted.calls ≡ made
 
-abbrev pub as_result : Outcome → Result State machine.Refused
-as_result (accepted after posted) = Ok after
-as_result (refused why calls) = Err (record { why = why; calls = calls })
+-- it is refused for this reason, after these calls of the store
+abbrev pub IsRefusedAfter : Refusal → List StoreCall → Outcome → Type 0
+IsRefusedAfter refusal made (accepted after posted) = ⊥
+IsRefusedAfter refusal made (refused why calls) = Tells refusal why × (calls ≡ made)
 
 -- so many evaluations count, and the lines of the answer are appended to a text
-abbrev pub IsStepped : Standing → Result ℕ EventFault → Standing → List ℕ → List ℕ → Outcome → Type 0
-IsStepped before (Ok count) after old new given =
-    (posted : Posted) × IsAccepted given (state_of after) posted × (posted.evaluated ≡ count) × (new ≡ old ++ ok_text true (state_of after) posted)
-IsStepped before (Err (Refused refusal)) after old new given = IsRefused refusal (as_result given) × (after ≡ before)
-IsStepped before (Err Memory) after old new given = after ≡ before
+abbrev pub IsStepped : Standing → Result ℕ EventFault → Standing → List StoreCall → List ℕ → List ℕ → Outcome → Type 0
+IsStepped before (Ok count) after made old new given =
+    (posted : Posted) × IsAccepted given (state_of after) made posted × (posted.evaluated ≡ count) × (new ≡ old ++ ok_text true (state_of after) posted)
+IsStepped before (Err (Refused refusal)) after made old new given = IsRefusedAfter refusal made given × (after ≡ before)
+IsStepped before (Err Memory) after made old new given = after ≡ before
+
+-- these calls the event made of the store, and it is what the machine does with the answers that they got
+pub record Steps (before : Standing) (result : Result ℕ EventFault) (after : Standing) (first last : Told) (old new : List ℕ) (given : List Answer → Outcome) : Type 0 where
+  pub made : List StoreCall
+  pub called : Called first last [] made
+  pub is : IsStepped before result after made old new (given (answers_in made))
 
 -- ---- the start of a form that is constructed
 
 -- the lines of its notes are appended to a text
-abbrev pub IsStarted : Result Standing EventFault → List ℕ → List ℕ → Outcome → Type 0
-IsStarted (Ok s) old new given = (posted : Posted) × IsAccepted given (state_of s) posted × (new ≡ old ++ note_lines posted.notes)
-IsStarted (Err (Refused refusal)) old new given = IsRefused refusal (as_result given)
-IsStarted (Err Memory) old new given = Unit {0}
+abbrev pub IsStarted : Result Standing EventFault → List StoreCall → List ℕ → List ℕ → Outcome → Type 0
+IsStarted (Ok s) made old new given = (posted : Posted) × IsAccepted given (state_of s) made posted × (new ≡ old ++ note_lines posted.notes)
+IsStarted (Err (Refused refusal)) made old new given = IsRefusedAfter refusal made given
+IsStarted (Err Memory) made old new given = Unit {0}
 
--- no answer of the store is asked for
-abbrev pub started : State → Outcome
-started s = outcome (at_end profile) (readied profile [] s)
+-- these calls it made of the store, and it is what the machine does with the answers that they got
+pub record Starts (result : Result Standing EventFault) (first last : Told) (old new : List ℕ) (given : List Answer → Outcome) : Type 0 where
+  pub made : List StoreCall
+  pub called : Called first last [] made
+  pub is : IsStarted result made old new (given (answers_in made))
+
+-- over these answers of the store
+abbrev pub started : State → List Answer → Outcome
+started s answers = outcome (at_end profile) (readied profile answers s)

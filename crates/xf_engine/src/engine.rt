@@ -1,14 +1,15 @@
 //! A form at work.
 
-ghost use Rattle.std.specs.Prelude.{◌≡◌, ◌++◌, [], string_bytes, OnOk};
+ghost use Rattle.std.specs.Prelude.{◌≡◌, ◌++◌, string_bytes, OnOk};
 ghost use Rattle.xf_form_machine.specs.Construct.{construct};
 ghost use Rattle.xf_form_machine.specs.ControlText.{state_text};
 ghost use Rattle.xf_form_machine.specs.Step.{changed_by, step};
 ghost use Rattle.xf_processor.specs.Formed.{program_in, profile, IsFromBytes};
+ghost use Rattle.xf_store.specs.Called.{Called};
 ghost use Rattle.xf_work.specs.Standing.{state_of};
 ghost use Rattle.xf_world.specs.State as machine;
-ghost use Rattle.xf_engine.specs.Handled.{Handles};
-ghost use Rattle.xf_engine.specs.Stepped.{IsConstructed, IsStarted, IsStepped, started};
+ghost use Rattle.xf_engine.specs.Handled.{HandlesOver};
+ghost use Rattle.xf_engine.specs.Stepped.{IsConstructed, Starts, Steps, started};
 
 use crate::construction::constructed;
 use crate::events::change;
@@ -19,6 +20,7 @@ use xf_actions::World;
 use xf_line::Event;
 use xf_loader::Loaded;
 use xf_report::push_ok;
+use xf_store::Store;
 use xf_work::Work;
 use xf_world::{EventFault, FormWorld};
 
@@ -75,11 +77,13 @@ pub fn construct(alloc: Global, loaded: Loaded) -> Result<Constructed, EventFaul
 impl Constructed {
     /// Starts the form (XForms 1.1, section 4.2): an event of its own, with a whole budget. Appends the lines of its notes. After an `Err` nothing is
     /// told of the text.
-    pub fn start(self, text: &mut String) -> Result<Engine, EventFault>
-        ensures { IsStarted result (string_bytes text.old) (string_bytes text.new) (started (state_of self)) }
+    pub fn start<S: Store>(self, store: &mut S, text: &mut String) -> Result<Engine, EventFault>
+        ensures { Starts result (S.calls store.old, S.to_come store.old) (S.calls store.new, S.to_come store.new) (string_bytes text.old) (string_bytes text.new) (started (state_of self)) }
     {
         let mut world = FormWorld::new(self.alloc, self.work);
-        match ready(&mut world, text) {
+        let ready = ready(&mut world, store, text);
+        world.calls_are_covered();
+        match ready {
             Ok(()) => {
                 world.commit();
                 Ok(Engine { world })
@@ -94,12 +98,18 @@ impl Constructed {
 
 impl Engine {
     /// Does an event. Where it is accepted its lines are appended: the notes, how many events were accepted, and how many evaluations count, which is
-    /// the answer too. An `Err` leaves everything as it was but the text, of which nothing is told then. A submission is not built: it is told as want
-    /// of memory, and who asks for it answers so before.
-    pub fn post(&mut self, event: &Event, text: &mut String) -> Result<u64, EventFault>
-        ensures { IsStepped self.old result self.new (string_bytes text.old) (string_bytes text.new) (step profile (state_of self.old) event.now []) }
+    /// the answer too. An `Err` leaves everything as it was but the text, of which nothing is told then, and the store.
+    pub fn post<S: Store>(
+        &mut self,
+        event: &Event,
+        store: &mut S,
+        text: &mut String,
+    ) -> Result<u64, EventFault>
+        ensures { Steps self.old result self.new (S.calls store.old, S.to_come store.old) (S.calls store.new, S.to_come store.new) (string_bytes text.old) (string_bytes text.new) (step profile (state_of self.old) event.now) }
     {
-        match handle(&mut self.world, event, text) {
+        let handled = handle(&mut self.world, event, store, text);
+        self.world.calls_are_covered();
+        match handled {
             Ok(count) => {
                 self.world.commit();
                 Ok(count)
@@ -127,11 +137,17 @@ impl Engine {
 }
 
 /// Does an event and counts it. What is written for it is made before it is kept: there may be no memory for it afterwards.
-fn handle(world: &mut FormWorld, event: &Event, text: &mut String) -> Result<u64, EventFault>
-    ensures done { Handles result (machine.state_of world.new) (string_bytes text.old) (string_bytes text.new) (changed_by profile [] event.now (machine.state_of world.old)) }
+fn handle<S: Store>(
+    world: &mut FormWorld,
+    event: &Event,
+    store: &mut S,
+    text: &mut String,
+) -> Result<u64, EventFault>
+    ensures done { HandlesOver result (machine.state_of world.new) (string_bytes text.old) (string_bytes text.new) (λ answers. changed_by profile answers event.now (machine.state_of world.old)) }
+    ensures store { Called (S.calls store.old, S.to_come store.old) (S.calls store.new, S.to_come store.new) (machine.state_of world.old).calls (machine.state_of world.new).calls }
     ensures kept { machine.kept_of world.new ≡ machine.kept_of world.old }
 {
-    change(world, event)?;
+    change(world, event, store)?;
     let count = world.evaluated();
     let Ok(()) = world.count_event() else {
         return Err(EventFault::Memory);

@@ -1,11 +1,12 @@
 //! The events that come from outside.
 
-ghost use Rattle.std.specs.Prelude.{◌≡◌, [], option_map};
+ghost use Rattle.std.specs.Prelude.{◌≡◌, option_map};
 ghost use Rattle.xf_form_machine.specs.Step.{changed_by, set_bound as bound_set, to_element};
 ghost use Rattle.xf_form_machine.specs.SetValue.{set_node as node_set};
-ghost use Rattle.xf_line.specs.declared.event.Event.TheVariants.{Set, Activate, Index, Dispatch, Reset};
+ghost use Rattle.xf_line.specs.declared.event.Event.TheVariants.{Set, Activate, Index, Send, Dispatch, Reset};
 ghost use Rattle.xf_processor.specs.Formed.{profile};
-ghost use Rattle.xf_actions.specs.Performs.{Reads, Runs};
+ghost use Rattle.xf_store.specs.Called.{Called};
+ghost use Rattle.xf_actions.specs.Performs.{Reads, Runs, RunsOver};
 ghost use Rattle.xf_actions.specs.Seen.{fired_of};
 ghost use Rattle.xf_world.specs.Fault.{means};
 ghost use Rattle.xf_world.specs.State.{kept_of, state_of};
@@ -20,36 +21,54 @@ use xf_elements::model_at;
 use xf_form_machine::Refusal;
 use xf_line::Event;
 use xf_repeat::rows_now;
+use xf_store::Store;
 use xf_world::{EventFault, FormWorld};
 
 /// Does what an event asks for.
-pub(crate) fn change(world: &mut FormWorld, event: &Event) -> Result<(), EventFault>
-    ensures done { Runs means (state_of world.new) result (changed_by profile [] event.now (state_of world.old)) }
+pub(crate) fn change<S: Store>(
+    world: &mut FormWorld,
+    event: &Event,
+    store: &mut S,
+) -> Result<(), EventFault>
+    ensures done { RunsOver means (state_of world.new) result (λ answers. changed_by profile answers event.now (state_of world.old)) }
+    ensures store { Called (S.calls store.old, S.to_come store.old) (S.calls store.new, S.to_come store.new) (state_of world.old).calls (state_of world.new).calls }
     ensures kept { kept_of world.new ≡ kept_of world.old }
 {
     match event {
-        Event::Set(id, rows, text) => set(world, id.as_str(), rows.as_slice(), text.as_str()),
-        Event::Activate(id, rows) => activate(world, id.as_str(), rows.as_slice()),
-        Event::Index(id, number) => index(world, id.as_str(), *number),
-        Event::Dispatch(name, id) => dispatch_to(world, name.as_str(), id.as_str()),
-        Event::Reset(id) => reset(world, id.as_str()),
-        // There are no submissions yet: who asks for one answers so, and does not come here.
-        Event::Send(_) => Err(EventFault::Memory),
+        Event::Set(id, rows, text) => set(
+            world,
+            id.as_str(),
+            rows.as_slice(),
+            text.as_str(),
+            store,
+        ),
+        Event::Activate(id, rows) => activate(world, id.as_str(), rows.as_slice(), store),
+        Event::Index(id, number) => index(world, id.as_str(), *number, store),
+        Event::Dispatch(name, id) => dispatch_to(world, name.as_str(), id.as_str(), store),
+        Event::Reset(id) => reset(world, id.as_str(), store),
+        Event::Send(id) => send(world, id.as_str(), store),
     }
 }
 
 // ---- a text is set
 
 /// Sets the text of the control that has this id, and does what is due.
-fn set(world: &mut FormWorld, id: &str, rows: &[u64], text: &str) -> Result<(), EventFault>
-    ensures done { Runs means (state_of world.new) result (changed_by profile [] (Set id.now rows.now text.now) (state_of world.old)) }
+fn set<S: Store>(
+    world: &mut FormWorld,
+    id: &str,
+    rows: &[u64],
+    text: &str,
+    store: &mut S,
+) -> Result<(), EventFault>
+    ensures done { RunsOver means (state_of world.new) result (λ answers. changed_by profile answers (Set id.now rows.now text.now) (state_of world.old)) }
+    ensures store { Called (S.calls store.old, S.to_come store.old) (S.calls store.new, S.to_come store.new) (state_of world.old).calls (state_of world.new).calls }
     ensures kept { kept_of world.new ≡ kept_of world.old }
 {
     let element = target(world, Wanted::Entry, id)?;
     let node = node_to_set(world, element, rows, text)?;
     take_rows(world, element, rows)?;
     set_bound(world, node, text)?;
-    settle(world)
+    settle(world, store)
 }
 
 /// The node that the copy of a control in these rows binds, where this text may be set from outside.
@@ -78,6 +97,7 @@ fn node_to_set(
 fn set_bound(world: &mut FormWorld, node: Option<NodeId>, text: &str) -> Result<(), EventFault>
     ensures done { Runs means (state_of world.new) result (bound_set profile text.now (option_map (λ n. n.number) node) (state_of world.old)) }
     ensures kept { kept_of world.new ≡ kept_of world.old }
+    ensures calls { (state_of world.new).calls ≡ (state_of world.old).calls }
 {
     match node {
         Some(node) => set_node(world, node, text),
@@ -88,6 +108,7 @@ fn set_bound(world: &mut FormWorld, node: Option<NodeId>, text: &str) -> Result<
 fn set_node(world: &mut FormWorld, node: NodeId, text: &str) -> Result<(), EventFault>
     ensures done { Runs means (state_of world.new) result (node_set profile node.number text.now (state_of world.old)) }
     ensures kept { kept_of world.new ≡ kept_of world.old }
+    ensures calls { (state_of world.new).calls ≡ (state_of world.old).calls }
 {
     world.may_set(node)?;
     world.set_text(node, text)
@@ -96,15 +117,21 @@ fn set_node(world: &mut FormWorld, node: NodeId, text: &str) -> Result<(), Event
 // ---- a trigger is activated
 
 /// Activates the trigger that has this id: what is due is done, and then it is told.
-fn activate(world: &mut FormWorld, id: &str, rows: &[u64]) -> Result<(), EventFault>
-    ensures done { Runs means (state_of world.new) result (changed_by profile [] (Activate id.now rows.now) (state_of world.old)) }
+fn activate<S: Store>(
+    world: &mut FormWorld,
+    id: &str,
+    rows: &[u64],
+    store: &mut S,
+) -> Result<(), EventFault>
+    ensures done { RunsOver means (state_of world.new) result (λ answers. changed_by profile answers (Activate id.now rows.now) (state_of world.old)) }
+    ensures store { Called (S.calls store.old, S.to_come store.old) (S.calls store.new, S.to_come store.new) (state_of world.old).calls (state_of world.new).calls }
     ensures kept { kept_of world.new ≡ kept_of world.old }
 {
     let element = target(world, Wanted::Trigger, id)?;
     let event = activation(world, element, rows)?;
     take_rows(world, element, rows)?;
-    settle(world)?;
-    tell(world, &event)
+    settle(world, store)?;
+    tell(world, &event, store)
 }
 
 /// The event that tells the copy of a trigger in these rows, where it is enabled.
@@ -121,15 +148,21 @@ fn activation(world: &FormWorld, element: u32, rows: &[u64]) -> Result<Fired, Ev
 // ---- an index is set
 
 /// Sets the index of the repeat that has this id, and does what is due.
-fn index(world: &mut FormWorld, id: &str, number: u64) -> Result<(), EventFault>
-    ensures done { Runs means (state_of world.new) result (changed_by profile [] (Index id.now number) (state_of world.old)) }
+fn index<S: Store>(
+    world: &mut FormWorld,
+    id: &str,
+    number: u64,
+    store: &mut S,
+) -> Result<(), EventFault>
+    ensures done { RunsOver means (state_of world.new) result (λ answers. changed_by profile answers (Index id.now number) (state_of world.old)) }
+    ensures store { Called (S.calls store.old, S.to_come store.old) (S.calls store.new, S.to_come store.new) (state_of world.old).calls (state_of world.new).calls }
     ensures kept { kept_of world.new ≡ kept_of world.old }
 {
     let repeat = target(world, Wanted::Repeat, id)?;
     try_index(world, repeat, number)?;
     let model = model_at(world.form(), repeat);
     world.set_index(model, repeat, number)?;
-    settle(world)
+    settle(world, store)
 }
 
 /// Refuses a number that is none of the rows of a repeat.
@@ -146,32 +179,55 @@ fn try_index(world: &FormWorld, repeat: u32, number: u64) -> Result<(), EventFau
 // ---- an event is dispatched
 
 /// Dispatches an event of this name to the element that has this id.
-fn dispatch_to(world: &mut FormWorld, name: &str, id: &str) -> Result<(), EventFault>
-    ensures done { Runs means (state_of world.new) result (changed_by profile [] (Dispatch name.now id.now) (state_of world.old)) }
+fn dispatch_to<S: Store>(
+    world: &mut FormWorld,
+    name: &str,
+    id: &str,
+    store: &mut S,
+) -> Result<(), EventFault>
+    ensures done { RunsOver means (state_of world.new) result (λ answers. changed_by profile answers (Dispatch name.now id.now) (state_of world.old)) }
+    ensures store { Called (S.calls store.old, S.to_come store.old) (S.calls store.new, S.to_come store.new) (state_of world.old).calls (state_of world.new).calls }
     ensures kept { kept_of world.new ≡ kept_of world.old }
 {
     let element = target(world, Wanted::Any, id)?;
-    tell_element(world, name, element)
+    tell_element(world, name, element, store)
 }
 
 /// Tells the model that has this id to reset its data: the first model where the id is empty.
-fn reset(world: &mut FormWorld, id: &str) -> Result<(), EventFault>
-    ensures done { Runs means (state_of world.new) result (changed_by profile [] (Reset id.now) (state_of world.old)) }
+fn reset<S: Store>(world: &mut FormWorld, id: &str, store: &mut S) -> Result<(), EventFault>
+    ensures done { RunsOver means (state_of world.new) result (λ answers. changed_by profile answers (Reset id.now) (state_of world.old)) }
+    ensures store { Called (S.calls store.old, S.to_come store.old) (S.calls store.new, S.to_come store.new) (state_of world.old).calls (state_of world.new).calls }
     ensures kept { kept_of world.new ≡ kept_of world.old }
 {
     let element = model(world, id)?;
-    tell_element(world, "xforms-reset", element)
+    tell_element(world, "xforms-reset", element, store)
+}
+
+/// Tells the submission that has this id to begin.
+fn send<S: Store>(world: &mut FormWorld, id: &str, store: &mut S) -> Result<(), EventFault>
+    ensures done { RunsOver means (state_of world.new) result (λ answers. changed_by profile answers (Send id.now) (state_of world.old)) }
+    ensures store { Called (S.calls store.old, S.to_come store.old) (S.calls store.new, S.to_come store.new) (state_of world.old).calls (state_of world.new).calls }
+    ensures kept { kept_of world.new ≡ kept_of world.old }
+{
+    let element = target(world, Wanted::Submission, id)?;
+    tell_element(world, "xforms-submit", element, store)
 }
 
 /// Dispatches an event without properties to the copy of an element in the indexed rows: to none where an index is 0.
-fn tell_element(world: &mut FormWorld, name: &str, element: u32) -> Result<(), EventFault>
-    ensures done { Runs means (state_of world.new) result (to_element profile [] name.now element (state_of world.old)) }
+fn tell_element<S: Store>(
+    world: &mut FormWorld,
+    name: &str,
+    element: u32,
+    store: &mut S,
+) -> Result<(), EventFault>
+    ensures done { RunsOver means (state_of world.new) result (λ answers. to_element profile answers name.now element (state_of world.old)) }
+    ensures store { Called (S.calls store.old, S.to_come store.old) (S.calls store.new, S.to_come store.new) (state_of world.old).calls (state_of world.new).calls }
     ensures kept { kept_of world.new ≡ kept_of world.old }
 {
     match world.named_copy(element)? {
         Some(rows) => {
             let event = world.event(name, true, true, element, &rows)?;
-            tell(world, &event)
+            tell(world, &event, store)
         }
         None => Ok(()),
     }

@@ -24,6 +24,8 @@ pub enum Wanted {
     /// Its index is set.
     Repeat,
     Model,
+    /// It begins.
+    Submission,
     Any,
 }
 
@@ -80,6 +82,7 @@ fn is_wanted(kind: &Kind, wanted: Wanted) -> bool
         Wanted::Trigger => is_activated(kind),
         Wanted::Repeat => is_repeat(kind),
         Wanted::Model => is_model(kind),
+        Wanted::Submission => is_submission(kind),
         Wanted::Any => true,
     }
 }
@@ -122,6 +125,15 @@ fn is_model(kind: &Kind) -> bool
 {
     match kind {
         Kind::Model(_) => true,
+        _ => false,
+    }
+}
+
+fn is_submission(kind: &Kind) -> bool
+    ensures { result ≡ is_wanted Wanted.Submission kind.now }
+{
+    match kind {
+        Kind::Submission(_) => true,
         _ => false,
     }
 }

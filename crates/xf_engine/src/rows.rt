@@ -80,6 +80,7 @@ pub(crate) fn take_rows(
 ) -> Result<(), EventFault>
     ensures done { Runs means (state_of world.new) result (rows_taken profile element numbers.now (state_of world.old)) }
     ensures kept { kept_of world.new ≡ kept_of world.old }
+    ensures calls { (state_of world.new).calls ≡ (state_of world.old).calls }
 {
     let repeats = repeats_around(world.alloc(), world.form(), element)?;
     take_each(world, repeats.as_slice(), numbers)
@@ -89,6 +90,7 @@ pub(crate) fn take_rows(
 fn take_each(world: &mut FormWorld, repeats: &[u32], numbers: &[u64]) -> Result<(), EventFault>
     ensures done { Runs means (state_of world.new) result (in_turn (row_taken profile) (zip repeats.now numbers.now) (state_of world.old)) }
     ensures kept { kept_of world.new ≡ kept_of world.old }
+    ensures calls { (state_of world.new).calls ≡ (state_of world.old).calls }
 {
     if repeats.is_empty() {
         return Ok(());

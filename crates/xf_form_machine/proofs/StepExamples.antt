@@ -80,7 +80,7 @@ one_more = refl
 -- ---- with the budgets and limits of every form an event is computed as well
 
 abbrev whole_profile : Profile
-whole_profile = usual functions (λ type text. true)
+whole_profile = usual functions (λ types type text. true)
 
 abbrev next : Outcome → Event → Outcome
 next (accepted s given) event = step whole_profile s event []

@@ -126,7 +126,7 @@ is_model model (Some other) = model == other
 abbrev pub is_invalid : Profile → ℕ → State → Visit → Bool
 is_invalid p model s x =
     let m = model_at s model in
-    is_model model (model_holding s x.number) && not (is_valid p.meets (bind_scope p s model) (all_in s) m.entries (values_of m) x.number)
+    is_model model (model_holding s x.number) && not (is_valid (p.meets s.form.types) (bind_scope p s model) (all_in s) m.entries (values_of m) x.number)
 
 -- what a model keeps after its revalidation
 abbrev pub revalidated_with : List ℕ → Model → Model

@@ -21,7 +21,7 @@ use Rattle.xf_form_machine.specs.Profile.{Profile}
 abbrev pub profile : Profile
 profile = record {
   functions = functions;
-  meets = λ kind text. true;
+  meets = λ types kind text. true;
   bounds = record { string = 1000; limits = record { nodes = 40; text = 10; all = 200; depth = 5 } };
   turns = 12;
   depth = 3;
@@ -136,6 +136,7 @@ form parts rules repeats switches document = record {
   rules = rules;
   instances = record { model = 0; id = []; place = []; space = 0 } ∷ [];
   submissions = [];
+  types = [];
   model_elements = 1 ∷ [];
   instance_elements = 2 ∷ [];
   submission_elements = [];

@@ -1,6 +1,7 @@
 -- What the machine is given beside a form: the functions of expressions, the rule of types, and each budget and limit.
-use Rattle.std.specs.Prelude.{ℕ, ◌^◌}
+use Rattle.std.specs.Prelude.{ℕ, ◌^◌, List}
 use Rattle.xf_base.specs.Limits.{answer_limit}
+use Rattle.xf_schema.specs.declared.written.Restriction.{Restriction}
 use Rattle.xf_plain_values.specs.Functions.{Functions}
 use Rattle.xf_model.specs.Properties.{Meets}
 use Rattle.xf_model.specs.Settled.{Bounds, bounds}
@@ -8,8 +9,8 @@ use Rattle.xf_model.specs.Settled.{Bounds, bounds}
 -- the functions, the rule of types, the budgets and the limits
 pub record Profile : Type 0 where
   pub functions : Functions
-  -- whether a text meets a type
-  pub meets : Meets
+  -- whether a text meets a type, where these are the types by restriction of the form
+  pub meets : List Restriction → Meets
   -- those of strings, and of the forest
   pub bounds : Bounds
   -- the turns of one event, how deep its dispatches nest, and its calls of the store
@@ -28,7 +29,7 @@ pub record Profile : Type 0 where
   pub edges : ℕ
 
 -- those of every form: budgets and limits, over the functions and the rule of types that a processor has
-abbrev pub usual : Functions → Meets → Profile
+abbrev pub usual : Functions → (List Restriction → Meets) → Profile
 usual functions meets = record {
   functions = functions;
   meets = meets;

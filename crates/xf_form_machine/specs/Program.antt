@@ -2,6 +2,7 @@
 -- with what it means, and the data with which its instances begin.
 use Rattle.std.specs.Prelude.{ℕ, Bool, List, Option, get_or}
 use Rattle.xf_name.specs.Bindings.{Bindings}
+use Rattle.xf_schema.specs.declared.written.Restriction.{Restriction}
 use Rattle.xf_ast.specs.declared.action.DispatchWork.{DispatchWork}
 use Rattle.xf_ast.specs.declared.form.Instance.{Instance}
 use Rattle.xf_ast.specs.declared.form.Submission.{Submission}
@@ -70,6 +71,8 @@ pub record Program : Type 0 where
   pub rules : List Rule
   pub instances : List Instance
   pub submissions : List Submission
+  -- the types by restriction of its schemas
+  pub types : List Restriction
   -- the elements of the models, the instances and the submissions, by their numbers
   pub model_elements : List ℕ
   pub instance_elements : List ℕ

@@ -80,6 +80,7 @@ program_of form bindings documents = record {
   rules = map rule_of form.tables.binds;
   instances = form.tables.instances;
   submissions = form.tables.submissions;
+  types = form.tables.types;
   model_elements = form.models;
   instance_elements = form.instances;
   submission_elements = form.submissions;

@@ -22,7 +22,7 @@ use Rattle.xf_refusals.specs.declared.standing.Zone.TheVariants as zone
 use Rattle.xf_refusals.specs.Classes.{is_of}
 use Rattle.xf_refusals.specs.Limits.{count_of}
 use Rattle.xf_refusals.specs.Rows.{Seen, is_numbered}
-use Rattle.xf_refusals.specs.Standing.{is_outside, is_instance, zone_in, zone_below, at_root}
+use Rattle.xf_refusals.specs.Standing.{is_outside, is_annotation, is_instance, is_schema, zone_in, zone_in_schema, zone_below, at_root}
 use Rattle.xf_refusals.specs.Tally.{one_where}
 use Rattle.xf_refusals.specs.Walk.{Piece, text, element, piece_of, walk_of, rows_in, rows_from, parts_from, text_if, keeps, rows_of}
 use Rattle.xf_refusals.proofs.WalkLemmas.{piece_of-Text, piece_of-Element, walk_of-is, head, inside}
@@ -202,16 +202,25 @@ pieces_tell b all s keep at before after (y ∷ ys) is =
 -- ---- an element with what stands in it
 
 passed_below : (t : Tag) → not (is_passed_over t) ≡ false → is_outside (zone_in t) ≡ false
-passed_below t h = by (is_instance t) (is_passed_over t) h
+passed_below t h = by (is_instance t) (is_schema t) (is_passed_over t) h
   where
-    by : (i p : Bool) → not p ≡ false → is_outside (cond i zone.Data (cond p zone.Passed zone.Outside)) ≡ false
-    by true p h = refl
-    by false true h = refl
-    by false false h = cc
+    by : (i s p : Bool) → not p ≡ false → is_outside (cond i zone.Data (cond s zone.Schema (cond p zone.Passed zone.Outside))) ≡ false
+    by true s p h = refl
+    by false true p h = refl
+    by false false true h = refl
+    by false false false h = cc h
+
+schema_below : (t : Tag) → is_outside (zone_in_schema t) ≡ false
+schema_below t = by (is_annotation t)
+  where
+    by : (a : Bool) → is_outside (cond a zone.Passed zone.Schema) ≡ false
+    by true = refl
+    by false = refl
 
 below_hidden : (z : Zone) (t : Tag) → (is_outside z && not (is_passed_over t)) ≡ false → is_outside (zone_below z t) ≡ false
 below_hidden zone.Outside t h = passed_below t h
 below_hidden zone.Data t h = refl
+below_hidden zone.Schema t h = schema_below t
 below_hidden zone.Passed t h = refl
 
 and_true : (x : Bool) → (x && true) ≡ x

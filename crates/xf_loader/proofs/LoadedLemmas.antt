@@ -9,14 +9,14 @@ use Rattle.xf_name.specs.Survey.{surveyed}
 use Rattle.xf_name.specs.declared.fault.SurveyFault.{SurveyFault}
 use Rattle.xf_name.specs.declared.form_names.Surveyed.{Surveyed}
 use Rattle.xf_name.specs.declared.lit.Lit.{Lit}
-use Rattle.xf_refusals.specs.Refused.{refusal_of, unbuilt_of}
+use Rattle.xf_refusals.specs.Refused.{bad_schema_of, refusal_of}
 use Rattle.xf_refusals.specs.Rows.{Seen}
 use Rattle.xf_refusals.specs.Walk.{rows_of}
 use Rattle.xf_loader.specs.declared.fault.FormFault.{FormFault}
 use Rattle.xf_loader.specs.declared.fault.FormFault.TheVariants.{Refused}
 use Rattle.xf_loader.specs.declared.loaded.Loaded.{Loaded}
 use Rattle.xf_loader.specs.Data.{data_limit}
-use Rattle.xf_loader.specs.Loading.{form_limit, by_built, by_data, by_elements, tables_in, with_tree, by_names, by_json, loaded_in}
+use Rattle.xf_loader.specs.Loading.{form_limit, by_schemas, by_data, by_elements, tables_in, with_tree, by_names, by_json, loaded_in}
 use Rattle.xf_loader.specs.Tables.{form_of}
 
 -- its tables are those of the elements of its tree, of which none is refused
@@ -24,12 +24,12 @@ pub record Came (loaded : Loaded) : Type 0 where
   pub unrefused : refusal_of loaded.prefixes (rows_of loaded.prefixes loaded.lit) ≡ None
   pub form : loaded.form ≡ form_of loaded.prefixes (rows_of loaded.prefixes loaded.lit)
 
-built : (form given : Form) (o : Option (List ℕ)) → by_built form o ≡ Ok given → given ≡ form
-built form given None h = cc
-built form given (Some path) h = cc
+in_schemas : (form given : Form) (o : Option (List ℕ)) → by_schemas form o ≡ Ok given → given ≡ form
+in_schemas form given None h = cc
+in_schemas form given (Some path) h = cc
 
 in_data : (form given : Form) (all : List Seen) (o : Option (List ℕ)) → by_data form all o ≡ Ok given → given ≡ form
-in_data form given all None h = built form given (unbuilt_of all) h
+in_data form given all None h = in_schemas form given (bad_schema_of all form.tables.types) h
 in_data form given all (Some word) h = cc
 
 no_refusal : (b : Bindings) (lit : Lit) (all : List Seen) (o : Option (ℕ × List ℕ)) (given : Form) → by_elements b lit all o ≡ Ok given → o ≡ None

@@ -9,7 +9,7 @@ use Rattle.xf_name.specs.Survey.{surveyed}
 use Rattle.xf_name.specs.declared.fault.SurveyFault.{SurveyFault}
 use Rattle.xf_name.specs.declared.form_names.Surveyed.{Surveyed}
 use Rattle.xf_name.specs.declared.lit.Lit.{Lit}
-use Rattle.xf_refusals.specs.Refused.{refusal_of, unbuilt_of}
+use Rattle.xf_refusals.specs.Refused.{bad_schema_of, refusal_of}
 use Rattle.xf_refusals.specs.Rows.{Seen}
 use Rattle.xf_refusals.specs.Walk.{rows_of}
 use Rattle.xf_loader.specs.declared.fault.FormFault.{FormFault}
@@ -24,14 +24,14 @@ form_limit = 1048576
 
 -- ---- the tables of a tree under the names that it declares
 
--- 19: the program cannot run it yet
-abbrev pub by_built : Form → Option (List ℕ) → Result Form FormFault
-by_built form None = Ok form
-by_built form (Some path) = Err (Refused 19 path)
+-- 20: an element of a schema is bad
+abbrev pub by_schemas : Form → Option (List ℕ) → Result Form FormFault
+by_schemas form None = Ok form
+by_schemas form (Some path) = Err (Refused 20 path)
 
 -- 17: the data passes a limit
 abbrev pub by_data : Form → List Seen → Option (List ℕ) → Result Form FormFault
-by_data form all None = by_built form (unbuilt_of all)
+by_data form all None = by_schemas form (bad_schema_of all form.tables.types)
 by_data form all (Some word) = Err (Refused 17 word)
 
 abbrev pub by_form : Form → Lit → List Seen → Result Form FormFault

@@ -5,6 +5,7 @@ use Rattle.xf_ast.specs.declared.element.Part.TheVariants as part
 use Rattle.xf_ast.specs.declared.form.Instance.{Instance}
 use Rattle.xf_ast.specs.declared.form.Bind.{Bind}
 use Rattle.xf_ast.specs.declared.form.Properties.{Properties}
+use Rattle.xf_schema.specs.declared.written.TypeName.{TypeName}
 use Rattle.xf_name.specs.Bindings.{Bindings}
 use Rattle.xf_vocabulary.specs.Attributes.{Shown, known_in, text_in}
 use Rattle.xf_vocabulary.specs.Faults.{type_of}
@@ -12,6 +13,7 @@ use Rattle.xf_vocabulary.specs.declared.attribute.TheConstants as at
 use Rattle.xf_vocabulary.specs.declared.tag.Tag.{Tag}
 use Rattle.xf_vocabulary.specs.declared.tag.Tag.TheVariants as tag
 use Rattle.xf_refusals.specs.declared.classes.Class.TheVariants as class
+use Rattle.xf_refusals.specs.Schemas.{names_of}
 use Rattle.xf_refusals.specs.Rows.{Seen, id_in}
 use Rattle.xf_loader.specs.Numbers.{number_among}
 use Rattle.xf_loader.specs.Written.{expr_of, expr_at}
@@ -61,9 +63,9 @@ instance_of all place r = instance_by all place r (document_in r.parts)
 
 -- ---- binds
 
-abbrev pub properties_of : ℕ → Bindings → List Shown → Properties
-properties_of d b known = record {
-  kind = option_and_then (type_of b) (text_in at.TYPE known);
+abbrev pub properties_of : ℕ → Bindings → List TypeName → List Shown → Properties
+properties_of d b names known = record {
+  kind = option_and_then (type_of b names) (text_in at.TYPE known);
   calculate = expr_at d b known at.CALCULATE;
   relevant = expr_at d b known at.RELEVANT;
   readonly = expr_at d b known at.READONLY;
@@ -82,7 +84,7 @@ bind_by d b all place r known = record {
   id = id_of r;
   around = bind_around all r.standing.around r.standing.parent;
   node_set = expr_of d b (unwrap_or (text_in at.NODESET known) (codes "."));
-  properties = properties_of d b known;
+  properties = properties_of d b (names_of all) known;
 }
 
 abbrev pub bind_of : ℕ → Bindings → List Seen → ℕ → Seen → Bind

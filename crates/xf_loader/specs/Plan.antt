@@ -9,6 +9,7 @@ use Rattle.xf_vocabulary.specs.Rules.{wanted_of}
 use Rattle.xf_vocabulary.specs.declared.attribute.TheConstants as at
 use Rattle.xf_vocabulary.specs.declared.tag.Tag.{Tag}
 use Rattle.xf_refusals.specs.Rows.{Seen, shown}
+use Rattle.xf_refusals.specs.Schemas.{names_of}
 use Rattle.xf_loader.specs.declared.plan.Plan.{Plan}
 use Rattle.xf_loader.specs.Counts.{AreNumbers}
 use Rattle.xf_loader.specs.Numbers.{place_called}
@@ -52,3 +53,4 @@ pub record IsPlan (plan : Plan) : Type 0 where
   pub numbers : AreNumbers plan.numbers.now (map shown plan.rows.now)
   pub targets : AreTargets plan.targets.now (map shown plan.rows.now)
   pub models : plan.models.now ≡ models_of (map shown plan.rows.now)
+  pub names : plan.names.now ≡ names_of (map shown plan.rows.now)

@@ -13,6 +13,7 @@ use Rattle.xf_refusals.specs.Classes.{is_of}
 use Rattle.xf_refusals.specs.Decimals.{decimals_of}
 use Rattle.xf_refusals.specs.Limits.{count_of}
 use Rattle.xf_refusals.specs.Rows.{Seen}
+use Rattle.xf_refusals.specs.Schemas.{types_of}
 use Rattle.xf_loader.specs.Numbers.{number_of}
 use Rattle.xf_loader.specs.Scopes.{scope_of}
 use Rattle.xf_loader.specs.Models.{instance_of, bind_of}
@@ -61,6 +62,7 @@ tables_of d b all = record {
   instances = instances_of all;
   binds = binds_of d b all;
   submissions = submissions_of d b all;
+  types = types_of b all;
 }
 
 -- with numbers of so many decimals

@@ -14,7 +14,7 @@ use std::alloc::{AllocError, Global};
 use xf_ast::Form;
 use xf_json::{JsonFault, read};
 use xf_name::{Lit, Prefixes, SurveyFault, Word, survey};
-use xf_refusals::{Row, refusal_of, rows_of, unbuilt_of};
+use xf_refusals::{Row, bad_schema_of, refusal_of, rows_of};
 
 /// The most bytes of a form.
 const FORM_LIMIT: usize = 1048576;
@@ -87,8 +87,8 @@ fn by_form(alloc: Global, form: Form, lit: &Lit, rows: &[Row<'_>]) -> Result<For
     if let Some(word) = data_limit(lit, form.tables.instances.as_slice())? {
         return Err(limit(alloc, word)?);
     }
-    if let Some(path) = unbuilt_of(alloc, rows)? {
-        return Err(FormFault::Refused(19, path));
+    if let Some(path) = bad_schema_of(alloc, rows, form.tables.types.as_slice())? {
+        return Err(FormFault::Refused(20, path));
     }
     Ok(form)
 }

@@ -10,11 +10,10 @@ ghost use Rattle.xf_loader.specs.Plan.{IsPlan};
 use crate::plan::{Plan, counts_before, model_around};
 use crate::written::{expr_at, expr_of};
 use std::alloc::{AllocError, Global};
-use xf_ast::{Bind, Expr, Instance, Part, PlaceList, Properties};
+use xf_ast::{Bind, Expr, Instance, NamedType, Part, PlaceList, Properties};
 use xf_base::Items;
-use xf_name::{Prefixes, Word};
+use xf_name::Word;
 use xf_refusals::{Row, id_in, small};
-use xf_types::SimpleType;
 use xf_vocabulary::{Known, Tag, attribute as at, known_of, text_of, type_of};
 
 /// A copy of the id of an element: empty where it has none.
@@ -156,10 +155,10 @@ fn bind_around(plan: &Plan<'_, '_>, around: Tag, parent: Option<u32>) -> Option<
 }
 
 fn properties_of(plan: &Plan<'_, '_>, known: &[Known<'_>]) -> Result<Properties, AllocError>
-    ensures { IfOk result (λ properties. properties ≡ models.properties_of plan.now.decimals plan.now.prefixes.now (map attributes.shown known.now)) }
+    ensures { IfOk result (λ properties. properties ≡ models.properties_of plan.now.decimals plan.now.prefixes.now plan.now.names.now (map attributes.shown known.now)) }
 {
     Ok(Properties {
-        kind: type_at(plan.prefixes, text_of(known, at::TYPE))?,
+        kind: type_at(plan, text_of(known, at::TYPE))?,
         calculate: expr_at(plan, known, at::CALCULATE)?,
         relevant: expr_at(plan, known, at::RELEVANT)?,
         readonly: expr_at(plan, known, at::READONLY)?,
@@ -168,11 +167,11 @@ fn properties_of(plan: &Plan<'_, '_>, known: &[Known<'_>]) -> Result<Properties,
     })
 }
 
-fn type_at(prefixes: &Prefixes, text: Option<&str>) -> Result<Option<SimpleType>, AllocError>
-    ensures { IfOk result (λ kind. kind ≡ option_and_then (λ t. faults.type_of prefixes.now t.now) text.entry) }
+fn type_at(plan: &Plan<'_, '_>, text: Option<&str>) -> Result<Option<NamedType>, AllocError>
+    ensures { IfOk result (λ kind. kind ≡ option_and_then (λ t. faults.type_of plan.now.prefixes.now plan.now.names.now t.now) text.entry) }
 {
     match text {
-        Some(text) => type_of(prefixes, text),
+        Some(text) => type_of(plan.prefixes, plan.names, text),
         None => Ok(None),
     }
 }

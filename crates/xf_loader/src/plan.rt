@@ -16,6 +16,7 @@ use std::alloc::Global;
 use xf_name::Prefixes;
 use xf_num::Decimals;
 use xf_refusals::Row;
+use xf_schema::TypeName;
 use xf_vocabulary::{Known, text_of};
 
 /// The elements of a form that is not refused, with their numbers, their ids, and the nearest model of each.
@@ -28,6 +29,8 @@ pub struct Plan<'s, 'a> {
     pub targets: &'s Targets<'a>,
     pub models: &'s [u32],
     pub decimals: Decimals,
+    /// Those of the types of all schemas.
+    pub names: &'s [TypeName],
 }
 
 /// The counts before the element at a place.

@@ -21,7 +21,7 @@ use xf_ast::{
 };
 use xf_base::Items;
 use xf_name::Prefixes;
-use xf_refusals::{Class, Row, decimals_of, is_of, small};
+use xf_refusals::{Class, Row, decimals_of, is_of, names_of, small, types_of};
 
 /// The tables of a form that is not refused.
 pub fn form_of<'x>(
@@ -35,6 +35,7 @@ pub fn form_of<'x>(
     let targets = targets_of(alloc, rows)?;
     let models = models_of(alloc, rows, &numbers)?;
     let decimals = decimals_of(alloc, prefixes, rows)?;
+    let names = names_of(alloc, rows)?;
     let plan = Plan {
         alloc,
         prefixes,
@@ -43,6 +44,7 @@ pub fn form_of<'x>(
         targets: &targets,
         models: &models,
         decimals,
+        names: names.as_slice(),
     };
     form_by(&plan)
 }
@@ -75,6 +77,7 @@ fn tables_of(plan: &Plan<'_, '_>) -> Result<Tables, AllocError>
         instances: instances_of(plan)?,
         binds: binds_of(plan)?,
         submissions: submissions_of(plan)?,
+        types: types_of(plan.alloc, plan.prefixes, plan.rows, plan.names)?,
     })
 }
 

@@ -1,6 +1,6 @@
 -- A form that is loaded as the machine sees it, with the data of its instances, and what the machine is given beside it.
 use Rattle.std.specs.Prelude.{ℕ, ◌≡◌, List, [], map, Option, Some, None, Result, Ok}
-use Rattle.xf_types.specs.Meets.{meets_type}
+use Rattle.xf_schema.specs.Facets.{is_of_type}
 use Rattle.xf_name.specs.Bindings.{Bindings}
 use Rattle.xf_name.specs.declared.lit.Lit.{Lit}
 use Rattle.xf_ast.specs.declared.form.Instance.{Instance}
@@ -16,7 +16,7 @@ use Rattle.xf_form_machine.specs.Tables.{program_of}
 
 -- what the machine is given beside a form
 abbrev pub profile : Profile
-profile = usual called meets_type
+profile = usual called is_of_type
 
 -- ---- the form
 

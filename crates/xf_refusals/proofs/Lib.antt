@@ -1,4 +1,5 @@
 pub mod RowLemmas
+mod SchemaLemmas
 pub mod WalkLemmas
 pub mod TallyLemmas
 pub mod RefusalLemmas

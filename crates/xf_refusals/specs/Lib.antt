@@ -4,6 +4,7 @@ pub mod Walk
 pub mod Classes
 pub mod Tally
 pub mod Decimals
+pub mod Schemas
 pub mod Refusals
 pub mod Paths
 pub mod Limits

@@ -1,6 +1,6 @@
 -- The refusals of a form at its elements, by their numbers, and the first of them (XForms 1.1, sections 2 to 10). d is the number of
 -- decimals of the form.
-use Rattle.std.specs.Prelude.{ℕ, suc, Bool, true, false, not, ◌&&◌, ◌||◌, ◌==◌, nat_lt, if◌then◌else◌, List, [], ◌∷◌, slice_get, count_by, is_none, Option, Some, None}
+use Rattle.std.specs.Prelude.{ℕ, suc, Bool, true, false, not, ◌&&◌, ◌||◌, ◌==◌, nat_lt, if◌then◌else◌, List, [], ◌∷◌, count_by, is_none, Option, Some, None}
 use Rattle.std.specs.List.{list_any}
 use Rattle.xf_ast.specs.declared.element.Part.{Part}
 use Rattle.xf_ast.specs.declared.element.Part.TheVariants as part
@@ -21,14 +21,11 @@ use Rattle.xf_refusals.specs.declared.classes.Class.TheVariants as class
 use Rattle.xf_refusals.specs.declared.refusals.Refusal.{Refusal}
 use Rattle.xf_refusals.specs.Classes.{is_model, is_switch, is_case, is_of, class_of, count_called}
 use Rattle.xf_refusals.specs.Decimals.{decimals_of}
-use Rattle.xf_refusals.specs.Rows.{Seen, tag_of, is_handler, id_in}
+use Rattle.xf_refusals.specs.Rows.{Seen, tag_in, is_handler, id_in}
+use Rattle.xf_refusals.specs.Schemas.{names_of}
 use Rattle.xf_refusals.specs.Standing.{is_outside, is_instance}
 
 -- ---- what stands in an element
-
-abbrev pub tag_in : List Seen → Part → Tag
-tag_in all (part.Text text) = tag.Host
-tag_in all (part.Element place) = tag_of (slice_get all place)
 
 abbrev pub is_instance_in : List Seen → Part → Bool
 is_instance_in all p = is_instance (tag_in all p)
@@ -105,7 +102,7 @@ own_by d b all first place r known =
     else (if not (is_later_model first place r) && has_bad_attribute r known then Some 10
     else (if shares_id all r then Some 11
     else (if names_nothing all r known then Some 12
-    else (if list_any (is_bad_type b r.tag) known then Some 13 else None)))))))
+    else (if list_any (is_bad_type b (names_of all) r.tag) known then Some 13 else None)))))))
 
 abbrev pub own_refusal : ℕ → Bindings → List Seen → Option ℕ → ℕ → Seen → Option ℕ
 own_refusal d b all first place r = own_by d b all first place r (known_in b r.attributes)

@@ -1,11 +1,14 @@
--- The first refusal of a form by its elements, with its place: a path, or for a limit its word; and the first element that is not built.
+-- The first refusal of a form by its elements, with its place: a path, or for a limit its word; and the first bad element of its schemas.
 use Rattle.std.specs.Prelude.{ℕ, ◌==◌, if◌then◌else◌, List, [], Option, Some, None, option_map}
 use Rattle.xf_name.specs.Bindings.{Bindings}
+use Rattle.xf_schema.specs.declared.written.Restriction.{Restriction}
+use Rattle.xf_schema.specs.Faults.{first_bad}
 use Rattle.xf_refusals.specs.declared.refusals.Refusal.{Refusal}
-use Rattle.xf_refusals.specs.Limits.{limit_of, first_unbuilt}
+use Rattle.xf_refusals.specs.Limits.{limit_of}
 use Rattle.xf_refusals.specs.Paths.{path_of}
 use Rattle.xf_refusals.specs.Refusals.{first_refusal}
 use Rattle.xf_refusals.specs.Rows.{Seen}
+use Rattle.xf_refusals.specs.Schemas.{first_strange}
 
 -- that there is no model is told of the form
 abbrev pub place_of : List Seen → Refusal → List ℕ
@@ -24,6 +27,8 @@ by_element all (Some r) = Some (r.number, place_of all r)
 abbrev pub refusal_of : Bindings → List Seen → Option (ℕ × List ℕ)
 refusal_of b all = by_element all (first_refusal b all)
 
--- the path of the first element that the program cannot run yet
-abbrev pub unbuilt_of : List Seen → Option (List ℕ)
-unbuilt_of all = option_map (path_of all) (first_unbuilt all)
+-- ---- schemas
+
+-- the path of the first bad element of the schemas, where these are their types
+abbrev pub bad_schema_of : List Seen → List Restriction → Option (List ℕ)
+bad_schema_of all types = option_map (path_of all) (first_bad types (first_strange all))

@@ -1,6 +1,7 @@
 -- The elements of a form in document order, each with its surroundings and with what stands in it.
-use Rattle.std.specs.Prelude.{ℕ, Bool, true, false, not, ◌&&◌, if◌then◌else◌, List, [], ◌∷◌, bytes_eq, codes, Option, Some, None}
+use Rattle.std.specs.Prelude.{ℕ, Bool, true, false, not, ◌&&◌, if◌then◌else◌, List, [], ◌∷◌, bytes_eq, codes, slice_get, Option, Some, None}
 use Rattle.xf_ast.specs.declared.element.Part.{Part}
+use Rattle.xf_ast.specs.declared.element.Part.TheVariants as part
 use Rattle.xf_name.specs.declared.lit.Pair.{Pair}
 use Rattle.xf_vocabulary.specs.Classes.{is_action, is_passed_over, is_counted, tells_text}
 use Rattle.xf_vocabulary.specs.declared.tag.Tag.{Tag}
@@ -49,3 +50,8 @@ id_in (p ∷ ps) = if bytes_eq p.name (codes "id") then Some p.text else id_in p
 abbrev pub tag_of : Option Seen → Tag
 tag_of None = tag.Host
 tag_of (Some r) = r.tag
+
+-- of what stands in an element
+abbrev pub tag_in : List Seen → Part → Tag
+tag_in all (part.Text text) = tag.Host
+tag_in all (part.Element place) = tag_of (slice_get all place)

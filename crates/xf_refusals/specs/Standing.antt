@@ -17,24 +17,45 @@ space_below b above (p ∷ ps) = if bytes_eq p.name (codes "xmlns") then unwrap_
 abbrev pub is_outside : Zone → Bool
 is_outside zone.Outside = true
 is_outside zone.Data = false
+is_outside zone.Schema = false
 is_outside zone.Passed = false
 
 abbrev pub is_data : Zone → Bool
 is_data zone.Outside = false
 is_data zone.Data = true
+is_data zone.Schema = false
 is_data zone.Passed = false
+
+abbrev pub is_in_schema : Zone → Bool
+is_in_schema zone.Outside = false
+is_in_schema zone.Data = false
+is_in_schema zone.Schema = true
+is_in_schema zone.Passed = false
 
 abbrev pub is_instance : Tag → Bool
 is_instance tag.Instance = true
 is_instance t = false
 
-abbrev pub zone_in : Tag → Zone
-zone_in t = if is_instance t then zone.Data else (if is_passed_over t then zone.Passed else zone.Outside)
+abbrev pub is_schema : Tag → Bool
+is_schema tag.Schema = true
+is_schema t = false
 
--- what stands in an instance is its data, and what stands in help, hints, alerts and extensions is passed over
+abbrev pub is_annotation : Tag → Bool
+is_annotation tag.Annotation = true
+is_annotation t = false
+
+abbrev pub zone_in : Tag → Zone
+zone_in t = if is_instance t then zone.Data else (if is_schema t then zone.Schema else (if is_passed_over t then zone.Passed else zone.Outside))
+
+abbrev pub zone_in_schema : Tag → Zone
+zone_in_schema t = if is_annotation t then zone.Passed else zone.Schema
+
+-- what stands in an instance is its data, what stands in a schema describes types, and what stands in help, hints, alerts, extensions and in
+-- the annotations of schemas is passed over
 abbrev pub zone_below : Zone → Tag → Zone
 zone_below zone.Outside t = zone_in t
 zone_below zone.Data t = zone.Data
+zone_below zone.Schema t = zone_in_schema t
 zone_below zone.Passed t = zone.Passed
 
 -- elements of an instance one in another, at most

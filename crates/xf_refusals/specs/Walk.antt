@@ -13,7 +13,7 @@ use Rattle.xf_vocabulary.specs.declared.tag.Tag.TheVariants as tag
 use Rattle.xf_refusals.specs.declared.standing.Standing.{Standing}
 use Rattle.xf_refusals.specs.declared.standing.Zone.{Zone}
 use Rattle.xf_refusals.specs.Rows.{Seen}
-use Rattle.xf_refusals.specs.Standing.{is_outside, space_below, at_root, below}
+use Rattle.xf_refusals.specs.Standing.{is_outside, is_in_schema, space_below, at_root, below}
 
 -- the elements of a part of a form, by its surroundings, its place among what stands in its parent, and its place in the list
 abbrev pub Walk : Type 0
@@ -45,9 +45,10 @@ abbrev pub parts_from : Bool → Standing → ℕ → ℕ → List Piece → Lis
 parts_from keep inside at n [] = []
 parts_from keep inside at n (p ∷ ps) = parts_in p keep n ++ parts_from keep inside (at + 1) (n + length (rows_in p inside at n)) ps
 
--- inside an instance and in what is passed over names have no meaning
+-- inside an instance and in what is passed over names have no meaning, and in a schema those of schemas alone
 abbrev pub tag_in : Bindings → Zone → List ℕ → ℕ → Tag
-tag_in b z written space = if is_outside z then tags.tag_of b written space else tag.Host
+tag_in b z written space =
+    if is_outside z then tags.tag_of b written space else (if is_in_schema z then tags.schema_tag_of b written space else tag.Host)
 
 -- the texts in these surroundings count
 abbrev pub keeps : Standing → Bool

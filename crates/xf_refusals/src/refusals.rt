@@ -8,20 +8,23 @@ ghost use Rattle.xf_refusals.specs.Classes.{is_called};
 ghost use Rattle.xf_refusals.specs.Refusals as refusals;
 ghost use Rattle.xf_refusals.specs.Refused as refused;
 ghost use Rattle.xf_refusals.specs.Rows.{is_handler, shown};
+ghost use Rattle.xf_refusals.specs.Schemas.{names_of};
 ghost use Rattle.xf_refusals.specs.Tally.{HasCounts};
 
-use crate::built::first_unbuilt;
 use crate::classes::{Class, class_of, is_case, is_model, is_of, is_switch};
 use crate::decimals::decimals_of;
 use crate::ids::{Ids, called, ids_of};
 use crate::limits::limit_of;
 use crate::paths::path_of;
-use crate::rows::{Row, id_in, is_handler, tag_at};
+use crate::rows::{Row, id_in, is_handler, tag_in};
+use crate::schemas::{first_strange, names_of};
 use crate::standing::{is_instance, is_outside};
+use crate::walk::small;
 use std::alloc::{AllocError, Global};
 use xf_ast::Part;
 use xf_name::{NameFault, Prefixes, Word};
 use xf_num::Decimals;
+use xf_schema::{Restriction, TypeName, first_bad};
 use xf_vocabulary::{
     Known, Tag, has_bad_expression, has_bad_text, has_bad_type, has_moving_expression, known_of,
     lacks, may_stand, wanted_of,
@@ -35,15 +38,6 @@ pub struct Refusal {
 }
 
 // ---- what stands in an element
-
-fn tag_in(rows: &[Row<'_>], part: &Part) -> Tag
-    ensures { result ≡ refusals.tag_in (map shown rows.now) part.now }
-{
-    match part {
-        Part::Text(_) => Tag::Host,
-        Part::Element(place) => tag_at(rows, *place),
-    }
-}
 
 fn has_instance(rows: &[Row<'_>], parts: &[Part]) -> bool
     ensures { result ≡ list_any (refusals.is_instance_in (map shown rows.now)) parts.now }
@@ -163,6 +157,8 @@ pub struct Search<'s, 'a> {
     pub prefixes: &'s Prefixes,
     pub rows: &'s [Row<'a>],
     pub ids: &'s Ids<'a>,
+    /// Those of the types of all schemas.
+    pub names: &'s [TypeName],
     /// The place of the first model.
     pub first_model: Option<usize>,
 }
@@ -196,7 +192,8 @@ fn own_refusal(
     place: usize,
     decimals: Decimals,
 ) -> Result<Option<u8>, AllocError>
-    requires { HasCounts search.ids.now (map shown search.rows.now) }
+    requires counts { HasCounts search.ids.now (map shown search.rows.now) }
+    requires names { search.names.now ≡ names_of (map shown search.rows.now) }
     ensures { IfOk result (λ number. number ≡ refusals.own_refusal decimals search.entry.prefixes.now (map shown search.entry.rows.now) search.entry.first_model place (shown row.now)) }
 {
     let element = row.element;
@@ -222,7 +219,7 @@ fn own_refusal(
     if names_nothing(search.ids, search.rows, row, &known) {
         return Ok(Some(12));
     }
-    if has_bad_type(search.prefixes, row.tag, &known)? {
+    if has_bad_type(search.prefixes, search.names, row.tag, &known)? {
         return Ok(Some(13));
     }
     Ok(None)
@@ -244,7 +241,8 @@ fn refusal_at(
     place: usize,
     decimals: Decimals,
 ) -> Result<Option<u8>, AllocError>
-    requires { HasCounts search.ids.now (map shown search.rows.now) }
+    requires counts { HasCounts search.ids.now (map shown search.rows.now) }
+    requires names { search.names.now ≡ names_of (map shown search.rows.now) }
     ensures { IfOk result (λ number. number ≡ refusals.refusal_at decimals search.entry.prefixes.now (map shown search.entry.rows.now) search.entry.first_model place (shown row.now)) }
 {
     if let Some(fault) = search.prefixes.fault_of(row.element)? {
@@ -278,11 +276,13 @@ fn first_refusal(
 {
     let decimals = decimals_of(alloc, prefixes, rows)?;
     let ids = ids_of(alloc, rows)?;
+    let names = names_of(alloc, rows)?;
     let search = Search {
         alloc,
         prefixes,
         rows,
         ids: &ids,
+        names: names.as_slice(),
         first_model: first_model(rows),
     };
     for (place, row) in rows.iter().enumerate() {
@@ -321,12 +321,26 @@ pub fn refusal_of(
     Ok(None)
 }
 
-/// The path of the first element that the program cannot run yet.
-pub fn unbuilt_of(alloc: Global, rows: &[Row<'_>]) -> Result<Option<Word>, AllocError>
-    ensures { IfOk result (λ found. found ≡ refused.unbuilt_of (map shown rows.now)) }
+/// The path of the first bad element of the schemas, where these are their types.
+pub fn bad_schema_of(
+    alloc: Global,
+    rows: &[Row<'_>],
+    types: &[Restriction],
+) -> Result<Option<Word>, AllocError>
+    ensures { IfOk result (λ path. path ≡ refused.bad_schema_of (map shown rows.now) types.now) }
 {
-    match first_unbuilt(rows) {
-        Some(place) => Ok(Some(path_of(alloc, rows, place)?)),
+    let strange = place_in(first_strange(rows))?;
+    match first_bad(types, strange) {
+        Some(place) => Ok(Some(path_of(alloc, rows, place as usize)?)),
+        None => Ok(None),
+    }
+}
+
+fn place_in(place: Option<usize>) -> Result<Option<u32>, AllocError>
+    ensures { IfOk result (λ same. same ≡ place) }
+{
+    match place {
+        Some(place) => Ok(Some(small(place)?)),
         None => Ok(None),
     }
 }

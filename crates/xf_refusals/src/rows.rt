@@ -86,3 +86,13 @@ pub(crate) fn tag_at(rows: &[Row<'_>], place: u32) -> Tag
         None => Tag::Host,
     }
 }
+
+/// What one that stands in an element is.
+pub(crate) fn tag_in(rows: &[Row<'_>], part: &Part) -> Tag
+    ensures { result ≡ seen.tag_in (map seen.shown rows.now) part.now }
+{
+    match part {
+        Part::Text(_) => Tag::Host,
+        Part::Element(place) => tag_at(rows, *place),
+    }
+}

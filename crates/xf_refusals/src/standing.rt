@@ -12,7 +12,9 @@ pub enum Zone {
     Outside,
     /// In an instance.
     Data,
-    /// In help, a hint, an alert or an extension.
+    /// In a schema.
+    Schema,
+    /// In help, a hint, an alert, an extension or an annotation of a schema.
     Passed,
 }
 
@@ -58,6 +60,7 @@ pub fn is_outside(zone: Zone) -> bool
     match zone {
         Zone::Outside => true,
         Zone::Data => false,
+        Zone::Schema => false,
         Zone::Passed => false,
     }
 }
@@ -68,6 +71,7 @@ pub fn is_data(zone: Zone) -> bool
     match zone {
         Zone::Outside => false,
         Zone::Data => true,
+        Zone::Schema => false,
         Zone::Passed => false,
     }
 }
@@ -81,6 +85,35 @@ pub fn is_instance(tag: Tag) -> bool
     }
 }
 
+pub(crate) fn is_in_schema(zone: Zone) -> bool
+    ensures { result ≡ standing.is_in_schema zone }
+{
+    match zone {
+        Zone::Outside => false,
+        Zone::Data => false,
+        Zone::Schema => true,
+        Zone::Passed => false,
+    }
+}
+
+pub(crate) fn is_schema(tag: Tag) -> bool
+    ensures { result ≡ standing.is_schema tag }
+{
+    match tag {
+        Tag::Schema => true,
+        _ => false,
+    }
+}
+
+fn is_annotation(tag: Tag) -> bool
+    ensures { result ≡ standing.is_annotation tag }
+{
+    match tag {
+        Tag::Annotation => true,
+        _ => false,
+    }
+}
+
 /// The part of a form in an element.
 pub fn zone_below(zone: Zone, tag: Tag) -> Zone
     ensures { result ≡ standing.zone_below zone tag }
@@ -88,6 +121,7 @@ pub fn zone_below(zone: Zone, tag: Tag) -> Zone
     match zone {
         Zone::Outside => zone_in(tag),
         Zone::Data => Zone::Data,
+        Zone::Schema => zone_in_schema(tag),
         Zone::Passed => Zone::Passed,
     }
 }
@@ -98,10 +132,22 @@ fn zone_in(tag: Tag) -> Zone
     if is_instance(tag) {
         return Zone::Data;
     }
+    if is_schema(tag) {
+        return Zone::Schema;
+    }
     if is_passed_over(tag) {
         return Zone::Passed;
     }
     Zone::Outside
+}
+
+fn zone_in_schema(tag: Tag) -> Zone
+    ensures { result ≡ standing.zone_in_schema tag }
+{
+    if !is_annotation(tag) {
+        return Zone::Schema;
+    }
+    Zone::Passed
 }
 
 fn deeper(zone: Zone, depth: u8) -> u8

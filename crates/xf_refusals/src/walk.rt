@@ -6,11 +6,11 @@ ghost use Rattle.xf_refusals.specs.Walk as walk;
 
 use crate::rows::Row;
 use crate::space::space_below;
-use crate::standing::{Standing, Zone, at_root, below, is_outside};
+use crate::standing::{Standing, Zone, at_root, below, is_in_schema, is_outside};
 use std::alloc::{AllocError, Global};
 use xf_ast::Part;
 use xf_name::{Lit, LitElement, Prefixes, Word};
-use xf_vocabulary::{Tag, keeps_text, tag_of};
+use xf_vocabulary::{Tag, keeps_text, schema_tag_of, tag_of};
 
 /// A number that fits: a form that is read has fewer elements.
 pub fn small(n: usize) -> Result<u32, AllocError>
@@ -50,6 +50,9 @@ fn tag_in(prefixes: &Prefixes, zone: Zone, written: &str, space: u16) -> Result<
 {
     if is_outside(zone) {
         return tag_of(prefixes, written, space);
+    }
+    if is_in_schema(zone) {
+        return schema_tag_of(prefixes, written, space);
     }
     Ok(Tag::Host)
 }

@@ -10,7 +10,7 @@ invariant-loop-reply g l =
     let left = g.E.Source.left in
     let taken = g.O.Sink.taken in
     (done : List ℕ) × record {
-      progress : ProgressKnown g.A.Answering.answers l.fn.session l.session (left l.fn.events) (prepend_known l.lines.bytes (left l.events)) l.lines done;
+      progress : ProgressKnown g.A.Answering.answers (l.fn.session, (g.S.Store.calls l.fn.store, g.S.Store.to_come l.fn.store)) (l.session, (g.S.Store.calls l.store, g.S.Store.to_come l.store)) (left l.fn.events) (prepend_known l.lines.bytes (left l.events)) l.lines done;
       is_out : IsOut (taken l.fn.out, g.O.Sink.flushed l.fn.out) (taken l.out, g.O.Sink.flushed l.out);
       appended : Appends (taken l.fn.out) (taken l.out) done;
       within : l.lines.given ≤ stream_limit;

@@ -8,7 +8,7 @@ pub returns-in-Ok-clause-answered : goal.returns-in-Ok-clause-answered
 returns-in-Ok-clause-answered g c =
     let events = object_of (g.E.Source.left c.args.events.now) (g.E.Source.left c.answer_lines.new.events) (g.E.Source.faults c.args.events.now) (g.E.Source.faults c.answer_lines.new.events) in
     let out = object_of (g.O.Sink.taken c.args.out.now) (g.O.Sink.taken c.answer_lines.new.out) (g.O.Sink.faults c.args.out.now) (g.O.Sink.faults c.answer_lines.new.out) in
-    behind c.args.notes.now c.answer_lines.result _ events out _ c.in-Ok.ensures.ok c.answer_lines.ensures.answered
+    behind c.args.notes.now c.answer_lines.result _ _ _ _ events out _ c.in-Ok.ensures.ok c.answer_lines.ensures.answered
 
 pub returns-in-Ok-clause-steady : goal.returns-in-Ok-clause-steady
 returns-in-Ok-clause-steady g c = steady_on c.answer_lines.result _ _ _ c.in-Ok.ensures.steady c.answer_lines.ensures.steady
@@ -22,4 +22,4 @@ pub returns-in-Err-clause-answered : goal.returns-in-Err-clause-answered
 returns-in-Err-clause-answered g c =
     let events = object_of (g.E.Source.left c.args.events.now) (g.E.Source.left c.args.events.now) (g.E.Source.faults c.args.events.now) (g.E.Source.faults c.args.events.now) in
     let out = object_of (g.O.Sink.taken c.args.out.now) (g.O.Sink.taken c.write_reply.new.out) (g.O.Sink.faults c.args.out.now) (g.O.Sink.faults c.write_reply.new.out) in
-    cut_off c.args.notes.now _ _ events out c.in-Err.ensures.err refl (record { bytes = refl; faults = refl })
+    cut_off c.args.notes.now _ _ _ events out c.in-Err.ensures.err refl (record { bytes = refl; faults = refl })

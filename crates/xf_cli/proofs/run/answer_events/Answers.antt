@@ -26,4 +26,4 @@ pub returns-in-Session-clause-runs : goal.returns-in-Session-clause-runs
 returns-in-Session-clause-runs g c =
     let events = object_of (g.E.Source.left c.args.events.now) (g.E.Source.left c.answer_session-ending.new.events) (g.E.Source.faults c.args.events.now) (g.E.Source.faults c.answer_session-ending.new.events) in
     let out = object_of (g.O.Sink.taken c.args.out.now) (g.O.Sink.taken c.answer_session-ending.new.out) (g.O.Sink.faults c.args.out.now) (g.O.Sink.faults c.answer_session-ending.new.out) in
-    answered_so _ _ _ _ _ events out c.in-Session.ensures c.as_bytes.ensures.value c.answer_session-ending.ensures.answered
+    answered_so _ _ _ _ _ _ _ events out c.in-Session.ensures c.as_bytes.ensures.value c.answer_session-ending.ensures.answered

@@ -1,5 +1,7 @@
-use Rattle.std.proofs.Common.{refl}
-use Rattle.xf_cli.proofs.Ends.{runs_loaded, runs_refused}
+use Rattle.std.proofs.Common.{map, refl, string_bytes}
+use Rattle.xf_store.specs.Called.{Told}
+use Rattle.xf_cli.specs.Outside.{Outside, object_of, stored_of}
+use Rattle.xf_cli.proofs.Ends.{runs_loaded, runs_out, runs_refused}
 use Rattle.xf_cli.proofs.run.run.Goals as goal
 
 pub returns-in-Form-clause-runs : goal.returns-in-Form-clause-runs
@@ -10,4 +12,16 @@ returns-in-Form-clause-runs g c =
 pub returns-in-Refused-clause-runs : goal.returns-in-Refused-clause-runs
 returns-in-Refused-clause-runs g c =
     runs_refused c.refused.result c.in-Some.command c.in-Refused.number _ _ c.in-Some.ensures c.in-Refused.ensures.left c.in-Refused.ensures.loaded c.refused.ensures
-    (record { bytes = refl; faults = refl }) (record { bytes = refl; faults = refl })
+    (record { bytes = refl; faults = refl }) (record { bytes = refl; faults = refl }) refl
+
+pub returns-in-NoRoom-clause-runs : goal.returns-in-NoRoom-clause-runs
+returns-in-NoRoom-clause-runs g c =
+    let told : Told = (g.S.Store.calls c.args.store.now, g.S.Store.to_come c.args.store.now) in
+    let outside : Outside = record {
+      words = map string_bytes c.args.words.now;
+      form = object_of (g.F.Source.left c.args.form.now) (g.F.Source.left c.load_form.new.form) (g.F.Source.faults c.args.form.now) (g.F.Source.faults c.load_form.new.form);
+      events = object_of (g.E.Source.left c.args.events.now) (g.E.Source.left c.args.events.now) (g.E.Source.faults c.args.events.now) (g.E.Source.faults c.args.events.now);
+      out = object_of (g.O.Sink.taken c.args.out.now) (g.O.Sink.taken c.args.out.now) (g.O.Sink.faults c.args.out.now) (g.O.Sink.faults c.args.out.now);
+      store = stored_of told told;
+    } in
+    runs_out c.in-Some.command outside c.in-Some.ensures c.load_form.ensures.left (record { bytes = refl; faults = refl }) (record { bytes = refl; faults = refl }) refl

@@ -1,4 +1,7 @@
-use Rattle.std.proofs.Common.{◌≡◌, ◌-◌, []}
+use Rattle.std.proofs.Common.{◌≡◌, ◌-◌, List}
+use Rattle.xf_store.specs.declared.answers.Answer.{Answer}
+use Rattle.xf_store.specs.Replay.{Covers}
+use Rattle.xf_store.specs.Called.{Called}
 use Rattle.xf_form_machine.specs.Flow.{in_turn}
 use Rattle.xf_form_machine.specs.Cycles.{counted_from}
 use Rattle.xf_form_machine.specs.Start.{tell_model, tell_models}
@@ -6,7 +9,11 @@ use Rattle.xf_processor.specs.Formed.{profile}
 use Rattle.xf_world.specs.State.{state_of}
 use Rattle.xf_engine.proofs.start.tell_models.Given as goal
 
--- what is left of the models gives what all of them give
+-- what is left of the models gives what all of them give, over all answers that cover the calls so far
 abbrev pub invariant-loop-model : goal.invariant-loop-model
-invariant-loop-model l =
-    tell_models profile [] l.name (state_of l.initial.world) ≡ in_turn (tell_model profile [] l.name) (counted_from l.model (l.count - l.model)) (state_of l.world)
+invariant-loop-model g l =
+    record {
+      rest : (answers : List Answer) → Covers answers (state_of l.world).calls
+          → tell_models profile answers l.name (state_of l.initial.world) ≡ in_turn (tell_model profile answers l.name) (counted_from l.model (l.count - l.model)) (state_of l.world);
+      store : Called (g.S.Store.calls l.initial.store, g.S.Store.to_come l.initial.store) (g.S.Store.calls l.store, g.S.Store.to_come l.store) (state_of l.initial.world).calls (state_of l.world).calls;
+    }
