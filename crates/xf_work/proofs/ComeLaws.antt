@@ -2,19 +2,24 @@
 use Rattle.std.proofs.Common.{◌≡◌, ℕ, ◌<◌, false, List, Option, Some, Ok, Err, Result, refl, sym, ap, ◌∙◌, subst, inl, inr}
 use Rattle.std.specs.Prelude.{◌^◌}
 use Rattle.xf_name.specs.Bindings.{Bindings}
+use Rattle.xf_name.specs.declared.lit.Lit.TheVariants as lit
+use Rattle.xf_name.specs.declared.lit.LitElement.{LitElement}
 use Rattle.xf_doc.specs.declared.bare.Bare.TheVariants as bare
 use Rattle.xf_doc.specs.declared.bare.BareElement.{BareElement}
+use Rattle.xf_doc.specs.declared.content.Content.{Content}
 use Rattle.xf_doc.specs.declared.fault.TreeFault.{TreeFault}
 use Rattle.xf_doc.specs.Changes.{attached, copied, detached}
 use Rattle.xf_doc.specs.Forest.{Forest}
 use Rattle.xf_doc.specs.Limits.{limits}
 use Rattle.xf_doc.specs.Needs.{MayAttach, MayDetach}
+use Rattle.xf_doc.specs.Plant.{contents_of}
 use Rattle.xf_doc.specs.Planted.{contents_of_bare, with_tree}
 use Rattle.xf_doc.specs.Visit.{parent_of, visits}
 use Rattle.xf_doc.specs.WellFormed.{HasTrees}
 use Rattle.xf_held_laws.specs.Held.{holder}
 use Rattle.xf_built_laws.specs.Data.{IsData}
 use Rattle.xf_built_laws.specs.Places.{SameRoots}
+use Rattle.xf_built_laws.specs.Trees.{IsGrown}
 use Rattle.xf_built_laws.proofs.Grown.{grown_bare}
 use Rattle.xf_built_laws.proofs.Places.{roots_attached, roots_copied, roots_detached, roots_planted}
 use Rattle.xf_binds.specs.Kept.{Kept}
@@ -31,6 +36,7 @@ use Rattle.xf_work.specs.Moving.{IsBetween, IsMovable, IsWithin, all_due_of, lis
 use Rattle.xf_work.specs.Parts.{IsSound}
 use Rattle.xf_work.specs.Setting.{holder_of}
 use Rattle.xf_work.proofs.BuiltLaws.{After, Moved, attached-built, copied-built, detached-built, not-held, planted-built}
+use Rattle.xf_work.proofs.LiteralLaws.{grown-literal}
 use Rattle.xf_work.proofs.ListedLaws.{all-due-length, listed-back, listed-length, whole-listed}
 
 -- nothing is told
@@ -70,12 +76,18 @@ module _ (l : Loaded) (table : List Kept) (flags : List Flags) (built : ℕ) (be
       whole-after l table flags built before after w (roots_copied limits n m before after trees kinds e)
       (copied-built l n m before after (data-of l table flags built before after w trees few) small later kinds e)
 
+  whole-grown : (contents : List (ℕ × Content)) (m : ℕ) (after : Forest) → before.next < 2 ^ 126 → HasTrees after → IsGrown contents → with_tree limits contents before ≡ Ok (m, after) → IsWhole l after table flags built
+  whole-grown contents m after small later grown e =
+      whole-after l table flags built before after w (roots_planted limits contents m before after grown.growth e)
+      (planted-built l contents m before after (data-of l table flags built before after w trees few) small later grown e)
+
   pub whole-planted : (b : Bindings) (tree : BareElement) (m : ℕ) (after : Forest) → before.next < 2 ^ 126 → HasTrees after → with_tree limits (contents_of_bare b (bare.Element tree) 0 0) before ≡ Ok (m, after)
       → IsWhole l after table flags built
-  whole-planted b tree m after small later e =
-      let grown = grown_bare b tree 0 in
-      whole-after l table flags built before after w (roots_planted limits (contents_of_bare b (bare.Element tree) 0 0) m before after grown.growth e)
-      (planted-built l (contents_of_bare b (bare.Element tree) 0 0) m before after (data-of l table flags built before after w trees few) small later grown e)
+  whole-planted b tree m after small later e = whole-grown (contents_of_bare b (bare.Element tree) 0 0) m after small later (grown_bare b tree 0) e
+
+  pub whole-literal : (b : Bindings) (tree : LitElement) (m : ℕ) (after : Forest) → before.next < 2 ^ 126 → HasTrees after → with_tree limits (contents_of b (lit.Element tree) 0 0) before ≡ Ok (m, after)
+      → IsWhole l after table flags built
+  whole-literal b tree m after small later e = whole-grown (contents_of b (lit.Element tree) 0 0) m after small later (grown-literal b tree 0) e
 
   module _ (held : Option ℕ) (parent : ℕ) (is : held ≡ holder_of l.form.tables.instances before parent) (apart : (model : ℕ) → is_rebuild_due flags model ≡ false → held ≡ Some model → ⊥) where
     pub whole-detached : (n : ℕ) → HasTrees (detached n before) → MayDetach n before → parent_of n (visits before.nodes) ≡ Some parent → IsWhole l (detached n before) table flags built

@@ -1,12 +1,20 @@
 -- The trees of the document elements, kept when construction has ended, are those that a reset puts back.
-use Rattle.std.proofs.Common.{◌≡◌, ℕ, zero, suc, List, [], ◌∷◌, ◌++◌, map, length, Option, Some, None, Result, Ok, Err, refl, sym, ap, ◌∙◌, subst, ◌⊎◌, inl, inr}
+use Rattle.std.proofs.Common.{◌≡◌, ℕ, zero, suc, ◌==◌, Bool, true, false, cond, List, [], ◌∷◌, ◌++◌, map, find, length, Option, Some, None, option_map, Result, Ok, Err, refl, sym, ap, ◌∙◌, subst, ◌⊎◌, inl, inr}
 use Rattle.std.specs.Prelude.{slice_get}
 use Rattle.xf_ast.specs.declared.form.Instance.{Instance}
 use Rattle.xf_name.specs.Bindings.{Bindings}
 use Rattle.xf_name.specs.declared.lit.Lit.{Lit}
 use Rattle.xf_doc.specs.declared.bare.Bare.{Bare}
+use Rattle.xf_doc.specs.declared.bare.Bare.TheVariants as bare
+use Rattle.xf_doc.specs.declared.bare.BareAttribute.{BareAttribute}
+use Rattle.xf_doc.specs.declared.bare.BareElement.{BareElement, roll-BareElement}
+use Rattle.xf_doc.specs.declared.content.Content.{Content}
+use Rattle.xf_doc.specs.declared.content.Content.TheVariants.{Root, Element, Attribute, Text}
+use Rattle.xf_doc.specs.declared.content.Kind.TheVariants as kind
 use Rattle.xf_doc.specs.declared.content.Node.{Node}
 use Rattle.xf_doc.specs.Changes.{root_of}
+use Rattle.xf_doc.specs.Forest.{below, first_tree, from_node, kind_at, kind_of}
+use Rattle.xf_doc.specs.Literal.{Part, attribute_part, attributes_in, bare_of, bare_part, first_tree_in, gathered, inner, outer, tree_part, trees_in}
 use Rattle.xf_doc.specs.Shape.{shape_of}
 use Rattle.xf_doc.specs.WellFormed.{HasTrees}
 use Rattle.xf_first_laws.specs.First.{AreElements}
@@ -43,6 +51,31 @@ elements-are : (b : Bindings) (tree : Lit) (is : List Instance) → AreOfElement
 elements-are b tree [] h = tt
 elements-are b tree (i ∷ is) h = ((h.0.0, i.space, ap (contents_in b i.space) h.0.1), elements-are b tree is h.1)
 
+-- the tree of an element is an element
+abbrev AnElement : Bare → Type 0
+AnElement tree = (e : BareElement) × (tree ≡ bare.Element e)
+
+part-element : (x : Content) (parts : List (Part BareAttribute Bare)) (tree : Bare) → kind_of x ≡ kind.Element → first_tree_in ((0, bare_part x parts) ∷ []) ≡ Some tree → AnElement tree
+part-element Root parts tree k e = cc k
+part-element (Text text) parts tree k e = cc k
+part-element (Attribute name text) parts tree k e = cc k
+part-element (Element name) parts tree k e = (roll-BareElement (record { name = name.meaning; attributes = attributes_in parts; children = trees_in parts }), sym (some-same e))
+
+first-part : (depth : ℕ) (p : Part BareAttribute Bare) (ps : List (ℕ × Part BareAttribute Bare)) → first_tree_in ((depth, p) ∷ ps) ≡ first_tree_in ((0, p) ∷ [])
+first-part depth (attribute_part a) ps = refl
+first-part depth (tree_part t) ps = refl
+
+bare-element : (n : ℕ) (nodes : List Node) (tree : Bare) → kind_at n nodes ≡ Some kind.Element → bare_of n nodes ≡ Some tree → AnElement tree
+bare-element n [] tree k e = none-some k
+bare-element n (x ∷ xs) tree k e = by (x.number == n) k e (bare-element n xs tree)
+  where
+    by : (b : Bool) → option_map kind_of (option_map (λ (z : Node). z.content) (cond b (Some x) (find (λ z. z.number == n) xs))) ≡ Some kind.Element → first_tree_in (gathered bare_part (first_tree (cond b (x ∷ xs) (from_node n xs)))) ≡ Some tree
+        → (kind_at n xs ≡ Some kind.Element → bare_of n xs ≡ Some tree → AnElement tree) → AnElement tree
+    by true i j later =
+        let after = gathered bare_part (below x.depth xs) in
+        part-element x.content (inner x.depth after) tree (some-same i) (sym (first-part x.depth (bare_part x.content (inner x.depth after)) (outer x.depth after)) ∙ j)
+    by false i j later = later i j
+
 below-under : (s : State) (o : Option ℕ) → document_below s.forest.nodes o ≡ document_under s o
 below-under s None = refl
 below-under s (Some r) = refl
@@ -67,5 +100,10 @@ unfolding planted_shape
 first-data l first trees are built sound same documents place tree at =
     let b = begun l first built in
     let d = documents place tree at in
-    first_gives profile (program_in l) l.prefixes b.0 first (elements-are l.prefixes l.lit l.form.tables.instances are) b.1 built sound (same ∙ ap shape_by b.1) place d.number tree
-    (sym (below-under first (root_of place first.forest.nodes)) ∙ d.document) d.is_bare
+    let e = bare-element d.number first.forest.nodes tree d.is_element d.is_bare in
+    record {
+      element = e.0;
+      is_element = e.1;
+      contents = first_gives profile (program_in l) l.prefixes b.0 first (elements-are l.prefixes l.lit l.form.tables.instances are) b.1 built sound (same ∙ ap shape_by b.1) place d.number tree
+          (sym (below-under first (root_of place first.forest.nodes)) ∙ d.document) d.is_bare;
+    }

@@ -28,12 +28,15 @@ pub mod RecalculateLaws
 pub mod SetLaws
 pub mod SoundLaws
 pub mod ListedLaws
+pub mod StandLaws
 pub mod MovedLaws
 pub mod BuiltLaws
 pub mod ComeLaws
 pub mod PutLaws
 pub mod ResetLaws
+pub mod ReplaceLaws
 pub mod FirstLaws
+pub mod LiteralLaws
 pub mod TextSetLaws
 pub mod EndLaws
 pub mod MarkedLaws

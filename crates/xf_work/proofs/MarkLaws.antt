@@ -3,7 +3,7 @@ use Rattle.std.proofs.Common.{◌≡◌, ℕ, ◌<◌, Bool, cond, ◌&&◌, ◌
 use Rattle.std.proofs.Math.Path.{fun_ext}
 use Rattle.std.specs.Prelude.{not, filter, slice_set}
 use Rattle.std.specs.List.{flat_map, list_any}
-use Rattle.xf_types.specs.Meets.{meets_type}
+use Rattle.xf_schema.specs.Facets.{is_of_type}
 use Rattle.xf_doc.specs.Forest.{Forest}
 use Rattle.xf_doc.specs.Visit.{Visit, visits, has}
 use Rattle.xf_model.specs.Properties.{is_valid, is_relevant, is_readonly, is_required}
@@ -77,16 +77,16 @@ module _ (chosen : Chosen) (loaded : Loaded) (forest : Forest) (model : ℕ) (ta
   here : model_at before model ≡ model_of (kept_at table model) (get_or flags model none_due)
   here = model-at table flags model many within
 
-  invalid-here : (x : Visit) → machine.is_invalid profile model before x ≡ valid.is_invalid (bind_scope profile before model) loaded.form.tables.instances forest.nodes (kept_at table model) x.number
+  invalid-here : (x : Visit) → machine.is_invalid profile model before x ≡ valid.is_invalid loaded.form.tables.types (bind_scope profile before model) loaded.form.tables.instances forest.nodes (kept_at table model) x.number
   invalid-here x =
-      ap (λ (m : Model). machine.is_model model (model_holding before x.number) && not (is_valid meets_type (bind_scope profile before model) (all_in before) m.entries (machine_values.values_of m) x.number)) here
-      ∙ ap (λ b. b && not (is_valid meets_type (bind_scope profile before model) (visits forest.nodes) (kept_at table model).entries (values_of (kept_at table model)) x.number)) (model-same model (model_holding before x.number))
+      ap (λ (m : Model). machine.is_model model (model_holding before x.number) && not (is_valid (is_of_type loaded.form.tables.types) (bind_scope profile before model) (all_in before) m.entries (machine_values.values_of m) x.number)) here
+      ∙ ap (λ b. b && not (is_valid (is_of_type loaded.form.tables.types) (bind_scope profile before model) (visits forest.nodes) (kept_at table model).entries (values_of (kept_at table model)) x.number)) (model-same model (model_holding before x.number))
 
-  pub revalidate-done : (after : List Kept) → after ≡ with_kept table model (revalidated (bind_scope profile before model) loaded.form.tables.instances forest.nodes (kept_at table model))
+  pub revalidate-done : (after : List Kept) → after ≡ with_kept table model (revalidated loaded.form.tables.types (bind_scope profile before model) loaded.form.tables.instances forest.nodes (kept_at table model))
       → machine.revalidate profile model before ≡ state_of (standing_of chosen loaded forest after (slice_set flags model (without Revalidate (get_or flags model none_due))) controls tally)
   revalidate-done after e =
-      ap (λ ns. in_model (revalidated_with ns) model before) (ap (map (λ (x : Visit). x.number)) (filter-same (machine.is_invalid profile model before) (λ x. valid.is_invalid (bind_scope profile before model) loaded.form.tables.instances forest.nodes (kept_at table model) x.number) (visits forest.nodes) invalid-here))
+      ap (λ ns. in_model (revalidated_with ns) model before) (ap (map (λ (x : Visit). x.number)) (filter-same (machine.is_invalid profile model before) (λ x. valid.is_invalid loaded.form.tables.types (bind_scope profile before model) loaded.form.tables.instances forest.nodes (kept_at table model) x.number) (visits forest.nodes) invalid-here))
       ∙ ap (λ ms. record before { models = ms })
-      (model-changed (revalidated_with (invalid_in (bind_scope profile before model) loaded.form.tables.instances forest.nodes (kept_at table model))) table flags model
-      (revalidated (bind_scope profile before model) loaded.form.tables.instances forest.nodes (kept_at table model)) (without Revalidate (get_or flags model none_due)) many within refl)
+      (model-changed (revalidated_with (invalid_in loaded.form.tables.types (bind_scope profile before model) loaded.form.tables.instances forest.nodes (kept_at table model))) table flags model
+      (revalidated loaded.form.tables.types (bind_scope profile before model) loaded.form.tables.instances forest.nodes (kept_at table model)) (without Revalidate (get_or flags model none_due)) many within refl)
       ∙ ap (λ t. state_of (standing_of chosen loaded forest t (slice_set flags model (without Revalidate (get_or flags model none_due))) controls tally)) (sym e)

@@ -3,6 +3,7 @@ use Rattle.std.proofs.Common.{◌≡◌, ℕ, ◌+◌, ◌^◌, Bool, true, fals
 use Rattle.std.specs.Prelude.{Contains}
 use Rattle.std.specs.List.{list_any}
 use Rattle.xf_name.specs.Bindings.{Bindings}
+use Rattle.xf_name.specs.declared.lit.Lit.{Lit}
 use Rattle.xf_name.specs.declared.qname.QName.{QName}
 use Rattle.xf_doc.specs.declared.bare.Bare.{Bare}
 use Rattle.xf_doc.specs.declared.bare.BareAttribute.{BareAttribute}
@@ -12,7 +13,8 @@ use Rattle.xf_doc.specs.declared.fault.TreeFault.TheVariants as tree
 use Rattle.xf_doc.specs.Changes.{attached, detached}
 use Rattle.xf_doc.specs.Forest.{Forest}
 use Rattle.xf_doc.specs.Limits.{limits}
-use Rattle.xf_doc.specs.Planted.{Elements, bare_fault, contents_of_bare, elements_of_bare, first_fault, has_bad_bare, is_bound_attribute, is_bound_element, or_later, planted_bare, unless_fault, with_tree}
+use Rattle.xf_doc.specs.Plant.{contents_of}
+use Rattle.xf_doc.specs.Planted.{Elements, bare_fault, contents_of_bare, elements_of_bare, first_fault, has_bad_bare, is_bound_attribute, is_bound_element, lit_fault, or_later, planted, planted_bare, unless_fault, with_tree}
 use Rattle.xf_doc.specs.Visit.{parent_of, visits}
 use Rattle.xf_form_machine.specs.declared.limit.LimitWord.{LimitWord}
 use Rattle.xf_form_machine.specs.declared.limit.LimitWord.TheVariants as word
@@ -109,6 +111,10 @@ first-names b (e ∷ es) = later-names (bare_fault b e) (first_fault (bare_fault
 err-same : {X : Type 0} (a b : TreeFault) → ◌≡◌ {A = Result X TreeFault} (Err a) (Err b) → a ≡ b
 err-same {X} a b e = cc e
 
+drafted-fault : (d : Draft) (r : Result (ℕ × Forest) TreeFault) (f : TreeFault) → undo.with_tree d r ≡ Err f → r ≡ Err f
+drafted-fault d (Ok p) f i = cc i
+drafted-fault d (Err g) f i = ap Err (err-same g f i)
+
 named-refused : (count : ℕ) (t : Tally) (r : Result (ℕ × Forest) TreeFault) (f : TreeFault) → is_name f ≡ true → IsRefusedBy count t r (fault_of f)
 named-refused count t r tree.BadName h = tt
 named-refused count t r tree.Prefix h = tt
@@ -123,13 +129,21 @@ pub bare-refused : (b : Bindings) (bare : Bare) (d : Draft) (count : ℕ) (t : T
 bare-refused b bare d count t f (inl e) = subst (λ g. IsRefusedBy count t (with_tree limits (contents_of_bare b bare 0 0) d.now) (fault_of g)) (sym e) tt
 bare-refused b bare d count t f (inr e) = by (first_fault (bare_fault b) (elements_of_bare bare)) (first-names b (elements_of_bare bare)) e
   where
-    drafted : (r : Result (ℕ × Forest) TreeFault) → undo.with_tree d r ≡ Err f → r ≡ Err f
-    drafted (Ok p) i = cc i
-    drafted (Err g) i = ap Err (err-same g f i)
-
     by : (o : Option TreeFault) → names o → undo.with_tree d (unless_fault o (with_tree limits (contents_of_bare b bare 0 0) d.now)) ≡ Err f → IsRefusedBy count t (with_tree limits (contents_of_bare b bare 0 0) d.now) (fault_of f)
-    by None h i = tree-refused count t (with_tree limits (contents_of_bare b bare 0 0) d.now) f (drafted (with_tree limits (contents_of_bare b bare 0 0) d.now) i)
+    by None h i = tree-refused count t (with_tree limits (contents_of_bare b bare 0 0) d.now) f (drafted-fault d (with_tree limits (contents_of_bare b bare 0 0) d.now) f i)
     by (Some g) h i = named-refused count t (with_tree limits (contents_of_bare b bare 0 0) d.now) f (subst (λ k. is_name k ≡ true) (err-same g f i) h)
+
+-- ---- a literal tree, whose names have no fault
+
+pub literal-planted : (b : Bindings) (lit : Lit) (space : ℕ) (forest : Forest) → lit_fault b lit ≡ None → planted limits b space lit forest ≡ with_tree limits (contents_of b lit space 0) forest
+literal-planted b lit space forest none = ap (λ o. unless_fault o (with_tree limits (contents_of b lit space 0) forest)) none
+
+pub literal-refused : (b : Bindings) (lit : Lit) (d : Draft) (count : ℕ) (t : Tally) (f : TreeFault) → lit_fault b lit ≡ None → (f ≡ tree.Memory) ⊎ (undo.with_tree d (planted limits b 0 lit d.now) ≡ Err f)
+    → IsRefusedBy count t (with_tree limits (contents_of b lit 0 0) d.now) (fault_of f)
+literal-refused b lit d count t f none (inl e) = subst (λ g. IsRefusedBy count t (with_tree limits (contents_of b lit 0 0) d.now) (fault_of g)) (sym e) tt
+literal-refused b lit d count t f none (inr e) =
+    let given = with_tree limits (contents_of b lit 0 0) d.now in
+    tree-refused count t given f (drafted-fault d given f (sym (ap (undo.with_tree d) (literal-planted b lit 0 d.now none)) ∙ e))
 
 -- ---- over a state
 

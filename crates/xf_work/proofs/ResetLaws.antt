@@ -1,23 +1,22 @@
--- The data of an instance that are put back: a tree is planted, the document element is cut off, and the tree comes in its place.
+-- The data of an instance that are put back: they come in place of the document element.
 use Rattle.std.proofs.Common.{◌≡◌, ℕ, List, Option, Some, None, Result, Ok, Err, refl, sym, ap, ◌∙◌, subst}
 use Rattle.xf_doc.specs.declared.content.Content.{Content}
-use Rattle.xf_doc.specs.Changes.{root_of}
+use Rattle.xf_doc.specs.Changes.{root_of, standing}
 use Rattle.xf_doc.specs.Visit.{children_of, first_of, visits}
 use Rattle.xf_doc.specs.WellFormed.{HasTrees}
-use Rattle.xf_form_machine.specs.Construct.{first_contents, put_back, replace, replace_at}
-use Rattle.xf_form_machine.specs.Flow.{◌>>=◌, where_some}
+use Rattle.xf_form_machine.specs.Construct.{first_contents, put_back, replace}
+use Rattle.xf_form_machine.specs.Flow.{where_some}
 use Rattle.xf_form_machine.specs.Primitives.{attach, detach, plant}
 use Rattle.xf_form_machine.specs.Refusal.{Refused}
 use Rattle.xf_form_machine.specs.State.{State}
 use Rattle.xf_form_machine.specs.Surround.{document_at, document_under}
-use Rattle.xf_form_machine.specs.declared.refusal.Refusal.{Refusal}
 use Rattle.xf_processor.specs.Formed.{profile}
 use Rattle.xf_work.specs.declared.fault.WorkFault.{WorkFault}
-use Rattle.xf_work.specs.declared.fault.WorkFault.TheVariants as fault
 use Rattle.xf_work.specs.Around.{document_below}
-use Rattle.xf_work.specs.Does.{Does, IsRefused, Makes}
+use Rattle.xf_work.specs.Does.{Does, Makes}
 use Rattle.xf_work.specs.Standing.{Standing}
 use Rattle.xf_work.proofs.PutLaws.{first-stands}
+use Rattle.xf_work.proofs.ReplaceLaws.{replace-stopped, replaced-by}
 
 under-root : (s : State) (o : Option ℕ) (r n : ℕ) → o ≡ Some r → document_under s o ≡ Some n → first_of (children_of r (visits s.forest.nodes)) ≡ Some n
 under-root s o r n is e = sym (ap (document_under s) is) ∙ e
@@ -26,17 +25,10 @@ below-under : (s : State) (o : Option ℕ) → document_below s.forest.nodes o �
 below-under s None = refl
 below-under s (Some r) = refl
 
-refused-then : {A B : Type 0} (why : Refusal) (r : Result A Refused) (next : A → Result B Refused) → IsRefused why r → IsRefused why (r >>= next)
-refused-then {A} {B} why (Ok x) next h = absurd h
-refused-then {A} {B} why (Err e) next h = h
-
--- what is put back of an instance, one step after the other
+-- what is put back of an instance
 module _ (first : Result State Refused) (place : ℕ) (s : State) where
   abbrev own : List (ℕ × Content)
   own = first_contents first place
-
-  abbrev put_in : ℕ → ℕ → Result State Refused
-  put_in n r = plant profile own s >>= λ made. attach profile made.0 r 0 (detach n made.1)
 
   -- there is no document element
   pub nothing-put : (document : Option ℕ) → document ≡ document_below s.forest.nodes (root_of place s.forest.nodes) → document ≡ None → put_back profile first place s ≡ Ok s
@@ -51,17 +43,14 @@ module _ (first : Result State Refused) (place : ℕ) (s : State) where
     document-is : document_at s place ≡ Some n
     document-is = sym (document ∙ below-under s (root_of place s.forest.nodes))
 
-    put-back-is : put_back profile first place s ≡ put_in n r
-    put-back-is =
-        ap (λ o. where_some o (λ m. replace profile m own) s) document-is
-        ∙ ap (λ o. where_some o (replace_at profile n own) s) (first-stands s.forest r n trees (under-root s (root_of place s.forest.nodes) r n (sym root) document-is))
+    put-back-is : put_back profile first place s ≡ replace profile n own s
+    put-back-is = ap (λ o. where_some o (λ m. replace profile m own) s) document-is
+
+    stands : standing n s.forest.nodes ≡ Some (r, 0)
+    stands = first-stands s.forest r n trees (under-root s (root_of place s.forest.nodes) r n (sym root) document-is)
 
     pub put-stopped : {X : Type 0} (Y : Type 0) (view : X → ℕ) (told : WorkFault) (end : Standing) → Makes view (Err told) end (plant profile own s) → Does {X = Y} (Err told) end (put_back profile first place s)
-    put-stopped {X} Y view (fault.Refused why) end h =
-        subst (IsRefused why) (sym put-back-is) (refused-then why (plant profile own s) (λ made. attach profile made.0 r 0 (detach n made.1)) h)
-    put-stopped {X} Y view fault.Memory end h = tt
+    put-stopped {X} Y view told end h = subst (Does {X = Y} (Err told) end) (sym put-back-is) (replace-stopped n own s r 0 stands Y view told end h)
 
     pub put-is : (top : ℕ) (t u : State) → plant profile own s ≡ Ok (top, t) → ◌≡◌ {A = Result State Refused} (Ok (detach n t)) (Ok u) → put_back profile first place s ≡ attach profile top r 0 u
-    put-is top t u come cut =
-        let left : detach n t ≡ u = cc cut in
-        put-back-is ∙ ap (λ (g : Result (ℕ × State) Refused). g >>= λ made. attach profile made.0 r 0 (detach n made.1)) come ∙ ap (λ (v : State). attach profile top r 0 v) left
+    put-is top t u come cut = put-back-is ∙ replaced-by n own s r 0 stands top t u come cut

@@ -5,8 +5,12 @@ use Rattle.xf_name.specs.declared.lit.Lit.TheVariants as lit
 use Rattle.xf_name.specs.declared.lit.LitElement.{LitElement}
 use Rattle.xf_ast.specs.declared.form.Instance.{Instance}
 use Rattle.xf_doc.specs.declared.bare.Bare.{Bare}
+use Rattle.xf_doc.specs.declared.bare.Bare.TheVariants as bare
+use Rattle.xf_doc.specs.declared.bare.BareElement.{BareElement}
+use Rattle.xf_doc.specs.declared.content.Kind.TheVariants as kind
 use Rattle.xf_doc.specs.declared.content.Node.{Node}
 use Rattle.xf_doc.specs.Changes.{root_of}
+use Rattle.xf_doc.specs.Forest.{kind_at}
 use Rattle.xf_doc.specs.Literal.{bare_of}
 use Rattle.xf_doc.specs.Planted.{contents_of_bare}
 use Rattle.xf_form_machine.specs.Construct.{construct, first_contents}
@@ -15,9 +19,15 @@ use Rattle.xf_loader.specs.declared.loaded.Loaded.{Loaded}
 use Rattle.xf_processor.specs.Formed.{profile, program_in}
 use Rattle.xf_work.specs.Around.{document_below}
 
--- of each instance a tree that gives the contents that its document element had
+-- the tree of an element that gives the contents that the document element of an instance had
+pub record IsFirst (l : Loaded) (place : ℕ) (tree : Bare) : Type 0 where
+  pub element : BareElement
+  pub is_element : tree ≡ bare.Element element
+  pub contents : contents_of_bare l.prefixes tree 0 0 ≡ first_contents (construct profile (program_in l)) place
+
+-- of each instance
 abbrev pub AreContents : Loaded → List Bare → Type 0
-AreContents l trees = (place : ℕ) (tree : Bare) → slice_get trees place ≡ Some tree → contents_of_bare l.prefixes tree 0 0 ≡ first_contents (construct profile (program_in l)) place
+AreContents l trees = (place : ℕ) (tree : Bare) → slice_get trees place ≡ Some tree → IsFirst l place tree
 
 -- nothing is kept before construction has ended
 abbrev pub AreFirst : Loaded → Option (List Bare) → Type 0
@@ -28,6 +38,7 @@ AreFirst l (Some trees) = AreContents l trees
 pub record IsDocument (place : ℕ) (nodes : List Node) (tree : Bare) : Type 0 where
   pub number : ℕ
   pub document : document_below nodes (root_of place nodes) ≡ Some number
+  pub is_element : kind_at number nodes ≡ Some kind.Element
   pub is_bare : bare_of number nodes ≡ Some tree
 
 -- those of the first instances

@@ -1,6 +1,10 @@
 -- Trees that come and go in the data (XForms 1.1, sections 10.3 and 10.4): what a change of a list of nodes means for the model that holds it, and
 -- what each change of a draft does and why it is refused.
 use Rattle.std.specs.Prelude.{ℕ, ◌≡◌, ◌⊎◌, ◌<◌, ◌^◌, ◌+◌, true, false, List, [], ◌∷◌, ◌++◌, length, Option, Some, None, nat_lt, slice_set, Result, Ok, Err}
+use Rattle.xf_name.specs.Bindings.{Bindings}
+use Rattle.xf_name.specs.declared.lit.Lit.{Lit}
+use Rattle.xf_name.specs.declared.lit.Lit.TheVariants as lit
+use Rattle.xf_name.specs.declared.lit.LitElement.{LitElement}
 use Rattle.xf_ast.specs.declared.form.Instance.{Instance}
 use Rattle.xf_doc.specs.declared.content.Kind.TheVariants.{Element, Attribute}
 use Rattle.xf_doc.specs.declared.fault.TreeFault.{TreeFault}
@@ -9,6 +13,7 @@ use Rattle.xf_doc.specs.Changes.{attached}
 use Rattle.xf_doc.specs.Forest.{Forest, kind_at}
 use Rattle.xf_doc.specs.Limits.{limits}
 use Rattle.xf_doc.specs.Needs.{MayAttach, MayCopy, MayDetach}
+use Rattle.xf_doc.specs.Planted.{lit_fault}
 use Rattle.xf_doc.specs.Visit.{parent_of, visits}
 use Rattle.xf_binds.specs.Kept.{Kept}
 use Rattle.xf_binds.specs.Table.{kept_at, with_kept}
@@ -100,6 +105,12 @@ IsGrownBy (Err fault) count given after t u = IsRefusedBy count t given fault
 abbrev pub IsBetween : Draft → Draft → Result (ℕ × Forest) TreeFault → Type 0
 IsBetween before after (Ok p) = (after ≡ before) ⊎ ((after ≡ changed before p.1) × (before.now.next < 2 ^ 126))
 IsBetween before after (Err fault) = after ≡ before
+
+-- a literal tree may come: it is that of an element, and its names have no fault
+pub record IsPlantable (b : Bindings) (tree : Lit) : Type 0 where
+  pub element : LitElement
+  pub is_element : tree ≡ lit.Element element
+  pub named : lit_fault b tree ≡ None
 
 -- ---- a tree that comes below a parent
 

@@ -1,11 +1,12 @@
 //! Trees that come and go in the data (XForms 1.1, sections 10.3 and 10.4), over the parts that an engine keeps.
 
-ghost use Rattle.std.specs.Prelude.{◌≡◌, ◌<◌, ◌^◌, length, IfOk, IsTrue, OnOk, OnErr};
+ghost use Rattle.std.specs.Prelude.{◌≡◌, ◌<◌, ◌^◌, length, None, IfOk, IsTrue, OnOk, OnErr};
 ghost use Rattle.xf_doc.specs.Changes.{copied};
 ghost use Rattle.xf_doc.specs.Forest.{tree_of};
 ghost use Rattle.xf_doc.specs.Limits.{limits};
 ghost use Rattle.xf_doc.specs.Needs.{MayAttach, MayCopy};
-ghost use Rattle.xf_doc.specs.Planted.{contents_of_bare, with_tree};
+ghost use Rattle.xf_doc.specs.Plant.{contents_of};
+ghost use Rattle.xf_doc.specs.Planted.{contents_of_bare, lit_fault, with_tree};
 ghost use Rattle.xf_doc.specs.WellFormed.{HasTrees};
 ghost use Rattle.xf_work.specs.Moving.{AreListed, IsBetween, IsCopyable, IsGrownBy, IsMovable, IsPlaced, MayCome, MayGo};
 
@@ -19,7 +20,7 @@ use std::alloc::AllocError;
 use xf_ast::Instance;
 use xf_binds::Table;
 use xf_doc::{Bare, Kind, NodeId};
-use xf_name::Prefixes;
+use xf_name::{Lit, Prefixes};
 use xf_tree::Forest;
 use xf_undo::Draft;
 
@@ -63,7 +64,7 @@ pub(crate) fn parent_to_come(
 ) -> Result<Option<u32>, AllocError>
     ensures { IfOk result (λ holder. MayCome instances.now node.number parent.number place forest.now.forest holder) }
 {
-    if !forest.may_attach(node, parent, place) || !forest.is_live(parent) {
+    if !forest.may_attach(node, parent, place) {
         // A tree goes where it was found that it may.
         return Err(AllocError);
     }
@@ -78,16 +79,13 @@ pub(crate) fn parent_to_leave(
 ) -> Result<(NodeId, Option<u32>), AllocError>
     ensures { IfOk result (λ found. MayGo instances.now node.number forest.now.forest found.0.number found.1) }
 {
-    if !forest.may_detach(node) || !forest.is_live(node) {
+    if !forest.may_detach(node) {
         // A tree is cut off where it was found that it may.
         return Err(AllocError);
     }
     let Some(parent) = forest.parent(node) else {
-        return Err(AllocError);
+        unreachable!();
     };
-    if !forest.is_live(parent) {
-        return Err(AllocError);
-    }
     match holder(instances, forest, parent) {
         Ok(holder) => Ok((parent, holder)),
         Err(fault) => Err(fault),
@@ -166,6 +164,32 @@ pub(crate) fn plant_in(
         return Err(WorkFault::Memory);
     }
     match draft.plant_bare(tree, prefixes) {
+        Ok(top) => {
+            let made = draft.forest().next_number() - before;
+            *tally = grown(*tally, made, 0)?;
+            Ok(top)
+        }
+        Err(fault) => Err(fault_of(fault)),
+    }
+}
+
+/// A literal tree, whose names have no fault, comes as a detached one, and is counted. The answer is its top.
+pub(crate) fn plant_literal_in(
+    draft: &mut Draft,
+    tally: &mut Tally,
+    lit: &Lit,
+    prefixes: &Prefixes,
+) -> Result<NodeId, WorkFault>
+    requires { lit_fault prefixes.now lit.now ≡ None }
+    ensures done { IsGrownBy result (length (contents_of prefixes.now lit.now 0 0)) (with_tree limits (contents_of prefixes.now lit.now 0 0) draft.old.now) draft.new tally.old tally.new }
+    ensures between { IsBetween draft.old draft.new (with_tree limits (contents_of prefixes.now lit.now 0 0) draft.old.now) }
+    ensures tally { OnErr result (tally.new ≡ tally.old) }
+{
+    let before = draft.forest().next_number();
+    if before > NUMBERS {
+        return Err(WorkFault::Memory);
+    }
+    match draft.plant(lit, prefixes, 0) {
         Ok(top) => {
             let made = draft.forest().next_number() - before;
             *tally = grown(*tally, made, 0)?;

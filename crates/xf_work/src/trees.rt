@@ -1,11 +1,14 @@
-//! Trees that come and go (XForms 1.1, sections 10.3, 10.4 and 4.3.7): copies, trees that are attached and detached, and the data that a reset puts
-//! back.
+//! Trees that come and go (XForms 1.1, sections 10.3, 10.4, 4.3.7 and 11.2): copies, trees that are attached and detached, the data that a reset puts
+//! back, and the tree that comes in place of the target of a submission.
 
-ghost use Rattle.std.specs.Prelude.{◌≡◌, Ok, IfErr};
-ghost use Rattle.xf_form_machine.specs.Construct.{construct, first_contents, put_back};
+ghost use Rattle.std.specs.Prelude.{◌≡◌, true, Ok, IfErr};
+ghost use Rattle.xf_doc.specs.Plant.{contents_of};
+ghost use Rattle.xf_form_machine.specs.Construct.{construct, first_contents, put_back, replace as replaced};
 ghost use Rattle.xf_form_machine.specs.Primitives.{attach as attached, copy as copied, detach as detached, plant as planted};
+ghost use Rattle.xf_form_machine.specs.Submit.{is_element_in};
 ghost use Rattle.xf_processor.specs.Formed.{profile};
 ghost use Rattle.xf_work.specs.Does.{Does, Makes};
+ghost use Rattle.xf_work.specs.Moving.{IsPlantable};
 ghost use Rattle.xf_work.specs.Standing.{state_of};
 
 use crate::around::document;
@@ -15,10 +18,11 @@ use crate::growing::grown;
 use crate::knowing::Knowledge;
 use crate::moving::{
     are_counted, attach_in, copy_in, is_copyable, mark_list, parent_to_come, parent_to_leave,
-    plant_in,
+    plant_in, plant_literal_in,
 };
 use crate::work::Work;
 use xf_doc::{Bare, NodeId};
+use xf_name::Lit;
 
 impl Work {
     /// A copy of the tree of an element or attribute comes as a detached one. The answer is its top.
@@ -141,7 +145,44 @@ impl Work {
                 are_counted(self.draft.forest());
                 planted
             }
-            Bare::Text(_) => Err(WorkFault::Memory),
+            // A document element is an element.
+            Bare::Text(_) => unreachable!(),
         }
+    }
+
+    /// A literal tree in place of an element: nothing where that has no parent.
+    pub fn replace(&mut self, node: NodeId, lit: &Lit) -> Result<(), WorkFault>
+        requires element { is_element_in (state_of self.old.now) node.number ≡ true }
+        requires tree { IsPlantable (state_of self.old.now).form.bindings lit.now }
+        ensures done { Does result self.new.now (replaced profile node.number (contents_of (state_of self.old.now).form.bindings lit.now 0 0) (state_of self.old.now)) }
+        ensures kept { self.new.kept ≡ self.old.kept }
+        ensures built { self.new.built ≡ self.old.built }
+    {
+        let Some((parent, place)) = self.draft.forest().standing(node) else {
+            return Ok(());
+        };
+        let top = self.plant_literal(lit)?;
+        self.detach(node)?;
+        self.attach(top, parent, place)
+    }
+
+    /// The tree of an element, whose names have no fault, comes as a detached tree. The answer is its top.
+    fn plant_literal(&mut self, lit: &Lit) -> Result<NodeId, WorkFault>
+        requires { IsPlantable (state_of self.old.now).form.bindings lit.now }
+        ensures done { Makes (λ n. n.number) result self.new.now (planted profile (contents_of (state_of self.old.now).form.bindings lit.now 0 0) (state_of self.old.now)) }
+        ensures form { (state_of self.new.now).form ≡ (state_of self.old.now).form }
+        ensures kept { self.new.kept ≡ self.old.kept }
+        ensures built { self.new.built ≡ self.old.built }
+    {
+        are_counted(self.draft.forest());
+        self.knowledge = Knowledge::nothing();
+        let planted = plant_literal_in(
+            &mut self.draft,
+            &mut self.tally,
+            lit,
+            &self.loaded.prefixes,
+        );
+        are_counted(self.draft.forest());
+        planted
     }
 }

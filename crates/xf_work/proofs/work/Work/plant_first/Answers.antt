@@ -1,4 +1,4 @@
-use Rattle.std.proofs.Common.{◌≡◌, ◌<◌, ◌^◌, [], length, Ok, Some, sym, subst}
+use Rattle.std.proofs.Common.{◌≡◌, ◌<◌, ◌^◌, [], length, Ok, Some, sym, ◌∙◌, subst}
 use Rattle.xf_doc.specs.declared.node.NodeId.{NodeId}
 use Rattle.xf_doc.specs.Changes.{in_detached}
 use Rattle.xf_doc.specs.Forest.{Forest}
@@ -43,16 +43,23 @@ invariant_of-self c =
       first = c.self.invariant.first;
     }
 
-pub returns-in-Element-clause-done : goal.returns-in-Element-clause-done
-returns-in-Element-clause-done c =
+pub returns-clause-done : goal.returns-clause-done
+returns-clause-done c =
     let w = c.self.inside in
     let place = c.args.instance in
     let tree = c.in-Some-get.tree.now in
     let contents = contents_of_bare w.loaded.prefixes c.in-Some-get.tree.now 0 0 in
     let first : AreFirst w.loaded (Some c.in-Some.trees) = subst (AreFirst w.loaded) c.in-Some.is c.self.invariant.first in
-    let own : contents_of_bare w.loaded.prefixes c.in-Some-get.tree.now 0 0 ≡ first_contents (construct profile (program_in w.loaded)) c.args.instance = first place tree (sym c.in-Some-get.ensures.value) in
+    let own : contents_of_bare w.loaded.prefixes c.in-Some-get.tree.now 0 0 ≡ first_contents (construct profile (program_in w.loaded)) c.args.instance = (first place tree (sym c.in-Some-get.ensures.value)).contents in
     let after = standing_of (chosen_of w.indexes.items w.cases.items) w.loaded c.plant_in-planted.new.draft.now w.table w.flags.items w.shown.now c.plant_in-planted.new.tally in
     subst (λ (t : Twin). Makes (λ (n : NodeId). n.number) c.plant_in-planted.result after (plant profile (first_contents (construct profile (state_of t.now).form) place) (state_of t.now))) c.self.view_is
     (subst (λ d. Makes (λ (n : NodeId). n.number) c.plant_in-planted.result after (plant profile d (state_of (standing_of (chosen_of w.indexes.items w.cases.items) w.loaded w.draft.now w.table w.flags.items w.shown.now w.tally)))) own
     (tree-makes (chosen_of w.indexes.items w.cases.items) w.loaded w.draft.now w.table w.flags.items w.shown.now w.tally c.self.invariant.sound.many (length contents) (with_tree limits contents w.draft.now) c.plant_in-planted.new.draft c.plant_in-planted.new.tally
     c.plant_in-planted.result c.plant_in-planted.ensures.done))
+
+pub unreachable-requires : goal.unreachable-requires
+unreachable-requires c =
+    let w = c.self.inside in
+    let first : AreFirst w.loaded (Some c.in-Some.trees) = subst (AreFirst w.loaded) c.in-Some.is c.self.invariant.first in
+    let own = first c.args.instance c.in-Some-get.tree.now (sym c.in-Some-get.ensures.value) in
+    cc (sym c.in-Text.is ∙ own.is_element)

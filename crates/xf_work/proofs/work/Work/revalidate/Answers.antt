@@ -62,9 +62,9 @@ invariant_of-self-2 c =
     let w = c.self.inside in
     let h = within-table w.table w.flags.items c.args.model c.self.invariant.sound.many (subst (λ (t : Twin). c.args.model < length t.now.models) (sym c.self.view_is) c.requires.model) in
     let x = bind_scope profile (state_of (standing_of (chosen_of w.indexes.items w.cases.items) w.loaded w.draft.now w.table w.flags.items w.shown.now w.tally)) c.args.model in
-    let k = revalidated x w.loaded.form.tables.instances w.draft.now.nodes (kept_at w.table c.args.model) in
+    let k = revalidated w.loaded.form.tables.types x w.loaded.form.tables.instances w.draft.now.nodes (kept_at w.table c.args.model) in
     let table : c.revalidate.new.table ≡ with_kept w.table c.args.model k =
-    c.in_ok-is_same.ensures.ok called x.given ∙ ap (λ (f : Forest). with_kept w.table c.args.model (revalidated x w.loaded.form.tables.instances f.nodes (kept_at w.table c.args.model))) c.forest-forest.ensures in
+    c.in_ok-is_same.ensures.ok called x.given ∙ ap (λ (f : Forest). with_kept w.table c.args.model (revalidated w.loaded.form.tables.types x w.loaded.form.tables.instances f.nodes (kept_at w.table c.args.model))) c.forest-forest.ensures in
     let many = flags-length w.flags.items c.args.model (without Revalidate (get_or w.flags.items c.args.model none_due)) in
     let cleared : c.clear.new.flags ≡ slice_set w.flags.items c.args.model (without Revalidate (get_or w.flags.items c.args.model none_due)) =
     c.clear.ensures ∙ ap (λ fs. slice_set fs c.args.model (without Revalidate (get_or fs c.args.model none_due))) c.as_mut_slice.ensures.value in
@@ -100,8 +100,8 @@ returns-clause-done c =
     let w = c.self.inside in
     let h = within-table w.table w.flags.items c.args.model c.self.invariant.sound.many (subst (λ (t : Twin). c.args.model < length t.now.models) (sym c.self.view_is) c.requires.model) in
     let x = bind_scope profile (state_of (standing_of (chosen_of w.indexes.items w.cases.items) w.loaded w.draft.now w.table w.flags.items w.shown.now w.tally)) c.args.model in
-    let table : c.revalidate.new.table ≡ with_kept w.table c.args.model (revalidated x w.loaded.form.tables.instances w.draft.now.nodes (kept_at w.table c.args.model)) =
-    c.in_ok-is_same.ensures.ok called x.given ∙ ap (λ (f : Forest). with_kept w.table c.args.model (revalidated x w.loaded.form.tables.instances f.nodes (kept_at w.table c.args.model))) c.forest-forest.ensures in
+    let table : c.revalidate.new.table ≡ with_kept w.table c.args.model (revalidated w.loaded.form.tables.types x w.loaded.form.tables.instances w.draft.now.nodes (kept_at w.table c.args.model)) =
+    c.in_ok-is_same.ensures.ok called x.given ∙ ap (λ (f : Forest). with_kept w.table c.args.model (revalidated w.loaded.form.tables.types x w.loaded.form.tables.instances f.nodes (kept_at w.table c.args.model))) c.forest-forest.ensures in
     let many = flags-length w.flags.items c.args.model (without Revalidate (get_or w.flags.items c.args.model none_due)) in
     let cleared : c.clear.new.flags ≡ slice_set w.flags.items c.args.model (without Revalidate (get_or w.flags.items c.args.model none_due)) =
     c.clear.ensures ∙ ap (λ fs. slice_set fs c.args.model (without Revalidate (get_or fs c.args.model none_due))) c.as_mut_slice.ensures.value in
@@ -115,7 +115,7 @@ returns-clause-kept c =
     let w = c.self.inside in
     let h = within-table w.table w.flags.items c.args.model c.self.invariant.sound.many (subst (λ (t : Twin). c.args.model < length t.now.models) (sym c.self.view_is) c.requires.model) in
     let x = bind_scope profile (state_of (standing_of (chosen_of w.indexes.items w.cases.items) w.loaded w.draft.now w.table w.flags.items w.shown.now w.tally)) c.args.model in
-    let k = revalidated x w.loaded.form.tables.instances c.forest-forest.result.now.forest.nodes (kept_at w.table c.args.model) in
+    let k = revalidated w.loaded.form.tables.types x w.loaded.form.tables.instances c.forest-forest.result.now.forest.nodes (kept_at w.table c.args.model) in
     let table : all_rolled_back c.revalidate.new.table ≡ all_rolled_back w.table = ap all_rolled_back (c.in_ok-is_same.ensures.ok called x.given) ∙ back-same w.table c.args.model k h refl in
     ap (λ t. record { standing = standing_of (chosen_of w.old_indexes.items w.old_cases.items) w.loaded w.draft.kept t w.old_flags.items w.shown.kept w.old_tally; built = w.old_built }) table
     ∙ ap (λ (t : Twin). t.kept) c.self.view_is
@@ -124,7 +124,7 @@ pub returns-clause-models : goal.returns-clause-models
 returns-clause-models c =
     let w = c.self.inside in
     let x = bind_scope profile (state_of (standing_of (chosen_of w.indexes.items w.cases.items) w.loaded w.draft.now w.table w.flags.items w.shown.now w.tally)) c.args.model in
-    let k = revalidated x w.loaded.form.tables.instances c.forest-forest.result.now.forest.nodes (kept_at w.table c.args.model) in
+    let k = revalidated w.loaded.form.tables.types x w.loaded.form.tables.instances c.forest-forest.result.now.forest.nodes (kept_at w.table c.args.model) in
     let many = flags-length w.flags.items c.args.model (without Revalidate (get_or w.flags.items c.args.model none_due)) in
     let cleared : c.clear.new.flags ≡ slice_set w.flags.items c.args.model (without Revalidate (get_or w.flags.items c.args.model none_due)) =
     c.clear.ensures ∙ ap (λ fs. slice_set fs c.args.model (without Revalidate (get_or fs c.args.model none_due))) c.as_mut_slice.ensures.value in
