@@ -1,9 +1,11 @@
 -- One call of a store stands behind the others, with its answer.
-use Rattle.std.proofs.Common.{◌≡◌, ◌<◌, ℕ, false, cond, ◌||◌, List, [], ◌∷◌, ◌++◌, length, slice_set, Option, Some, None, Ok, Err, sym, ap, subst, ◌∙◌, arith}
-use Rattle.std.specs.Prelude.{MatchOption, nat_le}
+use Rattle.std.proofs.Common.{◌≡◌, ◌<◌, ℕ, true, false, cond, ◌||◌, ◌&&◌, List, [], ◌∷◌, ◌++◌, length, slice_set, Option, Some, None, Ok, Err, sym, ap, subst, ◌∙◌, arith}
+use Rattle.std.specs.Prelude.{IsTrue, MatchOption, nat_le}
+use Rattle.std.specs.List.{list_all}
 use Rattle.std.proofs.Math.Seq.{set-append_seam}
 use Rattle.std.proofs.lemmas.Bool.Decides.{nat_tests}
 use Rattle.std.proofs.lemmas.List.{same_from_push}
+use Rattle.std.proofs.lemmas.List.Folds.{list_all-append}
 use Rattle.xf_base.specs.Limits.{answer_limit}
 use Rattle.xf_store.specs.declared.answers.Answer.{Answer}
 use Rattle.xf_store.specs.declared.call.Asked.{Asked}
@@ -14,7 +16,7 @@ use Rattle.xf_store.specs.Replay.{Covers, Uses, answer_at, fits}
 use Rattle.xf_store.specs.Replies.{has_failed}
 use Rattle.xf_store.proofs.CalledLaws.{called-none, covers-last}
 use Rattle.xf_submit.specs.declared.calling.CallFault.TheVariants.{Many}
-use Rattle.xf_submit.specs.Calling.{call_of, exchanged}
+use Rattle.xf_submit.specs.Calling.{AllFit, call_of, exchanged}
 
 -- ---- the list
 
@@ -23,6 +25,13 @@ placed : (old pushed new : List StoreCall) (none : StoreCall) (at : ℕ) (name t
 placed old pushed new none at name text asked answer a p n e =
     n ∙ ap (λ l. slice_set l at (call_of name asked answer)) p ∙ ap (λ k. slice_set (old ++ none ∷ []) k (call_of name asked answer)) a
     ∙ set-append_seam old none [] (call_of name asked answer) ∙ ap (λ t. old ++ call_of t asked answer ∷ []) e
+
+-- each answer fits, where the one behind them does
+fit-behind : (old : List StoreCall) (call : StoreCall) → AllFit old → IsTrue (fits call.asked call.answer) → AllFit (old ++ call ∷ [])
+fit-behind old call all one =
+    list_all-append (λ c. fits c.asked c.answer) old (call ∷ [])
+    ∙ ap (λ b. b && list_all (λ c. fits c.asked c.answer) (call ∷ [])) all
+    ∙ ap (λ b. true && (b && true)) one
 
 -- ---- what the store tells
 
@@ -54,6 +63,9 @@ module _ (old pushed new : List StoreCall) (none : StoreCall) (at : ℕ) (name t
       let few : nat_le answer_limit (length old) ≡ false = grind (arith, nat_tests, small) in
       ap (λ b. cond b (Err Many) (Ok (old ++ call_of text asked (answer_at (fits asked) answers (length old)) ∷ []))) few
       ∙ ap (λ x. Ok (old ++ call_of text asked x ∷ [])) got ∙ ap Ok (sym whole)
+
+  pub fit-one : AllFit old → IsTrue (fits asked answer) → AllFit new
+  fit-one all one = subst AllFit (sym (placed old pushed new none at name text asked answer a p n e)) (fit-behind old (call_of text asked answer) all one)
 
 -- no call is made
 pub uncalled : (before after : Option (List StoreCall)) (left rest : Option (List Answer)) (old new : List StoreCall) → after ≡ before → rest ≡ left → new ≡ old → Called (before, left) (after, rest) old new

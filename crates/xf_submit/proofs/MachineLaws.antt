@@ -1,5 +1,5 @@
 -- The steps of a submission by what its calls answer over a state of the machine (XForms 1.1, section 11.2).
-use Rattle.std.proofs.Common.{◌≡◌, ℕ, Bool, true, false, cond, List, [], ◌∷◌, map, Option, Some, None, option_map, Ok, Err, Result, refl, sym, ap, ◌∙◌, ◌++◌, length}
+use Rattle.std.proofs.Common.{◌≡◌, ℕ, Bool, true, false, cond, List, [], ◌∷◌, Option, Some, None, option_map, Ok, Err, Result, refl, sym, ap, ◌∙◌, ◌++◌, length}
 use Rattle.std.specs.Prelude.{codes, is_none, not, option_and_then, nat_le}
 use Rattle.std.specs.Str.{is_utf8}
 use Rattle.xf_base.specs.Limits.{string_limit}
@@ -24,50 +24,37 @@ use Rattle.xf_doc.specs.Visit.{visits}
 use Rattle.xf_funcs.specs.Called.{called}
 use Rattle.xf_lang.specs.Given.{Given}
 use Rattle.xf_lang.specs.Reads.{trace}
-use Rattle.xf_model.specs.Rules.{Rule, Scope, rule_of}
+use Rattle.xf_model.specs.Rules.{Rule, Scope}
 use Rattle.xf_model.specs.Submitted.{Submitted, by_expression, invalid, left, no_data, submitted}
 use Rattle.xf_plain_values.specs.Functions.{Functions}
 use Rattle.xf_ui.specs.declared.marks.Marks.{Marks}
-use Rattle.xf_form_machine.specs.declared.note.Note.TheVariants as note
 use Rattle.xf_form_machine.specs.Exchange as machine
 use Rattle.xf_form_machine.specs.Exchange.{unless_many}
 use Rattle.xf_form_machine.specs.Flow.{◌>>=◌}
-use Rattle.xf_form_machine.specs.Primitives.{add_note}
 use Rattle.xf_form_machine.specs.Profile.{Profile}
 use Rattle.xf_form_machine.specs.Properties.{marks_in, relevant_in, valid_in}
-use Rattle.xf_form_machine.specs.Refusal.{Refused, or_long, refused, sends}
+use Rattle.xf_form_machine.specs.Refusal.{Refused, or_long}
 use Rattle.xf_form_machine.specs.State.{State}
 use Rattle.xf_form_machine.specs.Submit as ends
 use Rattle.xf_form_machine.specs.Surround.{document_at, document_under, given, instance_holding, scope}
 use Rattle.xf_actions.specs.Sent as sent
-use Rattle.xf_actions.specs.Sent.{Sends, Sent}
-use Rattle.xf_actions.specs.Told.{untold}
 use Rattle.xf_context.specs.declared.over.Over.{Over}
 use Rattle.xf_context.specs.Around.{document_below}
 use Rattle.xf_context.specs.Over.{around_over}
-use Rattle.xf_submit.specs.declared.calling.CallFault.TheVariants.{Many}
-use Rattle.xf_submit.specs.Calling.{call_of, exchanged}
-use Rattle.xf_submit.specs.Requesting.{Requested, asked_by, asks, request_of}
+use Rattle.xf_submit.specs.Calling.{call_of}
+use Rattle.xf_submit.specs.Requesting.{asked_by, asks, request_of}
 use Rattle.xf_submit.specs.Requesting as requesting
-use Rattle.xf_submit.specs.Responding.{Responded, as_text, as_tree, ends as ended, notes, responded_by, responded_with, text, tree}
+use Rattle.xf_submit.specs.Responding.{as_text, as_tree, responded_by, responded_with, text, tree}
 use Rattle.xf_submit.specs.Responding as responding
 use Rattle.xf_submit.specs.Selecting.{relevant_by, scope_over, valid_by}
+use Rattle.xf_submit.specs.Steps.{Shows, called_in, last_answer, request_in, requested, responded}
 use Rattle.xf_submit.specs.Targets as targets
-
--- a state over which the calls are made: its form, its data and what surrounds its submissions
-pub record Shows (p : Profile) (o : Over) (s : State) : Type 0 where
-  pub functions : p.functions ≡ called
-  pub long : p.bounds.string ≡ string_limit
-  pub given : given s None ≡ (around_over o).given
-  pub rules : s.form.rules ≡ map rule_of o.form.now.tables.binds
-  pub bindings : s.form.bindings ≡ o.prefixes.now
-  pub forest : s.forest ≡ o.forest.now.forest
 
 module _ (p : Profile) (o : Over) (s : State) (shows : Shows p o s) where
   abbrev scoped : ℕ → Functions → Given → List Rule → Scope
   scoped model functions given rules = record { functions = functions; given = given; model = model; rules = rules }
 
-  pub scope-shown : (model : ℕ) → scope p s model ≡ scope_over o model
+  scope-shown : (model : ℕ) → scope p s model ≡ scope_over o model
   scope-shown model =
       ap (λ f. scoped model f (given s None) s.form.rules) shows.functions
       ∙ ap (λ g. scoped model called g s.form.rules) shows.given
@@ -86,39 +73,12 @@ module _ (p : Profile) (o : Over) (s : State) (shows : Shows p o s) where
       ∙ ap (λ f. found_by (marks_in s) (Some string_limit) (scope_over o sub.model) f sub) shows.forest
       ∙ ap (λ m. found_by m (Some string_limit) (scope_over o sub.model) o.forest.now.forest sub) (sym e)
 
-  -- what is asked for is asked of the store
-  abbrev pub requested : List Answer → Submission → Requested → Sends
-  requested answers sub (requesting.fails error) t = sent.fails error t
-  requested answers sub (asks n asked) t = sent.exchanged p answers sub n asked t
-
-  asked-same : (sub : Submission) (n : ℕ) (kept : List ℕ) (m : Method) → machine.asked_by sub n kept s m ≡ asked_by s.form.bindings s.forest.nodes sub n kept m
-  asked-same sub n kept method.Put = refl
-  asked-same sub n kept method.Post = refl
-  asked-same sub n kept method.Get = refl
-
-  by-found : (answers : List Answer) (sub : Submission) (found : Submitted) → sent.selected p answers sub found s ≡ requested answers sub (request_of s.form.bindings s.forest.nodes sub found) s
-  by-found answers sub no_data = refl
-  by-found answers sub (invalid n) = refl
-  by-found answers sub (left n kept) = by (machine.is_store_name sub.resource)
-    where
-      by : (b : Bool) → cond b (sent.exchanged p answers sub n (machine.asked_by sub n kept s sub.method) s) (sent.fails (codes "resource-error") s)
-          ≡ requested answers sub (cond b (asks n (asked_by s.form.bindings s.forest.nodes sub n kept sub.method)) (requesting.fails (codes "resource-error"))) s
-      by true = ap (λ a. sent.exchanged p answers sub n a s) (asked-same sub n kept sub.method)
-      by false = refl
-
-  by-each : (answers : List Answer) (sub : Submission) (m : Option Submitted)
-      → (or_long s m >>= λ found. sent.selected p answers sub found s) ≡ (or_long s (option_map (request_of s.form.bindings s.forest.nodes sub) m) >>= λ r. requested answers sub r s)
-  by-each answers sub None = refl
-  by-each answers sub (Some found) = by-found answers sub found
-
-  pub attempted-shown : (marks : ℕ → Marks) (answers : List Answer) (sub : Submission) → marks ≡ marks_in s
-      → sent.attempted p answers sub s
-      ≡ (or_long s (option_map (request_of o.prefixes.now o.forest.now.forest.nodes sub) (found_by marks (Some string_limit) (scope_over o sub.model) o.forest.now.forest sub)) >>= λ r. requested answers sub r s)
-  attempted-shown marks answers sub e =
-      ap (λ m. or_long s m >>= λ found. sent.selected p answers sub found s) (selected-shown marks sub e)
-      ∙ by-each answers sub (found_by marks (Some string_limit) (scope_over o sub.model) o.forest.now.forest sub)
-      ∙ ap (λ b. or_long s (option_map (request_of b s.forest.nodes sub) (found_by marks (Some string_limit) (scope_over o sub.model) o.forest.now.forest sub)) >>= λ r. requested answers sub r s) shows.bindings
-      ∙ ap (λ (f : Forest). or_long s (option_map (request_of o.prefixes.now f.nodes sub) (found_by marks (Some string_limit) (scope_over o sub.model) o.forest.now.forest sub)) >>= λ r. requested answers sub r s) shows.forest
+  pub request-shown : (marks : ℕ → Marks) (sub : Submission) → marks ≡ marks_in s
+      → request_in p sub s ≡ or_long s (option_map (request_of o.prefixes.now o.forest.now.forest.nodes sub) (found_by marks (Some string_limit) (scope_over o sub.model) o.forest.now.forest sub))
+  request-shown marks sub e =
+      ap (λ m. or_long s (option_map (request_of s.form.bindings s.forest.nodes sub) m)) (selected-shown marks sub e)
+      ∙ ap (λ b. or_long s (option_map (request_of b s.forest.nodes sub) (found_by marks (Some string_limit) (scope_over o sub.model) o.forest.now.forest sub))) shows.bindings
+      ∙ ap (λ (f : Forest). or_long s (option_map (request_of o.prefixes.now f.nodes sub) (found_by marks (Some string_limit) (scope_over o sub.model) o.forest.now.forest sub))) shows.forest
 
   -- ---- the target
 
@@ -146,51 +106,56 @@ module _ (p : Profile) (o : Over) (s : State) (shows : Shows p o s) where
   target-shown sub n =
       target-same sub.model n sub.target sub.instance sub refl ∙ ap (λ (f : Forest). or_long s (targets.target_by (scope_over o sub.model) f.nodes n sub.target sub.instance)) shows.forest
 
-  pub takes_tree-shown : (marks : ℕ → Marks) (n : ℕ) → marks ≡ marks_in s → ends.takes_tree s n ≡ targets.takes_tree marks o.forest.now.forest.nodes n
-  takes_tree-shown marks n e = ap (λ (f : Forest). targets.takes_tree (marks_in s) f.nodes n) shows.forest ∙ ap (λ m. targets.takes_tree m o.forest.now.forest.nodes n) (sym e)
+-- ---- up to the call
 
-  pub takes_text-shown : (marks : ℕ → Marks) (n : ℕ) → marks ≡ marks_in s → ends.takes_text s n ≡ targets.takes_text marks o.forest.now.forest.nodes n
-  takes_text-shown marks n e = ap (λ (f : Forest). targets.takes_text (marks_in s) f.nodes n) shows.forest ∙ ap (λ m. targets.takes_text m o.forest.now.forest.nodes n) (sym e)
+module _ (p : Profile) (answers : List Answer) (sub : Submission) (s : State) where
+  asked-same : (n : ℕ) (kept : List ℕ) (m : Method) → machine.asked_by sub n kept s m ≡ asked_by s.form.bindings s.forest.nodes sub n kept m
+  asked-same n kept method.Put = refl
+  asked-same n kept method.Post = refl
+  asked-same n kept method.Get = refl
+
+  by-found : (found : Submitted) → sent.selected p answers sub found s ≡ requested p answers sub (request_of s.form.bindings s.forest.nodes sub found) s
+  by-found no_data = refl
+  by-found (invalid n) = refl
+  by-found (left n kept) = by (machine.is_store_name sub.resource)
+    where
+      by : (b : Bool) → cond b (sent.exchanged p answers sub n (machine.asked_by sub n kept s sub.method) s) (sent.fails (codes "resource-error") s)
+          ≡ requested p answers sub (cond b (asks n (asked_by s.form.bindings s.forest.nodes sub n kept sub.method)) (requesting.fails (codes "resource-error"))) s
+      by true = ap (λ a. sent.exchanged p answers sub n a s) (asked-same n kept sub.method)
+      by false = refl
+
+  by-each : (m : Option Submitted)
+      → (or_long s m >>= λ found. sent.selected p answers sub found s) ≡ (or_long s (option_map (request_of s.form.bindings s.forest.nodes sub) m) >>= λ r. requested p answers sub r s)
+  by-each None = refl
+  by-each (Some found) = by-found found
+
+  pub attempted-steps : sent.attempted p answers sub s ≡ (request_in p sub s >>= λ r. requested p answers sub r s)
+  attempted-steps = by-each (submitted (Some p.bounds.string) (scope p s sub.model) (relevant_in s) (valid_in s) s.forest.nodes sub)
 
 -- ---- the call
 
-module _ (p : Profile) (answers : List Answer) (sub : Submission) (n : ℕ) (asked : Asked) (s : State) where
-  abbrev made : List StoreCall
-  made = s.calls ++ call_of sub.resource asked (answer_at (fits asked) answers (length s.calls)) ∷ []
+last-behind : (calls : List StoreCall) (call : StoreCall) → last_answer (calls ++ call ∷ []) ≡ call.answer
+last-behind [] call = refl
+last-behind (c ∷ []) call = refl
+last-behind (c ∷ next ∷ calls) call = last-behind (next ∷ calls) call
 
-  abbrev called_if : Bool → Result Sent Refused
-  called_if b =
-      unless_many b s >>= λ t.
-      let given = answer_at (fits asked) answers (length t.calls) in sent.answered p sub n given (machine.with_call sub.resource asked given t)
+module _ (p : Profile) (answers : List Answer) (sub : Submission) (asked : Asked) (s : State) where
+  abbrev given_to : List StoreCall → Answer
+  given_to calls = answer_at (fits asked) answers (length calls)
 
-  -- all calls of the event are made
-  pub exchanged-many : exchanged p.sends answers sub.resource asked s.calls ≡ Err Many → sent.exchanged p answers sub n asked s ≡ refused sends s
-  exchanged-many h = by (nat_le p.sends (length s.calls)) h
+  abbrev called_if : Bool → Result State Refused
+  called_if b = unless_many b s >>= λ t. Ok (machine.with_call sub.resource asked (given_to t.calls) t)
+
+  pub exchanged-steps : (n : ℕ) → sent.exchanged p answers sub n asked s ≡ (called_in p answers sub asked s >>= λ t. sent.answered p sub n (last_answer t.calls) t)
+  exchanged-steps n = by (nat_le p.sends (length s.calls))
     where
-      by : (b : Bool) → cond b (Err Many) (Ok made) ≡ Err Many → called_if b ≡ refused sends s
-      by true i = refl
-      by false i = cc i
-
-  -- the call is made, and noted
-  pub exchanged-shown : (calls : List StoreCall) → exchanged p.sends answers sub.resource asked s.calls ≡ Ok calls
-      → sent.exchanged p answers sub n asked s ≡ sent.answered p sub n (answer_at (fits asked) answers (length s.calls)) (record s { calls = calls })
-  exchanged-shown calls h = by (nat_le p.sends (length s.calls)) h
-    where
-      by : (b : Bool) → cond b (Err Many) (Ok made) ≡ Ok calls → called_if b ≡ sent.answered p sub n (answer_at (fits asked) answers (length s.calls)) (record s { calls = calls })
-      by true i = cc i
-      by false i =
-          let same : made ≡ calls = cc i in
-          ap (λ l. sent.answered p sub n (answer_at (fits asked) answers (length s.calls)) (record s { calls = l })) same
+      by : (b : Bool) → (unless_many b s >>= λ t. sent.answered p sub n (given_to t.calls) (machine.with_call sub.resource asked (given_to t.calls) t))
+          ≡ (called_if b >>= λ t. sent.answered p sub n (last_answer t.calls) t)
+      by true = refl
+      by false =
+          ap (λ x. sent.answered p sub n x (machine.with_call sub.resource asked (given_to s.calls) s)) (sym (last-behind s.calls (call_of sub.resource asked (given_to s.calls))))
 
 -- ---- the response, in the state behind the call
-
--- what comes of it is put in its place
-abbrev pub responded : Profile → Submission → ℕ → Responded → Sends
-responded p sub n (responding.fails error) s = sent.fails error s
-responded p sub n ended s = sent.is_done s
-responded p sub n (notes size) s = sent.then_done (untold (add_note p (note.All sub.resource size) s))
-responded p sub n (tree lit) s = ends.target_by p sub n s sub.target sub.instance >>= λ target. sent.on_target ends.takes_tree (sent.put_tree p lit) target s
-responded p sub n (text bytes) s = ends.target_by p sub n s sub.target sub.instance >>= λ target. sent.on_target ends.takes_text (sent.put_text p bytes) target s
 
 module _ (p : Profile) (sub : Submission) (n : ℕ) (s : State) where
   tree-same : (r : Result Lit JsonFault) → sent.with_tree p sub n r s ≡ responded p sub n (as_tree s.form.bindings r) s

@@ -1,5 +1,6 @@
 -- The call of a store that a submission makes.
-use Rattle.std.specs.Prelude.{ℕ, ◌≡◌, List, [], ◌∷◌, ◌++◌, length, nat_le, Result, Ok, Err, if◌then◌else◌}
+use Rattle.std.specs.Prelude.{ℕ, ◌≡◌, IsTrue, List, [], ◌∷◌, ◌++◌, length, nat_le, Result, Ok, Err, if◌then◌else◌}
+use Rattle.std.specs.List.{list_all}
 use Rattle.xf_store.specs.declared.answers.Answer.{Answer}
 use Rattle.xf_store.specs.declared.call.Asked.{Asked}
 use Rattle.xf_store.specs.declared.call.StoreCall.{StoreCall}
@@ -22,3 +23,7 @@ exchanged sends answers name asked calls =
 abbrev pub CallsOnce : {E : Type 0} → Told → Told → List ℕ → Asked → Result Answer E → Type 0
 CallsOnce before after name asked (Ok answer) = Lists before.0 after.0 (call_of name asked answer) × Uses (fits asked) before.1 after.1 answer
 CallsOnce before after name asked (Err e) = (after.0 ≡ before.0) × (after.1 ≡ before.1)
+
+-- each call got an answer that fits what it asked for
+abbrev pub AllFit : List StoreCall → Type 0
+AllFit calls = IsTrue (list_all (λ c. fits c.asked c.answer) calls)

@@ -5,3 +5,4 @@ pub mod Calling
 pub mod Responding
 pub mod Targets
 pub mod Ending
+pub mod Steps

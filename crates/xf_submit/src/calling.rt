@@ -1,12 +1,12 @@
 //! The call of the store.
 
-ghost use Rattle.std.specs.Prelude.{◌≡◌, List, OnErr};
+ghost use Rattle.std.specs.Prelude.{◌≡◌, IfOk, IsTrue, List, OnErr};
 ghost use Rattle.xf_base.specs.Gives.{Gives};
 ghost use Rattle.xf_base.specs.Limits.{answer_limit};
 ghost use Rattle.xf_store.specs.declared.answers.Answer.{Answer};
 ghost use Rattle.xf_store.specs.Called.{Called};
-ghost use Rattle.xf_store.specs.Replay.{Covers};
-ghost use Rattle.xf_submit.specs.Calling.{CallsOnce, exchanged};
+ghost use Rattle.xf_store.specs.Replay.{Covers, fits};
+ghost use Rattle.xf_submit.specs.Calling.{AllFit, CallsOnce, exchanged};
 
 use std::alloc::{AllocError, AllocFailed, Global};
 use xf_io::Bytes;
@@ -56,6 +56,7 @@ pub fn exchange<S: Store>(
 ) -> Result<(), CallFault>
     ensures done { (answers : List Answer) → Covers answers calls.new → Gives CallFault.Memory (λ u. calls.new) result (exchanged answer_limit answers resource.now asked calls.old) }
     ensures store { Called (S.calls store.old, S.to_come store.old) (S.calls store.new, S.to_come store.new) calls.old calls.new }
+    ensures fit { AllFit calls.old → AllFit calls.new }
     ensures err { OnErr result (calls.new ≡ calls.old) }
 {
     let at = calls.len();
@@ -98,7 +99,8 @@ fn answer_of<S: Store>(
     asked: &Asked,
     store: &mut S,
 ) -> Result<Answer, AllocError>
-    ensures { CallsOnce (S.calls store.old, S.to_come store.old) (S.calls store.new, S.to_come store.new) resource.now asked.now result }
+    ensures store { CallsOnce (S.calls store.old, S.to_come store.old) (S.calls store.new, S.to_come store.new) resource.now asked.now result }
+    ensures fit { IfOk result (λ answer. IsTrue (fits asked.now answer)) }
 {
     match asked {
         Asked::Put(bytes) => match store.put(resource, bytes.as_slice()) {
@@ -114,7 +116,8 @@ fn answer_of_get<S: Store>(
     resource: &str,
     store: &mut S,
 ) -> Result<Answer, AllocError>
-    ensures { CallsOnce (S.calls store.old, S.to_come store.old) (S.calls store.new, S.to_come store.new) resource.now Asked.Get result }
+    ensures store { CallsOnce (S.calls store.old, S.to_come store.old) (S.calls store.new, S.to_come store.new) resource.now Asked.Get result }
+    ensures fit { IfOk result (λ answer. IsTrue (fits Asked.Get answer)) }
 {
     let mut into = Bytes::new(alloc);
     match store.get(resource, &mut into) {

@@ -9,6 +9,7 @@ use Rattle.xf_base.specs.Limits.{string_limit}
 use Rattle.xf_doc.specs.Changes.{root_of}
 use Rattle.xf_doc.specs.Forest.{Forest}
 use Rattle.xf_doc.specs.Visit.{visits}
+use Rattle.xf_store.specs.declared.call.StoreCall.{StoreCall}
 use Rattle.xf_lang.specs.Given.{Document, Given}
 use Rattle.xf_funcs.specs.Called.{called}
 use Rattle.xf_model.specs.Nested.{nested}
@@ -54,9 +55,9 @@ documents-same s = from-same s 0 (instances_in s)
 abbrev pub surrounding : List Index → Form → Bindings → Forest → Option Told → Around
 surrounding indexes form prefixes forest event = around_with (named_indexes (interface_of form) indexes) form prefixes forest event
 
-module _ (s : Standing) (notes : List Note) where
+module _ (s : Standing) (notes : List Note) (calls : List StoreCall) where
   abbrev here : State
-  here = record (state_of s) { notes = notes; calls = [] }
+  here = record (state_of s) { notes = notes; calls = calls }
 
   abbrev given_by : List Document → Option Told → Given
   given_by documents event = record (given here event) { documents = documents }

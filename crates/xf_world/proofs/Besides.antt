@@ -1,4 +1,4 @@
--- What a call on what an engine works on does in the machine, it does with the notes of the event beside it.
+-- What a call on what an engine works on does in the machine, it does with the notes of the event and the calls of the store beside it.
 use Rattle.std.proofs.Common.{◌≡◌, ℕ, zero, suc, List, [], ◌∷◌, map, Option, Some, None, Result, Ok, Err, inl, inr, refl, ap, sym, ◌∙◌, subst, arith}
 use Rattle.std.specs.Prelude.{Contains}
 use Rattle.xf_controls.specs.declared.refresh.Notification.{Notification}
@@ -6,7 +6,6 @@ use Rattle.xf_controls.specs.Seen.{seen_notification}
 use Rattle.xf_ui.specs.Copies.{Copy}
 use Rattle.xf_ui.specs.Notifications.{notifications}
 use Rattle.xf_form_machine.specs.declared.limit.LimitWord.{LimitWord}
-use Rattle.xf_form_machine.specs.declared.note.Note.{Note}
 use Rattle.xf_form_machine.specs.declared.refusal.Refusal.{Refusal}
 use Rattle.xf_form_machine.specs.declared.refusal.Refusal.TheVariants.{NoSuchTarget, Disabled, ReadOnly, NotAnItem, BadIndex, PropertyTwice, CalculateOnParent, Binding, Circular, Limit, Budget, Depth, Sends}
 use Rattle.xf_form_machine.specs.Events as events
@@ -28,6 +27,7 @@ use Rattle.xf_work.specs.Does as work
 use Rattle.xf_work.specs.Does.{Does, IsRefused}
 use Rattle.xf_work.specs.Standing.{Standing, state_of}
 use Rattle.xf_world.specs.declared.fault.EventFault.{EventFault}
+use Rattle.xf_world.specs.declared.form_world.FormWorld.{FormWorld}
 use Rattle.xf_world.specs.Fault.{event_of, fault_of_work, means}
 
 -- ---- refusals
@@ -52,61 +52,61 @@ tells-told Budget why e = subst (IsTold machine.budget) (sym e) refl
 tells-told Depth why e = subst (IsTold machine.depth) (sym e) refl
 tells-told Sends why e = subst (IsTold machine.sends) (sym e) refl
 
--- the notes of an event, and no calls
-abbrev pub noted : List Note → Beside
-noted notes = record { notes = notes; calls = [] }
+-- the notes of an event, and the calls of the store in it
+abbrev pub beside_in : FormWorld → Beside
+beside_in w = record { notes = w.notes; calls = w.calls }
 
-refused-beside : (notes : List Note) (refusal : Refusal) (given : Result State Refused) → IsRefused refusal given → RefusedAs (told refusal) [] (besides (noted notes) given)
-refused-beside notes refusal (Ok t) h = h
-refused-beside notes refusal (Err r) h = (tells-told refusal r.why h.0, refl)
+refused-beside : (b : Beside) (refusal : Refusal) (given : Result State Refused) → IsRefused refusal given → RefusedAs (told refusal) b.calls (besides b given)
+refused-beside b refusal (Ok t) h = h
+refused-beside b refusal (Err r) h = (tells-told refusal r.why h.0, refl)
 
 -- ---- changes
 
-pub runs-beside : {X : Type 0} (notes : List Note) (run : Run) → GoesBeside run → (before after : Standing) (done : Result X WorkFault) → Does done after (run (state_of before))
-    → Runs means (beside (noted notes) (state_of after)) (event_of done) (run (beside (noted notes) (state_of before)))
+pub runs-beside : {X : Type 0} (b : Beside) (run : Run) → GoesBeside run → (before after : Standing) (done : Result X WorkFault) → Does done after (run (state_of before))
+    → Runs means (beside b (state_of after)) (event_of done) (run (beside b (state_of before)))
 unfolding Refuses
-runs-beside notes run g before after (Ok x) d = g (noted notes) (state_of before) ∙ ap (besides (noted notes)) d
-runs-beside notes run g before after (Err (fault.Refused refusal)) d =
-    subst (RefusedAs (told refusal) []) (sym (g (noted notes) (state_of before))) (refused-beside notes refusal (run (state_of before)) d)
-runs-beside notes run g before after (Err fault.Memory) d = d
+runs-beside b run g before after (Ok x) d = g b (state_of before) ∙ ap (besides b) d
+runs-beside b run g before after (Err (fault.Refused refusal)) d =
+    subst (RefusedAs (told refusal) b.calls) (sym (g b (state_of before))) (refused-beside b refusal (run (state_of before)) d)
+runs-beside b run g before after (Err fault.Memory) d = d
 
 -- told as an answer of an event
-pub runs-told : {X : Type 0} (notes : List Note) (run : Run) → GoesBeside run → (before after : Standing) (done : Result X WorkFault) (answer : Result X EventFault)
+pub runs-told : {X : Type 0} (b : Beside) (run : Run) → GoesBeside run → (before after : Standing) (done : Result X WorkFault) (answer : Result X EventFault)
     → Does done after (run (state_of before)) → answer ≡ event_of done
-    → Runs means (beside (noted notes) (state_of after)) answer (run (beside (noted notes) (state_of before)))
-runs-told notes run g before after done answer d e =
-    subst (λ r. Runs means (beside (noted notes) (state_of after)) r (run (beside (noted notes) (state_of before)))) (sym e) (runs-beside notes run g before after done d)
+    → Runs means (beside b (state_of after)) answer (run (beside b (state_of before)))
+runs-told b run g before after done answer d e =
+    subst (λ r. Runs means (beside b (state_of after)) r (run (beside b (state_of before)))) (sym e) (runs-beside b run g before after done d)
 
 runs-read : {X : Type 0} (s : State) (answer : Result X EventFault) (given : Result State Refused) → Runs means s answer given → Reads means (λ (x : X). s) s answer given
 runs-read s (Ok x) given h = h
 runs-read s (Err fault) given h = h
 
 -- of a change that asks alone
-pub reads-told : {X : Type 0} (notes : List Note) (run : Run) → GoesBeside run → (now : Standing) (done : Result X WorkFault) (answer : Result X EventFault)
+pub reads-told : {X : Type 0} (b : Beside) (run : Run) → GoesBeside run → (now : Standing) (done : Result X WorkFault) (answer : Result X EventFault)
     → Does done now (run (state_of now)) → answer ≡ event_of done
-    → Reads means (λ (x : X). beside (noted notes) (state_of now)) (beside (noted notes) (state_of now)) answer (run (beside (noted notes) (state_of now)))
-reads-told notes run g now done answer d e = runs-read (beside (noted notes) (state_of now)) answer _ (runs-told notes run g now now done answer d e)
+    → Reads means (λ (x : X). beside b (state_of now)) (beside b (state_of now)) answer (run (beside b (state_of now)))
+reads-told b run g now done answer d e = runs-read (beside b (state_of now)) answer _ (runs-told b run g now now done answer d e)
 
 -- ---- changes that give a value
 
-refused-made : {X : Type 0} (notes : List Note) (refusal : Refusal) (given : Result (X × State) Refused) → IsRefused refusal given → RefusedAs (told refusal) [] (made_beside (noted notes) given)
-refused-made notes refusal (Ok (x, t)) h = h
-refused-made notes refusal (Err r) h = (tells-told refusal r.why h.0, refl)
+refused-made : {X : Type 0} (b : Beside) (refusal : Refusal) (given : Result (X × State) Refused) → IsRefused refusal given → RefusedAs (told refusal) b.calls (made_beside b given)
+refused-made b refusal (Ok (x, t)) h = h
+refused-made b refusal (Err r) h = (tells-told refusal r.why h.0, refl)
 
-module _ {X Y : Type 0} (notes : List Note) (view : X → Y) (change : State → Result (Y × State) Refused) (g : MakesBeside change) (before after : Standing) where
+module _ {X Y : Type 0} (b : Beside) (view : X → Y) (change : State → Result (Y × State) Refused) (g : MakesBeside change) (before after : Standing) where
   makes-beside : (done : Result X WorkFault) → work.Makes view done after (change (state_of before))
-      → Makes means view (beside (noted notes) (state_of after)) (event_of done) (change (beside (noted notes) (state_of before)))
+      → Makes means view (beside b (state_of after)) (event_of done) (change (beside b (state_of before)))
   unfolding Refuses
-  makes-beside (Ok x) d = g (noted notes) (state_of before) ∙ ap (made_beside (noted notes)) d
+  makes-beside (Ok x) d = g b (state_of before) ∙ ap (made_beside b) d
   makes-beside (Err (fault.Refused refusal)) d =
-      subst (RefusedAs (told refusal) []) (sym (g (noted notes) (state_of before))) (refused-made notes refusal (change (state_of before)) d)
+      subst (RefusedAs (told refusal) b.calls) (sym (g b (state_of before))) (refused-made b refusal (change (state_of before)) d)
   makes-beside (Err fault.Memory) d = d
 
   -- told as an answer of an event
   pub makes-told : (done : Result X WorkFault) (answer : Result X EventFault) → work.Makes view done after (change (state_of before)) → answer ≡ event_of done
-      → Makes means view (beside (noted notes) (state_of after)) answer (change (beside (noted notes) (state_of before)))
+      → Makes means view (beside b (state_of after)) answer (change (beside b (state_of before)))
   makes-told done answer d e =
-      subst (λ r. Makes means view (beside (noted notes) (state_of after)) r (change (beside (noted notes) (state_of before)))) (sym e) (makes-beside done d)
+      subst (λ r. Makes means view (beside b (state_of after)) r (change (beside b (state_of before)))) (sym e) (makes-beside done d)
 
 -- ---- a refresh
 
@@ -114,9 +114,9 @@ cleared-turns : (model : Option ℕ) → TurnsBeside (cleared_by model)
 cleared-turns None b s = refl
 cleared-turns (Some model) b s = refl
 
-refreshed-is : (notes : List Note) (model : Option ℕ) (s : Standing)
-    → refreshed profile (cleared_by model) (beside (noted notes) (state_of s)) ≡ made_beside (noted notes) (refreshed profile (cleared_by model) (state_of s))
-refreshed-is notes model s = (changes_go_beside profile).refreshed (cleared_by model) (cleared-turns model) (noted notes) (state_of s)
+refreshed-is : (b : Beside) (model : Option ℕ) (s : Standing)
+    → refreshed profile (cleared_by model) (beside b (state_of s)) ≡ made_beside b (refreshed profile (cleared_by model) (state_of s))
+refreshed-is b model s = (changes_go_beside profile).refreshed (cleared_by model) (cleared-turns model) b (state_of s)
 
 -- what follows the list
 abbrev after_list : (State → State) → State → List Copy → Result (List events.Fired × State) Refused
@@ -126,39 +126,39 @@ after_list cleared t list = Ok (map events.told_by (notifications t.controls lis
 abbrev after_indexes : (State → State) → State → Result (List events.Fired × State) Refused
 after_indexes cleared t = update.shown profile t >>= after_list cleared t
 
-refused-shown : (notes : List Note) (refusal : Refusal) (cleared : State → State) (t : State) (r : Result (List Copy) Refused) → IsRefused refusal r
-    → RefusedAs (told refusal) [] (made_beside (noted notes) (r >>= after_list cleared t))
-refused-shown notes refusal cleared t (Ok list) h = h
-refused-shown notes refusal cleared t (Err r) h = (tells-told refusal r.why h.0, refl)
+refused-shown : (b : Beside) (refusal : Refusal) (cleared : State → State) (t : State) (r : Result (List Copy) Refused) → IsRefused refusal r
+    → RefusedAs (told refusal) b.calls (made_beside b (r >>= after_list cleared t))
+refused-shown b refusal cleared t (Ok list) h = h
+refused-shown b refusal cleared t (Err r) h = (tells-told refusal r.why h.0, refl)
 
-refused-brought : (notes : List Note) (refusal : Refusal) (cleared : State → State) (r : Result State Refused) → IsRefused refusal (r >>= update.shown profile)
-    → RefusedAs (told refusal) [] (made_beside (noted notes) (r >>= after_indexes cleared))
-refused-brought notes refusal cleared (Ok t) h = refused-shown notes refusal cleared t (update.shown profile t) h
-refused-brought notes refusal cleared (Err r) h = (tells-told refusal r.why h.0, refl)
+refused-brought : (b : Beside) (refusal : Refusal) (cleared : State → State) (r : Result State Refused) → IsRefused refusal (r >>= update.shown profile)
+    → RefusedAs (told refusal) b.calls (made_beside b (r >>= after_indexes cleared))
+refused-brought b refusal cleared (Ok t) h = refused-shown b refusal cleared t (update.shown profile t) h
+refused-brought b refusal cleared (Err r) h = (tells-told refusal r.why h.0, refl)
 
-pub refresh-refused : (notes : List Note) (model : Option ℕ) (before : Standing) (refusal : Refusal)
+pub refresh-refused : (b : Beside) (model : Option ℕ) (before : Standing) (refusal : Refusal)
     → IsRefused refusal (update.reindex profile [] (state_of before) >>= update.shown profile)
-    → RefusedAs (told refusal) [] (refreshed profile (cleared_by model) (beside (noted notes) (state_of before)))
-refresh-refused notes model before refusal r =
-    subst (RefusedAs (told refusal) []) (sym (refreshed-is notes model before))
-    (refused-brought notes refusal (cleared_by model) (update.reindex profile [] (state_of before)) r)
+    → RefusedAs (told refusal) b.calls (refreshed profile (cleared_by model) (beside b (state_of before)))
+refresh-refused b model before refusal r =
+    subst (RefusedAs (told refusal) b.calls) (sym (refreshed-is b model before))
+    (refused-brought b refusal (cleared_by model) (update.reindex profile [] (state_of before)) r)
 
-pub refresh-made : (notes : List Note) (model : Option ℕ) (before after : Standing) (answer : List Notification) (told : List events.Fired)
+pub refresh-made : (b : Beside) (model : Option ℕ) (before after : Standing) (answer : List Notification) (told : List events.Fired)
     → AreRefreshed (cleared_by model) answer before after → told ≡ map events.told_by (map seen_notification answer)
-    → refreshed profile (cleared_by model) (beside (noted notes) (state_of before)) ≡ Ok (told, beside (noted notes) (state_of after))
-refresh-made notes model before after answer told a e =
+    → refreshed profile (cleared_by model) (beside b (state_of before)) ≡ Ok (told, beside b (state_of after))
+refresh-made b model before after answer told a e =
     let cleared = cleared_by model in
-    refreshed-is notes model before
-    ∙ ap (λ r. made_beside (noted notes) (r >>= after_indexes cleared)) a.brought
-    ∙ ap (λ r. made_beside (noted notes) (r >>= after_list cleared a.t)) a.shown
-    ∙ ap (λ ns. Ok (map events.told_by ns, beside (noted notes) (cleared (record a.t { controls = a.list })))) (sym a.told)
-    ∙ ap (λ u. Ok (map events.told_by (map seen_notification answer), beside (noted notes) u)) (sym a.now)
-    ∙ ap (λ es. Ok (es, beside (noted notes) (state_of after))) (sym e)
+    refreshed-is b model before
+    ∙ ap (λ r. made_beside b (r >>= after_indexes cleared)) a.brought
+    ∙ ap (λ r. made_beside b (r >>= after_list cleared a.t)) a.shown
+    ∙ ap (λ ns. Ok (map events.told_by ns, beside b (cleared (record a.t { controls = a.list })))) (sym a.told)
+    ∙ ap (λ u. Ok (map events.told_by (map seen_notification answer), beside b u)) (sym a.now)
+    ∙ ap (λ es. Ok (es, beside b (state_of after))) (sym e)
 
-pub refresh-stopped : (notes : List Note) (model : Option ℕ) (before after : Standing) (fault : WorkFault) (e : EventFault) → Refreshes (cleared_by model) (Err fault) before after
-    → e ≡ fault_of_work fault → Refuses (means e) [] (refreshed profile (cleared_by model) (beside (noted notes) (state_of before)))
+pub refresh-stopped : (b : Beside) (model : Option ℕ) (before after : Standing) (fault : WorkFault) (e : EventFault) → Refreshes (cleared_by model) (Err fault) before after
+    → e ≡ fault_of_work fault → Refuses (means e) b.calls (refreshed profile (cleared_by model) (beside b (state_of before)))
 unfolding Refuses
-refresh-stopped notes model before after (fault.Refused refusal) e h i =
-    subst (λ x. Refuses (means x) [] (refreshed profile (cleared_by model) (beside (noted notes) (state_of before)))) (sym i) (refresh-refused notes model before refusal h)
-refresh-stopped notes model before after fault.Memory e h i =
-    subst (λ x. Refuses (means x) [] (refreshed profile (cleared_by model) (beside (noted notes) (state_of before)))) (sym i) tt
+refresh-stopped b model before after (fault.Refused refusal) e h i =
+    subst (λ x. Refuses (means x) b.calls (refreshed profile (cleared_by model) (beside b (state_of before)))) (sym i) (refresh-refused b model before refusal h)
+refresh-stopped b model before after fault.Memory e h i =
+    subst (λ x. Refuses (means x) b.calls (refreshed profile (cleared_by model) (beside b (state_of before)))) (sym i) tt

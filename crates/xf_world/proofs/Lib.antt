@@ -3,4 +3,8 @@ pub mod Besides
 pub mod NoteLaws
 pub mod ReadLaws
 pub mod HoldLaws
+pub mod CallsLaws
 pub mod OutsideLaws
+pub mod SubmitLaws
+pub mod OutcomeLaws
+pub mod SendLaws

@@ -26,7 +26,7 @@ use Rattle.xf_world.specs.Fault.{means, fault_of}
 use Rattle.xf_world.specs.Seen.{IsOver}
 
 -- a string was too long, or memory was wanting
-long-told : {X : Type 0} (e : EvalFault) (s : State) (given : Option X) → (e ≡ eval.Memory) ⊎ ((e ≡ eval.Long) × (given ≡ None)) → Refuses (means (fault_of e)) s.calls (or_long s given)
+pub long-told : {X : Type 0} (e : EvalFault) (s : State) (given : Option X) → (e ≡ eval.Memory) ⊎ ((e ≡ eval.Long) × (given ≡ None)) → Refuses (means (fault_of e)) s.calls (or_long s given)
 unfolding Refuses
 long-told e s given (inl h) = subst (λ f. Refuses (means (fault_of f)) s.calls (or_long s given)) (sym h) tt
 long-told e s given (inr p) =

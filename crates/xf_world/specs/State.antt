@@ -1,5 +1,4 @@
--- The state of the machine that a world stands for: that of what the engine works on, with the notes of the event; the store is not called.
-use Rattle.std.specs.Prelude.{[]}
+-- The state of the machine that a world stands for: that of what the engine works on, with the notes of the event, and the calls of the store in it.
 use Rattle.xf_form_machine.specs.State.{State}
 use Rattle.xf_work.specs.Does.{Stage}
 use Rattle.xf_work.specs.Standing as standing
@@ -8,7 +7,7 @@ use Rattle.xf_world.specs.declared.form_world.FormWorld.{FormWorld}
 abbrev pub state_of : FormWorld → State
 state_of w = record (standing.state_of w.work.now) {
   notes = w.notes;
-  calls = [];
+  calls = w.calls;
 }
 
 -- what stood at the end of the last event

@@ -176,6 +176,7 @@ fn told_of(world: &mut FormWorld, model: Option<u32>) -> Result<NotificationList
     ensures done { Refreshes (cleared_by model) result world.old.work.now world.new.work.now }
     ensures kept { world.new.work.kept ≡ world.old.work.kept }
     ensures notes { world.new.notes ≡ world.old.notes }
+    ensures calls { world.new.calls ≡ world.old.calls }
 {
     match model {
         Some(model) => world.work.refresh_model(model),

@@ -1,11 +1,12 @@
 //! The form machine over what an engine works on: a `World`, over which dispatch, actions and updates run.
 #![tactic(auto, unfolding(xf_actions::specs::Performs::Refuses))]
 
-mod absent;
 mod asking;
 mod behaviours;
+mod calls_made;
 mod changed;
 mod choosing;
+mod due;
 mod elements;
 mod fault;
 mod form_world;
@@ -15,7 +16,10 @@ mod noting;
 mod outside;
 mod planning;
 mod reading;
+mod replacing;
+mod sending;
 mod speaking;
+mod submitting;
 mod surrounding;
 mod telling;
 mod trees;

@@ -4,13 +4,16 @@ ghost use Rattle.std.specs.Prelude.{◌≡◌, ◌++◌, None, find, map, option
 ghost use Rattle.xf_context.specs.Indexes.{seen_index};
 ghost use Rattle.xf_controls.specs.Seen.{is_copy_at, seen_copy};
 ghost use Rattle.xf_form_machine.specs.ControlText.{state_text};
+ghost use Rattle.xf_form_machine.specs.Replies.{answers_in};
 ghost use Rattle.xf_form_machine.specs.Step.{fresh, one_more};
 ghost use Rattle.xf_processor.specs.Formed.{profile};
+ghost use Rattle.xf_store.specs.Replay.{Covers};
 ghost use Rattle.xf_work.specs.Standing as standing;
 ghost use Rattle.xf_world.specs.Outside.{IsKept, standing_of};
 ghost use Rattle.xf_world.specs.Seen.{IsOver};
 ghost use Rattle.xf_world.specs.State.{kept_of, state_of};
 
+use crate::calls_made::CallsMade;
 use crate::fault::EventFault;
 use crate::form_world::FormWorld;
 use crate::surrounding::over_quiet;
@@ -32,22 +35,25 @@ impl FormWorld {
             alloc,
             work,
             notes: NoteList::new(alloc),
+            calls: CallsMade::new(alloc),
         }
     }
 
-    /// An event begins, with a whole budget and no notes. Takes no memory.
+    /// An event begins, with a whole budget, no notes and no calls of the store. Takes no memory.
     pub fn begin_event(&mut self)
         ensures now { state_of self.new ≡ fresh profile (state_of self.old) }
         ensures kept { kept_of self.new ≡ kept_of self.old }
     {
         self.work.begin_event();
         self.notes.clear();
+        self.calls.clear();
     }
 
     /// Counts the event that is handled as accepted. No run counts beyond 64 bits: that is told as want of memory.
     pub fn count_event(&mut self) -> Result<(), EventFault>
         ensures now { OnOk result (state_of self.new ≡ one_more (state_of self.old)) }
         ensures kept { kept_of self.new ≡ kept_of self.old }
+        ensures calls { (state_of self.new).calls ≡ (state_of self.old).calls }
         ensures fault { IfErr result (λ fault. fault ≡ EventFault.Memory) }
     {
         match self.work.count_event() {
@@ -59,15 +65,23 @@ impl FormWorld {
     /// Gives up what stands and what was kept.
     pub fn discard(self) {}
 
-    /// Keeps what stands: detached trees are dropped, and the next event has a whole budget and no notes. Takes no memory.
+    /// The answers of the calls of the store in the event cover these: each call gets the answer at its place.
+    pub fn calls_are_covered(&self)
+        ensures { Covers (answers_in (state_of self.now).calls) (state_of self.now).calls }
+    {
+        self.calls.are_covered();
+    }
+
+    /// Keeps what stands: detached trees are dropped, and the next event has a whole budget, no notes and no calls of the store. Takes no memory.
     pub fn commit(&mut self)
         ensures { IsKept self.old self.new }
     {
         self.work.commit();
         self.notes.clear();
+        self.calls.clear();
     }
 
-    /// What was kept stands again, and there are no notes. Takes no memory.
+    /// What was kept stands again, and there are no notes and no calls of the store. Takes no memory.
     pub fn roll_back(&mut self)
         ensures state { state_of self.new ≡ standing.state_of (kept_of self.old).standing }
         ensures now { standing_of self.new ≡ (kept_of self.old).standing }
@@ -75,6 +89,7 @@ impl FormWorld {
     {
         self.work.roll_back();
         self.notes.clear();
+        self.calls.clear();
     }
 
     /// The notes of the event, in order.

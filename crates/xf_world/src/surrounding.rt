@@ -2,6 +2,8 @@
 
 ghost use Rattle.std.specs.Prelude.{None, Some};
 ghost use Rattle.xf_actions.specs.Seen.{told_of};
+ghost use Rattle.xf_processor.specs.Formed.{profile};
+ghost use Rattle.xf_submit.specs.Steps.{Shows};
 ghost use Rattle.xf_world.specs.Seen.{IsOver};
 ghost use Rattle.xf_world.specs.State.{state_of};
 
@@ -26,7 +28,8 @@ pub(crate) fn over_event<'a>(world: &'a FormWorld, fired: &'a Fired) -> Over<'a>
 
 /// What they are evaluated with outside an event.
 pub(crate) fn over_quiet(world: &FormWorld) -> Over<'_>
-    ensures { IsOver result (state_of world.now) None }
+    ensures around { IsOver result (state_of world.now) None }
+    ensures shows { Shows profile result (state_of world.now) }
 {
     let loaded = world.work.loaded();
     Over {

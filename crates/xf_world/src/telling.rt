@@ -5,14 +5,14 @@ ghost use Rattle.xf_form_machine.specs.Events as events;
 ghost use Rattle.xf_form_machine.specs.Surround.{interface};
 ghost use Rattle.xf_ui.specs.Named.{rows_cut};
 ghost use Rattle.xf_actions.specs.Performs.{Reads};
-ghost use Rattle.xf_actions.specs.Seen.{fired_of};
+ghost use Rattle.xf_actions.specs.Seen.{fired_of, told_of};
 ghost use Rattle.xf_world.specs.Fault.{means};
 ghost use Rattle.xf_world.specs.State.{state_of};
 
 use crate::fault::EventFault;
 use crate::form_world::FormWorld;
 use std::alloc::AllocError;
-use xf_actions::Fired;
+use xf_actions::{Fired, PropertyList};
 use xf_doc::NodeList;
 use xf_events as events;
 use xf_repeat::rows_cut;
@@ -43,6 +43,19 @@ pub(crate) fn event_at(world: &FormWorld, name: &str, target: u32) -> Result<Fir
         Ok(event) => Ok(event),
         Err(_) => Err(EventFault::Memory),
     }
+}
+
+/// The same with properties.
+pub(crate) fn told_at(
+    world: &FormWorld,
+    name: &str,
+    target: u32,
+    told: PropertyList,
+) -> Result<Fired, AllocError>
+    ensures { IfOk result (λ event. fired_of event ≡ events.fired_at (state_of world.now) name.now (told_of told) target) }
+{
+    let rows = rows_around(world, target)?;
+    events::made(world.alloc, name, true, true, target, &rows, told)
 }
 
 /// The indexed rows of the repeats around an element, up to the first repeat that has none.

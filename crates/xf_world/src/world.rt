@@ -3,8 +3,8 @@
 use crate::fault::EventFault;
 use crate::form_world::FormWorld;
 use crate::{
-    absent, asking, behaviours, changed, choosing, elements, handlers, holding, noting, planning,
-    reading, speaking, telling, trees,
+    asking, behaviours, changed, choosing, elements, handlers, holding, noting, planning, reading,
+    speaking, submitting, telling, trees,
 };
 use std::alloc::Global;
 use xf_actions::{
@@ -97,7 +97,7 @@ impl World for FormWorld {
         submission: u32,
         store: &mut S,
     ) -> Result<Concluded, EventFault> {
-        absent::submit(self, submission, store)
+        submitting::submit(self, submission, store)
     }
 
     fn instances(&self, model: u32) -> Result<ElementList, EventFault> {
@@ -109,7 +109,7 @@ impl World for FormWorld {
     }
 
     fn end_event(&self, ending: &Ending) -> Result<Option<Fired>, EventFault> {
-        absent::end_event(self, ending)
+        submitting::end_event(self, ending)
     }
 
     fn alloc(&self) -> Global {

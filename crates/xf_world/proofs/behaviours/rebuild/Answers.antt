@@ -1,10 +1,10 @@
 use Rattle.xf_form_machine.specs.Behave as behave
 use Rattle.xf_beside_laws.proofs.ChangesGo.{changes_go_beside}
 use Rattle.xf_processor.specs.Formed.{profile}
-use Rattle.xf_world.proofs.Besides.{runs-told}
+use Rattle.xf_world.proofs.Besides.{beside_in, runs-told}
 use Rattle.xf_world.proofs.behaviours.rebuild.Goals as goal
 
 pub returns-clause-done : goal.returns-clause-done
 returns-clause-done c =
     let w = c.args.world.now in
-    runs-told w.notes (behave.rebuild profile c.args.model) ((changes_go_beside profile).rebuild c.args.model) w.work.now c.rebuild-done.new.self.now c.rebuild-done.result c.as_event.result c.rebuild-done.ensures.done c.as_event.ensures
+    runs-told (beside_in w) (behave.rebuild profile c.args.model) ((changes_go_beside profile).rebuild c.args.model) w.work.now c.rebuild-done.new.self.now c.rebuild-done.result c.as_event.result c.rebuild-done.ensures.done c.as_event.ensures

@@ -2,11 +2,11 @@ use Rattle.std.proofs.Common.{Ok, ap}
 use Rattle.xf_form_machine.specs.Behave as behave
 use Rattle.xf_beside_laws.proofs.ChangesGo.{changes_go_beside}
 use Rattle.xf_processor.specs.Formed.{profile}
-use Rattle.xf_world.proofs.Besides.{runs-told}
+use Rattle.xf_world.proofs.Besides.{beside_in, runs-told}
 use Rattle.xf_world.proofs.behaviours.revalidate.Goals as goal
 
 pub returns-clause-done : goal.returns-clause-done
 returns-clause-done c =
     let w = c.args.world.now in
-    runs-told w.notes (λ s. Ok (behave.revalidate profile c.args.model s)) (λ b s. ap (λ t. Ok t) ((changes_go_beside profile).revalidate c.args.model b s)) w.work.now
+    runs-told (beside_in w) (λ s. Ok (behave.revalidate profile c.args.model s)) (λ b s. ap (λ t. Ok t) ((changes_go_beside profile).revalidate c.args.model b s)) w.work.now
     c.revalidate-done.new.self.now c.revalidate-done.result c.as_event.result c.revalidate-done.ensures.done c.as_event.ensures

@@ -1,7 +1,7 @@
 use Rattle.xf_form_machine.specs.Primitives.{set_text}
 use Rattle.xf_beside_laws.proofs.ChangesGo.{changes_go_beside}
 use Rattle.xf_processor.specs.Formed.{profile}
-use Rattle.xf_world.proofs.Besides.{runs-told}
+use Rattle.xf_world.proofs.Besides.{beside_in, runs-told}
 use Rattle.xf_world.proofs.behaviours.set_text.Goals as goal
 
 pub returns-clause-done : goal.returns-clause-done
@@ -9,5 +9,5 @@ returns-clause-done c =
     let w = c.args.world.now in
     let n = c.args.node.number in
     let text = c.args.text.now in
-    runs-told w.notes (set_text profile n text) ((changes_go_beside profile).set_text n text) w.work.now
+    runs-told (beside_in w) (set_text profile n text) ((changes_go_beside profile).set_text n text) w.work.now
     c.set_text-done.new.self.now c.set_text-done.result c.as_event.result c.set_text-done.ensures.done c.as_event.ensures

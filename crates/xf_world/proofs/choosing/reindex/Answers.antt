@@ -1,12 +1,12 @@
 use Rattle.xf_form_machine.specs.Update.{reindex}
 use Rattle.xf_beside_laws.proofs.ChangesGo.{changes_go_beside}
 use Rattle.xf_processor.specs.Formed.{profile}
-use Rattle.xf_world.proofs.Besides.{runs-told}
+use Rattle.xf_world.proofs.Besides.{beside_in, runs-told}
 use Rattle.xf_world.proofs.choosing.reindex.Goals as goal
 
 pub returns-clause-done : goal.returns-clause-done
 returns-clause-done c =
     let w = c.args.world.now in
     let added = c.args.added.now in
-    runs-told w.notes (reindex profile added) ((changes_go_beside profile).reindex added) w.work.now
+    runs-told (beside_in w) (reindex profile added) ((changes_go_beside profile).reindex added) w.work.now
     c.reindex-done.new.self.now c.reindex-done.result c.as_event.result c.reindex-done.ensures.done c.as_event.ensures

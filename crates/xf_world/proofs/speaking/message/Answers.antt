@@ -23,8 +23,8 @@ returns-in_err-within c =
     let e = c.in_err-within.field-0.0 in
     reads-stopped _ _ s _ _ _ c.from_residual.ensures.1
     (refuses-then _ _ _ (spoken_in s x)
-    (read-fault o s None c.over_quiet.ensures (λ b. inside (interface s) b x.rows n) e
-    (subst (λ f. (e ≡ Memory) ⊎ ((e ≡ Long) × (inside f (around_over o) x.rows n ≡ None))) (sym c.over_quiet.ensures.interface)
+    (read-fault o s None c.over_quiet.ensures.around (λ b. inside (interface s) b x.rows n) e
+    (subst (λ f. (e ≡ Memory) ⊎ ((e ≡ Long) × (inside f (around_over o) x.rows n ≡ None))) (sym c.over_quiet.ensures.around.interface)
     (subst (λ rows. (e ≡ Memory) ⊎ ((e ≡ Long) × (inside (interface_of o.form.now) (around_over o) rows n ≡ None))) c.as_slice.ensures c.in_err-within.ensures))))
 
 pub returns-in_err-text : goal.returns-in_err-text
@@ -39,8 +39,8 @@ returns-in_err-text c =
     reads-stopped _ _ s _ _ _ c.from_residual-in_err-text.ensures.1
     (same-refuses _ _ _ _
     (ap (λ r. r >>= spoken_in s x)
-    (read-some o s None c.over_quiet.ensures (λ b. inside (interface s) b x.rows n) within
-    (ap (λ f. inside f (around_over o) x.rows n) c.over_quiet.ensures.interface
+    (read-some o s None c.over_quiet.ensures.around (λ b. inside (interface s) b x.rows n) within
+    (ap (λ f. inside f (around_over o) x.rows n) c.over_quiet.ensures.around.interface
     ∙ ap (λ rows. inside (interface_of o.form.now) (around_over o) rows n) (sym c.as_slice.ensures) ∙ c.in_ok-within.ensures)))
     (read-fault q s (Some (told_of c.args.fired.now.properties)) c.over_event.ensures (λ b. text_in (interface s) b within (element_at (interface s) n)) e
     (subst (λ f. (e ≡ Memory) ⊎ ((e ≡ Long) × (text_in f (around_over q) within (element_at f n) ≡ None))) (sym c.over_event.ensures.interface) c.in_err-text.ensures)))
@@ -54,8 +54,8 @@ returns c =
     let n = x.element in
     let within = seen_inside c.in_ok-within.within in
     ap (λ r. r >>= spoken_in s x)
-    (read-some o s None c.over_quiet.ensures (λ b. inside (interface s) b x.rows n) within
-    (ap (λ f. inside f (around_over o) x.rows n) c.over_quiet.ensures.interface
+    (read-some o s None c.over_quiet.ensures.around (λ b. inside (interface s) b x.rows n) within
+    (ap (λ f. inside f (around_over o) x.rows n) c.over_quiet.ensures.around.interface
     ∙ ap (λ rows. inside (interface_of o.form.now) (around_over o) rows n) (sym c.as_slice.ensures) ∙ c.in_ok-within.ensures))
     ∙ read-some q s (Some (told_of c.args.fired.now.properties)) c.over_event.ensures (λ b. text_in (interface s) b within (element_at (interface s) n)) c.in_ok-text.text
     (ap (λ f. text_in f (around_over q) within (element_at f n)) c.over_event.ensures.interface ∙ c.in_ok-text.ensures)

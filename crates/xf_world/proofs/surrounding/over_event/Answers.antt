@@ -14,7 +14,7 @@ returns c =
     let event = Some (told_of c.args.fired.now.properties) in
     record {
       around =
-          over-same w.work.now w.notes indexes l.form l.prefixes forest event c.indexes.ensures c.loaded-loaded.ensures.form c.loaded-loaded.ensures.prefixes c.forest.ensures
+          over-same w.work.now w.notes w.calls indexes l.form l.prefixes forest event c.indexes.ensures c.loaded-loaded.ensures.form c.loaded-loaded.ensures.prefixes c.forest.ensures
           ∙ ap (λ ps. surrounding indexes l.form l.prefixes forest (Some (told_of ps))) (sym c.as_slice.ensures);
       interface = ap interface_of (sym c.loaded-loaded.ensures.form);
     }

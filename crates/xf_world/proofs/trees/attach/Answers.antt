@@ -4,7 +4,7 @@ use Rattle.xf_beside_laws.proofs.ChangesGo.{changes_go_beside}
 use Rattle.xf_processor.specs.Formed.{profile}
 use Rattle.xf_work.specs.Does.{Does}
 use Rattle.xf_work.specs.Standing.{state_of}
-use Rattle.xf_world.proofs.Besides.{runs-told}
+use Rattle.xf_world.proofs.Besides.{beside_in, runs-told}
 use Rattle.xf_world.proofs.trees.attach.Goals as goal
 
 pub returns-clause-done : goal.returns-clause-done
@@ -13,7 +13,7 @@ returns-clause-done c =
     let n = c.args.node.number in
     let parent = c.args.parent.number in
     let place = c.args.place in
-    runs-told w.notes (attach profile n parent place) ((changes_go_beside profile).attach n parent place) w.work.now
+    runs-told (beside_in w) (attach profile n parent place) ((changes_go_beside profile).attach n parent place) w.work.now
     c.attach-done.new.self.now c.attach-done.result c.as_event.result
     (subst (λ k. Does c.attach-done.result c.attach-done.new.self.now (attach profile n parent k (state_of w.work.now))) c.in-Ok.ensures.1 c.attach-done.ensures.done)
     c.as_event.ensures

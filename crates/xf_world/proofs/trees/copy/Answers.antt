@@ -2,12 +2,12 @@ use Rattle.xf_doc.specs.declared.node.NodeId.{NodeId}
 use Rattle.xf_form_machine.specs.Primitives.{copy}
 use Rattle.xf_beside_laws.proofs.ChangesGo.{changes_go_beside}
 use Rattle.xf_processor.specs.Formed.{profile}
-use Rattle.xf_world.proofs.Besides.{makes-told}
+use Rattle.xf_world.proofs.Besides.{beside_in, makes-told}
 use Rattle.xf_world.proofs.trees.copy.Goals as goal
 
 pub returns-clause-done : goal.returns-clause-done
 returns-clause-done c =
     let w = c.args.world.now in
     let n = c.args.node.number in
-    makes-told w.notes (λ (m : NodeId). m.number) (copy profile n) ((changes_go_beside profile).copy n) w.work.now
+    makes-told (beside_in w) (λ (m : NodeId). m.number) (copy profile n) ((changes_go_beside profile).copy n) w.work.now
     c.copy-done.new.self.now c.copy-done.result c.as_event.result c.copy-done.ensures.done c.as_event.ensures

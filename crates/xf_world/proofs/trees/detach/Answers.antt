@@ -2,12 +2,12 @@ use Rattle.std.proofs.Common.{Ok, ap}
 use Rattle.xf_form_machine.specs.Primitives.{detach}
 use Rattle.xf_beside_laws.proofs.ChangesGo.{changes_go_beside}
 use Rattle.xf_processor.specs.Formed.{profile}
-use Rattle.xf_world.proofs.Besides.{runs-told}
+use Rattle.xf_world.proofs.Besides.{beside_in, runs-told}
 use Rattle.xf_world.proofs.trees.detach.Goals as goal
 
 pub returns-clause-done : goal.returns-clause-done
 returns-clause-done c =
     let w = c.args.world.now in
     let n = c.args.node.number in
-    runs-told w.notes (λ s. Ok (detach n s)) (λ b s. ap (λ t. Ok t) ((changes_go_beside profile).detach n b s)) w.work.now
+    runs-told (beside_in w) (λ s. Ok (detach n s)) (λ b s. ap (λ t. Ok t) ((changes_go_beside profile).detach n b s)) w.work.now
     c.detach-done.new.self.now c.detach-done.result c.as_event.result c.detach-done.ensures.done c.as_event.ensures
