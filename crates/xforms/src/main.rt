@@ -1,12 +1,16 @@
 //! The program: the real objects under their fixed names.
 #![tactic(auto)]
 
+mod explaining;
+
+use explaining::{FORM, explain_status};
 use std::fs::File;
 use std::os::fd::AsRawFd;
 use std::process::ExitCode;
 use std::{env, fs, io};
 use xf_cli::{no_room, xforms};
 use xf_io::{FileSource, ReaderSource, WriterSink};
+use xf_store::FolderStore;
 
 fn main(rt: HostRuntime) -> ExitCode {
     let alloc = rt.alloc();
@@ -16,9 +20,14 @@ fn main(rt: HostRuntime) -> ExitCode {
     let Some(words) = read_words(&rt) else {
         return ExitCode::from(no_room(&mut out));
     };
-    let mut form = FileSource::new(&rt, "form.json");
+    let Ok(mut store) = FolderStore::new(alloc, &rt, "store") else {
+        return ExitCode::from(no_room(&mut out));
+    };
+    let mut form = FileSource::new(&rt, FORM);
     let mut events = ReaderSource::new(rt.reader());
-    ExitCode::from(xforms(alloc, &words, &mut form, &mut events, &mut out))
+    let status = xforms(alloc, &words, &mut form, &mut events, &mut out, &mut store);
+    explain_status(&rt, status);
+    ExitCode::from(status)
 }
 
 // Takes the place of a standard stream that is closed, if one is, by a folder: what can neither be read nor written.

@@ -1,0 +1,2 @@
+mod DetailLemmas
+mod TextLemmas
