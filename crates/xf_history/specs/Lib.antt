@@ -1,0 +1,14 @@
+pub mod Sessions
+pub mod Carried
+pub mod History
+pub mod Runs
+pub mod Images
+pub mod Opening
+pub mod Lines
+pub mod Counts
+pub mod OneImage
+pub mod Left
+pub mod Usual
+pub mod Alike
+pub mod Finding
+pub mod Examples
