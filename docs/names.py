@@ -1,6 +1,7 @@
 #!/usr/bin/env python3
-"""Tells which names that the documents put into backquotes stand nowhere in the crates: clauses, definitions, functions, types, crates.
-Ends with 1 where there is one. A name is one word of letters, digits and underscores, or such words with hyphens between."""
+"""Tells which names that the documents put into backquotes stand nowhere in the crates: clauses, definitions, functions, types, crates; which modules
+and files that stand behind the name of a crate are none of it; and which links of the documents lead nowhere. Ends with 1 where there is one. A name is
+one word of letters, digits and underscores, or such words with hyphens between."""
 import pathlib
 import re
 import sys
@@ -9,7 +10,10 @@ TOP = pathlib.Path(__file__).resolve().parent.parent
 DOCS = [TOP / "README.md", *sorted((TOP / "docs").glob("*.md"))]
 # what is no name of the code: parts of forms, lines and replies, commands, and names of the standards and of the kit
 LIKE_CODE = re.compile(r"^[A-Z]\w*[a-z]\w*$|^\w+_\w+$|^\w+(?:-\w+)+$")
-CHECKED = {"PROVED.md", "THEOREM.md", "REFUSALS.md", "DEFINITIONS.md", "CRATES.md"}
+MODULES = re.compile(r"`(xf_\w+)`:? ((?:[A-Z]\w+)(?:, [A-Z]\w+)*)")
+FILES = re.compile(r"`(xf_\w+)` (\w+\.rt(?:, \w+\.rt)*)")
+LINK = re.compile(r"\]\(([^)#\s]*)(?:#([^)\s]*))?\)")
+CHECKED = {"CONTRACTS.md", "EMBEDDING.md", "MACHINE.md", "PROVED.md", "THEOREM.md", "REFUSALS.md", "DEFINITIONS.md", "CRATES.md"}
 
 
 def words_of_code():
@@ -24,17 +28,45 @@ def words_of_code():
     return found
 
 
+def places(line):
+    """The files that a line names behind the names of crates."""
+    for crate, modules in MODULES.findall(line):
+        for module in modules.split(", "):
+            yield f"{crate} {module}", [TOP / "crates" / crate / part / f"{module}.antt" for part in ("specs", "proofs")]
+    for crate, files in FILES.findall(line):
+        for file in files.split(", "):
+            yield f"{crate} {file}", [TOP / "crates" / crate / "src" / file]
+
+
+def anchors(path):
+    """The links that the titles of a document are."""
+    titles = re.findall(r"^#+ (.*)$", path.read_text(encoding="utf-8"), re.MULTILINE)
+    return {re.sub(r"[^\w\- ]", "", title.lower()).replace(" ", "-") for title in titles}
+
+
+def lost_links(doc):
+    for number, line in enumerate(doc.read_text(encoding="utf-8").split("\n"), 1):
+        for file, anchor in LINK.findall(line):
+            if "://" in file:
+                continue
+            path = doc.parent / file if file else doc
+            if not path.exists() or anchor and anchor not in anchors(path):
+                yield f"{doc.relative_to(TOP)}:{number}: no link {file}#{anchor}"
+
+
 def main():
     known = words_of_code()
     missing = []
     for doc in DOCS:
+        missing.extend(lost_links(doc))
         if doc.name not in CHECKED:
             continue
         for number, line in enumerate(doc.read_text(encoding="utf-8").split("\n"), 1):
-            for name in re.findall(r"`([^`]+)`", line):
+            for name in re.findall(r"`([^`]+)`(?! of the kit)", line):
                 if LIKE_CODE.match(name) and name not in known and not name.startswith(("xforms-", "rattle-")):
                     missing.append(f"{doc.relative_to(TOP)}:{number}: {name}")
-    print("\n".join(missing) or "every name stands in the crates")
+            missing.extend(f"{doc.relative_to(TOP)}:{number}: {name}" for name, paths in places(line) if not any(path.exists() for path in paths))
+    print("\n".join(missing) or "every name stands in the crates, and every link leads somewhere")
     return 1 if missing else 0
 
 

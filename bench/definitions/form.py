@@ -6,6 +6,7 @@ from library import None_, R, ap, codes, lit_from, text
 
 XF = "http://www.w3.org/2002/xforms"
 EV = "http://www.w3.org/2001/xml-events"
+XS = "http://www.w3.org/2001/XMLSchema"
 
 
 def some(x):
@@ -215,7 +216,7 @@ class Loader:
         self.nodes, self.ids = [], {}
         self.counts = {}
         self.of_kind = {k: [] for k in ("model", "instance", "bind", "submission", "repeat", "switch")}
-        self.documents, self.instances = [], []
+        self.documents, self.instances, self.types = [], [], []
         self.controls = 0
         self.walk(self.lit[1], None, 0, None)
         self.build()
@@ -232,6 +233,9 @@ class Loader:
         uri, local = self.name(e.f_name, space)
         is_xf = uri == XF
         if is_xf and local in PASSED:
+            return None
+        if (uri, local) == (XS, "schema") and model is not None:
+            self.read_schema(e)
             return None
         n = Node()
         n.number, n.parent, n.local, n.is_xf = len(self.nodes), parent, local, is_xf
@@ -410,16 +414,40 @@ class Loader:
             binding = self.binding(n, "ref")
         return R(f_id=codes(n.id), f_parent=some(n.parent.number) if n.parent else None_, f_parts=tuple(n.parts), f_model=model, f_binding=binding, f_kind=self.kind_of(n))
 
-    def type_of(self, n):
-        if "type" not in n.attr:
-            return None_
-        w = n.attr["type"]
+    def read_schema(self, schema):
+        """Its types by restriction, each with the facets of the first restriction in it."""
+        space = self.text_in(schema, "targetNamespace")
+        for kind, element in self.inside(schema):
+            restriction = [r for k, r in self.inside(element) if k == "restriction"] if kind == "simpleType" else []
+            if restriction:
+                facets = tuple((k, self.text_in(f, "value")) for k, f in self.inside(restriction[0]) if k != "annotation")
+                self.types.append((space, self.text_in(element, "name"), self.text_in(restriction[0], "base"), facets))
+
+    def inside(self, e):
+        return [(self.name(c[1].f_name, 0)[1], c[1]) for c in e.f_children if c[0] == "Element"]
+
+    @staticmethod
+    def text_in(e, name):
+        return next((text(p.f_text) for p in e.f_attributes if text(p.f_name) == name), "")
+
+    def named_type(self, w):
+        """A built-in type, or one of the form's by its number."""
         q = D.xf_name__Bindings__resolved(self.b, codes(w), 0)[1]
         uri = D.xf_name__Bindings__text_of_space(self.b, q.f_space)
         t = D.xf_types__Named__type_named(uri[1] if uri[0] == "Some" else (), q.f_local)
-        if t[0] != "Some":
+        if t[0] == "Some":
+            return some(("BuiltIn", t[1]))
+        own = [number for number, (space, name, _, _) in enumerate(self.types) if uri[0] == "Some" and (space, name) == (text(uri[1]), text(q.f_local))]
+        if not own:
             raise Exception("type " + w)
-        return t
+        return some(("Declared", own[0]))
+
+    def restriction(self, space, name, base, facets):
+        made = tuple(R(f_kind=(k[0].upper() + k[1:],), f_value=codes(value), f_place=0) for k, value in facets)
+        return R(f_name=R(f_space=codes(space), f_local=codes(name)), f_type_place=0, f_base=self.named_type(base), f_place=0, f_facets=made)
+
+    def type_of(self, n):
+        return self.named_type(n.attr["type"]) if "type" in n.attr else None_
 
     def build(self):
         instances = tuple(R(f_model=n.model_around, f_id=codes(n.id), f_place=(), f_space=n.space) for n in self.of_kind["instance"])
@@ -441,7 +469,8 @@ class Loader:
                                  f_is_validated=a.get("validate", default) == "true", f_resource=codes(a.get("resource", a.get("action", ""))),
                                  f_method=(a["method"].capitalize(),), f_replace=({"all": "All", "instance": "Instance", "text": "Text", "none": "Nothing"}[a.get("replace", "all")],),
                                  f_instance=some(self.ids[a["instance"]].of) if "instance" in a else None_, f_target=self.opt(n, "targetref"), f_is_serialized=not none))
-        tables = R(f_models=len(self.of_kind["model"]), f_instances=instances, f_binds=tuple(binds), f_submissions=tuple(submissions))
+        tables = R(f_models=len(self.of_kind["model"]), f_instances=instances, f_binds=tuple(binds), f_submissions=tuple(submissions),
+                   f_types=tuple(self.restriction(*t) for t in self.types))
         numbers = lambda k: tuple(n.number for n in self.of_kind[k])
         self.form = R(f_decimals=self.decimals(), f_tables=tables, f_elements=tuple(self.element(n) for n in self.nodes), f_models=numbers("model"), f_instances=numbers("instance"),
                       f_binds=numbers("bind"), f_submissions=numbers("submission"), f_repeats=numbers("repeat"), f_switches=numbers("switch"))

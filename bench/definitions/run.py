@@ -39,7 +39,7 @@ def prepare(turns):
     from library import Fn
     import kept
     kept.keep_all()
-    profile = definitions.xf_form_machine__Profile__usual(Fn(definitions.xf_funcs__Called__called, 4), Fn(definitions.xf_types__Meets__meets_type, 2))
+    profile = definitions.xf_form_machine__Profile__usual(Fn(definitions.xf_funcs__Called__called, 4), Fn(definitions.xf_schema__Facets__is_of_type, 3))
     return profile.with_(f_turns=turns)
 
 

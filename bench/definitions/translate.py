@@ -79,7 +79,7 @@ class Fun:
         raise Exception(pat)
 
     def match_con(self, name, args, value, conds, binds, scope):
-        last = name.split(".")[-1]
+        last = self.m.imports.get(name, (None, name))[1].split(".")[-1]
         if last in ("true", "false"):
             conds.append(("%s" if last == "true" else "not %s") % value)
         elif last == "zero":

@@ -5,10 +5,12 @@ and end with the right status or with 9.
     bench/refused/program.py REFUSE_SO [PROGRAM [NAME ..]]
 
 REFUSE_SO is refuse.c beside this file, built as run.sh builds it. What is run are the example of the program and those of `examples`, or the named
-ones of these alone."""
+ones of these alone, each time over a new copy of its files."""
 import os
+import shutil
 import subprocess
 import sys
+import tempfile
 
 HERE = os.path.dirname(os.path.abspath(__file__))
 TOP = os.path.dirname(os.path.dirname(HERE))
@@ -31,7 +33,9 @@ def tried(refuse, program, folder, events, wanted, wanted_status):
     refused = wrong = 0
     while True:
         given = {"REFUSE": str(refused + 1), "LD_PRELOAD": refuse}
-        run = subprocess.run([program, "try"], cwd=folder, input=events, stdout=subprocess.PIPE, stderr=subprocess.PIPE, env=given, timeout=60)
+        with tempfile.TemporaryDirectory() as box:
+            copy = shutil.copytree(folder, os.path.join(box, "copy"))
+            run = subprocess.run([program, "try"], cwd=copy, input=events, stdout=subprocess.PIPE, stderr=subprocess.PIPE, env=given, timeout=60)
         if b"refused" not in run.stderr:
             return refused, wrong
         refused += 1
@@ -44,7 +48,7 @@ def main():
     refuse = os.path.abspath(sys.argv[1])
     program = os.path.abspath(sys.argv[2] if len(sys.argv) > 2 else f"{TOP}/crates/xforms/out/xforms")
     own = f"{TOP}/crates/xforms"
-    names = sys.argv[3:] or sorted(os.listdir(f"{TOP}/examples"))
+    names = sys.argv[3:] or sorted(name for name in os.listdir(f"{TOP}/examples") if os.path.exists(f"{TOP}/examples/{name}/form.json"))
     runs = [] if sys.argv[3:] else [(f"{own}/data", f"{own}/stdin", f"{own}/stdout")]
     for name in names:
         folder = f"{TOP}/examples/{name}"

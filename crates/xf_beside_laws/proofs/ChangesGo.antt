@@ -95,16 +95,18 @@ attach-goes p n parent place b s =
 detach-turns : (n : ℕ) → TurnsBeside (detach n)
 detach-turns n b s = ap (with_forest (detached n s.forest)) (list-turns (parent_of n (all_in s)) b s)
 
-replace-goes : (p : Profile) (n : ℕ) (contents : List (ℕ × Content)) (at : ℕ × ℕ) → GoesBeside (replace_at p n contents at)
-replace-goes p n contents (parent, place) b s =
+placed-goes : (p : Profile) (n : ℕ) (contents : List (ℕ × Content)) (at : ℕ × ℕ) → GoesBeside (replace_at p n contents at)
+placed-goes p n contents (parent, place) b s =
     ap (λ r. r >>= λ made. attach p made.0 parent place (detach n made.1)) (plant-makes p contents b s)
     ∙ made-then b (plant p contents s) (λ made. attach p made.0 parent place (detach n made.1))
     (λ top t. ap (attach p top parent place) (detach-turns n b t) ∙ attach-goes p top parent place b (detach n t))
 
+replace-goes : (p : Profile) (n : ℕ) (contents : List (ℕ × Content)) → GoesBeside (replace p n contents)
+replace-goes p n contents b s = some-goes (standing n s.forest.nodes) (replace_at p n contents) (placed-goes p n contents) b s
+
 put-goes : (p : Profile) (first : Result State Refused) (place : ℕ) → GoesBeside (put_back p first place)
 put-goes p first place b s =
-    let contents = first_contents first place in
-    some-goes (document_at s place) (λ n. replace p n contents) (λ n c t. some-goes (standing n t.forest.nodes) (replace_at p n contents) (replace-goes p n contents) c t) b s
+    let contents = first_contents first place in some-goes (document_at s place) (λ n. replace p n contents) (λ n c t. replace-goes p n contents c t) b s
 
 -- ---- the behaviours
 
@@ -231,6 +233,7 @@ changes_go_beside p = record {
   plant = plant-makes p;
   attach = attach-goes p;
   detach = detach-turns;
+  replace = replace-goes p;
   put_back = put-goes p;
   fresh = λ b s. refl;
   at_end = λ b s. refl;

@@ -18,7 +18,7 @@ use Rattle.xf_form_machine.specs.Properties.{readonly_in, path_in}
 use Rattle.xf_form_machine.specs.SetValue.{unless_parent}
 use Rattle.xf_form_machine.specs.Behave.{model_at, rebuild, recalculate, revalidate}
 use Rattle.xf_form_machine.specs.Update.{reindex, shown, refresh_cleared, all_cleared, is_due, is_refresh_due}
-use Rattle.xf_form_machine.specs.Construct.{plant_document, build_model, first_shown, put_back}
+use Rattle.xf_form_machine.specs.Construct.{plant_document, build_model, first_shown, replace, put_back}
 use Rattle.xf_form_machine.specs.Events.{Fired, told_by, fired_at}
 use Rattle.xf_form_machine.specs.Acting.{Acting, acting, surroundings, binding_of, value_for, truth_for, text_for, whole_for}
 use Rattle.xf_form_machine.specs.Choose.{named_copy, set_index}
@@ -54,6 +54,7 @@ pub record ChangesBeside (p : Profile) : Type 0 where
   pub plant : (contents : List (ℕ × Content)) → MakesBeside (plant p contents)
   pub attach : (n parent place : ℕ) → GoesBeside (attach p n parent place)
   pub detach : (n : ℕ) → TurnsBeside (detach n)
+  pub replace : (n : ℕ) (contents : List (ℕ × Content)) → GoesBeside (replace p n contents)
   pub put_back : (first : Result State Refused) (place : ℕ) → GoesBeside (put_back p first place)
   -- what an event begins and ends with
   pub fresh : SameBeside (fresh p)

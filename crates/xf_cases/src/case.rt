@@ -4,6 +4,7 @@ use anyhow::Result;
 use std::alloc::{AllocError, Global};
 use xf_cli::xforms;
 use xf_io::{MemorySink, MemorySource};
+use xf_store::{Asked, MemoryStore, Store};
 
 /// No case writes more.
 const ROOM: usize = 1_048_576;
@@ -19,6 +20,9 @@ struct Devices {
     form_size: usize,
     fills: Vec<Fill>,
     events: Vec<u8>,
+    store: MemoryStore,
+    /// How much stands in the store before the run.
+    given: usize,
 }
 
 /// What stands for a mark in the form and the events.
@@ -39,6 +43,8 @@ pub fn outcome(alloc: Global, title: &str, words: &str, lines: &[&str]) -> Resul
         form_size: 0,
         fills: Vec::new(alloc),
         events: Vec::new(alloc),
+        store: MemoryStore::new(alloc, Vec::new(alloc)),
+        given: 0,
     };
     let mut form = String::new(alloc);
     let mut has_form = false;
@@ -69,8 +75,17 @@ impl Devices {
         if name == "fill" {
             return self.fill(alloc, rest);
         }
+        if name == "store" {
+            let (name, text) = rest.split_once(' ').unwrap_or((rest, ""));
+            if self.store.put(name, text.as_bytes()).is_ok() {
+                self.given = self.given.saturating_add(1);
+            }
+            return Ok(());
+        }
         let numbers = numbers_in(alloc, rest)?;
-        if name == "form-fails" {
+        if name == "store-fails" {
+            self.store = MemoryStore::new(alloc, numbers);
+        } else if name == "form-fails" {
             self.form_fails = numbers;
         } else if name == "events-fail" {
             self.event_fails = numbers;
@@ -150,8 +165,42 @@ fn ran(
     events.read_at_most(devices.read_at_most);
     let mut out = MemorySink::new(alloc, ROOM, devices.out_fails)?;
     out.take_at_most(devices.take_at_most);
-    let status = xforms(alloc, list.as_slice(), &mut form, &mut events, &mut out);
+    let mut store = devices.store;
+    let status = xforms(
+        alloc,
+        list.as_slice(),
+        &mut form,
+        &mut events,
+        &mut out,
+        &mut store,
+    );
     let bytes = out.into_bytes();
     let text = str::from_utf8(bytes.as_slice()).unwrap_or("bytes that are no text\n");
-    Ok((String::from_str(alloc, text)?, status))
+    let mut text = String::from_str(alloc, text)?;
+    push_puts(&mut text, &store, devices.given)?;
+    Ok((text, status))
+}
+
+/// A line for each put behind so many calls.
+pub fn push_puts(text: &mut String, store: &MemoryStore, given: usize) -> Result<(), AllocError> {
+    let Some(calls) = store.calls() else {
+        return Ok(());
+    };
+    for (at, call) in calls.as_slice().iter().enumerate() {
+        if at < given {
+            continue;
+        }
+        if let Asked::Put(bytes) = &call.asked {
+            text.push_str("put ")?;
+            text.push_str(text_of(call.name.as_slice()))?;
+            text.push_str(" ")?;
+            text.push_str(text_of(bytes.as_slice()))?;
+            text.push_str("\n")?;
+        }
+    }
+    Ok(())
+}
+
+fn text_of(bytes: &[u8]) -> &str {
+    str::from_utf8(bytes).unwrap_or("bytes that are no text")
 }

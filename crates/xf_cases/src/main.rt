@@ -7,13 +7,15 @@
 //! - `: read N`, `: take N`: so many bytes of the events are read, or taken by the sink, in one call at the most;
 //! - `: fill MARK COUNT TEXT`: wherever the mark stands in the form and the events, the text stands so many times;
 //! - `: form-size N`: blanks are added to the form up to so many bytes;
-//! - `: blank-lines COUNT N`: the events begin with so many lines of so many blanks.
+//! - `: blank-lines COUNT N`: the events begin with so many lines of so many blanks;
+//! - `: store-fails N..`: which calls of the store fail, those by which a line of the next kind fills it counted too; it stands before these;
+//! - `: store NAME TEXT`: the text stands in the store under the name.
 //!
 //! A title and a line `@ NAME` are an example: the form and the events are the files `NAME/form.json` and `NAME/events`, the words are `try`,
-//! and what must come is `NAME/replies`.
+//! and what must come is `NAME/replies`. Behind it may stand lines `: store FILE`: the file `NAME/store/FILE` stands in the store under that name.
 //!
-//! For a case come its title, what `xforms` writes, and `= ` with the number that it ends with; for an example what it writes comes only where
-//! it is not what must come.
+//! For a case come its title, what `xforms` writes, a line `put NAME TEXT` for each put into the store, and `= ` with the number that it ends
+//! with; for an example what it writes comes only where it is not what must come.
 #![tactic(auto)]
 
 mod case;
@@ -45,7 +47,7 @@ fn written(rt: &HostRuntime, lines: &[&str]) -> Result<String> {
         return Ok(no_case(alloc)?);
     };
     if let Some(name) = second.strip_prefix("@ ") {
-        return example::outcome(rt, title, name);
+        return example::outcome(rt, title, name, rest);
     }
     let Some(words) = second.strip_prefix("$ ") else {
         return Ok(no_case(alloc)?);

@@ -11,14 +11,14 @@ use xf_store::{Answer, Answers};
 const FORM: &[u8; 123] =
     br#"["f",{"xmlns:xf":"http://www.w3.org/2002/xforms"},["xf:model",["xf:instance",["d","1"]]],["xf:input",{"id":"a","ref":"."}]]"#;
 
-const LINE: &[u8; 18] = br#"["set","a",[],"2"]"#;
+pub(crate) const LINE: &[u8; 18] = br#"["set","a",[],"2"]"#;
 
 // that form under epoch 1, with a base of no answers and the line as its one entry
-const SLOT: &[u8; 179] =
+pub(crate) const SLOT: &[u8; 179] =
     b"\x01XFS2\x01\0\0\0\0\0\0\0\x7b\0\0\0\x02\0\0\0\0\0\0\0[\"f\",{\"xmlns:xf\":\"http://www.w3.org/2002/xforms\"},[\"xf:model\",[\"xf:instance\",[\"d\",\"1\"]]],[\"xf:input\",{\"id\":\"a\",\"ref\":\".\"}]]\0\0\x01\x17\0\0\0\x12\0\0\0[\"set\",\"a\",[],\"2\"]\0\0";
 
 // the same in the first format, which is read and appended to, and no more written
-const OLD_SLOT: &[u8; 175] =
+pub(crate) const OLD_SLOT: &[u8; 175] =
     b"\x01XFS1\x01\0\0\0\0\0\0\0\x7b\0\0\0\x02\0\0\0[\"f\",{\"xmlns:xf\":\"http://www.w3.org/2002/xforms\"},[\"xf:model\",[\"xf:instance\",[\"d\",\"1\"]]],[\"xf:input\",{\"id\":\"a\",\"ref\":\".\"}]]\0\0\x01\x17\0\0\0\x12\0\0\0[\"set\",\"a\",[],\"2\"]\0\0";
 
 fn image(alloc: Global) -> Result<Image, AllocError> {
@@ -196,7 +196,7 @@ fn slot_with([tag, epoch, gate]: [u8; 3]) -> [u8; 175] {
 }
 
 /// A fill for the bytes that were written since the last sync, and how far a slot may have grown.
-const CRASHES: [(Option<u8>, u64); 8] = [
+pub(crate) const CRASHES: [(Option<u8>, u64); 8] = [
     (None, 0),
     (None, 1 << 26),
     (Some(0), 0),

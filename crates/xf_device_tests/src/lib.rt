@@ -19,6 +19,8 @@ mod disks;
 #[cfg(test)]
 mod journals;
 #[cfg(test)]
+mod renewals;
+#[cfg(test)]
 mod same;
 #[cfg(test)]
 mod shrinking;

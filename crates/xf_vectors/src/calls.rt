@@ -1,6 +1,9 @@
 //! The crates that cases call.
 
-use crate::{dates, functions, graphs, json, names, numbers, schemas, snaps, tables, trees, types};
+use crate::{
+    dates, explanations, functions, graphs, json, names, numbers, schemas, snaps, tables, trees,
+    types,
+};
 use hex::FromHexError;
 use std::alloc::{AllocError, Global};
 use xf_name::Word;
@@ -24,6 +27,7 @@ pub fn answer(alloc: Global, name: &str, call: &str, given: &[Word]) -> Answer {
         "xf_graph" => graphs::answer(alloc, call, given),
         "xf_snap" => snaps::answer(alloc, call, given),
         "xf_schema" => schemas::answer(alloc, call, given),
+        "xf_explain" => explanations::answer(alloc, call, given),
         _ => Ok(None),
     }
 }

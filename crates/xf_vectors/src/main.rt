@@ -7,6 +7,7 @@
 
 mod calls;
 mod dates;
+mod explanations;
 mod functions;
 mod graphs;
 mod json;
@@ -24,7 +25,7 @@ use std::alloc::{AllocError, Global};
 use std::io;
 
 /// The crates that are called, in the order of the report.
-const NAMES: [&str; 12] = [
+const NAMES: [&str; 13] = [
     "xf_num",
     "xf_types",
     "xf_dates",
@@ -37,6 +38,7 @@ const NAMES: [&str; 12] = [
     "xf_graph",
     "xf_snap",
     "xf_schema",
+    "xf_explain",
 ];
 
 fn main(rt: HostRuntime) -> anyhow::Result<()> {

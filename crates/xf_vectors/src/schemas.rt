@@ -7,97 +7,139 @@ use std::alloc::{AllocError, Global};
 use xf_base::Items;
 use xf_name::Word;
 use xf_schema::{
-    Facet, FacetKind, Restriction, SchemaFault, Schemas, Site, TypeName, Written, compile,
-    declared, meets_named,
+    Facet, FacetKind, NamedType, Restriction, TypeName, first_bad, is_of_type, type_called,
 };
+
+/// Types that are spelt, and the words at each place, the first of which is 1.
+#[derive(Drop)]
+struct Spelt {
+    types: Items<Restriction>,
+    words: Items<Word>,
+}
 
 pub fn answer(alloc: Global, call: &str, given: &[Word]) -> Answer {
     let [types, rest @ ..] = given else {
         return Ok(None);
     };
-    let Some(mut written) = written_of(alloc, types.as_str())? else {
+    let Some(spelt) = spelt_of(alloc, types.as_str())? else {
         return Ok(None);
     };
     match (call, rest) {
-        ("bad", []) => bad_in(alloc, &written),
+        ("bad", []) => bad_in(alloc, &spelt, None),
         ("bad", [place]) => match place.as_str().parse::<u32>() {
-            Ok(place) => {
-                written.first_bad = Some(site(alloc, place, "other")?);
-                bad_in(alloc, &written)
-            }
+            Ok(place) => bad_in(alloc, &spelt, Some(place)),
             Err(_) => Ok(None),
         },
-        ("meets", [name, text]) => meets(alloc, &written, name.as_str(), text.as_str()),
+        ("meets", [name, text]) => meets(alloc, &spelt, name.as_str(), text.as_str()),
         _ => Ok(None),
     }
 }
 
-/// The path of the first bad element, or `none`.
-fn bad_in(alloc: Global, written: &Written) -> Answer {
-    match compile(alloc, written) {
-        Ok(_) => Ok(Some(String::from_str(alloc, "none")?)),
-        Err(SchemaFault::Bad(path)) => Ok(Some(String::from_str(alloc, path.as_str())?)),
-        Err(SchemaFault::Memory) => Err(AllocError),
-    }
-}
-
-fn meets(alloc: Global, written: &Written, name: &str, text: &str) -> Answer {
-    let (space, local) = parts_of(name);
-    let Some(number) = declared(written.types.as_slice(), space_of(space), local) else {
+/// The place of the first bad element and the words there, or `none`.
+fn bad_in(alloc: Global, spelt: &Spelt, other: Option<u32>) -> Answer {
+    let Some(place) = first_bad(spelt.types.as_slice(), other) else {
         return Ok(Some(String::from_str(alloc, "none")?));
     };
-    match compile(alloc, written) {
-        Ok(schemas) => meets_in(alloc, &schemas, number, text),
-        Err(SchemaFault::Bad(_)) => Ok(Some(String::from_str(alloc, "bad")?)),
-        Err(SchemaFault::Memory) => Err(AllocError),
+    if other == Some(place) {
+        return Ok(Some(String::from_str(alloc, "other")?));
     }
+    let words = match spelt
+        .words
+        .as_slice()
+        .get((place as usize).saturating_sub(1))
+    {
+        Some(words) => words.as_str(),
+        None => "",
+    };
+    Ok(Some(format!(in alloc; "{place} {words}")?))
 }
 
-fn meets_in(alloc: Global, schemas: &Schemas, number: usize, text: &str) -> Answer {
-    told(alloc, meets_named(alloc, schemas, number, text)?)
+fn meets(alloc: Global, spelt: &Spelt, name: &str, text: &str) -> Answer {
+    let types = spelt.types.as_slice();
+    let Some(NamedType::Declared(number)) = named_in(alloc, types, name)? else {
+        return Ok(Some(String::from_str(alloc, "none")?));
+    };
+    if first_bad(types, None).is_some() {
+        return Ok(Some(String::from_str(alloc, "bad")?));
+    }
+    told(
+        alloc,
+        is_of_type(alloc, types, &NamedType::Declared(number), text)?,
+    )
+}
+
+fn named_in(
+    alloc: Global,
+    types: &[Restriction],
+    name: &str,
+) -> Result<Option<NamedType>, AllocError> {
+    let mut names = Items::new(alloc);
+    for restriction in types {
+        names.push(copied(alloc, &restriction.name)?)?;
+    }
+    let (space, local) = parts_of(name);
+    Ok(type_called(names.as_slice(), space_of(space), local))
+}
+
+fn copied(alloc: Global, name: &TypeName) -> Result<TypeName, AllocError> {
+    Ok(TypeName {
+        space: Word::from_str(alloc, name.space.as_str())?,
+        local: Word::from_str(alloc, name.local.as_str())?,
+    })
 }
 
 // ---- types as they are spelt
 
-fn written_of(alloc: Global, text: &str) -> Result<Option<Written>, AllocError> {
-    let mut types = Items::new(alloc);
-    let mut place = 0;
+fn spelt_of(alloc: Global, text: &str) -> Result<Option<Spelt>, AllocError> {
+    let mut names = Items::new(alloc);
     for line in text.split(';') {
-        let Some(restriction) = type_of(alloc, line, &mut place)? else {
-            return Ok(None);
-        };
-        types.push(restriction)?;
+        let name = line.split_once(',').map_or(line, |parts| parts.0);
+        names.push(name_of(alloc, name)?)?;
     }
-    Ok(Some(Written {
-        types,
-        first_bad: None,
-    }))
+    let mut spelt = Spelt {
+        types: Items::new(alloc),
+        words: Items::new(alloc),
+    };
+    for line in text.split(';') {
+        if !push_type(alloc, line, names.as_slice(), &mut spelt)? {
+            return Ok(None);
+        }
+    }
+    Ok(Some(spelt))
 }
 
-fn type_of(alloc: Global, line: &str, place: &mut u32) -> Result<Option<Restriction>, AllocError> {
+/// Whether a type is spelt so.
+fn push_type(
+    alloc: Global,
+    line: &str,
+    names: &[TypeName],
+    spelt: &mut Spelt,
+) -> Result<bool, AllocError> {
     let mut words = line.split(',');
     let (Some(name), Some(base)) = (words.next(), words.next()) else {
-        return Ok(None);
+        return Ok(false);
     };
-    let type_site = next_site(alloc, place, name)?;
-    let own_site = next_site(alloc, place, base)?;
+    let type_place = next_place(alloc, spelt, name)?;
+    let place = next_place(alloc, spelt, base)?;
     let mut facets = Items::new(alloc);
     for word in words {
-        let Some(facet) = facet_of(alloc, word, place)? else {
-            return Ok(None);
+        let Some(facet) = facet_of(alloc, word, spelt)? else {
+            return Ok(false);
         };
         facets.push(facet)?;
     }
-    Ok(Some(Restriction {
+    let (space, local) = parts_of(base);
+    spelt.types.push(Restriction {
         name: name_of(alloc, name)?,
-        type_site,
-        base: name_of(alloc, base)?,
-        site: own_site,
+        type_place,
+        base: type_called(names, space_of(space), local),
+        place,
         facets,
-    }))
+    })?;
+    Ok(true)
 }
 
-fn facet_of(alloc: Global, word: &str, place: &mut u32) -> Result<Option<Facet>, AllocError> {
+fn facet_of(alloc: Global, word: &str, spelt: &mut Spelt) -> Result<Option<Facet>, AllocError> {
     let Some((name, value)) = word.split_once('=') else {
         return Ok(None);
     };
@@ -107,7 +149,7 @@ fn facet_of(alloc: Global, word: &str, place: &mut u32) -> Result<Option<Facet>,
     Ok(Some(Facet {
         kind,
         value: Word::from_str(alloc, value)?,
-        site: next_site(alloc, place, word)?,
+        place: next_place(alloc, spelt, word)?,
     }))
 }
 
@@ -129,18 +171,9 @@ fn kind_of(name: &str) -> Option<FacetKind> {
 }
 
 /// The next place, from 1, with the words there.
-fn next_site(alloc: Global, place: &mut u32, words: &str) -> Result<Site, AllocError> {
-    *place = place.saturating_add(1);
-    let now = *place;
-    let path = format!(in alloc; "{now} {words}")?;
-    site(alloc, now, path.as_str())
-}
-
-fn site(alloc: Global, place: u32, path: &str) -> Result<Site, AllocError> {
-    Ok(Site {
-        place,
-        path: Word::from_str(alloc, path)?,
-    })
+fn next_place(alloc: Global, spelt: &mut Spelt, words: &str) -> Result<u32, AllocError> {
+    spelt.words.push(Word::from_str(alloc, words)?)?;
+    u32::try_from(spelt.words.as_slice().len()).map_err(|_| AllocError)
 }
 
 fn name_of(alloc: Global, name: &str) -> Result<TypeName, AllocError> {
