@@ -8,8 +8,9 @@ ghost use Rattle.xf_walks.specs.Leaves.{AreLeaves, parts_in};
 ghost use Rattle.xf_walks.specs.Nodes.{node_of};
 ghost use Rattle.xf_changes.specs.Below.{attribute_at, child_at, row_below, elements_over, IsBehind, IsPlaced};
 
+use xf_base::limits::DEPTH_LIMIT;
 use xf_rows::{Hints, RowSlice, Rows, end_of, move_last, parent_row, paste};
-use xf_slots::{DEPTH_LIMIT, Slots, is_attribute_at, is_element_at};
+use xf_slots::{Slots, is_attribute_at, is_element_at};
 use xf_walks::is_kin_at;
 
 /// How many elements a child of the node at a place is below.

@@ -10,13 +10,11 @@ ghost use Rattle.xf_walks.specs.Nodes.{node_of, times, KeepsBut};
 ghost use Rattle.xf_changes.specs.Texts.{passed_by, text_slot, text_count, IsOwned, children, keys_of, numbers_at, numbers_in, text_row, places_of, is_wanted, is_left, no_text, moved_text};
 
 use std::alloc::AllocError;
+use xf_base::limits::{ALL_LIMIT, NODE_LIMIT, TEXT_LIMIT};
 use xf_doc::{Content, NodeId, TreeFault};
 use xf_name::Word;
 use xf_rows::{RowSlice, Rows};
-use xf_slots::{
-    ALL_LIMIT, NODE_LIMIT, ROW_LIMIT, Slots, TEXT_LIMIT, free_node, is_attribute_at, number_of,
-    size_at,
-};
+use xf_slots::{ROW_LIMIT, Slots, free_node, is_attribute_at, number_of, size_at};
 
 /// The limit that is passed by so many nodes, a text of so many bytes, and so many bytes together.
 pub fn passed(count: usize, text: usize, bytes: u128) -> Option<TreeFault>

@@ -19,6 +19,7 @@ use crate::around::{Surroundings, documents, first_child};
 use crate::indexes::Index;
 use crate::over::{Over, is_live, value};
 use xf_ast::{Expr, Form};
+use xf_base::limits::STRING_LIMIT;
 use xf_doc::{Kind, NodeId, NodeList};
 use xf_elements::{Bound, binding_of, element_in};
 use xf_eval::{EvalFault, nodes_in};
@@ -26,9 +27,6 @@ use xf_name::Word;
 use xf_nested::{bound_nodes, nested};
 use xf_tree::Forest;
 use xf_ui::{Focus, Property};
-
-/// No string of an evaluation has more bytes.
-const STRING_LIMIT: u32 = 4_194_304;
 
 /// What an element binds.
 pub fn binding_at(form: &Form, element: u32) -> Bound<'_>

@@ -20,14 +20,12 @@ use crate::binding::context_at;
 use crate::element::printed_in;
 use std::alloc::Global;
 use xf_ast::{Expr, Kind, Tables};
+use xf_base::limits::STRING_LIMIT;
 use xf_doc::NodeId;
 use xf_elements::Bound;
 use xf_eval::{Around, EvalFault, text_of, value_at};
 use xf_name::Word;
 use xf_tree::Forest;
-
-/// No string of an evaluation has more bytes.
-const STRING_LIMIT: u32 = 4_194_304;
 
 /// The value of what binds a node: `None` is no value.
 pub(crate) fn value_of<A: Around>(

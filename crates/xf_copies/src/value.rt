@@ -14,14 +14,12 @@ ghost use Rattle.xf_copies.specs.Made as made;
 
 use crate::copy::own_binding;
 use xf_ast::{Control, Expr, Form, Kind};
+use xf_base::limits::STRING_LIMIT;
 use xf_context::{Over, Situation, is_live, text};
 use xf_doc::NodeId;
 use xf_elements::{Bound, element_in};
 use xf_eval::EvalFault;
 use xf_name::Word;
-
-/// No string of an evaluation has more bytes.
-const STRING_LIMIT: u32 = 4_194_304;
 
 /// The value of what binds a node: `None` is no value.
 pub(crate) fn value_of(

@@ -1,6 +1,7 @@
 -- The limits of a forest. A change is refused where its result would pass one; of several the first in this order is named.
-use Rattle.std.specs.Prelude.{ℕ, suc, ◌+◌, ◌^◌, Bool, not, ◌&&◌, List, length, count_by, sum_by, Option, Some, None, Result, Ok, Err, nat_lt, if◌then◌else◌}
+use Rattle.std.specs.Prelude.{ℕ, suc, ◌+◌, Bool, not, ◌&&◌, List, length, count_by, sum_by, Option, Some, None, Result, Ok, Err, nat_lt, if◌then◌else◌}
 use Rattle.std.specs.List.{list_any}
+use Rattle.xf_base.specs.Limits.{node_limit, text_limit, all_limit, depth_limit}
 use Rattle.xf_doc.specs.declared.content.Node.{Node}
 use Rattle.xf_doc.specs.declared.content.Name.{Name}
 use Rattle.xf_doc.specs.declared.content.Content.{Content}
@@ -20,7 +21,7 @@ pub record Limits : Type 0 where
 
 -- the limits of every forest
 abbrev pub limits : Limits
-limits = record { nodes = 65536; text = 65536; all = 2 ^ 22; depth = 100 }
+limits = record { nodes = node_limit; text = text_limit; all = all_limit; depth = depth_limit }
 
 -- a root is no node that counts
 abbrev pub node_count : List Node → ℕ

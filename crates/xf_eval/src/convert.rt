@@ -10,8 +10,9 @@ ghost use Rattle.xf_eval.specs.Live.{AllLive};
 ghost use Rattle.xf_eval.specs.Worth.{bare_setting, text_worth, number_worth};
 
 use crate::around::Around;
-use crate::texts::{STRING_LIMIT, first_value};
+use crate::texts::first_value;
 use std::alloc::Global;
+use xf_base::limits::STRING_LIMIT;
 use xf_doc::{NodeId, NodeList};
 use xf_lang::{EvalFault, Value};
 use xf_name::Word;

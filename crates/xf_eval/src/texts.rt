@@ -10,14 +10,12 @@ ghost use Rattle.xf_eval.specs.Worth.{bare_setting};
 ghost use Rattle.xf_eval.specs.Texts.{characters, number_at};
 
 use std::alloc::Global;
+use xf_base::limits::STRING_LIMIT;
 use xf_doc::{NodeId, NodeList};
 use xf_lang::EvalFault;
 use xf_name::Word;
 use xf_num::{Decimals, Num};
 use xf_tree::Forest;
-
-/// No string of an evaluation has more bytes.
-pub(crate) const STRING_LIMIT: u32 = 4_194_304;
 
 /// A string value.
 #[derive(Drop)]

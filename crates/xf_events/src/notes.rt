@@ -6,11 +6,9 @@ ghost use Rattle.xf_events.specs.Notes.{IsMeasured, IsNoted};
 use std::alloc::{AllocError, AllocFailed, Global};
 use std::marker::Model;
 use xf_base::Items;
+use xf_base::limits::NOTE_LIMIT;
 use xf_form_machine::{Note, Notes};
 use xf_report::push_notes;
-
-/// The bytes of note lines that one event may have.
-const NOTES: usize = 1_048_576;
 
 /// Why a note is not added.
 #[derive(Clone, Copy, Debug, PartialEq, Eq)]
@@ -85,7 +83,7 @@ impl NoteList {
     {
         let (note, more) = measured(alloc, note)?;
         let size = self.size;
-        if more > NOTES - size {
+        if more > NOTE_LIMIT - size {
             return Err(NoteFault::Limit);
         }
         self.notes.push(note)?;
@@ -120,6 +118,6 @@ fn measured(alloc: Global, note: Note) -> Result<(Note, usize), AllocError>
     push_notes(alloc, &mut lines, one.as_slice())?;
     match one.pop() {
         Some(note) => Ok((note, lines.len())),
-        None => Err(AllocError),
+        None => unreachable!(),
     }
 }

@@ -1,5 +1,6 @@
 -- What is told of the refusal of a form.
 use Rattle.std.specs.Prelude.{ℕ, ◌≡◌, ◌≤◌, ◌==◌, ◌++◌, Bool, true, false, if◌then◌else◌, nat_le, List, length, take, codes, Option, Some, None, Result, Ok, Err}
+use Rattle.xf_base.specs.Limits.{told_limit}
 use Rattle.xf_json.specs.Element.{lit_in}
 use Rattle.xf_json.specs.declared.fault.JsonFault.{JsonFault}
 use Rattle.xf_loader.specs.declared.fault.FormFault.{FormFault}
@@ -61,7 +62,7 @@ IsDetail bytes n place detail = IsDetailWhere (n == 1) bytes n place detail
 -- a front of a text, and a mark that more would follow
 pub record IsFront (text shown : List ℕ) : Type 0 where
   pub count : ℕ
-  pub within : count ≤ 8192
+  pub within : count ≤ told_limit
   pub front : shown ≡ take count text ++ codes " ..\n"
 
 abbrev pub IsShownWhere : Bool → List ℕ → List ℕ → Type 0
@@ -70,7 +71,7 @@ IsShownWhere false text shown = IsFront text shown
 
 -- a text as it is, or of a long one its front
 abbrev pub IsShown : List ℕ → List ℕ → Type 0
-IsShown text shown = IsShownWhere (nat_le (length text) 8192) text shown
+IsShown text shown = IsShownWhere (nat_le (length text) told_limit) text shown
 
 pub record IsTold (bytes : List ℕ) (n : ℕ) (place text : List ℕ) : Type 0 where
   pub detail : Detail

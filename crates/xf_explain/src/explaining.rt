@@ -7,11 +7,9 @@ ghost use Rattle.xf_explain.specs.Explained.{Explains, IsShown, IsTold};
 use crate::found::detail_of;
 use crate::text::told;
 use std::alloc::{AllocError, Global};
+use xf_base::limits::TOLD_LIMIT;
 use xf_loader::{FormFault, load};
 use xf_name::Word;
-
-/// The most bytes of an explanation, but for a mark that more would follow: so many a pipe takes at once, where nobody reads it.
-const MOST_BYTES: usize = 8192;
 
 /// What is known of the refusal of a form by its bytes, or None where it loads.
 ///
@@ -46,10 +44,10 @@ fn explain_refusal(
 fn shown(alloc: Global, text: &str) -> Result<String, AllocError>
     ensures { IfOk result (λ shown. IsShown text.now (string_bytes shown)) }
 {
-    if text.len() <= MOST_BYTES {
+    if text.len() <= TOLD_LIMIT {
         return String::from_str(alloc, text);
     }
-    let end = text.floor_char_boundary(MOST_BYTES);
+    let end = text.floor_char_boundary(TOLD_LIMIT);
     let mut front = String::from_str(alloc, &text[..end])?;
     front.push_str(" ..\n")?;
     Ok(front)

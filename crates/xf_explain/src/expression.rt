@@ -5,9 +5,7 @@ ghost use Rattle.std.specs.List.{list_all};
 ghost use Rattle.xf_explain.specs.Places as places;
 
 use std::alloc::AllocError;
-
-/// The most bytes of an expression that is shown: no longer one is read.
-const MOST_BYTES: usize = 4096;
+use xf_base::limits::EXPRESSION_LIMIT;
 
 /// How many characters of a text stand before the place.
 pub fn characters_before(text: &[u8], place: u32) -> usize
@@ -42,7 +40,7 @@ pub fn push_expression(text: &mut String, expression: &str, place: u32) -> Resul
 fn is_shown(bytes: &[u8]) -> bool
     ensures { result ≡ places.is_shown bytes.now }
 {
-    bytes.len() <= MOST_BYTES && are_visible(bytes)
+    bytes.len() <= EXPRESSION_LIMIT && are_visible(bytes)
 }
 
 fn are_visible(bytes: &[u8]) -> bool

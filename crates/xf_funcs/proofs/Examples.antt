@@ -11,7 +11,7 @@ use Rattle.xf_funcs.specs.Called.{called}
 use Rattle.xf_funcs.specs.Served.{is_served}
 use Rattle.xf_funcs.specs.Numbers.{power}
 use Rattle.xf_funcs.specs.Searching.{around, is_true_text}
-use Rattle.xf_funcs.specs.Spaces.{words, joined}
+use Rattle.xf_types.specs.Spaces.{words, joined}
 use Rattle.xf_funcs.specs.Substring.{substring_of, substring_from}
 use Rattle.xf_funcs.specs.Translate.{image}
 

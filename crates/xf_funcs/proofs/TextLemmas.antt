@@ -1,17 +1,13 @@
 -- Texts cut between characters.
 use Rattle.std.proofs.Common.{◌≡◌, ℕ, ◌-◌, ◌+◌, ◌≤◌, List, [], ◌++◌, length, take, drop, sym, ap, ◌∙◌, arith, length-append, take-append-drop}
-use Rattle.std.specs.Prelude.{IsUtf8, IsCharBoundary, chars, encode_utf8, encode_utf8_all}
-use Rattle.std.proofs.lemmas.Str.{encodes-chars, encodes-append, IsCharBoundary-at_seam, length-encode, len_utf8_bounds}
+use Rattle.std.specs.Prelude.{IsUtf8, IsCharBoundary, chars, encode_utf8_all}
+use Rattle.std.proofs.lemmas.Str.{encodes-chars, encodes-append, IsCharBoundary-at_seam}
 use Rattle.std.proofs.Math.Seq.{take-append_seam, drop-nil}
 
 -- the bytes of the characters of a text are the text, in two parts
 pub split_at : (text : List ℕ) (count : ℕ) → IsUtf8 text → encode_utf8_all (take count (chars text)) ++ encode_utf8_all (drop count (chars text)) ≡ text
 split_at text count u =
     sym (encodes-append (take count (chars text)) (drop count (chars text))) ∙ ap encode_utf8_all (take-append-drop count (chars text)) ∙ encodes-chars text u
-
--- a character takes a byte at least
-pub encode-some : (c : ℕ) → 1 ≤ length (encode_utf8 c)
-encode-some c = omega (arith, length-encode c, len_utf8_bounds c)
 
 -- what is left where so many characters were passed
 pub past_all : (text rest : List ℕ) (count left : ℕ) → encode_utf8_all (chars rest) ≡ rest → drop left (chars rest) ≡ drop count (chars text) → left ≡ 0 → rest ≡ encode_utf8_all (drop count (chars text))

@@ -17,7 +17,7 @@ use Rattle.xf_dates.specs.Durations.{duration}
 use Rattle.xf_funcs.specs.Given.{string_at, number_at}
 use Rattle.xf_funcs.specs.Numbers.{power, order_number, day_number, months_in, seconds_in}
 use Rattle.xf_funcs.specs.Searching.{begins_with, contains, before, after, order_of_texts, is_true_text}
-use Rattle.xf_funcs.specs.Spaces.{normalized}
+use Rattle.xf_types.specs.Spaces.{normalized}
 use Rattle.xf_funcs.specs.Substring.{substring_from, substring_of}
 use Rattle.xf_funcs.specs.Translate.{translated}
 

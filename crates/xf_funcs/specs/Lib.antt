@@ -2,7 +2,6 @@ pub mod Given
 pub mod Searching
 pub mod Substring
 pub mod Translate
-pub mod Spaces
 pub mod Numbers
 pub mod Called
 pub mod Served

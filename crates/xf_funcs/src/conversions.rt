@@ -10,11 +10,9 @@ ghost use Rattle.xf_funcs.specs.Given.{string_of};
 use crate::fault::FuncFault;
 use std::alloc::Global;
 use std::borrow::CowStr;
+use xf_base::limits::STRING_LIMIT;
 use xf_num::{Decimals, Num};
 use xf_plain_values::Plain;
-
-/// No string of an evaluation has more bytes.
-pub const STRING_LIMIT: usize = 4_194_304;
 
 /// The value as a number.
 pub fn number_of(value: &Plain, decimals: Decimals) -> Num
@@ -69,7 +67,7 @@ fn text_of_truth(truth: bool) -> &'static str
 fn capped<'a>(string: CowStr<'a, Global>) -> Result<CowStr<'a, Global>, FuncFault>
     ensures { GivesBounded FuncFault.Memory FuncFault.Long cow_str_bytes result (capped (Some string_limit) (cow_str_bytes string.entry)) }
 {
-    if string.len() > STRING_LIMIT {
+    if string.len() > STRING_LIMIT as usize {
         return Err(FuncFault::Long);
     }
     Ok(string)

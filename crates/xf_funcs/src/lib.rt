@@ -9,7 +9,6 @@ mod given;
 mod numbers;
 mod searching;
 mod served;
-mod spaces;
 mod strings;
 mod substring;
 mod text;

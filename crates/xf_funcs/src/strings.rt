@@ -6,18 +6,18 @@ ghost use Rattle.xf_plain_values.specs.declared.plain.Plain.TheVariants.{Text};
 ghost use Rattle.xf_plain_values.specs.Bounded.{GivesBounded};
 ghost use Rattle.xf_funcs.specs.Called.{property_value, concat_of, substring_called, translate_of, by_strings, by_texts};
 
-use crate::conversions::{STRING_LIMIT, string_of, whole};
+use crate::conversions::{string_of, whole};
 use crate::fault::FuncFault;
 use crate::given::{number_at, string_at};
 use crate::searching::{after, before, begins_with, compared, contains, is_true_text};
-use crate::spaces::normalized;
 use crate::substring::{substring_from, substring_of};
-use crate::text::char_count;
 use crate::translate::translated;
 use std::alloc::Global;
+use xf_base::limits::STRING_LIMIT;
 use xf_name::Word;
 use xf_num::Decimals;
 use xf_plain_values::Plain;
+use xf_types::{char_count, normalized};
 
 /// The functions that ask something of strings.
 pub fn by_strings(
@@ -138,7 +138,7 @@ fn concat_of(alloc: Global, given: &[Plain], decimals: Decimals) -> Result<Plain
             Ok(string) => string,
             Err(fault) => return Err(fault),
         };
-        if made.len() + string.len() > STRING_LIMIT {
+        if made.len() + string.len() > STRING_LIMIT as usize {
             return Err(FuncFault::Long);
         }
         made.push_str(string.as_str())?;

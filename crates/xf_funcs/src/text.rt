@@ -1,26 +1,8 @@
 //! Texts by their characters.
 
-ghost use Rattle.std.specs.Prelude.{◌≡◌, ◌<◌, length, take, drop, [], ◌∷◌, MatchOption, chars, encode_utf8_all};
+ghost use Rattle.std.specs.Prelude.{◌≡◌, take, drop, chars, encode_utf8_all};
 
-/// The first character, and what follows it.
-pub fn split_first(text: &str) -> Option<(char, &str)>
-    ensures { MatchOption result ((chars text.now ≡ []) × (text.now ≡ []))
-        (λ (c, rest). (chars text.now ≡ c ∷ chars rest.now) × (length rest.now < length text.now)
-        × (encode_utf8_all (chars rest.now) ≡ rest.now)) }
-{
-    let mut chars = text.chars();
-    match chars.next() {
-        Some(c) => Some((c, chars.as_str())),
-        None => None,
-    }
-}
-
-/// How many characters there are.
-pub fn char_count(text: &str) -> usize
-    ensures { result ≡ length (chars text.now) }
-{
-    text.chars().count()
-}
+use xf_types::split_first;
 
 /// What follows so many characters.
 pub fn past(text: &str, count: usize) -> &str

@@ -7,11 +7,11 @@ ghost use Rattle.xf_base.specs.Limits.{string_limit};
 ghost use Rattle.xf_plain_values.specs.Bounded.{GivesBounded, capped};
 ghost use Rattle.xf_funcs.specs.Translate.{first, others, mapped, kept_or, translated};
 
-use crate::conversions::STRING_LIMIT;
 use crate::fault::FuncFault;
-use crate::text::split_first;
 use std::alloc::Global;
 use std::collections::BTreeMap;
+use xf_base::limits::STRING_LIMIT;
+use xf_types::split_first;
 
 /// For each character that is replaced what it becomes, nothing where it is left out.
 type Images = BTreeMap<char, Option<char>>;
@@ -28,7 +28,7 @@ pub fn translated(alloc: Global, text: &str, from: &str, to: &str) -> Result<Str
         if let Some(image) = image(&images, c) {
             made.push(image)?;
         }
-        if made.len() > STRING_LIMIT {
+        if made.len() > STRING_LIMIT as usize {
             return Err(FuncFault::Long);
         }
     }

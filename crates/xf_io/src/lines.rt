@@ -1,6 +1,6 @@
 //! The reader of lines.
 
-ghost use Rattle.std.specs.Prelude.{◌≡◌, ◌≤◌, ◌<◌, ◌+◌, ◌-◌, ◌^◌, [], List, ℕ, length, take, drop, OnOk, OnErr, Ok, true, false, Some};
+ghost use Rattle.std.specs.Prelude.{◌≡◌, ◌≤◌, ◌<◌, ◌+◌, ◌-◌, [], List, ℕ, length, take, drop, OnOk, OnErr, Ok, true, false, Some};
 ghost use Rattle.std.specs.Io.KnownBytes.{prepend_known, Keeps, IsAtEnd};
 ghost use Rattle.xf_base.specs.Faults.{HasCause, Rose};
 ghost use Rattle.xf_base.specs.Limits.{stream_limit};
@@ -12,11 +12,9 @@ use crate::part::Part;
 use crate::{Bytes, Failed, Source};
 use std::alloc::Global;
 use std::marker::Model;
+use xf_base::limits::STREAM_LIMIT;
 
 const ROOM: usize = 4096;
-
-/// The most bytes of a stream.
-const MAX_BYTES: usize = 67_108_864;
 
 /// The next line of a stream, or why there is none.
 #[derive(Drop)]
@@ -44,14 +42,15 @@ pub struct Lines {
 }
 
 impl Model for Lines {
-    ghost use Rattle.std.specs.Prelude.{◌≡◌, ◌≤◌, ◌-◌, ◌^◌, take, drop, true};
+    ghost use Rattle.std.specs.Prelude.{◌≡◌, ◌≤◌, ◌-◌, take, drop, true};
+    ghost use Rattle.xf_base.specs.Limits.{stream_limit};
     ghost use Rattle.xf_io.specs.Ahead.{Ahead};
 
     ghost Value = { Ahead };
 
     ghost view = { λ l. record { bytes = take (l.end - l.start) (drop l.start l.buffer); given = l.given; ended = l.ended } };
 
-    ghost invariant = { λ l. (l.start ≤ l.end) × (l.end ≤ 4096) × (l.given ≤ 2 ^ 26) × (l.ended ≡ true → l.start ≡ l.end) };
+    ghost invariant = { λ l. (l.start ≤ l.end) × (l.end ≤ 4096) × (l.given ≤ stream_limit) × (l.ended ≡ true → l.start ≡ l.end) };
 }
 
 /// What one step of the reader comes to.
@@ -189,14 +188,14 @@ impl Lines {
         ensures ahead { length self.now.bytes ≤ most_ahead }
     {
         let ahead = &self.buffer[self.start..self.end];
-        let most = (MAX_BYTES - self.given).min(ahead.len());
+        let most = (STREAM_LIMIT - self.given).min(ahead.len());
         &ahead[..most]
     }
 
     // Gives bytes that are ahead.
     fn skip(&mut self, count: usize)
         requires there { count ≤ length self.old.bytes }
-        requires few { self.old.given + count ≤ 2 ^ 26 }
+        requires few { self.old.given + count ≤ stream_limit }
         ensures bytes { self.new.bytes ≡ drop count self.old.bytes }
         ensures ended { self.new.ended ≡ self.old.ended }
         ensures given { self.new.given ≡ self.old.given + count }

@@ -1,19 +1,18 @@
 //! A part of a line.
 
 ghost use Rattle.std.specs.Prelude.{length, ◌≤◌};
+ghost use Rattle.xf_base.specs.Limits.{line_limit};
 
 use crate::{Bytes, Line};
 use std::alloc::{AllocError, Global};
-
-/// The most bytes of a line, its line feed apart.
-const MAX_LINE: usize = 65_536;
+use xf_base::limits::LINE_LIMIT;
 
 /// What has come of a line. Where it is too long, its front alone is kept.
 #[derive(Drop)]
 pub struct Part {
     pub kept: Bytes,
     pub long: bool,
-    ghost within: { length kept ≤ 65536 },
+    ghost within: { length kept ≤ line_limit },
 }
 
 impl Part {
@@ -34,7 +33,7 @@ impl Part {
         requires { IsOpen more.now }
         ensures { OnOk result (Grows self.old self.new more.now) }
     {
-        if self.long || more.len() > MAX_LINE - self.kept.len() {
+        if self.long || more.len() > LINE_LIMIT - self.kept.len() {
             self.long = true;
             return Ok(());
         }

@@ -117,7 +117,8 @@ module _ (line : List ℕ) (answers : List Answer) (within : is_within line answ
       let both = and_parts (nat_le (length line) 65536) (nat_le (length answers) 16) front.0 in
       (leb-true (length line) 65536 both.0, leb-true (length answers) 16 both.1, front.1)
 
-  all_written : answers_in (answers_bytes answers) ≡ Some answers
+  -- answers are read as they were written
+  pub all_written : answers_in (answers_bytes answers) ≡ Some answers
   all_written =
       if_true (nat_le (length answers) 16) (these_answers (length answers) (flat_map answer_bytes answers)) None (le-leb (length answers) 16 sizes.1) ∙ answers_written answers sizes.2
 

@@ -1,10 +1,10 @@
 mod Examples
 mod NumberLemmas
-mod EntryLemmas
-mod TailLemmas
+pub mod EntryLemmas
+pub mod TailLemmas
 mod HeaderLemmas
-mod SlotLemmas
-mod HeldLemmas
+pub mod SlotLemmas
+pub mod HeldLemmas
 mod AppendLemmas
 mod AppendRun
 mod SpliceLemmas

@@ -10,7 +10,8 @@ use Rattle.xf_disk.specs.Crash.{Torn, InSlot}
 use Rattle.xf_journal.specs.declared.layout.Format.TheVariants.{Second}
 use Rattle.xf_journal.specs.declared.image.Image as written
 use Rattle.xf_journal.specs.Numbers.{four, eight, from_four}
-use Rattle.xf_journal.specs.Layout.{new_bytes, is_open, open_epoch, epoch_in, form_length, base_length, base_at, entries_at, is_epoch, form_most, adoptions_in, adoption_limit}
+use Rattle.xf_base.specs.Limits.{form_limit, adoption_limit}
+use Rattle.xf_journal.specs.Layout.{new_bytes, is_open, open_epoch, epoch_in, form_length, base_length, base_at, entries_at, is_epoch, adoptions_in}
 use Rattle.xf_journal.specs.Held.{log_with, log_of, held, entries_from}
 use Rattle.xf_journal.specs.Scanned.{MayCreate, new_log, HoldsOldOr}
 use Rattle.xf_journal.proofs.NumberLemmas.{length-four, length-eight, from_four-four, from_eight-eight}
@@ -96,7 +97,7 @@ module _ (slot : Slot) (epoch : ℕ) (image : written.Image) (rest : List ℕ) (
   stand : FieldsStand Second flat
   stand = record {
     epoch = ap is_epoch epoch_is ∙ and_from (nat_le 1 epoch) (nat_lt epoch (2 ^ 62)) (le-leb 1 epoch first) (le-leb (suc epoch) (2 ^ 62) (omega (arith, small)));
-    form = ap (λ (k : ℕ). nat_le k form_most) form_is ∙ le-leb (length form) (2 ^ 20) form_fits;
+    form = ap (λ (k : ℕ). nat_le k form_limit) form_is ∙ le-leb (length form) (2 ^ 20) form_fits;
     form_stands = omega (arith, form_is, size);
     base_stands = omega (arith, form_is, base_is, size);
     adoptions = and_from (nat_le 26 (length flat)) (nat_lt (adoptions_in Second flat) adoption_limit) (le-leb 26 (length flat) (omega (arith, size)))

@@ -6,7 +6,8 @@ use Rattle.std.specs.Prelude.{Bool, true, false, not, nat_le, nat_lt, ◌&&◌, 
 use Rattle.xf_disk.specs.declared.slot.Slot.{Slot}
 use Rattle.xf_journal.specs.declared.layout.Format.{Format}
 use Rattle.xf_journal.specs.declared.layout.Format.TheVariants.{First, Second}
-use Rattle.xf_journal.specs.Layout.{tag_of, begins_with, has_tag, format_in, header_length, epoch_in, form_length, base_length, base_at, entries_at, is_epoch, form_most, adoptions_in, adoption_limit, do_adoptions_stand, first_fault}
+use Rattle.xf_base.specs.Limits.{form_limit, adoption_limit}
+use Rattle.xf_journal.specs.Layout.{tag_of, begins_with, has_tag, format_in, header_length, epoch_in, form_length, base_length, base_at, entries_at, is_epoch, adoptions_in, do_adoptions_stand, first_fault}
 use Rattle.xf_journal.specs.Held.{Tail, Log, log_with, kept_in, log_in, unless_fault, log_as, log_of, entries_from}
 use Rattle.xf_journal.proofs.NumberLemmas.{from_four-front}
 use Rattle.xf_journal.proofs.TailLemmas.{before, tail_splits, entries_few}
@@ -59,7 +60,7 @@ header_alike format n xs ys whole long long' same =
 -- the fields of a header that is no fault
 pub record FieldsStand (format : Format) (bytes : List ℕ) : Type 0 where
   pub epoch : is_epoch (epoch_in bytes) ≡ true
-  pub form : nat_le (form_length bytes) form_most ≡ true
+  pub form : nat_le (form_length bytes) form_limit ≡ true
   pub form_stands : base_at format bytes ≤ length bytes
   pub base_stands : entries_at format bytes ≤ length bytes
   pub adoptions : do_adoptions_stand format bytes ≡ true
@@ -71,10 +72,10 @@ if_none false at o is = cc
 pub fields_stand : (format : Format) (bytes : List ℕ) → first_fault format bytes ≡ None → FieldsStand format bytes
 fields_stand format bytes none =
     let first = if_none (is_epoch (epoch_in bytes)) 5 _ none in
-    let second = if_none (nat_le (form_length bytes) form_most && nat_le (base_at format bytes) (length bytes)) 13 _ first.1 in
+    let second = if_none (nat_le (form_length bytes) form_limit && nat_le (base_at format bytes) (length bytes)) 13 _ first.1 in
     let third = if_none (nat_le (entries_at format bytes) (length bytes)) 17 _ second.1 in
     let fourth = if_none (do_adoptions_stand format bytes) 21 None third.1 in
-    let both = and_parts (nat_le (form_length bytes) form_most) (nat_le (base_at format bytes) (length bytes)) second.0 in
+    let both = and_parts (nat_le (form_length bytes) form_limit) (nat_le (base_at format bytes) (length bytes)) second.0 in
     record {
       epoch = first.0;
       form = both.0;
@@ -90,7 +91,7 @@ not_fault false at o is = cc
 pub no_fault : (format : Format) (bytes : List ℕ) → FieldsStand format bytes → first_fault format bytes ≡ None
 no_fault format bytes stand =
     not_fault (is_epoch (epoch_in bytes)) 5 _ stand.epoch
-    ∙ not_fault (nat_le (form_length bytes) form_most && nat_le (base_at format bytes) (length bytes)) 13 _ (and_from _ _ stand.form (le-leb (base_at format bytes) (length bytes) stand.form_stands))
+    ∙ not_fault (nat_le (form_length bytes) form_limit && nat_le (base_at format bytes) (length bytes)) 13 _ (and_from _ _ stand.form (le-leb (base_at format bytes) (length bytes) stand.form_stands))
     ∙ not_fault (nat_le (entries_at format bytes) (length bytes)) 17 _ (le-leb (entries_at format bytes) (length bytes) stand.base_stands)
     ∙ not_fault (do_adoptions_stand format bytes) 21 None stand.adoptions
 
@@ -178,7 +179,7 @@ any_stem format slot bytes tag stand whole =
           let e_same : entries_at format more ≡ e = λ i. base_same i + header.base i in
           let stand_more : FieldsStand format more = record {
             epoch = ap is_epoch header.epoch ∙ stand.epoch;
-            form = ap (λ (k : ℕ). nat_le k form_most) header.form ∙ stand.form;
+            form = ap (λ (k : ℕ). nat_le k form_limit) header.form ∙ stand.form;
             form_stands = omega (arith, base_same, s.ends, within);
             base_stands = omega (arith, e_same, s.ends, within);
             adoptions = adoptions_stay format bytes more header.adoptions (omega (arith, s.ends, within)) stand.adoptions;

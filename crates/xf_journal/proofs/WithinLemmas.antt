@@ -64,7 +64,7 @@ these_short zero (byte ∷ bytes) = tt
 these_short (suc n) bytes = one_step n (answer_in bytes) (answer_short bytes) (these_short n)
 
 -- as many answers as an entry may have, all of them short
-abbrev AnswersWithin : Option (List Answer) → Type 0
+abbrev pub AnswersWithin : Option (List Answer) → Type 0
 AnswersWithin None = Unit {0}
 AnswersWithin (Some answers) = (nat_le (length answers) answer_limit ≡ true) × (list_all is_short answers ≡ true)
 
@@ -76,7 +76,8 @@ answers_where : (b : Bool) (n : ℕ) (answers : Option (List Answer)) → (b ≡
 answers_where true n answers few all = counted n answers (few refl) all
 answers_where false n answers few all = tt
 
-answers_within : (bytes : List ℕ) → AnswersWithin (answers_in bytes)
+-- so are those that are read
+pub answers_within : (bytes : List ℕ) → AnswersWithin (answers_in bytes)
 answers_within [] = tt
 answers_within (count ∷ bytes) = answers_where (nat_le count answer_limit) count (these_answers count bytes) (λ few. few) (these_short count bytes)
 

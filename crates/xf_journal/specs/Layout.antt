@@ -1,5 +1,6 @@
 -- The layout of a slot, by its tag.
 use Rattle.std.specs.Prelude.{ℕ, ◌+◌, ◌^◌, List, [], ◌∷◌, ◌++◌, length, drop, slice_index, Bool, true, false, ◌&&◌, ◌==◌, not, nat_le, nat_lt, if◌then◌else◌, Option, Some, None}
+use Rattle.xf_base.specs.Limits.{form_limit, adoption_limit}
 use Rattle.xf_journal.specs.declared.layout.Format.{Format}
 use Rattle.xf_journal.specs.declared.layout.Format.TheVariants.{First, Second}
 use Rattle.xf_journal.specs.declared.image.Image.{Image}
@@ -62,14 +63,6 @@ open_epoch bytes = if is_open bytes then Some (epoch_in bytes) else None
 abbrev pub is_epoch : ℕ → Bool
 is_epoch epoch = nat_le 1 epoch && nat_lt epoch (2 ^ 62)
 
--- the most bytes of a form
-abbrev pub form_most : ℕ
-form_most = 2 ^ 20
-
--- the form was changed fewer times than this
-abbrev pub adoption_limit : ℕ
-adoption_limit = 2 ^ 31
-
 -- the number of changes of the form stands, and the gate behind it, and it is below the limit
 abbrev pub do_adoptions_stand : Format → List ℕ → Bool
 do_adoptions_stand First bytes = true
@@ -79,7 +72,7 @@ do_adoptions_stand Second bytes = nat_le 26 (length bytes) && nat_lt (adoptions_
 abbrev pub first_fault : Format → List ℕ → Option ℕ
 first_fault format bytes =
     if not (is_epoch (epoch_in bytes)) then Some 5
-    else if not (nat_le (form_length bytes) form_most && nat_le (base_at format bytes) (length bytes)) then Some 13
+    else if not (nat_le (form_length bytes) form_limit && nat_le (base_at format bytes) (length bytes)) then Some 13
     else if not (nat_le (entries_at format bytes) (length bytes)) then Some 17
     else if not (do_adoptions_stand format bytes) then Some 21
     else None

@@ -11,7 +11,8 @@ use Rattle.xf_store.specs.declared.answers.Answer.{Answer}
 use Rattle.xf_disk.specs.Image.{Image, in_slot, beside}
 use Rattle.xf_disk.specs.Crash.{IsSettled}
 use Rattle.xf_journal.specs.Entry.{written_bytes}
-use Rattle.xf_journal.specs.Layout.{header_length, open_epoch, adoption_limit}
+use Rattle.xf_base.specs.Limits.{adoption_limit}
+use Rattle.xf_journal.specs.Layout.{header_length, open_epoch}
 use Rattle.xf_journal.specs.Held.{Tail, Log, held}
 
 -- the journal in hand: its slot, its epoch, the number of entries, and the bytes in use, the last gate included

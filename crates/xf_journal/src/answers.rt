@@ -7,14 +7,9 @@ ghost use Rattle.xf_journal.specs.Entry.{answer_bytes, answers_bytes, front_of, 
 
 use crate::number::{four, from_four};
 use std::alloc::{AllocError, Global};
+use xf_base::limits::{ANSWER_LIMIT, FOUND_LIMIT};
 use xf_io::Bytes;
 use xf_store::{Answer, Answers};
-
-/// The most bytes that a store gives.
-const FOUND_MOST: usize = 1 << 20;
-
-/// The most answers of one event.
-const ANSWERS_MOST: usize = 16;
 
 /// Adds the bytes of one answer.
 fn put_answer(bytes: &mut Vec<u8>, answer: &Answer) -> Result<(), AllocError>
@@ -36,7 +31,7 @@ fn put_answer(bytes: &mut Vec<u8>, answer: &Answer) -> Result<(), AllocError>
 }
 
 /// Adds the number of the answers, and each in turn.
-pub(crate) fn put_answers(bytes: &mut Vec<u8>, answers: &Answers) -> Result<(), AllocError>
+pub fn put_answers(bytes: &mut Vec<u8>, answers: &Answers) -> Result<(), AllocError>
     requires few { length answers.now ≤ 16 }
     requires short { IsTrue (list_all is_short answers.now) }
     ensures { OnOk result (bytes.new.items ≡ bytes.old.items ++ answers_bytes answers.now) }
@@ -56,7 +51,7 @@ fn found_in(alloc: Global, bytes: &[u8]) -> Result<Option<(Answer, &[u8])>, Allo
         return Ok(None);
     }
     let length = from_four(bytes) as usize;
-    if length > FOUND_MOST || length > bytes.len() - 4 {
+    if length > FOUND_LIMIT || length > bytes.len() - 4 {
         return Ok(None);
     }
     let found = Vec::from_slice(alloc, &bytes[4..4 + length])?;
@@ -81,13 +76,13 @@ fn answer_in(alloc: Global, bytes: &[u8]) -> Result<Option<(Answer, &[u8])>, All
 }
 
 /// The answers that these bytes are, if they are answers.
-pub(crate) fn answers_in(alloc: Global, bytes: &[u8]) -> Result<Option<Answers>, AllocError>
+pub fn answers_in(alloc: Global, bytes: &[u8]) -> Result<Option<Answers>, AllocError>
     ensures { IfOk result (λ answers. answers ≡ answers_in bytes.now) }
 {
     let Some((count, rest)) = bytes.split_first() else {
         return Ok(None);
     };
-    if *count as usize > ANSWERS_MOST {
+    if *count as usize > ANSWER_LIMIT {
         return Ok(None);
     }
     these_answers(alloc, *count, rest)

@@ -7,6 +7,7 @@ use crate::number::{four, from_four};
 use std::alloc::{AllocError, Global};
 use std::marker::Model;
 use xf_base::Items;
+use xf_base::limits::LINE_LIMIT;
 use xf_io::Bytes;
 use xf_store::{Answer, Answers};
 
@@ -55,9 +56,6 @@ impl Entry {
     }
 }
 
-/// The most bytes of a line.
-const LINE_MOST: usize = 65536;
-
 /// Takes the memory for an entry with this line and these answers.
 pub fn make_entry(alloc: Global, line: &[u8], answers: &Answers) -> Result<Entry, AllocError>
     requires { IsTrue (is_within line.now answers.now) }
@@ -104,7 +102,7 @@ fn body_in(alloc: Global, body: &[u8]) -> Result<Option<Accepted>, AllocError>
         return Ok(None);
     }
     let length = from_four(body) as usize;
-    if length > LINE_MOST || length > body.len() - 4 {
+    if length > LINE_LIMIT || length > body.len() - 4 {
         return Ok(None);
     }
     match answers_in(alloc, &body[4 + length..])? {

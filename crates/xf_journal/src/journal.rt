@@ -1,6 +1,7 @@
 //! A journal in a slot: where its entries end, and how one more is added.
 ghost use Rattle.std.specs.Prelude.{◌≡◌, ◌≤◌, ◌<◌, ◌+◌, ◌-◌, ◌^◌, min, length, IsTrue, IfOk, OnOk, OnErr};
 ghost use Rattle.xf_base.specs.Faults.{HasCause};
+ghost use Rattle.xf_base.specs.Limits.{form_limit, slot_limit};
 ghost use Rattle.xf_disk.specs.Image.{in_slot, beside};
 ghost use Rattle.xf_disk.specs.Crash.{LeavesOnly};
 
@@ -53,7 +54,7 @@ impl Journal {
     /// It is for the journal that the slots hold, of which no append has failed. A crash at any moment leaves
     /// the entries from before, or the new one also; after `Ok` each crash leaves it.
     pub fn append<D: Disk>(&mut self, disk: &mut D, entry: &Entry) -> Result<(), Failed>
-        requires room { self.old.used + length (written_bytes entry.now.line entry.now.answers) ≤ 2 ^ 26 }
+        requires room { self.old.used + length (written_bytes entry.now.line entry.now.answers) ≤ slot_limit }
         requires stands { IsTrue (D.tells disk.old) → self.old.used ≤ length (in_slot self.old.slot (D.seen disk.old)) }
         ensures each_moment { IsTrue (D.tells disk.old) → (log : Log) → IsAtRest D.seen D.may_leave self.old log disk.old
             → LeavesOnly D.moment D.left_since disk.old disk.new (HoldsEither log (with_accepted log entry.now.line entry.now.answers)) }
@@ -74,8 +75,8 @@ impl Journal {
     /// Writes a journal without entries that takes the place of this one: into the other slot, with the next epoch. A
     /// crash at any moment leaves this journal or the new one; after `Ok` each crash leaves the new one.
     pub fn renew<D: Disk>(&self, disk: &mut D, image: &Image) -> Result<Journal, Failed>
-        requires form { length image.now.form ≤ 2 ^ 20 }
-        requires room { 26 + length image.now.form + length image.now.base ≤ 2 ^ 26 }
+        requires form { length image.now.form ≤ form_limit }
+        requires room { 26 + length image.now.form + length image.now.base ≤ slot_limit }
         ensures journal { IfOk result (λ journal. journal ≡ journal_of (new_log (beside self.now.slot) (min (self.now.epoch + 1) (2 ^ 64 - 1)) image.now)) }
         ensures each_moment { IsTrue (D.tells disk.old) → (log : Log) → MayRenew D.seen D.may_leave self.now log image.now disk.old
             → LeavesOnly D.moment D.left_since disk.old disk.new (HoldsEither log (renewed log image.now)) }

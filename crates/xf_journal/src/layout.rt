@@ -3,6 +3,7 @@ ghost use Rattle.std.specs.Prelude.{◌≡◌, ◌≤◌, ◌<◌, ◌^◌, ◌�
 ghost use Rattle.xf_journal.specs.Layout.{begins_with, header_length, format_in, epoch_in, form_length, base_length, base_at, entries_at, adoptions_in, do_adoptions_stand, first_fault, open_epoch};
 
 use crate::number::{from_eight, from_four};
+use xf_base::limits::{ADOPTION_LIMIT, FORM_LIMIT};
 
 /// A format of slots.
 #[derive(Clone, Copy, Debug, PartialEq, Eq)]
@@ -25,12 +26,6 @@ impl Format {
         }
     }
 }
-
-/// The most bytes of a form.
-pub(crate) const FORM_MOST: usize = 1 << 20;
-
-/// The form of a session was changed fewer times than this.
-const ADOPTION_LIMIT: u32 = 1 << 31;
 
 /// The fewest bytes of an open slot.
 pub(crate) const OPEN_LEAST: usize = 22;
@@ -120,7 +115,7 @@ pub(crate) fn first_fault(format: Format, bytes: &[u8]) -> Option<u64>
     if epoch < 1 || epoch >= 1 << 62 {
         return Some(5);
     }
-    if form_length(bytes) > FORM_MOST || base_at(format, bytes) > bytes.len() {
+    if form_length(bytes) > FORM_LIMIT || base_at(format, bytes) > bytes.len() {
         return Some(13);
     }
     if entries_at(format, bytes) > bytes.len() {

@@ -13,6 +13,7 @@ mod opening;
 mod read;
 mod step;
 
+pub use answers::{answers_in, put_answers};
 pub use entry::{Accepted, Entry, EntryList, make_entry};
 pub use fault::JournalFault;
 pub use image::{Image, Scanned};

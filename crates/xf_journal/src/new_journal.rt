@@ -1,6 +1,7 @@
 //! A new journal in a slot.
 ghost use Rattle.std.specs.Prelude.{◌≡◌, ◌≤◌, ◌+◌, ◌++◌, ◌∷◌, [], ◌^◌, length, IsTrue, OnOk, IfOk};
 ghost use Rattle.xf_base.specs.Faults.{HasCause};
+ghost use Rattle.xf_base.specs.Limits.{form_limit, slot_limit};
 ghost use Rattle.xf_disk.specs.Image.{in_slot, beside};
 ghost use Rattle.xf_disk.specs.Marks.{spliced};
 ghost use Rattle.xf_disk.specs.Crash.{InSlot, IsSettled, LeavesAll, LeavesOnly};
@@ -28,8 +29,8 @@ pub fn create<D: Disk>(
     image: &Image,
 ) -> Result<Journal, Failed>
     requires epoch { 1 ≤ epoch }
-    requires form { length image.now.form ≤ 2 ^ 20 }
-    requires room { 26 + length image.now.form + length image.now.base ≤ 2 ^ 26 }
+    requires form { length image.now.form ≤ form_limit }
+    requires room { 26 + length image.now.form + length image.now.base ≤ slot_limit }
     ensures journal { IfOk result (λ journal. journal ≡ journal_of (new_log slot epoch image.now)) }
     ensures each_moment { IsTrue (D.tells disk.old) → IsReady D.seen D.may_leave slot epoch image.now.adoptions disk.old
         → LeavesOnly D.moment D.left_since disk.old disk.new (HoldsOldOr (D.seen disk.old) (new_log slot epoch image.now)) }
@@ -70,8 +71,8 @@ fn close_gate<D: Disk>(disk: &mut D, slot: Slot) -> Result<(), Failed>
 /// Writes all that stands behind the gate of a new slot, and syncs it.
 fn write_behind<D: Disk>(disk: &mut D, slot: Slot, epoch: u64, image: &Image) -> Result<(), Failed>
     requires stands { IsTrue (D.tells disk.old) → 1 ≤ length (in_slot slot (D.seen disk.old)) }
-    requires form { length image.now.form ≤ 2 ^ 20 }
-    requires room { 26 + length image.now.form + length image.now.base ≤ 2 ^ 26 }
+    requires form { length image.now.form ≤ form_limit }
+    requires room { 26 + length image.now.form + length image.now.base ≤ slot_limit }
     ensures written { IsTrue (D.tells disk.old) → OnOk result (in_slot slot (D.seen disk.new) ≡ spliced 1 (new_bytes epoch image.now) (in_slot slot (D.seen disk.old))) }
     ensures beside { IsTrue (D.tells disk.old) → in_slot (beside slot) (D.seen disk.new) ≡ in_slot (beside slot) (D.seen disk.old) }
     ensures settled { IsTrue (D.tells disk.old) → IsSettled (D.seen disk.old) (D.may_leave disk.old) → OnOk result (IsSettled (D.seen disk.new) (D.may_leave disk.new)) }

@@ -10,11 +10,9 @@ use crate::fault::LineFault;
 use serde_json::Value;
 use std::alloc::{AllocError, Global};
 use xf_base::Items;
+use xf_base::limits::EVENT_NAME_LIMIT;
 use xf_json::{JsonFault, value_of};
 use xf_name::Word;
-
-// The longest name of an event, in bytes.
-const EVENT_NAME_LIMIT: usize = 255;
 
 /// What a line asks for, without the line feed that ends it. It may have any length.
 ///

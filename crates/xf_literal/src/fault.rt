@@ -10,9 +10,10 @@ ghost use Rattle.xf_doc.specs.Planted.{lit_fault, written_fault, first_fault, fa
 ghost use Rattle.xf_literal.specs.Contents.{is_long, is_deep};
 
 use std::alloc::AllocError;
+use xf_base::limits::{DEPTH_LIMIT, TEXT_LIMIT};
 use xf_doc::{Content, TreeFault};
 use xf_name::{Lit, LitElement, NameFault, Pair, Prefixes};
-use xf_slots::{DEPTH_LIMIT, Part, TEXT_LIMIT, is_element, lent};
+use xf_slots::{Part, is_element, lent};
 
 /// The fault of the first element that has one.
 pub fn lit_fault(prefixes: &Prefixes, lit: &Lit) -> Result<Option<TreeFault>, AllocError>

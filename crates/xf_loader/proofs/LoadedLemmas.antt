@@ -1,5 +1,6 @@
 -- What a form that is loaded was made from.
 use Rattle.std.proofs.Common.{◌≡◌, ℕ, Bool, true, false, cond, nat_lt, List, [], length, Option, Some, None, Result, Ok, Err, refl, subst}
+use Rattle.xf_base.specs.Limits.{form_limit}
 use Rattle.xf_ast.specs.declared.form.Form.{Form}
 use Rattle.xf_json.specs.Element.{lit_in}
 use Rattle.xf_json.specs.declared.fault.JsonFault.{JsonFault}
@@ -16,7 +17,7 @@ use Rattle.xf_loader.specs.declared.fault.FormFault.{FormFault}
 use Rattle.xf_loader.specs.declared.fault.FormFault.TheVariants.{Refused}
 use Rattle.xf_loader.specs.declared.loaded.Loaded.{Loaded}
 use Rattle.xf_loader.specs.Data.{data_limit}
-use Rattle.xf_loader.specs.Loading.{form_limit, by_schemas, by_data, by_elements, tables_in, with_tree, by_names, by_json, loaded_in}
+use Rattle.xf_loader.specs.Loading.{by_schemas, by_data, by_elements, tables_in, with_tree, by_names, by_json, loaded_in}
 use Rattle.xf_loader.specs.Tables.{form_of}
 
 -- its tables are those of the elements of its tree, of which none is refused

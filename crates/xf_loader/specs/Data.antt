@@ -2,6 +2,7 @@
 -- are none, and what stands beside the document element is passed over (XPath 1.0, section 5).
 use Rattle.std.specs.Prelude.{ℕ, ◌+◌, Bool, true, false, not, ◌&&◌, ◌||◌, nat_lt, List, [], ◌∷◌, length, codes, count_by, sum_by, slice_get, option_and_then, Option, Some, None, if◌then◌else◌}
 use Rattle.std.specs.List.{list_any}
+use Rattle.xf_base.specs.Limits.{node_limit, text_limit}
 use Rattle.xf_ast.specs.declared.form.Instance.{Instance}
 use Rattle.xf_name.specs.Part.{Kind, no_declaration, of_default, of_prefix, kind_of}
 use Rattle.xf_name.specs.declared.lit.Lit.{Lit, fold-Lit}
@@ -9,14 +10,6 @@ use Rattle.xf_name.specs.declared.lit.Lit.TheOpen.{Lit-F, LitElement-F}
 use Rattle.xf_name.specs.declared.lit.Lit.TheViews.{out-Lit}
 use Rattle.xf_name.specs.declared.lit.LitElement.{LitElement, fold-LitElement}
 use Rattle.xf_name.specs.declared.lit.Pair.{Pair}
-
--- nodes of all instances
-abbrev pub node_limit : ℕ
-node_limit = 65536
-
--- bytes of one text or attribute
-abbrev pub text_limit : ℕ
-text_limit = 65536
 
 -- ---- the trees of instances
 

@@ -1,5 +1,6 @@
 -- A form from its bytes, or its first refusal by its number and its place: a path in the form, for a limit its word, or nothing.
 use Rattle.std.specs.Prelude.{ℕ, nat_lt, List, [], length, codes, Option, Some, None, Result, Ok, Err, if◌then◌else◌}
+use Rattle.xf_base.specs.Limits.{form_limit}
 use Rattle.xf_ast.specs.declared.form.Form.{Form}
 use Rattle.xf_json.specs.Element.{lit_in}
 use Rattle.xf_json.specs.declared.fault.JsonFault.{JsonFault}
@@ -17,10 +18,6 @@ use Rattle.xf_loader.specs.declared.fault.FormFault.TheVariants.{Refused}
 use Rattle.xf_loader.specs.declared.loaded.Loaded.{Loaded}
 use Rattle.xf_loader.specs.Data.{data_limit}
 use Rattle.xf_loader.specs.Tables.{form_of}
-
--- bytes of a form
-abbrev pub form_limit : ℕ
-form_limit = 1048576
 
 -- ---- the tables of a tree under the names that it declares
 

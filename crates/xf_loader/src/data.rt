@@ -8,11 +8,8 @@ ghost use Rattle.xf_loader.specs.Data as limits;
 use crate::trees::lit_at;
 use std::alloc::AllocError;
 use xf_ast::Instance;
+use xf_base::limits::{NODE_LIMIT, TEXT_LIMIT};
 use xf_name::{Lit, LitElement, Pair, at_colon};
-
-const NODE_LIMIT: usize = 65536;
-
-const TEXT_LIMIT: usize = 65536;
 
 /// The word of the first limit that the data of a form passes.
 pub fn data_limit(form: &Lit, instances: &[Instance]) -> Result<Option<&'static str>, AllocError>

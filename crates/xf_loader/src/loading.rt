@@ -12,12 +12,10 @@ use crate::loaded::Loaded;
 use crate::tables::form_of;
 use std::alloc::{AllocError, Global};
 use xf_ast::Form;
+use xf_base::limits::FORM_LIMIT;
 use xf_json::{JsonFault, read};
 use xf_name::{Lit, Prefixes, SurveyFault, Word, survey};
 use xf_refusals::{Row, bad_schema_of, refusal_of, rows_of};
-
-/// The most bytes of a form.
-const FORM_LIMIT: usize = 1048576;
 
 /// The form that bytes spell, or its first refusal.
 pub fn load(alloc: Global, bytes: &[u8]) -> Result<Loaded, FormFault>

@@ -4,9 +4,7 @@ ghost use Rattle.std.specs.Prelude.{◌≡◌, option_map};
 ghost use Rattle.xf_name.specs.Part.{begins_part, continues_part, is_part, at_colon};
 
 use unicode_ident::{is_xid_continue, is_xid_start};
-
-// The longest part, in bytes.
-const PART_LIMIT: usize = 255;
+use xf_base::limits::PART_LIMIT;
 
 /// Whether the text is one part of a name: a prefix, or a local name.
 pub fn is_part(text: &str) -> bool

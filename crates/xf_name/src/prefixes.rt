@@ -18,6 +18,7 @@ use crate::word::Word;
 use indexmap::{IndexMap, IndexSet};
 use std::alloc::{AllocError, Global};
 use std::marker::Model;
+use xf_base::limits::{NAMESPACE_LIMIT, PREFIX_LIMIT};
 
 // The prefix that every form knows, its namespace, and the number of both.
 const XML_PREFIX: &str = "xml";
@@ -25,10 +26,6 @@ const XML_PREFIX: &str = "xml";
 const XML_SPACE: &str = "http://www.w3.org/XML/1998/namespace";
 
 const XML_NUMBER: u16 = 65535;
-
-const NAMESPACE_LIMIT: usize = 256;
-
-const PREFIX_LIMIT: usize = 32768;
 
 /// The namespaces and prefixes of a form. Each has the number of its place in the order of first declaration, counted from 1; 0 is
 /// none, and `xml` has 65,535 in both.

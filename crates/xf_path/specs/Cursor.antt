@@ -1,5 +1,6 @@
 -- The tokens that a `Tokens` has left.
 use Rattle.std.specs.Prelude.{◌≤◌, List, [], ◌∷◌, length}
+use Rattle.xf_base.specs.Limits.{expression_limit}
 use Rattle.xf_path.specs.declared.token.Kind.{Kind}
 use Rattle.xf_path.specs.declared.token.Kind.TheVariants as k
 use Rattle.xf_path.specs.declared.tokens.Tokens.TheInside.{Inside}
@@ -17,4 +18,4 @@ left_of t = record { kind = t.kind; place = t.place; text = t.text.now } ∷ beh
 -- the text behind the next token ends at the end, which is within the limit
 pub record IsWithin (t : Inside) : Type 0 where
   pub rest : length t.rest.now ≤ t.end
-  pub limit : t.end ≤ 4096
+  pub limit : t.end ≤ expression_limit

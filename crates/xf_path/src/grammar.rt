@@ -15,20 +15,18 @@ use crate::fault::{ExprKind, ParseFault};
 use crate::operands::{chain_of, filter_of, literal, negated, number};
 use crate::steps::{abbreviated, axis, close, close_square, node_test, open_bracket};
 use crate::token::Kind;
-use crate::tokens::{MOST_BYTES, Tokens};
+use crate::tokens::Tokens;
 use crate::words::{
     begins_primary, begins_step, is_comma, next_rank, opens_predicate, operator_at, separator,
 };
 use std::alloc::Global;
 use xf_ast::{Axis, Expr, ExprList, Link, LinkList, Start, Step, StepList};
+use xf_base::limits::{EXPRESSION_LIMIT, NESTING_LIMIT};
 use xf_base::{Boxed, Items};
 use xf_name::Prefixes;
 use xf_num::Decimals;
 use xf_table::find;
 use xf_table::functions::rows;
-
-/// How deep brackets and signs nest.
-const MOST_DEPTH: u32 = 64;
 
 /// How many ranks of operators there are, the union among them.
 const RANKS: u32 = 7;
@@ -43,7 +41,7 @@ pub fn parse(
 ) -> Result<Expr, ParseFault>
     ensures { Gives ParseFault.Memory (λ tree. tree) result (spec.parsed decimals prefixes.now text.now) }
 {
-    if text.len() > MOST_BYTES {
+    if text.len() > EXPRESSION_LIMIT {
         return Err(ParseFault::Expr(0, ExprKind::Long));
     }
     let mut tokens = Tokens::new(text);
@@ -52,7 +50,7 @@ pub fn parse(
         prefixes,
         decimals,
     };
-    let tree = grammar.side(&mut tokens, RANKS, MOST_DEPTH)?;
+    let tree = grammar.side(&mut tokens, RANKS, NESTING_LIMIT)?;
     match tokens.kind() {
         Kind::End => Ok(tree),
         _ => Err(tokens.fault(ExprKind::Syntax)),
@@ -95,11 +93,11 @@ impl<'a> Grammar<'a> {
     /// The operators of a rank that follow, with their right sides.
     #[cycle(rules)]
     fn links(&self, tokens: &mut Tokens<'_>, rank: u32, depth: u32) -> Result<LinkList, ParseFault>
-        ensures { Reads (operator.more_links (spec.side self.now.decimals self.now.prefixes.now depth rank) rank MOST_BYTES [] tokens.old) result tokens.new }
+        ensures { Reads (operator.more_links (spec.side self.now.decimals self.now.prefixes.now depth rank) rank EXPRESSION_LIMIT [] tokens.old) result tokens.new }
     {
         let mut found = Items::new(self.alloc);
         // A text has no more operators than bytes.
-        for _turn in 0..MOST_BYTES {
+        for _turn in 0..EXPRESSION_LIMIT {
             let place = tokens.place();
             let Some(operator) = operator_at(rank, tokens.kind(), tokens.text()) else {
                 return Ok(found);
@@ -314,11 +312,11 @@ impl<'a> Grammar<'a> {
         found: ExprList,
         depth: u32,
     ) -> Result<ExprList, ParseFault>
-        ensures { Reads (call.more_arguments (spec.inside self.now.decimals self.now.prefixes.now depth) MOST_BYTES found tokens.old) result tokens.new }
+        ensures { Reads (call.more_arguments (spec.inside self.now.decimals self.now.prefixes.now depth) EXPRESSION_LIMIT found tokens.old) result tokens.new }
     {
         let mut found = found;
         // A text has no more arguments than bytes.
-        for _turn in 0..MOST_BYTES {
+        for _turn in 0..EXPRESSION_LIMIT {
             if !is_comma(tokens.kind()) {
                 return Ok(found);
             }
@@ -373,7 +371,7 @@ impl<'a> Grammar<'a> {
         let first = self.step(tokens, is_below, depth)?;
         found.push(first)?;
         // A text has no more steps than bytes.
-        for _turn in 0..MOST_BYTES {
+        for _turn in 0..EXPRESSION_LIMIT {
             let Some(is_below) = separator(tokens.kind()) else {
                 return Ok(found);
             };
@@ -424,7 +422,7 @@ impl<'a> Grammar<'a> {
     /// The predicates that follow, if any.
     #[cycle(rules)]
     fn predicates(&self, tokens: &mut Tokens<'_>, depth: u32) -> Result<ExprList, ParseFault>
-        ensures { Reads (step.more_predicates (spec.nested self.now.decimals self.now.prefixes.now depth) MOST_BYTES [] tokens.old) result tokens.new }
+        ensures { Reads (step.more_predicates (spec.nested self.now.decimals self.now.prefixes.now depth) EXPRESSION_LIMIT [] tokens.old) result tokens.new }
     {
         if !opens_predicate(tokens.kind()) {
             return Ok(Items::new(self.alloc));
@@ -435,11 +433,11 @@ impl<'a> Grammar<'a> {
     /// The predicates that follow, one after another.
     #[cycle(rules)]
     fn some_predicates(&self, tokens: &mut Tokens<'_>, depth: u32) -> Result<ExprList, ParseFault>
-        ensures { Reads (step.more_predicates (spec.nested self.now.decimals self.now.prefixes.now depth) MOST_BYTES [] tokens.old) result tokens.new }
+        ensures { Reads (step.more_predicates (spec.nested self.now.decimals self.now.prefixes.now depth) EXPRESSION_LIMIT [] tokens.old) result tokens.new }
     {
         let mut found = Items::new(self.alloc);
         // A text has no more predicates than bytes.
-        for _turn in 0..MOST_BYTES {
+        for _turn in 0..EXPRESSION_LIMIT {
             if !opens_predicate(tokens.kind()) {
                 return Ok(found);
             }

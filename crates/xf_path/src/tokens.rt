@@ -9,9 +9,7 @@ use crate::fault::{ExprKind, ParseFault};
 use crate::lexer::{after_space, first_char, token_from};
 use crate::token::Kind;
 use std::marker::Model;
-
-/// The most bytes of a text.
-pub const MOST_BYTES: usize = 4096;
+use xf_base::limits::EXPRESSION_LIMIT;
 
 /// The tokens that are left: the next one, and the text behind it.
 #[derive(Drop)]
@@ -40,7 +38,7 @@ impl<'a> Model for Tokens<'a> {
 impl<'a> Tokens<'a> {
     /// The tokens of a text.
     pub fn new(text: &'a str) -> Tokens<'a>
-        requires { length text.now ≤ MOST_BYTES }
+        requires { length text.now ≤ EXPRESSION_LIMIT }
         ensures { result ≡ tokens_of text.now }
     {
         Tokens::at(text, text.len())
@@ -48,7 +46,7 @@ impl<'a> Tokens<'a> {
 
     /// The tokens of the text that stands before a place.
     fn at(text: &'a str, end: usize) -> Tokens<'a>
-        requires end { end ≤ MOST_BYTES }
+        requires end { end ≤ EXPRESSION_LIMIT }
         requires within { length text.now ≤ end }
         ensures { result ≡ tokens_at end text.now }
     {

@@ -20,14 +20,12 @@ use crate::web::web_of;
 use std::alloc::Global;
 use xf_apply::{BindFault, apply};
 use xf_ast::Tables;
+use xf_base::limits::EDGE_LIMIT;
 use xf_binds::{Applied, Ordered, Table, Web};
 use xf_doc::NodeList;
 use xf_eval::Around;
 use xf_shape::is_sound;
 use xf_tree::Forest;
-
-/// How much the entries of all models may read and look at together.
-const EDGE_LIMIT: u64 = 8_388_608;
 
 /// Applies the binds of a model, and keeps its entries and what they ask in the table. After an `Err` the table is as it was.
 pub fn rebuild<A: Around>(

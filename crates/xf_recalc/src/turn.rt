@@ -25,12 +25,10 @@ use crate::fault::SettleFault;
 use crate::order::is_passed;
 use std::alloc::{AllocError, Global};
 use xf_ast::Tables;
+use xf_base::limits::TEXT_LIMIT;
 use xf_binds::{Entry, Table, Turn};
 use xf_eval::Around;
 use xf_undo::Draft;
-
-/// No text of a node has more bytes.
-const TEXT_LIMIT: u32 = 65_536;
 
 /// Reserves a number for each of the calculates, evaluates each in its turn, but for those that are passed over, and writes its text. The answer is
 /// the truths of the values that were evaluated, by the places of the calculates: each is evaluated once. What was reserved or written before an
@@ -106,7 +104,7 @@ fn settle_turn<A: Around>(
     ensures err { OnErr result (draft.new ≡ draft.old) }
 {
     let given = evaluated_entry(alloc, tables, draft.forest(), model, entry, around)?;
-    if given.text.len() > TEXT_LIMIT as usize {
+    if given.text.len() > TEXT_LIMIT {
         return Err(SettleFault::Text);
     }
     if draft.forest().has_text(entry.node, given.text.as_str()) {

@@ -1,20 +1,20 @@
 -- The limits of a form.
 use Rattle.std.specs.Prelude.{ℕ, Bool, ◌||◌, nat_lt, if◌then◌else◌, List, codes, count_by, Option, Some, None}
 use Rattle.std.specs.List.{list_any}
+use Rattle.xf_base.specs.Limits.{model_limit, instance_limit, bind_limit, control_limit, depth_limit}
 use Rattle.xf_refusals.specs.declared.classes.Class.{Class}
 use Rattle.xf_refusals.specs.declared.classes.Class.TheVariants as class
 use Rattle.xf_refusals.specs.Classes.{is_of}
 use Rattle.xf_refusals.specs.Rows.{Seen}
-use Rattle.xf_refusals.specs.Standing.{depth_limit}
 
 abbrev pub count_of : Class → List Seen → ℕ
 count_of c all = count_by (is_of c) all
 
--- 16 models, 64 instances, 4,096 binds, 4,096 controls and containers
+-- more models, instances, binds, or controls and containers than a form may have
 abbrev pub has_too_many : List Seen → Bool
 has_too_many all =
-    nat_lt 16 (count_of class.Model all) || nat_lt 64 (count_of class.Instance all) || nat_lt 4096 (count_of class.Bind all)
-    || nat_lt 4096 (count_of class.Control all)
+    nat_lt model_limit (count_of class.Model all) || nat_lt instance_limit (count_of class.Instance all)
+    || nat_lt bind_limit (count_of class.Bind all) || nat_lt control_limit (count_of class.Control all)
 
 abbrev pub is_too_deep : Seen → Bool
 is_too_deep r = nat_lt depth_limit r.standing.depth

@@ -1,5 +1,6 @@
 -- The surroundings of an element: in which part of a form it stands, and in which elements.
 use Rattle.std.specs.Prelude.{ℕ, ◌+◌, Bool, true, false, ◌&&◌, ◌||◌, nat_le, if◌then◌else◌, List, [], ◌∷◌, bytes_eq, codes, unwrap_or, Some, None}
+use Rattle.xf_base.specs.Limits.{depth_limit}
 use Rattle.xf_name.specs.Bindings.{Bindings, space_number}
 use Rattle.xf_name.specs.declared.lit.Pair.{Pair}
 use Rattle.xf_vocabulary.specs.Classes.{is_action, is_passed_over}
@@ -57,10 +58,6 @@ zone_below zone.Outside t = zone_in t
 zone_below zone.Data t = zone.Data
 zone_below zone.Schema t = zone_in_schema t
 zone_below zone.Passed t = zone.Passed
-
--- elements of an instance one in another, at most
-abbrev pub depth_limit : ℕ
-depth_limit = 100
 
 -- one deeper in an instance; past the limit it is no longer counted
 abbrev pub deeper : Zone → ℕ → ℕ

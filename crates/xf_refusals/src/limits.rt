@@ -8,15 +8,7 @@ ghost use Rattle.xf_refusals.specs.Rows.{shown};
 
 use crate::classes::{Class, is_of};
 use crate::rows::Row;
-use crate::standing::DEPTH_LIMIT;
-
-const MODEL_LIMIT: usize = 16;
-
-const INSTANCE_LIMIT: usize = 64;
-
-const BIND_LIMIT: usize = 4096;
-
-const CONTROL_LIMIT: usize = 4096;
+use xf_base::limits::{BIND_LIMIT, CONTROL_LIMIT, DEPTH_LIMIT, INSTANCE_LIMIT, MODEL_LIMIT};
 
 /// How many elements of a kind there are.
 fn count_of(rows: &[Row<'_>], class: Class) -> usize
@@ -40,7 +32,7 @@ fn is_too_deep(rows: &[Row<'_>]) -> bool
     ensures { result ≡ list_any limits.is_too_deep (map shown rows.now) }
 {
     for row in rows {
-        if row.standing.depth > DEPTH_LIMIT {
+        if row.standing.depth > DEPTH_LIMIT as u8 {
             return true;
         }
     }

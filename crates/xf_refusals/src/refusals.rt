@@ -39,7 +39,8 @@ pub struct Refusal {
 
 // ---- what stands in an element
 
-fn has_instance(rows: &[Row<'_>], parts: &[Part]) -> bool
+/// Whether one of these parts is an instance.
+pub fn has_instance(rows: &[Row<'_>], parts: &[Part]) -> bool
     ensures { result ≡ list_any (refusals.is_instance_in (map shown rows.now)) parts.now }
 {
     for part in parts {
@@ -50,7 +51,8 @@ fn has_instance(rows: &[Row<'_>], parts: &[Part]) -> bool
     false
 }
 
-fn has_case(rows: &[Row<'_>], parts: &[Part]) -> bool
+/// Whether one of these parts is a case.
+pub fn has_case(rows: &[Row<'_>], parts: &[Part]) -> bool
     ensures { result ≡ list_any (refusals.is_case_in (map shown rows.now)) parts.now }
 {
     for part in parts {
@@ -70,7 +72,8 @@ fn is_element(part: &Part) -> bool
     }
 }
 
-fn count_elements(parts: &[Part]) -> usize
+/// How many of these parts are elements.
+pub fn count_elements(parts: &[Part]) -> usize
     ensures { result ≡ count_by refusals.is_element parts.now }
 {
     parts.iter().filter(|part| is_element(part)).count()
@@ -255,7 +258,7 @@ fn refusal_at(
 }
 
 /// The place of the first model.
-fn first_model(rows: &[Row<'_>]) -> Option<usize>
+pub fn first_model(rows: &[Row<'_>]) -> Option<usize>
     ensures { result ≡ refusals.first_model (map shown rows.now) }
 {
     for (place, row) in rows.iter().enumerate() {
@@ -267,7 +270,7 @@ fn first_model(rows: &[Row<'_>]) -> Option<usize>
 }
 
 /// The first refusal of the form's elements.
-fn first_refusal(
+pub fn first_refusal(
     alloc: Global,
     prefixes: &Prefixes,
     rows: &[Row<'_>],

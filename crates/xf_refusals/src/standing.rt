@@ -3,6 +3,7 @@
 ghost use Rattle.std.specs.Prelude.{◌≡◌};
 ghost use Rattle.xf_refusals.specs.Standing as standing;
 
+use xf_base::limits::DEPTH_LIMIT;
 use xf_vocabulary::{Tag, is_action, is_passed_over};
 
 /// In which part of a form an element stands.
@@ -35,9 +36,6 @@ pub struct Standing {
     /// The place of the element in which it stands.
     pub parent: Option<u32>,
 }
-
-/// The most elements of an instance one in another.
-pub const DEPTH_LIMIT: u8 = 100;
 
 /// Around the root of a form.
 pub fn at_root() -> Standing
@@ -153,7 +151,7 @@ fn zone_in_schema(tag: Tag) -> Zone
 fn deeper(zone: Zone, depth: u8) -> u8
     ensures { result ≡ standing.deeper zone depth }
 {
-    if is_data(zone) && depth <= DEPTH_LIMIT {
+    if is_data(zone) && depth <= DEPTH_LIMIT as u8 {
         return depth + 1;
     }
     depth

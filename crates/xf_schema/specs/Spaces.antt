@@ -1,6 +1,6 @@
 -- White space (XML Schema part 2, section 4.3.6).
 use Rattle.std.specs.Prelude.{ℕ, List, map, chars, encode_utf8_all, bytes_eq, codes, Option, Some, None, if◌then◌else◌}
-use Rattle.xf_funcs.specs.Spaces.{normalized}
+use Rattle.xf_types.specs.Spaces.{normalized}
 use Rattle.xf_num.specs.Written.{is_space}
 use Rattle.xf_types.specs.declared.kind.BuiltIn.{BuiltIn}
 use Rattle.xf_types.specs.declared.kind.BuiltIn.TheVariants.{NormalizedString, Text}

@@ -5,9 +5,8 @@ ghost use Rattle.std.specs.Str.Parse.{digits_value};
 ghost use Rattle.xf_num.specs.Written.{after_digits, is_empty};
 ghost use Rattle.xf_schema.specs.Facets.{count_of, is_decimal_kind, length_of};
 
-use crate::spaces::char_count;
 use xf_num::{all_digits, digits_onto};
-use xf_types::BuiltIn;
+use xf_types::{BuiltIn, char_count};
 
 /// A whole number of one to five digits.
 pub(crate) fn count_of(text: &[u8]) -> Option<u64>

@@ -12,7 +12,7 @@ mod sought;
 mod written;
 
 pub use bearers::Bearer;
-pub use limits::{ALL_LIMIT, DEPTH_LIMIT, NODE_LIMIT, ROW_LIMIT, TEXT_LIMIT};
+pub use limits::ROW_LIMIT;
 pub use part::Part;
 pub use seen::{Seen, is_element, is_text, lent};
 pub use slot::{

@@ -5,13 +5,8 @@ ghost use Rattle.xf_snap.specs.Within.{attribute_size, tree_nodes, element_nodes
 ghost use Rattle.xf_snap.specs.Reading.{keeps_limits};
 
 use crate::Snap;
+use xf_base::limits::{ALL_LIMIT, NODE_LIMIT};
 use xf_doc::{Bare, BareAttribute, BareElement};
-
-/// Elements, attributes and texts.
-const NODES_MOST: u64 = 65536;
-
-/// Bytes of texts and local names.
-const SIZE_MOST: u64 = 1 << 22;
 
 /// Whether a snapshot that was read is within the limits as a whole.
 pub(crate) fn keeps_limits(snap: &Snap) -> bool
@@ -20,8 +15,8 @@ pub(crate) fn keeps_limits(snap: &Snap) -> bool
     let documents = snap.documents.as_slice();
     snap.accepted < 1 << 63
         && are_elements(documents)
-        && all_nodes(documents) <= NODES_MOST
-        && all_size(documents) <= SIZE_MOST
+        && all_nodes(documents) <= NODE_LIMIT as u64
+        && all_size(documents) <= ALL_LIMIT as u64
 }
 
 fn are_elements(trees: &[Bare]) -> bool

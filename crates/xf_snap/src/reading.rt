@@ -13,17 +13,12 @@ use crate::{CountList, Snap};
 use std::alloc::{AllocError, Global};
 use std::str;
 use xf_base::Items;
+use xf_base::limits::{DEPTH_LIMIT, TEXT_LIMIT};
 use xf_doc::{Bare, BareAttribute, BareAttributeList, BareElement, BareList};
 use xf_name::{QName, Word};
 
 /// What stands at the front of some bytes, with the bytes behind it, or `None` where they begin with no such thing.
 type Front<'a, T> = Result<Option<(T, &'a [u8])>, AllocError>;
-
-/// The most bytes of a text.
-const TEXT_MOST: u32 = 65536;
-
-/// The most elements one in another.
-const DEPTH_MOST: u32 = 100;
 
 /// The snapshot that these bytes are, or `None` where they are no bytes of one that is within the limits.
 pub fn decode(alloc: Global, bytes: &[u8]) -> Result<Option<Snap>, AllocError>
@@ -78,7 +73,7 @@ fn documents_at(alloc: Global, bytes: &[u8]) -> Front<BareList>
     ensures { IfOk result (λ found. option_map (λ front. (front.0, front.1.now)) found ≡ documents_at bytes.now) }
 {
     match two_at(bytes) {
-        Some((count, rest)) => trees_at(alloc, DEPTH_MOST, u32::from(count), rest),
+        Some((count, rest)) => trees_at(alloc, DEPTH_LIMIT, u32::from(count), rest),
         None => Ok(None),
     }
 }
@@ -276,7 +271,7 @@ fn text_at(alloc: Global, bytes: &[u8]) -> Front<Word>
     ensures { IfOk result (λ found. option_map (λ front. (front.0, front.1.now)) found ≡ text_at bytes.now) }
 {
     match four_at(bytes) {
-        Some((size, rest)) if size <= TEXT_MOST => text_of(alloc, size as usize, rest),
+        Some((size, rest)) if size as usize <= TEXT_LIMIT => text_of(alloc, size as usize, rest),
         _ => Ok(None),
     }
 }

@@ -1,5 +1,6 @@
 //! Writing a snapshot.
 ghost use Rattle.std.specs.Prelude.{◌≡◌, ◌≤◌, ◌<◌, ◌*◌, ◌^◌, ◌++◌, true, Some, length, sum_by, IfOk, OnOk, nat_lt};
+ghost use Rattle.xf_base.specs.Limits.{node_limit, depth_limit};
 ghost use Rattle.std.specs.List.{flat_map, list_all};
 ghost use Rattle.std.specs.Str.{is_utf8};
 ghost use Rattle.xf_snap.specs.Numbers.{two, four};
@@ -10,12 +11,10 @@ ghost use Rattle.xf_snap.specs.Reading.{snap_in};
 use crate::number::{eight, four, two};
 use crate::{CountList, Snap};
 use std::alloc::{AllocError, Global};
+use xf_base::limits::DEPTH_LIMIT;
 use xf_doc::{Bare, BareAttribute, BareElement};
 use xf_io::Bytes;
 use xf_name::{QName, Word};
-
-/// The most elements one in another.
-const DEPTH_MOST: u32 = 100;
 
 /// The bytes of a snapshot.
 pub fn encode(alloc: Global, snap: &Snap) -> Result<Bytes, AllocError>
@@ -45,14 +44,14 @@ fn spelled(alloc: Global, snap: &Snap) -> Result<Bytes, AllocError>
 /// Adds the number of the documents, and each in turn.
 fn put_documents(bytes: &mut Vec<u8>, documents: &[Bare]) -> Result<(), AllocError>
     requires few { length documents.now < 2 ^ 16 }
-    requires fit { list_all (λ tree. is_fit tree 100) documents.now ≡ true }
-    requires nodes { sum_by tree_nodes documents.now ≤ 65536 }
+    requires fit { list_all (λ tree. is_fit tree depth_limit) documents.now ≡ true }
+    requires nodes { sum_by tree_nodes documents.now ≤ node_limit }
     ensures put { OnOk result (bytes.new.items ≡ bytes.old.items ++ (two (length documents.now) ++ flat_map tree_bytes documents.now)) }
     ensures typed { OnOk result (list_all is_typed documents.now ≡ true) }
 {
     bytes.extend_from_slice(&two(documents.len() as u16))?;
     for tree in documents {
-        put_tree(bytes, tree, DEPTH_MOST)?;
+        put_tree(bytes, tree, DEPTH_LIMIT)?;
     }
     Ok(())
 }
@@ -87,7 +86,7 @@ fn put_cases(bytes: &mut Vec<u8>, cases: &CountList) -> Result<(), AllocError>
 #[cycle(put)]
 fn put_tree(bytes: &mut Vec<u8>, tree: &Bare, depth: u32) -> Result<(), AllocError>
     requires fit { is_fit tree.now depth ≡ true }
-    requires nodes { tree_nodes tree.now ≤ 65536 }
+    requires nodes { tree_nodes tree.now ≤ node_limit }
     ensures put { OnOk result (bytes.new.items ≡ bytes.old.items ++ tree_bytes tree.now) }
     ensures typed { OnOk result (is_typed tree.now ≡ true) }
 {
@@ -107,7 +106,7 @@ fn put_tree(bytes: &mut Vec<u8>, tree: &Bare, depth: u32) -> Result<(), AllocErr
 #[cycle(put)]
 fn put_element(bytes: &mut Vec<u8>, element: &BareElement, depth: u32) -> Result<(), AllocError>
     requires fit { is_fit_part element.now depth ≡ true }
-    requires nodes { element_nodes element.now ≤ 65536 }
+    requires nodes { element_nodes element.now ≤ node_limit }
     ensures put { OnOk result (bytes.new.items ≡ bytes.old.items ++ element_bytes element.now) }
     ensures typed { OnOk result (is_typed_part element.now ≡ true) }
 {
@@ -160,7 +159,7 @@ fn put_name(bytes: &mut Vec<u8>, name: &QName) -> Result<(), AllocError>
 
 /// Adds a text behind its length.
 fn put_text(bytes: &mut Vec<u8>, text: &Word) -> Result<(), AllocError>
-    requires { length text.now ≤ 65536 }
+    requires { length text.now ≤ node_limit }
     ensures put { OnOk result (bytes.new.items ≡ bytes.old.items ++ text_bytes text.now) }
     ensures typed { OnOk result (is_utf8 text.now ≡ true) }
 {

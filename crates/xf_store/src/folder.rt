@@ -2,17 +2,15 @@
 ghost use Rattle.std.specs.Prelude.{◌≡◌, ◌≤◌, None, length, IfOk};
 
 use crate::fault::counted;
-use crate::{GOT_MOST, GetFault, Got, Store};
+use crate::{GetFault, Got, Store};
 use std::alloc::{AllocError, Global};
 use std::fs::OpenFile;
 use std::io::{ErrorKind, Read, Write};
 use std::marker::Model;
 use std::rt::Files;
 use std::{fs, io};
+use xf_base::limits::{FOUND_LIMIT, STORE_NAME_LIMIT};
 use xf_io::{Bytes, Failed, sync_folder_of};
-
-/// The longest name that a path has room for.
-const NAME_MOST: usize = 64;
 
 /// A folder whose files are the named bytes. A put writes a file of another name, which no name here may
 /// have, and renames it, so that it is made whole or not at all; it makes the folder where there is none.
@@ -47,7 +45,7 @@ impl<'a, R: Files> FolderStore<'a, R> {
     {
         let mut temporary = String::from_str(alloc, folder)?;
         temporary.push_str("/.put")?;
-        let room = folder.len().saturating_add(1 + NAME_MOST);
+        let room = folder.len().saturating_add(1 + STORE_NAME_LIMIT);
         Ok(FolderStore {
             files,
             alloc,
@@ -99,7 +97,7 @@ impl<R: Files> Store for FolderStore<'_, R> {
         match fs::open(self.files, self.path.as_str()) {
             Ok(file) => match read_at_most(self.alloc, file) {
                 Ok(bytes) => {
-                    if bytes.len() > GOT_MOST {
+                    if bytes.len() > FOUND_LIMIT {
                         return Ok(Got::TooLong);
                     }
                     *into = Bytes::from_vec(bytes);
@@ -148,7 +146,7 @@ fn read_at_most<F: Read + Drop>(alloc: Global, file: F) -> Result<Vec<u8>, GetFa
     let mut file = file;
     let mut bytes = Vec::new(alloc);
     let mut piece = [0; 8192];
-    while bytes.len() <= GOT_MOST {
+    while bytes.len() <= FOUND_LIMIT {
         match file.read(&mut piece) {
             Ok(count) => {
                 if count == 0 {

@@ -4,9 +4,6 @@ ghost use Rattle.xf_store.specs.declared.got.GetFault.TheVariants.{Memory};
 
 use std::alloc::{AllocError, AllocFailed};
 
-/// The most bytes that a get gives.
-pub const GOT_MOST: usize = 1 << 20;
-
 /// What a get gives.
 #[derive(Clone, Copy, Debug, PartialEq, Eq)]
 pub enum Got {

@@ -14,6 +14,7 @@ pub use answers::{Answer, Answers};
 pub use call::{Asked, Calls, Named, StoreCall};
 pub use canned::Canned;
 pub use folder::FolderStore;
-pub use got::{GOT_MOST, GetFault, Got};
+pub use got::{GetFault, Got};
 pub use memory::MemoryStore;
 pub use store::Store;
+pub use xf_base::limits::FOUND_LIMIT;

@@ -11,10 +11,11 @@ ghost use Rattle.xf_store.specs.Causes.{HasGetCause, PutFails, GetFails};
 ghost use Rattle.xf_store.specs.declared.call.StoreCall.{StoreCall};
 
 use crate::fault::counted;
-use crate::{Answer, Asked, Calls, GOT_MOST, GetFault, Got, Named, Store, StoreCall};
+use crate::{Answer, Asked, Calls, GetFault, Got, Named, Store, StoreCall};
 use std::alloc::{AllocError, Global};
 use std::marker::Model;
 use xf_base::Items;
+use xf_base::limits::FOUND_LIMIT;
 use xf_io::{Bytes, Failed, FailingCalls};
 
 /// A store in memory. Want of memory in a put fails the call, is counted, and ends the list of calls, as
@@ -116,7 +117,7 @@ impl Store for MemoryStore {
             list_get(self.alloc, &mut self.calls, name, Answer::Absent)?;
             return Ok(Got::Absent);
         };
-        if found.len() > GOT_MOST {
+        if found.len() > FOUND_LIMIT {
             list_get(self.alloc, &mut self.calls, name, Answer::TooLong)?;
             return Ok(Got::TooLong);
         }

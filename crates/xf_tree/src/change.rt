@@ -11,12 +11,13 @@ ghost use Rattle.xf_doc.specs.Planted.{planted, planted_bare};
 
 use crate::forest::Forest;
 use std::alloc::{AllocError, Global};
+use xf_base::limits::{ALL_LIMIT, NODE_LIMIT};
 use xf_changes::{contents_of, push_tree, root_over, size_of_tree};
 use xf_doc::{Bare, NodeId, TreeFault};
 use xf_literal::{contents_of_bare, contents_of_lit, fault_of_bare, has_deep, has_long, lit_fault};
 use xf_name::{Lit, Prefixes};
 use xf_rows::{Rows, cut, end_of, parent_row, slice};
-use xf_slots::{ALL_LIMIT, NODE_LIMIT, Part, ROW_LIMIT, Slots, number_of};
+use xf_slots::{Part, ROW_LIMIT, Slots, number_of};
 use xf_walks::{place_of, row_of};
 
 impl Forest {

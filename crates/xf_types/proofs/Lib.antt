@@ -1,4 +1,5 @@
 pub mod SizeLemmas
 pub mod PartLemmas
 pub mod DurationLemmas
+pub mod SpaceLemmas
 mod Examples

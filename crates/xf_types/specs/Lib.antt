@@ -6,3 +6,4 @@ pub mod Durations
 pub mod Named
 pub mod Meets
 pub mod Parts
+pub mod Spaces

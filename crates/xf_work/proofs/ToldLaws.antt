@@ -11,7 +11,7 @@ use Rattle.xf_form_machine.specs.Refusal as machine
 use Rattle.xf_model.specs.Applied.{twice, on_parent}
 use Rattle.xf_rebuild.specs.Rebuilt.{exception, edges, circular}
 use Rattle.xf_form_machine.specs.declared.refusal.Refusal.TheVariants as refusal
-use Rattle.xf_report.specs.Paths.{IsPath}
+use Rattle.xf_paths.specs.Holding.{IsPath}
 use Rattle.xf_work.specs.declared.fault.WorkFault.TheVariants.{Refused}
 use Rattle.xf_work.specs.Told.{ArePaths, IsOver, IsSaid, numbers}
 

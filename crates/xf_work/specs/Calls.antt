@@ -1,5 +1,6 @@
 -- What the calls on the parts of a state do and give.
 use Rattle.std.specs.Prelude.{ℕ, ◌≡◌, ◌++◌, List, [], map, length, get_or, slice_set, nat_lt, Option, Some, None, Result, Ok, Err, false, true}
+use Rattle.xf_base.specs.Limits.{copy_limit}
 use Rattle.xf_doc.specs.Forest.{Forest}
 use Rattle.xf_binds.specs.Kept.{Kept}
 use Rattle.xf_controls.specs.declared.copy.ControlCopy.{ControlCopy}
@@ -44,8 +45,8 @@ Shows chosen loaded forest table result = (flags : List Flags) (controls : List 
 
 -- the list is given, unless it has too many copies
 abbrev pub IsWithin : Result (List ControlCopy) WorkFault → List ControlCopy → Type 0
-IsWithin (Ok given) list = (given ≡ list) × (nat_lt 65536 (copy_count (map seen_copy list)) ≡ false)
-IsWithin (Err (Refused refusal)) list = (refusal ≡ Limit Controls) × (nat_lt 65536 (copy_count (map seen_copy list)) ≡ true)
+IsWithin (Ok given) list = (given ≡ list) × (nat_lt copy_limit (copy_count (map seen_copy list)) ≡ false)
+IsWithin (Err (Refused refusal)) list = (refusal ≡ Limit Controls) × (nat_lt copy_limit (copy_count (map seen_copy list)) ≡ true)
 IsWithin (Err Memory) list = ⊥
 
 abbrev pub Writes : Chosen → Loaded → Forest → List Kept → List ControlCopy → List ℕ → List ℕ → Type 0

@@ -1,6 +1,7 @@
 -- Trees that come and go in the data (XForms 1.1, sections 10.3 and 10.4): what a change of a list of nodes means for the model that holds it, and
 -- what each change of a draft does and why it is refused.
 use Rattle.std.specs.Prelude.{ℕ, ◌≡◌, ◌⊎◌, ◌<◌, ◌^◌, ◌+◌, true, false, List, [], ◌∷◌, ◌++◌, length, Option, Some, None, nat_lt, slice_set, Result, Ok, Err}
+use Rattle.xf_base.specs.Limits.{made_limit}
 use Rattle.xf_name.specs.Bindings.{Bindings}
 use Rattle.xf_name.specs.declared.lit.Lit.{Lit}
 use Rattle.xf_name.specs.declared.lit.Lit.TheVariants as lit
@@ -98,7 +99,7 @@ IsRefusedBy count t given Memory = Unit {0}
 
 -- it came with this top, and so many nodes were counted; or a limit is passed
 abbrev pub IsGrownBy : Result NodeId WorkFault → ℕ → Result (ℕ × Forest) TreeFault → Draft → Tally → Tally → Type 0
-IsGrownBy (Ok top) count given after t u = (given ≡ Ok (top.number, after.now)) × (u ≡ with_more count 0 t) × (nat_lt (2 ^ 32) (t.made + count) ≡ false)
+IsGrownBy (Ok top) count given after t u = (given ≡ Ok (top.number, after.now)) × (u ≡ with_more count 0 t) × (nat_lt made_limit (t.made + count) ≡ false)
 IsGrownBy (Err fault) count given after t u = IsRefusedBy count t given fault
 
 -- the draft as it was, or with the tree, where numbers are left for it

@@ -13,7 +13,7 @@ use Rattle.xf_doc.specs.Visit.{Visit, children_of, top_of, visits}
 use Rattle.xf_form_machine.specs.declared.limit.LimitWord.{LimitWord}
 use Rattle.xf_form_machine.specs.Refusal.{words_of}
 use Rattle.xf_form_machine.specs.declared.refusal.Refusal.TheVariants.{Binding, Limit}
-use Rattle.xf_report.specs.Paths.{IsPath}
+use Rattle.xf_paths.specs.Holding.{IsPath}
 use Rattle.xf_undo.specs.Draft.{Draft, changed}
 use Rattle.xf_binds.specs.Kept.{Kept}
 use Rattle.xf_binds.specs.Table.{kept_at, with_kept}

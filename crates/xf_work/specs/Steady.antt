@@ -1,6 +1,7 @@
 -- Controls that differ from those made afresh in the values of their nodes alone (XForms 1.1, section 4.3.4): so they are over all data of the shape
 -- that was planted, by what a table of binds has of these nodes. Changes of texts leave it so.
 use Rattle.std.specs.Prelude.{ℕ, ◌≡◌, true, false, List, map, nat_lt, option_map}
+use Rattle.xf_base.specs.Limits.{copy_limit}
 use Rattle.xf_agree_laws.specs.Hung.{are_hung}
 use Rattle.xf_doc.specs.Forest.{Forest}
 use Rattle.xf_doc.specs.Shape.{shape_of}
@@ -29,4 +30,4 @@ pub record AreSteady (l : Loaded) (table : List Kept) (list : List ControlCopy) 
       → copies (interface_of l.form) (around_over l forest) marks cases indexes ≡ option_map (map seen_copy) (renewed forest.nodes list)
   pub there : (forest : Forest) → IsShaped l forest → AreThere list forest.nodes
   pub rising : is_rising list ≡ true
-  pub few : nat_lt 65536 (copy_count (map seen_copy list)) ≡ false
+  pub few : nat_lt copy_limit (copy_count (map seen_copy list)) ≡ false

@@ -1,9 +1,10 @@
 -- What is counted of all events, and of one.
 use Rattle.std.specs.Prelude.{ℕ, zero, suc, Option, Some, None}
+use Rattle.xf_base.specs.Limits.{turn_limit}
 use Rattle.xf_work.specs.declared.tally.Tally.{Tally}
 
 abbrev pub begun : Tally → Tally
-begun t = record { accepted = t.accepted; turns = 50000; made = 0; evaluated = 0 }
+begun t = record { accepted = t.accepted; turns = turn_limit; made = 0; evaluated = 0 }
 
 abbrev pub spent_from : ℕ → Tally → Option Tally
 spent_from zero t = None

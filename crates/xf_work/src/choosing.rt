@@ -18,6 +18,7 @@ use crate::fault::WorkFault;
 use crate::showing::told;
 use crate::work::Work;
 use std::alloc::{AllocError, Global};
+use xf_base::limits::PASS_LIMIT;
 use xf_binds::NodeSet;
 use xf_context::{Index, Over};
 use xf_doc::NodeList;
@@ -27,9 +28,6 @@ use xf_repeat::{IndexFault, bring_up, set_index, started};
 use xf_switch::first_cases;
 use xf_tree::Forest;
 use xf_walks::copied;
-
-/// The passes over all indexes that may be made at one time.
-const PASSES: u32 = 64;
 
 impl Work {
     /// Each switch has its first case, and the indexes start: in construction, after the models are built. What is kept has the same.
@@ -156,7 +154,7 @@ fn started_over(over: &Over<'_>) -> Result<Vec<Index>, WorkFault>
 fn bring_over(over: &Over<'_>, added: &NodeSet, indexes: &mut [Index]) -> Result<(), WorkFault>
     ensures { Reindexes over.now added.now (map seen_index indexes.old) (map seen_index indexes.new) result }
 {
-    match bring_up(over, PASSES, added, indexes) {
+    match bring_up(over, PASS_LIMIT, added, indexes) {
         Ok(()) => Ok(()),
         Err(fault) => Err(stopped(fault)),
     }

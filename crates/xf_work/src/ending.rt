@@ -38,7 +38,9 @@ impl Work {
     }
 
     /// Gives up what stands and what was kept.
-    pub fn discard(self) {}
+    pub fn discard(self) {
+        drop(self)
+    }
 
     /// Keeps what stands: detached trees are dropped, and the next event has a whole budget. Takes no memory.
     pub fn commit(&mut self)

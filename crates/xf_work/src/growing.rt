@@ -4,10 +4,8 @@ ghost use Rattle.xf_work.specs.Grown.{IsGrown};
 
 use crate::fault::WorkFault;
 use crate::tally::Tally;
+use xf_base::limits::MADE_LIMIT;
 use xf_form_machine::{LimitWord, Refusal};
-
-/// The nodes that one event may make.
-pub(crate) const MADE: u64 = 4_294_967_296;
 
 /// Beyond all numbers of nodes that a form can take.
 pub(crate) const NUMBERS: u128 = 1 << 120;
@@ -16,11 +14,11 @@ pub(crate) const NUMBERS: u128 = 1 << 120;
 pub(crate) fn grown(tally: Tally, made: u128, count: u64) -> Result<Tally, WorkFault>
     ensures { IsGrown tally made count result }
 {
-    if made > MADE as u128 {
+    if made > MADE_LIMIT as u128 {
         return Err(WorkFault::Refused(Refusal::Limit(LimitWord::Made)));
     }
     let all = tally.made as u128 + made;
-    if all > MADE as u128 {
+    if all > MADE_LIMIT as u128 {
         return Err(WorkFault::Refused(Refusal::Limit(LimitWord::Made)));
     }
     match tally.evaluated.checked_add(count) {

@@ -2,8 +2,8 @@
 
 use xf_binds::Table;
 use xf_doc::NodeId;
-use xf_report::{Marks, NodeMarks};
 use xf_tree::Forest;
+use xf_ui::{Marks, NodeMarks};
 use xf_valid::marks_at;
 
 /// The properties of the nodes of a forest, as a table gives them.

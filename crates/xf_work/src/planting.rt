@@ -9,13 +9,14 @@ ghost use Rattle.xf_work.specs.Planting.{Grows, IsBegun, IsPlanted, document_in,
 
 use crate::fault::WorkFault;
 use crate::flags::Flags;
-use crate::growing::{MADE, NUMBERS};
+use crate::growing::NUMBERS;
 use crate::holding::held;
 use crate::knowing::Knowledge;
-use crate::tally::{TURNS, Tally};
+use crate::tally::Tally;
 use crate::work::Work;
 use std::alloc::Global;
 use xf_ast::Instance;
+use xf_base::limits::{MADE_LIMIT, TURN_LIMIT};
 use xf_binds::Table;
 use xf_controls::{KnownList, Shown, are_bound, is_plain};
 use xf_doc::TreeFault;
@@ -58,7 +59,7 @@ fn work_on(alloc: Global, loaded: Loaded, begun: Ground) -> Work
 {
     let tally = Tally {
         accepted: 0,
-        turns: TURNS,
+        turns: TURN_LIMIT,
         made: begun.made,
         evaluated: 0,
     };
@@ -166,7 +167,7 @@ fn plant(
                 return Err(WorkFault::Memory);
             }
             let all = made as u128 + (after - next);
-            if all > MADE as u128 {
+            if all > MADE_LIMIT as u128 {
                 return Err(WorkFault::Refused(Refusal::Limit(LimitWord::Made)));
             }
             forest.add_root(top)?;

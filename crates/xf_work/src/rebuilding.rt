@@ -17,8 +17,8 @@ use xf_binds::Table;
 use xf_doc::NodeId;
 use xf_form_machine::{LimitWord, PathList, Refusal};
 use xf_loader::Loaded;
+use xf_paths::path_in;
 use xf_rebuild::{RebuildFault, rebuild as rebuild_table};
-use xf_report::path_in;
 use xf_tree::Forest;
 
 /// Applies the binds of a model, and keeps what they set.

@@ -17,7 +17,7 @@ use xf_binds::Table;
 use xf_doc::{Kind, NodeId};
 use xf_form_machine::Refusal;
 use xf_name::Axis;
-use xf_report::{instance_holding, path_in};
+use xf_paths::{instance_holding, path_in};
 use xf_tree::Forest;
 use xf_undo::Draft;
 

@@ -2,6 +2,7 @@
 
 ghost use Rattle.std.specs.Prelude.{◌≡◌, true, map, nat_lt};
 ghost use Rattle.xf_agree_laws.specs.Hung.{are_hung};
+ghost use Rattle.xf_base.specs.Limits.{copy_limit};
 ghost use Rattle.xf_controls.specs.Known.{AreKnown};
 ghost use Rattle.xf_controls.specs.Plain.{is_plain};
 ghost use Rattle.xf_controls.specs.Seen.{seen_copy};
@@ -15,6 +16,7 @@ use crate::around::{Quiet, documents};
 use crate::fault::WorkFault;
 use crate::marks::Marked;
 use std::alloc::Global;
+use xf_base::limits::COPY_LIMIT;
 use xf_binds::Table;
 use xf_context::{Index, Over};
 use xf_controls::{ControlCopy, ControlList, KnownList, controls};
@@ -23,9 +25,6 @@ use xf_eval::EvalFault;
 use xf_form_machine::{LimitWord, Refusal};
 use xf_loader::Loaded;
 use xf_tree::Forest;
-
-/// The copies of controls and items that a form may have.
-const CONTROLS: usize = 65_536;
 
 /// The controls of a plain form made afresh over its data and what its binds set, by what is known of their nodes: whatever is chosen.
 pub(crate) fn shown(
@@ -112,12 +111,12 @@ fn within(list: ControlList) -> Result<ControlList, WorkFault>
 
 /// Whether there are more copies and items than a form may have.
 fn is_over(list: &[ControlCopy]) -> bool
-    ensures { result ≡ nat_lt 65536 (copy_count (map seen_copy list.now)) }
+    ensures { result ≡ nat_lt copy_limit (copy_count (map seen_copy list.now)) }
 {
-    if list.len() > CONTROLS {
+    if list.len() > COPY_LIMIT {
         return true;
     }
-    let mut left = CONTROLS - list.len();
+    let mut left = COPY_LIMIT - list.len();
     for copy in list {
         if copy.items.len() > left {
             return true;

@@ -3,8 +3,7 @@
 ghost use Rattle.std.specs.Prelude.{◌≡◌, ◌+◌, IfSome};
 ghost use Rattle.xf_work.specs.Tally.{begun, spent};
 
-/// The turns of one event.
-pub(crate) const TURNS: u32 = 50_000;
+use xf_base::limits::TURN_LIMIT;
 
 /// How many events were accepted; and of one event the turns that are left, the nodes made, the evaluations counted.
 #[derive(Clone, Copy, Debug)]
@@ -22,7 +21,7 @@ impl Tally {
     {
         Tally {
             accepted: self.accepted,
-            turns: TURNS,
+            turns: TURN_LIMIT,
             made: 0,
             evaluated: 0,
         }

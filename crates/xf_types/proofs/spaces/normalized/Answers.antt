@@ -1,8 +1,8 @@
 use Rattle.std.proofs.Common.{◌≡◌, false, ◌∷◌, ◌++◌, sym, ap, ◌∙◌, not, string_bytes, rules}
 use Rattle.std.specs.Prelude.{chars, encode_utf8_all}
 use Rattle.xf_num.specs.Written.{is_empty}
-use Rattle.xf_funcs.proofs.SpaceLemmas.{onward, pushed, all_pushed}
-use Rattle.xf_schema.proofs.spaces.normalized.Goals as goal
+use Rattle.xf_types.proofs.SpaceLemmas.{onward, pushed, all_pushed}
+use Rattle.xf_types.proofs.spaces.normalized.Goals as goal
 
 pub returns : goal.returns
 returns c =

@@ -1,11 +1,14 @@
 -- Words written one character after the other.
 use Rattle.std.proofs.Common.{◌≡◌, ℕ, ◌≤◌, Bool, true, false, not, if◌then◌else◌, filter, List, [], ◌∷◌, ◌++◌, length, refl, sym, ap, ◌∙◌, append-nil, append_assoc, arith}
 use Rattle.std.specs.Prelude.{chars, encode_utf8, encode_utf8_all}
-use Rattle.std.proofs.lemmas.Str.{encode_ascii}
+use Rattle.std.proofs.lemmas.Str.{encode_ascii, length-encode, len_utf8_bounds}
 use Rattle.std.specs.List.{slice_split, onto_first}
 use Rattle.xf_num.specs.Written.{is_space, is_empty}
-use Rattle.xf_funcs.specs.Spaces.{words, joined, normalized}
-use Rattle.xf_funcs.proofs.TextLemmas.{encode-some}
+use Rattle.xf_types.specs.Spaces.{words, joined, normalized}
+
+-- a character takes a byte at least
+pub encode-some : (c : ℕ) → 1 ≤ length (encode_utf8 c)
+encode-some c = omega (arith, length-encode c, len_utf8_bounds c)
 
 -- what is still to be written of a text, where a word stands already or not, and a space is due or not
 abbrev pub onward : Bool → Bool → List ℕ → List ℕ

@@ -3,8 +3,8 @@ use denote.Text.{Utf8}
 use denote.Shadow.{shadow}
 use Rattle.std.specs.Prelude.{chars, encode_utf8_all}
 use Rattle.xf_num.specs.Written.{is_empty}
-use Rattle.xf_funcs.proofs.SpaceLemmas.{onward}
-use Rattle.xf_funcs.proofs.spaces.normalized.Given as goal
+use Rattle.xf_types.proofs.SpaceLemmas.{onward}
+use Rattle.xf_types.proofs.spaces.normalized.Given as goal
 
 abbrev pub invariant-loop-c : goal.invariant-loop-c
 invariant-loop-c l =

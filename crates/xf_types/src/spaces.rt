@@ -1,10 +1,9 @@
-//! White space made single.
+//! White space and characters of texts.
 
-ghost use Rattle.std.specs.Prelude.{◌≡◌, ◌∷◌, ◌++◌, string_bytes, encode_utf8, if◌then◌else◌, IfOk, OnOk};
+ghost use Rattle.std.specs.Prelude.{◌≡◌, ◌<◌, [], ◌∷◌, ◌++◌, length, chars, string_bytes, encode_utf8, encode_utf8_all, if◌then◌else◌, IfOk, OnOk, MatchOption};
 ghost use Rattle.xf_num.specs.Written.{is_space};
-ghost use Rattle.xf_funcs.specs.Spaces.{normalized};
+ghost use Rattle.xf_types.specs.Spaces.{normalized};
 
-use crate::text::split_first;
 use std::alloc::{AllocError, Global};
 
 /// The words of a text with one space between two of them.
@@ -37,8 +36,29 @@ fn push(made: &mut String, space_due: bool, c: char) -> Result<(), AllocError>
     made.push(c)
 }
 
-fn is_space(c: char) -> bool
+/// Whether a character is white space.
+pub fn is_space(c: char) -> bool
     ensures { result ≡ is_space c }
 {
     c == ' ' || c == '\t' || c == '\n' || c == '\r'
+}
+
+/// The first character, and what follows it.
+pub fn split_first(text: &str) -> Option<(char, &str)>
+    ensures { MatchOption result ((chars text.now ≡ []) × (text.now ≡ []))
+        (λ (c, rest). (chars text.now ≡ c ∷ chars rest.now) × (length rest.now < length text.now)
+        × (encode_utf8_all (chars rest.now) ≡ rest.now)) }
+{
+    let mut chars = text.chars();
+    match chars.next() {
+        Some(c) => Some((c, chars.as_str())),
+        None => None,
+    }
+}
+
+/// How many characters there are.
+pub fn char_count(text: &str) -> usize
+    ensures { result ≡ length (chars text.now) }
+{
+    text.chars().count()
 }

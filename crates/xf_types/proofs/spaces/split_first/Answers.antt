@@ -2,8 +2,8 @@ use Rattle.std.proofs.Common.{◌≡◌, ◌++◌, length, sym, ap, ◌∙◌, a
 use Rattle.std.proofs.lemmas.Str.{chars_past_char, chars-nil, encodes-chars, IsUtf8-past_char}
 use Rattle.std.proofs.lemmas.List.{nil_from_length}
 use Rattle.std.specs.Prelude.{chars, encode_utf8}
-use Rattle.xf_funcs.proofs.TextLemmas.{encode-some}
-use Rattle.xf_schema.proofs.spaces.split_first.Goals as goal
+use Rattle.xf_types.proofs.SpaceLemmas.{encode-some}
+use Rattle.xf_types.proofs.spaces.split_first.Goals as goal
 
 pub returns-in-Some : goal.returns-in-Some
 returns-in-Some c =
