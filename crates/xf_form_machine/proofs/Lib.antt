@@ -14,3 +14,4 @@ mod BindExamples
 mod ReplyExamples
 mod RestExamples
 mod RunExamples
+mod CarryExamples

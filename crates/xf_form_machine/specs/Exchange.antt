@@ -1,6 +1,7 @@
 -- Submission up to the response of the store (XForms 1.1, section 11.2), and the event that tells how it ended.
 use Rattle.std.specs.Prelude.{ℕ, Bool, true, false, not, ◌&&◌, ◌||◌, List, [], ◌∷◌, ◌++◌, length, codes, nat_le, Some, option_map, slice_get, unwrap_or, Result, Ok, ◌==◌, if◌then◌else◌}
 use Rattle.std.specs.List.{list_all}
+use Rattle.xf_base.specs.Limits.{store_name_limit}
 use Rattle.xf_json.specs.Printed.{text_of}
 use Rattle.xf_store.specs.declared.answers.Answer.{Answer}
 use Rattle.xf_store.specs.declared.call.Asked.{Asked}
@@ -37,9 +38,9 @@ abbrev pub begins_well : List ℕ → Bool
 begins_well [] = false
 begins_well (c ∷ cs) = not (c == 46)
 
--- 1 to 64 of them, not beginning with `.`
+-- so many of them as a name may have, at least one, not beginning with `.`
 abbrev pub is_store_name : List ℕ → Bool
-is_store_name name = begins_well name && nat_le (length name) 64 && list_all is_name_byte name
+is_store_name name = begins_well name && nat_le (length name) store_name_limit && list_all is_name_byte name
 
 -- ---- the call (step 5)
 

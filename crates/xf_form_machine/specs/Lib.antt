@@ -28,6 +28,7 @@ pub mod Dispatch
 pub mod Targets
 pub mod Step
 pub mod Start
+pub mod Carried
 pub mod Run
 pub mod Data
 pub mod Same

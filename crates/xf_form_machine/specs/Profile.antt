@@ -1,6 +1,6 @@
 -- What the machine is given beside a form: the functions of expressions, the rule of types, and each budget and limit.
-use Rattle.std.specs.Prelude.{ℕ, ◌^◌, List}
-use Rattle.xf_base.specs.Limits.{answer_limit}
+use Rattle.std.specs.Prelude.{ℕ, List}
+use Rattle.xf_base.specs.Limits.{answer_limit, turn_limit, dispatch_limit, pass_limit, note_limit, made_limit, copy_limit, edge_limit}
 use Rattle.xf_schema.specs.declared.written.Restriction.{Restriction}
 use Rattle.xf_plain_values.specs.Functions.{Functions}
 use Rattle.xf_model.specs.Properties.{Meets}
@@ -34,12 +34,12 @@ usual functions meets = record {
   functions = functions;
   meets = meets;
   bounds = bounds;
-  turns = 50000;
-  depth = 64;
+  turns = turn_limit;
+  depth = dispatch_limit;
   sends = answer_limit;
-  passes = 64;
-  notes = 2 ^ 20;
-  made = 2 ^ 32;
-  controls = 65536;
-  edges = 2 ^ 23;
+  passes = pass_limit;
+  notes = note_limit;
+  made = made_limit;
+  controls = copy_limit;
+  edges = edge_limit;
 }

@@ -13,7 +13,7 @@ use Rattle.xf_form_machine.specs.Step.{step, at_end}
 use Rattle.xf_form_machine.specs.Run.{if_exact}
 use Rattle.xf_rest_laws.proofs.StepLaws.{step_rests}
 use Rattle.xf_history.specs.Sessions.{Machine, Session, snap_of, fresh_session}
-use Rattle.xf_history.specs.Carried.{Document, NoFit, adopted_by, adopted_over, carried}
+use Rattle.xf_form_machine.specs.Carried.{Document, NoFit, adopted_by, adopted_over, carried}
 use Rattle.xf_history.specs.History.{after_event, IsBack}
 use Rattle.xf_history.specs.Runs.{Item, line, adopt, undo, redo, began_with, after_line, session_with, adopted_form, adopted_some, after_adopt, Accepts, Goes}
 use Rattle.xf_history.specs.Counts.{FormsAreFilled, RunsCount}

@@ -8,7 +8,6 @@ use Rattle.serde_json.proofs.OnLiterals.{serde_json_on_literals}
 use Rattle.xf_disk.specs.declared.slot.Slot.TheVariants.{A}
 use Rattle.xf_disk.specs.Image.{Image}
 use Rattle.xf_num.specs.Number.{scale}
-use Rattle.xf_name.specs.Bindings.{Bindings, no_bindings}
 use Rattle.xf_doc.specs.declared.bare.Bare.TheVariants as bare
 use Rattle.xf_doc.specs.declared.bare.BareElement.{roll-BareElement}
 use Rattle.xf_journal.specs.Numbers.{four, from_four, from_eight}
@@ -24,9 +23,8 @@ use Rattle.xf_history.specs.Sessions.{snap_of}
 use Rattle.xf_history.specs.Images.{Stands, StandsForNone}
 use Rattle.xf_history.specs.Opening.{opened, no_session, other_form, damaged, difference_from, Opens, OpensOwn}
 use Rattle.xf_history.specs.Lines.{of_machine, back, again, wanted_by}
-use Rattle.xf_history.specs.Carried.{Document, document_under, is_same_top}
 use Rattle.xf_history.specs.Runs.{adopt, began, Accepts, Ran}
-use Rattle.xf_history.specs.Examples.{one_input, one_text, slot_of, set_entry, bytes_with, first_bytes, second_bytes, machine, begun, set_item, after_set, after_other, set_slot, old_slot, snap_base, compact_slot, nothing, bindings_of, p_element}
+use Rattle.xf_history.specs.Examples.{one_input, one_text, slot_of, set_entry, bytes_with, first_bytes, second_bytes, machine, begun, set_item, after_set, after_other, set_slot, old_slot, snap_base, compact_slot, nothing}
 
 -- ---- bytes
 
@@ -179,31 +177,3 @@ redo_line = refl
 undo_and_more : wanted_by (codes "[\"undo\",1]") ≡ of_machine
 unfolding serde_json_on_literals is_utf8 chars
 undo_and_more = refl
-
--- ---- names under another form
-
-abbrev here_ : Bindings
-here_ = bindings_of (codes "p") (codes "urn:p")
-
-abbrev there : Bindings
-there = bindings_of (codes "p") (codes "urn:q")
-
--- ["p:d",["p:a"]]
-abbrev two_names : Document
-two_names = p_element 0 (codes "d") ∷ p_element 1 (codes "a") ∷ []
-
-same_names : document_under here_ here_ two_names ≡ Some two_names
-same_names = refl
-
-other_space : document_under here_ there two_names ≡ None
-other_space = refl
-
-no_space : document_under here_ no_bindings two_names ≡ None
-no_space = refl
-
--- the document elements have another namespace, so that nothing is carried
-other_top : is_same_top here_ there two_names two_names ≡ false
-other_top = refl
-
-same_top : is_same_top here_ here_ two_names two_names ≡ true
-same_top = refl

@@ -1,5 +1,5 @@
 -- Opening finds the session.
-use Rattle.std.proofs.Common.{ℕ, suc, ◌+◌, ◌≡◌, ◌<◌, ◌⊎◌, inl, inr, Bool, true, false, if◌then◌else◌, ◌==◌, List, [], ◌∷◌, ◌++◌, length, Some, None, Ok, refl, sym, ap, ◌∙◌, subst, arith}
+use Rattle.std.proofs.Common.{ℕ, suc, ◌+◌, ◌^◌, ◌≡◌, ◌<◌, ◌⊎◌, inl, inr, Bool, true, false, if◌then◌else◌, ◌==◌, List, [], ◌∷◌, ◌++◌, length, Some, None, Ok, refl, sym, ap, ◌∙◌, subst, arith}
 use Rattle.std.proofs.lemmas.Bool.Decides.{nat_tests}
 use Rattle.std.proofs.lemmas.List.{length-append}
 use Rattle.xf_disk.specs.Image.{Image}
@@ -9,10 +9,9 @@ use Rattle.xf_journal.specs.Entry.{written_bytes}
 use Rattle.xf_journal.specs.Held.{Log, held}
 use Rattle.xf_form_machine.specs.Program.{Program}
 use Rattle.xf_form_machine.specs.State.{State}
-use Rattle.xf_form_machine.specs.AtRest.{IsAtRest}
 use Rattle.xf_form_machine.specs.Start.{start}
 use Rattle.xf_form_machine.specs.Run.{if_exact}
-use Rattle.xf_history.specs.Sessions.{Machine, Session, snap_of, fresh_session}
+use Rattle.xf_history.specs.Sessions.{Machine, IsSessionState, Session, snap_of, fresh_session}
 use Rattle.xf_history.specs.Runs.{Item, line, adopt, undo, redo, Accepts, Goes, Ran}
 use Rattle.xf_history.specs.Images.{item_of, items_of, answers_at_base, snap_at_base, FromStart, FromSnap, LogStands}
 use Rattle.xf_history.specs.Opening.{Opened, difference_from, first_gate, base_limit, Gives, state_after, at_cut, then_entries, replayed, OpensBase, OpensForm, OpensHeld, Opens}
@@ -21,9 +20,9 @@ use Rattle.xf_history.specs.Alike.{AreAlike, GoesAlike}
 use Rattle.xf_history.specs.Finding.{FindsIn, AreFew, StandingOpens, OpeningFinds, FindingLaws}
 use Rattle.xf_history.proofs.RunLaws.{IsLine, AreLines, lines-form}
 use Rattle.xf_history.proofs.EntryLaws.{joined-items, items-lines}
-use Rattle.xf_history.proofs.Counted.{HasForm, line-more, goes-counts, runs_count}
+use Rattle.xf_history.proofs.Counted.{HasForm, IsOneMore, line-more, goes-counts, runs_count}
 use Rattle.xf_history.proofs.OneImage.{one-option, not-both}
-use Rattle.xf_history.proofs.RestLaws.{alike-itself, is-begun, begun-rests, begun-form, line-alike, runs_rest}
+use Rattle.xf_history.proofs.RestLaws.{alike-itself, is-begun, begun-rests, begun-form, begun-count, line-alike, runs_rest}
 
 -- ---- one form
 
@@ -45,29 +44,34 @@ Finds m log last result =
     (r : State) × (result ≡ at_cut log.kept.slot log.cut (fresh_session log.kept.form log.kept.adoptions r)) × AreAlike m.profile r last
 
 -- an item of an entry
-item-alike : (m : Machine) (s next : Session) (item : Item) (found : State) → FormsAreFilled m → GoesAlike m → HasForm m s → IsLine item → Accepts m s item next
-    → AreAlike m.profile found s.state → (r : State) × (state_after m.profile found (Some item) ≡ Some r) × AreAlike m.profile r next.state × HasForm m next
-item-alike m s next (line event given) found f laws h is e alike =
-    let after = line-alike m s next event given found laws h e alike in
-    (after.0, after.1, after.2, (line-more m s next event given f h e).form)
-item-alike m s next (adopt bytes) found f laws h is e alike = absurd is
-item-alike m s next undo found f laws h is e alike = absurd is
-item-alike m s next redo found f laws h is e alike = absurd is
+item-alike : (m : Machine) (s next : Session) (item : Item) (found : State) → FormsAreFilled m → GoesAlike m → HasForm m s → s.state.accepted < 2 ^ 62 → IsLine item
+    → Accepts m s item next → AreAlike m.profile found s.state
+    → (r : State) × (state_after m.profile found (Some item) ≡ Some r) × AreAlike m.profile r next.state × IsOneMore m s next
+item-alike m s next (line event given) found f laws h few is e alike =
+    let after = line-alike m s next event given found laws h few e alike in
+    (after.0, after.1, after.2, line-more m s next event given f h e)
+item-alike m s next (adopt bytes) found f laws h few is e alike = absurd is
+item-alike m s next undo found f laws h few is e alike = absurd is
+item-alike m s next redo found f laws h few is e alike = absurd is
 
 entries-find : (m : Machine) (log : Log) (entries : List Accepted) (items : List Item) (s last : Session) (found : State) (at : ℕ) → FormsAreFilled m → GoesAlike m
-    → HasForm m s → items_of entries ≡ Some items → AreLines items → Goes m s items last → AreAlike m.profile found s.state
+    → HasForm m s → length items + s.state.accepted < 2 ^ 62 → items_of entries ≡ Some items → AreLines items → Goes m s items last → AreAlike m.profile found s.state
     → Finds m log last.state (replayed m.profile log entries at found)
-entries-find m log [] items s last found at f laws h e lines goes alike =
+entries-find m log [] items s last found at f laws h few e lines goes alike =
     let none : items ≡ [] = cc in
     let same : s ≡ last = subst (λ is. Goes m s is last) none goes in
     (found, refl, subst (λ (x : Session). AreAlike m.profile found x.state) same alike)
-entries-find m log (entry ∷ entries) items s last found at f laws h e lines goes alike =
+entries-find m log (entry ∷ entries) items s last found at f laws h few e lines goes alike =
     let parts = joined-items (item_of entry) (items_of entries) items e in
     let more : Goes m s (parts.0 ∷ parts.1) last = subst (λ is. Goes m s is last) parts.4 goes in
     let all : AreLines (parts.0 ∷ parts.1) = subst AreLines parts.4 lines in
-    let after = item-alike m s more.0 parts.0 found f laws h all.0 more.1 alike in
+    let size = ap length parts.4 in
+    let now : s.state.accepted < 2 ^ 62 = omega (arith, size, few) in
+    let after = item-alike m s more.0 parts.0 found f laws h now all.0 more.1 alike in
+    let one = after.3.count in
+    let later : length parts.1 + more.0.state.accepted < 2 ^ 62 = omega (arith, size, one, few) in
     let next = at + length (written_bytes entry.line entry.answers) in
-    let rest = entries-find m log entries parts.1 more.0 last after.0 next f laws after.3 parts.3 all.1 more.2 after.2 in
+    let rest = entries-find m log entries parts.1 more.0 last after.0 next f laws after.3.form later parts.3 all.1 more.2 after.2 in
     let here_ : replayed m.profile log (entry ∷ entries) at found ≡ replayed m.profile log entries next after.0
     = ap (λ o. then_entries log at (replayed m.profile log entries next) (state_after m.profile found o)) parts.2 ∙ ap (then_entries log at (replayed m.profile log entries next)) after.1 in
     (rest.0, here_ ∙ rest.1, rest.2)
@@ -79,7 +83,8 @@ pub record HasBase (m : Machine) (items : List Item) (last : Session) (log : Log
   pub base : Session
   pub since : List Item
   pub form : HasForm m base
-  pub rest : IsAtRest m.profile base.state
+  pub rest : IsSessionState m.profile base.state
+  pub few : length since + base.state.accepted < 2 ^ 62
   pub same_form : base.form ≡ last.form
   pub entries : items_of log.kept.entries ≡ Some since
   pub lines : AreLines since
@@ -113,6 +118,7 @@ module _ (m : Machine) (bytes : List ℕ) (answers : List Answer) (items : List 
         since = items;
         form = form;
         rest = rest;
+        few = let none = begun-count m bytes answers first f a.ran.begun in omega (arith, none, few);
         same_form = forms;
         entries = a.entries;
         lines = lines;
@@ -122,7 +128,7 @@ module _ (m : Machine) (bytes : List ℕ) (answers : List Answer) (items : List 
       }
     where
       start-alike : (first : Session) → answers_at_base log.kept.base ≡ Some answers → if_exact answers (start m.profile last.state.form answers) ≡ Some first.state
-          → IsAtRest m.profile first.state → (s : State) → Gives m.profile last.state.form log.kept.base s → AreAlike m.profile s first.state
+          → IsSessionState m.profile first.state → (s : State) → Gives m.profile last.state.form log.kept.base s → AreAlike m.profile s first.state
       start-alike first base started rest s (inl (others, e, k)) =
           let same : others ≡ answers = one-option (answers_at_base log.kept.base) others answers e base in
           let there : if_exact answers (start m.profile last.state.form answers) ≡ Some s = ap (λ (x : List Answer). if_exact x (start m.profile last.state.form x)) (sym same) ∙ k in
@@ -136,27 +142,29 @@ module _ (m : Machine) (bytes : List ℕ) (answers : List Answer) (items : List 
       let forms = (lines-form m b.after b.between last lines b.goes).0 in
       let counted = runs_count m bytes answers b.before b.between f b.ran in
       let last_form = (goes-counts m b.after b.between last f counted.form b.goes).1 in
-      let rest = runs_rest m bytes answers b.before b.between f laws b.ran in
+      let sum = ap length b.split ∙ length-append b.before b.after in
+      let rest = runs_rest m bytes answers b.before b.between f laws (omega (arith, sum, few)) b.ran in
       let program = same-program b.between counted.form last_form forms in
       record {
         base = b.between;
         since = b.after;
         form = counted.form;
         rest = rest;
+        few = let count = counted.accepted in omega (arith, sum, count, few);
         same_form = forms;
         entries = b.entries;
         lines = lines;
         goes = b.goes;
-        gives = inr (snap_of b.between.state, b.base, record { few = snap-few items b.before b.after b.between b.split few counted.accepted; rest = rest; form = program; snap = refl });
+        gives = inr (snap_of b.between.state, b.base, record { few = snap-few items b.before b.after b.between b.split few counted.accepted; stands = rest; form = program; snap = refl });
         gives_alike = λ s g. snap-alike b.between b.base program rest s g;
       }
     where
-      snap-alike : (base : Session) → snap_at_base log.kept.base ≡ Some (snap_of base.state) → base.state.form ≡ last.state.form → IsAtRest m.profile base.state
+      snap-alike : (base : Session) → snap_at_base log.kept.base ≡ Some (snap_of base.state) → base.state.form ≡ last.state.form → IsSessionState m.profile base.state
           → (s : State) → Gives m.profile last.state.form log.kept.base s → AreAlike m.profile s base.state
       snap-alike base e program rest s (inl (others, k, i)) = absurd (not-both log.kept.base others (snap_of base.state) k e)
       snap-alike base e program rest s (inr (snap, k, restored)) = record {
-        rest = restored.rest;
-        other_rest = rest;
+        one = restored.stands;
+        other = rest;
         form = restored.form ∙ sym program;
         snap = restored.snap ∙ one-option (snap_at_base log.kept.base) snap (snap_of base.state) k e;
       }
@@ -182,7 +190,7 @@ module _ (m : Machine) (bytes : List ℕ) (answers : List Answer) (items : List 
   base-finds h s g =
       let b = has-base h in
       found-in h.whole h.form h.adoptions _
-      (entries-find m log log.kept.entries b.since b.base last s (first_gate log) f laws b.form b.entries b.lines b.goes (b.gives_alike s g))
+      (entries-find m log log.kept.entries b.since b.base last s (first_gate log) f laws b.form b.few b.entries b.lines b.goes (b.gives_alike s g))
 
   opens-base : LogStands m bytes answers items last log → (result : Opened) × OpensBase m.profile last.state.form log result × FindsIn m last result
   opens-base h =

@@ -1,19 +1,18 @@
--- States at rest that cannot be told apart: of one form, with the same data. What sessions rely on of the form machine is that they go alike.
-use Rattle.std.specs.Prelude.{ℕ, ◌≡◌, List, Some, Ok}
+-- States of sessions that cannot be told apart: at rest, of one form, with the same data. What sessions rely on of the form machine is that they go alike.
+use Rattle.std.specs.Prelude.{ℕ, ◌≡◌, ◌<◌, ◌^◌, List, Some, Ok}
 use Rattle.xf_line.specs.declared.event.Event.{Event}
 use Rattle.xf_store.specs.declared.answers.Answer.{Answer}
 use Rattle.xf_form_machine.specs.Profile.{Profile}
 use Rattle.xf_form_machine.specs.Program.{Program}
 use Rattle.xf_form_machine.specs.State.{State}
-use Rattle.xf_form_machine.specs.AtRest.{IsAtRest}
 use Rattle.xf_form_machine.specs.Start.{start}
 use Rattle.xf_form_machine.specs.Step.{Posted, Outcome, accepted, refused, step}
-use Rattle.xf_history.specs.Sessions.{Machine, Session, snap_of}
-use Rattle.xf_history.specs.Carried.{adopted}
+use Rattle.xf_history.specs.Sessions.{Machine, IsSessionState, Session, snap_of}
+use Rattle.xf_form_machine.specs.Carried.{adopted}
 
 pub record AreAlike (p : Profile) (s t : State) : Type 0 where
-  pub rest : IsAtRest p s
-  pub other_rest : IsAtRest p t
+  pub one : IsSessionState p s
+  pub other : IsSessionState p t
   pub form : s.form ≡ t.form
   pub snap : snap_of s ≡ snap_of t
 
@@ -25,16 +24,16 @@ EndAlike p one other = ⊥
 
 -- of the forms that are read
 pub record GoesAlike (m : Machine) : Type 0 where
-  -- a start that is accepted leaves a state at rest
+  -- a start that is accepted leaves such a state
   pub starts : (bytes : List ℕ) (form : Program) → m.form_in bytes ≡ Some form → (answers : List Answer) (s : State) (posted : Posted)
-      → start m.profile form answers ≡ accepted s posted → IsAtRest m.profile s
-  -- an event ends alike
-  pub steps : (bytes : List ℕ) (s t : State) → m.form_in bytes ≡ Some s.form → AreAlike m.profile s t
+      → start m.profile form answers ≡ accepted s posted → IsSessionState m.profile s
+  -- an event ends alike: the numbers that it gives are below those that texts have in shapes, since few events were accepted
+  pub steps : (bytes : List ℕ) (s t : State) → m.form_in bytes ≡ Some s.form → AreAlike m.profile s t → s.accepted < 2 ^ 62
       → (event : Event) (answers : List Answer) → EndAlike m.profile (step m.profile s event answers) (step m.profile t event answers)
   -- so does an adoption: it looks at the data alone
   pub adopts : (bytes : List ℕ) (form : Program) → m.form_in bytes ≡ Some form → (s t : State) → AreAlike m.profile s t → adopted m.profile s form ≡ adopted m.profile t form
-  pub adopted_rests : (bytes : List ℕ) (form : Program) → m.form_in bytes ≡ Some form → (s t : State) → IsAtRest m.profile s
-      → adopted m.profile s form ≡ Ok t → IsAtRest m.profile t
+  pub adopted_rests : (bytes : List ℕ) (form : Program) → m.form_in bytes ≡ Some form → (s t : State) → IsSessionState m.profile s
+      → adopted m.profile s form ≡ Ok t → IsSessionState m.profile t
 
 -- sessions that cannot be told apart but by what may be undone
 pub record AreSameSessions (p : Profile) (s t : Session) : Type 0 where

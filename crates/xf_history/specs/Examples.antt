@@ -1,9 +1,6 @@
 -- Sessions of small forms, to read beside the definitions: the bytes of a form stand for a form that is made by hand.
 use Rattle.std.specs.Prelude.{ℕ, false, List, [], ◌∷◌, ◌++◌, Option, Some, None, codes, bytes_eq, if◌then◌else◌}
 use Rattle.std.specs.Option.{unwrap_or}
-use Rattle.xf_name.specs.Bindings.{Bindings}
-use Rattle.xf_doc.specs.declared.content.Content.{Content}
-use Rattle.xf_doc.specs.declared.content.Content.TheVariants as content
 use Rattle.xf_line.specs.declared.event.Event.TheVariants.{Set}
 use Rattle.xf_ui.specs.Interface as sort
 use Rattle.xf_form_machine.specs.Program.{Program}
@@ -102,13 +99,3 @@ compact_slot = slot_of 50 2 34 (0 ∷ 0 ∷ 0 ∷ 0 ∷ []) first_bytes ++ snap_
 
 abbrev pub other_slot : List ℕ
 other_slot = slot_of 50 2 34 (1 ∷ 0 ∷ 0 ∷ 0 ∷ []) second_bytes ++ snap_base 2 ++ 0 ∷ []
-
--- ---- data with names
-
--- a namespace and a prefix for it
-abbrev pub bindings_of : List ℕ → List ℕ → Bindings
-bindings_of prefix uri = record { spaces = uri ∷ []; prefixes = (prefix, 1) ∷ [] }
-
--- an element with the prefix `p`
-abbrev pub p_element : ℕ → List ℕ → ℕ × Content
-p_element depth name = (depth, content.Element (record { meaning = record { space = 1; prefix = 1; local = name }; prefix = codes "p" }))

@@ -2,26 +2,25 @@
 use Rattle.std.specs.Prelude.{ℕ, ◌≡◌, ◌<◌, ◌^◌, List, length}
 use Rattle.xf_disk.specs.Image.{Image}
 use Rattle.xf_store.specs.declared.answers.Answer.{Answer}
-use Rattle.xf_form_machine.specs.AtRest.{IsAtRest}
-use Rattle.xf_history.specs.Sessions.{Machine, Session}
+use Rattle.xf_history.specs.Sessions.{Machine, IsSessionState, Session}
 use Rattle.xf_history.specs.Runs.{Item, Ran}
 use Rattle.xf_history.specs.Images.{StandsAt}
 use Rattle.xf_history.specs.Opening.{Opened, opened, Opens}
 use Rattle.xf_history.specs.Counts.{FormsAreFilled}
 use Rattle.xf_history.specs.Alike.{GoesAlike, AreSameSessions}
 
--- a session comes to states at rest alone
+-- more items are not taken
+abbrev pub AreFew : List Item → Type 0
+AreFew items = length items < 2 ^ 62
+
+-- a session comes to states at rest alone, whose nodes have small numbers
 abbrev pub RunsRest : Type 0
 RunsRest = (m : Machine) (bytes : List ℕ) (answers : List Answer) (items : List Item) (last : Session)
-    → FormsAreFilled m → GoesAlike m → Ran m bytes answers items last → IsAtRest m.profile last.state
+    → FormsAreFilled m → GoesAlike m → AreFew items → Ran m bytes answers items last → IsSessionState m.profile last.state
 
 -- an opening that ends with such a session, of which nothing may be undone yet
 abbrev pub FindsIn : Machine → Session → Opened → Type 0
 FindsIn m last result = (found : Session) × (result ≡ opened found) × AreSameSessions m.profile found last
-
--- more items are not taken
-abbrev pub AreFew : List Item → Type 0
-AreFew items = length items < 2 ^ 62
 
 -- it opens
 abbrev pub StandingOpens : Type 0

@@ -3,8 +3,7 @@ use Rattle.std.specs.Prelude.{ℕ, suc, ◌≡◌, ◌-◌, Bool, true, false, L
 use Rattle.xf_snap.specs.declared.snap.Snap.{Snap}
 use Rattle.xf_form_machine.specs.Profile.{Profile}
 use Rattle.xf_form_machine.specs.State.{State}
-use Rattle.xf_form_machine.specs.AtRest.{IsAtRest}
-use Rattle.xf_history.specs.Sessions.{Machine, Session, snap_of}
+use Rattle.xf_history.specs.Sessions.{Machine, IsSessionState, Session, snap_of}
 
 -- how many are kept
 abbrev pub history_limit : ℕ
@@ -25,7 +24,7 @@ after_event m s t = record s { state = t; past = past_by (m.keeps_past s.form) s
 
 -- a state at rest of the same form with these data, but for the number of accepted events, which is one more than it was
 pub record IsBack (p : Profile) (s : State) (kept : Snap) (t : State) : Type 0 where
-  pub rest : IsAtRest p t
+  pub stands : IsSessionState p t
   pub form : t.form ≡ s.form
   pub snap : snap_of t ≡ record kept { accepted = suc s.accepted }
 

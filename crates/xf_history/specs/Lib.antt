@@ -1,5 +1,4 @@
 pub mod Sessions
-pub mod Carried
 pub mod History
 pub mod Runs
 pub mod Images

@@ -13,13 +13,12 @@ use Rattle.xf_snap.specs.declared.snap.Snap.{Snap}
 use Rattle.xf_form_machine.specs.Profile.{Profile}
 use Rattle.xf_form_machine.specs.Program.{Program}
 use Rattle.xf_form_machine.specs.State.{State}
-use Rattle.xf_form_machine.specs.AtRest.{IsAtRest}
 use Rattle.xf_form_machine.specs.Refusal.{Refused}
 use Rattle.xf_form_machine.specs.Construct.{construct}
 use Rattle.xf_form_machine.specs.Start.{start}
 use Rattle.xf_form_machine.specs.Step.{step}
 use Rattle.xf_form_machine.specs.Run.{if_exact}
-use Rattle.xf_history.specs.Sessions.{Machine, Session, snap_of, fresh_session}
+use Rattle.xf_history.specs.Sessions.{Machine, IsSessionState, Session, snap_of, fresh_session}
 use Rattle.xf_history.specs.Runs.{Item, line}
 use Rattle.xf_history.specs.Images.{item_of, answers_at_base, snap_at_base}
 
@@ -59,7 +58,7 @@ base_limit = 2 ^ 62
 -- a snapshot: of few enough accepted events, and this state is one at rest with its data
 pub record IsRestored (p : Profile) (program : Program) (kept : Snap) (s : State) : Type 0 where
   pub few : kept.accepted < base_limit
-  pub rest : IsAtRest p s
+  pub stands : IsSessionState p s
   pub form : s.form ≡ program
   pub snap : snap_of s ≡ kept
 

@@ -11,7 +11,7 @@ use Rattle.xf_form_machine.specs.Step.{step}
 use Rattle.xf_form_machine.specs.Start.{start}
 use Rattle.xf_form_machine.specs.Run.{if_exact}
 use Rattle.xf_history.specs.Sessions.{Machine, Session, fresh_session}
-use Rattle.xf_history.specs.Carried.{AdoptFault, adopted}
+use Rattle.xf_form_machine.specs.Carried.{AdoptFault, adopted}
 use Rattle.xf_history.specs.History.{after_event, Undoes, Redoes}
 
 -- what a session takes

@@ -1,5 +1,5 @@
 -- The state of a session: the form that it has by now, the state of the form machine, and what may be undone. And its data, by which it is kept.
-use Rattle.std.specs.Prelude.{ℕ, Bool, List, [], map, length, Option, option_and_then}
+use Rattle.std.specs.Prelude.{ℕ, suc, ◌≤◌, ◌*◌, ◌^◌, Bool, List, [], map, length, Option, option_and_then}
 use Rattle.std.specs.List.{filter_map}
 use Rattle.xf_doc.specs.declared.bare.Bare.{Bare}
 use Rattle.xf_doc.specs.Literal.{bare_of}
@@ -9,6 +9,7 @@ use Rattle.xf_form_machine.specs.Program.{Program}
 use Rattle.xf_form_machine.specs.State.{State}
 use Rattle.xf_form_machine.specs.Surround.{instances_in, document_at}
 use Rattle.xf_form_machine.specs.Cycles.{counted_from}
+use Rattle.xf_form_machine.specs.AtRest.{IsAtRest}
 
 -- what sessions are given: the profile of the form machine, the form that bytes are, and whether it asks for what was done to be undone
 pub record Machine : Type 0 where
@@ -30,6 +31,17 @@ snap_of s = record {
   indexes = map (λ i. i.index) s.indexes;
   cases = s.cases;
 }
+
+-- ---- the states of sessions
+
+-- the numbers of its nodes are small: a start gives at most 2^34 of them, and so does each accepted event
+abbrev pub HasRoom : State → Type 0
+HasRoom s = s.forest.next ≤ 2 ^ 34 * suc s.accepted
+
+-- a state to which a session may come
+pub record IsSessionState (p : Profile) (s : State) : Type 0 where
+  pub rest : IsAtRest p s
+  pub room : HasRoom s
 
 -- ---- a session
 

@@ -1,4 +1,4 @@
--- The data of a session under another form: each instance keeps its data where the other form has one at its place with a document element of the
+-- The data of a state under another form: each instance keeps its data where the other form has one at its place with a document element of the
 -- same name, and these fit where the other form binds their prefixes and namespaces alike (Namespaces in XML 1.0, sections 2 to 5).
 use Rattle.std.specs.Prelude.{ℕ, zero, suc, ◌&&◌, Bool, false, List, [], ◌∷◌, count_by, take, Option, Some, None, option_map, option_and_then, slice_get, get_or, ◌==◌, bytes_eq, if◌then◌else◌, Result, Ok, Err}
 use Rattle.xf_name.specs.Bindings.{Bindings, space_number, text_of_space, prefix_numbers}
@@ -120,6 +120,10 @@ carried s form = carried_from s form 0 form.instances
 
 -- ---- the adopted form
 
+-- construction over these documents in place of the form's own
+abbrev pub construct_over : Profile → Program → List Document → Result State Refused
+construct_over p form documents = construct p (record form { documents = documents })
+
 -- why a form is not adopted
 pub data AdoptFault : Type 0 where
   no_fit : NoFit → AdoptFault
@@ -133,7 +137,7 @@ adopted_by p s form (Ok t) = Ok (record (at_end p t) { form = form; accepted = s
 
 abbrev pub adopted_over : Profile → State → Program → Result (List Document) NoFit → Result State AdoptFault
 adopted_over p s form (Err fault) = Err (no_fit fault)
-adopted_over p s form (Ok documents) = adopted_by p s form (construct p (record form { documents = documents }))
+adopted_over p s form (Ok documents) = adopted_by p s form (construct_over p form documents)
 
 -- construction over these data, without the events of a start; indexes and cases begin anew
 abbrev pub adopted : Profile → State → Program → Result State AdoptFault
