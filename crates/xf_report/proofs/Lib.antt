@@ -5,4 +5,3 @@ pub mod NamedLemmas
 pub mod NodeLaws
 pub mod InstanceLaws
 pub mod WordLemmas
-pub mod PathLaws

@@ -1,6 +1,6 @@
 -- The lines of an instance of a state, by what they are made of.
 use Rattle.std.proofs.Common.{◌≡◌, ℕ, suc, ◌+◌, ◌<◌, ◌==◌, Bool, true, false, cond, ◌&&◌, ◌||◌, List, [], ◌∷◌, ◌++◌, map, Option, Some, None, option_map, length, drop, refl, sym, ap, ◌∙◌, subst, append_assoc, arith}
-use Rattle.std.specs.Prelude.{filter, take, count_by, slice_get, codes, decimal}
+use Rattle.std.specs.Prelude.{filter, slice_get, codes}
 use Rattle.std.specs.List.{flat_map}
 use Rattle.std.proofs.lemmas.Bool.{eqb-true}
 use Rattle.std.proofs.lemmas.List.{drop_more}
@@ -17,33 +17,23 @@ use Rattle.xf_doc.specs.WellFormed.{HasTrees}
 use Rattle.xf_ui.specs.declared.marks.Marks.{Marks}
 use Rattle.xf_form_machine.specs.State.{State}
 use Rattle.xf_form_machine.specs.Surround.{all_in, instances_in, instance_holding}
-use Rattle.xf_form_machine.specs.Properties.{marks_in, pair_by, pair_at, pair_text, before_path, path_in, braced}
+use Rattle.xf_form_machine.specs.Properties.{marks_in, pair_at, pair_text, path_in, braced}
 use Rattle.xf_form_machine.specs.NoteLines.{quoted}
 use Rattle.xf_form_machine.specs.StateText.{spaced, line_of, marks_text, own_value, has_elements_in, node_line_by, is_place, node_lines, instance_lines}
 use Rattle.xf_lang.specs.Asked.{found}
 use Rattle.xf_lang.specs.Agree.{numbers_of}
 use Rattle.xf_lang.proofs.VisitFacts.{no, none-some}
 use Rattle.xf_lang.proofs.ForestVisits.{Each, self-found}
+use Rattle.xf_paths.specs.Holding.{pair_among}
+use Rattle.xf_paths.proofs.PairLaws.{pair-is, path-is}
 use Rattle.xf_paths.proofs.VisitLemmas.{Linked, all-linked, apart}
-use Rattle.xf_report.specs.Lines.{IsOf, block_text, nodes_at, has_elements_at, value_text, line_by, line_in, line_at, pair_for, pair_among}
-
--- ---- the numbers of an instance
-
-pair-for : (s : State) (place : ℕ) (o : Option Instance) → pair_by s place (option_map (λ (i : Instance). i.model) o) ≡ pair_for (instances_in s) place o
-pair-for s place None = refl
-pair-for s place (Some i) = refl
-
-pub pair-is : (s : State) (place : ℕ) → pair_at s place ≡ pair_among (instances_in s) place
-pair-is s place = pair-for s place (slice_get (instances_in s) place)
+use Rattle.xf_report.specs.Lines.{IsOf, block_text, nodes_at, has_elements_at, value_text, line_by, line_in, line_at}
 
 -- ---- one node
 
 elements-same : (s : State) (o : Option ℕ) → has_elements_in s o ≡ has_elements_at (all_in s) o
 elements-same s None = refl
 elements-same s (Some n) = refl
-
-pub path-is : (s : State) (n place : ℕ) → instance_holding s n ≡ Some place → path_in s n ≡ braced (pair_at s place) ++ path_of n (all_in s)
-path-is s n place h = ap (λ o. before_path s o ++ path_of n (all_in s)) h
 
 line-same : (s : State) (m : ℕ → Marks) (place : ℕ) (x : Visit) (content : Content) → ((n : ℕ) → marks_in s n ≡ m n) → found x.number (all_in s) ≡ Some x → instance_holding s x.number ≡ Some place
     → node_line_by s x content ≡ line_by (braced (pair_at s place)) m (all_in s) x.number content
@@ -100,11 +90,6 @@ content-live n content (x ∷ xs) h = by (x.number == n) (content-live n content
     by : (b : Bool) → (Some content ≡ content_at n xs → has_number n xs ≡ true) → Some content ≡ option_map (λ (y : Node). y.content) (cond b (Some x) (node_at n xs)) → (b || has_number n xs) ≡ true
     by true later i = refl
     by false later i = later i
-
-pub pair-found : (instances : List Instance) (place number : ℕ) (i : Instance) → slice_get instances place ≡ Some i → number ≡ suc (count_by (λ (j : Instance). j.model == i.model) (take place instances)) → (i.model + 1, number) ≡ pair_among instances place
-pair-found instances place number i h e =
-    let model : i.model + 1 ≡ suc i.model = omega arith in
-    ap (λ k. (k, number)) model ∙ ap (λ k. (suc i.model, k)) e ∙ sym (ap (pair_for instances place) h)
 
 -- one line more
 pub lines-more : (f : ℕ → List ℕ) (old new total ns : List ℕ) (at n : ℕ) → at < length ns → slice_get ns at ≡ Some n → new ≡ old ++ f n → old ++ flat_map f (drop at ns) ≡ total → new ++ flat_map f (drop (at + 1) ns) ≡ total

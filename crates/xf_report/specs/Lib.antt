@@ -2,5 +2,4 @@ pub mod Answers
 pub mod Controls
 pub mod Lines
 pub mod Named
-pub mod Paths
 pub mod Refusals

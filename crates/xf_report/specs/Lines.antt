@@ -1,5 +1,5 @@
 -- The lines of an instance, by what they are made of.
-use Rattle.std.specs.Prelude.{ℕ, suc, ◌≡◌, Bool, false, List, [], ◌∷◌, ◌++◌, map, filter, take, count_by, slice_get, codes, Option, Some, None, ◌==◌, if◌then◌else◌}
+use Rattle.std.specs.Prelude.{ℕ, ◌≡◌, Bool, false, List, [], ◌∷◌, ◌++◌, map, filter, codes, Option, Some, None, if◌then◌else◌}
 use Rattle.std.specs.List.{flat_map}
 use Rattle.xf_name.specs.declared.axis.Axis.TheVariants as axis
 use Rattle.xf_ast.specs.declared.form.Instance.{Instance}
@@ -19,6 +19,7 @@ use Rattle.xf_form_machine.specs.Surround.{instances_in}
 use Rattle.xf_form_machine.specs.Properties.{marks_in, braced, pair_text}
 use Rattle.xf_form_machine.specs.NoteLines.{quoted}
 use Rattle.xf_form_machine.specs.StateText.{spaced, line_of, marks_text, is_place}
+use Rattle.xf_paths.specs.Holding.{pair_among}
 
 -- these are a state's forest, its instances, and the properties of its nodes
 pub record IsOf (s : State) (forest : Forest) (instances : List Instance) (marks : ℕ → Marks) : Type 0 where
@@ -63,15 +64,6 @@ line_at braces marks nodes n = line_in braces marks (visits nodes) n (content_at
 -- of an instance that has these numbers
 abbrev pub block_text : (ℕ → Marks) → List Node → ℕ → ℕ × ℕ → List ℕ
 block_text marks nodes place pair = line_of (codes "instance " ++ pair_text pair) ++ flat_map (line_at (braced pair) marks nodes) (nodes_at nodes place)
-
--- ---- the numbers of an instance
-
-abbrev pub pair_for : List Instance → ℕ → Option Instance → ℕ × ℕ
-pair_for instances place None = (1, 1)
-pair_for instances place (Some i) = (suc i.model, suc (count_by (λ j. j.model == i.model) (take place instances)))
-
-abbrev pub pair_among : List Instance → ℕ → ℕ × ℕ
-pair_among instances place = pair_for instances place (slice_get instances place)
 
 -- of the instance with a place
 abbrev pub block_of : (ℕ → Marks) → List Node → List Instance → ℕ → List ℕ

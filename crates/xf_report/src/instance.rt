@@ -6,19 +6,20 @@ ghost use Rattle.xf_doc.specs.Path.{path_of};
 ghost use Rattle.xf_doc.specs.StringValue.{string_value};
 ghost use Rattle.xf_doc.specs.Visit.{visits, parent_of};
 ghost use Rattle.xf_form_machine.specs.Cycles.{counted_from};
-ghost use Rattle.xf_form_machine.specs.Properties.{braced, pair_text};
+ghost use Rattle.xf_form_machine.specs.Properties.{pair_text};
 ghost use Rattle.xf_form_machine.specs.State.{State};
 ghost use Rattle.xf_form_machine.specs.StateText.{instance_lines, line_of, marks_text, spaced};
-ghost use Rattle.xf_report.specs.Lines.{IsOf, block_of, block_text, has_elements_at, line_at, line_by, pair_among, text_line_if, value_text};
+ghost use Rattle.xf_report.specs.Lines.{IsOf, block_of, block_text, has_elements_at, line_at, line_by, text_line_if, value_text};
+ghost use Rattle.xf_paths.specs.Holding.{pair_among};
 ghost use Rattle.xf_slots.specs.Seen.{seen_content};
 
 use crate::marks::push_marks;
 use crate::nodes::nodes_at;
-use crate::text::{push_number, push_quoted, push_string};
+use crate::text::{push_quoted, push_string};
 use std::alloc::{AllocError, Global};
 use xf_ast::Instance;
 use xf_doc::{NodeId, NodeList};
-use xf_paths::Paths;
+use xf_paths::{Paths, braces_of, pair_among, push_pair};
 use xf_tree::{Forest, Seen};
 use xf_ui::NodeMarks;
 
@@ -98,45 +99,6 @@ fn push_nodes<M: NodeMarks>(
         push_node(alloc, text, forest, marks, &mut paths, braces, nodes.at(at))?;
     }
     Ok(())
-}
-
-/// The number of the model of an instance, and its own among those of the model, both from 1.
-pub(crate) fn pair_among(instances: &[Instance], place: usize) -> (u64, u64)
-    ensures { result ≡ pair_among instances.now place }
-{
-    if place >= instances.len() {
-        return (1, 1);
-    }
-    let model = instances[place].model;
-    let mut number = 1;
-    for at in 0..place {
-        if instances[at].model == model {
-            number += 1;
-        }
-    }
-    (model as u64 + 1, number)
-}
-
-fn push_pair(text: &mut String, pair: (u64, u64)) -> Result<(), AllocError>
-    ensures { OnOk result (string_bytes text.new ≡ string_bytes text.old ++ pair_text pair) }
-{
-    push_number(text, pair.0)?;
-    text.push_str(".")?;
-    push_number(text, pair.1)
-}
-
-/// What stands before the paths of the nodes of an instance.
-pub(crate) fn braces_of(alloc: Global, pair: (u64, u64)) -> Result<String, AllocError>
-    ensures { IfOk result (λ text. string_bytes text ≡ braced pair) }
-{
-    let mut text = String::new(alloc);
-    if pair.0 == 1 && pair.1 == 1 {
-        return Ok(text);
-    }
-    text.push_str("{")?;
-    push_pair(&mut text, pair)?;
-    text.push_str("}")?;
-    Ok(text)
 }
 
 /// Appends the line of a node, where it has one.

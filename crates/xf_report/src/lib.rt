@@ -8,7 +8,6 @@ mod marks;
 mod names;
 mod nodes;
 mod note;
-mod path;
 mod refusal;
 mod text;
 
@@ -17,6 +16,4 @@ pub use control::{ShownCopy, push_copy, push_repeat, push_switch};
 pub use instance::{push_instance, push_instances};
 pub use names::numbers_of;
 pub use note::push_notes;
-pub use path::{instance_holding, path_in};
 pub use refusal::{push_construct_refusal, push_ready_refusal, push_refusal};
-pub use xf_ui::{Marks, NodeMarks};

@@ -1,5 +1,5 @@
--- The instance in which a node stands, and the path of a node.
-use Rattle.std.specs.Prelude.{ℕ, ◌≡◌, ◌<◌, false, List, Option, Some, None}
+-- The instance in which a node stands, the numbers by which it is told, and the path of a node.
+use Rattle.std.specs.Prelude.{ℕ, suc, ◌≡◌, ◌<◌, ◌==◌, false, List, take, count_by, slice_get, Option, Some, None}
 use Rattle.xf_ast.specs.declared.form.Instance.{Instance}
 use Rattle.xf_doc.specs.Forest.{Forest}
 use Rattle.xf_form_machine.specs.State.{State}
@@ -14,3 +14,12 @@ IsAmong count None given = (place : ℕ) → place < count → is_place place gi
 
 abbrev pub IsPath : List Instance → Forest → ℕ → List ℕ → Type 0
 IsPath instances forest n path = (s : State) → instances_in s ≡ instances → s.forest ≡ forest → path ≡ path_in s n
+
+-- ---- the numbers of an instance
+
+abbrev pub pair_for : List Instance → ℕ → Option Instance → ℕ × ℕ
+pair_for instances place None = (1, 1)
+pair_for instances place (Some i) = (suc i.model, suc (count_by (λ j. j.model == i.model) (take place instances)))
+
+abbrev pub pair_among : List Instance → ℕ → ℕ × ℕ
+pair_among instances place = pair_for instances place (slice_get instances place)

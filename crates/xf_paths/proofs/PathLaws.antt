@@ -13,9 +13,8 @@ use Rattle.xf_form_machine.specs.State.{State}
 use Rattle.xf_form_machine.specs.Surround.{all_in, instances_in, instance_holding, model_of_instance}
 use Rattle.xf_form_machine.specs.Properties.{before_path, path_in, braced, pair_by}
 use Rattle.xf_form_machine.specs.StateText.{is_place}
-use Rattle.xf_report.specs.Lines.{pair_among}
-use Rattle.xf_report.specs.Paths.{IsAmong, IsPath}
-use Rattle.xf_report.proofs.LineLaws.{pair-is, path-is}
+use Rattle.xf_paths.specs.Holding.{IsAmong, IsPath, pair_among}
+use Rattle.xf_paths.proofs.PairLaws.{pair-is, path-is}
 
 -- ---- a node that does not stand in the forest
 

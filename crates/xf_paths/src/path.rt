@@ -1,14 +1,13 @@
 //! The paths of nodes with their instances.
 ghost use Rattle.std.specs.Prelude.{◌≡◌, ◌++◌, IfOk};
 ghost use Rattle.xf_doc.specs.Forest.{IsLive};
-ghost use Rattle.xf_doc.specs.Order.{instance_of};
-ghost use Rattle.xf_doc.specs.Visit.{top_of, visits};
+ghost use Rattle.xf_doc.specs.Visit.{visits};
 ghost use Rattle.xf_doc.specs.Path.{path_of};
 ghost use Rattle.xf_form_machine.specs.Properties.{braced};
-ghost use Rattle.xf_form_machine.specs.StateText.{is_place};
-ghost use Rattle.xf_report.specs.Paths.{IsAmong, IsPath};
+ghost use Rattle.xf_paths.specs.Holding.{IsPath};
 
-use crate::instance::{braces_of, pair_among};
+use crate::holding::instance_holding;
+use crate::pair::{braces_of, pair_among};
 use std::alloc::{AllocError, Global};
 use xf_ast::Instance;
 use xf_doc::NodeId;
@@ -52,30 +51,4 @@ fn path_with(
     let path = forest.path(node)?;
     text.push_str(path.as_str())?;
     Ok(Word::from_string(text))
-}
-
-/// The instance in which a node stands, where it is one of the first so many.
-pub fn instance_holding(forest: &Forest, count: u32, node: NodeId) -> Option<u32>
-    requires { IsLive node.number forest.now.forest }
-    ensures { IsAmong count result (instance_of (top_of node.number (visits forest.now.forest.nodes)) forest.now.forest.nodes) }
-{
-    forest.are_trees();
-    let top = forest.top(node);
-    for place in 0..count {
-        if is_root(forest, place, top) {
-            return Some(place);
-        }
-    }
-    None
-}
-
-/// Whether the root with this place is this node.
-fn is_root(forest: &Forest, place: u32, top: NodeId) -> bool
-    ensures { result ≡ is_place place (instance_of top.number forest.now.forest.nodes) }
-{
-    forest.are_trees();
-    match forest.root(place) {
-        Some(root) => root.number == top.number,
-        None => false,
-    }
 }

@@ -2,8 +2,8 @@ use Rattle.std.proofs.Common.{◌≡◌, ◌<◌, ◌==◌, suc, length, take, g
 use Rattle.std.specs.Prelude.{count_by}
 use Rattle.std.proofs.lemmas.Option.{slice_get-get_or}
 use Rattle.xf_ast.specs.declared.form.Instance.{Instance}
-use Rattle.xf_report.proofs.LineLaws.{pair-found}
-use Rattle.xf_report.proofs.instance.pair_among.Goals as goal
+use Rattle.xf_paths.proofs.PairLaws.{pair-found}
+use Rattle.xf_paths.proofs.pair.pair_among.Goals as goal
 
 pub returns : goal.returns
 returns c =

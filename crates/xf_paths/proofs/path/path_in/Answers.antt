@@ -3,8 +3,8 @@ use Rattle.xf_doc.specs.Forest.{has_number}
 use Rattle.xf_doc.specs.Path.{path_of}
 use Rattle.xf_doc.specs.Visit.{visits}
 use Rattle.xf_form_machine.specs.Properties.{braced}
-use Rattle.xf_report.proofs.PathLaws.{if-ok, not-live, gone-path, known-path, alone-path}
-use Rattle.xf_report.proofs.path.path_in.Goals as goal
+use Rattle.xf_paths.proofs.PathLaws.{if-ok, not-live, gone-path, known-path, alone-path}
+use Rattle.xf_paths.proofs.path.path_in.Goals as goal
 
 pub returns-then-not-is_live : goal.returns-then-not-is_live
 returns-then-not-is_live c =

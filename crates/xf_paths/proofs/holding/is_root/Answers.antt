@@ -1,7 +1,7 @@
 use Rattle.std.proofs.Common.{sym, ◌∙◌}
 use Rattle.xf_lang.proofs.VisitFacts.{turned}
-use Rattle.xf_report.proofs.NodeLaws.{is-root, no-root}
-use Rattle.xf_report.proofs.path.is_root.Goals as goal
+use Rattle.xf_paths.proofs.RootLaws.{is-root, no-root}
+use Rattle.xf_paths.proofs.holding.is_root.Goals as goal
 
 pub returns-in-Some : goal.returns-in-Some
 returns-in-Some c =
