@@ -24,7 +24,7 @@ not-true : (b : Bool) → not b ≡ true → b ≡ false
 not-true true h = cc
 not-true false h = refl
 
-below-all : (next : ℕ) (xs : List Node) → are_below next xs ≡ true → (w : ℕ) → next ≤ w → list_all (λ x. nat_lt x.number w) xs ≡ true
+pub below-all : (next : ℕ) (xs : List Node) → are_below next xs ≡ true → (w : ℕ) → next ≤ w → list_all (λ x. nat_lt x.number w) xs ≡ true
 below-all next [] h w l = refl
 below-all next (x ∷ xs) h w l =
     let parts = and-true (nat_lt x.number next) (are_below next xs) h in
@@ -34,7 +34,7 @@ below-all next (x ∷ xs) h w l =
     less-of : (n a b : ℕ) → nat_lt n a ≡ true → a ≤ b → nat_lt n b ≡ true
     less-of n a b p q = grind (arith, nat_tests, p, q)
 
-record Found (w : ℕ) (xs ys : List Node) : Type 0 where
+pub record Found (w : ℕ) (xs ys : List Node) : Type 0 where
   pub by : ℕ → ℕ
   pub renumbers : IsRenumbering by
   pub above : (n : ℕ) → by (w + n) ≡ w + by n
@@ -68,7 +68,7 @@ module _ (w : ℕ) (some : 0 < w) (g : ℕ → ℕ) (same : IsRenumbering g) (m 
 less-of : (k w : ℕ) → nat_lt k w ≡ true → k < w
 less-of k w h = grind (arith, nat_tests, h)
 
-found : (w : ℕ) → 0 < w → (xs ys : List Node) → contents_of xs ≡ contents_of ys → are_apart xs ≡ true → are_apart ys ≡ true
+pub found : (w : ℕ) → 0 < w → (xs ys : List Node) → contents_of xs ≡ contents_of ys → are_apart xs ≡ true → are_apart ys ≡ true
     → list_all (λ x. nat_lt x.number w) xs ≡ true → list_all (λ y. nat_lt y.number w) ys ≡ true → Found w xs ys
 found w some [] [] e a b c d = record { by = λ n. n; renumbers = λ x y. refl; above = λ n. refl; low = λ n h. h; nodes = refl }
 found w some [] (y ∷ ys) e a b c d = cc

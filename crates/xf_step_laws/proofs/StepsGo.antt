@@ -178,7 +178,7 @@ module _ (e : Two) where
   named-alike o run k s h =
       kept-alike e (or_no_target s o) (or_no_target (other e s) o) (λ n. run n s) (λ n. run n (other e s)) (target-same s o) (λ n. k n s h)
 
-  changed-goes : (event : Event) → Goes e (changed_by e.p e.answers event) (changed_by e.p e.answers event)
+  pub changed-goes : (event : Event) → Goes e (changed_by e.p e.answers event) (changed_by e.p e.answers event)
   changed-goes (Set id rows text) s h = named-alike (element_named s (by_role s is_entry) id) (λ n. set e.p e.answers n rows text) (λ n. set-goes n rows text) s h
   changed-goes (Activate id rows) s h = named-alike (element_named s (by_role s is_trigger) id) (λ n. activate e.p e.answers n rows) (λ n. activate-goes n rows) s h
   changed-goes (Index id k) s h = named-alike (element_named s (is_repeat_in s) id) (λ r. index e.p e.answers r k) (λ r. index-goes r k) s h

@@ -1,0 +1,9 @@
+pub mod Repeats
+pub mod Numbers
+pub mod Placed
+pub mod Indexes
+pub mod Deep
+pub mod Contents
+pub mod Events
+pub mod Snapshot
+pub mod Same

@@ -1,0 +1,4 @@
+pub mod Fitting
+pub mod EachKeeps
+pub mod EachEvents
+pub mod Cases
