@@ -1,0 +1,11 @@
+pub mod Outside
+pub mod OutsideForests
+pub mod RootTrees
+pub mod RootForests
+pub mod NewTrees
+pub mod Ready
+pub mod Planned
+pub mod Instead
+pub mod Parents
+pub mod Planted
+pub mod Plans

@@ -1,0 +1,10 @@
+pub mod Links
+pub mod Counted
+pub mod Come
+pub mod Placed
+pub mod Attached
+pub mod Texts
+pub mod TextTrees
+pub mod OfKind
+pub mod Topmost
+pub mod Sizes
