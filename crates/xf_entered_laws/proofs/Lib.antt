@@ -1,0 +1,3 @@
+pub mod PutShape
+pub mod Still
+pub mod Recalculating

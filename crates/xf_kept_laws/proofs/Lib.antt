@@ -1,0 +1,9 @@
+pub mod Documents
+pub mod Surroundings
+pub mod Entered
+pub mod Places
+pub mod Changing
+pub mod EnteredChanges
+pub mod PartTexts
+pub mod Recalculated
+pub mod Revalidated
