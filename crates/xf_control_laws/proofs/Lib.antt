@@ -1,0 +1,4 @@
+pub mod Seen
+pub mod Changes
+pub mod Holding
+pub mod Models

@@ -1,0 +1,10 @@
+pub mod Front
+pub mod AroundPart
+pub mod LabelsPart
+pub mod CopiesPart
+pub mod ElementsPart
+pub mod State
+pub mod Placed
+pub mod Brought
+pub mod Reindexed
+pub mod Constructed
