@@ -4,7 +4,7 @@ use Rattle.std.specs.Prelude.{IsTrue, MatchOption, nat_le}
 use Rattle.std.specs.List.{list_all}
 use Rattle.std.proofs.Math.Seq.{set-append_seam}
 use Rattle.std.proofs.lemmas.Bool.Decides.{nat_tests}
-use Rattle.std.proofs.lemmas.List.{same_from_push}
+use Rattle.std.proofs.lemmas.List.{length-append, same_from_push}
 use Rattle.std.proofs.lemmas.List.Folds.{list_all-append}
 use Rattle.xf_base.specs.Limits.{answer_limit}
 use Rattle.xf_store.specs.declared.answers.Answer.{Answer}
@@ -16,7 +16,7 @@ use Rattle.xf_store.specs.Replay.{Covers, Uses, answer_at, fits}
 use Rattle.xf_store.specs.Replies.{has_failed}
 use Rattle.xf_store.proofs.CalledLaws.{called-none, covers-last}
 use Rattle.xf_submit.specs.declared.calling.CallFault.TheVariants.{Many}
-use Rattle.xf_submit.specs.Calling.{AllFit, call_of, exchanged}
+use Rattle.xf_submit.specs.Calling.{AreMade, call_of, exchanged, is_answered}
 
 -- ---- the list
 
@@ -26,12 +26,15 @@ placed old pushed new none at name text asked answer a p n e =
     n ∙ ap (λ l. slice_set l at (call_of name asked answer)) p ∙ ap (λ k. slice_set (old ++ none ∷ []) k (call_of name asked answer)) a
     ∙ set-append_seam old none [] (call_of name asked answer) ∙ ap (λ t. old ++ call_of t asked answer ∷ []) e
 
--- each answer fits, where the one behind them does
-fit-behind : (old : List StoreCall) (call : StoreCall) → AllFit old → IsTrue (fits call.asked call.answer) → AllFit (old ++ call ∷ [])
-fit-behind old call all one =
-    list_all-append (λ c. fits c.asked c.answer) old (call ∷ [])
-    ∙ ap (λ b. b && list_all (λ c. fits c.asked c.answer) (call ∷ [])) all
-    ∙ ap (λ b. true && (b && true)) one
+-- where one more may be made, and is answered
+made-behind : (old : List StoreCall) (call : StoreCall) → length old < answer_limit → AreMade old → IsTrue (is_answered call.asked call.answer) → AreMade (old ++ call ∷ [])
+made-behind old call small all one = record {
+  few = omega (arith, small, length-append old (call ∷ []));
+  answered =
+      list_all-append (λ c. is_answered c.asked c.answer) old (call ∷ [])
+      ∙ ap (λ b. b && list_all (λ c. is_answered c.asked c.answer) (call ∷ [])) all.answered
+      ∙ ap (λ b. true && (b && true)) one;
+}
 
 -- ---- what the store tells
 
@@ -64,8 +67,8 @@ module _ (old pushed new : List StoreCall) (none : StoreCall) (at : ℕ) (name t
       ap (λ b. cond b (Err Many) (Ok (old ++ call_of text asked (answer_at (fits asked) answers (length old)) ∷ []))) few
       ∙ ap (λ x. Ok (old ++ call_of text asked x ∷ [])) got ∙ ap Ok (sym whole)
 
-  pub fit-one : AllFit old → IsTrue (fits asked answer) → AllFit new
-  fit-one all one = subst AllFit (sym (placed old pushed new none at name text asked answer a p n e)) (fit-behind old (call_of text asked answer) all one)
+  pub made-one : length old < answer_limit → AreMade old → IsTrue (is_answered asked answer) → AreMade new
+  made-one small all one = subst AreMade (sym (placed old pushed new none at name text asked answer a p n e)) (made-behind old (call_of text asked answer) small all one)
 
 -- no call is made
 pub uncalled : (before after : Option (List StoreCall)) (left rest : Option (List Answer)) (old new : List StoreCall) → after ≡ before → rest ≡ left → new ≡ old → Called (before, left) (after, rest) old new

@@ -5,15 +5,13 @@ ghost use Rattle.xf_base.specs.Gives.{Gives};
 ghost use Rattle.xf_base.specs.Limits.{answer_limit};
 ghost use Rattle.xf_store.specs.declared.answers.Answer.{Answer};
 ghost use Rattle.xf_store.specs.Called.{Called};
-ghost use Rattle.xf_store.specs.Replay.{Covers, fits};
-ghost use Rattle.xf_submit.specs.Calling.{AllFit, CallsOnce, exchanged};
+ghost use Rattle.xf_store.specs.Replay.{Covers};
+ghost use Rattle.xf_submit.specs.Calling.{AreMade, CallsOnce, exchanged, is_answered};
 
 use std::alloc::{AllocError, AllocFailed, Global};
+use xf_base::limits::ANSWER_LIMIT;
 use xf_io::Bytes;
 use xf_store::{Answer, Asked, Calls, GetFault, Got, Store, StoreCall};
-
-/// How often the store is called within one event.
-const CALLS_MOST: usize = 16;
 
 /// Why the store is not called.
 #[derive(Clone, Copy, Debug, PartialEq, Eq)]
@@ -56,11 +54,11 @@ pub fn exchange<S: Store>(
 ) -> Result<(), CallFault>
     ensures done { (answers : List Answer) → Covers answers calls.new → Gives CallFault.Memory (λ u. calls.new) result (exchanged answer_limit answers resource.now asked calls.old) }
     ensures store { Called (S.calls store.old, S.to_come store.old) (S.calls store.new, S.to_come store.new) calls.old calls.new }
-    ensures fit { AllFit calls.old → AllFit calls.new }
+    ensures made { AreMade calls.old → AreMade calls.new }
     ensures err { OnErr result (calls.new ≡ calls.old) }
 {
     let at = calls.len();
-    if at >= CALLS_MOST {
+    if at >= ANSWER_LIMIT {
         return Err(CallFault::Many);
     }
     let name = Bytes::from_vec(Vec::from_slice(alloc, resource.as_bytes())?);
@@ -100,7 +98,7 @@ fn answer_of<S: Store>(
     store: &mut S,
 ) -> Result<Answer, AllocError>
     ensures store { CallsOnce (S.calls store.old, S.to_come store.old) (S.calls store.new, S.to_come store.new) resource.now asked.now result }
-    ensures fit { IfOk result (λ answer. IsTrue (fits asked.now answer)) }
+    ensures answered { IfOk result (λ answer. IsTrue (is_answered asked.now answer)) }
 {
     match asked {
         Asked::Put(bytes) => match store.put(resource, bytes.as_slice()) {
@@ -117,7 +115,7 @@ fn answer_of_get<S: Store>(
     store: &mut S,
 ) -> Result<Answer, AllocError>
     ensures store { CallsOnce (S.calls store.old, S.to_come store.old) (S.calls store.new, S.to_come store.new) resource.now Asked.Get result }
-    ensures fit { IfOk result (λ answer. IsTrue (fits Asked.Get answer)) }
+    ensures answered { IfOk result (λ answer. IsTrue (is_answered Asked.Get answer)) }
 {
     let mut into = Bytes::new(alloc);
     match store.get(resource, &mut into) {

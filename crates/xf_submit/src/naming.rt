@@ -4,8 +4,7 @@ ghost use Rattle.std.specs.Prelude.{◌≡◌};
 ghost use Rattle.std.specs.List.{list_all};
 ghost use Rattle.xf_form_machine.specs.Exchange as exchange;
 
-/// The most bytes of a name.
-const NAME_MOST: usize = 64;
+use xf_base::limits::STORE_NAME_LIMIT;
 
 /// Whether a text is a name of a store: 1 to 64 ASCII letters, digits, `.`, `_` or `-`, not beginning with `.`.
 pub fn is_store_name(name: &str) -> bool
@@ -15,7 +14,7 @@ pub fn is_store_name(name: &str) -> bool
     if !begins_well(bytes) {
         return false;
     }
-    if bytes.len() > NAME_MOST {
+    if bytes.len() > STORE_NAME_LIMIT {
         return false;
     }
     are_name_bytes(bytes)

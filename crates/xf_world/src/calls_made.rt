@@ -1,12 +1,14 @@
 //! The calls of the store in an event.
 
-ghost use Rattle.std.specs.Prelude.{◌≡◌, ◌-◌, List, [], OnErr, length, option_map, slice_get};
+ghost use Rattle.std.specs.Prelude.{◌≡◌, ◌≤◌, ◌-◌, List, [], IsTrue, OnErr, length, option_map, slice_get};
+ghost use Rattle.std.specs.List.{list_all};
 ghost use Rattle.xf_base.specs.Gives.{Gives};
 ghost use Rattle.xf_base.specs.Limits.{answer_limit};
 ghost use Rattle.xf_form_machine.specs.Replies.{answers_in};
 ghost use Rattle.xf_store.specs.declared.answers.Answer.{Answer};
 ghost use Rattle.xf_store.specs.Called.{Called};
 ghost use Rattle.xf_store.specs.Replay.{Covers};
+ghost use Rattle.xf_store.specs.Replies.{is_short};
 ghost use Rattle.xf_submit.specs.Calling.{exchanged};
 
 use std::alloc::Global;
@@ -14,7 +16,7 @@ use std::marker::Model;
 use xf_store::{Asked, Calls, Store, StoreCall};
 use xf_submit::{CallFault, exchange};
 
-/// The calls of the store in an event, in order, each with an answer that fits what it asked for.
+/// The calls of the store in an event, in order: few, each with an answer that fits what it asked for and is no longer than a get gives.
 #[derive(Drop)]
 pub struct CallsMade {
     calls: Calls,
@@ -23,13 +25,13 @@ pub struct CallsMade {
 impl Model for CallsMade {
     ghost use Rattle.std.specs.Prelude.{List};
     ghost use Rattle.xf_store.specs.declared.call.StoreCall.{StoreCall};
-    ghost use Rattle.xf_submit.specs.Calling.{AllFit};
+    ghost use Rattle.xf_submit.specs.Calling.{AreMade};
 
     ghost Value = { List StoreCall };
 
     ghost view = { λ l. l.calls };
 
-    ghost invariant = { λ l. AllFit l.calls };
+    ghost invariant = { λ l. AreMade l.calls };
 }
 
 impl CallsMade {
@@ -79,6 +81,14 @@ impl CallsMade {
     /// Their answers cover them: each call gets the answer at its place.
     pub(crate) fn are_covered(&self)
         ensures { Covers (answers_in self.now) self.now }
+    {
+        let _ = &self.calls;
+    }
+
+    /// Their answers may be kept with an event: they are few, and none is longer than a get gives.
+    pub(crate) fn are_few(&self)
+        ensures few { length (answers_in self.now) ≤ answer_limit }
+        ensures short { IsTrue (list_all is_short (answers_in self.now)) }
     {
         let _ = &self.calls;
     }

@@ -6,10 +6,22 @@ use xf_events::NoteList;
 use xf_work::Work;
 
 /// A form as the form machine, while an event is handled.
-#[derive(Drop)]
 pub struct FormWorld {
     pub(crate) alloc: Global,
     pub(crate) work: Work,
     pub(crate) notes: NoteList,
     pub(crate) calls: CallsMade,
+}
+
+// Written out: a derived one is proved anew for each type within it, in each crate that gives one up.
+impl Drop for FormWorld {
+    fn drop(self) {
+        let FormWorld {
+            alloc: _,
+            work,
+            notes: _,
+            calls: _,
+        } = self;
+        work.discard();
+    }
 }

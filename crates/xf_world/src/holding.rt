@@ -7,7 +7,7 @@ ghost use Rattle.xf_world.specs.State.{state_of};
 use crate::form_world::FormWorld;
 use xf_context::is_live;
 use xf_doc::NodeId;
-use xf_report::instance_holding as instance_among;
+use xf_paths::instance_holding as instance_among;
 
 /// The instance in which a node stands: none for a node of a detached tree.
 pub(crate) fn instance_holding(world: &FormWorld, node: NodeId) -> Option<usize>

@@ -1,6 +1,8 @@
 //! What an engine asks of a world beside what the form machine does: where it begins, where an event begins and ends, and what is read between.
 
-ghost use Rattle.std.specs.Prelude.{◌≡◌, ◌++◌, None, find, map, option_map, string_bytes, IfErr, OnOk};
+ghost use Rattle.std.specs.Prelude.{◌≡◌, ◌≤◌, ◌++◌, None, find, length, map, option_map, string_bytes, IfErr, IsTrue, OnOk};
+ghost use Rattle.std.specs.List.{list_all};
+ghost use Rattle.xf_base.specs.Limits.{answer_limit};
 ghost use Rattle.xf_context.specs.Indexes.{seen_index};
 ghost use Rattle.xf_controls.specs.Seen.{is_copy_at, seen_copy};
 ghost use Rattle.xf_form_machine.specs.ControlText.{state_text};
@@ -8,6 +10,7 @@ ghost use Rattle.xf_form_machine.specs.Replies.{answers_in};
 ghost use Rattle.xf_form_machine.specs.Step.{fresh, one_more};
 ghost use Rattle.xf_processor.specs.Formed.{profile};
 ghost use Rattle.xf_store.specs.Replay.{Covers};
+ghost use Rattle.xf_store.specs.Replies.{is_short};
 ghost use Rattle.xf_work.specs.Standing as standing;
 ghost use Rattle.xf_world.specs.Outside.{IsKept, standing_of};
 ghost use Rattle.xf_world.specs.Seen.{IsOver};
@@ -23,6 +26,7 @@ use xf_controls::ControlCopy;
 use xf_doc::NodeId;
 use xf_events::NoteList;
 use xf_form_machine::Note;
+use xf_store::StoreCall;
 use xf_work::Work;
 
 impl FormWorld {
@@ -63,13 +67,23 @@ impl FormWorld {
     }
 
     /// Gives up what stands and what was kept.
-    pub fn discard(self) {}
+    pub fn discard(self) {
+        drop(self)
+    }
 
     /// The answers of the calls of the store in the event cover these: each call gets the answer at its place.
     pub fn calls_are_covered(&self)
         ensures { Covers (answers_in (state_of self.now).calls) (state_of self.now).calls }
     {
         self.calls.are_covered();
+    }
+
+    /// These answers may be kept with the event: they are few, and none is longer than a get gives.
+    pub fn calls_are_few(&self)
+        ensures few { length (answers_in (state_of self.now).calls) ≤ answer_limit }
+        ensures short { IsTrue (list_all is_short (answers_in (state_of self.now).calls)) }
+    {
+        self.calls.are_few();
     }
 
     /// Keeps what stands: detached trees are dropped, and the next event has a whole budget, no notes and no calls of the store. Takes no memory.
@@ -97,6 +111,13 @@ impl FormWorld {
         ensures { result.now ≡ (state_of self.now).notes }
     {
         self.notes.as_slice()
+    }
+
+    /// The calls of the store in the event, in order, each with its answer.
+    pub fn calls(&self) -> &[StoreCall]
+        ensures { result.now ≡ (state_of self.now).calls }
+    {
+        self.calls.as_slice()
     }
 
     /// How many evaluations the event made that is handled.

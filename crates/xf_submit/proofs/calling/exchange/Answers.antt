@@ -1,6 +1,6 @@
 use Rattle.std.proofs.Common.{◌≡◌, ◌<◌, length, ◌∙◌, rules, tests}
 use Rattle.xf_base.specs.Limits.{answer_limit}
-use Rattle.xf_submit.proofs.CallLaws.{called-one, exchanged-one, fit-one, popped, uncalled}
+use Rattle.xf_submit.proofs.CallLaws.{called-one, exchanged-one, made-one, popped, uncalled}
 use Rattle.xf_submit.proofs.calling.exchange.Goals as goal
 
 pub returns-in-Ok-clause-done : goal.returns-in-Ok-clause-done
@@ -15,10 +15,11 @@ returns-in-Ok-clause-store g c =
     c.len-at.ensures c.in_ok-push.ensures.ok c.set.ensures (c.from_vec-name.ensures ∙ c.in_ok-from_slice.ensures.items ∙ c.as_bytes.ensures.value)
     (g.S.Store.calls c.args.store.now) (g.S.Store.calls c.answer_of.new.store) (g.S.Store.to_come c.args.store.now) (g.S.Store.to_come c.answer_of.new.store) c.in-Ok.ensures.store
 
-pub returns-in-Ok-clause-fit : goal.returns-in-Ok-clause-fit
-returns-in-Ok-clause-fit g c = λ all.
-    fit-one c.args.calls.now c.push.new.self c.set.new.self c.unanswered.result c.len-at.result c.from_vec-name.result c.args.resource.now c.args.asked c.in-Ok.answer
-    c.len-at.ensures c.in_ok-push.ensures.ok c.set.ensures (c.from_vec-name.ensures ∙ c.in_ok-from_slice.ensures.items ∙ c.as_bytes.ensures.value) all c.in-Ok.ensures.fit
+pub returns-in-Ok-clause-made : goal.returns-in-Ok-clause-made
+returns-in-Ok-clause-made g c = λ all.
+    let small : length c.args.calls.now < answer_limit = search (rules, tests) in
+    made-one c.args.calls.now c.push.new.self c.set.new.self c.unanswered.result c.len-at.result c.from_vec-name.result c.args.resource.now c.args.asked c.in-Ok.answer
+    c.len-at.ensures c.in_ok-push.ensures.ok c.set.ensures (c.from_vec-name.ensures ∙ c.in_ok-from_slice.ensures.items ∙ c.as_bytes.ensures.value) small all c.in-Ok.ensures.answered
 
 pub returns-in-Err-clause-store : goal.returns-in-Err-clause-store
 returns-in-Err-clause-store g c =
