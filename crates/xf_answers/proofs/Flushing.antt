@@ -1,7 +1,7 @@
 -- What is written is flushed, one part after another.
 use Rattle.std.proofs.Common.{◌≡◌, ◌≤◌, ℕ, arith, inl, inr, subst, sym}
 use Rattle.xf_answers.specs.declared.lines.Ending.{Ending}
-use Rattle.xf_answers.specs.declared.lines.Ending.TheVariants.{Done, ReadFault, SinkFault, TooMuch, Memory}
+use Rattle.xf_answers.specs.declared.lines.Ending.TheVariants.{Done, ReadFault, SinkFault, TooMuch, DiskFault, Memory}
 use Rattle.xf_answers.specs.Out.{Taken, IsOut, IsOutOrFailed, IsAllOut, IsSteady}
 
 pub out_again : (first mid last : Taken) → IsOut first mid → IsOut mid last → IsOut first last
@@ -21,6 +21,7 @@ all_out Done before after h = h
 all_out ReadFault before after h = h
 all_out SinkFault before after h = tt
 all_out TooMuch before after h = h
+all_out DiskFault before after h = h
 all_out Memory before after h = h
 
 pub steady : (ending : Ending) (before after : ℕ) → after ≡ before → IsSteady ending before after
@@ -28,4 +29,5 @@ steady Done before after h = h
 steady ReadFault before after h = h
 steady SinkFault before after h = tt
 steady TooMuch before after h = h
+steady DiskFault before after h = h
 steady Memory before after h = h

@@ -12,11 +12,13 @@ use Rattle.xf_io.specs.Ahead.{Ahead, most_ahead}
 use Rattle.xf_io.specs.Front.{AppendsFront}
 use Rattle.xf_io.specs.Lines.{lines_of, ended_lines, CutsLine, LosesPart, CountsBytes}
 use Rattle.xf_io.proofs.Parts.{lines_of-ended, lines_of-last, ended_lines-ended, ended_lines-open}
+use Rattle.xf_answers.specs.declared.answering.AnswerFault.{AnswerFault}
+use Rattle.xf_answers.specs.declared.answering.AnswerFault.TheVariants as fault
 use Rattle.xf_answers.specs.declared.lines.Ending.{Ending}
-use Rattle.xf_answers.specs.declared.lines.Ending.TheVariants.{Done, ReadFault, SinkFault, TooMuch, Memory}
+use Rattle.xf_answers.specs.declared.lines.Ending.TheVariants.{Done, ReadFault, SinkFault, TooMuch, DiskFault, Memory}
 use Rattle.xf_answers.specs.declared.lines.Next.TheVariants.{Reply, Ends}
-use Rattle.xf_answers.specs.Answers.{Replies, Leaves, Takes, TakesAll, IsBegun, IsLeft, AsFarAs, AllButOne, answered_lines, Answers, AnswersKnown}
-use Rattle.xf_answers.specs.Answering.{EndsOf, NextKnown, StandsBy, Answered}
+use Rattle.xf_answers.specs.Answers.{Replies, Leaves, Takes, TakesAll, IsBegun, IsLastLine, AsFarAs, InWork, StopsAt, answered_lines, Answers, AnswersKnown}
+use Rattle.xf_answers.specs.Answering.{EndsOf, NextKnown, Answered}
 use Rattle.xf_answers.proofs.Said.{takes-more}
 
 -- these lines are answered: all are ended, or the last one ends with the bytes
@@ -209,37 +211,57 @@ ends_much replies leaves first now all rest new part ended count total left done
       subst (λ g. TakesAll replies first (ended_lines g) done now) (sym front) parts.1,
     )
 
--- of the line in work at most one is ended
-in_work : (old new bytes : List ℕ) (ahead : Ahead) → old ≡ bytes ++ new → EndsOf old new ahead Memory → (ended_lines bytes ≡ []) ⊎ ((line : List ℕ) × (ended_lines bytes ≡ line ∷ []))
-in_work old new bytes ahead taken (inl lost) =
-    inl (ap ended_lines (append_cancel_right bytes lost.0 new (sym taken ∙ lost.1.taken)) ∙ ended_lines-open lost.0 lost.1.without_line_feed)
-in_work old new bytes ahead taken (inr cut) =
-    let line : List ℕ = cut.0 in
-    elim cut.1.ends [
-      | inl fed ↦ inr (line, ap ended_lines (append_cancel_right bytes (line ++ 10 ∷ []) new (sym taken ∙ fed ∙ sym (append_assoc line (10 ∷ []) new))) ∙ ended_lines-ended line [] cut.1.without_line_feed)
-      | inr last ↦ inl (ap ended_lines (sym (append-nil bytes) ∙ ap (λ n. bytes ++ n) (sym last.none_left) ∙ sym taken ∙ last.all) ∙ ended_lines-open line cut.1.without_line_feed)
+-- the line in work is the last of the bytes taken
+last_line : {A : Type 0} (replies : Replies A) (first now : A) (all rest new bytes line : List ℕ) (ended cut_ended : Bool) (count : ℕ) (done : List ℕ) (so_far : Progress replies first now all rest ended count done)
+    → ended ≡ false → CutsLine rest new cut_ended line → rest ≡ bytes ++ new → IsLastLine (so_far.given ++ bytes) new so_far.lines line
+last_line replies first now all rest new bytes line ended cut_ended count done so_far running cut taken =
+    let splits = still_open replies first now all rest ended count done so_far running in
+    elim cut.ends [
+      | inl fed ↦
+          let same : bytes ≡ line ++ 10 ∷ [] = append_cancel_right bytes (line ++ 10 ∷ []) new (sym taken ∙ fed ∙ sym (append_assoc line (10 ∷ []) new)) in
+          inl (splits bytes ∙ ap (λ l. so_far.lines ++ l) (ap ended_lines same ∙ ended_lines-ended line [] cut.without_line_feed))
+      | inr last ↦
+          let same : rest ≡ bytes = taken ∙ ap (λ n. bytes ++ n) last.none_left ∙ append-nil bytes in
+          let whole : bytes ≡ line = sym same ∙ last.all in
+          inr (
+            splits bytes ∙ ap (λ l. so_far.lines ++ l) (ap ended_lines whole ∙ ended_lines-open line cut.without_line_feed) ∙ append-nil so_far.lines,
+            ap lines_of (ap (λ b. so_far.given ++ b) (sym same) ∙ sym so_far.taken) ∙ so_far.split
+                ∙ ap (λ l. so_far.lines ++ l) (cut_lines rest new line cut_ended cut ∙ ap (λ n. line ∷ lines_of n) last.none_left),
+            last.none_left,
+          )
     ]
 
-all_but_one : {A : Type 0} (replies : Replies A) (first now : A) (all lines : List (List ℕ)) (last done : List ℕ) → all ≡ lines ++ ended_lines last → TakesAll replies first lines done now
-    → (ended_lines last ≡ []) ⊎ ((line : List ℕ) × (ended_lines last ≡ line ∷ [])) → AllButOne replies first all done now
-all_but_one replies first now all lines last done split said (inl none) =
-    inl (subst (λ ls. TakesAll replies first ls done now) (sym (split ∙ ap (λ l. lines ++ l) none ∙ append-nil lines)) said)
-all_but_one replies first now all lines last done split said (inr one) = inr (lines, one.0, split ∙ ap (λ l. lines ++ l) one.1, said)
-
-ends_memory : {A : Type 0} (replies : Replies A) (leaves : Leaves A) (first now after : A) (all rest left bytes : List ℕ) (ended : Bool) (count : ℕ) (ahead : Ahead) (done : List ℕ)
-    → Progress replies first now all rest ended count done → ended ≡ false → EndsOf rest (ahead.bytes ++ left) ahead Memory → rest ≡ bytes ++ (ahead.bytes ++ left)
-    → count + length bytes ≤ stream_limit → length ahead.bytes ≤ most_ahead → IsLeft leaves now after → Answers replies leaves Memory first all left done after
-ends_memory replies leaves first now after all rest left bytes ended count ahead done so_far running ends taken within few stands = (
+-- the lines stop in this one
+stops : {A : Type 0} (replies : Replies A) (leaves : Leaves A) (fault : AnswerFault) (first now after : A) (all rest left bytes : List ℕ) (ended : Bool) (count : ℕ) (ahead : Ahead) (done : List ℕ)
+    (so_far : Progress replies first now all rest ended count done) → rest ≡ bytes ++ (ahead.bytes ++ left) → count + length bytes ≤ stream_limit → length ahead.bytes ≤ most_ahead
+    → InWork leaves fault (so_far.given ++ bytes) (ahead.bytes ++ left) so_far.lines now after → StopsAt replies leaves fault first all left done after
+stops replies leaves fault first now after all rest left bytes ended count ahead done so_far taken within few work = (
   so_far.given ++ bytes,
   ahead.bytes,
   so_far.taken ∙ ap (λ r. so_far.given ++ r) taken ∙ sym (append_assoc so_far.given bytes (ahead.bytes ++ left)),
   omega (arith, within, so_far.counted, length-append so_far.given bytes),
   few,
+  so_far.lines,
   now,
-  all_but_one replies first now (ended_lines (so_far.given ++ bytes)) so_far.lines bytes done (still_open replies first now all rest ended count done so_far running bytes) so_far.said
-      (in_work rest (ahead.bytes ++ left) bytes ahead taken ends),
-  stands,
+  so_far.said,
+  work,
 )
+
+work_of_disk : {A : Type 0} (replies : Replies A) (leaves : Leaves A) (first now after : A) (all rest new bytes : List ℕ) (ended : Bool) (count : ℕ) (ahead : Ahead) (done : List ℕ)
+    (so_far : Progress replies first now all rest ended count done) → ended ≡ false → EndsOf leaves now after rest new ahead DiskFault → rest ≡ bytes ++ new
+    → InWork leaves fault.Disk (so_far.given ++ bytes) new so_far.lines now after
+work_of_disk replies leaves first now after all rest new bytes ended count ahead done so_far running ends taken =
+    (ends.0, last_line replies first now all rest new bytes ends.0 ended ahead.ended count done so_far running ends.1 taken, ends.2)
+
+work_of_memory : {A : Type 0} (replies : Replies A) (leaves : Leaves A) (first now after : A) (all rest new bytes : List ℕ) (ended : Bool) (count : ℕ) (ahead : Ahead) (done : List ℕ)
+    (so_far : Progress replies first now all rest ended count done) → ended ≡ false → EndsOf leaves now after rest new ahead Memory → rest ≡ bytes ++ new
+    → InWork leaves fault.Memory (so_far.given ++ bytes) new so_far.lines now after
+work_of_memory replies leaves first now after all rest new bytes ended count ahead done so_far running (inl lost) taken =
+    let part : List ℕ = lost.0 in
+    let none : ended_lines bytes ≡ [] = ap ended_lines (append_cancel_right bytes part new (sym taken ∙ lost.1.taken)) ∙ ended_lines-open part lost.1.without_line_feed in
+    inl (still_open replies first now all rest ended count done so_far running bytes ∙ ap (λ l. so_far.lines ++ l) none ∙ append-nil so_far.lines, lost.2)
+work_of_memory replies leaves first now after all rest new bytes ended count ahead done so_far running (inr cut) taken =
+    inr (cut.0, last_line replies first now all rest new bytes cut.0 ended ahead.ended count done so_far running cut.1 taken, cut.2)
 
 -- ---- the same where the source tells its bytes, and not else
 
@@ -259,29 +281,33 @@ same_length bytes part new e = ap length (append_cancel_right bytes part new e)
 
 ends_of : {A : Type 0} (replies : Replies A) (leaves : Leaves A) (ending : Ending) (first now after : A) (all rest left : List ℕ) (before ahead : Ahead) (done : List ℕ)
     → Progress replies first now all rest before.ended before.given done
-    → EndsOf rest (ahead.bytes ++ left) ahead ending → StandsBy leaves ending now after
+    → EndsOf leaves now after rest (ahead.bytes ++ left) ahead ending
     → (before.ended ≡ true → Ends ending ≡ Ends Done) → CountsBytes (Some rest) (Some (ahead.bytes ++ left)) before.given ahead.given
     → before.given ≤ stream_limit → length ahead.bytes ≤ most_ahead → Answers replies leaves ending first all left done after
-ends_of replies leaves Done first now after all rest left before ahead done so_far ends stands stays counts within few =
-    subst (λ a. Answers replies leaves Done first all left done a) (sym stands)
+ends_of replies leaves Done first now after all rest left before ahead done so_far ends stays counts within few =
+    subst (λ a. Answers replies leaves Done first all left done a) (sym ends.2)
     (ends_done replies leaves first now all ahead.bytes left before.ended before.given done (subst (λ r. Progress replies first now all r before.ended before.given done) ends.0 so_far) ends.1 within)
-ends_of replies leaves ReadFault first now after all rest left before ahead done so_far ends stands stays counts within few =
+ends_of replies leaves ReadFault first now after all rest left before ahead done so_far ends stays counts within few =
     let part : List ℕ = ends.0 in
     let size : length counts.bytes ≡ length part = same_length counts.bytes part (ahead.bytes ++ left) (sym counts.taken ∙ ends.1.taken) in
-    subst (λ a. Answers replies leaves ReadFault first all left done a) (sym stands)
+    subst (λ a. Answers replies leaves ReadFault first all left done a) (sym ends.3)
     (ends_fault replies leaves first now all rest left part before.ended before.given done so_far (running before.ended ReadFault stays (λ e. cc))
     (subst (λ b. LosesPart rest (b ++ left) part) ends.2 ends.1) (omega (arith, counts.counted, counts.within, size)))
-ends_of replies leaves SinkFault first now after all rest left before ahead done so_far ends stands stays counts within few = absurd ends
-ends_of replies leaves TooMuch first now after all rest left before ahead done so_far ends stands stays counts within few =
+ends_of replies leaves SinkFault first now after all rest left before ahead done so_far ends stays counts within few = absurd ends
+ends_of replies leaves TooMuch first now after all rest left before ahead done so_far ends stays counts within few =
     let part : List ℕ = ends.0 in
     let size : length counts.bytes ≡ length part = same_length counts.bytes part (ahead.bytes ++ left) (sym counts.taken ∙ ends.1.taken) in
-    subst (λ a. Answers replies leaves TooMuch first all left done a) (sym stands)
+    subst (λ a. Answers replies leaves TooMuch first all left done a) (sym ends.4)
     (ends_much replies leaves first now all rest (ahead.bytes ++ left) part before.ended before.given ahead.given left done so_far (running before.ended TooMuch stays (λ e. cc)) ends.1 ends.2 ends.3
     (counts.counted ∙ ap (λ n. before.given + n) size))
-ends_of replies leaves Memory first now after all rest left before ahead done so_far ends stands stays counts within few =
+ends_of replies leaves DiskFault first now after all rest left before ahead done so_far ends stays counts within few =
     let total : before.given + length counts.bytes ≤ stream_limit = omega (arith, counts.counted, counts.within) in
-    ends_memory replies leaves first now after all rest left counts.bytes before.ended before.given ahead done so_far (running before.ended Memory stays (λ e. cc)) ends counts.taken total few
-    stands
+    stops replies leaves fault.Disk first now after all rest left counts.bytes before.ended before.given ahead done so_far counts.taken total few
+    (work_of_disk replies leaves first now after all rest (ahead.bytes ++ left) counts.bytes before.ended before.given ahead done so_far (running before.ended DiskFault stays (λ e. cc)) ends counts.taken)
+ends_of replies leaves Memory first now after all rest left before ahead done so_far ends stays counts within few =
+    let total : before.given + length counts.bytes ≤ stream_limit = omega (arith, counts.counted, counts.within) in
+    stops replies leaves fault.Memory first now after all rest left counts.bytes before.ended before.given ahead done so_far counts.taken total few
+    (work_of_memory replies leaves first now after all rest (ahead.bytes ++ left) counts.bytes before.ended before.given ahead done so_far (running before.ended Memory stays (λ e. cc)) ends counts.taken)
 
 pub ends_known : {A : Type 0} (replies : Replies A) (leaves : Leaves A) (ending : Ending) (first now after : A) (all rest left : Option (List ℕ)) (before ahead : Ahead) (done : List ℕ)
     → ProgressKnown replies first now all rest before done → NextKnown replies leaves now after rest (prepend_known ahead.bytes left) ahead (Ends ending)
@@ -291,7 +317,7 @@ ends_known replies leaves ending first now after None rest left before ahead don
 ends_known replies leaves ending first now after (Some all) None left before ahead done so_far next stays counts within few = absurd so_far
 ends_known replies leaves ending first now after (Some all) (Some rest) None before ahead done so_far next stays counts within few = absurd next
 ends_known replies leaves ending first now after (Some all) (Some rest) (Some left) before ahead done so_far next stays counts within few =
-    ends_of replies leaves ending first now after all rest left before ahead done so_far next.0 next.1 stays counts within few
+    ends_of replies leaves ending first now after all rest left before ahead done so_far next stays counts within few
 
 -- ---- a reply of which only a front is written
 

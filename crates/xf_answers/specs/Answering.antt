@@ -1,13 +1,14 @@
 -- How the answers to the lines go on.
-use Rattle.std.specs.declared.alloc.AllocError.{AllocError}
 use Rattle.std.specs.declared.alloc.Global.{Global}
 use Rattle.std.specs.Prelude.{ℕ, ◌≡◌, ◌⊎◌, ◌<◌, List, [], String, string_bytes, length, Option, Some, None, Result, Ok, Err}
 use Rattle.std.specs.Io.KnownBytes.{Appends}
 use Rattle.xf_base.specs.Limits.{stream_limit}
 use Rattle.xf_io.specs.Ahead.{Ahead}
 use Rattle.xf_io.specs.Lines.{CutsLine, LosesPart}
+use Rattle.xf_answers.specs.declared.answering.AnswerFault.{AnswerFault}
+use Rattle.xf_answers.specs.declared.answering.AnswerFault.TheVariants as fault
 use Rattle.xf_answers.specs.declared.lines.Ending.{Ending}
-use Rattle.xf_answers.specs.declared.lines.Ending.TheVariants.{Done, ReadFault, SinkFault, TooMuch, Memory}
+use Rattle.xf_answers.specs.declared.lines.Ending.TheVariants.{Done, ReadFault, SinkFault, TooMuch, DiskFault, Memory}
 use Rattle.xf_answers.specs.declared.lines.Next.{Next}
 use Rattle.xf_answers.specs.declared.lines.Next.TheVariants.{Reply, Ends}
 use Rattle.xf_answers.specs.Answers.{Replies, Leaves, Takes, IsLeft, AnswersKnown}
@@ -18,21 +19,19 @@ pub record IsAnswered {A : Type 0} (replies : Replies A) (state after : A) (old 
   pub cut : CutsLine old new ahead.ended line
   pub answered : Takes replies state line reply after
 
-abbrev pub EndsOf : List ℕ → List ℕ → Ahead → Ending → Type 0
-EndsOf old new ahead Done = (old ≡ []) × (new ≡ [])
-EndsOf old new ahead ReadFault = (part : List ℕ) × LosesPart old new part × (ahead.bytes ≡ [])
-EndsOf old new ahead SinkFault = ⊥
-EndsOf old new ahead TooMuch = (part : List ℕ) × LosesPart old new part × (0 < length new) × (ahead.given ≡ stream_limit)
-EndsOf old new ahead Memory = ((part : List ℕ) × LosesPart old new part) ⊎ ((line : List ℕ) × CutsLine old new ahead.ended line)
-
--- what stands then
-abbrev pub StandsBy : {A : Type 0} → Leaves A → Ending → A → A → Type 0
-StandsBy leaves Memory state after = IsLeft leaves state after
-StandsBy leaves ending state after = after ≡ state
+-- how the lines end in this state, and what stands then
+abbrev pub EndsOf : {A : Type 0} → Leaves A → A → A → List ℕ → List ℕ → Ahead → Ending → Type 0
+EndsOf leaves state after old new ahead Done = (old ≡ []) × (new ≡ []) × (after ≡ state)
+EndsOf leaves state after old new ahead ReadFault = (part : List ℕ) × LosesPart old new part × (ahead.bytes ≡ []) × (after ≡ state)
+EndsOf leaves state after old new ahead SinkFault = ⊥
+EndsOf leaves state after old new ahead TooMuch = (part : List ℕ) × LosesPart old new part × (0 < length new) × (ahead.given ≡ stream_limit) × (after ≡ state)
+EndsOf leaves state after old new ahead DiskFault = (line : List ℕ) × CutsLine old new ahead.ended line × leaves fault.Disk state line after
+EndsOf leaves state after old new ahead Memory =
+    ((part : List ℕ) × LosesPart old new part × (after ≡ state)) ⊎ ((line : List ℕ) × CutsLine old new ahead.ended line × IsLeft leaves state line after)
 
 abbrev pub NextOf : {A : Type 0} → Replies A → Leaves A → A → A → List ℕ → List ℕ → Ahead → Next → Type 0
 NextOf replies leaves state after old new ahead (Reply text) = IsAnswered replies state after old new ahead (string_bytes text)
-NextOf replies leaves state after old new ahead (Ends ending) = EndsOf old new ahead ending × StandsBy leaves ending state after
+NextOf replies leaves state after old new ahead (Ends ending) = EndsOf leaves state after old new ahead ending
 
 -- the reply to the next line and the state after it, or how the lines end
 abbrev pub NextKnown : {A : Type 0} → Replies A → Leaves A → A → A → Option (List ℕ) → Option (List ℕ) → Ahead → Next → Type 0
@@ -45,9 +44,14 @@ abbrev pub Moves : Next → ℕ → ℕ → Type 0
 Moves (Reply text) old new = old < new
 Moves (Ends ending) old new = Unit {0}
 
-abbrev pub IsReplyOrEnd : Result (String Global) AllocError → Next → Type 0
+abbrev pub IfReply : Next → Type 0 → Type 0
+IfReply (Reply text) fact = fact
+IfReply (Ends ending) fact = Unit {0}
+
+abbrev pub IsReplyOrEnd : Result (String Global) AnswerFault → Next → Type 0
 IsReplyOrEnd (Ok text) next = next ≡ Reply text
-IsReplyOrEnd (Err e) next = next ≡ Ends Memory
+IsReplyOrEnd (Err fault.Disk) next = next ≡ Ends DiskFault
+IsReplyOrEnd (Err fault.Memory) next = next ≡ Ends Memory
 
 -- the answers were written, and the lines end so
 abbrev pub Answered : {A : Type 0} → Replies A → Leaves A → Ending → A → A → Option (List ℕ) → Option (List ℕ) → Option (List ℕ) → Option (List ℕ) → Type 0

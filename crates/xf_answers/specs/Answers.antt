@@ -5,16 +5,18 @@ use Rattle.std.specs.declared.option.Option.{Option as Known}
 use Rattle.xf_base.specs.Limits.{line_limit, stream_limit}
 use Rattle.xf_io.specs.Ahead.{most_ahead}
 use Rattle.xf_io.specs.Lines.{lines_of, ended_lines}
+use Rattle.xf_answers.specs.declared.answering.AnswerFault.{AnswerFault}
+use Rattle.xf_answers.specs.declared.answering.AnswerFault.TheVariants as fault
 use Rattle.xf_answers.specs.declared.lines.Ending.{Ending}
-use Rattle.xf_answers.specs.declared.lines.Ending.TheVariants.{Done, ReadFault, SinkFault, TooMuch, Memory}
+use Rattle.xf_answers.specs.declared.lines.Ending.TheVariants.{Done, ReadFault, SinkFault, TooMuch, DiskFault, Memory}
 
 -- for a line in a state these bytes may be written, and that state stands after it
 abbrev pub Replies : Type 0 → Type 1
 Replies A = A → List ℕ → List ℕ → A → Type 0
 
--- where memory was wanting for a reply in a state, that state may stand after it
+-- where there is no reply to a line in a state, for this fault, that state may stand after it
 abbrev pub Leaves : Type 0 → Type 1
-Leaves A = A → A → Type 0
+Leaves A = AnswerFault → A → List ℕ → A → Type 0
 
 abbrev pub too_long_reply : List ℕ
 too_long_reply = codes "no E1 LineTooLong\n"
@@ -49,14 +51,19 @@ abbrev pub AsFarAs : {A : Type 0} → Replies A → A → List (List ℕ) → Li
 AsFarAs replies first lines part written last =
     (count : ℕ) × (done : List ℕ) × (now : _) × TakesAll replies first (take count lines) done now × IsBegun replies now (drop count lines) part last × (written ≡ done ++ part)
 
--- all lines are answered, or all but the last one, which was in work
-abbrev pub AllButOne : {A : Type 0} → Replies A → A → List (List ℕ) → List ℕ → A → Type 0
-AllButOne replies first lines written now =
-    TakesAll replies first lines written now ⊎ ((before : List (List ℕ)) × (line : List ℕ) × (lines ≡ before ++ line ∷ []) × TakesAll replies first before written now)
+-- where memory was wanting for the reply to a line, it changed nothing, or this is left
+abbrev pub IsLeft : {A : Type 0} → Leaves A → A → List ℕ → A → Type 0
+IsLeft leaves now line last = (last ≡ now) ⊎ leaves fault.Memory now line last
 
--- the line that was in work changed nothing, or memory was wanting for its reply
-abbrev pub IsLeft : {A : Type 0} → Leaves A → A → A → Type 0
-IsLeft leaves now last = (last ≡ now) ⊎ leaves now last
+-- the last line of these bytes, behind the lines before it: a line feed ends it, or it is the last one of all
+abbrev pub IsLastLine : List ℕ → List ℕ → List (List ℕ) → List ℕ → Type 0
+IsLastLine taken rest before line = (ended_lines taken ≡ before ++ line ∷ []) ⊎ ((ended_lines taken ≡ before) × (lines_of taken ≡ before ++ line ∷ []) × (rest ≡ []))
+
+-- behind these lines a line was in work, and its answer ended with this fault; where memory was wanting, a part of it may have been read
+abbrev pub InWork : {A : Type 0} → Leaves A → AnswerFault → List ℕ → List ℕ → List (List ℕ) → A → A → Type 0
+InWork leaves fault.Memory taken rest before now last =
+    ((ended_lines taken ≡ before) × (last ≡ now)) ⊎ ((line : List ℕ) × IsLastLine taken rest before line × IsLeft leaves now line last)
+InWork leaves fault.Disk taken rest before now last = (line : List ℕ) × IsLastLine taken rest before line × leaves fault.Disk now line last
 
 -- ---- how the answers end
 
@@ -64,11 +71,11 @@ IsLeft leaves now last = (last ≡ now) ⊎ leaves now last
 abbrev pub answered_lines : List ℕ → List (List ℕ)
 answered_lines events = if nat_lt stream_limit (length events) then ended_lines (take stream_limit events) else lines_of events
 
--- so much of the events was taken as lines and as a part of the next one; the line that was in work when memory was wanting may be ended
-abbrev pub StopsAt : {A : Type 0} → Replies A → Leaves A → A → List ℕ → List ℕ → List ℕ → A → Type 0
-StopsAt replies leaves first events left written last =
+-- so much of the events was taken, as lines that are answered and as the line that was in work
+abbrev pub StopsAt : {A : Type 0} → Replies A → Leaves A → AnswerFault → A → List ℕ → List ℕ → List ℕ → A → Type 0
+StopsAt replies leaves fault first events left written last =
     (taken : List ℕ) × (ahead : List ℕ) × (events ≡ taken ++ (ahead ++ left)) × (length taken ≤ stream_limit) × (length ahead ≤ most_ahead)
-    × (now : _) × AllButOne replies first (ended_lines taken) written now × IsLeft leaves now last
+    × (before : List (List ℕ)) × (now : _) × TakesAll replies first before written now × InWork leaves fault taken (ahead ++ left) before now last
 
 -- what is written as the answers to the lines end so, and the state that is left: the events were these bytes, and those are left
 abbrev pub Answers : {A : Type 0} → Replies A → Leaves A → Ending → A → List ℕ → List ℕ → List ℕ → A → Type 0
@@ -77,7 +84,8 @@ Answers replies leaves ReadFault first events left written last =
     (given : List ℕ) × (events ≡ given ++ left) × (length given ≤ stream_limit) × TakesAll replies first (ended_lines given) written last
 Answers replies leaves SinkFault first events left written last = (part : List ℕ) × AsFarAs replies first (answered_lines events) part written last
 Answers replies leaves TooMuch first events left written last = (stream_limit < length events) × TakesAll replies first (ended_lines (take stream_limit events)) written last
-Answers replies leaves Memory first events left written last = StopsAt replies leaves first events left written last
+Answers replies leaves DiskFault first events left written last = StopsAt replies leaves fault.Disk first events left written last
+Answers replies leaves Memory first events left written last = StopsAt replies leaves fault.Memory first events left written last
 
 -- the same where the source tells its bytes
 abbrev pub AnswersKnown : {A : Type 0} → Replies A → Leaves A → Ending → A → Known (List ℕ) → Known (List ℕ) → List ℕ → A → Type 0

@@ -1,10 +1,10 @@
-//! The answers to the lines of a stream, by whoever answers one line over a store.
+//! The answers to the lines of a stream, by whoever answers one line over a disk and a store.
 #![tactic(auto)]
 
 mod answering;
 mod lines;
 mod output;
 
-pub use answering::Answering;
+pub use answering::{AnswerFault, Answering};
 pub use lines::{Ending, answer_lines};
 pub use output::write_reply;

@@ -9,11 +9,13 @@ pub loop-reply-init : goal.loop-reply-init
 loop-reply-init g c = (
   [],
   record {
-    progress = begun g.A.Answering.answers (c.args.session.now, (g.S.Store.calls c.args.store.now, g.S.Store.to_come c.args.store.now)) (g.E.Source.left c.args.events.now) c.new-lines.result c.new-lines.ensures.bytes c.new-lines.ensures.given;
+    progress = begun g.A.Answering.answers (c.args.session.now, ((g.S.Store.calls c.args.store.now, g.S.Store.to_come c.args.store.now), c.args.disk.now)) (g.E.Source.left c.args.events.now) c.new-lines.result c.new-lines.ensures.bytes c.new-lines.ensures.given;
+    stands = c.requires;
     is_out = inl refl;
     appended = Appends-nil _;
     within = omega (arith, c.new-lines.ensures.given);
     one_source = λ e. true_false c.new-lines.result.ended e c.new-lines.ensures.ended;
+    disk_later = omega arith;
     read_later = omega arith;
     written_steady = refl;
   },
@@ -28,10 +30,12 @@ loop-reply-preserved g c =
         progress =
             one_more g.A.Answering.answers g.A.Answering.leaves _ _ _ _ _ _ c.loop-reply.lines c.next_reply.new.lines so_far.0 c.as_bytes.result.now c.in-Reply.reply so_far.1.progress next.next (sym c.as_bytes.ensures.value)
             (running_reply c.loop-reply.lines.ended c.in-Reply.reply next.done) next.counts;
+        stands = next.stands;
         is_out = out_again _ _ _ so_far.1.is_out c.in-Ok.ensures.flushed;
         appended = Appends-trans _ _ _ so_far.0 c.as_bytes.result.now so_far.1.appended c.in-Ok.ensures.ok;
         within = next.counts.within;
         one_source = next.one_source;
+        disk_later = omega (arith, so_far.1.disk_later, next.disk_later);
         read_later = omega (arith, so_far.1.read_later, next.later);
         written_steady = c.in-Ok.ensures.steady ∙ so_far.1.written_steady;
       },

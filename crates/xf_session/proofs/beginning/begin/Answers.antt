@@ -1,0 +1,53 @@
+use Rattle.std.proofs.Common.{Ok, Err, ap, ◌∙◌, sym, subst}
+use Rattle.std.specs.Prelude.{IsTrue}
+use Rattle.xf_journal.specs.Held.{held}
+use Rattle.xf_session.specs.Replaying.{Looks}
+use Rattle.xf_session.proofs.BeginLaws.{reopened-begins, rest-opened, reopens-not, not-begun-as, looks-fault, new-begins, none-held, begin-reopen-cause}
+use Rattle.xf_session.proofs.beginning.begin.Goals as goal
+
+pub returns-in-Ok-clause-done : goal.returns-in-Ok-clause-done
+returns-in-Ok-clause-done g c = λ program built.
+    let d = g.D.Disk in
+    reopened-begins g.P.Processor.state d.tells d.seen d.may_leave d.moment d.left_since g.met.D.Disk.seen_may_stand c.args.form.now program _ c.args.disk.now c.look.new.disk c.new.result c.in-Ok.processor c.in-Ok-Some.found _ _
+    built c.in-Ok-Some.ensures.looks (λ told. subst (λ x. Looks c.args.form.now (held (d.seen c.args.disk.now)) (Ok x)) c.in-Ok-Some.field-0-is (c.in-Ok-Some.ensures.found told))
+    c.in-Ok-Some.ensures.settled (λ log is fits. c.in-Ok.ensures.done program log built.built is fits) c.new.ensures.processor c.new.ensures.journal c.new.ensures.whole
+
+pub returns-in-Ok-clause-rest : goal.returns-in-Ok-clause-rest
+returns-in-Ok-clause-rest g c = λ told.
+    let d = g.D.Disk in
+    rest-opened d.tells d.seen d.may_leave d.moment d.left_since c.args.form.now c.args.disk.now c.look.new.disk c.new.result c.in-Ok-Some.found c.in-Ok-Some.ensures.looks
+    (subst (λ x. Looks c.args.form.now (held (d.seen c.args.disk.now)) (Ok x)) c.in-Ok-Some.field-0-is (c.in-Ok-Some.ensures.found told))
+    (c.in-Ok-Some.ensures.settled told) c.new.ensures.journal c.in-Ok.ensures.whole
+
+pub returns-in-Ok-Some-clause-done : goal.returns-in-Ok-Some-clause-done
+returns-in-Ok-Some-clause-done g c = λ program built.
+    let d = g.D.Disk in
+    not-begun-as g.P.Processor.state d.tells d.seen d.may_leave d.moment d.left_since g.met.D.Disk.seen_may_stand c.args.form.now program _ c.args.disk.now c.look.new.disk c.in-Err-reopened.fault _ _
+    (ap Err c.from.ensures) c.in-Ok-Some.ensures.looks
+    (λ told. reopens-not g.P.Processor.state d.tells d.seen d.may_leave d.moment d.left_since g.met.D.Disk.seen_may_stand c.args.form.now program c.args.disk.now c.in-Ok-Some.found c.in-Err-reopened.fault
+    (subst (λ x. Looks c.args.form.now (held (d.seen c.args.disk.now)) (Ok x)) c.in-Ok-Some.field-0-is (c.in-Ok-Some.ensures.found told))
+    (λ log is fits. c.in-Err-reopened.ensures.done program log built.built is fits))
+
+pub returns-in-Ok-Some-clause-cause : goal.returns-in-Ok-Some-clause-cause
+returns-in-Ok-Some-clause-cause g c = begin-reopen-cause _ _ _ c.in-Err-reopened.fault c.from.result c.in-Ok-Some.ensures.cause c.in-Err-reopened.ensures.only c.from.ensures
+
+pub returns-in-Ok-None-clause-done : goal.returns-in-Ok-None-clause-done
+returns-in-Ok-None-clause-done g c = λ program built.
+    let d = g.D.Disk in
+    new-begins g.P.Processor.state d.tells d.seen d.may_leave d.moment d.left_since g.met.D.Disk.seen_may_stand c.args.form.now program c.args.disk.now c.look.new.disk c.started.new.disk c.started.result _ _ _ _
+    c.in-Ok-None.ensures.looks (λ told. subst (λ x. Looks c.args.form.now (held (d.seen c.args.disk.now)) (Ok x)) c.in-Ok-None.field-0-is (c.in-Ok-None.ensures.found told))
+    c.in-Ok-None.ensures.settled (c.started.ensures.done program built)
+
+pub returns-in-Ok-None-clause-rest : goal.returns-in-Ok-None-clause-rest
+returns-in-Ok-None-clause-rest g c = λ told.
+    let d = g.D.Disk in
+    let looks = c.in-Ok-None.ensures.looks in
+    let none = none-held c.args.form.now (held (d.seen c.args.disk.now)) (subst (λ x. Looks c.args.form.now (held (d.seen c.args.disk.now)) (Ok x)) c.in-Ok-None.field-0-is (c.in-Ok-None.ensures.found told)) in
+    c.started.ensures.rest (subst IsTrue (sym looks.same_told) told) (ap held looks.same_seen ∙ none) (c.in-Ok-None.ensures.settled told)
+
+pub returns-clause-done : goal.returns-clause-done
+returns-clause-done g c = λ program built.
+    let d = g.D.Disk in
+    not-begun-as g.P.Processor.state d.tells d.seen d.may_leave d.moment d.left_since g.met.D.Disk.seen_may_stand c.args.form.now program _ c.args.disk.now c.look.new.disk c.in-Err.fault _ _
+    (ap Err c.from-in-Err.ensures) c.in-Err.ensures.looks
+    (λ told. looks-fault g.P.Processor.state d.tells d.seen d.may_leave d.moment d.left_since g.met.D.Disk.seen_may_stand c.args.form.now program c.args.disk.now c.in-Err.fault (c.in-Err.ensures.found told))

@@ -1,0 +1,183 @@
+//! Why a session is not opened, and why an event is not taken.
+
+use std::alloc::AllocError;
+use xf_disk::Slot;
+use xf_form_machine::Refusal;
+use xf_io::Failed;
+use xf_journal::JournalFault;
+
+/// Why a processor does not take an event.
+#[derive(Debug, Drop)]
+pub enum EventFault {
+    Refused(Refusal),
+    Memory,
+}
+
+/// Why a session does not take an event.
+#[derive(Debug, Drop)]
+pub enum PostFault {
+    Refused(Refusal),
+    /// The slot in use has more than 2^25 bytes in use: the event was not looked at.
+    NotBuilt,
+    /// A call of the disk failed: the event may stand there, and is taken back in memory.
+    DiskFault,
+    /// An earlier call of this session answered `DiskFault`.
+    Broken,
+    Memory,
+}
+
+/// Why a session that the slots hold is not opened.
+#[derive(Clone, Copy, Debug, PartialEq, Eq)]
+pub(crate) enum OpenFault {
+    OtherForm(u64),
+    Damaged(Slot, u64),
+    DiskFault,
+    Memory,
+}
+
+/// Why a session is not opened.
+#[derive(Clone, Copy, Debug, PartialEq, Eq)]
+pub enum ResumeFault {
+    /// The slots hold a session of another form: its bytes differ at this place first.
+    OtherForm(u64),
+    /// What stands at this offset of this slot is not what the processor wrote.
+    Damaged(Slot, u64),
+    /// Both slots are closed.
+    NoSession,
+    /// A call of the disk failed.
+    DiskFault,
+    Memory,
+}
+
+/// Why a session is neither opened nor begun.
+#[derive(Debug, Drop)]
+pub enum BeginFault {
+    /// The slots hold no session, and the start of the form is refused.
+    Refused(Refusal),
+    /// The slots hold a session of another form: its bytes differ at this place first.
+    OtherForm(u64),
+    /// What stands at this offset of this slot is not what the processor wrote.
+    Damaged(Slot, u64),
+    /// A call of the disk failed.
+    DiskFault,
+    Memory,
+}
+
+impl From<EventFault> for PostFault {
+    ghost use Rattle.std.specs.Prelude.{◌≡◌};
+    ghost use Rattle.xf_session.specs.Faults.{of_event};
+
+    ghost from_gives = { λ fault given. given ≡ of_event fault };
+
+    fn from(fault: EventFault) -> Self {
+        match fault {
+            EventFault::Refused(refusal) => PostFault::Refused(refusal),
+            EventFault::Memory => PostFault::Memory,
+        }
+    }
+}
+
+impl From<AllocError> for PostFault {
+    ghost use Rattle.std.specs.Prelude.{◌≡◌};
+    ghost use Rattle.xf_session.specs.declared.fault.PostFault.TheVariants.{Memory};
+
+    ghost from_gives = { λ _ fault. fault ≡ Memory };
+
+    fn from(_: AllocError) -> Self {
+        PostFault::Memory
+    }
+}
+
+impl From<AllocError> for OpenFault {
+    ghost use Rattle.std.specs.Prelude.{◌≡◌};
+    ghost use Rattle.xf_session.specs.declared.fault.OpenFault.TheVariants.{Memory};
+
+    ghost from_gives = { λ _ fault. fault ≡ Memory };
+
+    fn from(_: AllocError) -> Self {
+        OpenFault::Memory
+    }
+}
+
+impl From<JournalFault> for OpenFault {
+    ghost use Rattle.std.specs.Prelude.{◌≡◌};
+    ghost use Rattle.xf_session.specs.Faults.{of_journal};
+
+    ghost from_gives = { λ fault given. given ≡ of_journal fault };
+
+    fn from(fault: JournalFault) -> Self {
+        match fault {
+            JournalFault::DiskFault => OpenFault::DiskFault,
+            JournalFault::Damaged(slot, at) => OpenFault::Damaged(slot, at),
+            JournalFault::Memory => OpenFault::Memory,
+        }
+    }
+}
+
+impl From<OpenFault> for ResumeFault {
+    ghost use Rattle.std.specs.Prelude.{◌≡◌};
+    ghost use Rattle.xf_session.specs.Faults.{resume_of};
+
+    ghost from_gives = { λ fault given. given ≡ resume_of fault };
+
+    fn from(fault: OpenFault) -> Self {
+        match fault {
+            OpenFault::OtherForm(at) => ResumeFault::OtherForm(at),
+            OpenFault::Damaged(slot, at) => ResumeFault::Damaged(slot, at),
+            OpenFault::DiskFault => ResumeFault::DiskFault,
+            OpenFault::Memory => ResumeFault::Memory,
+        }
+    }
+}
+
+impl From<OpenFault> for BeginFault {
+    ghost use Rattle.std.specs.Prelude.{◌≡◌};
+    ghost use Rattle.xf_session.specs.Faults.{begin_of};
+
+    ghost from_gives = { λ fault given. given ≡ begin_of fault };
+
+    fn from(fault: OpenFault) -> Self {
+        match fault {
+            OpenFault::OtherForm(at) => BeginFault::OtherForm(at),
+            OpenFault::Damaged(slot, at) => BeginFault::Damaged(slot, at),
+            OpenFault::DiskFault => BeginFault::DiskFault,
+            OpenFault::Memory => BeginFault::Memory,
+        }
+    }
+}
+
+impl From<EventFault> for BeginFault {
+    ghost use Rattle.std.specs.Prelude.{◌≡◌};
+    ghost use Rattle.xf_session.specs.Faults.{begin_of_event};
+
+    ghost from_gives = { λ fault given. given ≡ begin_of_event fault };
+
+    fn from(fault: EventFault) -> Self {
+        match fault {
+            EventFault::Refused(refusal) => BeginFault::Refused(refusal),
+            EventFault::Memory => BeginFault::Memory,
+        }
+    }
+}
+
+impl From<AllocError> for BeginFault {
+    ghost use Rattle.std.specs.Prelude.{◌≡◌};
+    ghost use Rattle.xf_session.specs.declared.fault.BeginFault.TheVariants.{Memory};
+
+    ghost from_gives = { λ _ fault. fault ≡ Memory };
+
+    fn from(_: AllocError) -> Self {
+        BeginFault::Memory
+    }
+}
+
+impl From<Failed> for BeginFault {
+    ghost use Rattle.std.specs.Prelude.{◌≡◌};
+    ghost use Rattle.xf_session.specs.declared.fault.BeginFault.TheVariants.{DiskFault};
+
+    ghost from_gives = { λ _ fault. fault ≡ DiskFault };
+
+    fn from(_: Failed) -> Self {
+        BeginFault::DiskFault
+    }
+}
