@@ -2,7 +2,7 @@
 use Rattle.std.proofs.Common.{◌≡◌, ◌≤◌, ◌∙◌, ℕ, arith, inl, inr, refl, subst, sym}
 use Rattle.xf_base.specs.Faults.{Rose}
 use Rattle.xf_answers.specs.declared.lines.Ending.{Ending}
-use Rattle.xf_answers.specs.declared.lines.Ending.TheVariants.{Done, ReadFault, SinkFault, TooMuch, Memory}
+use Rattle.xf_answers.specs.declared.lines.Ending.TheVariants.{Done, ReadFault, SinkFault, DiskFault, TooMuch, Memory}
 use Rattle.xf_answers.specs.Out.{Taken, IsAllOut, IsOut, IsOutOrFailed, IsSteady}
 
 pub out_again : (first mid last : Taken) → IsOut first mid → IsOut mid last → IsOut first last
@@ -20,6 +20,7 @@ pub out_by : (ending : Ending) (before after : Taken) (a b : ℕ) → IsAllOut e
 out_by Done before after a b h failed = inl h
 out_by ReadFault before after a b h failed = inl h
 out_by SinkFault before after a b h failed = inr (failed refl)
+out_by DiskFault before after a b h failed = inl h
 out_by TooMuch before after a b h failed = inl h
 out_by Memory before after a b h failed = inl h
 
@@ -28,5 +29,6 @@ pub steady_on : (ending : Ending) (before mid after : ℕ) → mid ≡ before �
 steady_on Done before mid after e h = h ∙ e
 steady_on ReadFault before mid after e h = h ∙ e
 steady_on SinkFault before mid after e h = tt
+steady_on DiskFault before mid after e h = h ∙ e
 steady_on TooMuch before mid after e h = h ∙ e
 steady_on Memory before mid after e h = h ∙ e

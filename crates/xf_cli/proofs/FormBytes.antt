@@ -1,14 +1,16 @@
 -- The bytes that were read of a form give what all of its bytes give.
-use Rattle.std.proofs.Common.{◌≡◌, ◌⊎◌, ◌≤◌, ◌^◌, ℕ, List, [], ◌++◌, length, nat_lt, Bool, true, false, Option, Some, None, Result, Err, refl, ap, sym, ◌∙◌, arith, length-append, if◌then◌else◌, inl, inr}
+use Rattle.std.proofs.Common.{◌≡◌, ◌⊎◌, ◌≤◌, ◌^◌, ℕ, List, [], ◌++◌, length, nat_lt, Bool, true, false, Option, Some, None, Result, Ok, Err, refl, ap, sym, ◌∙◌, arith, length-append, if◌then◌else◌, inl, inr}
 use Rattle.std.specs.Io.KnownBytes.{Consumes, IsAtEnd}
 use Rattle.std.proofs.lemmas.Bool.Decides.{nat_tests}
 use Rattle.std.proofs.lemmas.List.{append-nil}
+use Rattle.xf_base.specs.Limits.{form_limit}
 use Rattle.xf_json.specs.Element.{lit_in}
 use Rattle.xf_loader.specs.declared.fault.FormFault.{FormFault}
 use Rattle.xf_loader.specs.declared.fault.FormFault.TheVariants.{Refused, Memory}
 use Rattle.xf_loader.specs.declared.loaded.Loaded.{Loaded}
-use Rattle.xf_loader.specs.Loading.{loaded_in, by_json, form_limit}
-use Rattle.xf_cli.specs.Written.{Give}
+use Rattle.xf_loader.specs.Loading.{loaded_in, by_json}
+use Rattle.xf_cli.specs.Forms.{Give}
+use Rattle.xf_cli.specs.Finish.{GivesForm}
 
 abbrev by_size : Bool → Result Loaded FormFault → Result Loaded FormFault
 by_size large r = if large then Err (Refused 2 []) else r
@@ -36,12 +38,30 @@ gives (Some xs) (Some ys) read given c e r = by (nat_lt form_limit (length read)
 
 -- ---- what loading them answers
 
-pub gives_form : (form left : Option (List ℕ)) (read seen : List ℕ) (given : Result Loaded FormFault) → Consumes form left read × (length read ≤ 2 ^ 20 → IsAtEnd left)
-    → seen ≡ read → loaded_in seen ≡ given → Give form given
-gives_form form left read seen given was same e = gives form left read given was.0 was.1 (ap loaded_in (sym same) ∙ e)
+no_fault : {X : Type 0} (bytes : List ℕ) (l : Loaded) → loaded_in bytes ≡ Ok l → nat_lt form_limit (length bytes) ≡ true → X
+no_fault bytes l e h =
+    let both : Err (Refused 2 []) ≡ Ok l = sym (too_large bytes h) ∙ e in
+    absurd (cc)
+
+-- a form that is loaded is small
+pub small : (bytes : List ℕ) (l : Loaded) → loaded_in bytes ≡ Ok l → length bytes ≤ form_limit
+small bytes l e = by_test (nat_lt form_limit (length bytes)) refl
+  where
+    by_test : (large : Bool) → nat_lt form_limit (length bytes) ≡ large → length bytes ≤ form_limit
+    by_test true h = no_fault bytes l e h
+    by_test false h = no_more (length bytes) h
+
+given_by : (form left : Option (List ℕ)) (read : List ℕ) (l : Loaded) → Consumes form left read → (length read ≤ form_limit → IsAtEnd left) → loaded_in read ≡ Ok l → GivesForm form l read
+given_by None left read l c e r = (tt, r)
+given_by (Some xs) None read l c e r = absurd c
+given_by (Some xs) (Some ys) read l c e r = (c ∙ ap (λ l. read ++ l) (e (small read l r)) ∙ append-nil read, r)
+
+pub gives_form : (form left : Option (List ℕ)) (read seen : List ℕ) (l : Loaded) → Consumes form left read × (length read ≤ form_limit → IsAtEnd left)
+    → seen ≡ read → loaded_in seen ≡ Ok l → GivesForm form l read
+gives_form form left read seen l was same e = given_by form left read l was.0 was.1 (ap loaded_in (sym same) ∙ e)
 
 pub gives_refusal : (form left : Option (List ℕ)) (read seen : List ℕ) (fault : FormFault) (number : ℕ) (place : List ℕ)
     → Consumes form left read × (length read ≤ 2 ^ 20 → IsAtEnd left) → seen ≡ read → fault ≡ Refused number place → (fault ≡ Memory) ⊎ (loaded_in seen ≡ Err fault)
     → Give form (Err (Refused number place))
 gives_refusal form left read seen fault number place was same is (inl memory) = cc
-gives_refusal form left read seen fault number place was same is (inr e) = gives_form form left read seen (Err (Refused number place)) was same (e ∙ ap Err is)
+gives_refusal form left read seen fault number place was same is (inr e) = gives form left read (Err (Refused number place)) was.0 was.1 (ap loaded_in (sym same) ∙ e ∙ ap Err is)

@@ -6,8 +6,9 @@ use Rattle.xf_base.specs.Limits.{line_limit, stream_limit}
 use Rattle.xf_io.specs.Ahead.{most_ahead}
 use Rattle.xf_io.specs.Lines.{lines_of, ended_lines}
 use Rattle.xf_answers.specs.Answers as lines
+use Rattle.xf_answers.specs.declared.answering.AnswerFault.TheVariants as fault
 use Rattle.xf_answers.specs.declared.lines.Ending.{Ending}
-use Rattle.xf_answers.specs.declared.lines.Ending.TheVariants.{Done, ReadFault, SinkFault, TooMuch, Memory}
+use Rattle.xf_answers.specs.declared.lines.Ending.TheVariants.{Done, ReadFault, SinkFault, DiskFault, TooMuch, Memory}
 use Rattle.xf_store.specs.declared.call.StoreCall.{StoreCall}
 use Rattle.xf_store.specs.Called.{Called, Told}
 use Rattle.xf_store.proofs.CalledLaws.{called-none, called-on}
@@ -17,18 +18,22 @@ use Rattle.xf_form_machine.specs.Written.{AsFarAs, HaveBegun, IsFront}
 use Rattle.xf_processor.specs.Formed.{profile}
 use Rattle.xf_work.specs.Standing.{Standing, state_of}
 use Rattle.xf_cli.specs.Replies.{Answers, IsReply, Leaves}
-use Rattle.xf_cli.specs.Written.{AnswersTold, EndsSo, StopsIn, answering_of}
+use Rattle.xf_cli.specs.Answered.{AnswersTold, EndsSo, StopsIn, answering_of}
 use Rattle.xf_cli.proofs.ReplyLaws.{long_reply}
+
+-- what an engine has of a state, and what a store tells; there is no disk
+abbrev At : Type 0
+At = Standing × (Told × Unit {0})
 
 -- ---- a line
 
-one-by : (b : Bool) (first after : Standing × Told) (line text : List ℕ) → nat_lt line_limit (length line) ≡ b
-    → lines.takes_by b ((text ≡ lines.too_long_reply) × (after ≡ first)) (Answers first line text after) → IsReply (state_of first.0) line text (state_of after.0) first.1 after.1
+one-by : (b : Bool) (first after : At) (line text : List ℕ) → nat_lt line_limit (length line) ≡ b
+    → lines.takes_by b ((text ≡ lines.too_long_reply) × (after ≡ first)) (Answers first line text after) → IsReply (state_of first.0) line text (state_of after.0) first.1.0 after.1.0
 one-by false first after line text e h = h
 one-by true first after line text e h =
-    subst (λ (a : Standing × Told). IsReply (state_of first.0) line text (state_of a.0) first.1 a.1) (sym h.1) (long_reply (state_of first.0) line text first.1 e h.0)
+    subst (λ (a : At). IsReply (state_of first.0) line text (state_of a.0) first.1.0 a.1.0) (sym h.1) (long_reply (state_of first.0) line text first.1.0 e h.0)
 
-one : (first after : Standing × Told) (line text : List ℕ) → lines.Takes Answers first line text after → IsReply (state_of first.0) line text (state_of after.0) first.1 after.1
+one : (first after : At) (line text : List ℕ) → lines.Takes Answers first line text after → IsReply (state_of first.0) line text (state_of after.0) first.1.0 after.1.0
 one first after line text h = one-by (nat_lt line_limit (length line)) first after line text refl h
 
 -- ---- calls that follow one another
@@ -45,22 +50,22 @@ none-more a b calls h = subst (λ c. Called a b [] c) (sym (append-nil calls)) h
 -- ---- lines
 
 -- these lines have these replies, with some calls
-abbrev AllReplied : Standing × Told → List (List ℕ) → List ℕ → Standing × Told → Type 0
+abbrev AllReplied : At → List (List ℕ) → List ℕ → At → Type 0
 AllReplied first ls written last =
-    (calls : List StoreCall) × Called first.1 last.1 [] calls × Replies profile true (state_of first.0) ls calls written (state_of last.0)
+    (calls : List StoreCall) × Called first.1.0 last.1.0 [] calls × Replies profile true (state_of first.0) ls calls written (state_of last.0)
 
-all-of : (first after last : Standing × Told) (line : List ℕ) (ls : List (List ℕ)) (text rest written : List ℕ)
-    → IsReply (state_of first.0) line text (state_of after.0) first.1 after.1 → AllReplied after ls rest last → written ≡ text ++ rest → AllReplied first (line ∷ ls) written last
+all-of : (first after last : At) (line : List ℕ) (ls : List (List ℕ)) (text rest written : List ℕ)
+    → IsReply (state_of first.0) line text (state_of after.0) first.1.0 after.1.0 → AllReplied after ls rest last → written ≡ text ++ rest → AllReplied first (line ∷ ls) written last
 all-of first after last line ls text rest written h k e =
     let own = h.made in
     let next = subst (λ (s : State). Replies profile true s ls k.0 rest (state_of last.0)) (sym h.gives.after) k.2 in
-    (own ++ k.0, both first.1 after.1 last.1 own k.0 h.called k.1, (own, k.0, text, rest, h.gives.calls, h.gives.text, next, refl, e))
+    (own ++ k.0, both first.1.0 after.1.0 last.1.0 own k.0 h.called k.1, (own, k.0, text, rest, h.gives.calls, h.gives.text, next, refl, e))
 
-all : (first last : Standing × Told) (ls : List (List ℕ)) (written : List ℕ) → lines.TakesAll Answers first ls written last → AllReplied first ls written last
+all : (first last : At) (ls : List (List ℕ)) (written : List ℕ) → lines.TakesAll Answers first ls written last → AllReplied first ls written last
 all first last [] written h = (
   [],
-  subst (λ (a : Standing × Told). Called first.1 a.1 [] []) (sym h.1) (called-none first.1 []),
-  (refl, h.0, ap (λ (a : Standing × Told). state_of a.0) h.1),
+  subst (λ (a : At). Called first.1.0 a.1.0 [] []) (sym h.1) (called-none first.1.0 []),
+  (refl, h.0, ap (λ (a : At). state_of a.0) h.1),
 )
 all first last (line ∷ ls) written h =
     all-of first h.2 last line ls h.0 h.1 written (one first h.2 line h.0 h.3) (all h.2 last ls h.1 h.4) h.5
@@ -90,11 +95,11 @@ on s mid last (line ∷ ls) more calls next text rest h k = (
 abbrev WholeOf : State → List (List ℕ) → List StoreCall → Type 0
 WholeOf s ls calls = (whole more : List (List ℕ)) × (text : List ℕ) × (last : State) × (ls ≡ whole ++ more) × Replies profile true s whole calls text last
 
-abbrev BegunSo : Standing × Told → List (List ℕ) → List ℕ → Standing × Told → Type 0
+abbrev BegunSo : At → List (List ℕ) → List ℕ → At → Type 0
 BegunSo now ls part last =
-    (begun : List StoreCall) × Called now.1 last.1 [] begun × HaveBegun profile true (state_of now.0) ls begun part × WholeOf (state_of now.0) ls begun
+    (begun : List StoreCall) × Called now.1.0 last.1.0 [] begun × HaveBegun profile true (state_of now.0) ls begun part × WholeOf (state_of now.0) ls begun
 
-begun-of : (now last : Standing × Told) (line : List ℕ) (ls : List (List ℕ)) (text part : List ℕ) → IsReply (state_of now.0) line text (state_of last.0) now.1 last.1
+begun-of : (now last : At) (line : List ℕ) (ls : List (List ℕ)) (text part : List ℕ) → IsReply (state_of now.0) line text (state_of last.0) now.1.0 last.1.0
     → IsFront part text → BegunSo now (line ∷ ls) part last
 begun-of now last line ls text part h front =
     let own = h.made in
@@ -104,9 +109,9 @@ begun-of now last line ls text part h front =
     (line ∷ [], ls, text, after, refl, (own, [], text, [], h.gives.calls, h.gives.text, (refl, refl, refl), sym (append-nil own), sym (append-nil text))) in
     (own, h.called, begun, whole)
 
-begun : (now last : Standing × Told) (ls : List (List ℕ)) (part : List ℕ) → lines.IsBegun Answers now ls part last → BegunSo now ls part last
+begun : (now last : At) (ls : List (List ℕ)) (part : List ℕ) → lines.IsBegun Answers now ls part last → BegunSo now ls part last
 begun now last [] part h =
-    let none : Called now.1 last.1 [] [] = subst (λ (a : Standing × Told). Called now.1 a.1 [] []) (sym h.1) (called-none now.1 []) in
+    let none : Called now.1.0 last.1.0 [] [] = subst (λ (a : At). Called now.1.0 a.1.0 [] []) (sym h.1) (called-none now.1.0 []) in
     ([], none, (refl, h.0), ([], [], [], state_of now.0, refl, (refl, refl, refl)))
 begun now last (line ∷ ls) part h = begun-of now last line ls h.0 part (one now last line h.0 h.1) h.2
 
@@ -116,40 +121,45 @@ begun now last (line ∷ ls) part h = begun-of now last line ls h.0 part (one no
 behind_notes : (notes rest done part : List ℕ) → rest ≡ done ++ part → notes ++ rest ≡ (notes ++ done) ++ part
 behind_notes notes rest done part e = ap (λ t. notes ++ t) e ∙ sym (append_assoc notes done part)
 
-abbrev Told_by : List ℕ → Ending → Standing × Told → Standing × Told → List ℕ → List ℕ → List ℕ → Type 0
+abbrev Told_by : List ℕ → Ending → At → At → List ℕ → List ℕ → List ℕ → Type 0
 Told_by notes e first last events left rest =
-    (calls more : List StoreCall) × Called first.1 last.1 [] (calls ++ more) × EndsSo e (answering_of notes (state_of first.0) events left (notes ++ rest) calls) more
+    (calls more : List StoreCall) × Called first.1.0 last.1.0 [] (calls ++ more) × EndsSo e (answering_of notes (state_of first.0) events left (notes ++ rest) calls) more
 
 longer : (given left events : List ℕ) → events ≡ given ++ left → length given ≤ stream_limit → length events ≤ length left + stream_limit
 longer given left events e h = omega (arith, h, ap length e, length-append given left)
 
 -- the lines that were answered before memory was wanting
-stops-by : (notes : List ℕ) (first now last : Standing × Told) (events left rest taken ahead : List ℕ) (ls : List (List ℕ)) → events ≡ taken ++ (ahead ++ left) → length taken ≤ stream_limit
+stops-by : (notes : List ℕ) (first now last : At) (events left rest taken ahead : List ℕ) (ls : List (List ℕ)) → events ≡ taken ++ (ahead ++ left) → length taken ≤ stream_limit
     → length ahead ≤ most_ahead → (ended_lines taken ≡ ls) ⊎ ((line : List ℕ) × (ended_lines taken ≡ ls ++ line ∷ []))
-    → lines.TakesAll Answers first ls rest now → lines.IsLeft Leaves now last → Told_by notes Memory first last events left rest
-stops-by notes first now last events left rest taken ahead ls e within buffered most h leaves =
+    → lines.TakesAll Answers first ls rest now → (more : List StoreCall) → Called now.1.0 last.1.0 [] more → Told_by notes Memory first last events left rest
+stops-by notes first now last events left rest taken ahead ls e within buffered most h more called =
     let k = all first now ls rest h in
     let replied : StopsIn (answering_of notes (state_of first.0) events left (notes ++ rest) k.0) = record { taken = taken; ahead = ahead; bytes = e; within = within; buffered = buffered; lines = ls; most = most; replied = (rest, state_of now.0, k.2, refl) } in
-    by-left leaves k replied
-  where
-    by-left : lines.IsLeft Leaves now last → (k : AllReplied first ls rest now) → StopsIn (answering_of notes (state_of first.0) events left (notes ++ rest) k.0)
-        → Told_by notes Memory first last events left rest
-    by-left (inl same) k replied = (k.0, [], subst (λ (a : Standing × Told). Called first.1 a.1 [] (k.0 ++ [])) (sym same) (none-more first.1 now.1 k.0 k.1), replied)
-    by-left (inr more) k replied = (k.0, more.1.0, both first.1 now.1 last.1 k.0 more.1.0 k.1 more.1.1, replied)
+    (k.0, more, both first.1.0 now.1.0 last.1.0 k.0 more k.1 called, replied)
 
-stops : (notes : List ℕ) (first now last : Standing × Told) (events left rest taken ahead : List ℕ) → events ≡ taken ++ (ahead ++ left) → length taken ≤ stream_limit
-    → length ahead ≤ most_ahead → lines.AllButOne Answers first (ended_lines taken) rest now → lines.IsLeft Leaves now last → Told_by notes Memory first last events left rest
-stops notes first now last events left rest taken ahead e within buffered (inl h) leaves =
-    stops-by notes first now last events left rest taken ahead (ended_lines taken) e within buffered (inl refl) h leaves
-stops notes first now last events left rest taken ahead e within buffered (inr h) leaves =
-    stops-by notes first now last events left rest taken ahead h.0 e within buffered (inr (h.1, h.2)) h.3 leaves
+-- the line in work, where memory was wanting, is ended or not, and may have made some calls
+last-most : (taken rest : List ℕ) (ls : List (List ℕ)) (line : List ℕ) → lines.IsLastLine taken rest ls line → (ended_lines taken ≡ ls) ⊎ ((line : List ℕ) × (ended_lines taken ≡ ls ++ line ∷ []))
+last-most taken rest ls line (inl h) = inr (line, h)
+last-most taken rest ls line (inr h) = inl h.0
+
+left-calls : (now last : At) (line : List ℕ) → lines.IsLeft Leaves now line last → (more : List StoreCall) × Called now.1.0 last.1.0 [] more
+left-calls now last line (inl same) = ([], subst (λ (a : At). Called now.1.0 a.1.0 [] []) (sym same) (called-none now.1.0 []))
+left-calls now last line (inr h) = h.1
+
+stops : (notes : List ℕ) (first now last : At) (events left rest taken ahead : List ℕ) (ls : List (List ℕ)) → events ≡ taken ++ (ahead ++ left) → length taken ≤ stream_limit
+    → length ahead ≤ most_ahead → lines.TakesAll Answers first ls rest now → lines.InWork Leaves fault.Memory taken (ahead ++ left) ls now last → Told_by notes Memory first last events left rest
+stops notes first now last events left rest taken ahead ls e within buffered h (inl work) =
+    stops-by notes first now last events left rest taken ahead ls e within buffered (inl work.0) h [] (subst (λ (a : At). Called now.1.0 a.1.0 [] []) (sym work.1) (called-none now.1.0 []))
+stops notes first now last events left rest taken ahead ls e within buffered h (inr work) =
+    let made = left-calls now last work.0 work.2 in
+    stops-by notes first now last events left rest taken ahead ls e within buffered (last-most taken (ahead ++ left) ls work.0 work.1) h made.0 made.1
 
 -- the lines are answered up to a front of a reply
-abbrev FarSo : List ℕ → Standing × Told → Standing × Told → List ℕ → List ℕ → List (List ℕ) → List ℕ → List ℕ → List StoreCall → Type 0
+abbrev FarSo : List ℕ → At → At → List ℕ → List ℕ → List (List ℕ) → List ℕ → List ℕ → List StoreCall → Type 0
 FarSo notes first last events left ls part rest calls =
-    Called first.1 last.1 [] (calls ++ []) × AsFarAs profile (answering_of notes (state_of first.0) events left (notes ++ rest) calls) ls part × WholeOf (state_of first.0) ls calls
+    Called first.1.0 last.1.0 [] (calls ++ []) × AsFarAs profile (answering_of notes (state_of first.0) events left (notes ++ rest) calls) ls part × WholeOf (state_of first.0) ls calls
 
-far : (notes : List ℕ) (first now last : Standing × Told) (events left : List ℕ) (ls : List (List ℕ)) (part done rest : List ℕ) (count : ℕ)
+far : (notes : List ℕ) (first now last : At) (events left : List ℕ) (ls : List (List ℕ)) (part done rest : List ℕ) (count : ℕ)
     → AllReplied first (take count ls) done now → BegunSo now (drop count ls) part last → rest ≡ done ++ part
     → (calls : List StoreCall) × FarSo notes first last events left ls part rest calls
 far notes first now last events left ls part done rest count h k e =
@@ -160,30 +170,31 @@ far notes first now last events left ls part done rest count h k e =
     (take count ls ++ w.0, w.1, done ++ w.2, w.3, cut, on (state_of first.0) (state_of now.0) w.3 (take count ls) w.0 h.0 k.0 done w.2 h.2 w.5) in
     let so_far : AsFarAs profile (answering_of notes (state_of first.0) events left (notes ++ rest) calls) ls part =
     (count, done, state_of now.0, h.0, k.0, h.2, k.2, refl, behind_notes notes rest done part e) in
-    (calls, (none-more first.1 last.1 calls (both first.1 now.1 last.1 h.0 k.0 h.1 k.1), so_far, whole))
+    (calls, (none-more first.1.0 last.1.0 calls (both first.1.0 now.1.0 last.1.0 h.0 k.0 h.1 k.1), so_far, whole))
 
-ended : (notes : List ℕ) (e : Ending) (first last : Standing × Told) (events left rest : List ℕ) → lines.Answers Answers Leaves e first events left rest last
+ended : (notes : List ℕ) (e : Ending) (first last : At) (events left rest : List ℕ) → lines.Answers Answers Leaves e first events left rest last
     → Told_by notes e first last events left rest
 ended notes Done first last events left rest h =
     let k = all first last (lines_of events) rest h.2 in
-    (k.0, [], none-more first.1 last.1 k.0 k.1, ((h.0, h.1, (rest, state_of last.0, k.2, refl)), refl))
+    (k.0, [], none-more first.1.0 last.1.0 k.0 k.1, ((h.0, h.1, (rest, state_of last.0, k.2, refl)), refl))
 ended notes ReadFault first last events left rest h =
     let k = all first last (ended_lines h.0) rest h.3 in
-    (k.0, [], none-more first.1 last.1 k.0 k.1, ((h.0, h.1, (rest, state_of last.0, k.2, refl)), longer h.0 left events h.1 h.2, refl))
+    (k.0, [], none-more first.1.0 last.1.0 k.0 k.1, ((h.0, h.1, (rest, state_of last.0, k.2, refl)), longer h.0 left events h.1 h.2, refl))
 ended notes SinkFault first last events left rest h =
     let ls = lines.answered_lines events in
     let f = h.1 in
     let k = far notes first f.2 last events left ls h.0 f.1 rest f.0 (all first f.2 (take f.0 ls) f.1 f.3) (begun f.2 last (drop f.0 ls) h.0 f.4) f.5 in
     (k.0, [], k.1.0, (inr (h.0, k.1.1), k.1.2, refl))
+ended notes DiskFault first last events left rest h = absurd h.8.2
 ended notes TooMuch first last events left rest h =
     let k = all first last (ended_lines (take stream_limit events)) rest h.1 in
-    (k.0, [], none-more first.1 last.1 k.0 k.1, ((h.0, (rest, state_of last.0, k.2, refl)), refl))
+    (k.0, [], none-more first.1.0 last.1.0 k.0 k.1, ((h.0, (rest, state_of last.0, k.2, refl)), refl))
 ended notes Memory first last events left rest h =
-    stops notes first h.5 last events left rest h.0 h.1 h.2 h.3 h.4 h.6 h.7
+    stops notes first h.6 last events left rest h.0 h.1 h.5 h.2 h.3 h.4 h.7 h.8
 
 -- where the source tells its bytes
-pub told_so : (notes : List ℕ) (e : Ending) (first last : Standing × Told) (before after : Known (List ℕ)) (rest : List ℕ)
-    → lines.AnswersKnown Answers Leaves e first before after rest last → AnswersTold notes e (state_of first.0, first.1) last.1 before after (notes ++ rest)
+pub told_so : (notes : List ℕ) (e : Ending) (first last : At) (before after : Known (List ℕ)) (rest : List ℕ)
+    → lines.AnswersKnown Answers Leaves e first before after rest last → AnswersTold notes e (state_of first.0, first.1.0) last.1.0 before after (notes ++ rest)
 told_so notes e first last None after rest h = (rest, refl)
 told_so notes e first last (Some events) None rest h = absurd h
 told_so notes e first last (Some events) (Some left) rest h = ended notes e first last events left rest h

@@ -11,7 +11,6 @@ use Rattle.xf_line.specs.declared.event.Asked.{Asked}
 use Rattle.xf_line.specs.declared.event.Asked.TheVariants as asked
 use Rattle.xf_line.specs.declared.event.Event.{Event}
 use Rattle.xf_line.specs.declared.fault.LineFault.{LineFault}
-use Rattle.xf_line.specs.declared.fault.LineFault.TheVariants as line_fault
 use Rattle.xf_line.specs.Line.{asked_by}
 use Rattle.xf_store.specs.declared.answers.Answer.{Answer}
 use Rattle.xf_store.specs.declared.call.StoreCall.{StoreCall}
@@ -37,16 +36,21 @@ use Rattle.xf_processor.specs.Formed.{profile}
 use Rattle.xf_work.specs.Does.{IsRefused}
 use Rattle.xf_engine.specs.Stepped.{is_of_form, IsConstructed, IsRefusedAfter, IsAccepted, Starts, Steps}
 use Rattle.xf_cli.specs.Outside.{IsCalled, stored_of}
-use Rattle.xf_cli.specs.Written.{IsStartRefused, RefusesWith, StartsSo}
-use Rattle.xf_cli.specs.Replies.{Gives, IsReplied, IsReply, Leaves}
+use Rattle.xf_cli.specs.Finish.{IsSaid}
+use Rattle.xf_cli.specs.Forms.{IsStartRefused, RefusesWith, StartsSo}
+use Rattle.xf_cli.specs.Replies.{Gives, IsReplied, IsReply, LeavesSo}
 
-only : {X : Type 0} (x : X) → Contains (x ∷ []) x
+pub only : {X : Type 0} (x : X) → Contains (x ∷ []) x
 only x = (0, lit< tt, refl)
 
 contains-map : {X Y : Type 0} (f : X → Y) (xs : List X) (x : X) → Contains xs x → Contains (map f xs) (f x)
 contains-map f xs x h =
     let within : h.0 < length (map f xs) = omega (arith, h.1, length-map xs f) in
     (h.0, within, get_or-map f xs h.0 x (f x) h.1 ∙ ap f h.2)
+
+-- the line of a refusal that is told
+pub contains_line : (r : Refusal) (w : machine.Refusal) → Tells r w → Contains (map line_of (refusal_texts w)) (line_of (refusal_text r))
+contains_line r w t = contains-map line_of (refusal_texts w) (refusal_text r) (tells-text r w t)
 
 -- ---- by its length, and whether it is blank
 
@@ -63,11 +67,11 @@ by-length s answers line h =
 pub quiet_reply : (s : State) (told : Told) (given : List Answer → Reply) (text : List ℕ) → Gives (given []) text s [] → IsReplied given told told text s
 quiet_reply s told given text h = record { made = []; called = called-none told []; gives = h }
 
-pub blank_reply : (s : State) (line text : List ℕ) (told : Told) → length line ≤ line_limit → list_all is_blank line ≡ true → text ≡ [] → IsReply s line text s told told
-blank_reply s line text told h b e =
-    let same = by-length s [] line h ∙ ap (λ c. by_tests s false c (reply_read profile true s [] (asked_by line))) b in
+-- one that asks for nothing
+pub said_reply : (s : State) (line text : List ℕ) (told : Told) → IsSaid line text → IsReply s line text s told told
+said_reply s line text told h =
     quiet_reply s told (λ answers. reply profile true s answers line) text
-    (subst (λ r. Gives r text s []) (sym same) (record { text = subst (λ t. Contains ([] ∷ []) t) (sym e) (only []); after = refl; calls = refl }))
+    (subst (λ r. Gives r text s []) (sym (h.reply_is s [])) (record { text = only text; after = refl; calls = refl }))
 
 -- one that is
 pub long_reply : (s : State) (line text : List ℕ) (told : Told) → nat_lt line_limit (length line) ≡ true → text ≡ codes "no E1 LineTooLong\n" → IsReply s line text s told told
@@ -97,10 +101,7 @@ accepted-reply s after made posted text given h e =
 refused-reply : (s : State) (refusal : Refusal) (made : List StoreCall) (given : Outcome) → IsRefusedAfter refusal made given
     → Gives (reply_outcome true s given) (line_of (refusal_text refusal)) s made
 refused-reply s refusal made (accepted t posted) h = absurd h
-refused-reply s refusal made (refused why calls) h = record { text = contains-line refusal why h.0; after = refl; calls = h.1 }
-  where
-    contains-line : (r : Refusal) (w : machine.Refusal) → Tells r w → Contains (map line_of (refusal_texts w)) (line_of (refusal_text r))
-    contains-line r w t = contains-map line_of (refusal_texts w) (refusal_text r) (tells-text r w t)
+refused-reply s refusal made (refused why calls) h = record { text = contains_line refusal why h.0; after = refl; calls = h.1 }
 
 -- ---- the line of a form that is refused
 
@@ -234,16 +235,16 @@ accepted_with s engine after count event first last old new same h e =
 
 -- where memory was wanting the engine is as before
 left-by : (engine after : Standing) (fault : EventFault) (first last : Told) (old new : List ℕ) (given : List Answer → Outcome) → Steps engine (Err fault) after first last old new given
-    → Leaves (engine, first) (after, last)
+    → LeavesSo (engine, first) (after, last)
 left-by engine after (Refused refusal) first last old new given h = let is = h.is in (is.1, (h.made, h.called))
 left-by engine after Memory first last old new given h = (h.is, (h.made, h.called))
 
 pub left_so : (s engine after : Standing) (fault : EventFault) (first last : Told) (old new : List ℕ) (given : List Answer → Outcome) → s ≡ engine
-    → Steps engine (Err fault) after first last old new given → Leaves (s, first) (after, last)
-left_so s engine after fault first last old new given same h = subst (λ u. Leaves (u, first) (after, last)) (sym same) (left-by engine after fault first last old new given h)
+    → Steps engine (Err fault) after first last old new given → LeavesSo (s, first) (after, last)
+left_so s engine after fault first last old new given same h = subst (λ u. LeavesSo (u, first) (after, last)) (sym same) (left-by engine after fault first last old new given h)
 
 -- so without a call of the store
-pub left_still : (s : Standing) (told : Told) → Leaves (s, told) (s, told)
+pub left_still : (s : Standing) (told : Told) → LeavesSo (s, told) (s, told)
 left_still s told = (refl, ([], called-none told []))
 
 -- ---- by whether there is a text
@@ -256,24 +257,7 @@ pub if_told : {T E : Type 0} (r : Result T E) (holds : Told → T → Type 0) (t
 if_told (Ok x) holds told h = h told
 if_told (Err e) holds told h = tt
 
-pub read_if : (r : Result (String Global) AllocError) (s after : State) (line : List ℕ) (given : Result Asked LineFault) (first last : Told) → list_all is_blank line ≡ false
-    → asked_by line ≡ given → IfOk r (λ text. IsReplied (λ answers. reply_read profile true s answers given) first last (string_bytes text) after) → length line ≤ line_limit
-    → IfOk r (λ text. IsReply s line (string_bytes text) after first last)
-read_if (Ok text) s after line given first last b e k h = read_reply s after line (string_bytes text) given first last h b e k
-read_if (Err fault) s after line given first last b e k h = tt
-
--- why a line cannot be read, which is no want of memory
-pub known_fault : (e fault : LineFault) (given : Result Asked LineFault) → e ≡ fault → (line_fault.Memory ≡ fault → ⊥) → (e ≡ line_fault.Memory) ⊎ (given ≡ Err e) → given ≡ Err fault
-known_fault e fault given is other (inl m) = absurd (other (sym m ∙ is))
-known_fault e fault given is other (inr h) = h ∙ ap Err is
-
--- a line that cannot be read
-pub fault_if : (r : Result (String Global) AllocError) (s : State) (line said : List ℕ) (fault : LineFault) (told : Told) → list_all is_blank line ≡ false
-    → asked_by line ≡ Err fault → reply_read profile true s [] (Err fault) ≡ without_event s (said ∷ []) → IfOk r (λ text. string_bytes text ≡ said) → length line ≤ line_limit
-    → IfOk r (λ text. IsReply s line (string_bytes text) s told told)
-fault_if (Ok text) s line said fault told b e f k h =
-    read_reply s s line (string_bytes text) (Err fault) told told h b e
-    (quiet_reply s told (λ answers. reply_read profile true s answers (Err fault)) (string_bytes text)
-    (subst (λ r. Gives r (string_bytes text) s []) (sym f)
-    (record { text = subst (λ t. Contains (said ∷ []) t) (sym k) (only said); after = refl; calls = refl })))
-fault_if (Err failed) s line said fault told b e f k h = tt
+-- a line that is read
+pub asked_reply : (s after : State) (line text : List ℕ) (asks : Asked) (first last : Told) → (asked_by line ≡ Ok asks) × (length line ≤ line_limit) × (list_all is_blank line ≡ false)
+    → IsReplied (λ answers. reply_read profile true s answers (Ok asks)) first last text after → IsReply s line text after first last
+asked_reply s after line text asks first last g k = read_reply s after line text (Ok asks) first last g.1 g.2 g.0 k

@@ -3,7 +3,7 @@ use Rattle.std.proofs.Common.{◌≡◌, ℕ, List, [], ◌∷◌, length, get_o
 use Rattle.std.proofs.lemmas.Slice.Eq.{bytes_eq-Decides}
 use Rattle.std.specs.declared.alloc.Global.{Global}
 use Rattle.xf_cli.specs.declared.status.Command.{Command}
-use Rattle.xf_cli.specs.Written.{word_of, Spells}
+use Rattle.xf_cli.specs.Statuses.{word_of, Spells}
 
 one_item : {X : Type 0} (xs : List X) (x : X) → length xs ≡ 1 → x ≡ get_or xs 0 x → xs ≡ x ∷ []
 one_item [] x n e = absurd (omega arith)

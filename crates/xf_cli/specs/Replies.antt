@@ -1,5 +1,7 @@
 -- What is written for a line of the events: the form machine's reply, over the answers of the store to the calls in the line.
 use Rattle.std.specs.Prelude.{ℕ, ◌≡◌, true, List, [], Contains}
+use Rattle.xf_answers.specs.declared.answering.AnswerFault.{AnswerFault}
+use Rattle.xf_answers.specs.declared.answering.AnswerFault.TheVariants as fault
 use Rattle.xf_store.specs.declared.answers.Answer.{Answer}
 use Rattle.xf_store.specs.declared.call.StoreCall.{StoreCall}
 use Rattle.xf_store.specs.Called.{Called, Told}
@@ -24,10 +26,15 @@ pub record IsReplied (given : List Answer → Reply) (first last : Told) (writte
 abbrev pub IsReply : State → List ℕ → List ℕ → State → Told → Told → Type 0
 IsReply s line text after first last = IsReplied (λ answers. reply profile true s answers line) first last text after
 
--- the same of what an engine has of a state, and of what a store tells
-abbrev pub Answers : Standing × Told → List ℕ → List ℕ → Standing × Told → Type 0
-Answers first line text last = IsReply (state_of first.0) line text (state_of last.0) first.1 last.1
+-- what an engine has is as before; some calls of the store may have been made
+abbrev pub LeavesSo : Standing × Told → Standing × Told → Type 0
+LeavesSo first last = (last.0 ≡ first.0) × ((made : List StoreCall) × Called first.1 last.1 [] made)
 
--- where memory was wanting for a reply, what an engine has is as before; some calls of the store may have been made
-abbrev pub Leaves : Standing × Told → Standing × Told → Type 0
-Leaves first last = (last.0 ≡ first.0) × ((made : List StoreCall) × Called first.1 last.1 [] made)
+-- the same of what an engine has of a state, and of what a store tells; there is no disk
+abbrev pub Answers : Standing × (Told × Unit {0}) → List ℕ → List ℕ → Standing × (Told × Unit {0}) → Type 0
+Answers first line text last = IsReply (state_of first.0) line text (state_of last.0) first.1.0 last.1.0
+
+-- where memory was wanting for a reply
+abbrev pub Leaves : AnswerFault → Standing × (Told × Unit {0}) → List ℕ → Standing × (Told × Unit {0}) → Type 0
+Leaves fault.Memory first line last = LeavesSo (first.0, first.1.0) (last.0, last.1.0)
+Leaves fault.Disk first line last = ⊥

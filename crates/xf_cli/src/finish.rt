@@ -3,7 +3,7 @@
 ghost use Rattle.std.specs.Prelude.{◌≡◌, ◌≤◌, []};
 ghost use Rattle.xf_answers.specs.Out.{IsOutOrFailed};
 ghost use Rattle.xf_cli.specs.Outside.{object_of};
-ghost use Rattle.xf_cli.specs.Written.{AppendsLine, ending_code, ending_line};
+ghost use Rattle.xf_cli.specs.Statuses.{AppendsLine, ending_code, ending_line};
 ghost use Rattle.xf_cli.specs.Finish.{Finishes};
 
 use crate::status::Status;
@@ -17,10 +17,14 @@ pub(crate) fn finish<O: Sink>(out: &mut O, status: Status) -> u8
     ensures later { O.faults out.old ≤ O.faults out.new }
 {
     match status {
-        Status::Usage => say(out, b"usage: xforms try | check\n", 2),
+        Status::Usage => say(out, b"usage: xforms run | try | show | check\n", 2),
         Status::Refused(line) => say(out, line.as_bytes(), 3),
         Status::Checked => say(out, b"form ok\n", 0),
         Status::Unread => say(out, b"fault read\n", 4),
+        Status::DiskFailed => say(out, b"fault disk\n", 6),
+        Status::NotOpened(line) => say(out, line.as_bytes(), 7),
+        Status::Shown => say(out, b"", 0),
+        Status::NotShown => say(out, b"", 5),
         Status::NoRoom => say(out, b"fault memory\n", 9),
         Status::Answered(ending) => finish_answers(out, ending),
     }
@@ -36,6 +40,7 @@ fn finish_answers<O: Sink>(out: &mut O, ending: Ending) -> u8
         Ending::Done => say(out, b"", 0),
         Ending::ReadFault => say(out, b"fault read\n", 4),
         Ending::SinkFault => say(out, b"", 5),
+        Ending::DiskFault => say(out, b"fault disk\n", 6),
         Ending::TooMuch => say(out, b"fault too much\n", 8),
         Ending::Memory => say(out, b"fault memory\n", 9),
     }

@@ -6,13 +6,11 @@ ghost use Rattle.xf_cli.specs.Outside.{TakesForm};
 ghost use Rattle.xf_cli.specs.Finish.{GivesReading, GivesLoaded};
 
 use std::alloc::Global;
+use xf_base::limits::FORM_LIMIT;
 use xf_io::{Bytes, Source};
 use xf_loader as loader;
 use xf_loader::{FormFault, load};
 use xf_name::Word;
-
-// The most bytes of a form.
-const FORM_LIMIT: usize = 1_048_576;
 
 /// What comes of reading a form.
 #[derive(Drop)]
@@ -26,7 +24,8 @@ enum Reading {
 /// What comes of loading a form.
 #[derive(Drop)]
 pub(crate) enum Loaded {
-    Form(loader::Loaded),
+    /// With its bytes.
+    Form(loader::Loaded, Bytes),
     Refused(u8, Word),
     Unread,
     NoRoom,
@@ -40,7 +39,7 @@ pub(crate) fn load_form<F: Source>(alloc: Global, form: &mut F) -> Loaded
 {
     match read_form(alloc, form) {
         Reading::All(bytes) => match load(alloc, bytes.as_slice()) {
-            Ok(form) => Loaded::Form(form),
+            Ok(form) => Loaded::Form(form, bytes),
             Err(FormFault::Refused(number, place)) => Loaded::Refused(number, place),
             Err(FormFault::Memory) => Loaded::NoRoom,
         },

@@ -4,9 +4,13 @@
 mod begin;
 mod finish;
 mod form;
+mod kept;
+mod line;
+mod opening;
 mod refusal;
 mod run;
 mod session;
+mod slots;
 mod status;
 
 pub use run::{no_room, xforms};

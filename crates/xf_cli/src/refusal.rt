@@ -1,7 +1,7 @@
 //! The line of a form that is not loaded.
 
 ghost use Rattle.std.specs.Prelude.{◌≡◌, ◌++◌, string_bytes, IfOk, OnOk};
-ghost use Rattle.xf_cli.specs.Written.{refusal_name, refusal_line, place_part};
+ghost use Rattle.xf_cli.specs.Statuses.{refusal_name, refusal_line, place_part};
 ghost use Rattle.xf_cli.specs.Finish.{IsRefusedWith};
 
 use crate::status::Status;

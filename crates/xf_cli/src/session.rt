@@ -9,15 +9,14 @@ ghost use Rattle.xf_processor.specs.Formed.{profile};
 ghost use Rattle.xf_report.specs.Refusals.{refusal_text};
 ghost use Rattle.xf_work.specs.Standing.{state_of};
 ghost use Rattle.xf_store.specs.Called.{Told};
-ghost use Rattle.xf_cli.specs.Replies.{IsReplied, Leaves};
+ghost use Rattle.xf_cli.specs.Replies.{IsReplied, LeavesSo};
 
+use crate::line::{Wants, refused_text, wanted};
 use std::alloc::{AllocError, Global};
 use std::marker::Model;
-use xf_answers::Answering;
+use xf_answers::{AnswerFault, Answering};
 use xf_engine::Engine;
-use xf_form_machine::Refusal;
-use xf_line::{Asked, Event, LineFault, read_line};
-use xf_report::push_refusal;
+use xf_line::{Asked, Event};
 use xf_store::Store;
 use xf_world::EventFault;
 
@@ -39,27 +38,31 @@ impl Model for Session {
     ghost view = { λ s. s.engine };
 }
 
-impl Answering for Session {
+impl Answering<()> for Session {
     ghost use Rattle.xf_cli.specs.Replies.{Answers, Leaves};
 
     ghost answers = { Answers };
 
     ghost leaves = { Leaves };
 
+    ghost disk_faults = { λ _. 0 };
+
+    ghost stands = { λ _ _. Unit {0} };
+
     fn answer<S: Store>(
         &mut self,
         alloc: Global,
         line: &[u8],
+        _disk: &mut (),
         store: &mut S,
-    ) -> Result<String, AllocError> {
-        if is_blank_line(line) {
-            return Ok(String::new(alloc));
-        }
-        match read_line(alloc, line) {
-            Ok(asked) => self.answer_asked(alloc, asked, store),
-            Err(LineFault::NotJson) => String::from_str(alloc, "no E2 NotJson\n"),
-            Err(LineFault::NotEvent) => String::from_str(alloc, "no E3 NotEvent\n"),
-            Err(LineFault::Memory) => Err(AllocError),
+    ) -> Result<String, AnswerFault> {
+        match wanted(alloc, line) {
+            Wants::Asked(asked) => match self.answer_asked(alloc, asked, store) {
+                Ok(text) => Ok(text),
+                Err(_) => Err(AnswerFault::Memory),
+            },
+            Wants::Said(text) => Ok(text),
+            Wants::NoRoom => Err(AnswerFault::Memory),
         }
     }
 }
@@ -72,7 +75,7 @@ impl Session {
         store: &mut S,
     ) -> Result<String, AllocError>
         ensures reply { IfOk result (λ text. IsReplied (λ answers. reply_read profile true (state_of self.old) answers (Ok asked)) (S.calls store.old, S.to_come store.old) (S.calls store.new, S.to_come store.new) (string_bytes text) (state_of self.new)) }
-        ensures err { OnErr result (Leaves (self.old, (S.calls store.old, S.to_come store.old)) (self.new, (S.calls store.new, S.to_come store.new))) }
+        ensures err { OnErr result (LeavesSo (self.old, (S.calls store.old, S.to_come store.old)) (self.new, (S.calls store.new, S.to_come store.new))) }
     {
         match asked {
             Asked::Show => self.state_text(alloc),
@@ -95,7 +98,7 @@ impl Session {
         store: &mut S,
     ) -> Result<String, AllocError>
         ensures reply { IfOk result (λ text. IsReplied (λ answers. reply_read profile true (state_of self.old) answers (Ok (asked.Event event.now))) (S.calls store.old, S.to_come store.old) (S.calls store.new, S.to_come store.new) (string_bytes text) (state_of self.new)) }
-        ensures err { OnErr result (Leaves (self.old, (S.calls store.old, S.to_come store.old)) (self.new, (S.calls store.new, S.to_come store.new))) }
+        ensures err { OnErr result (LeavesSo (self.old, (S.calls store.old, S.to_come store.old)) (self.new, (S.calls store.new, S.to_come store.new))) }
     {
         let mut text = String::new(alloc);
         match self.engine.post(event, store, &mut text) {
@@ -104,19 +107,4 @@ impl Session {
             Err(EventFault::Memory) => Err(AllocError),
         }
     }
-}
-
-fn refused_text(alloc: Global, refusal: &Refusal) -> Result<String, AllocError>
-    ensures { IfOk result (λ text. string_bytes text ≡ line_of (refusal_text refusal.now)) }
-{
-    let mut text = String::new(alloc);
-    push_refusal(&mut text, refusal)?;
-    Ok(text)
-}
-
-fn is_blank_line(line: &[u8]) -> bool
-    ensures { result ≡ list_all is_blank line.now }
-{
-    line.iter()
-        .all(|b| *b == b' ' || *b == b'\t' || *b == b'\r')
 }

@@ -64,56 +64,55 @@ handled answers before mid after event count old new e a k w =
 
 -- ---- the end of an event
 
-refused-outcome : (refusal : Refusal) (made : List StoreCall) (ended : State → State) (given : Result State Refused) → IsStopped refusal made given
+pub refused-outcome : (refusal : Refusal) (made : List StoreCall) (ended : State → State) (given : Result State Refused) → IsStopped refusal made given
     → IsRefusedAfter refusal made (outcome ended given)
 refused-outcome refusal made ended (Ok t) h = h
 refused-outcome refusal made ended (Err r) h = h
 
 -- the state at the end of what an event left
-ends : (mid after : FormWorld) → IsKept mid after → at_end profile (state_of mid) ≡ work.state_of (standing_of after)
+pub ends : (mid after : FormWorld) → IsKept mid after → at_end profile (state_of mid) ≡ work.state_of (standing_of after)
 ends mid after k = sym k.now ∙ k.plain
 
 -- what is given out of an event that is counted
-abbrev Stands : Outcome → ℕ → Standing → List StoreCall → List ℕ → List ℕ → Type 0
-Stands given count after made old new =
-    (posted : Posted) × IsAccepted given (work.state_of after) made posted × (posted.evaluated ≡ count) × (new ≡ old ++ ok_text true (work.state_of after) posted)
+abbrev Accepts : Outcome → ℕ → State → List StoreCall → List ℕ → List ℕ → Type 0
+Accepts given count after made old new = (posted : Posted) × IsAccepted given after made posted × (posted.evaluated ≡ count) × (new ≡ old ++ ok_text true after posted)
 
-accepted-by : (given : Result State Refused) (mid after : FormWorld) (count : ℕ) (old new : List ℕ) → IsHandled count (state_of mid) old new given → IsKept mid after
-    → Stands (outcome (λ t. one_more (at_end profile t)) given) count (standing_of after) (state_of mid).calls old new
-accepted-by (Err r) mid after count old new h k = absurd (let e : Err r >>= (λ t. fine (one_more t)) ≡ Ok (state_of mid) = h.is in cc)
-accepted-by (Ok t) mid after count old new h k =
-    let e : fine (one_more t) ≡ Ok (state_of mid) = h.is in
-    let same : one_more t ≡ state_of mid = cc in
-    let last = ends mid after k in (
+pub accepted-as : (given : Result State Refused) (mid : State) (count : ℕ) (old new : List ℕ) → IsHandled count mid old new given
+    → Accepts (outcome (λ t. one_more (at_end profile t)) given) count (at_end profile mid) mid.calls old new
+accepted-as (Err r) mid count old new h = absurd (let e : Err r >>= (λ t. fine (one_more t)) ≡ Ok mid = h.is in cc)
+accepted-as (Ok t) mid count old new h =
+    let e : fine (one_more t) ≡ Ok mid = h.is in
+    let same : one_more t ≡ mid = cc in (
       posted t,
-      record {
-        is = ap (λ x. accepted x (posted t)) (ap (at_end profile) same ∙ last);
-        calls = ap (λ (x : State). x.calls) same;
-      },
+      record { is = ap (λ x. accepted x (posted t)) (ap (at_end profile) same); calls = ap (λ (x : State). x.calls) same },
       ap (λ (x : State). x.evaluated) same ∙ h.evaluated,
-      h.lines
-          ∙ ap (λ (x : State). old ++ ok_text true x (posted (state_of mid))) last
-          ∙ ap (λ (x : State). old ++ ok_text true (work.state_of (standing_of after)) (posted x)) (sym same),
+      h.lines ∙ ap (λ (x : State). old ++ ok_text true (at_end profile mid) (posted x)) (sym same),
     )
 
+accepted-by : (given : Result State Refused) (mid after : FormWorld) (count : ℕ) (old new : List ℕ) → IsHandled count (state_of mid) old new given → IsKept mid after
+    → Accepts (outcome (λ t. one_more (at_end profile t)) given) count (work.state_of (standing_of after)) (state_of mid).calls old new
+accepted-by given mid after count old new h k =
+    subst (λ (s : State). Accepts (outcome (λ t. one_more (at_end profile t)) given) count s (state_of mid).calls old new) (ends mid after k)
+    (accepted-as given (state_of mid) count old new h)
+
 -- the event begins with a whole budget
-step-is : (before : FormWorld) (event : Event) (answers : List Answer) → IsAtEnd before
+pub step-is : (before : FormWorld) (event : Event) (answers : List Answer) → IsAtEnd before
     → step profile (work.state_of (standing_of before)) event answers ≡ outcome (λ t. one_more (at_end profile t)) (changed_by profile answers event (state_of before))
 step-is before event answers end = ap (λ t. outcome (λ t. one_more (at_end profile t)) (changed_by profile answers event t)) (end.fresh ∙ sym end.plain)
 
 -- and without a call of the store
-called-anew : (before : FormWorld) (first last : Told) (made : List StoreCall) → IsAtEnd before → Called first last (state_of before).calls made → Called first last [] made
+pub called-anew : (before : FormWorld) (first last : Told) (made : List StoreCall) → IsAtEnd before → Called first last (state_of before).calls made → Called first last [] made
 called-anew before first last made end called = subst (λ calls. Called first last calls made) (ap (λ (s : State). s.calls) end.plain) called
 
 -- the answers that the calls got which were made
-abbrev answers_of : FormWorld → List Answer
+abbrev pub answers_of : FormWorld → List Answer
 answers_of w = answers_in (state_of w).calls
 
-abbrev IsCovered : FormWorld → Type 0
+abbrev pub IsCovered : FormWorld → Type 0
 IsCovered w = Covers (answers_of w) (state_of w).calls
 
 -- what the machine does over these
-abbrev changed_over : Event → State → List Answer → Result State Refused
+abbrev pub changed_over : Event → State → List Answer → Result State Refused
 changed_over event s answers = changed_by profile answers event s
 
 pub stepped : (before mid after : FormWorld) (event : Event) (count : ℕ) (first last : Told) (old new : List ℕ) → IsAtEnd before
@@ -124,12 +123,12 @@ stepped before mid after event count first last old new end called covered h k =
   made = (state_of mid).calls;
   called = called-anew before first last (state_of mid).calls end called;
   is =
-      subst (λ (o : Outcome). Stands o count (standing_of after) (state_of mid).calls old new) (sym (step-is before event (answers_of mid) end))
+      subst (λ (o : Outcome). Accepts o count (work.state_of (standing_of after)) (state_of mid).calls old new) (sym (step-is before event (answers_of mid) end))
       (accepted-by (changed_by profile (answers_of mid) event (state_of before)) mid after count old new (h (answers_of mid) covered) k);
 }
 
 -- what was kept stands again
-again : (before mid after : FormWorld) → IsAtEnd before → kept_of mid ≡ kept_of before → standing_of after ≡ (kept_of mid).standing → standing_of after ≡ standing_of before
+pub again : (before mid after : FormWorld) → IsAtEnd before → kept_of mid ≡ kept_of before → standing_of after ≡ (kept_of mid).standing → standing_of after ≡ standing_of before
 again before mid after end k now = now ∙ ap (λ (s : Stage). s.standing) k ∙ end.kept
 
 pub unstepped : (before mid after : FormWorld) (event : Event) (e : EventFault) (first last : Told) (old new : List ℕ) → IsAtEnd before

@@ -8,3 +8,4 @@ pub mod EventLaws
 pub mod StartLaws
 pub mod Told
 pub mod EngineLaws
+pub mod RunningLaws

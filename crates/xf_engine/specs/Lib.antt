@@ -3,3 +3,4 @@ pub mod Constructed
 pub mod Naming
 pub mod Tried
 pub mod Handled
+pub mod Running

@@ -7,12 +7,10 @@ use Rattle.xf_store.specs.Called.{Called, Told}
 use Rattle.xf_form_machine.specs.State.{State}
 use Rattle.xf_form_machine.specs.Refusal as machine
 use Rattle.xf_form_machine.specs.Replies.{answers_in, note_lines, ok_text}
-use Rattle.xf_form_machine.specs.Start.{readied}
-use Rattle.xf_form_machine.specs.Step.{Posted, Outcome, accepted, refused, outcome, at_end}
-use Rattle.xf_form_machine.specs.Told.{Tells}
+use Rattle.xf_form_machine.specs.Step.{Posted, Outcome}
 use Rattle.xf_form_machine.specs.declared.refusal.Refusal.{Refusal}
 use Rattle.xf_form_machine.specs.declared.refusal.Refusal.TheVariants as refusal
-use Rattle.xf_processor.specs.Formed.{profile}
+pub use Rattle.xf_session.specs.Processing.{IsAccepted, IsRefusedAfter, started}
 use Rattle.xf_work.specs.Does.{IsRefused}
 use Rattle.xf_work.specs.Standing.{Standing, state_of}
 use Rattle.xf_world.specs.declared.fault.EventFault.{EventFault}
@@ -34,16 +32,6 @@ IsConstructed (Err (Refused refusal)) given = IsRefused refusal given × (is_of_
 IsConstructed (Err Memory) given = Unit {0}
 
 -- ---- steps
-
--- with this state after it, and these calls of the store
-pub record IsAccepted (given : Outcome) (after : State) (made : List StoreCall) (posted : Posted) : Type 0 where
-  pub is : given ≡ accepted after posted
-  pub calls : posted.calls ≡ made
-
--- it is refused for this reason, after these calls of the store
-abbrev pub IsRefusedAfter : Refusal → List StoreCall → Outcome → Type 0
-IsRefusedAfter refusal made (accepted after posted) = ⊥
-IsRefusedAfter refusal made (refused why calls) = Tells refusal why × (calls ≡ made)
 
 -- so many evaluations count, and the lines of the answer are appended to a text
 abbrev pub IsStepped : Standing → Result ℕ EventFault → Standing → List StoreCall → List ℕ → List ℕ → Outcome → Type 0
@@ -71,7 +59,3 @@ pub record Starts (result : Result Standing EventFault) (first last : Told) (old
   pub made : List StoreCall
   pub called : Called first last [] made
   pub is : IsStarted result made old new (given (answers_in made))
-
--- over these answers of the store
-abbrev pub started : State → List Answer → Outcome
-started s answers = outcome (at_end profile) (readied profile answers s)

@@ -25,7 +25,6 @@ use xf_work::Work;
 use xf_world::{EventFault, FormWorld};
 
 /// A form that is constructed. Contracts see the state of the form machine.
-#[derive(Drop)]
 pub struct Constructed {
     alloc: Global,
     work: Work,
@@ -35,6 +34,14 @@ pub struct Constructed {
 #[derive(Drop)]
 pub struct Engine {
     world: FormWorld,
+}
+
+// Written out: a derived one is proved anew for each type within it, in each crate that gives one up.
+impl Drop for Constructed {
+    fn drop(self) {
+        let Constructed { alloc: _, work } = self;
+        work.discard();
+    }
 }
 
 impl Model for Constructed {
@@ -75,12 +82,20 @@ pub fn construct(alloc: Global, loaded: Loaded) -> Result<Constructed, EventFaul
 }
 
 impl Constructed {
+    /// Its world, in which no event is handled.
+    pub(crate) fn into_world(self) -> FormWorld
+        ensures { machine.state_of result ≡ state_of self }
+    {
+        let Constructed { alloc, work } = self;
+        FormWorld::new(alloc, work)
+    }
+
     /// Starts the form (XForms 1.1, section 4.2): an event of its own, with a whole budget. Appends the lines of its notes. After an `Err` nothing is
     /// told of the text.
     pub fn start<S: Store>(self, store: &mut S, text: &mut String) -> Result<Engine, EventFault>
         ensures { Starts result (S.calls store.old, S.to_come store.old) (S.calls store.new, S.to_come store.new) (string_bytes text.old) (string_bytes text.new) (started (state_of self)) }
     {
-        let mut world = FormWorld::new(self.alloc, self.work);
+        let mut world = self.into_world();
         let ready = ready(&mut world, store, text);
         world.calls_are_covered();
         match ready {
@@ -137,7 +152,7 @@ impl Engine {
 }
 
 /// Does an event and counts it. What is written for it is made before it is kept: there may be no memory for it afterwards.
-fn handle<S: Store>(
+pub(crate) fn handle<S: Store>(
     world: &mut FormWorld,
     event: &Event,
     store: &mut S,

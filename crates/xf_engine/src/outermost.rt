@@ -10,11 +10,9 @@ ghost use Rattle.xf_world.specs.Fault.{means};
 ghost use Rattle.xf_world.specs.State.{kept_of, state_of};
 
 use xf_actions::{Fired, dispatch, update};
+use xf_base::limits::DISPATCH_LIMIT;
 use xf_store::Store;
 use xf_world::{EventFault, FormWorld};
-
-/// How deep dispatches may stand one in the other.
-const DEPTH: u32 = 64;
 
 /// Dispatches an event.
 pub(crate) fn tell<S: Store>(
@@ -26,7 +24,7 @@ pub(crate) fn tell<S: Store>(
     ensures store { Called (S.calls store.old, S.to_come store.old) (S.calls store.new, S.to_come store.new) (state_of world.old).calls (state_of world.new).calls }
     ensures kept { kept_of world.new ≡ kept_of world.old }
 {
-    dispatch(world, fired, DEPTH, true, store)
+    dispatch(world, fired, DISPATCH_LIMIT, true, store)
 }
 
 /// Does what is due.
@@ -35,5 +33,5 @@ pub(crate) fn settle<S: Store>(world: &mut FormWorld, store: &mut S) -> Result<(
     ensures store { Called (S.calls store.old, S.to_come store.old) (S.calls store.new, S.to_come store.new) (state_of world.old).calls (state_of world.new).calls }
     ensures kept { kept_of world.new ≡ kept_of world.old }
 {
-    update(world, DEPTH, store)
+    update(world, DISPATCH_LIMIT, store)
 }

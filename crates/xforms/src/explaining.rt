@@ -3,6 +3,7 @@
 
 use std::io::Read;
 use std::{fs, io};
+use xf_base::limits::FORM_LIMIT;
 use xf_explain::explain;
 
 /// The file of the form.
@@ -12,9 +13,6 @@ pub const FORM: &str = "form.json";
 const REFUSED: u8 = 3;
 
 const UNREAD: u8 = 4;
-
-/// One byte more than a form may have.
-const FORM_LIMIT: u64 = 1_048_577;
 
 /// Says what is known of a status beyond the line of it.
 pub fn explain_status(rt: &HostRuntime, status: u8) {
@@ -47,7 +45,7 @@ fn refusal(rt: &HostRuntime) -> Option<String> {
 fn form_bytes(rt: &HostRuntime) -> io::Result<Vec<u8>> {
     let mut bytes = Vec::new(rt.alloc());
     fs::open(rt, FORM)?
-        .take(FORM_LIMIT)
+        .take(FORM_LIMIT as u64 + 1)
         .read_to_end(&mut bytes)?;
     Ok(bytes)
 }

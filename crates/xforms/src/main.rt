@@ -9,6 +9,7 @@ use std::os::fd::AsRawFd;
 use std::process::ExitCode;
 use std::{env, fs, io};
 use xf_cli::{no_room, xforms};
+use xf_disk::FileDisk;
 use xf_io::{FileSource, ReaderSource, WriterSink};
 use xf_store::FolderStore;
 
@@ -20,12 +21,23 @@ fn main(rt: HostRuntime) -> ExitCode {
     let Some(words) = read_words(&rt) else {
         return ExitCode::from(no_room(&mut out));
     };
+    let Ok(mut disk) = FileDisk::new(alloc, &rt, "session.a", "session.b") else {
+        return ExitCode::from(no_room(&mut out));
+    };
     let Ok(mut store) = FolderStore::new(alloc, &rt, "store") else {
         return ExitCode::from(no_room(&mut out));
     };
     let mut form = FileSource::new(&rt, FORM);
     let mut events = ReaderSource::new(rt.reader());
-    let status = xforms(alloc, &words, &mut form, &mut events, &mut out, &mut store);
+    let status = xforms(
+        alloc,
+        &words,
+        &mut form,
+        &mut events,
+        &mut out,
+        &mut disk,
+        &mut store,
+    );
     explain_status(&rt, status);
     ExitCode::from(status)
 }

@@ -8,3 +8,6 @@ returns-in-Unread-clause-finishes g c = rw c.in-Unread.is (c.say-in-Unread.ensur
 
 pub returns-in-NoRoom-clause-finishes : goal.returns-in-NoRoom-clause-finishes
 returns-in-NoRoom-clause-finishes g c = rw c.in-NoRoom.is (c.say-in-NoRoom.ensures.number, c.say-in-NoRoom.ensures.says)
+
+pub returns-in-DiskFailed-clause-finishes : goal.returns-in-DiskFailed-clause-finishes
+returns-in-DiskFailed-clause-finishes g c = rw c.in-DiskFailed.is (c.say-in-DiskFailed.ensures.number, c.say-in-DiskFailed.ensures.says)

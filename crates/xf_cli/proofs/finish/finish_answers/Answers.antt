@@ -8,3 +8,6 @@ returns-in-TooMuch-clause-says g c = rw c.in-TooMuch.is c.say-in-TooMuch.ensures
 
 pub returns-in-Memory-clause-says : goal.returns-in-Memory-clause-says
 returns-in-Memory-clause-says g c = rw c.in-Memory.is c.say-in-Memory.ensures.says
+
+pub returns-in-DiskFault-clause-says : goal.returns-in-DiskFault-clause-says
+returns-in-DiskFault-clause-says g c = rw c.in-DiskFault.is c.say-in-DiskFault.ensures.says

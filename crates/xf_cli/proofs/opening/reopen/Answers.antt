@@ -1,0 +1,35 @@
+use Rattle.xf_cli.proofs.OpenLaws.{reopens_damaged, reopens_none, reopens_other, shows_so}
+use Rattle.xf_cli.proofs.opening.reopen.Goals as goal
+
+pub returns-in-Ok-clause-opens : goal.returns-in-Ok-clause-opens
+returns-in-Ok-clause-opens g c = λ program built.
+    let d = g.D.Disk in
+    let resumed = c.in-Ok.ensures in (
+      resumed.idle,
+      shows_so d.tells d.seen d.may_leave d.moment d.left_since d.faults c.args.disk.now c.resume.new.disk c.args.form.now program c.in-Ok.session (resumed.done program built),
+      resumed.looks,
+    )
+
+pub returns-in-Err-OtherForm-clause-opens : goal.returns-in-Err-OtherForm-clause-opens
+returns-in-Err-OtherForm-clause-opens g c = λ program built.
+    let d = g.D.Disk in
+    reopens_other d.tells d.seen d.may_leave d.moment d.left_since d.faults c.args.disk.now c.resume.new.disk c.args.form.now program c.in-Err-OtherForm.at c.in-Err-OtherForm.field-0 c.not_opened.result
+    c.in-Err-OtherForm.field-0-is (c.in-Err-OtherForm.ensures.done program built) c.in-Err-OtherForm.ensures.looks c.not_opened.ensures
+
+pub returns-in-Err-Damaged-clause-opens : goal.returns-in-Err-Damaged-clause-opens
+returns-in-Err-Damaged-clause-opens g c = λ program built.
+    let d = g.D.Disk in
+    reopens_damaged d.tells d.seen d.may_leave d.moment d.left_since d.faults c.args.disk.now c.resume.new.disk c.args.form.now program c.in-Err-Damaged.slot c.in-Err-Damaged.at c.in-Err-Damaged.field-0
+    c.not_opened-in-Err-Damaged.result c.in-Err-Damaged.field-0-is (c.in-Err-Damaged.ensures.done program built) c.in-Err-Damaged.ensures.looks c.not_opened-in-Err-Damaged.ensures
+
+pub returns-in-Err-NoSession-clause-opens : goal.returns-in-Err-NoSession-clause-opens
+returns-in-Err-NoSession-clause-opens g c = λ program built.
+    let d = g.D.Disk in
+    reopens_none d.tells d.seen d.may_leave d.moment d.left_since d.faults c.args.disk.now c.resume.new.disk c.args.form.now program c.in-Err-NoSession.field-0 c.not_opened-in-Err-NoSession.result
+    c.in-Err-NoSession.field-0-is (c.in-Err-NoSession.ensures.done program built) c.in-Err-NoSession.ensures.looks c.not_opened-in-Err-NoSession.ensures
+
+pub returns-in-Err-DiskFault-clause-opens : goal.returns-in-Err-DiskFault-clause-opens
+returns-in-Err-DiskFault-clause-opens g c = λ program built. c.in-Err-DiskFault.ensures.looks
+
+pub returns-in-Err-Memory-clause-opens : goal.returns-in-Err-Memory-clause-opens
+returns-in-Err-Memory-clause-opens g c = λ program built. c.in-Err-Memory.ensures.looks
