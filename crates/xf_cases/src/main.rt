@@ -9,7 +9,10 @@
 //! - `: form-size N`: blanks are added to the form up to so many bytes;
 //! - `: blank-lines COUNT N`: the events begin with so many lines of so many blanks;
 //! - `: store-fails N..`: which calls of the store fail, those by which a line of the next kind fills it counted too; it stands before these;
-//! - `: store NAME TEXT`: the text stands in the store under the name.
+//! - `: store NAME TEXT`: the text stands in the store under the name;
+//! - `: slots-kept`: the slots hold what the case before left in them; without it they are empty;
+//! - `: slot-a N BYTE`, `: slot-b N BYTE`: the byte at a place of a slot is this one, behind the line of the slots that are kept;
+//! - `: disk-calls N`: the disk takes so many calls; each one more fails.
 //!
 //! A title and a line `@ NAME` are an example: the form and the events are the files `NAME/form.json` and `NAME/events`, the words are `try`,
 //! and what must come is `NAME/replies`. Behind it may stand lines `: store FILE`: the file `NAME/store/FILE` stands in the store under that name.
@@ -19,8 +22,11 @@
 #![tactic(auto)]
 
 mod case;
+mod devices;
 mod example;
+mod told;
 
+use crate::devices::Devices;
 use anyhow::Result;
 use std::alloc::{AllocError, Global};
 use std::io;
@@ -28,10 +34,20 @@ use std::io;
 fn main(rt: HostRuntime) -> Result<()> {
     let alloc = rt.alloc();
     let text = io::read_to_string(alloc, rt.reader())?;
-    let mut lines = Vec::new(alloc);
-    for line in text.as_str().lines() {
+    print_all(&rt, text.as_str())
+}
+
+/// Prints what comes of each case of a text.
+fn print_all(rt: &HostRuntime, text: &str) -> Result<()> {
+    let mut devices = Devices::new(rt.alloc());
+    print_cases(rt, text, &mut devices)
+}
+
+fn print_cases(rt: &HostRuntime, text: &str, devices: &mut Devices) -> Result<()> {
+    let mut lines = Vec::new(rt.alloc());
+    for line in text.lines() {
         if line.is_empty() {
-            print!(rt; "{}\n", written(&rt, &lines)?)?;
+            print_case(rt, &lines, devices)?;
             lines.clear();
         } else {
             lines.push(line)?;
@@ -40,8 +56,14 @@ fn main(rt: HostRuntime) -> Result<()> {
     Ok(())
 }
 
+fn print_case(rt: &HostRuntime, lines: &[&str], devices: &mut Devices) -> Result<()> {
+    let text = written(rt, lines, devices)?;
+    print!(rt; "{text}\n")?;
+    Ok(())
+}
+
 /// What comes of the case that these lines are.
-fn written(rt: &HostRuntime, lines: &[&str]) -> Result<String> {
+fn written(rt: &HostRuntime, lines: &[&str], devices: &mut Devices) -> Result<String> {
     let alloc = rt.alloc();
     let [title, second, rest @ ..] = lines else {
         return Ok(no_case(alloc)?);
@@ -49,10 +71,10 @@ fn written(rt: &HostRuntime, lines: &[&str]) -> Result<String> {
     if let Some(name) = second.strip_prefix("@ ") {
         return example::outcome(rt, title, name, rest);
     }
-    let Some(words) = second.strip_prefix("$ ") else {
-        return Ok(no_case(alloc)?);
-    };
-    case::outcome(alloc, title, words, rest)
+    match second.strip_prefix("$ ") {
+        Some(words) => case::outcome(alloc, title, words, rest, devices),
+        None => Ok(no_case(alloc)?),
+    }
 }
 
 fn no_case(alloc: Global) -> Result<String, AllocError> {

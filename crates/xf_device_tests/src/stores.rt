@@ -26,21 +26,21 @@ fn a_store_in_memory_keeps_the_last_bytes_of_a_name(rt: HostRuntime) {
 
 #[test]
 fn a_store_in_memory_gives_no_more_bytes_than_a_get_takes(rt: HostRuntime) {
-    let long = vec![in rt.alloc(); 0; GOT_MOST + 1].expect(&rt, "room");
+    let long = vec![in rt.alloc(); 0; FOUND_LIMIT + 1].expect(&rt, "room");
     let mut store = MemoryStore::new(rt.alloc(), Vec::new(rt.alloc()));
     let mut into = Bytes::new(rt.alloc());
     assert_gives!(rt; store.put("a", &long), Ok(()));
     assert_gives!(rt; store.get("a", &mut into), Ok(Got::TooLong));
     assert_gives!(rt; store.put("a", &long[1..]), Ok(()));
     assert_gives!(rt; store.get("a", &mut into), Ok(Got::Found));
-    assert_gives!(rt; into.len(), GOT_MOST);
+    assert_gives!(rt; into.len(), FOUND_LIMIT);
 }
 
 fn fits(answer: &Answer) -> bool
     ensures { result ≡ is_short answer.now }
 {
     match answer {
-        Answer::Found(bytes) => bytes.len() <= GOT_MOST,
+        Answer::Found(bytes) => bytes.len() <= FOUND_LIMIT,
         Answer::PutDone | Answer::Failed | Answer::Absent | Answer::TooLong => true,
     }
 }

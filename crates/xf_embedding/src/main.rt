@@ -11,6 +11,7 @@ use crate::source::TextSource;
 use crate::store::Shop;
 use anyhow::Result;
 use xf_cli::xforms;
+use xf_disk::MemoryDisk;
 
 fn main(rt: HostRuntime) -> Result<()> {
     let alloc = rt.alloc();
@@ -19,7 +20,17 @@ fn main(rt: HostRuntime) -> Result<()> {
     let mut events = TextSource::new(EVENTS);
     let mut out = ReplySink::new(alloc);
     let mut shop = Shop::new(alloc, PRICES);
-    let status = xforms(alloc, &words, &mut form, &mut events, &mut out, &mut shop);
+    // With the word `try` no call of the disk is made.
+    let mut disk = MemoryDisk::new(alloc, &[], &[], 0, 0)?;
+    let status = xforms(
+        alloc,
+        &words,
+        &mut form,
+        &mut events,
+        &mut out,
+        &mut disk,
+        &mut shop,
+    );
     for (at, reply) in out.replies().iter().enumerate() {
         print!(rt; "reply {}\n{reply}", at + 1)?;
     }

@@ -5,7 +5,7 @@ ghost use Rattle.std.specs.Prelude.{◌≡◌, None};
 use std::alloc::{AllocError, Global};
 use std::marker::Model;
 use xf_io::{Bytes, Failed};
-use xf_store::{GOT_MOST, GetFault, Got, Store};
+use xf_store::{FOUND_LIMIT, GetFault, Got, Store};
 
 /// Under `prices.json` stand the prices. What is put under another name is taken as an order. A put that finds no memory fails, as does one
 /// of prices.
@@ -70,7 +70,7 @@ impl Store for Shop<'_> {
         if name != "prices.json" {
             return Ok(Got::Absent);
         }
-        if self.prices.len() > GOT_MOST {
+        if self.prices.len() > FOUND_LIMIT {
             return Ok(Got::TooLong);
         }
         *into = Bytes::from_vec(Vec::from_slice(self.alloc, self.prices.as_bytes())?);

@@ -5,7 +5,7 @@ use std::alloc::{AllocError, AllocGlobal};
 use std::fs;
 use std::os::unix::fs::symlink;
 use xf_io::Bytes;
-use xf_store::{FolderStore, GOT_MOST, GetFault, Got, Store};
+use xf_store::{FOUND_LIMIT, FolderStore, GetFault, Got, Store};
 
 const SOUND: &str = "xf_file_tests_sound";
 
@@ -47,7 +47,7 @@ fn tell(
 
 fn push_got(words: &mut String, got: Result<Got, GetFault>, into: &[u8]) -> Result<(), AllocError> {
     let word = match got {
-        Ok(Got::Found) if into.len() == GOT_MOST => "most",
+        Ok(Got::Found) if into.len() == FOUND_LIMIT => "most",
         Ok(Got::Found) => str::from_utf8(into).unwrap_or("no text"),
         Ok(Got::Absent) => "absent",
         Ok(Got::TooLong) => "long",
@@ -60,7 +60,7 @@ fn push_got(words: &mut String, got: Result<Got, GetFault>, into: &[u8]) -> Resu
 
 #[test]
 fn a_folder_is_a_store(rt: HostRuntime) {
-    let long = vec![in rt.alloc(); 0; GOT_MOST + 1].expect(&rt, "room");
+    let long = vec![in rt.alloc(); 0; FOUND_LIMIT + 1].expect(&rt, "room");
     let calls = [
         Call::Get("a"),
         Call::Put("a", b"one"),

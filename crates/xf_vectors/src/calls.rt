@@ -1,8 +1,8 @@
 //! The crates that cases call.
 
 use crate::{
-    dates, explanations, functions, graphs, json, names, numbers, schemas, snaps, tables, trees,
-    types,
+    dates, explanations, functions, graphs, journals, json, names, numbers, schemas, snaps, tables,
+    trees, types,
 };
 use hex::FromHexError;
 use std::alloc::{AllocError, Global};
@@ -26,6 +26,7 @@ pub fn answer(alloc: Global, name: &str, call: &str, given: &[Word]) -> Answer {
         "xf_line" => json::line_answer(alloc, call, given),
         "xf_graph" => graphs::answer(alloc, call, given),
         "xf_snap" => snaps::answer(alloc, call, given),
+        "xf_journal" => journals::answer(alloc, call, given),
         "xf_schema" => schemas::answer(alloc, call, given),
         "xf_explain" => explanations::answer(alloc, call, given),
         _ => Ok(None),

@@ -10,6 +10,7 @@ mod dates;
 mod explanations;
 mod functions;
 mod graphs;
+mod journals;
 mod json;
 mod names;
 mod numbers;
@@ -25,7 +26,7 @@ use std::alloc::{AllocError, Global};
 use std::io;
 
 /// The crates that are called, in the order of the report.
-const NAMES: [&str; 13] = [
+const NAMES: [&str; 14] = [
     "xf_num",
     "xf_types",
     "xf_dates",
@@ -37,6 +38,7 @@ const NAMES: [&str; 13] = [
     "xf_line",
     "xf_graph",
     "xf_snap",
+    "xf_journal",
     "xf_schema",
     "xf_explain",
 ];
